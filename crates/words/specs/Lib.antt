@@ -1,0 +1,4 @@
+-- Words of sources, choices and counting, for every crate of the project.
+pub mod Choice
+pub mod Counting
+pub mod Word
