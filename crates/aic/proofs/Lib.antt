@@ -1,0 +1,2 @@
+-- Theorems about the AT91 controller's definitions.
+pub mod Examples
