@@ -1,0 +1,4 @@
+-- Laws about the AT91 controller's record.
+pub mod MoreLaws
+pub mod PassLaws
+pub mod PlaceLaws
