@@ -11,7 +11,7 @@ ghost use Rattle.aic_record.specs.Mode.{priorityOf, typeOf, keptMode, ed
 ghost use Rattle.aic_record.specs.Record.{withLines, withEnabled, withMemory, withForced, withSpurious, withMask, withMode, withVector, withHandlers};
 ghost use Rattle.aic_record.specs.Record.{reset};
 ghost use Rattle.aic_record.specs.Sound.{sourceAt, levelAt, sound};
-ghost use Rattle.aic_record.specs.Passes.{placeSound, modeSound};
+ghost use Rattle.aic_record.specs.Passes.{floorAt, placeSound, modeSound};
 
 // One word has a bit for each of the 32 sources. `source` and `level` hold the open handlers, the last one at `depth - 1`.
 pub struct Aic {
@@ -261,4 +261,15 @@ pub fn is_sound(s: Aic) -> bool
         & modes_sound(&s.mode, s.memory)
         & ((mask == 0) | (mask == 2))
         & !words::has(s.forced, 0)
+}
+
+// The least priority that may start a handler: 0, or one above the level of the last open one.
+pub fn floor_of(s: Aic) -> u32
+    ensures { λ r. ⌜ r ≡ floorAt (s .level) (s .depth) ⌝ }
+{
+    let depth = s.depth;
+    if depth == 0 {
+        return 0;
+    }
+    level_at(s, depth - 1) as u32 + 1
 }
