@@ -13,7 +13,7 @@ use Rattle.aic_sources.specs.Fast.{fiq}
 use Rattle.aic_sources.specs.Normal.{irq}
 use Rattle.aic.specs.declared.Begun.{Begun}
 use Rattle.aic.specs.declared.Answer.{Answer}
-use Rattle.aic.specs.declared.Outputs.{Outputs}
+use Rattle.aic.specs.declared.Signals.{Signals}
 use Rattle.aic.specs.Map.{access, valueRefusal}
 use Rattle.aic.specs.Handlers.{answered, refused}
 use Rattle.aic.specs.Effects.{moved}
@@ -53,7 +53,7 @@ step s (Write o v) = write s o v
 step s (Line k l) = line s k l
 
 -- the outputs, active or not, and the handlers open; of a record that breaks a rule 12 and nothing else
-unfoldable pub outputs : Aic → Outputs
+unfoldable pub outputs : Aic → Signals
 outputs s =
     pick (sound s)
     (record { refusal = carriedOut; irq = irq s; fiq = fiq s; handlers = s .depth })

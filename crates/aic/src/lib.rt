@@ -16,7 +16,7 @@ pub struct Answer {
 }
 
 // The two outputs, active or not, and how many handlers are open.
-pub struct Outputs {
+pub struct Signals {
     pub refusal: u32,
     pub irq: bool,
     pub fiq: bool,
