@@ -1,2 +1,3 @@
 -- Theorems about the AT91 controller's definitions.
+pub mod CallLaws
 pub mod Examples

@@ -152,6 +152,16 @@ pub fn mode_at(s: Aic, k: u32) -> u8
     s.mode[at]
 }
 
+pub fn vector_at(s: Aic, k: u32) -> u32
+    ensures { λ r. ⌜ r ≡ getD (s .vector) k 0 ⌝ }
+{
+    if 32 <= k {
+        return 0;
+    }
+    let at = k as usize;
+    s.vector[at]
+}
+
 pub fn source_at(s: Aic, i: u32) -> u8
     ensures { λ r. ⌜ r ≡ sourceAt s i ⌝ }
 {

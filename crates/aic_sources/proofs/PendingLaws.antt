@@ -82,6 +82,11 @@ low-is s k l =
     bit-without (s .external) (modeWord (s .mode) 6) k l
     ∙ ap (λ (b : Bool). bit (s .external) k && b) (ap not (bit-modeWord (s .mode) 6 k l) ∙ low-bit (modeAt s k))
 
+-- the same of one source, from its mode and its type
+pub low-from : (s : Aic) (k m t : ℕ) (h : Bool) → m ≡ modeAt s k → t ≡ typeOf m → h ≡ bit (s .external) k → (h && ltb t 2) ≡ activeLow s k
+unfolding activeLow kind
+low-from s k m t h e f g = ap₂ (λ (x : Bool) (y : ℕ). x && ltb y 2) g (f ∙ ap typeOf e)
+
 active-is : (s : Aic) (low k : ℕ) → low ≡ without (s .external) (modeWord (s .mode) 6) → k < 32
     → bit (wordOf 32 (λ j. pick (bit low j) (not (bit (s .lines) j)) (bit (s .lines) j))) k ≡ active s k
 unfolding active activeAt

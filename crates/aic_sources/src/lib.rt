@@ -6,7 +6,7 @@ ghost use lib.Dec.{eqb, ltb, leb};
 ghost use Rattle.words.specs.Choice.{pick};
 ghost use Rattle.words.specs.Counting.{anyBelow};
 ghost use Rattle.words.specs.Word.{bit, wordOf};
-ghost use Rattle.aic_sources.specs.Pending.{asking, pendingWord, edgeWord};
+ghost use Rattle.aic_sources.specs.Pending.{activeAt, asking, pendingWord, edgeWord};
 ghost use Rattle.aic_sources.specs.Fast.{fast, fastAsks, masked, fiq};
 ghost use Rattle.aic_sources.specs.Normal.{waiting, candidates, chosen, irq};
 ghost use Rattle.aic_sources.specs.Search.{modeWord, Found};
@@ -62,6 +62,18 @@ pub fn pending_word(s: Aic) -> u32
 {
     let low = words::drop_bits(s.external, mode_word(&s.mode, 6));
     blend(edge_word(s), s.memory, active_word(low, s.lines))
+}
+
+// Whether a line that is high, or low, is at the active level of source k.
+pub fn is_active_at(s: Aic, k: u32, high: bool) -> bool
+    ensures { λ r. ⌜ r ≡ activeAt s k high ⌝ }
+{
+    let kind = aic_record::type_of(aic_record::mode_at(s, k) as u32);
+    let low = words::has(s.external, k) & (kind < 2);
+    if low {
+        return !high;
+    }
+    high
 }
 
 // The sources that are pending and enabled.
