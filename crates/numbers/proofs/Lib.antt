@@ -1,3 +1,4 @@
+-- The laws of numbers that the crates above cite, and the proof of what is promised.
 pub mod FormLaws
 pub mod GroupLaws
 pub mod MoreLaws
