@@ -4,3 +4,4 @@ pub mod GroupLaws
 pub mod MoreLaws
 pub mod NumberLaws
 pub mod Promises
+pub mod ReadLaws
