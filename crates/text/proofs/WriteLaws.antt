@@ -2,10 +2,11 @@
 use Prim.Native.Nat.{ℕ, suc, _+_, _<_, _≤_, min}
 use mathlib.Core.Path.{_≡_, refl, sym, ap, _∙_}
 use mathlib.Core.List.{List, [], _∷_, _++_, append-nil}
-use native.Mathlib.Nat.{add-zero, zero-add, zero-min, min-zero, min-le-right, min-eq-left, suc-min-suc}
+use native.Mathlib.Nat.{add-zero, zero-add, zero-min, min-zero, min-le-right, suc-min-suc}
+use native.Mathlib.Numerals.{add-one}
 use native.Mathlib.Omega.{arith}
-use lib.ListN.{length, set, take, drop, length-set, length-append}
-use lib.Seq.{set-out, set-append-seam, append-snoc, take-nil}
+use lib.ListN.{length, getD, set, take, drop, length-set, length-append, drop-of-length-le}
+use lib.Seq.{drop-cons, set-out, set-append-seam, append-snoc, take-nil}
 use borrow.Author.Tests.{lt-ltb, le-ltb}
 use Rattle.words.specs.Choice.{pick}
 use Rattle.words.proofs.ChoiceLaws.{pick-true, pick-false}
@@ -85,3 +86,15 @@ laid-fits p l bs e =
     let n : p .1 ≡ min (length bs) (length l) = ap (λ (x : List ℕ × ℕ). x .1) e in
     let k : length (p .0) ≡ length l = same-length (l, 0) p bs (e ∙ sym (write-laid l bs)) in
     omega (arith, min-le-right (length bs) (length l))
+
+-- ---- a text that is written byte by byte
+
+-- a turn: q is what the byte at k makes of p
+pub write-turn : (l : List ℕ) (k : ℕ) (o p q : List ℕ × ℕ) → k < length l → q ≡ write p (getD l k 0 ∷ []) → write p (drop k l) ≡ o → write q (drop (k + 1) l) ≡ o
+write-turn l k o p q h e f =
+    rest-of p q (getD l k 0 ∷ []) (drop (k + 1) l) e
+    ∙ ap (write p) (sym (drop-cons l k 0 h ∙ ap (λ (n : ℕ). getD l k 0 ∷ drop n l) (sym (add-one k)))) ∙ f
+
+-- the end
+pub write-done : (l : List ℕ) (k : ℕ) (o p : List ℕ × ℕ) → length l ≤ k → write p (drop k l) ≡ o → p ≡ o
+write-done l k o p h e = nothing p ∙ ap (write p) (sym (drop-of-length-le l h)) ∙ e

@@ -39,6 +39,19 @@ pub fn put(out: &mut [u8], at: usize, b: u8) -> usize
     }
 }
 
+// All bytes of a text, one after the other; the place after them.
+pub fn put_all(out: &mut [u8], at: usize, text: &[u8]) -> usize
+    ensures { λ r. ⌜ (now (out .exit), r) ≡ write (now (out .entry), at) (now (text .entry)) ⌝ }
+{
+    let mut place = at;
+    let mut k: usize = 0;
+    while k < text.len() {
+        place = put(out, place, text[k]);
+        k = k + 1;
+    }
+    place
+}
+
 // The eight hexadecimal digits of a word, the letters upper case.
 pub fn put_hex(out: &mut [u8], at: usize, v: u32) -> usize
     ensures { λ r. ⌜ (now (out .exit), r) ≡ write (now (out .entry), at) (hex v) ⌝ }
