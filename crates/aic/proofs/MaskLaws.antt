@@ -31,7 +31,7 @@ use Rattle.aic.proofs.HandlerLaws.{started-is, fast-spent-is, moded-is,
 abbrev remasked : ℕ → Answer → Answer
 remasked m a = record { refusal = a .refusal; value = a .value; aic = withMask (a .aic) m }
 
--- a record with another mask, as a name
+-- a record with another mask, as a name that stays folded under a choice
 unfoldable remask : ℕ → Aic → Aic
 remask m t = withMask t m
 
@@ -58,7 +58,9 @@ module _ (s : Aic) (m : ℕ) where
 
   same-ivr : ivrRead (withMask s m) ≡ remasked m (ivrRead s)
   unfolding ivrRead
-  same-ivr = rw (same-candidates, same-chosen) (pick-through (remasked m) (candidates s) (ap (λ (t : Aic). answered t (vectorAt s (chosen s))) same-start) refl)
+  same-ivr =
+      rw (same-candidates, same-chosen)
+      (pick-through (remasked m) (candidates s) (ap (λ (t : Aic). answered t (vectorAt s (chosen s))) same-start) refl)
 
   same-fvr : fvrRead (withMask s m) ≡ remasked m (fvrRead s)
   unfolding fvrRead edge
@@ -70,7 +72,9 @@ module _ (s : Aic) (m : ℕ) where
 
   same-read : (o : ℕ) → o ≢ cisr → o ≢ dcr → readAt (withMask s m) o ≡ remasked m (readAt s o)
   unfolding readAt
-  same-read o c d = pick-through (remasked m) (eqb o ivr) same-ivr (pick-through (remasked m) (eqb o fvr) same-fvr (ap (answered (withMask s m)) (same-stored o c d)))
+  same-read o c d =
+      pick-through (remasked m) (eqb o ivr) same-ivr
+      (pick-through (remasked m) (eqb o fvr) same-fvr (ap (answered (withMask s m)) (same-stored o c d)))
 
   same-mode : (k v : ℕ) → moded (withMask s m) k v ≡ withMask (moded s k v) m
   unfolding kind
@@ -99,10 +103,13 @@ module _ (s : Aic) (m : ℕ) where
     same-sound : sound (withMask s m) ≡ true
     same-sound =
         let r = sound-is s ok in
-        is-sound (withMask s m) (words-rules s r (s .lines) (s .enabled) (s .memory) (s .forced) (s .spurious) m (s .vector) (r .memory) kept (r .forced))
+        is-sound (withMask s m)
+        (words-rules s r (s .lines) (s .enabled) (s .memory) (s .forced) (s .spurious) m (s .vector) (r .memory) kept (r .forced))
 
     pub mask-idle : (x : Step) → MaskFree x → step (withMask s m) x ≡ remasked m (step s x)
     unfolding read write line readNumber writeNumber lineNumber
     mask-idle (Read o) (c, d) = rw (same-sound, ok) (pick-through (remasked m) _ (same-read o c d) refl)
-    mask-idle (Write o v) d = rw (same-sound, ok) (pick-through (remasked m) _ (unfold remask in (ap (λ (t : Aic). answered t 0) (same-write o v d))) refl)
-    mask-idle (Line k l) u = rw (same-sound, ok) (pick-through (remasked m) _ (ap (λ (t : Aic). answered t 0) (same-move k (eqb l 1))) refl)
+    mask-idle (Write o v) d =
+        rw (same-sound, ok) (pick-through (remasked m) _ (unfold remask in (ap (λ (t : Aic). answered t 0) (same-write o v d))) refl)
+    mask-idle (Line k l) u =
+        rw (same-sound, ok) (pick-through (remasked m) _ (ap (λ (t : Aic). answered t 0) (same-move k (eqb l 1))) refl)

@@ -72,7 +72,7 @@ module _ (s : Aic) (r : Rules s) where
   moved-rules : (k : ℕ) (high : Bool) → Rules (moved s k high)
   moved-rules k high =
       rw (moved-is s k high)
-      (words-rules s r (withBit (s .lines) k high) (s .enabled) (pick (edge s k && turns s k high) (withBit (s .memory) k true) (s .memory)) (s .forced) (s .spurious) (s .mask) (s .vector) quiet (r .mask) (r .forced))
+      (words-rules s r (withBit (s .lines) k high) (s .enabled) _ (s .forced) (s .spurious) (s .mask) (s .vector) quiet (r .mask) (r .forced))
     where
       quiet : (j : ℕ) → j < 32 → edge s j ≡ false → bit (pick (edge s k && turns s k high) (withBit (s .memory) k true) (s .memory)) j ≡ false
       quiet j l n =
