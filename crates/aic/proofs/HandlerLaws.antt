@@ -1,7 +1,7 @@
 -- The steps that may clear or set one memory: starts, vector reads, mode writes and line steps.
 use Prim.Native.Nat.{ℕ, _+_, _<_, _≤_}
-use mathlib.Core.Path.{_≡_, refl, _∙_}
-use mathlib.Core.Bool.{Bool, true, false, not, _&&_, _||_}
+use mathlib.Core.Path.{_≡_, refl, sym, ap, _∙_}
+use mathlib.Core.Bool.{Bool, true, false, not, _&&_, _||_, and-true}
 use mathlib.Core.Logic.{_≢_}
 use lib.Dec.{eqb}
 use lib.ListN.{set}
@@ -9,7 +9,7 @@ use borrow.Author.Tests.{ne-eqb, lt-ltb, le-leb}
 use Rattle.words.specs.Choice.{pick}
 use Rattle.words.specs.Word.{bit, withBit}
 use Rattle.words.proofs.ChoiceLaws.{pick-cases}
-use Rattle.words.proofs.TruthLaws.{clash, not-holds}
+use Rattle.words.proofs.TruthLaws.{or-right, clash, not-holds}
 use Rattle.words.proofs.CountingLaws.{some-any, any-none}
 use Rattle.steps.specs.Refusals.{readRefusal, lineRefusal}
 use Rattle.aic_record.specs.declared.Aic.{Aic}
@@ -18,10 +18,11 @@ use Rattle.aic_record.specs.Mode.{typeOf, keptMode, priority, kind, edge}
 use Rattle.aic_record.specs.Sound.{sound}
 use Rattle.aic_sources.specs.Pending.{pending, active}
 use Rattle.aic_sources.specs.Fast.{fast, fastAsks}
-use Rattle.aic_sources.specs.Normal.{candidate, candidates}
+use Rattle.aic_sources.specs.Normal.{candidate, candidates, chosen}
 use Rattle.aic_sources.specs.Promises.{AheadOfOthers}
 use Rattle.aic_sources.proofs.FastLaws.{fast-some, some-fast}
-use Rattle.aic_sources.proofs.OrderLaws.{chosen-one}
+use Rattle.aic_sources.proofs.HandlerLaws.{candidate-waits, waiting-is}
+use Rattle.aic_sources.proofs.OrderLaws.{chosen-is, chosen-one}
 use Rattle.aic.specs.declared.Answer.{Answer}
 use Rattle.aic.specs.Map.{ivr, fvr, access}
 use Rattle.aic.specs.Handlers.{answered, forgotten, spent, opened, startedAt, vectorAt, ivrRead, fastSpent, fvrRead}
@@ -96,7 +97,8 @@ module _ (s : Aic) (ok : sound s ≡ true) where
   vector-read k l c h =
       record {
         word = pick (edge s k) (withBit (s .memory) k false) (s .memory);
-        done = ivr-done ∙ rw (some-any 32 (candidate s) k l c, chosen-one s k (record { below = l; fit = c; first = h }), started-is s k (priority s k));
+        done = ivr-done
+            ∙ rw (some-any 32 (candidate s) k l c, chosen-one s k (record { below = l; fit = c; first = h }), started-is s k (priority s k));
         bits = bit-cleared-if (s .memory) k (edge s k);
       }
 
@@ -130,6 +132,28 @@ module _ (s : Aic) (ok : sound s ≡ true) where
         done = rw (ok, lt-ltb k 32 m, le-leb l 1 n, moved-is s k (eqb l 1));
         bits = bit-put-if (s .memory) k (edge s k && turns s k (eqb l 1));
       }
+
+-- a forced source is fast, so it is not the one that a read of IVR starts
+started-forced : (s : Aic) (j : ℕ) → j < 32 → bit (s .forced) j ≡ true → candidates s ≡ true
+    → bit (startedAt s (chosen s) (priority s (chosen s)) .memory) j ≡ bit (s .memory) j
+unfolding fast
+started-forced s j l b c =
+    rw (started-is s (chosen s) (priority s (chosen s)), bit-cleared-if (s .memory) (chosen s) (edge s (chosen s)) j l, ne-eqb j (chosen s) other)
+    (and-true (bit (s .memory) j))
+  where
+    normal : fast s (chosen s) ≡ false
+    normal = waiting-is s (chosen s) (candidate-waits s (chosen s) (chosen-is s c .fit)) .2
+
+    other : j ≢ chosen s
+    other e = clash (or-right (eqb (chosen s) 0) (ap (bit (s .forced)) (sym e) ∙ b)) normal
+
+pub vector-forced : (s : Aic) (j : ℕ) → j < 32 → bit (s .forced) j ≡ true → bit (read s ivr .aic .memory) j ≡ bit (s .memory) j
+unfolding read readAt ivrRead pick
+vector-forced s j l b =
+    pick-cases A (eqb (readNumber s ivr) 0) (λ _. pick-cases A (candidates s) (started-forced s j l b) (λ _. refl)) (λ _. refl)
+  where
+    A : Answer → Type 0
+    A a = bit (a .aic .memory) j ≡ bit (s .memory) j
 
 -- with a forced source a read of FVR changes nothing
 pub fast-forced : (s : Aic) → s .forced ≢ 0 → read s fvr .aic ≡ s

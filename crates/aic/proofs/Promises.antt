@@ -30,7 +30,7 @@ use Rattle.aic.specs.Promises.{Settled, Promises}
 use Rattle.aic.proofs.KindsLaws.{value-number}
 use Rattle.aic.proofs.SoundLaws.{step-sound, step-shaped}
 use Rattle.aic.proofs.EffectLaws.{the-map, reads-of, writes-of}
-use Rattle.aic.proofs.HandlerLaws.{vector-read, vector-spurious, fast-read, fast-spurious, fast-forced, line-moves, line-repeated}
+use Rattle.aic.proofs.HandlerLaws.{vector-read, vector-spurious, vector-forced, fast-read, fast-spurious, fast-forced, line-moves, line-repeated}
 use Rattle.aic.proofs.MaskLaws.{mask-idle}
 
 -- ---- refusals
@@ -117,6 +117,7 @@ kept =
       writes = λ s v ok. writes-of s ok v;
       vectorRead = λ s k ok. vector-read s ok k;
       vectorSpurious = vector-spurious;
+      vectorForced = vector-forced;
       fastRead = λ s k ok. fast-read s ok k;
       fastSpurious = fast-spurious;
       fastForced = fast-forced;

@@ -60,13 +60,15 @@ pub record Promises : Type 0 where
   pub reads : (s : Aic) → sound s ≡ true → Reads s
   pub writes : (s : Aic) (v : ℕ) → sound s ≡ true → Writes s v
   -- a read of IVR starts the candidate ahead of all others, source k: it answers k's vector, opens a handler of k at the priority that k has
-  -- now, and clears k's memory, and no other, if k is edge-triggered (01, AIC, Normal side; 003, 27.7.3.1 and 27.8.5)
+  -- now, and clears k's memory, and no other, if k is edge-triggered (01, AIC, Normal side; 003, 27.7.1.3, 27.7.3.1 and 27.7.3.4)
   pub vectorRead : (s : Aic) (k : ℕ) → sound s ≡ true → k < 32 → candidate s k ≡ true → AheadOfOthers s k
       → Sets (read s ivr) (vectorAt s k)
       (λ w. withHandlers (withMemory s w) (set (s .source) (s .depth) k) (set (s .level) (s .depth) (priority s k)) (s .depth + 1))
       (λ j. bit (s .memory) j && not (eqb j k && edge s k))
   -- without a candidate it answers SPU and changes nothing (01, AIC, Normal side; 003, 27.7.6)
   pub vectorSpurious : (s : Aic) → sound s ≡ true → ((k : ℕ) → k < 32 → candidate s k ≡ false) → read s ivr ≡ answered s (s .spurious)
+  -- it never clears the memory of a forced source (01, Slips; 003, 27.7.4.5)
+  pub vectorForced : (s : Aic) (j : ℕ) → j < 32 → bit (s .forced) j ≡ true → bit (read s ivr .aic .memory) j ≡ bit (s .memory) j
   -- a read of FVR with a fast source pending and enabled answers vector 0, whichever source that is; it clears the memory of source 0
   -- alone, and that only if it is edge-triggered and no source is forced (01, AIC, Fast side; 003, 27.7.4.3 and 27.7.4.5)
   pub fastRead : (s : Aic) (k : ℕ) → sound s ≡ true → k < 32 → fast s k ≡ true → pending s k ≡ true → bit (s .enabled) k ≡ true
@@ -74,7 +76,7 @@ pub record Promises : Type 0 where
   -- without one it answers SPU and changes nothing
   pub fastSpurious : (s : Aic) → sound s ≡ true → ((k : ℕ) → k < 32 → fast s k ≡ true → pending s k ≡ true → bit (s .enabled) k ≡ false)
       → read s fvr ≡ answered s (s .spurious)
-  -- where a source is forced, a read of FVR changes nothing at all
+  -- where a source is forced, a read of FVR changes nothing at all (01, Slips; 003, 27.7.4.5)
   pub fastForced : (s : Aic) → s .forced ≢ 0 → read s fvr .aic ≡ s
   -- a line step moves its line alone; an edge source that it turns active remembers it, enabled or not (01, AIC, Pending)
   pub lineMoves : (s : Aic) (k l : ℕ) → sound s ≡ true → k < 32 → l ≤ 1

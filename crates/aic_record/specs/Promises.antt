@@ -7,7 +7,7 @@ use lib.ListN.{length}
 use Rattle.words.specs.Word.{bit}
 use Rattle.aic_record.specs.declared.Aic.{Aic}
 use Rattle.aic_record.specs.Record.{reset}
-use Rattle.aic_record.specs.Mode.{modeAt, keptMode, edge}
+use Rattle.aic_record.specs.Mode.{priorityOf, typeOf, keptMode, modeAt, kind, edge}
 use Rattle.aic_record.specs.Sound.{sourceAt, levelAt, sound}
 
 -- the arrays of a record have the lengths that the language gives them; a list in a definition has any length
@@ -36,6 +36,10 @@ pub record Rules (s : Aic) : Type 0 where
   pub forced : bit (s .forced) 0 ≡ false
 
 pub record Promises : Type 0 where
+  -- a source is edge-triggered exactly if its type is 1 or 3 (01, AIC, Mode; 003, 27.8.3)
+  pub edgeIs : (s : Aic) (k : ℕ) → (edge s k ≡ true) ↔ ((kind s k ≡ 1) ⊎ (kind s k ≡ 3))
+  -- a mode that is stored has the priority and the type that were written (01, AIC, Mode; 003, 27.8.3)
+  pub keptFields : (v : ℕ) → (priorityOf (keptMode v) ≡ priorityOf v) × (typeOf (keptMode v) ≡ typeOf v)
   -- a record is sound exactly if it keeps each rule (01, AIC, A sound record)
   pub soundIs : (s : Aic) → (sound s ≡ true) ↔ Rules s
   -- reset is sound, whichever sources are external and wherever the lines stand (01, AIC, Configuration)

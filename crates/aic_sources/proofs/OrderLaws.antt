@@ -18,10 +18,10 @@ use Rattle.aic_sources.specs.Normal.{waiting, above, candidate, ahead, f
 -- ---- "ahead" between numbers
 
 -- a higher priority, or an equal one and a lower number
-abbrev Ahead : Aic → ℕ → ℕ → Type 0
+abbrev pub Ahead : Aic → ℕ → ℕ → Type 0
 Ahead s a b = (priority s b < priority s a) ⊎ ((priority s a ≡ priority s b) × (a < b))
 
-ahead-is : (s : Aic) (a b : ℕ) → ahead s a b ≡ true → Ahead s a b
+pub ahead-is : (s : Aic) (a b : ℕ) → ahead s a b ≡ true → Ahead s a b
 unfolding ahead
 ahead-is s a b h =
     ⊎-elim (λ (e : ltb (priority s b) (priority s a) ≡ true). inl (ltb-true (priority s b) (priority s a) e))
@@ -29,7 +29,7 @@ ahead-is s a b h =
     inr (eqb-true (priority s a) (priority s b) (and-left _ (ltb a b) e), ltb-true a b (and-right (eqb (priority s a) (priority s b)) _ e)))
     (or-either (ltb (priority s b) (priority s a)) (eqb (priority s a) (priority s b) && ltb a b) h)
 
-is-ahead : (s : Aic) (a b : ℕ) → Ahead s a b → ahead s a b ≡ true
+pub is-ahead : (s : Aic) (a b : ℕ) → Ahead s a b → ahead s a b ≡ true
 unfolding ahead
 is-ahead s a b (inl l) = or-left (eqb (priority s a) (priority s b) && ltb a b) (lt-ltb (priority s b) (priority s a) l)
 is-ahead s a b (inr (e, l)) =
