@@ -1,0 +1,2 @@
+-- Theorems about runs of the AT91 controller.
+pub mod Worked

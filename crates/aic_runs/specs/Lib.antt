@@ -1,0 +1,4 @@
+-- Runs of the AT91 controller: what is counted, and what is promised.
+pub mod Counted
+pub mod Runs
+pub mod Worked
