@@ -1,2 +1,4 @@
 -- Theorems about the AT91 controller's definitions.
 pub mod Examples
+pub mod KindsLaws
+pub mod MoreLaws
