@@ -1,0 +1,2 @@
+-- Theorems about the AT91 controller's sources.
+pub mod OrderLaws
