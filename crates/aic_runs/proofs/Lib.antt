@@ -1,2 +1,3 @@
 -- Theorems about runs of the AT91 controller.
+pub mod CountedLaws
 pub mod Worked

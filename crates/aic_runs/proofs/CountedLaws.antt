@@ -1,0 +1,141 @@
+-- What each kind of step counts as.
+use Prim.Native.Nat.{ℕ, _*_, _%_, _<_, _≤_}
+use mathlib.Core.Path.{_≡_, refl, sym, ap, _∙_}
+use mathlib.Core.Bool.{Bool, true, false, not, _&&_, _||_, and-true, and-false, or-true}
+use mathlib.Core.Logic.{_≢_, _⊎_, inl, inr, ⊎-elim}
+use native.Mathlib.Omega.{arith}
+use lib.Dec.{eqb, ltb, leb}
+use borrow.Author.Tests.{eqb-true, eqb-false, eq-eqb, ne-eqb, lt-ltb, le-leb, le-ltb}
+use Rattle.words.specs.Choice.{pick}
+use Rattle.words.proofs.ChoiceLaws.{pick-cases, pick-true}
+use Rattle.words.proofs.TruthLaws.{and-left, and-right, and-both, or-left, clash, told}
+use Rattle.words.specs.Word.{bit}
+use Rattle.steps.specs.declared.Step.{Step}
+use Rattle.steps.specs.declared.Step.the-variants.{Read, Write, Line}
+use Rattle.steps.specs.Refusals.{readRefusal, writeRefusal, lineRefusal, writeAccess}
+use Rattle.aic_record.specs.declared.Aic.{Aic}
+use Rattle.aic_record.specs.Sound.{sound}
+use Rattle.aic_sources.specs.Normal.{candidates, chosen}
+use Rattle.aic_sources.proofs.OrderLaws.{chosen-none, chosen-is}
+use Rattle.aic.specs.declared.Answer.{Answer}
+use Rattle.aic.specs.Map.{svr, ivr, iscr, eoicr, dcr, ffer, ffdr, access, valueRefusal}
+use Rattle.aic.specs.Handlers.{refused, ivrRead}
+use Rattle.aic.specs.Effects.{turns}
+use Rattle.aic.specs.Registers.{readAt}
+use Rattle.aic.specs.Model.{readNumber, writeNumber, lineNumber, read, write, line, step}
+use Rattle.aic.proofs.KindsLaws.{Plain}
+use Rattle.aic_runs.specs.Counted.{carried, vectorRead, starts, startedBy, startsOf, startsOther, closes, rises, edges, commands, rewrites}
+
+-- ---- what is carried out
+
+-- of an unsound record nothing is
+pub carried-unsound : (s : Aic) (x : Step) → sound s ≡ false → carried s x ≡ false
+unfolding carried read write line readNumber writeNumber lineNumber readRefusal writeRefusal lineRefusal pick
+carried-unsound s (Read o) e = rw e
+carried-unsound s (Write o v) e = rw e
+carried-unsound s (Line k l) e = rw e
+
+-- a step that is refused by no number is
+by-number : (s : Aic) (n : ℕ) (a : Answer) → n ≡ 0 → a .refusal ≡ 0 → eqb (pick (eqb n 0) a (refused s n) .refusal) 0 ≡ true
+unfolding pick
+by-number s n a z e = rw (z, e)
+
+carried-ivr : (s : Aic) → sound s ≡ true → carried s (Read ivr) ≡ true
+unfolding carried read readNumber readRefusal access readAt ivrRead pick
+carried-ivr s ok =
+    by-number s (readNumber s ivr) (readAt s ivr) (rw ok) (pick-cases (λ (a : Answer). a .refusal ≡ 0) (candidates s) (λ _. refl) (λ _. refl))
+
+carried-write : (s : Aic) (o v : ℕ) → sound s ≡ true → o % 4 ≡ 0 → writeAccess (access o) (valueRefusal o v) ≡ 0 → carried s (Write o v) ≡ true
+unfolding carried write writeNumber writeRefusal
+carried-write s o v ok a w =
+    by-number s (writeNumber s o v) _ (sym (pick-true _ ok) ∙ sym (pick-true _ (eq-eqb (o % 4) 0 a)) ∙ w) refl
+
+carried-line : (s : Aic) (k l : ℕ) → sound s ≡ true → k < 32 → l ≤ 1 → carried s (Line k l) ≡ true
+unfolding carried line lineNumber lineRefusal
+carried-line s k l ok m n =
+    by-number s (lineNumber s k l) _ (sym (pick-true _ ok) ∙ sym (pick-true _ (and-both (lt-ltb k 32 m) (le-leb l 1 n)))) refl
+
+-- ---- starts
+
+-- the two observers of a start agree
+pub started-some : (s : Aic) (x : Step) → starts s x ≡ ltb (startedBy s x) 32
+unfolding starts startedBy pick
+started-some s x = go (vectorRead s x) (told (candidates s))
+  where
+    go : (b : Bool) → (candidates s ≡ true) ⊎ (candidates s ≡ false) → (b && candidates s) ≡ ltb (pick b (chosen s) 32) 32
+    go true (inl c) = c ∙ sym (lt-ltb (chosen s) 32 (chosen-is s c .below))
+    go true (inr n) = n ∙ sym (ap (λ (j : ℕ). ltb j 32) (chosen-none s n))
+    go false c = refl
+
+-- what is started is the chosen source, and there is a candidate
+pub started-chosen : (s : Aic) (x : Step) → startedBy s x < 32 → (candidates s ≡ true) × (startedBy s x ≡ chosen s)
+unfolding startedBy starts
+started-chosen s x l =
+    let h : (vectorRead s x && candidates s) ≡ true = started-some s x ∙ lt-ltb (startedBy s x) 32 l in
+    (and-right (vectorRead s x) (candidates s) h, sym (pick-true 32 (and-left (vectorRead s x) (candidates s) h)))
+
+-- a step that opens no handler
+pub plain-start : (s : Aic) (x : Step) → Plain s x → starts s x ≡ false
+unfolding starts vectorRead
+plain-start s (Read o) (inl e) = rw (carried-unsound s (Read o) e)
+plain-start s (Read o) (inr (inl d)) = rw (ne-eqb o ivr d, and-false (carried s (Read o)))
+plain-start s (Read o) (inr (inr n)) = rw (n, and-false (carried s (Read o) && eqb o ivr))
+plain-start s (Write o v) p = refl
+plain-start s (Line k l) p = refl
+
+pub no-start : (s : Aic) (x : Step) → starts s x ≡ false → (i : ℕ) → i < 32 → startsOf i s x ≡ false
+unfolding startsOf
+no-start s x n i l = ne-eqb (startedBy s x) i (λ e. clash (started-some s x ∙ lt-ltb (startedBy s x) 32 (rw e l)) n)
+
+-- a read of IVR with a candidate
+pub take-start : (s : Aic) → sound s ≡ true → candidates s ≡ true → starts s (Read ivr) ≡ true
+unfolding starts vectorRead
+take-start s ok c = rw (carried-ivr s ok, c)
+
+pub take-chosen : (s : Aic) → sound s ≡ true → startedBy s (Read ivr) ≡ chosen s
+unfolding startedBy vectorRead
+take-chosen s ok = sym (pick-true 32 (and-both (carried-ivr s ok) refl))
+
+-- ---- closes
+
+pub other-close : (s : Aic) (o v : ℕ) → o ≢ eoicr → closes s (Write o v) ≡ false
+unfolding closes
+other-close s o v d = rw (ne-eqb o eoicr d, and-false (carried s (Write o v)))
+
+pub plain-close : (s : Aic) (x : Step) → Plain s x → closes s x ≡ false
+unfolding closes
+plain-close s (Read o) p = refl
+plain-close s (Write o v) (inl e) = rw (carried-unsound s (Write o v) e)
+plain-close s (Write o v) (inr (inl (d, _))) = other-close s o v d
+plain-close s (Write o v) (inr (inr (e, z))) = rw (eq-eqb (s .depth) 0 z) (and-false (carried s (Write o v) && eqb o eoicr))
+plain-close s (Line k l) p = refl
+
+pub close-close : (s : Aic) (v : ℕ) → sound s ≡ true → s .depth ≢ 0 → closes s (Write eoicr v) ≡ true
+unfolding closes access valueRefusal pick
+close-close s v ok d = rw (carried-write s eoicr v ok refl refl, ne-eqb (s .depth) 0 d)
+
+-- ---- set commands and edges
+
+pub set-command : (s : Aic) (v i : ℕ) → sound s ≡ true → commands i s (Write iscr v) ≡ bit v i
+unfolding commands access valueRefusal pick
+set-command s v i ok = rw (carried-write s iscr v ok refl refl)
+
+pub line-rise : (s : Aic) (k l i : ℕ) → sound s ≡ true → k < 32 → l ≤ 1 → rises i s (Line k l) ≡ (eqb k i && turns s k (eqb l 1))
+unfolding rises
+line-rise s k l i ok m n = rw (carried-line s k l ok m n)
+
+-- ---- rewrites
+
+pub mode-rewrite : (s : Aic) (o k v : ℕ) → sound s ≡ true → o ≡ k * 4 → k < 32 → rewrites s (Write o v) ≡ true
+unfolding rewrites access valueRefusal pick
+mode-rewrite s o k v ok e l =
+    and-both (carried-write s o v ok (omega arith) (free (le-leb o ivr (omega arith)) (ne-eqb o dcr (omega arith))))
+    (or-left (eqb o ffdr) (or-left (eqb o ffer) (lt-ltb o svr (omega arith))))
+  where
+    free : leb o ivr ≡ true → eqb o dcr ≡ false → writeAccess (access o) (valueRefusal o v) ≡ 0
+    free p q = rw (p, q)
+
+pub forcing-rewrite : (s : Aic) (o v : ℕ) → sound s ≡ true → (o ≡ ffer) ⊎ (o ≡ ffdr) → rewrites s (Write o v) ≡ true
+unfolding rewrites access valueRefusal pick
+forcing-rewrite s o v ok (inl e) = rw (e, carried-write s ffer v ok refl refl)
+forcing-rewrite s o v ok (inr e) = rw (e, carried-write s ffdr v ok refl refl)
