@@ -75,13 +75,21 @@ started-chosen s x l =
     (and-right (vectorRead s x) (candidates s) h, sym (pick-true 32 (and-left (vectorRead s x) (candidates s) h)))
 
 -- a step that opens no handler
+pub write-start : (s : Aic) (o v : ℕ) → starts s (Write o v) ≡ false
+unfolding starts vectorRead
+write-start s o v = refl
+
+pub line-start : (s : Aic) (k l : ℕ) → starts s (Line k l) ≡ false
+unfolding starts vectorRead
+line-start s k l = refl
+
 pub plain-start : (s : Aic) (x : Step) → Plain s x → starts s x ≡ false
 unfolding starts vectorRead
 plain-start s (Read o) (inl e) = rw (carried-unsound s (Read o) e)
 plain-start s (Read o) (inr (inl d)) = rw (ne-eqb o ivr d, and-false (carried s (Read o)))
 plain-start s (Read o) (inr (inr n)) = rw (n, and-false (carried s (Read o) && eqb o ivr))
-plain-start s (Write o v) p = refl
-plain-start s (Line k l) p = refl
+plain-start s (Write o v) p = write-start s o v
+plain-start s (Line k l) p = line-start s k l
 
 pub no-start : (s : Aic) (x : Step) → starts s x ≡ false → (i : ℕ) → i < 32 → startsOf i s x ≡ false
 unfolding startsOf
@@ -98,17 +106,25 @@ take-chosen s ok = sym (pick-true 32 (and-both (carried-ivr s ok) refl))
 
 -- ---- closes
 
+pub read-close : (s : Aic) (o : ℕ) → closes s (Read o) ≡ false
+unfolding closes
+read-close s o = refl
+
+pub line-close : (s : Aic) (k l : ℕ) → closes s (Line k l) ≡ false
+unfolding closes
+line-close s k l = refl
+
 pub other-close : (s : Aic) (o v : ℕ) → o ≢ eoicr → closes s (Write o v) ≡ false
 unfolding closes
 other-close s o v d = rw (ne-eqb o eoicr d, and-false (carried s (Write o v)))
 
 pub plain-close : (s : Aic) (x : Step) → Plain s x → closes s x ≡ false
 unfolding closes
-plain-close s (Read o) p = refl
+plain-close s (Read o) p = read-close s o
 plain-close s (Write o v) (inl e) = rw (carried-unsound s (Write o v) e)
 plain-close s (Write o v) (inr (inl (d, _))) = other-close s o v d
 plain-close s (Write o v) (inr (inr (e, z))) = rw (eq-eqb (s .depth) 0 z) (and-false (carried s (Write o v) && eqb o eoicr))
-plain-close s (Line k l) p = refl
+plain-close s (Line k l) p = line-close s k l
 
 pub close-close : (s : Aic) (v : ℕ) → sound s ≡ true → s .depth ≢ 0 → closes s (Write eoicr v) ≡ true
 unfolding closes access valueRefusal pick

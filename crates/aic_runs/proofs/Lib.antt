@@ -1,3 +1,4 @@
 -- Theorems about runs of the AT91 controller.
 pub mod CountedLaws
+pub mod StepLaws
 pub mod Worked
