@@ -1,4 +1,5 @@
 -- Theorems about runs of the AT91 controller.
 pub mod CountedLaws
+pub mod RunLaws
 pub mod StepLaws
 pub mod Worked

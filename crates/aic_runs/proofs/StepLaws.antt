@@ -22,7 +22,7 @@ use Rattle.aic_record.specs.Mode.{priority, kind, edge}
 use Rattle.aic_record.specs.Sound.{sound}
 use Rattle.aic_sources.specs.Pending.{active, pending, asking, edgeWord}
 use Rattle.aic_sources.specs.Fast.{fast}
-use Rattle.aic_sources.specs.Normal.{waiting, above, candidate, candidates, chosen}
+use Rattle.aic_sources.specs.Normal.{waiting, ahead, candidate, candidates, chosen}
 use Rattle.aic_sources.proofs.OrderLaws.{Foremost, chosen-is}
 use Rattle.aic.specs.Map.{ivr, iscr, eoicr, ffer, ffdr}
 use Rattle.aic.specs.Handlers.{spent, opened, startedAt, closedLast}
@@ -163,3 +163,28 @@ module _ (s : Aic) (i : ℕ) (small : i < 32) (edgy : edge s i ≡ true) where
         command = λ v ok r. commanded v ok;
         move = λ k l ok m n r. movedTo k l ok m n;
       })
+
+-- ---- what stays while no mode and no forcing is rewritten
+
+pub edge-modes : (s u : Aic) (i : ℕ) → u .mode ≡ s .mode → edge u i ≡ edge s i
+unfolding edge
+edge-modes s u i e = rw e
+
+pub ahead-modes : (s u : Aic) (a b : ℕ) → u .mode ≡ s .mode → ahead u a b ≡ ahead s a b
+unfolding ahead priority
+ahead-modes s u a b e = rw e
+
+pub fast-forced : (s u : Aic) (i : ℕ) → u .forced ≡ s .forced → fast u i ≡ fast s i
+unfolding fast
+fast-forced s u i e = rw e
+
+-- an edge-triggered source is owed what its memory says
+owed-memory : (s : Aic) (i : ℕ) → edge s i ≡ true → owed s i ≡ one (bit (s .memory) i)
+unfolding owed pending
+owed-memory s i e = ap one (sym (pick-true (active s i) e))
+
+-- what it is owed after a step, and a start, are paid by what it was owed, an edge or a set command
+pub owed-law : (s : Aic) (i : ℕ) → i < 32 → edge s i ≡ true → (x : Step) → rewrites s x ≡ false
+    → owed (step s x .aic) i + one (startsOf i s x) ≤ owed s i + (one (edges i s x) + one (commands i s x))
+owed-law s i l e x r =
+    rw (owed-memory s i e, owed-memory (step s x .aic) i (edge-modes s (step s x .aic) i (modes-law s x r .0) ∙ e)) (memory-law s i l e x r)
