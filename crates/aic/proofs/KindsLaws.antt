@@ -3,16 +3,16 @@ use Prim.Native.Nat.{ℕ, _-_, _*_, _/_, _%_, _≤_, _<_}
 use mathlib.Core.Path.{_≡_, refl, sym, _∙_}
 use mathlib.Core.Bool.{true, false, _&&_, and-false}
 use mathlib.Core.List.{List}
-use mathlib.Core.Logic.{_≢_, _⊎_, inl, inr, ⊎-elim}
+use mathlib.Core.Logic.{_≢_, _⊎_, inl, inr}
 use native.Mathlib.Omega.{arith}
 use native.Mathlib.Decide.{ℕ-discrete}
 use lib.Dec.{eqb, ltb, leb}
 use lib.ListN.{length, set, length-set}
-use borrow.Author.Tests.{eqb-true, eqb-false, ltb-true, not-true}
+use borrow.Author.Tests.{eqb-true, eqb-false, ltb-true}
 use Rattle.words.specs.Choice.{pick}
 use Rattle.words.specs.Word.{bit, either, both, without, withBit}
 use Rattle.words.proofs.ChoiceLaws.{pick-cases}
-use Rattle.words.proofs.TruthLaws.{and-left, and-right, or-either, clash, told}
+use Rattle.words.proofs.TruthLaws.{and-left, clash, told}
 use Rattle.words.proofs.WordLaws.{bit-alone, bit-either, bit-without, bit-withBit}
 use Rattle.aic.proofs.MoreLaws.{both-alone}
 use Rattle.steps.specs.declared.Step.{Step}
@@ -23,7 +23,8 @@ use Rattle.steps.proofs.Promises.{read-table, write-table, line-table}
 use Rattle.aic_record.specs.declared.Aic.{Aic}
 use Rattle.aic_record.specs.Record.{withEnabled, withMemory, withForced, withSpurious, withMask, withVector}
 use Rattle.aic_record.specs.Mode.{priority, edge}
-use Rattle.aic_record.specs.Sound.{storedSound, sound}
+use Rattle.aic_record.specs.Sound.{sound}
+use Rattle.aic_record.proofs.SoundLaws.{mask-sound, forced-sound}
 use Rattle.aic_sources.specs.Pending.{edgeWord}
 use Rattle.aic_sources.specs.Fast.{fastAsks}
 use Rattle.aic_sources.specs.Normal.{candidates, chosen}
@@ -65,18 +66,7 @@ pub record Kinds (s : Aic) (P : Step → Aic → Type 0) : Type 0 where
   -- a line step
   pub move : (k l : ℕ) → sound s ≡ true → k < 32 → l ≤ 1 → P (Line k l) (moved s k (eqb l 1))
 
--- ---- what a sound record says of the mask and of the forcing
-
-mask-sound : (s : Aic) → sound s ≡ true → (s .mask ≡ 0) ⊎ (s .mask ≡ 2)
-unfolding sound storedSound
-mask-sound s ok =
-    ⊎-elim (λ (e : eqb (s .mask) 0 ≡ true). inl (eqb-true (s .mask) 0 e)) (λ (e : eqb (s .mask) 2 ≡ true). inr (eqb-true (s .mask) 2 e))
-    (or-either (eqb (s .mask) 0) (eqb (s .mask) 2) (search (and-left, and-right)))
-
-forced-sound : (s : Aic) → sound s ≡ true → bit (s .forced) 0 ≡ false
-unfolding sound
-forced-sound s ok = not-true (bit (s .forced) 0) (search (and-left, and-right))
-
+-- debug control keeps 0 or the mask
 mask-kept : (v : ℕ) → (both v 2 ≡ 0) ⊎ (both v 2 ≡ 2)
 mask-kept v = rw (both-alone v 1 (omega arith)) (pick-cases (λ n. (n ≡ 0) ⊎ (n ≡ 2)) (bit v 1) (λ _. inr refl) (λ _. inl refl))
 

@@ -2,3 +2,4 @@
 pub mod Fast
 pub mod Normal
 pub mod Pending
+pub mod Promises

@@ -1,0 +1,3 @@
+-- Theorems about the AT91 controller's record.
+pub mod Promises
+pub mod SoundLaws

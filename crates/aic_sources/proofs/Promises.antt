@@ -1,0 +1,61 @@
+-- The promises of the sources, kept.
+use Prim.Native.Nat.{ℕ, _<_}
+use mathlib.Core.Path.{_≡_, ap}
+use mathlib.Core.Bool.{true, false, not, _&&_}
+use mathlib.Core.Logic.{_↔_}
+use borrow.Author.Tests.{not-true}
+use Rattle.words.specs.Word.{bit}
+use Rattle.words.proofs.TruthLaws.{and-left, and-right, and-both}
+use Rattle.words.proofs.CountingLaws.{any-some, some-any}
+use Rattle.words.proofs.WordLaws.{bit-wordOf}
+use Rattle.aic_record.specs.declared.Aic.{Aic}
+use Rattle.aic_record.proofs.SoundLaws.{sound-is}
+use Rattle.aic_sources.specs.Pending.{pending, asking, pendingWord}
+use Rattle.aic_sources.specs.Fast.{fast, fastAsks, masked, fiq}
+use Rattle.aic_sources.specs.Normal.{candidate, candidates, irq}
+use Rattle.aic_sources.specs.Promises.{SomeCandidate, Promises}
+use Rattle.aic_sources.proofs.OrderLaws.{ahead-irreflexive, ahead-transitive, ahead-total, chosen-is, chosen-one}
+use Rattle.aic_sources.proofs.HandlerLaws.{candidate-above, candidate-waits, waiting-is, is-candidate, candidate-room}
+
+some : (s : Aic) → SomeCandidate s → candidates s ≡ true
+unfolding candidates
+some s (k, l, c) = some-any 32 (candidate s) k l c
+
+irq-is : (s : Aic) → (irq s ≡ true) ↔ ((masked s ≡ false) × SomeCandidate s)
+unfolding irq candidates
+irq-is s = (
+  λ e. (not-true (masked s) (and-left _ (candidates s) e), any-some 32 (candidate s) (and-right (not (masked s)) _ e)),
+  λ p. and-both (ap not (p .0)) (some s (p .1)),
+)
+
+fiq-is : (s : Aic) → (fiq s ≡ true)
+    ↔ ((masked s ≡ false) × ((k : ℕ) × (k < 32) × (fast s k ≡ true) × (pending s k ≡ true) × (bit (s .enabled) k ≡ true)))
+unfolding fiq fastAsks asking
+fiq-is s = (
+  λ e.
+      let r = any-some 32 (λ k. fast s k && asking s k) (and-right (not (masked s)) _ e) in
+      let a = and-right (fast s (r .0)) (pending s (r .0) && bit (s .enabled) (r .0)) (r .2) in (
+        not-true (masked s) (and-left _ (fastAsks s) e),
+        (r .0, r .1, and-left _ (asking s (r .0)) (r .2), and-left _ (bit (s .enabled) (r .0)) a, and-right (pending s (r .0)) _ a),
+      ),
+  λ (m, (k, l, f, p, e)). and-both (ap not m) (some-any 32 (λ k. fast s k && asking s k) k l (and-both f (and-both p e))),
+)
+
+pub kept : Promises
+unfolding pendingWord
+kept =
+    record {
+      irqIs = irq-is;
+      fiqIs = fiq-is;
+      candidateIs = λ s k. (
+        λ c. let w = waiting-is s k (candidate-waits s k c) in (w .0, w .1, w .2, candidate-above s k c),
+        λ (p, e, f, o). is-candidate s k p e f o,
+      );
+      chosenIs = λ s h. let f = chosen-is s (some s h) in (f .below, f .fit, f .first);
+      chosenOne = λ s k l c h. chosen-one s k (record { below = l; fit = c; first = h });
+      aheadNever = ahead-irreflexive;
+      aheadThrough = ahead-transitive;
+      aheadEither = ahead-total;
+      room = λ s ok (k, l, c). candidate-room s k (sound-is s ok) c;
+      iprBit = λ s k l. bit-wordOf 32 (pending s) k l;
+    }
