@@ -135,8 +135,7 @@ module _ (s : Aic) (k : ℕ) (small : k < 32) where
   each-rival u [] m f w = tt
   each-rival u (x ∷ xs) m f w =
       let h = and-left (waits k u x) (always (waits k) (step u x .aic) xs) w in
-      let r = modes-law u x (not-rewritten u x (and-right (waiting u k) (steady u x) h)) in
-      (
+      let r = modes-law u x (not-rewritten u x (and-right (waiting u k) (steady u x) h)) in (
         step-rival u x m f (and-left (waiting u k) (steady u x) h),
         each-rival (step u x .aic) xs (r .0 ∙ m) (r .1 ∙ f) (and-right (waits k u x) (always (waits k) (step u x .aic) xs) w),
       )

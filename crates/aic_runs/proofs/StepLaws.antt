@@ -59,6 +59,10 @@ modes-law s =
 
 -- ---- the open handlers
 
+not-eoicr : (o : ℕ) → (o ≡ ffer) ⊎ (o ≡ ffdr) → o ≢ eoicr
+not-eoicr o (inl e) = omega arith
+not-eoicr o (inr e) = omega arith
+
 pub depth-law : (s : Aic) (x : Step) → step s x .aic .depth + one (closes s x) ≡ s .depth + one (starts s x)
 unfolding startedAt opened spent closedLast setBy moved moded
 depth-law s =
@@ -74,10 +78,54 @@ depth-law s =
       command = λ v ok. rw (write-start s iscr v, other-close s iscr v (omega arith));
       move = λ k l ok m n. rw (spent-memory, line-start s k l, line-close s k l);
     })
-  where
-    not-eoicr : (o : ℕ) → (o ≡ ffer) ⊎ (o ≡ ffdr) → o ≢ eoicr
-    not-eoicr o (inl e) = omega arith
-    not-eoicr o (inr e) = omega arith
+
+-- a start, a close, and any other step
+pub start-law : (s : Aic) (x : Step) → starts s x ≡ true → step s x .aic ≡ startedAt s (startedBy s x) (priority s (startedBy s x))
+start-law s =
+    kinds s (λ x t. starts s x ≡ true → t ≡ startedAt s (startedBy s x) (priority s (startedBy s x)))
+    (record {
+      still = λ x p h. clash h (plain-start s x p);
+      store = λ o v e u m vs ok p q l h. clash h (write-start s o v);
+      fall = λ x w ok p f h. clash h (plain-start s x p);
+      remode = λ o k v ok e l h. clash h (write-start s o v);
+      reforce = λ o v f ok e z h. clash h (write-start s o v);
+      take = λ ok c h. rw (take-chosen s ok);
+      close = λ v ok d h. clash h (write-start s eoicr v);
+      command = λ v ok h. clash h (write-start s iscr v);
+      move = λ k l ok m n h. clash h (line-start s k l);
+    })
+
+pub close-law : (s : Aic) (x : Step) → closes s x ≡ true → step s x .aic ≡ closedLast s
+close-law s =
+    kinds s (λ x t. closes s x ≡ true → t ≡ closedLast s)
+    (record {
+      still = λ x p h. clash h (plain-close s x p);
+      store = λ o v e u m vs ok p q l h. clash h (plain-close s (Write o v) p);
+      fall = λ x w ok p f h. clash h (plain-close s x p);
+      remode = λ o k v ok e l h. clash h (other-close s o v (omega arith));
+      reforce = λ o v f ok e z h. clash h (other-close s o v (not-eoicr o e));
+      take = λ ok c h. clash h (read-close s ivr);
+      close = λ v ok d h. refl;
+      command = λ v ok h. clash h (other-close s iscr v (omega arith));
+      move = λ k l ok m n h. clash h (line-close s k l);
+    })
+
+pub other-law : (s : Aic) (x : Step) → starts s x ≡ false → closes s x ≡ false
+    → (step s x .aic .source ≡ s .source) × (step s x .aic .level ≡ s .level) × (step s x .aic .depth ≡ s .depth)
+unfolding setBy moved moded
+other-law s =
+    kinds s (λ x t. starts s x ≡ false → closes s x ≡ false → (t .source ≡ s .source) × (t .level ≡ s .level) × (t .depth ≡ s .depth))
+    (record {
+      still = λ x p a c. (refl, refl, refl);
+      store = λ o v e u m vs ok p q l a c. (refl, refl, refl);
+      fall = λ x w ok p f a c. (refl, refl, refl);
+      remode = λ o k v ok e l a c. pick-cases (λ (t : Aic). (t .source ≡ s .source) × (t .level ≡ s .level) × (t .depth ≡ s .depth)) _ (λ _. (refl, refl, refl)) (λ _. (refl, refl, refl));
+      reforce = λ o v f ok e z a c. (refl, refl, refl);
+      take = λ ok d a c. clash (take-start s ok d) a;
+      close = λ v ok d a c. clash (close-close s v ok d) c;
+      command = λ v ok a c. (refl, refl, refl);
+      move = λ k l ok m n a c. rw spent-memory (refl, refl, refl);
+    })
 
 -- ---- what an edge-triggered source is owed
 

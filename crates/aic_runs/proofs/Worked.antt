@@ -24,15 +24,20 @@ use Rattle.aic_runs.specs.Counted.{carried, vectorRead, starts, startedB
 use Rattle.aic_runs.specs.Runs.{run, count, always, owed, received, sumOver}
 use Rattle.aic_runs.specs.Worked.{ready, tower, outset, wait}
 
--- levels 0 to 7 are open
-pub eight-open : (run (reset 0 0) (tower 8) .depth ≡ 8) × (run (reset 0 0) (tower 8) .level ≡ 0 ∷ 1 ∷ 2 ∷ 3 ∷ 4 ∷ 5 ∷ 6 ∷ 7 ∷ [])
-unfolding pick anyBelow allBelow lowestBelow bit wordOf either both without withBit readRefusal writeRefusal lineRefusal reset priority kind edge handlerSound freeSound handlersSound memorySound storedSound sound activeLow activeAt active pending asking pendingWord edgeWord fast fastAsks masked fiq waiting above candidate ahead foremost candidates chosen irq access valueRefusal spent opened startedAt closedLast ended ivrRead fastSpent fvrRead current moded vectored enabledBy disabledBy setBy clearedBy maskedBy forcedBy unforcedBy turns moved outputBits stored readAt writtenAt readNumber writeNumber lineNumber read write line run ready tower
-eight-open = (refl, refl)
+-- what the two runs come to
+pub record Worked : Type 0 where
+  pub eight : run (reset 0 0) (tower 8) .depth ≡ 8
+  pub levels : run (reset 0 0) (tower 8) .level ≡ 0 ∷ 1 ∷ 2 ∷ 3 ∷ 4 ∷ 5 ∷ 6 ∷ 7 ∷ []
+  pub waited : always (waits 9) outset wait ≡ true
+  pub edged : allBelow 32 (λ i. not (ahead outset i 9) || edge outset i) ≡ true
+  pub started : count (startsOther 9) outset wait ≡ 4
+  pub allowed : sumOver (λ i. ahead outset i 9) (λ i. owed outset i + received i outset wait) ≡ 4
+  pub pended : sumOver (λ i. ahead outset i 9) (owed outset) ≡ 1
+  pub turned : sumOver (λ i. ahead outset i 9) (λ i. count (edges i) outset wait) ≡ 1
+  pub commanded : sumOver (λ i. ahead outset i 9) (λ i. count (commands i) outset wait) ≡ 2
+  pub closed : count closes outset wait ≡ 3
+  pub left : run outset wait .depth ≡ 1
 
-pub nine-waits : (always (waits 9) outset wait && allBelow 32 (λ i. not (ahead outset i 9) || edge outset i)) ≡ true
-unfolding pick anyBelow allBelow lowestBelow bit wordOf either both without withBit readRefusal writeRefusal lineRefusal reset priority kind edge handlerSound freeSound handlersSound memorySound storedSound sound activeLow activeAt active pending asking pendingWord edgeWord fast fastAsks masked fiq waiting above candidate ahead foremost candidates chosen irq access valueRefusal spent opened startedAt closedLast ended ivrRead fastSpent fvrRead current moded vectored enabledBy disabledBy setBy clearedBy maskedBy forcedBy unforcedBy turns moved outputBits stored readAt writtenAt readNumber writeNumber lineNumber read write line run ready outset wait always waits steady rewrites carried
-nine-waits = refl
-
-pub four-start : (count (startsOther 9) outset wait ≡ 4) × (sumOver (λ i. ahead outset i 9) (λ i. owed outset i + received i outset wait) ≡ 4)
-unfolding pick anyBelow allBelow lowestBelow bit wordOf either both without withBit readRefusal writeRefusal lineRefusal reset priority kind edge handlerSound freeSound handlersSound memorySound storedSound sound activeLow activeAt active pending asking pendingWord edgeWord fast fastAsks masked fiq waiting above candidate ahead foremost candidates chosen irq access valueRefusal spent opened startedAt closedLast ended ivrRead fastSpent fvrRead current moded vectored enabledBy disabledBy setBy clearedBy maskedBy forcedBy unforcedBy turns moved outputBits stored readAt writtenAt readNumber writeNumber lineNumber read write line run ready outset wait count sumOver sumBelow owed received startsOther startsOf startedBy vectorRead edges rises commands carried
-four-start = (refl, refl)
+pub worked : Worked
+unfolding pick anyBelow allBelow lowestBelow sumBelow bit wordOf either both without withBit readRefusal writeRefusal lineRefusal reset priority kind edge handlerSound freeSound handlersSound memorySound storedSound sound activeLow activeAt active pending asking edgeWord fast waiting above candidate ahead foremost candidates chosen access valueRefusal spent opened startedAt closedLast ended ivrRead moded enabledBy setBy turns moved readAt writtenAt readNumber writeNumber lineNumber read write line carried vectorRead startedBy startsOf startsOther closes rises edges commands rewrites steady waits run count always owed received sumOver ready tower outset wait
+worked = record { eight = refl; levels = refl; waited = refl; edged = refl; started = refl; allowed = refl; pended = refl; turned = refl; commanded = refl; closed = refl; left = refl }

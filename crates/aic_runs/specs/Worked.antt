@@ -21,8 +21,12 @@ tower (suc n) = tower n ++ (ready (n + 1) n ++ (Line (n + 1) 1 ∷ Read ivr ∷ 
 unfoldable pub outset : Aic
 outset = run (reset 0 0) (ready 4 5 ++ (ready 6 4 ++ (ready 9 3 ++ (Line 4 1 ∷ Line 9 1 ∷ []))))
 
--- 4 is started; 6 has an edge and is started once 4 is closed; one write commands both, and both are started again; 9 waits all the while
+-- source 9 waits all the while, and four handlers are started; steps that count for nothing stand among the others
 unfoldable pub wait : List Step
 wait =
-    Read ivr ∷ Line 6 1 ∷ Write eoicr 0 ∷ Read ivr ∷ Write eoicr 0
-    ∷ Write iscr (2 ^ 4 + 2 ^ 6) ∷ Read ivr ∷ Write eoicr 0 ∷ Read ivr ∷ []
+    -- 4 is started; 6 has an edge, and its line put high once more is no second one; 6 is not above 4, so a vector read starts nothing
+    Read ivr ∷ Line 6 1 ∷ Line 6 1 ∷ Read ivr
+    -- 4 is closed and 6 is started, then closed; a close with none open counts for nothing
+    ∷ Write eoicr 0 ∷ Read ivr ∷ Write eoicr 0 ∷ Write eoicr 0
+    -- one write commands 4 and 6; a read that is refused; 4 is started once more, and after its close 6
+    ∷ Write iscr (2 ^ 4 + 2 ^ 6) ∷ Read (ivr + 1) ∷ Read ivr ∷ Write eoicr 0 ∷ Read ivr ∷ []
