@@ -2,3 +2,4 @@
 pub mod Examples
 pub mod KindsLaws
 pub mod MoreLaws
+pub mod SoundLaws

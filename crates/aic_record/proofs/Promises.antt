@@ -35,5 +35,5 @@ kept =
     record {
       soundIs = λ s. (sound-is s, is-sound s);
       resetSound = λ external lines. is-sound (reset external lines) (reset-rules external lines);
-      resetShaped = λ external lines. record { modes = refl; vectors = refl; sources = refl; levels = refl };
+      resetShaped = λ external lines. (refl, refl, refl, refl);
     }

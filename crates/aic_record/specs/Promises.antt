@@ -11,11 +11,8 @@ use Rattle.aic_record.specs.Mode.{modeAt, keptMode, edge}
 use Rattle.aic_record.specs.Sound.{sourceAt, levelAt, sound}
 
 -- the arrays of a record have the lengths that the language gives them; a list in a definition has any length
-pub record Shaped (s : Aic) : Type 0 where
-  pub modes : length (s .mode) ≡ 32
-  pub vectors : length (s .vector) ≡ 32
-  pub sources : length (s .source) ≡ 8
-  pub levels : length (s .level) ≡ 8
+abbrev pub Shaped : Aic → Type 0
+Shaped s = (length (s .mode) ≡ 32) × (length (s .vector) ≡ 32) × (length (s .source) ≡ 8) × (length (s .level) ≡ 8)
 
 -- the rules of a sound record, one by one (01, AIC, A sound record)
 pub record Rules (s : Aic) : Type 0 where
