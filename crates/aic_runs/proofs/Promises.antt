@@ -12,15 +12,20 @@ use Rattle.steps.specs.declared.Step.{Step}
 use Rattle.aic_record.specs.declared.Aic.{Aic}
 use Rattle.aic_record.specs.Record.{reset}
 use Rattle.aic_record.specs.Mode.{edge}
+use Rattle.aic_record.specs.Sound.{sound}
+use Rattle.aic_record.specs.Promises.{Shaped}
+use Rattle.aic_record.proofs.SoundLaws.{sound-is}
+use Rattle.aic_record.proofs.Promises as Record
 use Rattle.aic_sources.specs.Fast.{fast}
 use Rattle.aic_sources.specs.Normal.{ahead}
 use Rattle.aic_runs.specs.Counted.{starts, closes, waits}
 use Rattle.aic_runs.specs.Runs.{run, count, always, EachStart}
 use Rattle.aic_runs.specs.Worked.{outset}
-use Rattle.aic_runs.specs.Promises.{Promises, EdgeTriggered, aheadOf, rivalOf}
+use Rattle.aic_runs.specs.Promises.{Promises, Nested, EdgeTriggered, aheadOf, rivalOf}
 use Rattle.aic_runs.proofs.CountedLaws.{started-some}
 use Rattle.aic_runs.proofs.StepLaws.{start-law, close-law, other-law}
 use Rattle.aic_runs.proofs.RunLaws.{balance, source-law, bound-over, rivals, each-start, waits-steady}
+use Rattle.aic_runs.proofs.SoundRuns.{run-sound, never-twelve}
 use Rattle.aic_runs.proofs.Worked.{worked}
 
 from-reset : (external lines : ℕ) (xs : List Step)
@@ -41,13 +46,21 @@ edge-triggered i l a =
     ⊎-elim (λ (h : not (ahead outset i 9) ≡ true). clash a (not-true (ahead outset i 9) h)) (λ (h : edge outset i ≡ true). h)
     (or-either (not (ahead outset i 9)) (edge outset i) (all-at 32 (λ j. not (ahead outset j 9) || edge outset j) (worked .edged) i l))
 
+nested-on : (s : Aic) → Shaped s → sound s ≡ true → (xs : List Step) → Nested (run s xs)
+nested-on s h ok xs =
+    let r = sound-is (run s xs) (run-sound s xs h ok) in
+    record { rising = r .rising; small = r .levels; eight = r .handlers }
+
+reached-sound : (external lines : ℕ) (xs : List Step) → sound (run (reset external lines) xs) ≡ true
+reached-sound external lines xs = run-sound (reset external lines) xs (Record.kept .resetShaped external lines) (Record.kept .resetSound external lines)
+
 pub kept : Promises
 kept =
     record {
       handlers = from-reset;
       balance = balance;
-      nested = ?;
-      nestedOn = ?;
+      nested = λ external lines xs. nested-on (reset external lines) (Record.kept .resetShaped external lines) (Record.kept .resetSound external lines) xs;
+      nestedOn = nested-on;
       eightOpen = (worked .eight, worked .levels);
       startedSome = started-some;
       startIs = start-law;
@@ -59,6 +72,6 @@ kept =
       boundNormal = λ s k xs l w e. bound-over k (rivalOf s k) s xs (rivals s k l xs w) (waits-steady k s xs w) e;
       boundMet = (worked .waited, edge-triggered, worked .started, worked .allowed);
       boundParts = (worked .pended, worked .turned, worked .commanded, worked .closed, worked .left);
-      reachedSound = ?;
-      neverTwelve = ?;
+      reachedSound = reached-sound;
+      neverTwelve = λ external lines xs x. never-twelve (run (reset external lines) xs) x (reached-sound external lines xs);
     }

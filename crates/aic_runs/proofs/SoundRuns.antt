@@ -22,7 +22,13 @@ use Rattle.aic.specs.Handlers.{refused, ivrRead, fvrRead}
 use Rattle.aic.specs.Registers.{readAt}
 use Rattle.aic.specs.Model.{readNumber, writeNumber, lineNumber, read, write, line, step}
 use Rattle.aic.proofs.KindsLaws.{value-number}
+use Rattle.aic.proofs.SoundLaws.{step-shaped, step-sound}
 use Rattle.aic_runs.specs.Runs.{run}
+
+pub run-sound : (s : Aic) (xs : List Step) → Shaped s → sound s ≡ true → sound (run s xs) ≡ true
+unfolding run
+run-sound s [] h ok = ok
+run-sound s (x ∷ xs) h ok = run-sound (step s x .aic) xs (step-shaped s x h) (step-sound s x h ok)
 
 -- a step that is carried out or refused by a number other than 12
 spared : (s : Aic) (n : ℕ) (a : Answer) → a .refusal ≡ 0 → n ≢ unsound → pick (eqb n 0) a (refused s n) .refusal ≢ unsound
