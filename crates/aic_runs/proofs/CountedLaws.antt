@@ -8,7 +8,7 @@ use lib.Dec.{eqb, ltb, leb}
 use borrow.Author.Tests.{eqb-true, eqb-false, eq-eqb, ne-eqb, lt-ltb, le-leb, le-ltb}
 use Rattle.words.specs.Choice.{pick}
 use Rattle.words.proofs.ChoiceLaws.{pick-cases, pick-true}
-use Rattle.words.proofs.TruthLaws.{and-left, and-right, and-both, or-left, clash, told}
+use Rattle.words.proofs.TruthLaws.{and-left, and-right, and-both, clash, told}
 use Rattle.words.specs.Word.{bit}
 use Rattle.steps.specs.declared.Step.{Step}
 use Rattle.steps.specs.declared.Step.the-variants.{Read, Write, Line}
@@ -145,8 +145,7 @@ line-rise s k l i ok m n = rw (carried-line s k l ok m n)
 pub mode-rewrite : (s : Aic) (o k v : ℕ) → sound s ≡ true → o ≡ k * 4 → k < 32 → rewrites s (Write o v) ≡ true
 unfolding rewrites access valueRefusal pick
 mode-rewrite s o k v ok e l =
-    and-both (carried-write s o v ok (omega arith) (free (le-leb o ivr (omega arith)) (ne-eqb o dcr (omega arith))))
-    (or-left (eqb o ffdr) (or-left (eqb o ffer) (lt-ltb o svr (omega arith))))
+    rw (carried-write s o v ok (omega arith) (free (le-leb o ivr (omega arith)) (ne-eqb o dcr (omega arith))), lt-ltb o svr (omega arith))
   where
     free : leb o ivr ≡ true → eqb o dcr ≡ false → writeAccess (access o) (valueRefusal o v) ≡ 0
     free p q = rw (p, q)
