@@ -18,17 +18,18 @@ use Rattle.aic.specs.Model.{step}
 unfoldable pub carried : Aic → Step → Bool
 carried s x = eqb (step s x .refusal) carriedOut
 
--- a vector read: a read of IVR
+-- a vector read: a read of IVR that is carried out
 unfoldable pub vectorRead : Aic → Step → Bool
 vectorRead s (Read o) = carried s (Read o) && eqb o ivr
 vectorRead s (Write o v) = false
 vectorRead s (Line k l) = false
 
--- a start: a vector read with a candidate opens a handler (01, AIC, Normal side; 003, 27.7.3.4)
+-- a start: a vector read with a candidate opens a handler (01, AIC, Normal side; 003, 27.7.3.1)
 unfoldable pub starts : Aic → Step → Bool
 starts s x = vectorRead s x && candidates s
 
 -- the source whose handler the step starts, 32 where it starts none: a vector read starts the candidate ahead of all others
+-- (01, AIC, Normal side; 003, 27.7.3.1)
 unfoldable pub startedBy : Aic → Step → ℕ
 startedBy s x = pick (vectorRead s x) (chosen s) 32
 
@@ -46,7 +47,7 @@ closes s (Read o) = false
 closes s (Write o v) = carried s (Write o v) && eqb o eoicr && not (eqb (s .depth) 0)
 closes s (Line k l) = false
 
--- the line of source i turns from inactive to active
+-- the line of source i turns from inactive to active, edge-triggered or not (01, AIC, Mode)
 unfoldable pub rises : ℕ → Aic → Step → Bool
 rises i s (Read o) = false
 rises i s (Write o v) = false
@@ -56,13 +57,14 @@ rises i s (Line k l) = carried s (Line k l) && eqb k i && turns s k (eqb l 1)
 unfoldable pub edges : ℕ → Aic → Step → Bool
 edges i s x = rises i s x && edge s i
 
--- a set command to source i: one write of the set register is a command to each source whose bit is 1 (01, AIC, Pending)
+-- a set command to source i: one write of the set register is a command to each source whose bit is 1
+-- (01, AIC, Pending; 003, 27.8.14)
 unfoldable pub commands : ℕ → Aic → Step → Bool
 commands i s (Read o) = false
 commands i s (Write o v) = carried s (Write o v) && eqb o iscr && bit v i
 commands i s (Line k l) = false
 
--- a write of a source mode, or of the registers that force and unforce sources
+-- a write of a source mode, or of one of the registers that force and unforce sources (01, demand 3; 003, 27.8.3 and 27.7.4.5)
 unfoldable pub rewrites : Aic → Step → Bool
 rewrites s (Read o) = false
 rewrites s (Write o v) = carried s (Write o v) && (ltb o svr || eqb o ffer || eqb o ffdr)
@@ -72,6 +74,6 @@ rewrites s (Line k l) = false
 unfoldable pub steady : Aic → Step → Bool
 steady s x = not (rewrites s x)
 
--- source k waits, pending, enabled and not fast, before a step that rewrites no mode and no forcing
+-- source k waits, pending, enabled and not fast, before a step that rewrites no mode and no forcing (01, demand 3)
 unfoldable pub waits : ℕ → Aic → Step → Bool
 waits k s x = waiting s k && steady s x
