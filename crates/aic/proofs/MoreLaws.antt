@@ -1,15 +1,15 @@
 -- Laws of words that the crate of words does not have yet.
 use Prim.Native.Nat.{ℕ, _^_, _<_}
 use mathlib.Core.Path.{_≡_, refl, sym, ap, _∙_}
-use mathlib.Core.Bool.{Bool, true, false, _&&_, and-true, and-false}
+use mathlib.Core.Bool.{Bool, true, false, not, _&&_, _||_, and-true, and-false, or-true, or-false}
 use native.Mathlib.Decide.{ℕ-discrete}
 use lib.Dec.{eqb}
 use lib.Pow.{pow-pos, pow-lt}
 use borrow.Author.Tests.{eq-eqb, ne-eqb}
 use Rattle.words.specs.Choice.{pick}
-use Rattle.words.specs.Word.{bit, both}
+use Rattle.words.specs.Word.{bit, both, withBit}
 use Rattle.words.proofs.ChoiceLaws.{pick-cases}
-use Rattle.words.proofs.WordLaws.{bit-none, bit-alone, bit-both, both-lt, same-word}
+use Rattle.words.proofs.WordLaws.{bit-none, bit-alone, bit-both, bit-withBit, both-lt, same-word}
 
 -- the bits of a word that a word of one bit has
 pub both-alone : (w k : ℕ) → k < 32 → both w (2 ^ k) ≡ pick (bit w k) (2 ^ k) 0
@@ -27,3 +27,30 @@ both-alone w k l =
     go j (yes e) = rw (e, eq-eqb k k refl) (and-true (bit w k) ∙ at (bit w k))
     go j (no n) =
         rw (ne-eqb j k n) (and-false (bit w j) ∙ sym (pick-cases (λ x. bit x j ≡ false) (bit w k) (λ _. bit-alone k j ∙ ne-eqb j k n) (λ _. bit-none j)))
+
+-- a bit cleared, or set, and then the same where a test holds
+pub bit-cleared : (w k j : ℕ) → j < 32 → bit (withBit w k false) j ≡ (bit w j && not (eqb j k))
+unfolding pick
+bit-cleared w k j l = bit-withBit w k false j l ∙ go (eqb j k) (bit w j)
+  where
+    go : (q b : Bool) → pick q false b ≡ (b && not q)
+    go true b = sym (and-false b)
+    go false b = sym (and-true b)
+
+pub bit-put : (w k j : ℕ) → j < 32 → bit (withBit w k true) j ≡ (bit w j || eqb j k)
+unfolding pick
+bit-put w k j l = bit-withBit w k true j l ∙ go (eqb j k) (bit w j)
+  where
+    go : (q b : Bool) → pick q true b ≡ (b || q)
+    go true b = sym (or-true b)
+    go false b = sym (or-false b)
+
+pub bit-cleared-if : (w k : ℕ) (t : Bool) (j : ℕ) → j < 32 → bit (pick t (withBit w k false) w) j ≡ (bit w j && not (eqb j k && t))
+unfolding pick
+bit-cleared-if w k true j l = bit-cleared w k j l ∙ sym (ap (λ (x : Bool). bit w j && not x) (and-true (eqb j k)))
+bit-cleared-if w k false j l = sym (ap (λ (x : Bool). bit w j && not x) (and-false (eqb j k)) ∙ and-true (bit w j))
+
+pub bit-put-if : (w k : ℕ) (t : Bool) (j : ℕ) → j < 32 → bit (pick t (withBit w k true) w) j ≡ (bit w j || (eqb j k && t))
+unfolding pick
+bit-put-if w k true j l = bit-put w k j l ∙ sym (ap (λ (x : Bool). bit w j || x) (and-true (eqb j k)))
+bit-put-if w k false j l = sym (ap (λ (x : Bool). bit w j || x) (and-false (eqb j k)) ∙ or-false (bit w j))

@@ -1,4 +1,5 @@
 -- Theorems about the AT91 controller's sources.
+pub mod FastLaws
 pub mod HandlerLaws
 pub mod OrderLaws
 pub mod Promises

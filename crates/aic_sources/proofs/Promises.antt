@@ -1,7 +1,7 @@
 -- The promises of the sources, kept.
 use Prim.Native.Nat.{ℕ, _<_}
 use mathlib.Core.Path.{_≡_, ap}
-use mathlib.Core.Bool.{true, false, not, _&&_}
+use mathlib.Core.Bool.{true, false, not}
 use mathlib.Core.Logic.{_↔_}
 use borrow.Author.Tests.{not-true}
 use Rattle.words.specs.Word.{bit}
@@ -10,10 +10,11 @@ use Rattle.words.proofs.CountingLaws.{any-some, some-any}
 use Rattle.words.proofs.WordLaws.{bit-wordOf}
 use Rattle.aic_record.specs.declared.Aic.{Aic}
 use Rattle.aic_record.proofs.SoundLaws.{sound-is}
-use Rattle.aic_sources.specs.Pending.{pending, asking, pendingWord}
+use Rattle.aic_sources.specs.Pending.{pending, pendingWord}
 use Rattle.aic_sources.specs.Fast.{fast, fastAsks, masked, fiq}
 use Rattle.aic_sources.specs.Normal.{candidate, candidates, irq}
 use Rattle.aic_sources.specs.Promises.{SomeCandidate, Promises}
+use Rattle.aic_sources.proofs.FastLaws.{fast-some, some-fast}
 use Rattle.aic_sources.proofs.OrderLaws.{ahead-irreflexive, ahead-transitive, ahead-total, chosen-is, chosen-one}
 use Rattle.aic_sources.proofs.HandlerLaws.{candidate-above, candidate-waits, waiting-is, is-candidate, candidate-room}
 
@@ -30,15 +31,10 @@ irq-is s = (
 
 fiq-is : (s : Aic) → (fiq s ≡ true)
     ↔ ((masked s ≡ false) × ((k : ℕ) × (k < 32) × (fast s k ≡ true) × (pending s k ≡ true) × (bit (s .enabled) k ≡ true)))
-unfolding fiq fastAsks asking
+unfolding fiq
 fiq-is s = (
-  λ e.
-      let r = any-some 32 (λ k. fast s k && asking s k) (and-right (not (masked s)) _ e) in
-      let a = and-right (fast s (r .0)) (pending s (r .0) && bit (s .enabled) (r .0)) (r .2) in (
-        not-true (masked s) (and-left _ (fastAsks s) e),
-        (r .0, r .1, and-left _ (asking s (r .0)) (r .2), and-left _ (bit (s .enabled) (r .0)) a, and-right (pending s (r .0)) _ a),
-      ),
-  λ (m, (k, l, f, p, e)). and-both (ap not m) (some-any 32 (λ k. fast s k && asking s k) k l (and-both f (and-both p e))),
+  λ e. (not-true (masked s) (and-left _ (fastAsks s) e), fast-some s (and-right (not (masked s)) _ e)),
+  λ (m, (k, l, f, p, e)). and-both (ap not m) (some-fast s k l f p e),
 )
 
 pub kept : Promises
