@@ -1,59 +1,49 @@
 -- What each kind of step counts as.
 use Prim.Native.Nat.{ℕ, _*_, _%_, _<_, _≤_}
 use mathlib.Core.Path.{_≡_, refl, sym, ap, _∙_}
-use mathlib.Core.Bool.{Bool, true, false, not, _&&_, _||_, and-true, and-false, or-true}
-use mathlib.Core.Logic.{_≢_, _⊎_, inl, inr, ⊎-elim}
+use mathlib.Core.Bool.{Bool, true, false, _&&_, and-false}
+use mathlib.Core.Logic.{_≢_, _⊎_, inl, inr}
 use native.Mathlib.Omega.{arith}
-use lib.Dec.{eqb, ltb, leb}
-use borrow.Author.Tests.{eqb-true, eqb-false, eq-eqb, ne-eqb, lt-ltb, le-leb, le-ltb}
+use lib.Dec.{eqb, ltb}
+use borrow.Author.Tests.{eq-eqb, ne-eqb, lt-ltb, le-leb}
 use Rattle.words.specs.Choice.{pick}
-use Rattle.words.proofs.ChoiceLaws.{pick-cases, pick-true}
+use Rattle.words.proofs.ChoiceLaws.{pick-true}
 use Rattle.words.proofs.TruthLaws.{and-left, and-right, and-both, clash, told}
 use Rattle.words.specs.Word.{bit}
 use Rattle.steps.specs.declared.Step.{Step}
 use Rattle.steps.specs.declared.Step.the-variants.{Read, Write, Line}
-use Rattle.steps.specs.Refusals.{readRefusal, writeRefusal, lineRefusal, writeAccess}
+use Rattle.steps.specs.Tables.{Writable}
 use Rattle.aic_record.specs.declared.Aic.{Aic}
 use Rattle.aic_record.specs.Sound.{sound}
 use Rattle.aic_sources.specs.Normal.{candidates, chosen}
 use Rattle.aic_sources.proofs.OrderLaws.{chosen-none, chosen-is}
-use Rattle.aic.specs.declared.Answer.{Answer}
 use Rattle.aic.specs.Map.{svr, ivr, iscr, eoicr, dcr, ffer, ffdr, access, valueRefusal}
-use Rattle.aic.specs.Handlers.{refused, ivrRead}
 use Rattle.aic.specs.Effects.{turns}
-use Rattle.aic.specs.Registers.{readAt}
-use Rattle.aic.specs.Model.{readNumber, writeNumber, lineNumber, read, write, line, step}
 use Rattle.aic.proofs.KindsLaws.{Plain}
-use Rattle.aic_runs.specs.Counted.{carried, vectorRead, starts, startedBy, startsOf, startsOther, closes, rises, edges, commands, rewrites}
+use Rattle.aic.proofs.Promises as Controller
+use Rattle.aic_runs.specs.Counted.{carried, vectorRead, starts, startedBy, startsOf, closes, rises, commands, rewrites}
 
 -- ---- what is carried out
 
 -- of an unsound record nothing is
 pub carried-unsound : (s : Aic) (x : Step) → sound s ≡ false → carried s x ≡ false
-unfolding carried read write line readNumber writeNumber lineNumber readRefusal writeRefusal lineRefusal pick
-carried-unsound s (Read o) e = rw e
-carried-unsound s (Write o v) e = rw e
-carried-unsound s (Line k l) e = rw e
+unfolding carried
+carried-unsound s (Read o) e = rw (Controller.kept .readNumbers s o .twelve .1 e)
+carried-unsound s (Write o v) e = rw (Controller.kept .writeNumbers s o v .twelve .1 e)
+carried-unsound s (Line k l) e = rw (Controller.kept .lineNumbers s k l .twelve .1 e)
 
--- a step that is refused by no number is
-by-number : (s : Aic) (n : ℕ) (a : Answer) → n ≡ 0 → a .refusal ≡ 0 → eqb (pick (eqb n 0) a (refused s n) .refusal) 0 ≡ true
-unfolding pick
-by-number s n a z e = rw (z, e)
-
+-- of a sound one a read of IVR, a write to a register that takes its value, and a line step within the limits
 carried-ivr : (s : Aic) → sound s ≡ true → carried s (Read ivr) ≡ true
-unfolding carried read readNumber readRefusal access readAt ivrRead pick
-carried-ivr s ok =
-    by-number s (readNumber s ivr) (readAt s ivr) (rw ok) (pick-cases (λ (a : Answer). a .refusal ≡ 0) (candidates s) (λ _. refl) (λ _. refl))
+unfolding carried access pick
+carried-ivr s ok = rw (Controller.kept .readNumbers s ivr .none .1 (ok, (refl, inr refl)))
 
-carried-write : (s : Aic) (o v : ℕ) → sound s ≡ true → o % 4 ≡ 0 → writeAccess (access o) (valueRefusal o v) ≡ 0 → carried s (Write o v) ≡ true
-unfolding carried write writeNumber writeRefusal
-carried-write s o v ok a w =
-    by-number s (writeNumber s o v) _ (sym (pick-true _ ok) ∙ sym (pick-true _ (eq-eqb (o % 4) 0 a)) ∙ w) refl
+carried-write : (s : Aic) (o v : ℕ) → sound s ≡ true → o % 4 ≡ 0 → Writable (access o) → valueRefusal o v ≡ 0 → carried s (Write o v) ≡ true
+unfolding carried
+carried-write s o v ok a w f = rw (Controller.kept .writeNumbers s o v .none .1 (ok, (a, (w, f))))
 
 carried-line : (s : Aic) (k l : ℕ) → sound s ≡ true → k < 32 → l ≤ 1 → carried s (Line k l) ≡ true
-unfolding carried line lineNumber lineRefusal
-carried-line s k l ok m n =
-    by-number s (lineNumber s k l) _ (sym (pick-true _ ok) ∙ sym (pick-true _ (and-both (lt-ltb k 32 m) (le-leb l 1 n)))) refl
+unfolding carried
+carried-line s k l ok m n = rw (Controller.kept .lineNumbers s k l .none .1 (ok, (m, n)))
 
 -- ---- starts
 
@@ -128,13 +118,13 @@ plain-close s (Line k l) p = line-close s k l
 
 pub close-close : (s : Aic) (v : ℕ) → sound s ≡ true → s .depth ≢ 0 → closes s (Write eoicr v) ≡ true
 unfolding closes access valueRefusal pick
-close-close s v ok d = rw (carried-write s eoicr v ok refl refl, ne-eqb (s .depth) 0 d)
+close-close s v ok d = rw (carried-write s eoicr v ok refl (inl refl) refl, ne-eqb (s .depth) 0 d)
 
 -- ---- set commands and edges
 
 pub set-command : (s : Aic) (v i : ℕ) → sound s ≡ true → commands i s (Write iscr v) ≡ bit v i
 unfolding commands access valueRefusal pick
-set-command s v i ok = rw (carried-write s iscr v ok refl refl)
+set-command s v i ok = rw (carried-write s iscr v ok refl (inl refl) refl)
 
 pub line-rise : (s : Aic) (k l i : ℕ) → sound s ≡ true → k < 32 → l ≤ 1 → rises i s (Line k l) ≡ (eqb k i && turns s k (eqb l 1))
 unfolding rises
@@ -145,12 +135,12 @@ line-rise s k l i ok m n = rw (carried-line s k l ok m n)
 pub mode-rewrite : (s : Aic) (o k v : ℕ) → sound s ≡ true → o ≡ k * 4 → k < 32 → rewrites s (Write o v) ≡ true
 unfolding rewrites access valueRefusal pick
 mode-rewrite s o k v ok e l =
-    rw (carried-write s o v ok (omega arith) (free (le-leb o ivr (omega arith)) (ne-eqb o dcr (omega arith))), lt-ltb o svr (omega arith))
-  where
-    free : leb o ivr ≡ true → eqb o dcr ≡ false → writeAccess (access o) (valueRefusal o v) ≡ 0
-    free p q = rw (p, q)
+    rw (
+      carried-write s o v ok (omega arith) (inr (rw (le-leb o ivr (omega arith)))) (rw (ne-eqb o dcr (omega arith))),
+      lt-ltb o svr (omega arith),
+    )
 
 pub forcing-rewrite : (s : Aic) (o v : ℕ) → sound s ≡ true → (o ≡ ffer) ⊎ (o ≡ ffdr) → rewrites s (Write o v) ≡ true
 unfolding rewrites access valueRefusal pick
-forcing-rewrite s o v ok (inl e) = rw (e, carried-write s ffer v ok refl refl)
-forcing-rewrite s o v ok (inr e) = rw (e, carried-write s ffdr v ok refl refl)
+forcing-rewrite s o v ok (inl e) = rw (e, carried-write s ffer v ok refl (inl refl) refl)
+forcing-rewrite s o v ok (inr e) = rw (e, carried-write s ffdr v ok refl (inl refl) refl)

@@ -1,16 +1,16 @@
 -- What holds of every run: one induction for each law of a step, and the sum over sources once, at the end.
-use Prim.Native.Nat.{ℕ, _+_, _-_, _≤_, _<_}
+use Prim.Native.Nat.{ℕ, _+_, _≤_, _<_}
 use mathlib.Core.Path.{_≡_, refl, sym, ap, _∙_}
 use mathlib.Core.Bool.{Bool, true, false, not, _&&_}
 use mathlib.Core.List.{List, [], _∷_}
 use mathlib.Core.Logic.{_≢_}
 use native.Mathlib.Omega.{arith}
 use lib.Dec.{eqb, ltb}
-use borrow.Author.Tests.{eqb-true, eqb-false, eq-eqb, lt-ltb, ltb-true, not-true}
+use borrow.Author.Tests.{eqb-false, eq-eqb, ltb-true, not-true}
 use Rattle.words.specs.Choice.{pick}
-use Rattle.words.specs.Counting.{one, sumBelow}
-use Rattle.words.proofs.ChoiceLaws.{pick-true, pick-cases}
-use Rattle.words.proofs.TruthLaws.{and-left, and-right, and-both, clash}
+use Rattle.words.specs.Counting.{one}
+use Rattle.words.proofs.ChoiceLaws.{pick-true}
+use Rattle.words.proofs.TruthLaws.{and-left, and-right, and-both}
 use Rattle.words.proofs.CountingLaws.{sum-le, sum-add, sum-at}
 use Rattle.steps.specs.declared.Step.{Step}
 use Rattle.aic_record.specs.declared.Aic.{Aic}
@@ -20,7 +20,7 @@ use Rattle.aic_sources.specs.Fast.{fast}
 use Rattle.aic_sources.specs.Normal.{waiting, above, candidate, ahead, candidates, chosen}
 use Rattle.aic_sources.proofs.OrderLaws.{chosen-is, chosen-ahead}
 use Rattle.aic.specs.Model.{step}
-use Rattle.aic_runs.specs.Counted.{starts, startedBy, startsOf, startsOther, closes, edges, commands, rewrites, steady, waits}
+use Rattle.aic_runs.specs.Counted.{starts, startedBy, startsOf, startsOther, closes, rewrites, steady, waits}
 use Rattle.aic_runs.specs.Runs.{run, count, always, EachStart, owed, received, sumOver}
 use Rattle.aic_runs.specs.Promises.{EdgeTriggered, rivalOf}
 use Rattle.aic_runs.proofs.CountedLaws.{started-chosen}

@@ -1,35 +1,35 @@
 -- What one step does to the modes, to the number of open handlers, and to what a source is owed: a lemma for each kind of step.
-use Prim.Native.Nat.{ℕ, _+_, _-_, _≤_, _<_}
+use Prim.Native.Nat.{ℕ, _+_, _≤_, _<_}
 use mathlib.Core.Path.{_≡_, refl, sym, ap, _∙_}
-use mathlib.Core.Bool.{Bool, true, false, not, _&&_, _||_, and-true}
+use mathlib.Core.Bool.{Bool, true, false, _&&_, _||_, and-true}
 use mathlib.Core.Logic.{_≢_, _⊎_, inl, inr}
 use native.Mathlib.Omega.{arith}
 use native.Mathlib.Decide.{ℕ-discrete}
-use lib.Dec.{eqb, ltb}
-use borrow.Author.Tests.{eqb-true, eqb-false, eq-eqb, ne-eqb, not-true}
+use lib.Dec.{eqb}
+use borrow.Author.Tests.{eq-eqb, ne-eqb}
 use Rattle.words.specs.Choice.{pick}
 use Rattle.words.specs.Counting.{one}
-use Rattle.words.specs.Word.{bit, either, both, withBit}
+use Rattle.words.specs.Word.{bit, withBit}
 use Rattle.words.proofs.ChoiceLaws.{pick-cases, pick-true, pick-false}
-use Rattle.words.proofs.TruthLaws.{and-left, and-right, clash}
+use Rattle.words.proofs.TruthLaws.{and-left, clash}
 use Rattle.words.proofs.CountingLaws.{one-le}
 use Rattle.words.proofs.WordLaws.{bit-either, bit-both, bit-withBit}
 use Rattle.steps.specs.declared.Step.{Step}
 use Rattle.steps.specs.declared.Step.the-variants.{Read, Write, Line}
 use Rattle.aic_record.specs.declared.Aic.{Aic}
 use Rattle.aic_record.specs.Record.{withMemory}
-use Rattle.aic_record.specs.Mode.{priority, kind, edge}
+use Rattle.aic_record.specs.Mode.{priority, edge}
 use Rattle.aic_record.specs.Sound.{sound}
 use Rattle.aic_sources.specs.Pending.{active, pending, asking, edgeWord}
 use Rattle.aic_sources.specs.Fast.{fast}
 use Rattle.aic_sources.specs.Normal.{waiting, ahead, candidate, candidates, chosen}
-use Rattle.aic_sources.proofs.OrderLaws.{Foremost, chosen-is}
+use Rattle.aic_sources.proofs.OrderLaws.{chosen-is}
 use Rattle.aic.specs.Map.{ivr, iscr, eoicr, ffer, ffdr}
 use Rattle.aic.specs.Handlers.{spent, opened, startedAt, closedLast}
 use Rattle.aic.specs.Effects.{moded, setBy, turns, moved}
 use Rattle.aic.specs.Model.{step}
-use Rattle.aic.proofs.KindsLaws.{Plain, Kinds, kinds, withStore}
-use Rattle.aic_runs.specs.Counted.{starts, startedBy, startsOf, closes, rises, edges, commands, rewrites, steady}
+use Rattle.aic.proofs.KindsLaws.{kinds}
+use Rattle.aic_runs.specs.Counted.{starts, startedBy, startsOf, closes, edges, commands, rewrites}
 use Rattle.aic_runs.specs.Runs.{owed}
 use Rattle.aic_runs.proofs.CountedLaws.{plain-start, write-start, line-start, no-start, take-start, take-chosen, plain-close, read-close, line-close, other-close, close-close, set-command, line-rise, mode-rewrite, forcing-rewrite}
 

@@ -1,26 +1,24 @@
 -- The two worked runs, computed from the definitions.
-use Prim.Native.Nat.{ℕ, zero, suc, _+_, _*_, _^_, _<_}
-use mathlib.Core.Path.{_≡_, refl, sym, ap, _∙_}
-use mathlib.Core.Bool.{Bool, true, false, not, _&&_, _||_}
-use mathlib.Core.List.{List, [], _∷_, _++_}
-use lib.Dec.{eqb}
-use lib.ListN.{getD}
+use Prim.Native.Nat.{_+_}
+use mathlib.Core.Path.{_≡_, refl}
+use mathlib.Core.Bool.{true, not, _||_}
+use mathlib.Core.List.{[], _∷_}
 use Rattle.words.specs.Choice.{pick}
-use Rattle.words.specs.Counting.{anyBelow, allBelow, lowestBelow, sumBelow, one}
+use Rattle.words.specs.Counting.{anyBelow, allBelow, lowestBelow, sumBelow}
 use Rattle.words.specs.Word.{bit, wordOf, either, both, without, withBit}
 use Rattle.steps.specs.Refusals.{readRefusal, writeRefusal, lineRefusal}
 use Rattle.aic_record.specs.Record.{reset}
 use Rattle.aic_record.specs.Mode.{priority, kind, edge}
 use Rattle.aic_record.specs.Sound.{handlerSound, freeSound, handlersSound, memorySound, storedSound, sound}
-use Rattle.aic_sources.specs.Pending.{activeLow, activeAt, active, pending, asking, pendingWord, edgeWord}
-use Rattle.aic_sources.specs.Fast.{fast, fastAsks, masked, fiq}
-use Rattle.aic_sources.specs.Normal.{waiting, above, candidate, ahead, foremost, candidates, chosen, irq}
+use Rattle.aic_sources.specs.Pending.{activeLow, activeAt, active, pending, asking, edgeWord}
+use Rattle.aic_sources.specs.Fast.{fast}
+use Rattle.aic_sources.specs.Normal.{waiting, above, candidate, ahead, foremost, candidates, chosen}
 use Rattle.aic.specs.Map.{access, valueRefusal}
-use Rattle.aic.specs.Handlers.{spent, opened, startedAt, closedLast, ended, ivrRead, fastSpent, fvrRead, current}
-use Rattle.aic.specs.Effects.{moded, vectored, enabledBy, disabledBy, setBy, clearedBy, maskedBy, forcedBy, unforcedBy, turns, moved}
-use Rattle.aic.specs.Registers.{outputBits, stored, readAt, writtenAt}
-use Rattle.aic.specs.Model.{readNumber, writeNumber, lineNumber, read, write, line, step}
-use Rattle.aic_runs.specs.Counted.{carried, vectorRead, starts, startedBy, startsOf, startsOther, closes, rises, edges, commands, rewrites, steady, waits}
+use Rattle.aic.specs.Handlers.{spent, opened, startedAt, closedLast, ended, ivrRead}
+use Rattle.aic.specs.Effects.{moded, enabledBy, setBy, turns, moved}
+use Rattle.aic.specs.Registers.{readAt, writtenAt}
+use Rattle.aic.specs.Model.{readNumber, writeNumber, lineNumber, read, write, line}
+use Rattle.aic_runs.specs.Counted.{carried, vectorRead, startedBy, startsOf, startsOther, closes, rises, edges, commands, rewrites, steady, waits}
 use Rattle.aic_runs.specs.Runs.{run, count, always, owed, received, sumOver}
 use Rattle.aic_runs.specs.Worked.{ready, tower, outset, wait}
 
