@@ -1,14 +1,14 @@
 -- What each kind of step counts as.
 use Prim.Native.Nat.{ℕ, _*_, _%_, _<_, _≤_}
 use mathlib.Core.Path.{_≡_, refl, sym, ap, _∙_}
-use mathlib.Core.Bool.{Bool, true, false, _&&_, and-false}
+use mathlib.Core.Bool.{Bool, true, false, not, _&&_, and-false}
 use mathlib.Core.Logic.{_≢_, _⊎_, inl, inr}
 use native.Mathlib.Omega.{arith}
 use lib.Dec.{eqb, ltb}
 use borrow.Author.Tests.{eq-eqb, ne-eqb, lt-ltb, le-leb}
 use Rattle.words.specs.Choice.{pick}
 use Rattle.words.proofs.ChoiceLaws.{pick-true}
-use Rattle.words.proofs.TruthLaws.{and-left, and-right, and-both, clash, told}
+use Rattle.words.proofs.TruthLaws.{and-left, and-right, and-both, or-left, clash, told}
 use Rattle.words.specs.Word.{bit}
 use Rattle.steps.specs.declared.Step.{Step}
 use Rattle.steps.specs.declared.Step.the-variants.{Read, Write, Line}
@@ -75,7 +75,7 @@ line-start s k l = refl
 
 pub plain-start : (s : Aic) (x : Step) → Plain s x → starts s x ≡ false
 unfolding starts vectorRead
-plain-start s (Read o) (inl e) = rw (carried-unsound s (Read o) e)
+plain-start s (Read o) (inl e) = ap (λ (t : Bool). t && eqb o ivr && candidates s) (carried-unsound s (Read o) e)
 plain-start s (Read o) (inr (inl d)) = rw (ne-eqb o ivr d, and-false (carried s (Read o)))
 plain-start s (Read o) (inr (inr n)) = rw (n, and-false (carried s (Read o) && eqb o ivr))
 plain-start s (Write o v) p = write-start s o v
@@ -113,7 +113,7 @@ unfolding closes
 plain-close s (Read o) p = read-close s o
 plain-close s (Write o v) (inl e) = rw (carried-unsound s (Write o v) e)
 plain-close s (Write o v) (inr (inl (d, _))) = other-close s o v d
-plain-close s (Write o v) (inr (inr (e, z))) = rw (eq-eqb (s .depth) 0 z) (and-false (carried s (Write o v) && eqb o eoicr))
+plain-close s (Write o v) (inr (inr (e, z))) = ap (λ (t : Bool). carried s (Write o v) && eqb o eoicr && not t) (eq-eqb (s .depth) 0 z) ∙ and-false (carried s (Write o v) && eqb o eoicr)
 plain-close s (Line k l) p = line-close s k l
 
 pub close-close : (s : Aic) (v : ℕ) → sound s ≡ true → s .depth ≢ 0 → closes s (Write eoicr v) ≡ true
@@ -135,10 +135,8 @@ line-rise s k l i ok m n = rw (carried-line s k l ok m n)
 pub mode-rewrite : (s : Aic) (o k v : ℕ) → sound s ≡ true → o ≡ k * 4 → k < 32 → rewrites s (Write o v) ≡ true
 unfolding rewrites access valueRefusal pick
 mode-rewrite s o k v ok e l =
-    rw (
-      carried-write s o v ok (omega arith) (inr (rw (le-leb o ivr (omega arith)))) (rw (ne-eqb o dcr (omega arith))),
-      lt-ltb o svr (omega arith),
-    )
+    and-both (carried-write s o v ok (omega arith) (inr (rw (le-leb o ivr (omega arith)))) (rw (ne-eqb o dcr (omega arith))))
+    (or-left _ (or-left _ (lt-ltb o svr (omega arith))))
 
 pub forcing-rewrite : (s : Aic) (o v : ℕ) → sound s ≡ true → (o ≡ ffer) ⊎ (o ≡ ffdr) → rewrites s (Write o v) ≡ true
 unfolding rewrites access valueRefusal pick
