@@ -83,7 +83,7 @@ plain-start s (Line k l) p = line-start s k l
 
 pub no-start : (s : Aic) (x : Step) → starts s x ≡ false → (i : ℕ) → i < 32 → startsOf i s x ≡ false
 unfolding startsOf
-no-start s x n i l = ne-eqb (startedBy s x) i (λ e. clash (started-some s x ∙ lt-ltb (startedBy s x) 32 (rw e l)) n)
+no-start s x n i l = ne-eqb i (startedBy s x) (λ e. clash (started-some s x ∙ lt-ltb (startedBy s x) 32 (rw e at l)) n)
 
 -- a read of IVR with a candidate
 pub take-start : (s : Aic) → sound s ≡ true → candidates s ≡ true → starts s (Read ivr) ≡ true
@@ -126,7 +126,7 @@ pub set-command : (s : Aic) (v i : ℕ) → sound s ≡ true → commands i s (W
 unfolding commands access valueRefusal pick
 set-command s v i ok = rw (carried-write s iscr v ok refl (inl refl) refl)
 
-pub line-rise : (s : Aic) (k l i : ℕ) → sound s ≡ true → k < 32 → l ≤ 1 → rises i s (Line k l) ≡ (eqb k i && turns s k (eqb l 1))
+pub line-rise : (s : Aic) (k l i : ℕ) → sound s ≡ true → k < 32 → l ≤ 1 → rises i s (Line k l) ≡ (eqb i k && turns s k (eqb l 1))
 unfolding rises
 line-rise s k l i ok m n = rw (carried-line s k l ok m n)
 

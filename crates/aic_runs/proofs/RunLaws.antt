@@ -14,17 +14,17 @@ use Rattle.words.proofs.TruthLaws.{and-left, and-right, and-both}
 use Rattle.words.proofs.CountingLaws.{sum-le, sum-add, sum-at}
 use Rattle.steps.specs.declared.Step.{Step}
 use Rattle.aic_record.specs.declared.Aic.{Aic}
-use Rattle.aic_record.specs.Mode.{priority, edge}
-use Rattle.aic_sources.specs.Pending.{asking}
+use Rattle.aic_record.specs.Mode.{edge}
 use Rattle.aic_sources.specs.Fast.{fast}
-use Rattle.aic_sources.specs.Normal.{waiting, above, candidate, ahead, candidates, chosen}
+use Rattle.aic_sources.specs.Normal.{waiting, ahead, candidates, chosen}
+use Rattle.aic_sources.proofs.HandlerLaws.{candidate-waits, waiting-is}
 use Rattle.aic_sources.proofs.OrderLaws.{chosen-is, chosen-ahead}
 use Rattle.aic.specs.Model.{step}
 use Rattle.aic_runs.specs.Counted.{starts, startedBy, startsOf, startsOther, closes, rewrites, steady, waits}
 use Rattle.aic_runs.specs.Runs.{run, count, always, EachStart, owed, received, sumOver}
 use Rattle.aic_runs.specs.Promises.{EdgeTriggered, rivalOf}
 use Rattle.aic_runs.proofs.CountedLaws.{started-chosen}
-use Rattle.aic_runs.proofs.StepLaws.{modes-law, depth-law, owed-law, edge-modes, ahead-modes, fast-forced}
+use Rattle.aic_runs.proofs.StepLaws.{modes-law, depth-law, owed-law, edge-modes, ahead-modes, fast-forcing}
 
 -- ---- the open handlers
 
@@ -82,15 +82,15 @@ module _ (k : ℕ) (t : ℕ → Bool) where
   start-over : (s : Aic) (x : Step) → (startedBy s x < 32 → startedBy s x ≢ k → t (startedBy s x) ≡ true)
       → one (startsOther k s x) ≤ sumOver t (λ i. one (startsOf i s x))
   unfolding startsOther startsOf
-  start-over s x h = go (ltb (startedBy s x) 32) refl (eqb (startedBy s x) k) refl
+  start-over s x h = go (ltb (startedBy s x) 32) refl (eqb k (startedBy s x)) refl
     where
-      go : (b : Bool) → ltb (startedBy s x) 32 ≡ b → (c : Bool) → eqb (startedBy s x) k ≡ c → one (b && not c) ≤ sumOver t (λ i. one (eqb (startedBy s x) i))
+      go : (b : Bool) → ltb (startedBy s x) 32 ≡ b → (c : Bool) → eqb k (startedBy s x) ≡ c → one (b && not c) ≤ sumOver t (λ i. one (eqb i (startedBy s x)))
       go false e c d = omega arith
       go true e true d = omega arith
       go true e false d =
           let l : startedBy s x < 32 = ltb-true (startedBy s x) 32 e in
           let o : one (eqb (startedBy s x) (startedBy s x)) ≡ 1 = ap one (eq-eqb (startedBy s x) (startedBy s x) refl) in
-          omega (arith, o, over-at t (λ i. one (eqb (startedBy s x) i)) (startedBy s x) l (h l (eqb-false (startedBy s x) k d)))
+          omega (arith, o, over-at t (λ i. one (eqb i (startedBy s x))) (startedBy s x) l (h l (λ q. eqb-false k (startedBy s x) d (sym q))))
 
   starts-over : (s : Aic) (xs : List Step) → EachStart (λ j. j ≢ k → t j ≡ true) s xs → count (startsOther k) s xs ≤ sumOver t (λ i. count (startsOf i) s xs)
   unfolding EachStart count
@@ -116,9 +116,8 @@ module _ (k : ℕ) (t : ℕ → Bool) where
 -- ---- who is started while source k waits
 
 -- what is chosen is not fast
-chosen-normal : (s : Aic) → candidates s ≡ true → not (fast s (chosen s)) ≡ true
-unfolding candidate waiting
-chosen-normal s c = and-right (asking s (chosen s)) _ (and-left (waiting s (chosen s)) (above s (priority s (chosen s))) (chosen-is s c .fit))
+chosen-normal : (s : Aic) → candidates s ≡ true → fast s (chosen s) ≡ false
+chosen-normal s c = waiting-is s (chosen s) (candidate-waits s (chosen s) (chosen-is s c .fit)) .2
 
 module _ (s : Aic) (k : ℕ) (small : k < 32) where
   -- one step, in a record with the modes and the forcing of s
@@ -127,7 +126,7 @@ module _ (s : Aic) (k : ℕ) (small : k < 32) where
   step-rival u x m f w l d =
       let p = started-chosen u x l in
       let a : ahead u (chosen u) k ≡ true = chosen-ahead u k small w (p .0) (λ e. d (p .1 ∙ e)) in
-      rw (p .1) (and-both (sym (ahead-modes s u (chosen u) k m) ∙ a) (ap not (sym (fast-forced s u (chosen u) f)) ∙ chosen-normal u (p .0)))
+      rw (p .1) (and-both (sym (ahead-modes s u (chosen u) k m) ∙ a) (ap not (sym (fast-forcing s u (chosen u) f) ∙ chosen-normal u (p .0))))
 
   each-rival : (u : Aic) (xs : List Step) → u .mode ≡ s .mode → u .forced ≡ s .forced → always (waits k) u xs ≡ true
       → EachStart (λ j. j ≢ k → rivalOf s k j ≡ true) u xs

@@ -1,48 +1,42 @@
 -- What one step does to the modes, to the number of open handlers, and to what a source is owed: a lemma for each kind of step.
 use Prim.Native.Nat.{ℕ, _+_, _≤_, _<_}
 use mathlib.Core.Path.{_≡_, refl, sym, ap, _∙_}
-use mathlib.Core.Bool.{Bool, true, false, _&&_, _||_, and-true}
+use mathlib.Core.Bool.{Bool, true, false, not, _&&_, _||_, and-true}
 use mathlib.Core.Logic.{_≢_, _⊎_, inl, inr}
 use native.Mathlib.Omega.{arith}
-use native.Mathlib.Decide.{ℕ-discrete}
 use lib.Dec.{eqb}
-use borrow.Author.Tests.{eq-eqb, ne-eqb}
-use Rattle.words.specs.Choice.{pick}
+use borrow.Author.Tests.{eqb-true}
 use Rattle.words.specs.Counting.{one}
-use Rattle.words.specs.Word.{bit, withBit}
-use Rattle.words.proofs.ChoiceLaws.{pick-cases, pick-true, pick-false}
-use Rattle.words.proofs.TruthLaws.{and-left, clash}
+use Rattle.words.specs.Word.{bit}
+use Rattle.words.proofs.ChoiceLaws.{pick-cases, pick-true}
+use Rattle.words.proofs.TruthLaws.{clash}
 use Rattle.words.proofs.CountingLaws.{one-le}
-use Rattle.words.proofs.WordLaws.{bit-either, bit-both, bit-withBit}
+use Rattle.words.proofs.WordLaws.{bit-either, bit-both}
 use Rattle.steps.specs.declared.Step.{Step}
 use Rattle.steps.specs.declared.Step.the-variants.{Read, Write, Line}
 use Rattle.aic_record.specs.declared.Aic.{Aic}
-use Rattle.aic_record.specs.Record.{withMemory}
 use Rattle.aic_record.specs.Mode.{priority, edge}
 use Rattle.aic_record.specs.Sound.{sound}
-use Rattle.aic_sources.specs.Pending.{active, pending, asking, edgeWord}
+use Rattle.aic_sources.specs.Pending.{active, pending, edgeWord}
 use Rattle.aic_sources.specs.Fast.{fast}
-use Rattle.aic_sources.specs.Normal.{waiting, ahead, candidate, candidates, chosen}
+use Rattle.aic_sources.specs.Normal.{ahead, candidate, candidates, chosen}
+use Rattle.aic_sources.proofs.HandlerLaws.{candidate-waits, waiting-is}
 use Rattle.aic_sources.proofs.OrderLaws.{chosen-is}
 use Rattle.aic.specs.Map.{ivr, iscr, eoicr, ffer, ffdr}
-use Rattle.aic.specs.Handlers.{spent, opened, startedAt, closedLast}
+use Rattle.aic.specs.Handlers.{startedAt, closedLast}
 use Rattle.aic.specs.Effects.{moded, setBy, turns, moved}
 use Rattle.aic.specs.Model.{step}
+use Rattle.aic.proofs.MoreLaws.{bit-cleared-if, bit-put-if}
+use Rattle.aic.proofs.HandlerLaws.{started-is, moved-is}
 use Rattle.aic.proofs.KindsLaws.{kinds}
 use Rattle.aic_runs.specs.Counted.{starts, startedBy, startsOf, closes, edges, commands, rewrites}
 use Rattle.aic_runs.specs.Runs.{owed}
 use Rattle.aic_runs.proofs.CountedLaws.{plain-start, write-start, line-start, no-start, take-start, take-chosen, plain-close, read-close, line-close, other-close, close-close, set-command, line-rise, mode-rewrite, forcing-rewrite}
 
--- a choice of whether the memory is put anew is a choice of memories
-pub spent-memory : (t : Bool) (s : Aic) (w : ℕ) → pick t (withMemory s w) s ≡ withMemory s (pick t w (s .memory))
-unfolding pick
-spent-memory true s w = refl
-spent-memory false s w = refl
-
 -- ---- the modes and the forcing
 
 pub modes-law : (s : Aic) (x : Step) → rewrites s x ≡ false → (step s x .aic .mode ≡ s .mode) × (step s x .aic .forced ≡ s .forced)
-unfolding startedAt opened spent closedLast setBy moved
+unfolding closedLast setBy
 modes-law s =
     kinds s (λ x t. rewrites s x ≡ false → (t .mode ≡ s .mode) × (t .forced ≡ s .forced))
     (record {
@@ -51,10 +45,10 @@ modes-law s =
       fall = λ x w ok p f r. (refl, refl);
       remode = λ o k v ok e l r. clash (mode-rewrite s o k v ok e l) r;
       reforce = λ o v f ok e z r. clash (forcing-rewrite s o v ok e) r;
-      take = λ ok c r. rw spent-memory (refl, refl);
+      take = λ ok c r. rw (started-is s (chosen s) (priority s (chosen s))) (refl, refl);
       close = λ v ok d r. (refl, refl);
       command = λ v ok r. (refl, refl);
-      move = λ k l ok m n r. rw spent-memory (refl, refl);
+      move = λ k l ok m n r. rw (moved-is s k (eqb l 1)) (refl, refl);
     })
 
 -- ---- the open handlers
@@ -64,7 +58,7 @@ not-eoicr o (inl e) = omega arith
 not-eoicr o (inr e) = omega arith
 
 pub depth-law : (s : Aic) (x : Step) → step s x .aic .depth + one (closes s x) ≡ s .depth + one (starts s x)
-unfolding startedAt opened spent closedLast setBy moved moded
+unfolding closedLast setBy moded
 depth-law s =
     kinds s (λ x t. t .depth + one (closes s x) ≡ s .depth + one (starts s x))
     (record {
@@ -73,10 +67,10 @@ depth-law s =
       fall = λ x w ok p f. rw (plain-start s x p, plain-close s x p);
       remode = λ o k v ok e l. rw (write-start s o v, other-close s o v (omega arith)) (pick-cases (λ (t : Aic). t .depth + 0 ≡ s .depth + 0) _ (λ _. refl) (λ _. refl));
       reforce = λ o v f ok e z. rw (write-start s o v, other-close s o v (not-eoicr o e));
-      take = λ ok c. rw (spent-memory, take-start s ok c, read-close s ivr) (omega arith);
+      take = λ ok c. rw (started-is s (chosen s) (priority s (chosen s)), take-start s ok c, read-close s ivr) (omega arith);
       close = λ v ok d. rw (write-start s eoicr v, close-close s v ok d) (omega arith);
       command = λ v ok. rw (write-start s iscr v, other-close s iscr v (omega arith));
-      move = λ k l ok m n. rw (spent-memory, line-start s k l, line-close s k l);
+      move = λ k l ok m n. rw (moved-is s k (eqb l 1), line-start s k l, line-close s k l);
     })
 
 -- a start, a close, and any other step
@@ -112,7 +106,7 @@ close-law s =
 
 pub other-law : (s : Aic) (x : Step) → starts s x ≡ false → closes s x ≡ false
     → (step s x .aic .source ≡ s .source) × (step s x .aic .level ≡ s .level) × (step s x .aic .depth ≡ s .depth)
-unfolding setBy moved moded
+unfolding setBy moded
 other-law s =
     kinds s (λ x t. starts s x ≡ false → closes s x ≡ false → (t .source ≡ s .source) × (t .level ≡ s .level) × (t .depth ≡ s .depth))
     (record {
@@ -124,41 +118,36 @@ other-law s =
       take = λ ok d a c. clash (take-start s ok d) a;
       close = λ v ok d a c. clash (close-close s v ok d) c;
       command = λ v ok a c. (refl, refl, refl);
-      move = λ k l ok m n a c. rw spent-memory (refl, refl, refl);
+      move = λ k l ok m n a c. rw (moved-is s k (eqb l 1)) (refl, refl, refl);
     })
 
 -- ---- what an edge-triggered source is owed
 
--- a choice of no more than there was
-one-le-one : (a b : Bool) → (a ≡ true → b ≡ true) → one a ≤ one b
-one-le-one true b h = rw (h refl) (omega arith)
-one-le-one false b h = omega arith
+-- truth values as numbers: one that brings another with it, one that is set by another, one that goes with a start, one that is set by an edge
+one-brings : (a b : Bool) → (a ≡ true → b ≡ true) → one a ≤ one b
+one-brings true b h = rw (h refl) (omega arith)
+one-brings false b h = omega arith
 
-one-or : (a b c : Bool) → one (a || (b && c)) ≤ one a + one b
-one-or true b c = omega arith
-one-or false true c = omega (arith, one-le c)
-one-or false false c = omega arith
+one-set : (m a b : Bool) → one (m || (a && b)) ≤ one m + one a
+one-set true a b = omega arith
+one-set false true b = omega (arith, one-le b)
+one-set false false b = omega arith
 
--- a source whose memory is not touched
-other-memory : (t b : Bool) (w k i : ℕ) → i < 32 → k ≢ i → bit (pick t (withBit w k b) w) i ≡ bit w i
-unfolding pick
-other-memory true b w k i l d = bit-withBit w k b i l ∙ sym (pick-false b (ne-eqb i k (λ e. d (sym e))))
-other-memory false b w k i l d = refl
+one-gone : (m q e : Bool) → (q ≡ true → (m ≡ true) × (e ≡ true)) → one (m && not (q && e)) + one q ≤ one m
+one-gone m true e h = let k = h refl in rw (k .0, k .1) (omega arith)
+one-gone true false e h = omega arith
+one-gone false false e h = omega arith
 
--- one whose memory is set
-set-memory : (t : Bool) (w i : ℕ) → one (bit (pick t (withBit w i true) w) i) ≤ one (bit w i) + one t
-unfolding pick
-set-memory true w i = omega (arith, one-le (bit (withBit w i true) i))
-set-memory false w i = omega arith
-
--- one whose memory is cleared
-cleared-memory : (w i : ℕ) → i < 32 → bit (withBit w i false) i ≡ false
-cleared-memory w i l = bit-withBit w i false i l ∙ sym (pick-true (bit w i) (eq-eqb i i refl))
+one-turned : (m q e t : Bool) → one (m || (q && (e && t))) ≤ one m + one (q && t && true)
+one-turned true q e t = omega arith
+one-turned false true true t = omega (arith, ap one (and-true t))
+one-turned false true false t = omega arith
+one-turned false false e t = omega arith
 
 -- an edge-triggered candidate has its memory set
 candidate-memory : (s : Aic) (i : ℕ) → edge s i ≡ true → candidate s i ≡ true → bit (s .memory) i ≡ true
-unfolding candidate waiting asking pending
-candidate-memory s i e c = pick-true (active s i) e ∙ and-left (pending s i) _ (and-left (asking s i) _ (and-left (waiting s i) _ c))
+unfolding pending
+candidate-memory s i e c = pick-true (active s i) e ∙ waiting-is s i (candidate-waits s i c) .0
 
 module _ (s : Aic) (i : ℕ) (small : i < 32) (edgy : edge s i ≡ true) where
   -- the memory after, and a start, are paid by the memory before, an edge or a command
@@ -167,34 +156,34 @@ module _ (s : Aic) (i : ℕ) (small : i < 32) (edgy : edge s i ≡ true) where
 
   no-gain : (x : Step) (w : ℕ) → starts s x ≡ false → (bit w i ≡ true → bit (s .memory) i ≡ true)
       → one (bit w i) + one (startsOf i s x) ≤ one (bit (s .memory) i) + (one (edges i s x) + one (commands i s x))
-  no-gain x w n h = rw (no-start s x n i small) (omega (arith, one-le-one (bit w i) (bit (s .memory) i) h))
+  no-gain x w n h = rw (no-start s x n i small) (omega (arith, one-brings (bit w i) (bit (s .memory) i) h))
 
   taken : sound s ≡ true → candidates s ≡ true → Paid (Read ivr) (startedAt s (chosen s) (priority s (chosen s)))
-  unfolding startedAt opened spent startsOf
-  taken ok c = rw (spent-memory, take-chosen s ok) (go (ℕ-discrete (chosen s) i) (chosen-is s c .fit))
+  unfolding startsOf
+  taken ok c =
+      rw (started-is s (chosen s) (priority s (chosen s)), bit-cleared-if (s .memory) (chosen s) (edge s (chosen s)) i small, take-chosen s ok)
+      (omega (arith, one-gone (bit (s .memory) i) (eqb i (chosen s)) (edge s (chosen s)) (λ q. mine (eqb-true i (chosen s) q))))
     where
-      go : Dec (chosen s ≡ i) → candidate s (chosen s) ≡ true
-          → one (bit (pick (edge s (chosen s)) (withBit (s .memory) (chosen s) false) (s .memory)) i) + one (eqb (chosen s) i)
-          ≤ one (bit (s .memory) i) + (one (edges i s (Read ivr)) + one (commands i s (Read ivr)))
-      go (yes e) f =
-          let m : bit (s .memory) i ≡ true = candidate-memory s i edgy (rw e at f) in
-          rw (e, ← pick-true (s .memory) edgy, cleared-memory (s .memory) i small, eq-eqb i i refl, m) (omega arith)
-      go (no d) f = rw (other-memory (edge s (chosen s)) false (s .memory) (chosen s) i small d, ne-eqb (chosen s) i d) (omega arith)
+      mine : i ≡ chosen s → (bit (s .memory) i ≡ true) × (edge s (chosen s) ≡ true)
+      mine q = (candidate-memory s i edgy (rw q (chosen-is s c .fit)), rw q at edgy)
 
   commanded : (v : ℕ) → sound s ≡ true → Paid (Write iscr v) (setBy s v)
   unfolding setBy
-  commanded v ok = rw (bit-either, bit-both, no-start s (Write iscr v) (write-start s iscr v) i small, set-command s v i ok)
-      (omega (arith, one-or (bit (s .memory) i) (bit v i) (bit (edgeWord s) i)))
+  commanded v ok =
+      rw (bit-either, bit-both, no-start s (Write iscr v) (write-start s iscr v) i small, set-command s v i ok)
+      (omega (arith, one-set (bit (s .memory) i) (bit v i) (bit (edgeWord s) i)))
 
-  movedTo : (k l : ℕ) → sound s ≡ true → k < 32 → l ≤ 1 → Paid (Line k l) (moved s k (eqb l 1))
-  unfolding moved edges
-  movedTo k l ok m n = rw (spent-memory, no-start s (Line k l) (line-start s k l) i small, line-rise s k l i ok m n) (go (ℕ-discrete k i))
-    where
-      go : Dec (k ≡ i)
-          → one (bit (pick (edge s k && turns s k (eqb l 1)) (withBit (s .memory) k true) (s .memory)) i) + 0
-          ≤ one (bit (s .memory) i) + (one (eqb k i && turns s k (eqb l 1) && edge s i) + one (commands i s (Line k l)))
-      go (yes e) = rw (e, edgy, eq-eqb i i refl, and-true (turns s i (eqb l 1))) (omega (arith, set-memory (turns s i (eqb l 1)) (s .memory) i))
-      go (no d) = rw (other-memory (edge s k && turns s k (eqb l 1)) true (s .memory) k i small d) (omega arith)
+  turned : (k l : ℕ) → sound s ≡ true → k < 32 → l ≤ 1 → Paid (Line k l) (moved s k (eqb l 1))
+  unfolding edges
+  turned k l ok m n =
+      rw (
+        moved-is s k (eqb l 1),
+        bit-put-if (s .memory) k (edge s k && turns s k (eqb l 1)) i small,
+        no-start s (Line k l) (line-start s k l) i small,
+        line-rise s k l i ok m n,
+        edgy,
+      )
+      (omega (arith, one-turned (bit (s .memory) i) (eqb i k) (edge s k) (turns s k (eqb l 1))))
 
   memory-law : (x : Step) → rewrites s x ≡ false → Paid x (step s x .aic)
   unfolding closedLast
@@ -209,7 +198,7 @@ module _ (s : Aic) (i : ℕ) (small : i < 32) (edgy : edge s i ≡ true) where
         take = λ ok c r. taken ok c;
         close = λ v ok d r. no-gain (Write eoicr v) (s .memory) (write-start s eoicr v) (λ h. h);
         command = λ v ok r. commanded v ok;
-        move = λ k l ok m n r. movedTo k l ok m n;
+        move = λ k l ok m n r. turned k l ok m n;
       })
 
 -- ---- what stays while no mode and no forcing is rewritten
@@ -222,9 +211,9 @@ pub ahead-modes : (s u : Aic) (a b : ℕ) → u .mode ≡ s .mode → ahead u a 
 unfolding ahead priority
 ahead-modes s u a b e = rw e
 
-pub fast-forced : (s u : Aic) (i : ℕ) → u .forced ≡ s .forced → fast u i ≡ fast s i
+pub fast-forcing : (s u : Aic) (i : ℕ) → u .forced ≡ s .forced → fast u i ≡ fast s i
 unfolding fast
-fast-forced s u i e = rw e
+fast-forcing s u i e = rw e
 
 -- an edge-triggered source is owed what its memory says
 owed-memory : (s : Aic) (i : ℕ) → edge s i ≡ true → owed s i ≡ one (bit (s .memory) i)

@@ -35,7 +35,7 @@ startedBy s x = pick (vectorRead s x) (chosen s) 32
 
 -- a start of source i
 unfoldable pub startsOf : ℕ → Aic → Step → Bool
-startsOf i s x = eqb (startedBy s x) i
+startsOf i s x = eqb i (startedBy s x)
 
 -- a start of another source than k
 unfoldable pub startsOther : ℕ → Aic → Step → Bool
@@ -51,7 +51,7 @@ closes s (Line k l) = false
 unfoldable pub rises : ℕ → Aic → Step → Bool
 rises i s (Read o) = false
 rises i s (Write o v) = false
-rises i s (Line k l) = carried s (Line k l) && eqb k i && turns s k (eqb l 1)
+rises i s (Line k l) = carried s (Line k l) && eqb i k && turns s k (eqb l 1)
 
 -- an edge of source i: it is edge-triggered, and its line turns active (01, AIC, Pending)
 unfoldable pub edges : ℕ → Aic → Step → Bool
