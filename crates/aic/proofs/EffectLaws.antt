@@ -35,18 +35,38 @@ module _ (s : Aic) (ok : sound s ≡ true) where
   unfolding write writeNumber writeRefusal access valueRefusal writtenAt pick
   mode-write k v l =
       let e : k * 4 / 4 ≡ k = omega arith in
-      rw (ok, eq-eqb (k * 4 % 4) 0 (omega arith), le-leb (k * 4) ivr (omega arith), ne-eqb (k * 4) dcr (omega arith), lt-ltb (k * 4) svr (omega arith), e)
+      rw (
+        ok,
+        eq-eqb (k * 4 % 4) 0 (omega arith),
+        le-leb (k * 4) ivr (omega arith),
+        ne-eqb (k * 4) dcr (omega arith),
+        lt-ltb (k * 4) svr (omega arith),
+        e,
+      )
 
   vector-write : (k v : ℕ) → k < 32 → write s (svr + k * 4) v ≡ answered (vectored s k v) 0
   unfolding write writeNumber writeRefusal access valueRefusal writtenAt pick
   vector-write k v l =
       let e : (svr + k * 4) / 4 - 32 ≡ k = omega arith in
-      rw (ok, eq-eqb ((svr + k * 4) % 4) 0 (omega arith), le-leb (svr + k * 4) ivr (omega arith), ne-eqb (svr + k * 4) dcr (omega arith), le-ltb (svr + k * 4) svr (omega arith), lt-ltb (svr + k * 4) ivr (omega arith), e)
+      rw (
+        ok,
+        eq-eqb ((svr + k * 4) % 4) 0 (omega arith),
+        le-leb (svr + k * 4) ivr (omega arith),
+        ne-eqb (svr + k * 4) dcr (omega arith),
+        le-ltb (svr + k * 4) svr (omega arith),
+        lt-ltb (svr + k * 4) ivr (omega arith),
+        e,
+      )
 
   retyped : (k v : ℕ) → k < 32 → kind s k ≢ typeOf v
       → Sets (write s (k * 4) v) 0 (λ w. withMode (withMemory s w) (set (s .mode) k (keptMode v))) (λ j. bit (s .memory) j && not (eqb j k))
   unfolding moded pick
-  retyped k v l d = record { word = withBit (s .memory) k false; done = mode-write k v l ∙ rw (ne-eqb (kind s k) (typeOf v) d); bits = bit-cleared (s .memory) k }
+  retyped k v l d =
+      record {
+        word = withBit (s .memory) k false;
+        done = mode-write k v l ∙ rw (ne-eqb (kind s k) (typeOf v) d);
+        bits = bit-cleared (s .memory) k;
+      }
 
   reranked : (k v : ℕ) → k < 32 → kind s k ≡ typeOf v → write s (k * 4) v ≡ answered (withMode s (set (s .mode) k (keptMode v))) 0
   unfolding moded pick
@@ -61,7 +81,8 @@ module _ (s : Aic) (ok : sound s ≡ true) where
     bits-force k l = bit-without v 1 k l ∙ rw (bit-alone 0 k)
 
     pub writes-of : Writes s v
-    unfolding write writeNumber writeRefusal access valueRefusal writtenAt pick vectored enabledBy disabledBy setBy clearedBy forcedBy unforcedBy maskedBy ended closedLast
+    unfolding write writeNumber writeRefusal access valueRefusal writtenAt pick
+        vectored enabledBy disabledBy setBy clearedBy forcedBy unforcedBy maskedBy ended closedLast
     writes-of =
         record {
           retyped = λ k l d. retyped k v l d;
@@ -70,13 +91,28 @@ module _ (s : Aic) (ok : sound s ≡ true) where
           ignored = rw ok;
           enables = record { word = either (s .enabled) v; done = rw ok; bits = bit-either (s .enabled) v };
           disables = record { word = without (s .enabled) v; done = rw ok; bits = bit-without (s .enabled) v };
-          sets = record { word = either (s .memory) (both v (edgeWord s)); done = rw ok; bits = λ k l. bit-either (s .memory) (both v (edgeWord s)) k l ∙ rw (bits-edge k l) };
-          clears = record { word = without (s .memory) (both v (edgeWord s)); done = rw ok; bits = λ k l. bit-without (s .memory) (both v (edgeWord s)) k l ∙ rw (bits-edge k l) };
+          sets =
+              record {
+                word = either (s .memory) (both v (edgeWord s));
+                done = rw ok;
+                bits = λ k l. bit-either (s .memory) (both v (edgeWord s)) k l ∙ rw (bits-edge k l);
+              };
+          clears =
+              record {
+                word = without (s .memory) (both v (edgeWord s));
+                done = rw ok;
+                bits = λ k l. bit-without (s .memory) (both v (edgeWord s)) k l ∙ rw (bits-edge k l);
+              };
           closes = λ d. rw (ok, ne-eqb (s .depth) 0 d);
           closesNone = λ e. rw (ok, eq-eqb (s .depth) 0 e);
           spurious = rw ok;
           debug = λ e. rw (ok, e, both-alone v 1 (omega arith));
-          forces = record { word = either (s .forced) (without v 1); done = rw ok; bits = λ k l. bit-either (s .forced) (without v 1) k l ∙ rw (bits-force k l) };
+          forces =
+              record {
+                word = either (s .forced) (without v 1);
+                done = rw ok;
+                bits = λ k l. bit-either (s .forced) (without v 1) k l ∙ rw (bits-force k l);
+              };
           unforces = record { word = without (s .forced) v; done = rw ok; bits = bit-without (s .forced) v };
         }
 
@@ -88,10 +124,27 @@ module _ (s : Aic) (ok : sound s ≡ true) where
       record {
         modes = λ k l.
             let e : k * 4 / 4 ≡ k = omega arith in
-            rw (ok, eq-eqb (k * 4 % 4) 0 (omega arith), le-leb (k * 4) ivr (omega arith), ne-eqb (k * 4) ivr (omega arith), ne-eqb (k * 4) fvr (omega arith), lt-ltb (k * 4) svr (omega arith), e);
+            rw (
+              ok,
+              eq-eqb (k * 4 % 4) 0 (omega arith),
+              le-leb (k * 4) ivr (omega arith),
+              ne-eqb (k * 4) ivr (omega arith),
+              ne-eqb (k * 4) fvr (omega arith),
+              lt-ltb (k * 4) svr (omega arith),
+              e,
+            );
         vectors = λ k l.
             let e : (svr + k * 4) / 4 - 32 ≡ k = omega arith in
-            rw (ok, eq-eqb ((svr + k * 4) % 4) 0 (omega arith), le-leb (svr + k * 4) ivr (omega arith), ne-eqb (svr + k * 4) ivr (omega arith), ne-eqb (svr + k * 4) fvr (omega arith), le-ltb (svr + k * 4) svr (omega arith), lt-ltb (svr + k * 4) ivr (omega arith), e);
+            rw (
+              ok,
+              eq-eqb ((svr + k * 4) % 4) 0 (omega arith),
+              le-leb (svr + k * 4) ivr (omega arith),
+              ne-eqb (svr + k * 4) ivr (omega arith),
+              ne-eqb (svr + k * 4) fvr (omega arith),
+              le-ltb (svr + k * 4) svr (omega arith),
+              lt-ltb (svr + k * 4) ivr (omega arith),
+              e,
+            );
         noneOpen = λ e. rw (ok, eq-eqb (s .depth) 0 e);
         someOpen = λ d. rw (ok, ne-eqb (s .depth) 0 d);
         pendings = rw ok;
@@ -148,9 +201,18 @@ the-map =
       absent = λ o a. (absent-gap o a, bare o);
     }
   where
-    bare : (o : ℕ) → (o ≡ 0x118) ⊎ ((o ≡ 0x11C) ⊎ ((o ≡ 0x13C) ⊎ (ffsr < o))) → access o ≡ NoRegister
+    bare : (o : ℕ) → Gap o → access o ≡ NoRegister
     bare o (inl e) = rw e
     bare o (inr (inl e)) = rw e
     bare o (inr (inr (inl e))) = rw e
     bare o (inr (inr (inr l))) =
-        rw (lt-leb o ivr (omega arith), lt-leb o cisr (omega arith), le-ltb o iecr (omega arith), lt-leb o eoicr (omega arith), lt-leb o dcr (omega arith), le-ltb o ffer (omega arith), lt-leb o ffdr (omega arith), ne-eqb o ffsr (omega arith))
+        rw (
+          lt-leb o ivr (omega arith),
+          lt-leb o cisr (omega arith),
+          le-ltb o iecr (omega arith),
+          lt-leb o eoicr (omega arith),
+          lt-leb o dcr (omega arith),
+          le-ltb o ffer (omega arith),
+          lt-leb o ffdr (omega arith),
+          ne-eqb o ffsr (omega arith),
+        )

@@ -1,4 +1,4 @@
--- The two vector reads and the line step: what they answer, and whose memory they touch.
+-- The steps that may clear or set one memory: starts, vector reads, mode writes and line steps.
 use Prim.Native.Nat.{ℕ, _+_, _<_, _≤_}
 use mathlib.Core.Path.{_≡_, refl, _∙_}
 use mathlib.Core.Bool.{Bool, true, false, not, _&&_, _||_}
@@ -13,8 +13,8 @@ use Rattle.words.proofs.TruthLaws.{clash, not-holds}
 use Rattle.words.proofs.CountingLaws.{some-any, any-none}
 use Rattle.steps.specs.Refusals.{readRefusal, lineRefusal}
 use Rattle.aic_record.specs.declared.Aic.{Aic}
-use Rattle.aic_record.specs.Record.{withLines, withMemory, withHandlers}
-use Rattle.aic_record.specs.Mode.{priority, edge}
+use Rattle.aic_record.specs.Record.{withLines, withMemory, withMode, withHandlers}
+use Rattle.aic_record.specs.Mode.{typeOf, keptMode, priority, kind, edge}
 use Rattle.aic_record.specs.Sound.{sound}
 use Rattle.aic_sources.specs.Pending.{pending, active}
 use Rattle.aic_sources.specs.Fast.{fast, fastAsks}
@@ -25,13 +25,13 @@ use Rattle.aic_sources.proofs.OrderLaws.{chosen-one}
 use Rattle.aic.specs.declared.Answer.{Answer}
 use Rattle.aic.specs.Map.{ivr, fvr, access}
 use Rattle.aic.specs.Handlers.{answered, forgotten, spent, opened, startedAt, vectorAt, ivrRead, fastSpent, fvrRead}
-use Rattle.aic.specs.Effects.{turns, moved}
+use Rattle.aic.specs.Effects.{moded, turns, moved}
 use Rattle.aic.specs.Registers.{readAt}
 use Rattle.aic.specs.Model.{readNumber, lineNumber, read, line}
 use Rattle.aic.specs.Tables.{Sets}
 use Rattle.aic.proofs.MoreLaws.{bit-cleared-if, bit-put-if}
 
--- ---- the record after a start, a fast vector read and a line step: one memory is cleared or set where a test holds
+-- ---- the record after each, with one memory cleared or set where a test holds
 
 pub spent-is : (s : Aic) (k : ℕ) → spent s k ≡ withMemory s (pick (edge s k) (withBit (s .memory) k false) (s .memory))
 unfolding spent pick
@@ -58,6 +58,16 @@ moved-is s k high = go (edge s k && turns s k high)
   where
     go : (t : Bool) → withLines (pick t (withMemory s (withBit (s .memory) k true)) s) (withBit (s .lines) k high)
         ≡ withLines (withMemory s (pick t (withBit (s .memory) k true) (s .memory))) (withBit (s .lines) k high)
+    go true = refl
+    go false = refl
+
+pub moded-is : (s : Aic) (k v : ℕ) → moded s k v
+    ≡ withMode (withMemory s (pick (not (eqb (kind s k) (typeOf v))) (withBit (s .memory) k false) (s .memory))) (set (s .mode) k (keptMode v))
+unfolding moded pick
+moded-is s k v = go (eqb (kind s k) (typeOf v))
+  where
+    go : (t : Bool) → withMode (pick t s (forgotten s k)) (set (s .mode) k (keptMode v))
+        ≡ withMode (withMemory s (pick (not t) (withBit (s .memory) k false) (s .memory))) (set (s .mode) k (keptMode v))
     go true = refl
     go false = refl
 

@@ -12,9 +12,8 @@ use borrow.Author.Tests.{eqb-true, eqb-false, ltb-true}
 use Rattle.words.specs.Choice.{pick}
 use Rattle.words.specs.Word.{bit, either, both, without, withBit}
 use Rattle.words.proofs.ChoiceLaws.{pick-cases}
-use Rattle.words.proofs.TruthLaws.{and-left, clash, told}
-use Rattle.words.proofs.WordLaws.{bit-alone, bit-either, bit-without, bit-withBit}
-use Rattle.aic.proofs.MoreLaws.{both-alone}
+use Rattle.words.proofs.TruthLaws.{and-left, told}
+use Rattle.words.proofs.WordLaws.{bit-alone, bit-either, bit-without}
 use Rattle.steps.specs.declared.Step.{Step}
 use Rattle.steps.specs.declared.Step.the-variants.{Read, Write, Line}
 use Rattle.steps.specs.Refusals.{readRefusal, writeRefusal, lineRefusal}
@@ -30,10 +29,12 @@ use Rattle.aic_sources.specs.Fast.{fastAsks}
 use Rattle.aic_sources.specs.Normal.{candidates, chosen}
 use Rattle.aic.specs.declared.Answer.{Answer}
 use Rattle.aic.specs.Map.{ivr, fvr, svr, iecr, idcr, iccr, iscr, eoicr, spu, dcr, ffer, ffdr, access, valueRefusal}
-use Rattle.aic.specs.Handlers.{spent, startedAt, closedLast, ended, ivrRead, fastSpent, fvrRead}
+use Rattle.aic.specs.Handlers.{startedAt, closedLast, ended, ivrRead, fvrRead}
 use Rattle.aic.specs.Effects.{moded, vectored, enabledBy, disabledBy, setBy, clearedBy, maskedBy, forcedBy, unforcedBy, moved}
 use Rattle.aic.specs.Registers.{readAt, writtenAt}
 use Rattle.aic.specs.Model.{readNumber, writeNumber, lineNumber, read, write, line, step}
+use Rattle.aic.proofs.MoreLaws.{both-alone, bit-cleared-if}
+use Rattle.aic.proofs.HandlerLaws.{fast-spent-is}
 
 -- why a step starts nothing, closes nothing, is no set command and moves no line
 abbrev pub Plain : Aic → Step → Type 0
@@ -52,7 +53,8 @@ pub record Kinds (s : Aic) (P : Step → Aic → Type 0) : Type 0 where
   pub store : (o v e u m : ℕ) (vs : List ℕ) → sound s ≡ true → Plain s (Write o v) → (m ≡ 0) ⊎ (m ≡ 2) → length vs ≡ length (s .vector)
       → P (Write o v) (withStore s e u m vs)
   -- a clear command, or a read of FVR: the memories of some sources are cleared, and none is set
-  pub fall : (x : Step) (w : ℕ) → sound s ≡ true → Plain s x → ((k : ℕ) → k < 32 → bit w k ≡ true → bit (s .memory) k ≡ true) → P x (withMemory s w)
+  pub fall : (x : Step) (w : ℕ) → sound s ≡ true → Plain s x → ((k : ℕ) → k < 32 → bit w k ≡ true → bit (s .memory) k ≡ true)
+      → P x (withMemory s w)
   -- a write of the mode of source k
   pub remode : (o k v : ℕ) → sound s ≡ true → o ≡ k * 4 → k < 32 → P (Write o v) (moded s k v)
   -- a write of FFER or FFDR
@@ -92,31 +94,31 @@ value-number o v = pick-cases ValueNumber (eqb o dcr && bit v 0) (λ _. inr (inl
 -- ---- the walk
 
 module _ (s : Aic) (P : Step → Aic → Type 0) (k : Kinds s P) where
-  forget-zero : (w j : ℕ) → j < 32 → bit (withBit w 0 false) j ≡ true → bit w j ≡ true
-  forget-zero w j l e = pick-cases (λ t. t ≡ true → bit w j ≡ true) (eqb j 0) (λ _ h. clash h refl) (λ _ h. h) (sym (bit-withBit w 0 false j l) ∙ e)
-
   reads : sound s ≡ true → (o : ℕ) → P (Read o) (readAt s o .aic)
-  unfolding readAt ivrRead fvrRead fastSpent spent
+  unfolding readAt ivrRead fvrRead
   reads ok o =
       pick-cases A (eqb o ivr)
-      (λ e. rw (eqb-true o ivr e) (pick-cases (λ (a : Answer). P (Read ivr) (a .aic)) (candidates s) (k .take ok) (λ n. k .still (Read ivr) (inr (inr n)))))
-      (λ n. let p : Plain s (Read o) = inr (inl (eqb-false o ivr n)) in
+      (λ e.
+      rw (eqb-true o ivr e)
+      (pick-cases (λ (a : Answer). P (Read ivr) (a .aic)) (candidates s) (k .take ok) (λ n. k .still (Read ivr) (inr (inr n)))))
+      (λ n.
+      let p : Plain s (Read o) = inr (inl (eqb-false o ivr n)) in
       pick-cases A (eqb o fvr)
-      (λ _. pick-cases A (fastAsks s)
-      (λ _. pick-cases (λ t. P (Read o) t) (eqb (s .forced) 0)
-      (λ _. pick-cases (λ t. P (Read o) t) (edge s 0) (λ _. k .fall (Read o) (withBit (s .memory) 0 false) ok p (forget-zero (s .memory))) (λ _. k .still (Read o) p))
-      (λ _. k .still (Read o) p))
-      (λ _. k .still (Read o) p))
+      (λ _. pick-cases A (fastAsks s) (λ _. rw (fast-spent-is s) (k .fall (Read o) _ ok p spends)) (λ _. k .still (Read o) p))
       (λ _. k .still (Read o) p))
     where
       A : Answer → Type 0
       A a = P (Read o) (a .aic)
 
+      spends : (j : ℕ) → j < 32 → bit (pick (edge s 0 && eqb (s .forced) 0) (withBit (s .memory) 0 false) (s .memory)) j ≡ true → bit (s .memory) j ≡ true
+      spends j l e = and-left (bit (s .memory) j) _ (sym (bit-cleared-if (s .memory) 0 (edge s 0 && eqb (s .forced) 0) j l) ∙ e)
+
   writes : sound s ≡ true → (o v : ℕ) → o % 4 ≡ 0 → P (Write o v) (writtenAt s o v)
   unfolding writtenAt vectored enabledBy disabledBy clearedBy maskedBy forcedBy unforcedBy ended
   writes ok o v a =
       pick-cases A (ltb o svr) (λ h. k .remode o (o / 4) v ok (omega arith) (omega (arith, ltb-true))) (λ _.
-      pick-cases A (ltb o ivr) (λ h. keep (omega (arith, ltb-true)) (omega (arith, ltb-true)) (s .enabled) (s .spurious) (set (s .vector) (o / 4 - 32) v) (length-set (s .vector) (o / 4 - 32) v)) (λ _.
+      pick-cases A (ltb o ivr) (λ h.
+      keep (omega (arith, ltb-true)) (omega (arith, ltb-true)) (s .enabled) (s .spurious) (set (s .vector) (o / 4 - 32) v) (length-set (s .vector) (o / 4 - 32) v)) (λ _.
       pick-cases A (eqb o iecr) (λ h. keep (omega (arith, eqb-true)) (omega (arith, eqb-true)) (either (s .enabled) v) (s .spurious) (s .vector) refl) (λ _.
       pick-cases A (eqb o idcr) (λ h. keep (omega (arith, eqb-true)) (omega (arith, eqb-true)) (without (s .enabled) v) (s .spurious) (s .vector) refl) (λ _.
       pick-cases A (eqb o iccr) (λ h. k .fall (Write o v) _ ok (inr (inl (omega (arith, eqb-true), omega (arith, eqb-true)))) cleared) (λ _.
@@ -145,7 +147,9 @@ module _ (s : Aic) (P : Step → Aic → Type 0) (k : Kinds s P) where
           (λ n. k .close v ok (eqb-false (s .depth) 0 n))
 
       forced : bit (either (s .forced) (without v 1)) 0 ≡ false
-      forced = bit-either (s .forced) (without v 1) 0 (omega arith) ∙ rw (forced-sound s ok, bit-without v 1 0 (omega arith), bit-alone 0 0) (and-false (bit v 0))
+      forced =
+          bit-either (s .forced) (without v 1) 0 (omega arith)
+          ∙ rw (forced-sound s ok, bit-without v 1 0 (omega arith), bit-alone 0 0) (and-false (bit v 0))
 
       unforced : bit (without (s .forced) v) 0 ≡ false
       unforced = bit-without (s .forced) v 0 (omega arith) ∙ rw (forced-sound s ok)
@@ -176,7 +180,9 @@ module _ (s : Aic) (P : Step → Aic → Type 0) (k : Kinds s P) where
       (λ n. k .still (Read o) (refused-read o (eqb-false (readNumber s o) 0 n) (told (sound s)) (ℕ-discrete o ivr)))
   kinds (Write o v) =
       pick-cases (λ (a : Answer). P (Write o v) (a .aic)) (eqb (writeNumber s o v) 0)
-      (λ e. let t = write-table (valueRefusal o v) (value-number o v) (sound s) o (access o) .none .0 (eqb-true (writeNumber s o v) 0 e) in writes (t .0) o v (t .1 .0))
+      (λ e.
+      let t = write-table (valueRefusal o v) (value-number o v) (sound s) o (access o) .none .0 (eqb-true (writeNumber s o v) 0 e) in
+      writes (t .0) o v (t .1 .0))
       (λ n. k .still (Write o v) (refused-write o v (eqb-false (writeNumber s o v) 0 n) (told (sound s)) (ℕ-discrete o eoicr) (ℕ-discrete o iscr)))
   kinds (Line i l) =
       pick-cases (λ (a : Answer). P (Line i l) (a .aic)) (eqb (lineNumber s i l) 0)

@@ -1,4 +1,4 @@
--- Laws of words that the crate of words does not have yet.
+-- Laws of choices and of words that the crate of words does not have yet.
 use Prim.Native.Nat.{ℕ, _^_, _<_}
 use mathlib.Core.Path.{_≡_, refl, sym, ap, _∙_}
 use mathlib.Core.Bool.{Bool, true, false, not, _&&_, _||_, and-true, and-false, or-true, or-false}
@@ -10,6 +10,17 @@ use Rattle.words.specs.Choice.{pick}
 use Rattle.words.specs.Word.{bit, both, withBit}
 use Rattle.words.proofs.ChoiceLaws.{pick-cases}
 use Rattle.words.proofs.WordLaws.{bit-none, bit-alone, bit-both, bit-withBit, both-lt, same-word}
+
+-- what a function makes of both sides of a choice it makes of the choice
+pub pick-through : {A B : Type 0} (f : A → B) (t : Bool) {a b : A} {c d : B} → c ≡ f a → d ≡ f b → pick t c d ≡ f (pick t a b)
+unfolding pick
+pick-through f true p q = p
+pick-through f false p q = q
+
+-- where the test fails, of the one side
+pub pick-past : {A B : Type 0} (f : A → B) {t : Bool} (a : A) {b : A} (c : B) {d : B} → t ≡ false → d ≡ f b → pick t c d ≡ f (pick t a b)
+unfolding pick
+pick-past f a c e q = rw e q
 
 -- the bits of a word that a word of one bit has
 pub both-alone : (w k : ℕ) → k < 32 → both w (2 ^ k) ≡ pick (bit w k) (2 ^ k) 0

@@ -1,3 +1,4 @@
 -- Theorems about the AT91 controller's record.
 pub mod Promises
+pub mod RuleLaws
 pub mod SoundLaws

@@ -37,7 +37,9 @@ is-ahead s a b (inr (e, l)) =
 
 -- one comparison, for sources below 32
 pub ahead-lt : (s : Aic) (a b : ℕ) → a < 32 → ahead s a b ≡ true → priority s b * 32 + a < priority s a * 32 + b
-ahead-lt s a b l h = ⊎-elim (λ (p : priority s b < priority s a). omega arith) (λ (p : (priority s a ≡ priority s b) × (a < b)). omega (arith, p .0, p .1)) (ahead-is s a b h)
+ahead-lt s a b l h =
+    ⊎-elim (λ (p : priority s b < priority s a). omega arith) (λ (p : (priority s a ≡ priority s b) × (a < b)). omega (arith, p .0, p .1))
+    (ahead-is s a b h)
 
 pub lt-ahead : (s : Aic) (a b : ℕ) → b < 32 → priority s b * 32 + a < priority s a * 32 + b → ahead s a b ≡ true
 lt-ahead s a b l h = go (decLt (priority s b) (priority s a))
@@ -97,41 +99,61 @@ foremost-is s j l h = record { below = l; fit = and-left (candidate s j) _ h; fi
 
 pub is-foremost : (s : Aic) (j : ℕ) → Foremost s 32 j → foremost s j ≡ true
 unfolding foremost
-is-foremost s j f = and-both (f .fit) (at-all 32 (λ i. not (candidate s i) || (eqb i j || ahead s j i)) (λ i l. go i l (told (candidate s i)) (ℕ-discrete i j)))
+is-foremost s j f =
+    and-both (f .fit) (at-all 32 (λ i. not (candidate s i) || (eqb i j || ahead s j i)) (λ i l. go i l (told (candidate s i)) (ℕ-discrete i j)))
   where
     go : (i : ℕ) → i < 32 → (candidate s i ≡ true) ⊎ (candidate s i ≡ false) → Dec (i ≡ j) → (not (candidate s i) || (eqb i j || ahead s j i)) ≡ true
     go i l (inr e) d = rw e
     go i l (inl c) (yes e) = or-right (not (candidate s i)) (or-left (ahead s j i) (eq-eqb i j e))
     go i l (inl c) (no d) = or-right (not (candidate s i)) (or-right (eqb i j) (f .first i l c d))
 
+-- what holds below n and of n holds below n + 1
+below-next : (P : ℕ → Type 0) (n : ℕ) → ((i : ℕ) → i < n → P i) → P n → (i : ℕ) → i < suc n → P i
+below-next P n h e i l = go (decLt i n)
+  where
+    go : Dec (i < n) → P i
+    go (yes m) = h i m
+    go (no m) =
+        let q : n ≡ i = omega arith in
+        subst P q e
+
+module _ (s : Aic) (n : ℕ) where
+  -- source j stays first, where source n is no candidate or behind it
+  stays-first : {j : ℕ} → Foremost s n j → (candidate s n ≡ true → ahead s j n ≡ true) → Foremost s (suc n) j
+  stays-first {j} f h =
+      record {
+        below = omega (arith, f .below);
+        fit = f .fit;
+        first = below-next (λ i. candidate s i ≡ true → i ≢ j → ahead s j i ≡ true) n (f .first) (λ c _. h c);
+      }
+
+  -- source n is first, where it is ahead of each candidate below it
+  comes-first : candidate s n ≡ true → ((i : ℕ) → i < n → candidate s i ≡ true → ahead s n i ≡ true) → Foremost s (suc n) n
+  comes-first c h =
+      record {
+        below = omega arith;
+        fit = c;
+        first = below-next (λ i. candidate s i ≡ true → i ≢ n → ahead s n i ≡ true) n (λ i l d _. h i l d) (λ _ d. absurd (d refl));
+      }
+
+  passes : {j : ℕ} → Foremost s n j → ahead s n j ≡ true → (i : ℕ) → i < n → candidate s i ≡ true → Dec (i ≡ j) → ahead s n i ≡ true
+  passes f a i l c (yes e) = rw e a
+  passes {j} f a i l c (no d) = ahead-transitive s n j i a (f .first i l c d)
+
 -- there is one, where there is a candidate
 leading : (s : Aic) (n : ℕ) → ((i : ℕ) → i < n → candidate s i ≡ false) ⊎ ((j : ℕ) × Foremost s n j)
 leading s zero = inl (λ i l. absurd (omega arith))
 leading s (suc n) = go (leading s n) (told (candidate s n))
   where
-    within : (P : ℕ → Type 0) → ((i : ℕ) → i < n → P i) → P n → (i : ℕ) → i < suc n → P i
-    within P h e i l = more (decLt i n)
-      where
-        more : Dec (i < n) → P i
-        more (yes m) = h i m
-        more (no m) = let q : n ≡ i = omega arith in subst P q e
-
-    joins : (j : ℕ) → Foremost s n j → (ahead s j n ≡ true) ⊎ (ahead s n j ≡ true) → candidate s n ≡ true → (j : ℕ) × Foremost s (suc n) j
-    joins j f (inl a) c =
-        (j, record { below = omega (arith, f .below); fit = f .fit; first = within (λ i. candidate s i ≡ true → i ≢ j → ahead s j i ≡ true) (f .first) (λ _ _. a) })
-    joins j f (inr a) c =
-        (n, record { below = omega arith; fit = c; first = within (λ i. candidate s i ≡ true → i ≢ n → ahead s n i ≡ true) (λ i l d _. over i l d (ℕ-discrete i j)) (λ _ d. absurd (d refl)) })
-      where
-        over : (i : ℕ) → i < n → candidate s i ≡ true → Dec (i ≡ j) → ahead s n i ≡ true
-        over i l d (yes e) = rw e a
-        over i l d (no e) = ahead-transitive s n j i a (f .first i l d e)
-
     go : ((i : ℕ) → i < n → candidate s i ≡ false) ⊎ ((j : ℕ) × Foremost s n j) → (candidate s n ≡ true) ⊎ (candidate s n ≡ false)
         → ((i : ℕ) → i < suc n → candidate s i ≡ false) ⊎ ((j : ℕ) × Foremost s (suc n) j)
-    go (inl h) (inr e) = inl (within (λ i. candidate s i ≡ false) h e)
-    go (inl h) (inl c) = inr (n, record { below = omega arith; fit = c; first = within (λ i. candidate s i ≡ true → i ≢ n → ahead s n i ≡ true) (λ i l d _. clash d (h i l)) (λ _ d. absurd (d refl)) })
-    go (inr (j, f)) (inr e) = inr (j, record { below = omega (arith, f .below); fit = f .fit; first = within (λ i. candidate s i ≡ true → i ≢ j → ahead s j i ≡ true) (f .first) (λ c _. clash c e) })
-    go (inr (j, f)) (inl c) = inr (joins j f (ahead-total s j n (omega (arith, f .below))) c)
+    go (inl h) (inr e) = inl (below-next (λ i. candidate s i ≡ false) n h e)
+    go (inl h) (inl c) = inr (n, comes-first s n c (λ i l d. clash d (h i l)))
+    go (inr (j, f)) (inr e) = inr (j, stays-first s n f (λ c. clash c e))
+    go (inr (j, f)) (inl c) =
+        ⊎-elim (λ (a : ahead s j n ≡ true). inr (j, stays-first s n f (λ _. a)))
+        (λ (a : ahead s n j ≡ true). inr (n, comes-first s n c (λ i l d. passes s n f a i l d (ℕ-discrete i j))))
+        (ahead-total s j n (omega (arith, f .below)))
 
 -- with a candidate, the chosen source is the one ahead of all others
 pub chosen-is : (s : Aic) → candidates s ≡ true → Foremost s 32 (chosen s)
@@ -156,7 +178,8 @@ chosen-one s j f = go (chosen-is s (some-any 32 (candidate s) j (f .below) (f .f
   where
     go : Foremost s 32 (chosen s) → Dec (chosen s ≡ j) → chosen s ≡ j
     go g (yes e) = e
-    go g (no d) = clash (f .first (chosen s) (g .below) (g .fit) d) (ahead-asymmetric s (chosen s) j (g .first j (f .below) (f .fit) (λ e. d (sym e))))
+    go g (no d) =
+        clash (f .first (chosen s) (g .below) (g .fit) d) (ahead-asymmetric s (chosen s) j (g .first j (f .below) (f .fit) (λ e. d (sym e))))
 
 -- without a candidate it is 32
 pub chosen-none : (s : Aic) → candidates s ≡ false → chosen s ≡ 32

@@ -6,7 +6,7 @@ use mathlib.Core.Logic.{_↔_}
 use borrow.Author.Tests.{not-true}
 use Rattle.words.specs.Word.{bit}
 use Rattle.words.proofs.TruthLaws.{and-left, and-right, and-both}
-use Rattle.words.proofs.CountingLaws.{any-some, some-any}
+use Rattle.words.proofs.CountingLaws.{any-some, some-any, any-none}
 use Rattle.words.proofs.WordLaws.{bit-wordOf}
 use Rattle.aic_record.specs.declared.Aic.{Aic}
 use Rattle.aic_record.proofs.SoundLaws.{sound-is}
@@ -15,7 +15,7 @@ use Rattle.aic_sources.specs.Fast.{fast, fastAsks, masked, fiq}
 use Rattle.aic_sources.specs.Normal.{candidate, candidates, irq}
 use Rattle.aic_sources.specs.Promises.{SomeCandidate, Promises}
 use Rattle.aic_sources.proofs.FastLaws.{fast-some, some-fast}
-use Rattle.aic_sources.proofs.OrderLaws.{ahead-irreflexive, ahead-transitive, ahead-total, chosen-is, chosen-one}
+use Rattle.aic_sources.proofs.OrderLaws.{ahead-irreflexive, ahead-transitive, ahead-total, chosen-is, chosen-one, chosen-none}
 use Rattle.aic_sources.proofs.HandlerLaws.{candidate-above, candidate-waits, waiting-is, is-candidate, candidate-room}
 
 some : (s : Aic) → SomeCandidate s → candidates s ≡ true
@@ -49,6 +49,7 @@ kept =
       );
       chosenIs = λ s h. let f = chosen-is s (some s h) in (f .below, f .fit, f .first);
       chosenOne = λ s k l c h. chosen-one s k (record { below = l; fit = c; first = h });
+      chosenNone = λ s h. unfold candidates in (chosen-none s (any-none 32 (candidate s) h));
       aheadNever = ahead-irreflexive;
       aheadThrough = ahead-transitive;
       aheadEither = ahead-total;

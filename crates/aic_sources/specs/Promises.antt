@@ -25,7 +25,8 @@ pub record Promises : Type 0 where
   -- FIQ is active exactly if nothing masks it and there is a fast source, pending and enabled (01, AIC, Fast side; 003, 27.7.4 and 27.7.7)
   pub fiqIs : (s : Aic) → (fiq s ≡ true)
       ↔ ((masked s ≡ false) × ((k : ℕ) × (k < 32) × (fast s k ≡ true) × (pending s k ≡ true) × (bit (s .enabled) k ≡ true)))
-  -- a candidate is pending, enabled, not fast, and of a priority strictly above the level of the last open handler, if one is open (01, AIC, Normal side; 003, 27.7.3.1)
+  -- a candidate is pending, enabled, not fast, and of a priority strictly above the level of the last open handler, if one is open
+  -- (01, AIC, Normal side; 003, 27.7.3.1)
   pub candidateIs : (s : Aic) (k : ℕ) → (candidate s k ≡ true)
       ↔ ((pending s k ≡ true) × (bit (s .enabled) k ≡ true) × (fast s k ≡ false)
       × ((s .depth ≡ 0) ⊎ (levelAt s (s .depth - 1) < priority s k)))
@@ -33,6 +34,8 @@ pub record Promises : Type 0 where
   pub chosenIs : (s : Aic) → SomeCandidate s → (chosen s < 32) × (candidate s (chosen s) ≡ true) × AheadOfOthers s (chosen s)
   -- it is the only one
   pub chosenOne : (s : Aic) (k : ℕ) → k < 32 → candidate s k ≡ true → AheadOfOthers s k → chosen s ≡ k
+  -- without a candidate it is 32, which is no source
+  pub chosenNone : (s : Aic) → ((k : ℕ) → k < 32 → candidate s k ≡ false) → chosen s ≡ 32
   -- ahead is a strict order: no source is ahead of itself, and what is ahead of one that is ahead of a third is ahead of the third (01, AIC, Normal side)
   pub aheadNever : (s : Aic) (a : ℕ) → ahead s a a ≡ false
   pub aheadThrough : (s : Aic) (a b c : ℕ) → ahead s a b ≡ true → ahead s b c ≡ true → ahead s a c ≡ true
