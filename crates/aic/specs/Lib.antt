@@ -3,4 +3,6 @@ pub mod Effects
 pub mod Handlers
 pub mod Map
 pub mod Model
+pub mod Promises
 pub mod Registers
+pub mod Tables

@@ -3,3 +3,4 @@ pub mod Fast
 pub mod Normal
 pub mod Pending
 pub mod Search
+pub mod Promises

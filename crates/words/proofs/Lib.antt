@@ -1,5 +1,6 @@
 -- The laws of choices, of counting and of words that every other crate cites.
 pub mod ChoiceLaws
 pub mod CountingLaws
+pub mod Promises
 pub mod TruthLaws
 pub mod WordLaws

@@ -1,4 +1,5 @@
 -- Words of sources, choices and counting, for every crate of the project.
 pub mod Choice
 pub mod Counting
+pub mod Promises
 pub mod Word

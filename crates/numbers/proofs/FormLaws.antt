@@ -1,0 +1,48 @@
+-- A value has one form: as many bytes, and the same ones, wherever it is written.
+use Prim.Native.Nat.{ℕ, zero, suc, _+_, _-_, _*_, _^_, _%_, _<_, _≤_}
+use mathlib.Core.Path.{_≡_, refl, sym, ap, _∙_}
+use mathlib.Core.List.{List}
+use mathlib.Core.Logic.{_⊎_, inl, inr, ⊎-elim}
+use native.Mathlib.Nat.{pow-le-pow-right, mod-lt, eq-or-lt-of-le}
+use native.Mathlib.Decide.{decLt, ℕ-discrete}
+use native.Mathlib.Omega.{arith}
+use lib.ListN.{length, getD}
+use Rattle.numbers.specs.Number.{group, worthAt, sizeAt}
+use Rattle.numbers.proofs.GroupLaws.{worth, worth-lt, worth-le, same-digits}
+use Rattle.numbers.proofs.NumberLaws.{Sized, sized, Good, groupAt, group-lt}
+
+-- n bytes whose last brings a bit are worth at least the unit of the last
+floor : (s : List ℕ) (at n v : ℕ) → Good s at n (worthAt s at n) → 1 < n → 128 ^ (n - 1) ≤ worthAt s at n
+unfolding worthAt
+floor s at zero v g l = absurd (omega arith)
+floor s at (suc n) v g l =
+    let e : suc n - 1 ≡ n = omega arith in
+    rw e (worth-le (groupAt s at) n (positive (groupAt s at n) (λ z. g .shortest l (ap (λ (k : ℕ). group (getD s (at + k) 0)) e ∙ z))))
+  where
+    positive : (x : ℕ) → (x ≡ 0 → ⊥) → 0 < x
+    positive x h = omega arith
+
+-- two numbers of one value are of one size: the longer one would be worth more
+pub not-longer : (s t : List ℕ) (a b n m : ℕ) → Good t b m (worthAt t b m) → 1 ≤ n → worthAt s a n ≡ worthAt t b m → n < m → ⊥
+unfolding worthAt
+not-longer s t a b n m g some e l =
+    let low : 128 ^ (m - 1) ≤ worthAt t b m = floor t b m 0 g (omega arith) in
+    let high : worthAt s a n < 128 ^ n = worth-lt (groupAt s a) (group-lt s a) n in
+    let up : 128 ^ n ≤ 128 ^ (m - 1) = pow-le-pow-right {n = 128} (omega arith) {i = n} {j = m - 1} (omega arith) in
+    omega arith
+
+-- a byte is its group, and its group and the top bit if another byte follows
+same-byte : (x y : ℕ) → x < 256 → y < 256 → x % 128 ≡ y % 128 → ((x < 128) × (y < 128)) ⊎ ((128 ≤ x) × (128 ≤ y)) → x ≡ y
+same-byte x y lx ly e (inl h) = omega arith
+same-byte x y lx ly e (inr h) = omega arith
+
+pub same-bytes : (s t : List ℕ) (a b n : ℕ) → ((k : ℕ) → getD s k 0 < 256) → ((k : ℕ) → getD t k 0 < 256) → n ≤ 5 → Sized s a n → Sized t b n
+    → worthAt s a n ≡ worthAt t b n → (k : ℕ) → k < n → getD s (a + k) 0 ≡ getD t (b + k) 0
+unfolding worthAt
+same-bytes s t a b n hs ht short p q e k l =
+    same-byte (getD s (a + k) 0) (getD t (b + k) 0) (hs (a + k)) (ht (b + k))
+    (same-digits (groupAt s a) (groupAt t b) (group-lt s a) (group-lt t b) n e k l) (go (ℕ-discrete (k + 1) n))
+  where
+    go : Dec (k + 1 ≡ n) → ((getD s (a + k) 0 < 128) × (getD t (b + k) 0 < 128)) ⊎ ((128 ≤ getD s (a + k) 0) × (128 ≤ getD t (b + k) 0))
+    go (yes w) = inl (p .last k w short, q .last k w short)
+    go (no w) = inr (p .more k (omega arith), q .more k (omega arith))

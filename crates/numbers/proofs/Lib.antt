@@ -1,0 +1,8 @@
+-- The laws of numbers that the crates above cite, and the proof of what is promised.
+pub mod Examples
+pub mod FormLaws
+pub mod GroupLaws
+pub mod MoreLaws
+pub mod NumberLaws
+pub mod Promises
+pub mod ReadLaws

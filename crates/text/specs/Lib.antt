@@ -1,0 +1,3 @@
+-- Text in a lent buffer, and what is promised of it.
+pub mod Promises
+pub mod Text

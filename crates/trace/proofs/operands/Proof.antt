@@ -1,0 +1,25 @@
+use Rattle.trace.specs.Steps.{operandsOf}
+use mathlib.Core.Path.{_∙_}
+use borrow.Author.Tests.{eq-eqb, ne-eqb}
+use Rattle.words.proofs.ChoiceLaws.{pick-true, pick-false}
+use Rattle.trace.proofs.operands.Statement.{statement}
+use Rattle.trace.proofs.operands.Tie as tie
+
+returns : tie.Need-returns
+unfolding operandsOf
+returns c = pick-true _ (eq-eqb _ _ (c .if1 .taken))
+
+returns-2 : tie.Need-returns-2
+unfolding operandsOf
+returns-2 c = pick-true _ (eq-eqb _ _ (c .if2 .taken)) ∙ pick-false _ (ne-eqb _ _ (c .before .if1 .left))
+
+returns-3 : tie.Need-returns-3
+unfolding operandsOf
+returns-3 c = pick-true _ (eq-eqb _ _ (c .if3 .taken)) ∙ pick-false _ (ne-eqb _ _ (c .before .if2 .left)) ∙ pick-false _ (ne-eqb _ _ (c .before .before .if1 .left))
+
+returns-4 : tie.Need-returns-4
+unfolding operandsOf
+returns-4 c = pick-false _ (ne-eqb _ _ (c .if3 .left)) ∙ pick-false _ (ne-eqb _ _ (c .before .if2 .left)) ∙ pick-false _ (ne-eqb _ _ (c .before .before .if1 .left))
+
+pub operands-spec : {M : Type 1} → statement M
+operands-spec = tie.close (tie.spec returns returns-2 returns-3 returns-4)

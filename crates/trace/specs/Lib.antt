@@ -1,0 +1,4 @@
+-- The steps of a trace, and what is promised of them.
+pub mod Promises
+pub mod Steps
+pub mod Trace
