@@ -1,0 +1,11 @@
+use Rattle.coreinterrupt.specs.Group.{groupSound}
+use borrow.Author.Needs.{needs}
+use Rattle.coreinterrupt.proofs.sides.sound.Statement.{statement}
+use Rattle.coreinterrupt.proofs.sides.sound.Tie as tie
+
+returns : tie.Need-returns
+unfolding groupSound
+returns c = cc
+
+pub sound-spec : {M : Type 1} → statement M
+sound-spec = tie.close (tie.spec (λ c κs. search needs) (λ c κs. search needs) (λ c κs. search needs) returns)

@@ -1,0 +1,4 @@
+-- CoreInterrupt: one side of it, the whole controller, and what is promised of both.
+pub mod Group
+pub mod Model
+pub mod Promises
