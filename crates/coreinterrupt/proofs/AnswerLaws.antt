@@ -35,3 +35,7 @@ pub refused-is : (c : Core) (n : ℕ) (a : Answer) → a .refusal ≡ 0 → unle
 refused-is c n a e d =
     let i = number-is c n a e in
     sym (stopped c n a (λ z. d (i ∙ z))) ∙ ap (refused c) (sym i)
+
+-- one that is not refused is its answer
+pub taken : (c : Core) (n : ℕ) (a : Answer) → a .refusal ≡ 0 → unlessRefused c n a .refusal ≡ 0 → unlessRefused c n a ≡ a
+taken c n a e z = sym (carried c n (sym (number-is c n a e) ∙ z))

@@ -3,7 +3,7 @@ use mathlib.Core.Path.{_≡_, refl}
 use Rattle.words.specs.Choice.{pick}
 use Rattle.words.specs.Word.{kept, clean}
 use Rattle.steps.specs.Refusals.{readRefusal}
-use Rattle.coreinterrupt.specs.Group.{clearAccess, groupAccess, groupRead, groupSound}
+use Rattle.coreinterrupt_side.specs.Group.{clearAccess, groupAccess, groupRead, groupSound}
 use Rattle.coreinterrupt.specs.Model.{side, sound, within, allWithin, start, accepted, refused, unlessRefused, fiqOffset, register, access, valueAt, read}
 
 pub case-none : read (start 0 8 0 0 .core) 0x04 ≡ accepted (start 0 8 0 0 .core) 0

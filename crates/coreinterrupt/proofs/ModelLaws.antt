@@ -15,14 +15,13 @@ use Rattle.steps.specs.declared.Step.{Step}
 use Rattle.steps.specs.declared.Step.the-variants.{Read, Write, Line}
 use Rattle.steps.specs.Refusals.{readRefusal, writeRefusal, lineRefusal}
 use Rattle.steps.proofs.Promises.{read-table, line-table}
-use Rattle.coreinterrupt.specs.declared.Group.{Group}
+use Rattle.coreinterrupt_side.specs.declared.Group.{Group}
 use Rattle.coreinterrupt.specs.declared.Core.{Core}
 use Rattle.coreinterrupt.specs.declared.Answer.{Answer}
-use Rattle.coreinterrupt.specs.Group.{groupWrite, moved, groupSound}
+use Rattle.coreinterrupt_side.specs.Group.{groupAccess, groupWrite, moved, groupSound}
 use Rattle.coreinterrupt.specs.Model.{side, withSide, sound, accepted, refused, fiqOffset, register, access, valueAt, written, read, write, fiqLine, input, lineMoved, line, step}
 use Rattle.coreinterrupt.proofs.AnswerLaws.{carried, either-way, refused-is}
-use Rattle.coreinterrupt.proofs.GroupLaws.{write-sound, moved-sound, moved-spare, sound-parts, exists, zero-readable, zero-read}
-use Rattle.coreinterrupt.proofs.TableLaws.{access-past}
+use Rattle.coreinterrupt_side.proofs.GroupLaws.{write-sound, moved-sound, moved-spare, sound-parts, six-registers, zero-readable, zero-read}
 
 -- ---- soundness
 
@@ -124,12 +123,18 @@ register-below o l = go (decLt o 0x18)
     go (yes p) = omega (arith, register-fiq o p)
     go (no p) = omega (arith, register-irq o (omega arith))
 
+register-past : (o : ℕ) → 0x30 ≤ o → 6 ≤ register o
+register-past o l = omega (arith, register-irq o (omega arith))
+
 pub registers : (c : Core) (o : ℕ) → (access c o ≡ NoRegister) ↔ (0x30 ≤ o)
 unfolding access
-registers c o = (below (decLt o 0x30), (λ l. sym (access-past (side c (fiqOffset o)) (register o) (omega (arith, register-irq o (omega arith))))))
+registers c o = (below (decLt o 0x30), (λ l. six .1 (register-past o l)))
   where
-    below : Dec (o < 0x30) → access c o ≡ NoRegister → 0x30 ≤ o
-    below (yes l) e = absurd (exists (side c (fiqOffset o)) (register o) (register-below o l) e)
+    six : (groupAccess (side c (fiqOffset o)) (register o) ≡ NoRegister) ↔ (6 ≤ register o)
+    six = six-registers (side c (fiqOffset o)) (register o)
+
+    below : Dec (o < 0x30) → groupAccess (side c (fiqOffset o)) (register o) ≡ NoRegister → 0x30 ≤ o
+    below (yes l) e = absurd (omega (arith, six .0 e, register-below o l))
     below (no l) e = omega arith
 
 -- a sound side with no sources answers 0 at each of its registers

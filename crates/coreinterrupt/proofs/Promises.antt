@@ -3,18 +3,16 @@ use Prim.Native.Nat.{ℕ, _<_, _≤_}
 use mathlib.Core.Path.{_≡_, refl, sym, _∙_}
 use mathlib.Core.Logic.{inl}
 use lib.Dec.{eqb}
-use Rattle.words.proofs.WordLaws.{bit-either, bit-both}
 use Rattle.steps.specs.Refusals.{readRefusal, writeRefusal, lineRefusal}
 use Rattle.steps.specs.Tables.{ReadTable, WriteTable, LineTable}
 use Rattle.steps.proofs.Promises.{read-table, write-table, line-table}
 use Rattle.coreinterrupt.specs.declared.Core.{Core}
 use Rattle.coreinterrupt.specs.declared.Answer.{Answer}
-use Rattle.coreinterrupt.specs.Group.{raw, status, groupWrite, moved}
+use Rattle.coreinterrupt_side.specs.Group.{groupWrite, moved}
 use Rattle.coreinterrupt.specs.Model.{side, sound, accepted, fiqOffset, register, access, valueAt, written, read, write, fiqLine, input, lineMoved, line}
 use Rattle.coreinterrupt.specs.Promises.{Promises}
-use Rattle.coreinterrupt.proofs.AnswerLaws.{either-way, number-is}
+use Rattle.coreinterrupt.proofs.AnswerLaws.{either-way, number-is, taken}
 use Rattle.coreinterrupt.proofs.CaseLaws.{case-none, case-one}
-use Rattle.coreinterrupt.proofs.GroupLaws.{set-bit, clear-bit, line-bit, line-only, soft-only, enable-only, side-active, clears-hidden, raw-read-only}
 use Rattle.coreinterrupt.proofs.ModelLaws.{step-sound, step-refused, registers, zero-fiq, zero-irq, spare-irq, spare-fiq, fiq-offset, irq-offset, fiq-line, irq-line, with-irq, with-fiq}
 use Rattle.coreinterrupt.proofs.OutputLaws.{shown, hidden, irq-active, fiq-active, irq-level, fiq-level, levels-small}
 use Rattle.coreinterrupt.proofs.StartLaws.{limits, four-numbers, start-refused, start-zeros, start-taken, start-sound}
@@ -81,7 +79,7 @@ line-irq c k l p =
     (with-irq c (fiqLine k) (moved (side c (fiqLine k)) (input k) (eqb l 1)) (fiq-line k p)) refl
 
 pub kept : Promises
-unfolding raw status groupWrite
+unfolding read write line
 kept =
     record {
       limits = limits;
@@ -99,27 +97,17 @@ kept =
       writeAnswers = write-answers;
       lineAnswers = line-answers;
       registers = registers;
-      clearsHidden = clears-hidden;
-      rawReadOnly = raw-read-only;
       noFiqSources = zero-fiq;
       noIrqSources = zero-irq;
-      rawBit = λ g k l. bit-either (g .inputs) (g .soft) k l;
-      statusBit = λ g k l. bit-both (raw g) (g .enable) k l;
-      softSet = λ g v k l. set-bit g (g .soft) v k l;
-      softClear = λ g v k l. clear-bit g (g .soft) v k l;
-      softOnly = soft-only;
-      enableSet = λ g v k l. set-bit g (g .enable) v k l;
-      enableClear = λ g v k l. clear-bit g (g .enable) v k l;
-      enableOnly = enable-only;
+      readTaken = λ c o e. taken c (readRefusal (sound c) o (access c o)) (accepted c (valueAt c o)) refl e;
+      writeTaken = λ c o v e. taken c (writeRefusal (sound c) o (access c o) 0) (accepted (written c o v) 0) refl e;
       writeSide = λ c o v. (write-irq c o v, write-fiq c o v);
-      lineBit = line-bit;
-      lineOnly = line-only;
+      lineTaken = λ c k l e. taken c (lineRefusal (sound c) 40 k l) (accepted (lineMoved c k (eqb l 1)) 0) refl e;
       lineSide = λ c k l. (line-fiq c k l, line-irq c k l);
       spareIrq = spare-irq;
       spareFiq = spare-fiq;
       irqActive = irq-active;
       fiqActive = fiq-active;
-      sideActive = side-active;
       irqLevel = irq-level;
       fiqLevel = fiq-level;
       levelsSmall = levels-small;

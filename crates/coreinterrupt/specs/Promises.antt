@@ -1,26 +1,20 @@
 -- What is promised of CoreInterrupt, one field for each sentence (01, CoreInterrupt; 01, Numbers; 01, When a contract is strong enough).
 use Prim.Native.Nat.{ℕ, _+_, _%_, _<_, _≤_}
 use mathlib.Core.Path.{_≡_}
-use mathlib.Core.Bool.{Bool, true, false, not, _&&_, _||_}
+use mathlib.Core.Bool.{true, false}
 use mathlib.Core.Logic.{_↔_, _≢_, _⊎_}
-use lib.Dec.{eqb, ltb}
-use Rattle.words.specs.Choice.{pick}
-use Rattle.words.specs.Word.{bit}
-use Rattle.steps.specs.declared.Access.the-variants.{NoRegister, ReadOnly, WriteOnly}
+use lib.Dec.{eqb}
+use Rattle.steps.specs.declared.Access.the-variants.{NoRegister}
 use Rattle.steps.specs.declared.Step.{Step}
 use Rattle.steps.specs.Refusals.{carriedOut, unreadable, misconfigured, unsound}
 use Rattle.steps.specs.Tables.{ReadTable, WriteTable, LineTable}
-use Rattle.coreinterrupt.specs.declared.Group.{Group}
 use Rattle.coreinterrupt.specs.declared.Core.{Core}
 use Rattle.coreinterrupt.specs.declared.Begun.{Begun}
 use Rattle.coreinterrupt.specs.declared.Answer.{Answer}
 use Rattle.coreinterrupt.specs.declared.Signals.{Signals}
-use Rattle.coreinterrupt.specs.Group.{idle, withInputs, withSoft, withEnable, raw, status, active, groupAccess, groupWrite, moved}
-use Rattle.coreinterrupt.specs.Model.{coreOf, sound, within, start, accepted, refused, access, read, write, line, irqBase, irqLimit, step, outputs}
-
--- there is a source, of those below n, that is raised and enabled
-abbrev pub SomeSource : ℕ → Group → Type 0
-SomeSource n g = (k : ℕ) × (k < n) × ((bit (raw g) k ≡ true) × (bit (g .enable) k ≡ true))
+use Rattle.coreinterrupt_side.specs.Group.{idle}
+use Rattle.coreinterrupt_side.specs.Promises.{SomeSource}
+use Rattle.coreinterrupt.specs.Model.{coreOf, sound, within, start, accepted, refused, access, valueAt, written, lineMoved, read, write, line, irqBase, irqLimit, step, outputs}
 
 pub record Promises : Type 0 where
   -- ---- start
@@ -61,44 +55,23 @@ pub record Promises : Type 0 where
 
   -- the twelve registers lie below 0x30, and no register is elsewhere (01, CoreInterrupt; 004, table 3)
   pub registers : (c : Core) (offset : ℕ) → (access c offset ≡ NoRegister) ↔ (0x30 ≤ offset)
-  -- with sources, the clears are write-only (01, CoreInterrupt; 004, table 3)
-  pub clearsHidden : (g : Group) → g .count ≢ 0 → (groupAccess g 1 ≡ WriteOnly) × (groupAccess g 3 ≡ WriteOnly)
-  -- raw and status are read-only, whatever the count (01, CoreInterrupt; 004, table 3)
-  pub rawReadOnly : (g : Group) → (groupAccess g 4 ≡ ReadOnly) × (groupAccess g 5 ≡ ReadOnly)
   -- with no FIQ sources every FIQ register reads 0, the clears too (01, CoreInterrupt; 004, FIQSoftInt and the five after it)
   pub noFiqSources : (c : Core) (offset : ℕ) → sound c ≡ true → c .fiq .count ≡ 0 → offset < irqBase → offset % 4 ≡ 0
       → read c offset ≡ accepted c 0
   -- with no IRQ sources every IRQ register reads 0, the clears too (01, CoreInterrupt; 004, IRQSoftInt and the five after it)
   pub noIrqSources : (c : Core) (offset : ℕ) → sound c ≡ true → c .irq .count ≡ 0 → irqBase ≤ offset → offset < 0x30 → offset % 4 ≡ 0
       → read c offset ≡ accepted c 0
-  -- ---- what a write does to the bit of source k
+  -- ---- what a step does to each side; what that does to each source's bit is promised of a side alone
 
-  -- a bit of raw is the input's or the soft bit (01, CoreInterrupt)
-  pub rawBit : (g : Group) (k : ℕ) → k < 32 → bit (raw g) k ≡ (bit (g .inputs) k || bit (g .soft) k)
-  -- a bit of status is the raw bit where the source is enabled (01, CoreInterrupt)
-  pub statusBit : (g : Group) (k : ℕ) → k < 32 → bit (status g) k ≡ (bit (raw g) k && bit (g .enable) k)
-  -- soft: written as 1 and within the count, the soft bit is set, else it stays (01, CoreInterrupt; 004, FIQSoftInt)
-  pub softSet : (g : Group) (v k : ℕ) → k < 32 → bit (groupWrite g 0 v .soft) k ≡ (bit (g .soft) k || (bit v k && ltb k (g .count)))
-  -- soft clear: written as 1 and within the count, the soft bit is cleared, else it stays (01, CoreInterrupt; 004, FIQSoftIntClear)
-  pub softClear : (g : Group) (v k : ℕ) → k < 32 → bit (groupWrite g 1 v .soft) k ≡ (bit (g .soft) k && not (bit v k && ltb k (g .count)))
-  -- these two touch nothing else of the side (01, CoreInterrupt)
-  pub softOnly : (g : Group) (i v : ℕ) → i < 2 → groupWrite g i v ≡ withSoft g (groupWrite g i v .soft)
-  -- enable: as soft, on the enable bits (01, CoreInterrupt; 004, FIQEnable)
-  pub enableSet : (g : Group) (v k : ℕ) → k < 32 → bit (groupWrite g 2 v .enable) k ≡ (bit (g .enable) k || (bit v k && ltb k (g .count)))
-  -- enable clear: as soft clear, on the enable bits (01, CoreInterrupt; 004, FIQEnableClear)
-  pub enableClear : (g : Group) (v k : ℕ) → k < 32 → bit (groupWrite g 3 v .enable) k ≡ (bit (g .enable) k && not (bit v k && ltb k (g .count)))
-  -- these two touch nothing else of the side (01, CoreInterrupt)
-  pub enableOnly : (g : Group) (i v : ℕ) → 2 ≤ i → i < 4 → groupWrite g i v ≡ withEnable g (groupWrite g i v .enable)
+  -- a read that is not refused answers what the register holds (01, CoreInterrupt)
+  pub readTaken : (c : Core) (offset : ℕ) → read c offset .refusal ≡ carriedOut → read c offset ≡ accepted c (valueAt c offset)
+  -- a write that is not refused is done to the side that the offset belongs to (01, CoreInterrupt)
+  pub writeTaken : (c : Core) (offset v : ℕ) → write c offset v .refusal ≡ carriedOut → write c offset v ≡ accepted (written c offset v) 0
   -- a write below 0x18 leaves the IRQ side as it was, one from there on the FIQ side (01, CoreInterrupt)
   pub writeSide : (c : Core) (offset v : ℕ)
       → (offset < irqBase → write c offset v .core .irq ≡ c .irq) × (irqBase ≤ offset → write c offset v .core .fiq ≡ c .fiq)
-  -- ---- what a line step does to the bit of input j
-
-  -- line k moves the bit of its own input, if that is within the count, and no other (01, CoreInterrupt; 004, table 2)
-  pub lineBit : (g : Group) (k j : ℕ) (high : Bool) → j < 32
-      → bit (moved g k high .inputs) j ≡ pick (eqb j k && ltb k (g .count)) high (bit (g .inputs) j)
-  -- it touches nothing else of the side (01, CoreInterrupt)
-  pub lineOnly : (g : Group) (k : ℕ) (high : Bool) → moved g k high ≡ withInputs g (moved g k high .inputs)
+  -- a line step that is not refused is done to the input of that line (01, CoreInterrupt)
+  pub lineTaken : (c : Core) (k l : ℕ) → line c k l .refusal ≡ carriedOut → line c k l ≡ accepted (lineMoved c k (eqb l 1)) 0
   -- lines 0 to 31 leave the FIQ side as it was, those from 32 on the IRQ side (01, CoreInterrupt)
   pub lineSide : (c : Core) (k l : ℕ) → (k < irqLimit → line c k l .core .fiq ≡ c .fiq) × (irqLimit ≤ k → line c k l .core .irq ≡ c .irq)
   -- a spare IRQ input may move and changes nothing (01, CoreInterrupt; 004, table 2)
@@ -111,8 +84,6 @@ pub record Promises : Type 0 where
   pub irqActive : (c : Core) → sound c ≡ true → (outputs c .irq ≡ true) ↔ SomeSource (c .irq .count) (c .irq)
   -- FIQ is active exactly if there is an FIQ source that is raised and enabled (01, CoreInterrupt; 004, FIQ Processing)
   pub fiqActive : (c : Core) → sound c ≡ true → (outputs c .fiq ≡ true) ↔ SomeSource (c .fiq .count) (c .fiq)
-  -- the same of any side, sound or not, over all 32 places of its words
-  pub sideActive : (g : Group) → (active g ≡ true) ↔ SomeSource 32 g
   -- the IRQ output is at its active level exactly while it is active (01, CoreInterrupt; 004, table 2)
   pub irqLevel : (c : Core) → sound c ≡ true → (outputs c .irqlevel ≡ c .irq .level) ↔ (outputs c .irq ≡ true)
   -- the FIQ output is at its active level exactly while it is active (01, CoreInterrupt; 004, table 2)

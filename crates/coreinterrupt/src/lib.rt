@@ -2,22 +2,10 @@
 ghost use mathlib.Core.Path.{_≡_};
 ghost use Rattle.coreinterrupt.specs.Model.{side, withSide, sound, within, allWithin, start, accepted, refused, fiqOffset, register, access, valueAt, written, read, write, fiqLine, input, lineMoved, line, step, outputs};
 
-mod sides;
-
-// One side, FIQ or IRQ: how many sources it has, the active level of its output, its lines and its two stored registers.
-#[repr(C)]
-pub struct Group {
-    pub count: u32,
-    pub level: u32,
-    pub inputs: u32,
-    pub soft: u32,
-    pub enable: u32,
-}
-
 #[repr(C)]
 pub struct Core {
-    pub fiq: Group,
-    pub irq: Group,
+    pub fiq: coreinterrupt_side::Group,
+    pub irq: coreinterrupt_side::Group,
 }
 
 // What a start answers.
@@ -77,16 +65,16 @@ pub fn start(fiqs: u32, irqs: u32, fiqlevel: u32, irqlevel: u32) -> Begun
         return Begun {
             refusal: steps::CARRIED_OUT,
             core: Core {
-                fiq: sides::idle(fiqs, fiqlevel),
-                irq: sides::idle(irqs, irqlevel),
+                fiq: coreinterrupt_side::idle(fiqs, fiqlevel),
+                irq: coreinterrupt_side::idle(irqs, irqlevel),
             },
         };
     }
     Begun {
         refusal: steps::MISCONFIGURED,
         core: Core {
-            fiq: sides::idle(0, 0),
-            irq: sides::idle(0, 0),
+            fiq: coreinterrupt_side::idle(0, 0),
+            irq: coreinterrupt_side::idle(0, 0),
         },
     }
 }
@@ -95,7 +83,7 @@ pub fn start(fiqs: u32, irqs: u32, fiqlevel: u32, irqlevel: u32) -> Begun
 pub fn sound(c: Core) -> bool
     ensures { λ r. ⌜ r ≡ sound c ⌝ }
 {
-    sides::sound(FIQ_LIMIT, c.fiq) & sides::sound(IRQ_LIMIT, c.irq)
+    coreinterrupt_side::sound(FIQ_LIMIT, c.fiq) & coreinterrupt_side::sound(IRQ_LIMIT, c.irq)
 }
 
 // The answer of a step that is carried out.
@@ -121,14 +109,14 @@ fn refused(c: Core, n: u32) -> Answer
 }
 
 // The FIQ side or the IRQ side.
-fn side(c: Core, fast: bool) -> Group
+fn side(c: Core, fast: bool) -> coreinterrupt_side::Group
     ensures { λ r. ⌜ r ≡ side c fast ⌝ }
 {
     if fast { c.fiq } else { c.irq }
 }
 
 // The record with one side replaced.
-fn with_side(c: Core, fast: bool, g: Group) -> Core
+fn with_side(c: Core, fast: bool, g: coreinterrupt_side::Group) -> Core
     ensures { λ r. ⌜ r ≡ withSide c fast g ⌝ }
 {
     let mut d = c;
@@ -154,14 +142,14 @@ fn register(offset: u32) -> u32
 fn access(c: Core, offset: u32) -> steps::Access
     ensures { λ r. ⌜ r ≡ access c offset ⌝ }
 {
-    sides::access(side(c, offset < IRQ_BASE), register(offset))
+    coreinterrupt_side::access(side(c, offset < IRQ_BASE), register(offset))
 }
 
 // What the register at an offset answers.
 fn value_at(c: Core, offset: u32) -> u32
     ensures { λ r. ⌜ r ≡ valueAt c offset ⌝ }
 {
-    sides::read(side(c, offset < IRQ_BASE), register(offset))
+    coreinterrupt_side::read(side(c, offset < IRQ_BASE), register(offset))
 }
 
 // The record after the register at an offset took a value.
@@ -169,7 +157,7 @@ fn written(c: Core, offset: u32, value: u32) -> Core
     ensures { λ r. ⌜ r ≡ written c offset value ⌝ }
 {
     let fast = offset < IRQ_BASE;
-    let g = sides::write(side(c, fast), register(offset), value);
+    let g = coreinterrupt_side::write(side(c, fast), register(offset), value);
     with_side(c, fast, g)
 }
 
@@ -210,7 +198,7 @@ fn line_moved(c: Core, k: u32, high: bool) -> Core
     ensures { λ r. ⌜ r ≡ lineMoved c k high ⌝ }
 {
     let fast = IRQ_LIMIT <= k;
-    let g = sides::moved(side(c, fast), input(k), high);
+    let g = coreinterrupt_side::moved(side(c, fast), input(k), high);
     with_side(c, fast, g)
 }
 
@@ -243,10 +231,10 @@ pub fn outputs(c: Core) -> Signals
     if sound(c) {
         return Signals {
             refusal: steps::CARRIED_OUT,
-            irq: sides::active(c.irq),
-            fiq: sides::active(c.fiq),
-            irqlevel: sides::output_level(c.irq),
-            fiqlevel: sides::output_level(c.fiq),
+            irq: coreinterrupt_side::active(c.irq),
+            fiq: coreinterrupt_side::active(c.fiq),
+            irqlevel: coreinterrupt_side::output_level(c.irq),
+            fiqlevel: coreinterrupt_side::output_level(c.fiq),
         };
     }
     Signals {

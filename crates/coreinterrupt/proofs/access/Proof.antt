@@ -1,4 +1,4 @@
-use Rattle.coreinterrupt.specs.Group.{groupAccess}
+use Rattle.coreinterrupt_side.specs.Group.{groupAccess}
 use Rattle.coreinterrupt.specs.Model.{fiqOffset}
 use Rattle.coreinterrupt.specs.Model.{access}
 use mathlib.Core.Path.{ap₂, _∙_}

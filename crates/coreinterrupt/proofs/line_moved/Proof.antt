@@ -1,6 +1,6 @@
-use Rattle.coreinterrupt.specs.declared.Group.{Group}
+use Rattle.coreinterrupt_side.specs.declared.Group.{Group}
 use Prim.Native.Nat.{ℕ}
-use Rattle.coreinterrupt.specs.Group.{moved}
+use Rattle.coreinterrupt_side.specs.Group.{moved}
 use Rattle.coreinterrupt.specs.Model.{fiqLine, withSide}
 use Rattle.coreinterrupt.specs.Model.{lineMoved}
 use mathlib.Core.Path.{ap, ap₂, _∙_}

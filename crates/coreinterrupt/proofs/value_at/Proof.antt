@@ -1,4 +1,4 @@
-use Rattle.coreinterrupt.specs.Group.{groupRead}
+use Rattle.coreinterrupt_side.specs.Group.{groupRead}
 use Rattle.coreinterrupt.specs.Model.{fiqOffset}
 use Rattle.coreinterrupt.specs.Model.{valueAt}
 use mathlib.Core.Path.{ap₂, _∙_}
