@@ -1,6 +1,6 @@
 // CoreInterrupt by value: the model of 01, "CoreInterrupt". What each function answers is defined in specs/Model.antt.
 ghost use mathlib.Core.Path.{_≡_};
-ghost use Rattle.coreinterrupt.specs.Model.{side, withSide, sound, within, allWithin, start, accepted, refused, fiqOffset, register, access, valueAt, written, read, write, fiqLine, input, lineMoved, line, step, outputs};
+ghost use Rattle.coreinterrupt.specs.Model.{side, withSide, sound, within, allWithin, start, accepted, refused, unlessRefused, register, access, valueAt, written, read, write, input, lineMoved, line, step, outputs};
 
 #[repr(C)]
 pub struct Core {
@@ -108,6 +108,16 @@ fn refused(c: Core, n: u32) -> Answer
     }
 }
 
+// The answer a, or the refusal n with the record as it was.
+fn unless_refused(c: Core, n: u32, a: Answer) -> Answer
+    ensures { λ r. ⌜ r ≡ unlessRefused c n a ⌝ }
+{
+    if n == steps::CARRIED_OUT {
+        return a;
+    }
+    refused(c, n)
+}
+
 // The FIQ side or the IRQ side.
 fn side(c: Core, fast: bool) -> coreinterrupt_side::Group
     ensures { λ r. ⌜ r ≡ side c fast ⌝ }
@@ -166,10 +176,7 @@ pub fn read(c: Core, offset: u32) -> Answer
     ensures { λ r. ⌜ r ≡ read c offset ⌝ }
 {
     let n = steps::read_refusal(sound(c), offset, access(c, offset));
-    if n == steps::CARRIED_OUT {
-        return accepted(c, value_at(c, offset));
-    }
-    refused(c, n)
+    unless_refused(c, n, accepted(c, value_at(c, offset)))
 }
 
 // A write of a value to the register at an offset.
@@ -177,10 +184,7 @@ pub fn write(c: Core, offset: u32, value: u32) -> Answer
     ensures { λ r. ⌜ r ≡ write c offset value ⌝ }
 {
     let n = steps::write_refusal(sound(c), offset, access(c, offset), steps::CARRIED_OUT);
-    if n == steps::CARRIED_OUT {
-        return accepted(written(c, offset, value), 0);
-    }
-    refused(c, n)
+    unless_refused(c, n, accepted(written(c, offset, value), 0))
 }
 
 // The number of a line within its side.
@@ -207,10 +211,7 @@ pub fn line(c: Core, k: u32, level: u32) -> Answer
     ensures { λ r. ⌜ r ≡ line c k level ⌝ }
 {
     let n = steps::line_refusal(sound(c), LINE_LIMIT, k, level);
-    if n == steps::CARRIED_OUT {
-        return accepted(line_moved(c, k, level == 1), 0);
-    }
-    refused(c, n)
+    unless_refused(c, n, accepted(line_moved(c, k, level == 1), 0))
 }
 
 // One step of any kind.
