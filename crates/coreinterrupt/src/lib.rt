@@ -87,7 +87,7 @@ pub fn sound(c: Core) -> bool
 }
 
 // The answer of a step that is carried out.
-fn accepted(c: Core, value: u32) -> Answer
+pub fn accepted(c: Core, value: u32) -> Answer
     ensures { λ r. ⌜ r ≡ accepted c value ⌝ }
 {
     Answer {
@@ -98,7 +98,7 @@ fn accepted(c: Core, value: u32) -> Answer
 }
 
 // The answer of a refused step: its number, the value 0, the same record.
-fn refused(c: Core, n: u32) -> Answer
+pub fn refused(c: Core, n: u32) -> Answer
     ensures { λ r. ⌜ r ≡ refused c n ⌝ }
 {
     Answer {
@@ -109,7 +109,7 @@ fn refused(c: Core, n: u32) -> Answer
 }
 
 // The answer a, or the refusal n with the record as it was.
-fn unless_refused(c: Core, n: u32, a: Answer) -> Answer
+pub fn unless_refused(c: Core, n: u32, a: Answer) -> Answer
     ensures { λ r. ⌜ r ≡ unlessRefused c n a ⌝ }
 {
     if n == steps::CARRIED_OUT {
