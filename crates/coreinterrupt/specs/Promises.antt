@@ -18,7 +18,6 @@ use Rattle.coreinterrupt.specs.Model.{coreOf, sound, within, start, acce
 
 pub record Promises : Type 0 where
   -- ---- start
-
   -- at most 8 FIQ sources, 32 IRQ sources, and active levels of 0 or 1 (01, CoreInterrupt; 004, table 2)
   pub limits : (v : ℕ)
       → ((within 0 v ≡ true) ↔ (v ≤ 8)) × ((within 1 v ≡ true) ↔ (v ≤ 32)) × ((within 2 v ≡ true) ↔ (v ≤ 1)) × ((within 3 v ≡ true) ↔ (v ≤ 1))
@@ -34,7 +33,6 @@ pub record Promises : Type 0 where
   -- every start answers a sound record, a refused one too (01, CoreInterrupt)
   pub startSound : (f i fl il : ℕ) → sound (start f i fl il .core) ≡ true
   -- ---- every step
-
   -- a step keeps a sound record sound (01, CoreInterrupt)
   pub stepSound : (c : Core) (s : Step) → sound c ≡ true → sound (step c s .core) ≡ true
   -- a refused step answers its number, the value 0 and the same record (01, Numbers)
@@ -52,7 +50,6 @@ pub record Promises : Type 0 where
   -- line steps answer the value 0 (01, Numbers)
   pub lineAnswers : (c : Core) (k l : ℕ) → line c k l .value ≡ 0
   -- ---- registers
-
   -- the twelve registers lie below 0x30, and no register is elsewhere (01, CoreInterrupt; 004, table 3)
   pub registers : (c : Core) (offset : ℕ) → (access c offset ≡ NoRegister) ↔ (0x30 ≤ offset)
   -- with no FIQ sources every FIQ register reads 0, the clears too (01, CoreInterrupt; 004, FIQSoftInt and the five after it)
@@ -62,7 +59,6 @@ pub record Promises : Type 0 where
   pub noIrqSources : (c : Core) (offset : ℕ) → sound c ≡ true → c .irq .count ≡ 0 → irqBase ≤ offset → offset < 0x30 → offset % 4 ≡ 0
       → read c offset ≡ accepted c 0
   -- ---- what a step does to each side; what that does to each source's bit is promised of a side alone
-
   -- a read that is not refused answers what the register holds (01, CoreInterrupt)
   pub readTaken : (c : Core) (offset : ℕ) → read c offset .refusal ≡ carriedOut → read c offset ≡ accepted c (valueAt c offset)
   -- a write that is not refused is done to the side that the offset belongs to (01, CoreInterrupt)
@@ -79,7 +75,6 @@ pub record Promises : Type 0 where
   -- a spare FIQ input may move and changes nothing (01, CoreInterrupt; 004, table 2)
   pub spareFiq : (c : Core) (k l : ℕ) → sound c ≡ true → 32 + c .fiq .count ≤ k → k < 40 → l ≤ 1 → line c k l ≡ accepted c 0
   -- ---- outputs
-
   -- IRQ is active exactly if there is an IRQ source that is raised and enabled (01, CoreInterrupt; 004, IRQ Processing)
   pub irqActive : (c : Core) → sound c ≡ true → (outputs c .irq ≡ true) ↔ SomeSource (c .irq .count) (c .irq)
   -- FIQ is active exactly if there is an FIQ source that is raised and enabled (01, CoreInterrupt; 004, FIQ Processing)
@@ -96,12 +91,10 @@ pub record Promises : Type 0 where
   pub outputsRefused : (c : Core) → sound c ≡ false
       → outputs c ≡ record { refusal = unsound; irq = false; fiq = false; irqlevel = 0; fiqlevel = 0 }
   -- ---- what the contracts say is enough: any two answers that they allow are equal (01, When a contract is strong enough)
-
   pub oneBegun : (f i fl il : ℕ) (a b : Begun) → a ≡ start f i fl il → b ≡ start f i fl il → a ≡ b
   pub oneAnswer : (c : Core) (s : Step) (a b : Answer) → a ≡ step c s → b ≡ step c s → a ≡ b
   pub oneSignals : (c : Core) (a b : Signals) → a ≡ outputs c → b ≡ outputs c → a ≡ b
   -- ---- worked cases (01, Both sides of each rule)
-
   -- no FIQ sources: a read of 0x04 answers 0
   pub caseNone : read (start 0 8 0 0 .core) 0x04 ≡ accepted (start 0 8 0 0 .core) 0
   -- one: refusal 3

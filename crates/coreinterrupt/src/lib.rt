@@ -2,6 +2,7 @@
 ghost use mathlib.Core.Path.{_≡_};
 ghost use Rattle.coreinterrupt.specs.Model.{side, withSide, sound, within, allWithin, start, accepted, refused, unlessRefused, register, access, valueAt, written, read, write, input, lineMoved, line, step, outputs};
 
+// The controller: its FIQ side and its IRQ side.
 #[repr(C)]
 pub struct Core {
     pub fiq: coreinterrupt_side::Group,
@@ -30,12 +31,15 @@ pub struct Signals {
     pub fiqlevel: u32,
 }
 
+// How many sources each side may have, and so how many inputs it has.
 pub const FIQ_LIMIT: u32 = 8;
 
 pub const IRQ_LIMIT: u32 = 32;
 
+// All lines: the IRQ inputs, then the FIQ inputs.
 pub const LINE_LIMIT: u32 = 40;
 
+// The offset of the first IRQ register; the FIQ registers stand before it.
 pub const IRQ_BASE: u32 = 0x18;
 
 // Whether a number of the configuration may have this value: FIQ count, IRQ count, FIQ level, IRQ level, from place 0.
@@ -51,6 +55,7 @@ pub fn within(place: u32, value: u32) -> bool
     }
 }
 
+// Whether every number of the configuration is within its limit.
 fn all_within(fiqs: u32, irqs: u32, fiqlevel: u32, irqlevel: u32) -> bool
     ensures { λ r. ⌜ r ≡ allWithin fiqs irqs fiqlevel irqlevel ⌝ }
 {

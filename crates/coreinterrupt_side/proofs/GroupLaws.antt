@@ -24,13 +24,13 @@ use Rattle.coreinterrupt_side.proofs.MoreLaws.{either-narrow, both-narr
 
 -- ---- bits
 
-pub set-bit : (g : Group) (w v k : ℕ) → k < 32 → bit (setBits g w v) k ≡ (bit w k || (bit v k && ltb k (g .count)))
+pub set-bit : (n w v k : ℕ) → k < 32 → bit (setBits n w v) k ≡ (bit w k || (bit v k && ltb k n))
 unfolding setBits
-set-bit g w v k l = bit-either w (kept (g .count) v) k l ∙ ap (λ (t : Bool). bit w k || t) (bit-kept (g .count) v k)
+set-bit n w v k l = bit-either w (kept n v) k l ∙ ap (λ (t : Bool). bit w k || t) (bit-kept n v k)
 
-pub clear-bit : (g : Group) (w v k : ℕ) → k < 32 → bit (clearBits g w v) k ≡ (bit w k && not (bit v k && ltb k (g .count)))
+pub clear-bit : (n w v k : ℕ) → k < 32 → bit (clearBits n w v) k ≡ (bit w k && not (bit v k && ltb k n))
 unfolding clearBits
-clear-bit g w v k l = bit-without w (kept (g .count) v) k l ∙ ap (λ (t : Bool). bit w k && not t) (bit-kept (g .count) v k)
+clear-bit n w v k l = bit-without w (kept n v) k l ∙ ap (λ (t : Bool). bit w k && not t) (bit-kept n v k)
 
 -- an input within the count, and a spare one
 pub moved-own : (g : Group) (k : ℕ) (high : Bool) → k < g .count → moved g k high ≡ withInputs g (withBit (g .inputs) k high)
@@ -99,13 +99,13 @@ pub idle-sound : (limit n l : ℕ) → n ≤ limit → l ≤ 1 → groupSound li
 idle-sound limit n l p q =
     parts-sound limit (idle n l) (record { counted = p; levelled = q; lined = pow-pos n; softened = pow-pos n; enabled = pow-pos n })
 
-set-narrow : (g : Group) (w v : ℕ) → w < 2 ^ g .count → setBits g w v < 2 ^ g .count
+set-narrow : (n w v : ℕ) → w < 2 ^ n → setBits n w v < 2 ^ n
 unfolding setBits
-set-narrow g w v l = either-narrow (g .count) w (kept (g .count) v) l (kept-lt (g .count) v)
+set-narrow n w v l = either-narrow n w (kept n v) l (kept-lt n v)
 
-clear-narrow : (g : Group) (w v : ℕ) → w < 2 ^ g .count → clearBits g w v < 2 ^ g .count
+clear-narrow : (n w v : ℕ) → w < 2 ^ n → clearBits n w v < 2 ^ n
 unfolding clearBits
-clear-narrow g w v l = without-narrow (g .count) w (kept (g .count) v) l
+clear-narrow n w v l = without-narrow n w (kept n v) l
 
 module _ (limit : ℕ) (g : Group) (p : Parts limit g) where
   with-soft : (w : ℕ) → w < 2 ^ g .count → groupSound limit (withSoft g w) ≡ true
@@ -125,11 +125,11 @@ module _ (limit : ℕ) (g : Group) (p : Parts limit g) where
 
 pub write-sound : (i v limit : ℕ) (g : Group) → groupSound limit g ≡ true → groupSound limit (groupWrite g i v) ≡ true
 unfolding groupWrite
-write-sound zero v limit g e = let p = sound-parts limit g e in with-soft limit g p (setBits g (g .soft) v) (set-narrow g (g .soft) v (p .softened))
-write-sound (suc zero) v limit g e = let p = sound-parts limit g e in with-soft limit g p (clearBits g (g .soft) v) (clear-narrow g (g .soft) v (p .softened))
-write-sound (suc (suc zero)) v limit g e = let p = sound-parts limit g e in with-enable limit g p (setBits g (g .enable) v) (set-narrow g (g .enable) v (p .enabled))
+write-sound zero v limit g e = let p = sound-parts limit g e in with-soft limit g p (setBits (g .count) (g .soft) v) (set-narrow (g .count) (g .soft) v (p .softened))
+write-sound (suc zero) v limit g e = let p = sound-parts limit g e in with-soft limit g p (clearBits (g .count) (g .soft) v) (clear-narrow (g .count) (g .soft) v (p .softened))
+write-sound (suc (suc zero)) v limit g e = let p = sound-parts limit g e in with-enable limit g p (setBits (g .count) (g .enable) v) (set-narrow (g .count) (g .enable) v (p .enabled))
 write-sound (suc (suc (suc zero))) v limit g e =
-    let p = sound-parts limit g e in with-enable limit g p (clearBits g (g .enable) v) (clear-narrow g (g .enable) v (p .enabled))
+    let p = sound-parts limit g e in with-enable limit g p (clearBits (g .count) (g .enable) v) (clear-narrow (g .count) (g .enable) v (p .enabled))
 write-sound (suc (suc (suc (suc i)))) v limit g e = ap (groupSound limit) (sym (write-past g (suc (suc (suc (suc i)))) v (omega arith))) ∙ e
 
 pub moved-sound : (k : ℕ) (high : Bool) (limit : ℕ) (g : Group) → groupSound limit g ≡ true → groupSound limit (moved g k high) ≡ true

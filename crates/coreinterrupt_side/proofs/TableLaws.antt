@@ -19,9 +19,9 @@ pub write-past : (g : Group) (i v : ℕ) → 4 ≤ i → g ≡ groupWrite g i v
 unfolding groupWrite
 write-past g i v l =
     sym (List·getD-eq-default
-    (withSoft g (setBits g (g .soft) v)
-    ∷ withSoft g (clearBits g (g .soft) v)
-    ∷ withEnable g (setBits g (g .enable) v)
-    ∷ withEnable g (clearBits g (g .enable) v)
+    (withSoft g (setBits (g .count) (g .soft) v)
+    ∷ withSoft g (clearBits (g .count) (g .soft) v)
+    ∷ withEnable g (setBits (g .count) (g .enable) v)
+    ∷ withEnable g (clearBits (g .count) (g .enable) v)
     ∷ [])
     g l)

@@ -64,22 +64,22 @@ groupAccess g i = getD (ReadWrite ∷ clearAccess g ∷ ReadWrite ∷ clearAcces
 unfoldable pub groupRead : Group → ℕ → ℕ
 groupRead g i = getD (g .soft ∷ 0 ∷ g .enable ∷ 0 ∷ raw g ∷ status g ∷ []) i 0
 
--- the word w with the bits written as 1 set; those beyond the count are dropped (01, CoreInterrupt)
-unfoldable pub setBits : Group → ℕ → ℕ → ℕ
-setBits g w v = either w (kept (g .count) v)
+-- the word w with the bits written as 1 set; those from n on are dropped (01, CoreInterrupt)
+unfoldable pub setBits : ℕ → ℕ → ℕ → ℕ
+setBits n w v = either w (kept n v)
 
--- the word w with the bits written as 1 cleared; those beyond the count are dropped (01, CoreInterrupt)
-unfoldable pub clearBits : Group → ℕ → ℕ → ℕ
-clearBits g w v = without w (kept (g .count) v)
+-- the word w with the bits written as 1 cleared; those from n on are dropped (01, CoreInterrupt)
+unfoldable pub clearBits : ℕ → ℕ → ℕ → ℕ
+clearBits n w v = without w (kept n v)
 
 -- the side after the value v is written to a register that takes it (01, CoreInterrupt; 004, FIQSoftInt to FIQEnableClear)
 unfoldable pub groupWrite : Group → ℕ → ℕ → Group
 groupWrite g i v =
     getD
-    (withSoft g (setBits g (g .soft) v)
-    ∷ withSoft g (clearBits g (g .soft) v)
-    ∷ withEnable g (setBits g (g .enable) v)
-    ∷ withEnable g (clearBits g (g .enable) v)
+    (withSoft g (setBits (g .count) (g .soft) v)
+    ∷ withSoft g (clearBits (g .count) (g .soft) v)
+    ∷ withEnable g (setBits (g .count) (g .enable) v)
+    ∷ withEnable g (clearBits (g .count) (g .enable) v)
     ∷ [])
     i g
 

@@ -25,7 +25,6 @@ pub record Parts (limit : ℕ) (g : Group) : Type 0 where
 
 pub record Promises : Type 0 where
   -- ---- soundness
-
   -- the test of soundness says those rules
   pub soundMeans : (limit : ℕ) (g : Group) → (groupSound limit g ≡ true) ↔ Parts limit g
   -- a side as configured within its limits is sound
@@ -35,7 +34,6 @@ pub record Promises : Type 0 where
   -- so does a line that moves
   pub lineSound : (k : ℕ) (high : Bool) (limit : ℕ) (g : Group) → groupSound limit g ≡ true → groupSound limit (moved g k high) ≡ true
   -- ---- what a register may be used for
-
   -- the registers are 0 to 5
   pub sixRegisters : (g : Group) (i : ℕ) → (groupAccess g i ≡ NoRegister) ↔ (6 ≤ i)
   -- with sources, the clears are write-only (004, table 3)
@@ -47,7 +45,6 @@ pub record Promises : Type 0 where
   -- and answers 0
   pub noneZero : (limit : ℕ) (g : Group) → groupSound limit g ≡ true → g .count ≡ 0 → (i : ℕ) → groupRead g i ≡ 0
   -- ---- what a register answers of source k, and what a write does to its bit
-
   -- a bit of raw is the input's or the soft bit (004, FIQRawStatus)
   pub rawBit : (g : Group) (k : ℕ) → k < 32 → bit (raw g) k ≡ (bit (g .inputs) k || bit (g .soft) k)
   -- a bit of status is the raw bit where the source is enabled (004, FIQStatus)
@@ -66,7 +63,6 @@ pub record Promises : Type 0 where
   -- these two touch nothing else
   pub enableOnly : (g : Group) (i v : ℕ) → 2 ≤ i → i < 4 → groupWrite g i v ≡ withEnable g (groupWrite g i v .enable)
   -- ---- what a line that moves does to the bit of input j
-
   -- line k moves the bit of its own input, if that is within the count, and no other (004, table 2)
   pub lineBit : (g : Group) (k j : ℕ) (high : Bool) → j < 32
       → bit (moved g k high .inputs) j ≡ pick (eqb j k && ltb k (g .count)) high (bit (g .inputs) j)
@@ -75,7 +71,6 @@ pub record Promises : Type 0 where
   -- a spare input changes nothing (004, table 2)
   pub spare : (g : Group) (k : ℕ) (high : Bool) → g .count ≤ k → moved g k high ≡ g
   -- ---- the output
-
   -- it is active exactly if some source is raised and enabled, over all 32 places of the words, sound or not
   pub outputActive : (g : Group) → (active g ≡ true) ↔ SomeSource 32 g
   -- of a sound side, such a source is one of those configured (004, FIQ Processing, IRQ Processing)

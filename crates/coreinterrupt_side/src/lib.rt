@@ -1,6 +1,7 @@
 // One side of CoreInterrupt. FIQ and IRQ differ only in how many sources they may have; what is answered is defined in specs/Group.antt.
 ghost use mathlib.Core.Path.{_≡_};
 ghost use Rattle.coreinterrupt_side.specs.Group.{idle, withInputs, withSoft, withEnable, raw, status, active, other, outputLevel, clearAccess, groupAccess, groupRead, setBits, clearBits, groupWrite, moved, groupSound};
+
 // One side, FIQ or IRQ: how many sources it has, the active level of its output, its lines and its two stored registers.
 #[repr(C)]
 pub struct Group {
@@ -24,6 +25,7 @@ pub fn idle(count: u32, level: u32) -> Group
     }
 }
 
+// The side with its lines as the word w says.
 fn with_inputs(g: Group, w: u32) -> Group
     ensures { λ r. ⌜ r ≡ withInputs g w ⌝ }
 {
@@ -32,6 +34,7 @@ fn with_inputs(g: Group, w: u32) -> Group
     h
 }
 
+// The side with w in its soft register.
 fn with_soft(g: Group, w: u32) -> Group
     ensures { λ r. ⌜ r ≡ withSoft g w ⌝ }
 {
@@ -40,6 +43,7 @@ fn with_soft(g: Group, w: u32) -> Group
     h
 }
 
+// The side with w in its enable register.
 fn with_enable(g: Group, w: u32) -> Group
     ensures { λ r. ⌜ r ≡ withEnable g w ⌝ }
 {
@@ -96,7 +100,7 @@ fn clear_access(g: Group) -> steps::Access
     steps::Access::WriteOnly
 }
 
-// What register i may be used for.
+// What register i may be used for: 0 soft, 1 soft clear, 2 enable, 3 enable clear, 4 raw, 5 status.
 pub fn access(g: Group, i: u32) -> steps::Access
     ensures { λ r. ⌜ r ≡ groupAccess g i ⌝ }
 {
@@ -126,18 +130,18 @@ pub fn read(g: Group, i: u32) -> u32
     }
 }
 
-// The word w with the bits of v set that stand for a source.
-fn set_bits(g: Group, w: u32, v: u32) -> u32
-    ensures { λ r. ⌜ r ≡ setBits g w v ⌝ }
+// The word w with the bits of v below n set.
+fn set_bits(n: u32, w: u32, v: u32) -> u32
+    ensures { λ r. ⌜ r ≡ setBits n w v ⌝ }
 {
-    words::join(w, words::keep(g.count, v))
+    words::join(w, words::keep(n, v))
 }
 
-// The word w with the bits of v cleared that stand for a source.
-fn clear_bits(g: Group, w: u32, v: u32) -> u32
-    ensures { λ r. ⌜ r ≡ clearBits g w v ⌝ }
+// The word w with the bits of v below n cleared.
+fn clear_bits(n: u32, w: u32, v: u32) -> u32
+    ensures { λ r. ⌜ r ≡ clearBits n w v ⌝ }
 {
-    words::drop_bits(w, words::keep(g.count, v))
+    words::drop_bits(w, words::keep(n, v))
 }
 
 // The side after register i took the value v.
@@ -145,10 +149,10 @@ pub fn write(g: Group, i: u32, v: u32) -> Group
     ensures { λ r. ⌜ r ≡ groupWrite g i v ⌝ }
 {
     match i {
-        0 => with_soft(g, set_bits(g, g.soft, v)),
-        1 => with_soft(g, clear_bits(g, g.soft, v)),
-        2 => with_enable(g, set_bits(g, g.enable, v)),
-        3 => with_enable(g, clear_bits(g, g.enable, v)),
+        0 => with_soft(g, set_bits(g.count, g.soft, v)),
+        1 => with_soft(g, clear_bits(g.count, g.soft, v)),
+        2 => with_enable(g, set_bits(g.count, g.enable, v)),
+        3 => with_enable(g, clear_bits(g.count, g.enable, v)),
         _ => g,
     }
 }

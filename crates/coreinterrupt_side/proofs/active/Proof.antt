@@ -5,7 +5,7 @@ use Rattle.coreinterrupt_side.proofs.active.Tie as tie
 
 returns : tie.Need-returns
 unfolding active
-returns c = cc
+returns c = rw (c .status .ensures)
 
 pub active-spec : {M : Type 1} → statement M
 active-spec = tie.close (tie.spec (λ c κs. search needs) returns)

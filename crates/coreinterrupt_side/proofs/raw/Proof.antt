@@ -5,7 +5,7 @@ use Rattle.coreinterrupt_side.proofs.raw.Tie as tie
 
 returns : tie.Need-returns
 unfolding raw
-returns c = cc
+returns c = c .join .ensures
 
 pub raw-spec : {M : Type 1} → statement M
 raw-spec = tie.close (tie.spec (λ c κs. search needs) returns)

@@ -5,7 +5,7 @@ use Rattle.coreinterrupt_side.proofs.set_bits.Tie as tie
 
 returns : tie.Need-returns
 unfolding setBits
-returns c = cc
+returns c = rw (c .join .ensures, c .before .keep .ensures)
 
 pub set-bits-spec : {M : Type 1} → statement M
 set-bits-spec = tie.close (tie.spec (λ c κs. search needs) (λ c κs. search needs) returns)
