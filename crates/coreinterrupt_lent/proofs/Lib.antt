@@ -1,0 +1,2 @@
+-- The proof that the promises of a lent record are kept.
+pub mod Promises
