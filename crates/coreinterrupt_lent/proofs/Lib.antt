@@ -1,2 +1,3 @@
--- The proof that the promises of a lent record are kept.
+-- Laws for the walks of the lent functions, and the proof that the promises are kept.
 pub mod Promises
+pub mod ValueLaws
