@@ -1,0 +1,3 @@
+-- Which host interrupts are asserted, how many, and the lowest of them.
+pub mod Hosts
+pub mod Promises
