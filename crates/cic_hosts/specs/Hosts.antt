@@ -13,7 +13,7 @@ use Rattle.cic_record.specs.declared.Host.{Host}
 use Rattle.cic_record.specs.declared.System.{System}
 use Rattle.cic_record.specs.Kinds.{system, channelNumber, hostNumber}
 use Rattle.cic_record.specs.Sound.{sound}
-use Rattle.cic_hosts.specs.declared.Outputs.{Outputs}
+use Rattle.cic_record.specs.declared.Outputs.{Outputs}
 
 -- the channel of a system interrupt (001, 1.3.3)
 abbrev pub channelOf : Cic → System → Channel

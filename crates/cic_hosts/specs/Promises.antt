@@ -10,7 +10,7 @@ use Rattle.cic_record.specs.declared.Cic.{Cic}
 use Rattle.cic_record.specs.declared.Host.{Host}
 use Rattle.cic_record.specs.Kinds.{system, hostNumber}
 use Rattle.cic_record.specs.Sound.{sound}
-use Rattle.cic_hosts.specs.declared.Outputs.{Outputs}
+use Rattle.cic_record.specs.declared.Outputs.{Outputs}
 use Rattle.cic_hosts.specs.Hosts.{channelOf, hostOf, assertedOf, outputsOf}
 
 -- there is a configured system interrupt, set and enabled, whose channel is mapped to h (01, CIC, outputs)

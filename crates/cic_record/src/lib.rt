@@ -47,6 +47,13 @@ pub struct Answer {
     pub cic: Cic,
 }
 
+// How many hosts are asserted, and the lowest of them, 256 where none is.
+pub struct Outputs {
+    pub refusal: u32,
+    pub hosts: u32,
+    pub lowest: u32,
+}
+
 fn in_range(lowest: u32, highest: u32, n: u32) -> bool
     ensures { λ r. ⌜ r ≡ between lowest highest n ⌝ }
 {
@@ -108,7 +115,7 @@ pub fn start(systems: u32, channels: u32, hosts: u32, revision: u32) -> Begun
 }
 
 // What is left of n things after one word of them.
-fn after_word(n: u32) -> u32
+pub fn after_word(n: u32) -> u32
     ensures { λ r. ⌜ r ≡ n - 32 ⌝ }
 {
     if n < 32 {

@@ -1,25 +1,24 @@
 -- Arrays of 32-bit words: their bits, counts over them, and what keeps them clean; and the bytes of a word.
 use mathlib.Core.Path.{_≡_, refl, sym, ap, ap₂, _∙_}
-use mathlib.Core.Bool.{Bool, true, false, not, _&&_, _||_}
+use mathlib.Core.Bool.{Bool, true, false, not, _&&_, _||_, or-false}
 use mathlib.Core.List.{List}
-use mathlib.Core.Logic.{⊎-elim}
 use Prim.Native.Nat.{ℕ, zero, suc, _+_, _-_, _*_, _/_, _%_, _^_, _≤_, _<_}
-use native.Mathlib.Nat.{mod-lt}
+use native.Mathlib.Nat.{mod-lt, zero-div, div-eq-of-lt, lt-of-lt-of-le, lt-of-not-le}
 use native.Mathlib.Decide.{decLt, ℕ-discrete}
 use native.Mathlib.Omega.{arith}
 use borrow.Author.Tests.{eq-eqb, ne-eqb}
 use lib.Dec.{eqb}
 use lib.ListN.{length, getD, set, replicate}
-use lib.Pow.{pow-pos}
+use lib.Pow.{pow-pos, pow-mono, shr-shr}
 use lib.Seq.{getD-set-same, getD-set-other, set-out}
 use Rattle.words.specs.Array.{bitAt, withBitAt, restAt, cleanBelow, byteOf}
 use Rattle.words.specs.Choice.{pick}
-use Rattle.words.specs.Counting.{allBelow, countBelow, lowestBelow}
-use Rattle.words.specs.Word.{bit, either, without, withBit, kept, clean}
+use Rattle.words.specs.Counting.{anyBelow, allBelow, countBelow, lowestBelow}
+use Rattle.words.specs.Word.{bit, either, both, without, withBit, kept, clean}
 use Rattle.words.proofs.ChoiceLaws.{pick-true, pick-false}
-use Rattle.words.proofs.CountingLaws.{all-none-yet, all-more, all-at, at-all, count-same, count-add, Lowest, lowest-found, lowest-one}
+use Rattle.words.proofs.CountingLaws.{any-none, any-same, any-add, all-none-yet, all-more, all-at, at-all, count-same, count-add, Lowest, lowest-found, lowest-one}
 use Rattle.words.proofs.TruthLaws.{eqb-iff}
-use Rattle.words.proofs.WordLaws.{bit-past, bit-none, bit-either, bit-without, bit-withBit, either-lt, without-lt, withBit-lt, kept-lt, clean-lt, lt-clean, bits-clean}
+use Rattle.words.proofs.WordLaws.{bit-past, bit-none, bit-some, bit-either, bit-both, bit-without, bit-withBit, either-lt, without-lt, withBit-lt, kept-lt, clean-lt, lt-clean, bits-clean}
 
 -- ---- the bits of an array
 
@@ -132,3 +131,88 @@ clean-withBitAt m n ws v t l b all =
 pub byteOf-lt : (w j : ℕ) → byteOf w j < 256
 unfolding byteOf
 byteOf-lt w j = mod-lt (w / 2 ^ (8 * j)) (omega arith)
+
+-- ---- counts and the lowest bit of an array
+
+-- the words up to j, and word j
+pub count-word : (ws : List ℕ) (j : ℕ) → countBelow (32 * j) (bitAt ws) + countBelow 32 (bit (getD ws j 0)) ≡ countBelow (32 * (j + 1)) (bitAt ws)
+count-word ws j =
+    ap (λ (n : ℕ). countBelow (32 * j) (bitAt ws) + n) (count-same 32 (bit (getD ws j 0)) (λ i. bitAt ws (32 * j + i)) (λ i h. sym (bitAt-word ws j i h)))
+    ∙ sym (count-add (32 * j) 32 (bitAt ws)) ∙ ap (λ (n : ℕ). countBelow n (bitAt ws)) (omega arith)
+
+-- words of 0 up to j have no bit
+pub none-before : (ws : List ℕ) (j : ℕ) → ((k : ℕ) → k < j → getD ws k 0 ≡ 0) → (h : ℕ) → h < 32 * j → bitAt ws h ≡ false
+unfolding bitAt
+none-before ws j z h l = ap (λ (w : ℕ). bit w (h % 32)) (z (h / 32) (omega arith)) ∙ bit-none (h % 32)
+
+-- word j of m is the first that is not 0
+pub lowest-word : (ws : List ℕ) (m j : ℕ) → j < m → getD ws j 0 < 2 ^ 32 → (getD ws j 0 ≡ 0 → ⊥) → ((k : ℕ) → k < j → getD ws k 0 ≡ 0)
+    → 32 * j + lowestBelow 32 (bit (getD ws j 0)) ≡ lowestBelow (32 * m) (bitAt ws)
+lowest-word ws m j l f n z = lowest-one (bitAt ws) (32 * m) (32 * j + t) (lowestBelow (32 * m) (bitAt ws)) here (lowest-found (32 * m) (bitAt ws))
+  where
+    t : ℕ
+    t = lowestBelow 32 (bit (getD ws j 0))
+
+    low : Lowest (bit (getD ws j 0)) 32 (lowestBelow 32 (bit (getD ws j 0)))
+    low = lowest-found 32 (bit (getD ws j 0))
+
+    inside : Dec (lowestBelow 32 (bit (getD ws j 0)) < 32) → lowestBelow 32 (bit (getD ws j 0)) < 32
+    inside (yes p) = p
+    inside (no p) = absurd (n (bit-some 32 (getD ws j 0) f (λ k q. low .before k (omega arith))))
+
+    below : lowestBelow 32 (bit (getD ws j 0)) < 32 → (h : ℕ) → h < 32 * j + lowestBelow 32 (bit (getD ws j 0)) → Dec (h < 32 * j) → bitAt ws h ≡ false
+    below i h b (yes p) = none-before ws j z h p
+    below i h b (no p) =
+        let e : 32 * j + (h - 32 * j) ≡ h = omega arith in
+        ap (bitAt ws) (sym e) ∙ bitAt-word ws j (h - 32 * j) (omega arith) ∙ low .before (h - 32 * j) (omega arith)
+
+    here : Lowest (bitAt ws) (32 * m) (32 * j + lowestBelow 32 (bit (getD ws j 0)))
+    here =
+        let i = inside (decLt (lowestBelow 32 (bit (getD ws j 0))) 32) in
+        record { within = omega (arith, i); before = λ h b. below i h b (decLt h (32 * j)); found = λ _. bitAt-word ws j (lowestBelow 32 (bit (getD ws j 0))) i ∙ low .found i }
+
+pub lowest-nowhere : (ws : List ℕ) (m : ℕ) → ((k : ℕ) → k < m → getD ws k 0 ≡ 0) → 32 * m ≡ lowestBelow (32 * m) (bitAt ws)
+lowest-nowhere ws m z =
+    lowest-one (bitAt ws) (32 * m) (32 * m) (lowestBelow (32 * m) (bitAt ws))
+    (record { within = omega arith; before = none-before ws m z; found = λ l. absurd (omega arith) })
+    (lowest-found (32 * m) (bitAt ws))
+
+-- tests that agree below n have one lowest number
+pub lowest-same : (n : ℕ) (p q : ℕ → Bool) → ((k : ℕ) → k < n → p k ≡ q k) → lowestBelow n p ≡ lowestBelow n q
+unfolding lowestBelow
+lowest-same zero p q h = refl
+lowest-same (suc n) p q h = rw (any-same n p q (λ k l. h k (omega arith)), lowest-same n p q (λ k l. h k (omega arith)), h n (omega arith))
+
+-- ---- a word that is shifted to the right, bit by bit
+
+-- nothing is left after i places: no bit from i on
+pub bit-gone : (w i j : ℕ) → w / 2 ^ i ≡ 0 → bit w (i + j) ≡ false
+unfolding bit
+bit-gone w i j e = ap (λ (n : ℕ). eqb (n % 2) 1) (sym (shr-shr w i j) ∙ ap (λ (n : ℕ). n / 2 ^ j) e ∙ zero-div (2 ^ j))
+
+-- something is left: i is a place of the word
+pub bit-left : (n w i : ℕ) → w < 2 ^ n → (w / 2 ^ i ≡ 0 → ⊥) → i < n
+bit-left n w i f l = lt-of-not-le (λ g. l (div-eq-of-lt (lt-of-lt-of-le f (pow-mono g))))
+
+-- the bits below i, and none from i on
+pub any-gone : (n w i : ℕ) (q : ℕ → Bool) → w / 2 ^ i ≡ 0 → i ≤ n → anyBelow i (λ j. bit w j && q j) ≡ anyBelow n (λ j. bit w j && q j)
+any-gone n w i q e l =
+    sym (or-false (anyBelow i (λ j. bit w j && q j)))
+    ∙ ap (λ (b : Bool). anyBelow i (λ j. bit w j && q j) || b)
+    (sym (any-none (n - i) (λ j. bit w (i + j) && q (i + j)) (λ j _. ap (λ (b : Bool). b && q (i + j)) (bit-gone w i j e))))
+    ∙ sym (any-add i (n - i) (λ j. bit w j && q j)) ∙ ap (λ (k : ℕ). anyBelow k (λ j. bit w j && q j)) (omega arith)
+
+-- ---- an array that is filled word by word
+
+pub filled : (out : List ℕ) (f : ℕ → ℕ) (j : ℕ) → j < length out → ((k : ℕ) → k < j → getD out k 0 ≡ f k) → (x : ℕ) → x ≡ f j
+    → (k : ℕ) → k < j + 1 → getD (set out j x) k 0 ≡ f k
+filled out f j l h x e k m = go (ℕ-discrete k j)
+  where
+    go : Dec (k ≡ j) → getD (set out j x) k 0 ≡ f k
+    go (yes p) = ap (λ (i : ℕ). getD (set out j x) i 0) p ∙ getD-set-same out j x 0 l ∙ e ∙ ap f (sym p)
+    go (no p) = getD-set-other out j k x 0 p ∙ h k (omega arith)
+
+-- the words hold what two arrays share
+pub bitAt-both : (out a b : List ℕ) (h : ℕ) → getD out (h / 32) 0 ≡ both (getD a (h / 32) 0) (getD b (h / 32) 0) → bitAt out h ≡ (bitAt a h && bitAt b h)
+unfolding bitAt
+bitAt-both out a b h e = ap (λ (w : ℕ). bit w (h % 32)) e ∙ bit-both (getD a (h / 32) 0) (getD b (h / 32) 0) (h % 32) (mod-lt h (omega arith))
