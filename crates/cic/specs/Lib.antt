@@ -1,5 +1,3 @@
--- The CIC's registers, and what reads, writes and lines do.
-pub mod Map
+-- The CIC's steps, and what is promised of them.
 pub mod Promises
-pub mod Registers
 pub mod Stepping

@@ -9,10 +9,11 @@ use Rattle.steps.specs.Refusals.{carriedOut}
 use Rattle.steps.specs.Tables.{ReadTable, WriteTable, LineTable}
 use Rattle.cic_record.specs.declared.Answer.{Answer}
 use Rattle.cic_record.specs.declared.Cic.{Cic}
+use Rattle.cic_record.specs.declared.System.{System}
 use Rattle.cic_record.specs.Record.{refused}
 use Rattle.cic_record.specs.Sound.{sound}
-use Rattle.cic.specs.Map.{registerAt, access}
-use Rattle.cic.specs.Registers.{valueRefusal}
+use Rattle.cic_registers.specs.Map.{registerAt, access}
+use Rattle.cic_registers.specs.Registers.{valueRefusal}
 use Rattle.cic.specs.Stepping.{readOf, writeOf, lineOf, stepOf, moved}
 
 pub record Promises : Type 0 where
@@ -28,7 +29,7 @@ pub record Promises : Type 0 where
   pub writesZero : (c : Cic) (offset v : ℕ) → writeOf c offset v .value ≡ 0
   pub linesZero : (c : Cic) (s level : ℕ) → lineOf c s level .value ≡ 0
   -- a falling line changes no status, and neither does a high line that is put high again (01, CIC, configuration)
-  pub falls : (c : Cic) (s : ℕ) → moved c s false .status ≡ c .status
-  pub staysHigh : (c : Cic) (s : ℕ) → bitAt (c .lines) s ≡ true → moved c s true .status ≡ c .status
+  pub falls : (c : Cic) (s : System) → moved c s false .status ≡ c .status
+  pub staysHigh : (c : Cic) (s : System) → bitAt (c .lines) (s .0) ≡ true → moved c s true .status ≡ c .status
   -- any two outcomes that the contract of a step allows are equal (01, When a contract is strong enough)
   pub same : (c : Cic) (s : Step) (a b : Answer) → a ≡ stepOf c s → b ≡ stepOf c s → a ≡ b

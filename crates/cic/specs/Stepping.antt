@@ -9,10 +9,12 @@ use Rattle.steps.specs.declared.Step.the-variants.{Read, Write, Line}
 use Rattle.steps.specs.Refusals.{carriedOut, readRefusal, writeRefusal, lineRefusal}
 use Rattle.cic_record.specs.declared.Answer.{Answer}
 use Rattle.cic_record.specs.declared.Cic.{Cic}
+use Rattle.cic_record.specs.declared.System.{System}
+use Rattle.cic_record.specs.Kinds.{system}
 use Rattle.cic_record.specs.Record.{withLines, withStatus, refused, answered}
 use Rattle.cic_record.specs.Sound.{sound}
-use Rattle.cic.specs.Map.{registerAt, access}
-use Rattle.cic.specs.Registers.{valueOf, valueRefusal, writtenTo}
+use Rattle.cic_registers.specs.Map.{registerAt, access}
+use Rattle.cic_registers.specs.Registers.{valueOf, valueRefusal, writtenTo}
 
 -- the first answer where nothing is refused, else the same record with the number (01, Numbers)
 abbrev pub unlessRefused : Cic → ℕ → Answer → Answer
@@ -28,15 +30,15 @@ writeAs ok c offset v =
     unlessRefused c (writeRefusal ok offset (access c offset) (valueRefusal c (registerAt offset) v)) (answered (writtenTo c (registerAt offset) v) 0)
 
 -- a rising line sets the status, a falling one changes nothing; the line keeps its level (01, CIC, configuration)
-unfoldable pub moved : Cic → ℕ → Bool → Cic
+unfoldable pub moved : Cic → System → Bool → Cic
 moved c s high =
-    pick (high && not (bitAt (c .lines) s))
-    (withLines (withStatus c (withBitAt (c .status) s true)) (withBitAt (c .lines) s high))
-    (withLines c (withBitAt (c .lines) s high))
+    pick (high && not (bitAt (c .lines) (s .0)))
+    (withLines (withStatus c (withBitAt (c .status) (s .0) true)) (withBitAt (c .lines) (s .0) high))
+    (withLines c (withBitAt (c .lines) (s .0) high))
 
 -- a line step of such a record; the inputs are the configured systems (01, Numbers)
 unfoldable pub lineAs : Bool → Cic → ℕ → ℕ → Answer
-lineAs ok c s level = unlessRefused c (lineRefusal ok (c .systems) s level) (answered (moved c s (eqb level 1)) 0)
+lineAs ok c s level = unlessRefused c (lineRefusal ok (c .systems) s level) (answered (moved c (system s) (eqb level 1)) 0)
 
 -- any step of such a record
 unfoldable pub stepAs : Bool → Cic → Step → Answer

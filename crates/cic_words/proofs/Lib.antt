@@ -1,1 +1,2 @@
--- No laws of its own.
+-- The laws of registers of bits.
+pub mod BitsLaws

@@ -44,6 +44,11 @@ bitAt-withBitAt ws n t h l = go (ℕ-discrete (h / 32) (n / 32))
         ap (λ (y : ℕ). bit y (h % 32)) (getD-set-other ws (n / 32) (h / 32) x 0 q)
         ∙ pick-false t (ne-eqb h n (λ e. q (ap (λ (m : ℕ). m / 32) e)))
 
+-- past the end nothing is put
+pub withBitAt-past : (ws : List ℕ) (n : ℕ) (t : Bool) → length ws ≤ n / 32 → withBitAt ws n t ≡ ws
+unfolding withBitAt
+withBitAt-past ws n t l = set-out ws (n / 32) (withBit (getD ws (n / 32) 0) (n % 32) t) l
+
 -- words of 0 have no bit
 pub zeros-getD : (n i : ℕ) → _≡_ {A = ℕ} (getD (replicate n 0) i 0) 0
 zeros-getD zero i = refl
@@ -57,14 +62,14 @@ zeros-bitAt n h = ap (λ (w : ℕ). bit w (h % 32)) (zeros-getD n (h / 32)) ∙ 
 -- ---- a rule for every place of an array
 
 -- one place is put anew, and keeps the rule
-pub all-put : (p : ℕ → ℕ → Bool) (m : ℕ) (ws : List ℕ) (k x : ℕ) → allBelow m (λ i. p i (getD ws i 0)) ≡ true → p k x ≡ true
+pub all-put : (p : ℕ → ℕ → Bool) (m : ℕ) (ws : List ℕ) (k x : ℕ) → allBelow m (λ i. p i (getD ws i 0)) ≡ true → (k < m → p k x ≡ true)
     → allBelow m (λ i. p i (getD (set ws k x) i 0)) ≡ true
-all-put p m ws k x all new = at-all m (λ i. p i (getD (set ws k x) i 0)) (λ i l. go i (all-at m (λ j. p j (getD ws j 0)) all i l) (ℕ-discrete i k) (decLt k (length ws)))
+all-put p m ws k x all new = at-all m (λ i. p i (getD (set ws k x) i 0)) (λ i l. go i l (all-at m (λ j. p j (getD ws j 0)) all i l) (ℕ-discrete i k) (decLt k (length ws)))
   where
-    go : (i : ℕ) → p i (getD ws i 0) ≡ true → Dec (i ≡ k) → Dec (k < length ws) → p i (getD (set ws k x) i 0) ≡ true
-    go i old (yes e) (yes l) = ap₂ (λ (j : ℕ) (y : ℕ). p j y) e (ap (λ (j : ℕ). getD (set ws k x) j 0) e ∙ getD-set-same ws k x 0 l) ∙ new
-    go i old (yes e) (no g) = ap (λ (v : List ℕ). p i (getD v i 0)) (set-out ws k x (omega arith)) ∙ old
-    go i old (no n) d = ap (p i) (getD-set-other ws k i x 0 n) ∙ old
+    go : (i : ℕ) → i < m → p i (getD ws i 0) ≡ true → Dec (i ≡ k) → Dec (k < length ws) → p i (getD (set ws k x) i 0) ≡ true
+    go i b old (yes e) (yes l) = ap₂ (λ (j : ℕ) (y : ℕ). p j y) e (ap (λ (j : ℕ). getD (set ws k x) j 0) e ∙ getD-set-same ws k x 0 l) ∙ new (omega arith)
+    go i b old (yes e) (no g) = ap (λ (v : List ℕ). p i (getD v i 0)) (set-out ws k x (omega arith)) ∙ old
+    go i b old (no n) d = ap (p i) (getD-set-other ws k i x 0 n) ∙ old
 
 -- ---- clean arrays
 
@@ -92,7 +97,7 @@ clean-bit m n ws all h l b =
     (clean-lt (restAt n (h / 32)) (getD ws (h / 32) 0) (all-at m (λ k. clean (restAt n k) (getD ws k 0)) all (h / 32) (omega arith))) (omega arith)
 
 -- a word put into a clean array, clean itself
-pub clean-put : (m n : ℕ) (ws : List ℕ) (k x : ℕ) → cleanBelow m n ws ≡ true → clean (restAt n k) x ≡ true → cleanBelow m n (set ws k x) ≡ true
+pub clean-put : (m n : ℕ) (ws : List ℕ) (k x : ℕ) → cleanBelow m n ws ≡ true → (k < m → clean (restAt n k) x ≡ true) → cleanBelow m n (set ws k x) ≡ true
 unfolding cleanBelow
 clean-put m n ws k x all new = all-put (λ j w. clean (restAt n j) w) m ws k x all new
 
@@ -115,16 +120,16 @@ clean-withBit n w j t p q =
     bits-clean 32 n (withBit w j t) (withBit-lt w j t)
     (λ k l m. bit-withBit w j t k m ∙ sym (pick-false t (ne-eqb k j (λ e. omega arith))) ∙ bit-past n w k (clean-lt n w p) l)
 
--- the word of a clean array, in reach or past the end
+-- a word of a clean array
 pub clean-word : (m n : ℕ) (ws : List ℕ) (k : ℕ) → k < m → cleanBelow m n ws ≡ true → clean (restAt n k) (getD ws k 0) ≡ true
 unfolding cleanBelow
 clean-word m n ws k l all = all-at m (λ j. clean (restAt n j) (getD ws j 0)) all k l
 
-pub clean-withBitAt : (m n : ℕ) (ws : List ℕ) (v : ℕ) (t : Bool) → v < n → n ≤ 32 * m → cleanBelow m n ws ≡ true → cleanBelow m n (withBitAt ws v t) ≡ true
+pub clean-withBitAt : (m n : ℕ) (ws : List ℕ) (v : ℕ) (t : Bool) → v < n → cleanBelow m n ws ≡ true → cleanBelow m n (withBitAt ws v t) ≡ true
 unfolding withBitAt
-clean-withBitAt m n ws v t l b all =
+clean-withBitAt m n ws v t l all =
     clean-put m n ws (v / 32) (withBit (getD ws (v / 32) 0) (v % 32) t) all
-    (clean-withBit (restAt n (v / 32)) (getD ws (v / 32) 0) (v % 32) t (clean-word m n ws (v / 32) (omega arith) all) (omega arith))
+    (λ k. clean-withBit (restAt n (v / 32)) (getD ws (v / 32) 0) (v % 32) t (clean-word m n ws (v / 32) k all) (omega arith))
 
 -- ---- the bytes of a word
 
