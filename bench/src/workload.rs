@@ -1,4 +1,4 @@
-//! The traces that are timed: for each controller a small and a full one, with as many steps as wanted and none refused.
+//! The traces that are timed: for each controller a small and a full one, of any number of steps, none refused.
 
 use crate::generate::Script;
 use crate::random::Random;

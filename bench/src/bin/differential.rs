@@ -193,13 +193,12 @@ fn differential(generator: &Generator, way: Way, options: &Options) -> ExitCode 
     let summary = compare(cases, |case| other.list(case));
     let seconds = begin.elapsed().as_secs_f64();
     say!(
-        "seed {}: {} traces compared (the first {} cases are sweeps), {} steps, {} bytes of listing, {seconds:.1} s; {} differ",
+        "seed {}: {} traces compared, {} differ; {} steps, {} bytes of listing, {seconds:.1} s",
         options.seed,
         summary.compared,
-        generator.sweeps(),
+        summary.differ,
         summary.coverage.steps(),
         summary.listing_bytes,
-        summary.differ,
     );
     if summary.failed == MOST_FAILURES {
         say!("stopped after {MOST_FAILURES} failures");
