@@ -93,7 +93,7 @@ pub fn first_difference(expected: &[u8], other: &[u8]) -> Option<Difference> {
     })
 }
 
-/// A smaller case that still differs, found by leaving out steps, many at a time and then few, as long as there is time.
+/// A smaller case that still differs, found by leaving out steps, many at a time and then few, while there is time.
 pub fn shrink(case: &Case, time: Duration, mut differs: impl FnMut(&Case) -> bool) -> Case {
     let begin = Instant::now();
     let mut smallest = case.clone();

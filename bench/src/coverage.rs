@@ -1,4 +1,4 @@
-//! What the compared traces have reached, counted from the model's own run; a listed item that was not reached is a gap.
+//! What the compared traces have reached, counted from the model's own run; a listed item not reached is a gap.
 
 mod aic;
 mod cic;

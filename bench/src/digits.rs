@@ -1,4 +1,4 @@
-//! The listing once more, with its digits made by hand: for the clock only, since the standard formatting takes most of the time.
+//! The listing once more, with its digits made by hand: for the clock only, where standard formatting weighs most.
 
 use crate::model::{Answer, Machine, Step};
 use crate::trace::{Observer, Report};

@@ -1,4 +1,4 @@
-//! The house trace: numbers, configurations and steps read from bytes, and the player that carries them out (01, house trace).
+//! The house trace: numbers, configurations and steps read from bytes, and their player (01, house trace).
 
 use crate::model::aic::Aic;
 use crate::model::cic::Cic;

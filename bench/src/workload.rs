@@ -1,4 +1,4 @@
-//! The traces that are timed: for each controller a small and a full one, with as many steps as wanted and none refused.
+//! The traces that are timed: for each controller a small and a full one, of any number of steps, none refused.
 
 use crate::generate::Script;
 use crate::random::Random;
@@ -118,7 +118,8 @@ fn core_step(random: &mut Random, script: &mut Script, at: u32, fiqs: u32, irqs:
     }
 }
 
-/// System n drives channel n and channel n drives host n, modulo how many there are; everything is enabled.
+/// System n drives channel n and channel n drives host n, modulo how many there are; everything is enabled, and every
+/// other system is set, so that steps cost the same from the first to the last.
 fn cic(systems: u32, channels: u32, hosts: u32) -> (Script, u32) {
     let mut script = Script::new(2, &[systems, channels, hosts, 0x4E82_0000]);
     let mut steps = 0;
@@ -130,9 +131,14 @@ fn cic(systems: u32, channels: u32, hosts: u32) -> (Script, u32) {
             steps += 1;
         }
     }
-    for (base, bits) in [(0x300, systems), (0x1500, hosts)] {
+    let words = [
+        (0x200, systems, 0x5555_5555),
+        (0x300, systems, u32::MAX),
+        (0x1500, hosts, u32::MAX),
+    ];
+    for (base, bits, value) in words {
         for word in 0..bits.div_ceil(32) {
-            script.write(base + 4 * word, u32::MAX);
+            script.write(base + 4 * word, value);
             steps += 1;
         }
     }
@@ -140,7 +146,7 @@ fn cic(systems: u32, channels: u32, hosts: u32) -> (Script, u32) {
     (script, steps + 1)
 }
 
-/// Lines move, single systems are set and cleared (about half of all are set before long), and registers are read.
+/// Lines move, single systems are set and cleared (about half of all stay set), and registers are read.
 fn cic_step(random: &mut Random, script: &mut Script, at: u32, systems: u32) {
     match at % 6 {
         0 => script.line(random.below(systems), random.below(2)),

@@ -1,4 +1,4 @@
-//! The model against the worked cases of document 01 and against the points where the documents can be read in two ways.
+//! The model against the worked cases of document 01, and against the points that can be read in two ways.
 
 use bench::model::aic::Aic;
 use bench::model::cic::Cic;

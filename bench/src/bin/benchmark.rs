@@ -22,6 +22,10 @@ library gets ample room; the model's vectors have grown to their size before the
 before the clock starts.
 ";
 
+const HEAD: &str = "\
+| controller | size | steps | trace bytes | listing bytes | proved | model | ratio | std text | play alone |
+|---|---|--:|--:|--:|--:|--:|--:|--:|--:|";
+
 /// How often each workload is timed, unless said otherwise.
 const ROUNDS: usize = 31;
 
@@ -32,8 +36,7 @@ fn main() {
     };
     println!("Build: {}; {rounds} rounds.\n", build());
     println!("{NOTES}");
-    println!("| controller | size | steps | trace bytes | listing bytes | proved | model | ratio | std text | play alone |");
-    println!("|---|---|--:|--:|--:|--:|--:|--:|--:|--:|");
+    println!("{HEAD}");
     for steps in [2_000, PROGRAM_LIMIT] {
         for workload in workloads(steps) {
             println!("{}", row(&workload, &measure(&workload, rounds)));

@@ -33,6 +33,13 @@ differential --trace N [--seed N]
 Ends with 0 if nothing differs and all listed items were reached, else with 1, and with 2 if it was not asked properly.
 ";
 
+/// Prints a line. A reader that has gone away wants no more, and the exit status still tells.
+macro_rules! say {
+    ($($text:tt)*) => {{
+        let _ = writeln!(io::stdout(), $($text)*);
+    }};
+}
+
 /// How long a smaller case is looked for when a case differs.
 const SHRINK_TIME: Duration = Duration::from_secs(10);
 
@@ -185,17 +192,16 @@ fn differential(generator: &Generator, way: Way, options: &Options) -> ExitCode 
     let cases = numbers.map(|number| (number, way.adapt(generator.case(number))));
     let summary = compare(cases, |case| other.list(case));
     let seconds = begin.elapsed().as_secs_f64();
-    println!(
-        "seed {}: {} traces compared (the first {} cases are sweeps), {} steps, {} bytes of listing, {seconds:.1} s; {} differ",
+    say!(
+        "seed {}: {} traces compared, {} differ; {} steps, {} bytes of listing, {seconds:.1} s",
         options.seed,
         summary.compared,
-        generator.sweeps(),
+        summary.differ,
         summary.coverage.steps(),
         summary.listing_bytes,
-        summary.differ,
     );
     if summary.failed == MOST_FAILURES {
-        println!("stopped after {MOST_FAILURES} failures");
+        say!("stopped after {MOST_FAILURES} failures");
     }
     report_difference(&summary, &mut other);
     let judged = options.first == 0 && summary.failed < MOST_FAILURES;
@@ -212,11 +218,11 @@ fn report_difference(summary: &Summary, other: &mut Other) {
     let Some((number, case)) = &summary.first else {
         return;
     };
-    println!("case {number} differs:");
+    say!("case {number} differs:");
     describe(case, other);
     let smaller = shrink(case, SHRINK_TIME, |case| other.differs(case));
     if smaller.trace.len() < case.trace.len() {
-        println!("a smaller one that differs:");
+        say!("a smaller one that differs:");
         describe(&smaller, other);
     }
 }
@@ -227,22 +233,22 @@ fn describe(case: &Case, other: &mut Other) {
         true => " ... (--trace N writes all)",
         false => "",
     };
-    println!(
+    say!(
         "  {}, {} bytes, limit {}, room {:?}",
         case.name,
         case.trace.len(),
         case.limit,
         case.room
     );
-    println!("  trace: {}{more}", hex::print(shown));
+    say!("  trace: {}{more}", hex::print(shown));
     match other.list(case) {
-        Err(error) => println!("  other: {error}"),
+        Err(error) => say!("  other: {error}"),
         Ok(listing) => match first_difference(&expected(case), &listing) {
-            None => println!("  the second time it does not differ"),
+            None => say!("  the second time it does not differ"),
             Some(difference) => {
-                println!("  line {}", difference.line);
-                println!("  model: {}", difference.expected);
-                println!("  other: {}", difference.other);
+                say!("  line {}", difference.line);
+                say!("  model: {}", difference.expected);
+                say!("  other: {}", difference.other);
             }
         },
     }
@@ -252,7 +258,7 @@ fn describe(case: &Case, other: &mut Other) {
 fn report_coverage(coverage: &Coverage, judged: bool, whole_table: bool) -> usize {
     let table = coverage.table();
     let gaps = coverage.gaps();
-    println!(
+    say!(
         "coverage: {} of {} listed items reached{}",
         table.len() - gaps.len(),
         table.len(),
@@ -260,12 +266,12 @@ fn report_coverage(coverage: &Coverage, judged: bool, whole_table: bool) -> usiz
     );
     if judged {
         for gap in &gaps {
-            println!("  not reached: {gap:?}");
+            say!("  not reached: {gap:?}");
         }
     }
     if whole_table {
         for (count, item) in &table {
-            println!("  {count:>10}  {item:?}");
+            say!("  {count:>10}  {item:?}");
         }
     }
     gaps.len()

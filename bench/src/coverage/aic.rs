@@ -1,4 +1,4 @@
-//! What is to be reached on the AIC: every register in every permitted and refused way, and the situations of its rules.
+//! What is to be reached on the AIC: every register in every permitted and refused way, and what its rules tell apart.
 
 use super::{Coverage, Item, Outcome, Way};
 use crate::model::aic::{Aic, Register, Source, SOURCES};

@@ -4,7 +4,7 @@ use super::{Coverage, Item, Outcome, Spot, Way};
 use crate::model::cic::{Cic, Register};
 use crate::model::{Answer, Controller, Refusal, Step};
 
-/// The word of lines, statuses and enables that a step is about, as they were before it, and the number of asserted hosts.
+/// The word of lines, statuses and enables that a step is about, as it was before, and the number of asserted hosts.
 #[derive(Default)]
 pub struct Before {
     line: u32,

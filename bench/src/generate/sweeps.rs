@@ -76,7 +76,7 @@ fn every_offset(mut script: Script, offsets: std::ops::Range<u32>) -> Script {
     script
 }
 
-/// Offsets that would name a register if high bits were dropped, or if the map stood at its usual address (003, 27.8.1).
+/// Offsets that would name a register if high bits were dropped, or at the address that 003, 27.8.1 has for the map.
 fn far_offsets(mut script: Script) -> Script {
     for base in [0x1000, 0x2000, 0x1_0000, 0x8000_0000, 0xFFFF_F000] {
         for offset in [0x000, 0x008, 0x010, 0x020, 0x100, 0x120] {

@@ -188,7 +188,7 @@ pub struct Aic {
 }
 
 impl Aic {
-    /// The controller after reset: bit n of each word is for source n; a first level is no edge (01, AIC, configuration).
+    /// The controller after reset: bit n of a word is for source n; a first level is no edge (01, AIC, configuration).
     pub fn new(external: u32, levels: u32) -> Aic {
         let sources = std::array::from_fn(|n| Source {
             external: bit(external, n),

@@ -1,4 +1,4 @@
-//! The three controllers of document 01 as plain state, and what they have in common: steps, refusals, the order of checks.
+//! The three controllers of document 01 as plain state, and what they share: steps, refusals, the order of checks.
 
 pub mod aic;
 pub mod cic;
