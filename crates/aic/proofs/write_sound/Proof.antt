@@ -1,5 +1,5 @@
 use Rattle.aic_record.specs.declared.Aic.{Aic}
-use Rattle.aic.specs.Handlers.{answered}
+use Rattle.aic_registers.specs.Handlers.{answered}
 use Rattle.aic.specs.Model.{write}
 use Rattle.aic.proofs.CallLaws.{done, stopped, write-number}
 use mathlib.Core.Path.{sym, ap, ap₂, _∙_}
