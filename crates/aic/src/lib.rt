@@ -98,7 +98,8 @@ pub fn step_sound(s: Aic, x: Step) -> Answer
     }
 }
 
-fn outputs_sound(s: Aic) -> Signals
+// The two outputs and how many handlers are open, for callers that know the record to be sound.
+pub fn outputs_sound(s: Aic) -> Signals
     requires { ⌜ sound s ≡ true ⌝ }
     ensures { λ r. ⌜ r ≡ outputs s ⌝ }
 {
