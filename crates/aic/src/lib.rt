@@ -98,7 +98,7 @@ pub fn step_sound(s: Aic, x: Step) -> Answer
     }
 }
 
-// The outputs, for callers that know the record to be sound.
+// The two outputs and how many handlers are open, for callers that know the record to be sound.
 pub fn outputs_sound(s: Aic) -> Signals
     requires { ⌜ sound s ≡ true ⌝ }
     ensures { λ r. ⌜ r ≡ outputs s ⌝ }

@@ -182,6 +182,17 @@ pub fn level_at(s: Aic, i: u32) -> u8
     s.level[at]
 }
 
+// The least priority that may start a handler: 0, or one above the level of the last open one.
+pub fn floor_of(s: Aic) -> u32
+    ensures { λ r. ⌜ r ≡ floorAt (s .level) (s .depth) ⌝ }
+{
+    let depth = s.depth;
+    if depth == 0 {
+        return 0;
+    }
+    level_at(s, depth - 1) as u32 + 1
+}
+
 // ---- the fields of a mode
 
 // Bits 2:0, the priority.
@@ -271,15 +282,4 @@ pub fn is_sound(s: Aic) -> bool
         & modes_sound(&s.mode, s.memory)
         & ((mask == 0) | (mask == 2))
         & !words::has(s.forced, 0)
-}
-
-// The least priority that may start a handler: 0, or one above the level of the last open one.
-pub fn floor_of(s: Aic) -> u32
-    ensures { λ r. ⌜ r ≡ floorAt (s .level) (s .depth) ⌝ }
-{
-    let depth = s.depth;
-    if depth == 0 {
-        return 0;
-    }
-    level_at(s, depth - 1) as u32 + 1
 }

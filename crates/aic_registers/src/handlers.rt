@@ -58,11 +58,11 @@ fn start_at(s: Aic, k: u32, level: u32) -> Aic
 pub(crate) fn end_last(s: Aic) -> Aic
     ensures { λ r. ⌜ r ≡ ended s ⌝ }
 {
-    let depth = s.depth;
-    if depth == 0 {
+    let handlers = s.depth;
+    if handlers == 0 {
         return s;
     }
-    aic_record::put_handler(s, depth - 1, 0, 0, depth - 1)
+    aic_record::put_handler(s, handlers - 1, 0, 0, handlers - 1)
 }
 
 // Source k starts at the priority that it has now, and its vector is answered.

@@ -23,7 +23,7 @@ pub chosen-from : (s : Aic) (f a w l r : ℕ) → f ≡ wordOf 32 (fast s) → a
     → Found w (s .mode) l 32 r → r ≡ chosen s
 unfolding Sees
 chosen-from s f a w l r e g h i found =
-    chosen-by s w (λ k m. waits-are s w k (h ∙ ap₂ without g e) m) r (rw i at found)
+    chosen-by s w r (λ k m. waits-are s w k (h ∙ ap₂ without g e) m) (rw i at found)
 
 pub irq-from : (s : Aic) (h : Bool) (r : ℕ) → h ≡ bit (s .mask) 1 → r ≡ chosen s → (not h && ltb r 32) ≡ irq s
 unfolding irq masked
