@@ -71,6 +71,14 @@ lines-zero c s level = pick-cases (λ (a : Answer). a .value ≡ 0) (eqb (lineRe
 
 -- ---- lines
 
+rises : (c : Cic) (s : System) → bitAt (c .lines) (s .0) ≡ false → moved c s true .status ≡ withBitAt (c .status) (s .0) true
+unfolding moved
+rises c s e = ap (λ (d : Cic). d .status) (sym (pick-true (withLines c (withBitAt (c .lines) (s .0) true)) (ap not e)))
+
+keeps-level : (c : Cic) (s : System) (high : Bool) → moved c s high .lines ≡ withBitAt (c .lines) (s .0) high
+unfolding moved
+keeps-level c s high = pick-cases (λ (d : Cic). d .lines ≡ withBitAt (c .lines) (s .0) high) (high && not (bitAt (c .lines) (s .0))) (λ _. refl) (λ _. refl)
+
 falls : (c : Cic) (s : System) → moved c s false .status ≡ c .status
 unfolding moved
 falls c s = ap (λ (d : Cic). d .status) (sym (pick-false {b = withLines c (withBitAt (c .lines) (s .0) false)} (withLines (withStatus c (withBitAt (c .status) (s .0) true)) (withBitAt (c .lines) (s .0) false)) refl))
@@ -126,6 +134,8 @@ kept =
       lines = lines;
       writesZero = writes-zero;
       linesZero = lines-zero;
+      rises = rises;
+      keepsLevel = keeps-level;
       falls = falls;
       staysHigh = stays-high;
       same = λ c s a b p q. p ∙ sym q;
