@@ -26,7 +26,7 @@ use Rattle.aic_registers.specs.Effects.{moded, vectored, enabledBy, disabledBy,
 use Rattle.aic_registers.specs.Registers.{outputBits, stored, readAt, writtenAt}
 use Rattle.aic.specs.Model.{readNumber, writeNumber, read, write}
 use Rattle.aic.specs.Tables.{Sets, MapTable, Reads, Writes}
-use Rattle.aic.proofs.MoreLaws.{both-alone, bit-cleared}
+use Rattle.words.proofs.WordLaws.{both-alone, bit-cleared}
 
 module _ (s : Aic) (ok : sound s ≡ true) where
   -- ---- writes

@@ -30,7 +30,7 @@ use Rattle.aic_registers.specs.Effects.{moded, turns, moved}
 use Rattle.aic_registers.specs.Registers.{readAt}
 use Rattle.aic.specs.Model.{readNumber, lineNumber, read, line}
 use Rattle.aic.specs.Tables.{Sets}
-use Rattle.aic.proofs.MoreLaws.{bit-cleared-if, bit-put-if}
+use Rattle.words.proofs.WordLaws.{bit-cleared-if, bit-put-if}
 
 -- ---- the record after each, with one memory cleared or set where a test holds
 

@@ -33,7 +33,7 @@ use Rattle.aic_registers.specs.Handlers.{startedAt, closedLast, ended, ivrRead,
 use Rattle.aic_registers.specs.Effects.{moded, vectored, enabledBy, disabledBy, setBy, clearedBy, maskedBy, forcedBy, unforcedBy, moved}
 use Rattle.aic_registers.specs.Registers.{readAt, writtenAt}
 use Rattle.aic.specs.Model.{readNumber, writeNumber, lineNumber, read, write, line, step}
-use Rattle.aic.proofs.MoreLaws.{both-alone, bit-cleared-if}
+use Rattle.words.proofs.WordLaws.{both-alone, bit-cleared-if}
 use Rattle.aic.proofs.HandlerLaws.{fast-spent-is}
 
 -- why a step starts nothing, closes nothing, is no set command and moves no line

@@ -24,7 +24,7 @@ use Rattle.aic_registers.specs.Effects.{moded, vectored, enabledBy, disabledBy,
 use Rattle.aic_registers.specs.Registers.{stored, readAt, writtenAt}
 use Rattle.aic.specs.Model.{readNumber, writeNumber, lineNumber, read, write, line, step}
 use Rattle.aic.specs.Promises.{MaskFree}
-use Rattle.aic.proofs.MoreLaws.{pick-through, pick-past}
+use Rattle.words.proofs.ChoiceLaws.{pick-through, pick-past}
 use Rattle.aic.proofs.HandlerLaws.{started-is, fast-spent-is, moded-is, moved-is}
 
 -- an answer whose record has another mask

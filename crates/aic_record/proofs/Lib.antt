@@ -1,5 +1,4 @@
 -- Laws and theorems about the AT91 controller's record.
-pub mod MoreLaws
 pub mod PassLaws
 pub mod PlaceLaws
 pub mod Promises

@@ -17,7 +17,7 @@ use Rattle.aic_record.specs.declared.Aic.{Aic}
 use Rattle.aic_record.specs.Mode.{modeAt, keptMode, edge, edgeOf}
 use Rattle.aic_record.specs.Passes.{floorAt, placeSound, modeSound}
 use Rattle.aic_record.specs.Sound.{sourceAt, levelAt, handlerSound, freeSound, handlersSound, memorySound, storedSound, sound}
-use Rattle.aic_record.proofs.MoreLaws.{all-and}
+use Rattle.words.proofs.CountingLaws.{all-and}
 
 -- before the first place any level may stand
 pub floor-none : (level : List ℕ) → _≡_ {A = ℕ} 0 (floorAt level 0)

@@ -26,7 +26,7 @@ use Rattle.aic_registers.specs.Map.{ivr, iscr, eoicr, ffer, ffdr}
 use Rattle.aic_registers.specs.Handlers.{startedAt, closedLast}
 use Rattle.aic_registers.specs.Effects.{moded, setBy, turns, moved}
 use Rattle.aic.specs.Model.{step}
-use Rattle.aic.proofs.MoreLaws.{bit-cleared-if, bit-put-if}
+use Rattle.words.proofs.WordLaws.{bit-cleared-if, bit-put-if}
 use Rattle.aic.proofs.HandlerLaws.{started-is, moved-is}
 use Rattle.aic.proofs.KindsLaws.{kinds}
 use Rattle.aic_runs.specs.Counted.{starts, startedBy, startsOf, closes, edges, commands, rewrites}
