@@ -1,0 +1,3 @@
+-- Registers of map bytes.
+pub mod Maps
+pub mod Promises

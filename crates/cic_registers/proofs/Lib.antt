@@ -1,0 +1,3 @@
+-- The laws of the registers, and the proof of what is promised of them.
+pub mod Promises
+pub mod WrittenLaws

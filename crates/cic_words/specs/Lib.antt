@@ -1,0 +1,3 @@
+-- Registers of bits.
+pub mod Bits
+pub mod Promises
