@@ -3,7 +3,6 @@ ghost use mathlib.Core.Path.{_≡_};
 ghost use mathlib.Core.Bool.{not, _&&_, _||_};
 ghost use lib.Dec.{eqb, leb};
 ghost use lib.ListN.{getD, set};
-ghost use Prim.Native.Nat.{_-_, _<_};
 ghost use Rattle.words.specs.Choice.{pick};
 ghost use Rattle.words.specs.Counting.{allBelow};
 ghost use Rattle.aic_record.specs.Mode.{priorityOf, typeOf, keptMode, edgeOf, modeAt};
