@@ -1,6 +1,6 @@
 // The AT91 controller: its register map, its vector reads, its line steps and its outputs.
 ghost use mathlib.Core.Path.{_≡_};
-ghost use mathlib.Core.Bool.{Bool, true};
+ghost use mathlib.Core.Bool.{true};
 ghost use Rattle.aic_record.specs.Sound.{sound};
 ghost use Rattle.aic.specs.Model.{within, start, read, write, line, step, outputs};
 use aic_record::Aic;

@@ -1,12 +1,10 @@
 // The AT91 controller's record: its registers, its line levels, its edge memories and its open handlers.
 ghost use mathlib.Core.Path.{_≡_};
-ghost use mathlib.Core.Bool.{Bool, not, _&&_, _||_};
-ghost use lib.Dec.{eqb, ltb, leb};
+ghost use mathlib.Core.Bool.{not, _&&_, _||_};
+ghost use lib.Dec.{eqb, leb};
 ghost use lib.ListN.{getD, set};
-ghost use Prim.Native.Nat.{ℕ, _-_, _<_};
 ghost use Rattle.words.specs.Choice.{pick};
 ghost use Rattle.words.specs.Counting.{allBelow};
-ghost use Rattle.words.specs.Word.{bit};
 ghost use Rattle.aic_record.specs.Mode.{priorityOf, typeOf, keptMode, edgeOf, modeAt};
 ghost use Rattle.aic_record.specs.Record.{withLines, withEnabled, withMemory, withForced, withSpurious, withMask, withMode, withVector, withHandlers};
 ghost use Rattle.aic_record.specs.Record.{reset};

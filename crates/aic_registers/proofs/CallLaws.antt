@@ -2,21 +2,20 @@
 use mathlib.Core.Path.{_≡_, refl, sym, ap, ap₂, _∙_}
 use mathlib.Core.Bool.{Bool, true, false, not, _&&_}
 use mathlib.Core.List.{List}
-use Prim.Native.Nat.{ℕ, _+_, _-_, _*_, _≤_, _<_}
-use native.Mathlib.Omega.{arith}
+use Prim.Native.Nat.{ℕ, _+_, _*_, _≤_, _<_}
 use borrow.Author.Tests.{lt-ltb, le-ltb}
 use lib.Dec.{eqb, ltb}
 use lib.ListN.{set}
 use Rattle.words.specs.Choice.{pick}
 use Rattle.words.specs.Counting.{one}
 use Rattle.words.specs.Word.{bit, either, both, without, withBit}
-use Rattle.words.proofs.ChoiceLaws.{pick-true, pick-false, pick-ap}
+use Rattle.words.proofs.ChoiceLaws.{pick-true, pick-false}
 use Rattle.aic_record.specs.declared.Aic.{Aic}
 use Rattle.aic_record.specs.Record.{withLines, withMemory, withForced, withMode, withHandlers}
 use Rattle.aic_record.specs.Mode.{priorityOf, typeOf, keptMode, edgeOf, modeAt, priority, kind, edge}
 use Rattle.aic_sources.specs.Pending.{activeAt, active, edgeWord}
 use Rattle.aic_sources.specs.Fast.{fiq}
-use Rattle.aic_sources.specs.Normal.{candidates, chosen, irq}
+use Rattle.aic_sources.specs.Normal.{chosen, irq}
 use Rattle.aic_sources.proofs.SearchLaws.{chosen-some}
 use Rattle.aic_registers.specs.Handlers.{answered, forgotten, spent, opened, startedAt, vectorAt, ivrRead}
 use Rattle.aic_registers.specs.Effects.{moded, setBy, clearedBy, forcedBy, turns, moved}

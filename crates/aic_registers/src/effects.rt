@@ -1,6 +1,6 @@
 // What writes and line steps do to the record.
 ghost use mathlib.Core.Path.{_≡_};
-ghost use mathlib.Core.Bool.{Bool, true, _&&_};
+ghost use mathlib.Core.Bool.{true, _&&_};
 ghost use lib.Dec.{eqb};
 ghost use Rattle.words.specs.Choice.{pick};
 ghost use Rattle.words.specs.Word.{withBit};

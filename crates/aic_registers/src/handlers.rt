@@ -1,6 +1,6 @@
 // Starting and closing handlers, and the two vector reads.
 ghost use mathlib.Core.Path.{_≡_};
-ghost use Prim.Native.Nat.{ℕ, _≤_, _<_};
+ghost use Prim.Native.Nat.{_≤_, _<_};
 ghost use Rattle.aic_record.specs.Mode.{priority};
 ghost use Rattle.aic_registers.specs.Handlers.{answered, refused, forgotten, spent, startedAt, ended, vectorAt, ivrRead, fastSpent, fvrRead, current};
 use super::Answer;

@@ -1,6 +1,6 @@
 // What a read of each register answers, and what a write of each does, where nothing refuses it.
 ghost use mathlib.Core.Path.{_≡_};
-ghost use Prim.Native.Nat.{ℕ, _≤_};
+ghost use Prim.Native.Nat.{_≤_};
 ghost use Rattle.words.specs.Counting.{one};
 ghost use Rattle.aic_registers.specs.Registers.{outputBits, stored, readAt, writtenAt};
 use super::Answer;

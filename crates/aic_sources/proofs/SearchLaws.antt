@@ -18,7 +18,7 @@ use Rattle.aic_record.specs.Mode.{priorityOf, priority, modeAt}
 use Rattle.aic_record.specs.Passes.{floorAt}
 use Rattle.aic_record.proofs.PassLaws.{floor-rule}
 use Rattle.aic_sources.specs.Normal.{waiting, above, candidate, candidates, chosen}
-use Rattle.aic_sources.specs.Search.{rank, mayStart, Nobody, Leader, Found}
+use Rattle.aic_sources.specs.Search.{rank, mayStart, Leader, Found}
 use Rattle.aic_sources.proofs.OrderLaws.{Foremost, lt-ahead, chosen-is, chosen-one, chosen-none}
 
 -- a number below n + 1 is n or below it

@@ -1,5 +1,5 @@
 -- The two sides and the two outputs, from the words of the sources.
-use mathlib.Core.Path.{_≡_, refl, sym, ap, ap₂, _∙_}
+use mathlib.Core.Path.{_≡_, ap, ap₂, _∙_}
 use mathlib.Core.Bool.{Bool, not, _&&_}
 use Prim.Native.Nat.{ℕ}
 use lib.Dec.{eqb, ltb}
@@ -8,7 +8,7 @@ use Rattle.aic_record.specs.declared.Aic.{Aic}
 use Rattle.aic_record.specs.Passes.{floorAt}
 use Rattle.aic_sources.specs.Pending.{asking, pendingWord}
 use Rattle.aic_sources.specs.Fast.{fast, fastAsks, masked, fiq}
-use Rattle.aic_sources.specs.Normal.{candidates, chosen, irq}
+use Rattle.aic_sources.specs.Normal.{chosen, irq}
 use Rattle.aic_sources.specs.Search.{Found}
 use Rattle.aic_sources.proofs.PendingLaws.{asking-by, fast-asks-by, waits-are}
 use Rattle.aic_sources.proofs.SearchLaws.{Sees, chosen-by, chosen-some}

@@ -1,6 +1,6 @@
 use Rattle.aic.specs.Model.{read}
 use Rattle.aic.proofs.CallLaws.{done, stopped, read-number}
-use mathlib.Core.Path.{sym, ap, ap₂, _∙_}
+use mathlib.Core.Path.{_∙_}
 use Rattle.aic_record.proofs.SoundLaws.{sound-is}
 use borrow.Author.Needs.{needs}
 use Rattle.aic.proofs.read_sound.Statement.{statement}

@@ -1,5 +1,5 @@
 use Rattle.aic_registers.proofs.CallLaws.{moved-by}
-use mathlib.Core.Path.{sym, ap, ap₂, _∙_}
+use mathlib.Core.Path.{_∙_}
 use borrow.Author.Needs.{needs}
 use Rattle.aic_registers.proofs.effects.move_line.Statement.{statement}
 use Rattle.aic_registers.proofs.effects.move_line.Tie as tie

@@ -1,8 +1,8 @@
 use mathlib.Core.Bool.{_&&_}
 use Rattle.aic_registers.proofs.CallLaws.{edge-from}
-use Rattle.words.proofs.ChoiceLaws.{pick-true, pick-false, by-true, by-false}
-use Rattle.aic_record.specs.Record.{withMemory, withEnabled, withForced, withMask}
-use mathlib.Core.Path.{sym, ap, ap₂, _∙_}
+use Rattle.words.proofs.ChoiceLaws.{by-true, by-false}
+use Rattle.aic_record.specs.Record.{withMemory}
+use mathlib.Core.Path.{ap, ap₂, _∙_}
 use borrow.Author.Needs.{needs}
 use Rattle.aic_registers.proofs.effects.remember.Statement.{statement}
 use Rattle.aic_registers.proofs.effects.remember.Tie as tie

@@ -1,5 +1,5 @@
-use Rattle.aic_record.specs.Record.{withMemory, withEnabled, withForced, withMask}
-use mathlib.Core.Path.{sym, ap, ap₂, _∙_}
+use Rattle.aic_record.specs.Record.{withMemory}
+use mathlib.Core.Path.{ap, _∙_}
 use borrow.Author.Needs.{needs}
 use Rattle.aic_registers.proofs.handlers.forget.Statement.{statement}
 use Rattle.aic_registers.proofs.handlers.forget.Tie as tie

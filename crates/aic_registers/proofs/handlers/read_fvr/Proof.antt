@@ -1,6 +1,6 @@
 use Rattle.aic_registers.specs.Handlers.{fvrRead, answered}
-use Rattle.words.proofs.ChoiceLaws.{pick-true, pick-false, by-true, by-false}
-use mathlib.Core.Path.{sym, ap, ap₂, _∙_}
+use Rattle.words.proofs.ChoiceLaws.{by-true, by-false}
+use mathlib.Core.Path.{ap₂, _∙_}
 use borrow.Author.Needs.{needs}
 use Rattle.aic_registers.proofs.handlers.read_fvr.Statement.{statement}
 use Rattle.aic_registers.proofs.handlers.read_fvr.Tie as tie

@@ -1,5 +1,5 @@
 use Rattle.aic_registers.proofs.CallLaws.{ivr-some, ivr-none}
-use mathlib.Core.Path.{sym, ap, ap₂, _∙_}
+use mathlib.Core.Path.{_∙_}
 use borrow.Author.Needs.{needs}
 use Rattle.aic_registers.proofs.handlers.read_ivr.Statement.{statement}
 use Rattle.aic_registers.proofs.handlers.read_ivr.Tie as tie

@@ -1,7 +1,7 @@
 use Rattle.aic_registers.specs.Handlers.{spent}
 use Rattle.aic_registers.proofs.CallLaws.{edge-from}
-use Rattle.words.proofs.ChoiceLaws.{pick-true, pick-false, by-true, by-false}
-use mathlib.Core.Path.{sym, ap, ap₂, _∙_}
+use Rattle.words.proofs.ChoiceLaws.{by-true, by-false}
+use mathlib.Core.Path.{_∙_}
 use borrow.Author.Needs.{needs}
 use Rattle.aic_registers.proofs.handlers.spend.Statement.{statement}
 use Rattle.aic_registers.proofs.handlers.spend.Tie as tie

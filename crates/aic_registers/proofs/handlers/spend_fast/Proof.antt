@@ -1,7 +1,7 @@
 use Rattle.aic_registers.specs.Handlers.{fastSpent}
-use borrow.Author.Tests.{eq-eqb, ne-eqb, lt-ltb, le-ltb, le-leb, lt-leb, not-true, not-false}
-use Rattle.words.proofs.ChoiceLaws.{pick-true, pick-false, by-true, by-false}
-use mathlib.Core.Path.{sym, ap, ap₂, _∙_}
+use borrow.Author.Tests.{eq-eqb, ne-eqb}
+use Rattle.words.proofs.ChoiceLaws.{pick-true, pick-false}
+use mathlib.Core.Path.{_∙_}
 use borrow.Author.Needs.{needs}
 use Rattle.aic_registers.proofs.handlers.spend_fast.Statement.{statement}
 use Rattle.aic_registers.proofs.handlers.spend_fast.Tie as tie

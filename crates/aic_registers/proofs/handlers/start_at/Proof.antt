@@ -1,5 +1,5 @@
 use Rattle.aic_registers.proofs.CallLaws.{started-by}
-use mathlib.Core.Path.{sym, ap, ap₂, _∙_}
+use mathlib.Core.Path.{_∙_}
 use borrow.Author.Needs.{needs}
 use Rattle.aic_registers.proofs.handlers.start_at.Statement.{statement}
 use Rattle.aic_registers.proofs.handlers.start_at.Tie as tie

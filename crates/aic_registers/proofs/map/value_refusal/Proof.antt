@@ -1,8 +1,8 @@
 use lib.Dec.{eqb}
 use mathlib.Core.Bool.{Bool, _&&_}
 use Rattle.aic_registers.specs.Map.{valueRefusal, dcr}
-use Rattle.words.proofs.ChoiceLaws.{pick-true, pick-false, by-true, by-false}
-use mathlib.Core.Path.{sym, ap, ap₂, _∙_}
+use Rattle.words.proofs.ChoiceLaws.{by-true, by-false}
+use mathlib.Core.Path.{ap}
 use borrow.Author.Needs.{needs}
 use Rattle.aic_registers.proofs.map.value_refusal.Statement.{statement}
 use Rattle.aic_registers.proofs.map.value_refusal.Tie as tie

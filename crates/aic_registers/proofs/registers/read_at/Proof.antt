@@ -1,9 +1,9 @@
 use Rattle.words.specs.Choice.{pick}
 use Rattle.aic_registers.specs.Handlers.{answered}
 use Rattle.aic_registers.specs.Registers.{readAt}
-use borrow.Author.Tests.{eq-eqb, ne-eqb, lt-ltb, le-ltb, le-leb, lt-leb, not-true, not-false}
-use Rattle.words.proofs.ChoiceLaws.{pick-true, pick-false, by-true, by-false}
-use mathlib.Core.Path.{sym, ap, ap₂, _∙_}
+use borrow.Author.Tests.{ne-eqb}
+use Rattle.words.proofs.ChoiceLaws.{pick-false}
+use mathlib.Core.Path.{sym, ap, _∙_}
 use borrow.Author.Needs.{needs}
 use Rattle.aic_registers.proofs.registers.read_at.Statement.{statement}
 use Rattle.aic_registers.proofs.registers.read_at.Tie as tie

@@ -1,8 +1,8 @@
 use Rattle.words.specs.Choice.{pick}
 use Rattle.aic_registers.specs.Registers.{stored}
-use borrow.Author.Tests.{eq-eqb, ne-eqb, lt-ltb, le-ltb, le-leb, lt-leb, not-true, not-false}
-use Rattle.words.proofs.ChoiceLaws.{pick-true, pick-false, by-true, by-false}
-use mathlib.Core.Path.{sym, ap, ap₂, _∙_}
+use borrow.Author.Tests.{ne-eqb, lt-ltb, le-ltb}
+use Rattle.words.proofs.ChoiceLaws.{pick-true, pick-false}
+use mathlib.Core.Path.{sym, ap, _∙_}
 use borrow.Author.Needs.{needs}
 use Rattle.aic_registers.proofs.registers.read_stored.Statement.{statement}
 use Rattle.aic_registers.proofs.registers.read_stored.Tie as tie

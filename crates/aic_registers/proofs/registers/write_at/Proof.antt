@@ -3,9 +3,9 @@ use Rattle.words.specs.Choice.{pick}
 use Rattle.aic_record.specs.Record.{withEnabled, withMask, withForced}
 use Rattle.aic_registers.specs.Effects.{vectored, enabledBy, disabledBy, maskedBy, unforcedBy}
 use Rattle.aic_registers.specs.Registers.{writtenAt}
-use borrow.Author.Tests.{eq-eqb, ne-eqb, lt-ltb, le-ltb, le-leb, lt-leb, not-true, not-false}
-use Rattle.words.proofs.ChoiceLaws.{pick-true, pick-false, by-true, by-false}
-use mathlib.Core.Path.{sym, ap, ap₂, _∙_}
+use borrow.Author.Tests.{ne-eqb, lt-ltb, le-ltb}
+use Rattle.words.proofs.ChoiceLaws.{pick-true, pick-false}
+use mathlib.Core.Path.{sym, ap, _∙_}
 use borrow.Author.Needs.{needs}
 use Rattle.aic_registers.proofs.registers.write_at.Statement.{statement}
 use Rattle.aic_registers.proofs.registers.write_at.Tie as tie
