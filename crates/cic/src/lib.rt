@@ -89,6 +89,7 @@ pub fn asserted(c: Cic, h: Host) -> bool
     cic_hosts::asserted(c, h)
 }
 
+// A step that is refused: its number, the value 0 and the same record.
 fn refuse(c: Cic, n: u32) -> Answer
     ensures { λ r. ⌜ r ≡ refused c n ⌝ }
 {
@@ -99,6 +100,7 @@ fn refuse(c: Cic, n: u32) -> Answer
     }
 }
 
+// A step that is carried out, with its value and the record after it.
 fn carry_out(c: Cic, value: u32) -> Answer
     ensures { λ r. ⌜ r ≡ answered c value ⌝ }
 {

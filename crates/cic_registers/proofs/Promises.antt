@@ -1,15 +1,18 @@
 -- The promises of the registers are kept.
 use mathlib.Core.Path.{_≡_, refl, sym, ap, ap₂, _∙_}
 use mathlib.Core.Bool.{Bool, true, false, _&&_}
+use mathlib.Core.List.{List}
 use mathlib.Core.Logic.{_↔_}
 use Prim.Native.Nat.{ℕ, _+_, _-_, _*_, _/_, _<_, _≤_}
 use native.Mathlib.Decide.{decLt}
 use native.Mathlib.Omega.{arith}
 use borrow.Author.Tests.{lt-ltb, le-ltb}
 use lib.Dec.{eqb, ltb}
-use Rattle.words.specs.Array.{bitAt}
+use lib.ListN.{length}
+use Rattle.words.specs.Array.{bitAt, withBitAt}
 use Rattle.words.specs.Choice.{pick}
 use Rattle.words.specs.Word.{bit}
+use Rattle.words.proofs.ArrayLaws.{bitAt-withBitAt}
 use Rattle.words.proofs.WordLaws.{bit-both}
 use Rattle.steps.specs.declared.Access.{Access}
 use Rattle.steps.specs.declared.Access.the-variants.{NoRegister, ReadOnly, WriteOnly, ReadWrite}
@@ -21,7 +24,7 @@ use Rattle.cic_registers.specs.declared.Register.{Register}
 use Rattle.cic_registers.specs.declared.Register.the-variants.{Nothing, Revision, GlobalEnable, StatusIndexSet, StatusIndexClear, EnableIndexSet, EnableIndexClear, HostIndexSet, HostIndexClear, RawSet, EnabledClear, EnableSet, EnableClear, ChannelMap, HostMap, HostEnable}
 use Rattle.cic_registers.specs.Map.{singleAt, registerAt, ifAny, accessOf}
 use Rattle.cic_registers.specs.Registers.{unless, valueOf, valueRefusal, writtenTo}
-use Rattle.cic_registers.specs.Promises.{At, AbsentFrom, RefusedFrom, Promises}
+use Rattle.cic_registers.specs.Promises.{At, OneBit, Promises}
 
 -- ---- places
 
@@ -152,7 +155,10 @@ refused-from v n = go (decLt v n)
         both-ways m = omega arith
     go (no g) = (λ e. omega arith, λ m. ap unless (le-ltb v n m))
 
--- ---- what is read, and what stays
+-- ---- what is written, what is read, and what stays
+
+one-bit : (ws : List ℕ) (v : ℕ) → v / 32 < length ws → OneBit ws (withBitAt ws v true) (withBitAt ws v false) v
+one-bit ws v l j = (bitAt-withBitAt ws v true j l, bitAt-withBitAt ws v false j l)
 
 enabled-reads : (c : Cic) (k j : ℕ) → j < 32
     → bit (valueOf c (EnabledClear k)) j ≡ ((bitAt (c .status) (32 * k + j) && ltb (32 * k + j) (c .systems)) && (bitAt (c .enable) (32 * k + j) && ltb (32 * k + j) (c .systems)))
@@ -209,6 +215,9 @@ kept =
       enablesBeyond = λ c k. absent-from (32 * k) (c .hosts);
       systemIndices = λ c. ((λ v. refused-from v (c .systems), λ v. refused-from v (c .systems)), (λ v. refused-from v (c .systems), λ v. refused-from v (c .systems)));
       hostIndices = λ c. (λ v. refused-from v (c .hosts), λ v. refused-from v (c .hosts));
+      statusIndexed = λ c v l j. one-bit (c .status) v l j;
+      enableIndexed = λ c v l j. one-bit (c .enable) v l j;
+      hostIndexed = λ c v l j. one-bit (c .allow) v l j;
       rawReads = λ c k j l. read-bit (c .systems) (c .status) k j l;
       enabledReads = enabled-reads;
       enablesRead = λ c k j l. read-bit (c .systems) (c .enable) k j l;
