@@ -23,7 +23,7 @@ use Rattle.cic_record.specs.Kinds.{system}
 use Rattle.cic_record.specs.Record.{withLines, withStatus, refused, answered}
 use Rattle.cic_record.specs.Sound.{sound}
 use Rattle.cic_record.proofs.PartsLaws.{sound-parts, sound-lines, sound-status}
-use Rattle.cic_registers.specs.Map.{registerAt, access}
+use Rattle.cic_layout.specs.Map.{registerAt, access}
 use Rattle.cic_registers.specs.Registers.{valueOf, valueRefusal, writtenTo}
 use Rattle.cic_registers.proofs.WrittenLaws.{value-number, sound-written}
 use Rattle.cic.specs.Promises.{Promises}

@@ -12,7 +12,7 @@ use Rattle.cic_record.specs.declared.Cic.{Cic}
 use Rattle.cic_record.specs.declared.System.{System}
 use Rattle.cic_record.specs.Record.{refused}
 use Rattle.cic_record.specs.Sound.{sound}
-use Rattle.cic_registers.specs.Map.{registerAt, access}
+use Rattle.cic_layout.specs.Map.{registerAt, access}
 use Rattle.cic_registers.specs.Registers.{valueRefusal}
 use Rattle.cic.specs.Stepping.{readOf, writeOf, lineOf, stepOf, moved}
 

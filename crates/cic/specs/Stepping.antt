@@ -13,7 +13,7 @@ use Rattle.cic_record.specs.declared.System.{System}
 use Rattle.cic_record.specs.Kinds.{system}
 use Rattle.cic_record.specs.Record.{withLines, withStatus, refused, answered}
 use Rattle.cic_record.specs.Sound.{sound}
-use Rattle.cic_registers.specs.Map.{registerAt, access}
+use Rattle.cic_layout.specs.Map.{registerAt, access}
 use Rattle.cic_registers.specs.Registers.{valueOf, valueRefusal, writtenTo}
 
 -- the first answer where nothing is refused, else the same record with the number (01, Numbers)

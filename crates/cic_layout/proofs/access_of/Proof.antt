@@ -1,8 +1,8 @@
-use Rattle.cic_registers.specs.Map.{accessOf}
+use Rattle.cic_layout.specs.Map.{accessOf}
 use mathlib.Core.Path.{sym, ap, ap₂, _∙_}
 use borrow.Author.Needs.{needs}
-use Rattle.cic_registers.proofs.access_of.Statement.{statement}
-use Rattle.cic_registers.proofs.access_of.Tie as tie
+use Rattle.cic_layout.proofs.access_of.Statement.{statement}
+use Rattle.cic_layout.proofs.access_of.Tie as tie
 
 returns : tie.Need-returns
 unfolding accessOf

@@ -1,7 +1,7 @@
 use Rattle.words.proofs.ChoiceLaws.{pick-true, pick-false}
 use borrow.Author.Tests.{lt-ltb, le-ltb}
-use Rattle.cic_registers.proofs.if_any.Statement.{statement}
-use Rattle.cic_registers.proofs.if_any.Tie as tie
+use Rattle.cic_layout.proofs.if_any.Statement.{statement}
+use Rattle.cic_layout.proofs.if_any.Tie as tie
 
 returns : tie.Need-returns
 returns c = pick-true _ (lt-ltb _ _ (c .if1 .taken))

@@ -1,9 +1,9 @@
-use Rattle.cic_registers.specs.Map.{singleAt}
+use Rattle.cic_layout.specs.Map.{singleAt}
 use Rattle.words.specs.Choice.{pick}
 use borrow.Author.Tests.{ne-eqb}
 use mathlib.Core.Path.{sym, ap}
-use Rattle.cic_registers.proofs.single_at.Statement.{statement}
-use Rattle.cic_registers.proofs.single_at.Tie as tie
+use Rattle.cic_layout.proofs.single_at.Statement.{statement}
+use Rattle.cic_layout.proofs.single_at.Tie as tie
 
 returns : tie.Need-returns
 unfolding singleAt pick

@@ -1,10 +1,10 @@
-use Rattle.cic_registers.specs.Map.{registerAt}
+use Rattle.cic_layout.specs.Map.{registerAt}
 use Rattle.words.specs.Choice.{pick}
 use borrow.Author.Tests.{lt-ltb, le-ltb}
 use mathlib.Core.Path.{_∙_}
 use borrow.Author.Needs.{needs}
-use Rattle.cic_registers.proofs.register_at.Statement.{statement}
-use Rattle.cic_registers.proofs.register_at.Tie as tie
+use Rattle.cic_layout.proofs.register_at.Statement.{statement}
+use Rattle.cic_layout.proofs.register_at.Tie as tie
 
 returns : tie.Need-returns
 unfolding registerAt pick

@@ -6,8 +6,8 @@ use Rattle.words.specs.Choice.{pick}
 use Rattle.steps.specs.declared.Access.{Access}
 use Rattle.steps.specs.declared.Access.the-variants.{NoRegister, ReadOnly, WriteOnly, ReadWrite}
 use Rattle.cic_record.specs.declared.Cic.{Cic}
-use Rattle.cic_registers.specs.declared.Register.{Register}
-use Rattle.cic_registers.specs.declared.Register.the-variants.{Nothing, Revision, GlobalEnable, StatusIndexSet, StatusIndexClear, EnableIndexSet, EnableIndexClear, HostIndexSet, HostIndexClear, RawSet, EnabledClear, EnableSet, EnableClear, ChannelMap, HostMap, HostEnable}
+use Rattle.cic_layout.specs.declared.Register.{Register}
+use Rattle.cic_layout.specs.declared.Register.the-variants.{Nothing, Revision, GlobalEnable, StatusIndexSet, StatusIndexClear, EnableIndexSet, EnableIndexClear, HostIndexSet, HostIndexClear, RawSet, EnabledClear, EnableSet, EnableClear, ChannelMap, HostMap, HostEnable}
 
 -- the registers below 0x200, one at each offset (001, table 2-1, less 0x004 and 0x080)
 unfoldable pub singleAt : ℕ → Register
