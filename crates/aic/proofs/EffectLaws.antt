@@ -20,13 +20,13 @@ use Rattle.aic_record.specs.Record.{withMemory, withMode}
 use Rattle.aic_record.specs.Mode.{typeOf, keptMode, kind, edge}
 use Rattle.aic_record.specs.Sound.{sound}
 use Rattle.aic_sources.specs.Pending.{edgeWord}
-use Rattle.aic.specs.Map.{svr, ivr, fvr, cisr, iecr, eoicr, dcr, ffer, ffdr, ffsr, access, valueRefusal}
-use Rattle.aic.specs.Handlers.{answered, current, closedLast, ended}
-use Rattle.aic.specs.Effects.{moded, vectored, enabledBy, disabledBy, setBy, clearedBy, maskedBy, forcedBy, unforcedBy}
-use Rattle.aic.specs.Registers.{outputBits, stored, readAt, writtenAt}
+use Rattle.aic_registers.specs.Map.{svr, ivr, fvr, cisr, iecr, eoicr, dcr, ffer, ffdr, ffsr, access, valueRefusal}
+use Rattle.aic_registers.specs.Handlers.{answered, current, closedLast, ended}
+use Rattle.aic_registers.specs.Effects.{moded, vectored, enabledBy, disabledBy, setBy, clearedBy, maskedBy, forcedBy, unforcedBy}
+use Rattle.aic_registers.specs.Registers.{outputBits, stored, readAt, writtenAt}
 use Rattle.aic.specs.Model.{readNumber, writeNumber, read, write}
 use Rattle.aic.specs.Tables.{Sets, MapTable, Reads, Writes}
-use Rattle.aic.proofs.MoreLaws.{both-alone, bit-cleared}
+use Rattle.words.proofs.WordLaws.{both-alone, bit-cleared}
 
 module _ (s : Aic) (ok : sound s ≡ true) where
   -- ---- writes

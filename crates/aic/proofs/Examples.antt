@@ -18,10 +18,10 @@ use Rattle.aic_record.specs.Sound.{handlerSound, freeSound, handlersSound, memo
 use Rattle.aic_sources.specs.Pending.{activeLow, activeAt, active, pending, asking, pendingWord, edgeWord}
 use Rattle.aic_sources.specs.Fast.{fast, fastAsks, masked, fiq}
 use Rattle.aic_sources.specs.Normal.{waiting, above, candidate, ahead, foremost, candidates, chosen, irq}
-use Rattle.aic.specs.Map.{access, valueRefusal, ivr, fvr, ipr, iecr, iccr, eoicr, ffer, spu}
-use Rattle.aic.specs.Handlers.{spent, opened, startedAt, closedLast, ended, ivrRead, fastSpent, fvrRead, current}
-use Rattle.aic.specs.Effects.{moded, vectored, enabledBy, disabledBy, setBy, clearedBy, maskedBy, forcedBy, unforcedBy, turns, moved}
-use Rattle.aic.specs.Registers.{outputBits, stored, readAt, writtenAt}
+use Rattle.aic_registers.specs.Map.{access, valueRefusal, ivr, fvr, ipr, iecr, iccr, eoicr, ffer, spu}
+use Rattle.aic_registers.specs.Handlers.{spent, opened, startedAt, closedLast, ended, ivrRead, fastSpent, fvrRead, current}
+use Rattle.aic_registers.specs.Effects.{moded, vectored, enabledBy, disabledBy, setBy, clearedBy, maskedBy, forcedBy, unforcedBy, turns, moved}
+use Rattle.aic_registers.specs.Registers.{outputBits, stored, readAt, writtenAt}
 use Rattle.aic.specs.Model.{readNumber, writeNumber, lineNumber, read, write, line, step}
 
 -- a run of steps

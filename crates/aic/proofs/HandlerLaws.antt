@@ -23,14 +23,14 @@ use Rattle.aic_sources.specs.Promises.{AheadOfOthers}
 use Rattle.aic_sources.proofs.FastLaws.{fast-some, some-fast}
 use Rattle.aic_sources.proofs.HandlerLaws.{candidate-waits, waiting-is}
 use Rattle.aic_sources.proofs.OrderLaws.{chosen-is, chosen-one}
-use Rattle.aic.specs.declared.Answer.{Answer}
-use Rattle.aic.specs.Map.{ivr, fvr, access}
-use Rattle.aic.specs.Handlers.{answered, forgotten, spent, opened, startedAt, vectorAt, ivrRead, fastSpent, fvrRead}
-use Rattle.aic.specs.Effects.{moded, turns, moved}
-use Rattle.aic.specs.Registers.{readAt}
+use Rattle.aic_registers.specs.declared.Answer.{Answer}
+use Rattle.aic_registers.specs.Map.{ivr, fvr, access}
+use Rattle.aic_registers.specs.Handlers.{answered, forgotten, spent, opened, startedAt, vectorAt, ivrRead, fastSpent, fvrRead}
+use Rattle.aic_registers.specs.Effects.{moded, turns, moved}
+use Rattle.aic_registers.specs.Registers.{readAt}
 use Rattle.aic.specs.Model.{readNumber, lineNumber, read, line}
 use Rattle.aic.specs.Tables.{Sets}
-use Rattle.aic.proofs.MoreLaws.{bit-cleared-if, bit-put-if}
+use Rattle.words.proofs.WordLaws.{bit-cleared-if, bit-put-if}
 
 -- ---- the record after each, with one memory cleared or set where a test holds
 

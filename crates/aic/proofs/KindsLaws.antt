@@ -27,13 +27,13 @@ use Rattle.aic_record.proofs.SoundLaws.{mask-sound, forced-sound}
 use Rattle.aic_sources.specs.Pending.{edgeWord}
 use Rattle.aic_sources.specs.Fast.{fastAsks}
 use Rattle.aic_sources.specs.Normal.{candidates, chosen}
-use Rattle.aic.specs.declared.Answer.{Answer}
-use Rattle.aic.specs.Map.{ivr, fvr, svr, iecr, idcr, iccr, iscr, eoicr, spu, dcr, ffer, ffdr, access, valueRefusal}
-use Rattle.aic.specs.Handlers.{startedAt, closedLast, ended, ivrRead, fvrRead}
-use Rattle.aic.specs.Effects.{moded, vectored, enabledBy, disabledBy, setBy, clearedBy, maskedBy, forcedBy, unforcedBy, moved}
-use Rattle.aic.specs.Registers.{readAt, writtenAt}
+use Rattle.aic_registers.specs.declared.Answer.{Answer}
+use Rattle.aic_registers.specs.Map.{ivr, fvr, svr, iecr, idcr, iccr, iscr, eoicr, spu, dcr, ffer, ffdr, access, valueRefusal}
+use Rattle.aic_registers.specs.Handlers.{startedAt, closedLast, ended, ivrRead, fvrRead}
+use Rattle.aic_registers.specs.Effects.{moded, vectored, enabledBy, disabledBy, setBy, clearedBy, maskedBy, forcedBy, unforcedBy, moved}
+use Rattle.aic_registers.specs.Registers.{readAt, writtenAt}
 use Rattle.aic.specs.Model.{readNumber, writeNumber, lineNumber, read, write, line, step}
-use Rattle.aic.proofs.MoreLaws.{both-alone, bit-cleared-if}
+use Rattle.words.proofs.WordLaws.{both-alone, bit-cleared-if}
 use Rattle.aic.proofs.HandlerLaws.{fast-spent-is}
 
 -- why a step starts nothing, closes nothing, is no set command and moves no line

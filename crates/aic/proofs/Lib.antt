@@ -5,6 +5,5 @@ pub mod Examples
 pub mod HandlerLaws
 pub mod KindsLaws
 pub mod MaskLaws
-pub mod MoreLaws
 pub mod Promises
 pub mod SoundLaws

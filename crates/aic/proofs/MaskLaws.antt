@@ -17,14 +17,14 @@ use Rattle.aic_record.proofs.RuleLaws.{words-rules}
 use Rattle.aic_sources.specs.Pending.{activeLow, activeAt, active, pending, asking, pendingWord, edgeWord}
 use Rattle.aic_sources.specs.Fast.{fast, fastAsks}
 use Rattle.aic_sources.specs.Normal.{waiting, above, candidate, ahead, foremost, candidates, chosen}
-use Rattle.aic.specs.declared.Answer.{Answer}
-use Rattle.aic.specs.Map.{svr, ivr, fvr, cisr, iecr, idcr, iccr, iscr, eoicr, spu, dcr, ffer, ffdr}
-use Rattle.aic.specs.Handlers.{answered, startedAt, closedLast, ended, vectorAt, ivrRead, fvrRead, current}
-use Rattle.aic.specs.Effects.{moded, vectored, enabledBy, disabledBy, setBy, clearedBy, forcedBy, unforcedBy, turns, moved}
-use Rattle.aic.specs.Registers.{stored, readAt, writtenAt}
+use Rattle.aic_registers.specs.declared.Answer.{Answer}
+use Rattle.aic_registers.specs.Map.{svr, ivr, fvr, cisr, iecr, idcr, iccr, iscr, eoicr, spu, dcr, ffer, ffdr}
+use Rattle.aic_registers.specs.Handlers.{answered, startedAt, closedLast, ended, vectorAt, ivrRead, fvrRead, current}
+use Rattle.aic_registers.specs.Effects.{moded, vectored, enabledBy, disabledBy, setBy, clearedBy, forcedBy, unforcedBy, turns, moved}
+use Rattle.aic_registers.specs.Registers.{stored, readAt, writtenAt}
 use Rattle.aic.specs.Model.{readNumber, writeNumber, lineNumber, read, write, line, step}
 use Rattle.aic.specs.Promises.{MaskFree}
-use Rattle.aic.proofs.MoreLaws.{pick-through, pick-past}
+use Rattle.words.proofs.ChoiceLaws.{pick-through, pick-past}
 use Rattle.aic.proofs.HandlerLaws.{started-is, fast-spent-is, moded-is, moved-is}
 
 -- an answer whose record has another mask

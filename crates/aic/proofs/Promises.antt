@@ -20,11 +20,11 @@ use Rattle.aic_record.specs.Sound.{sound}
 use Rattle.aic_record.proofs.Promises as record-promises
 use Rattle.aic_sources.specs.Fast.{fastAsks}
 use Rattle.aic_sources.specs.Normal.{candidates}
-use Rattle.aic.specs.declared.Answer.{Answer}
-use Rattle.aic.specs.Map.{ivr, fvr, dcr, access, valueRefusal}
-use Rattle.aic.specs.Handlers.{answered, refused, ivrRead, fvrRead}
-use Rattle.aic.specs.Effects.{moved}
-use Rattle.aic.specs.Registers.{readAt, writtenAt}
+use Rattle.aic_registers.specs.declared.Answer.{Answer}
+use Rattle.aic_registers.specs.Map.{ivr, fvr, dcr, access, valueRefusal}
+use Rattle.aic_registers.specs.Handlers.{answered, refused, ivrRead, fvrRead}
+use Rattle.aic_registers.specs.Effects.{moved}
+use Rattle.aic_registers.specs.Registers.{readAt, writtenAt}
 use Rattle.aic.specs.Model.{within, start, readNumber, writeNumber, lineNumber, read, write, line, step, outputs}
 use Rattle.aic.specs.Promises.{Settled, Promises}
 use Rattle.aic.proofs.KindsLaws.{value-number}

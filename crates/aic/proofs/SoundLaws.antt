@@ -23,10 +23,10 @@ use Rattle.aic_sources.specs.Pending.{edgeWord}
 use Rattle.aic_sources.specs.Normal.{candidates, chosen}
 use Rattle.aic_sources.proofs.OrderLaws.{Foremost, chosen-is}
 use Rattle.aic_sources.proofs.HandlerLaws.{priority-small, candidate-source, candidate-over, candidate-room}
-use Rattle.aic.specs.Handlers.{startedAt, closedLast}
-use Rattle.aic.specs.Effects.{moded, setBy, turns, moved}
+use Rattle.aic_registers.specs.Handlers.{startedAt, closedLast}
+use Rattle.aic_registers.specs.Effects.{moded, setBy, turns, moved}
 use Rattle.aic.specs.Model.{step}
-use Rattle.aic.proofs.MoreLaws.{bit-cleared, bit-cleared-if, bit-put-if}
+use Rattle.words.proofs.WordLaws.{bit-cleared, bit-cleared-if, bit-put-if}
 use Rattle.aic.proofs.HandlerLaws.{moded-is, moved-is, started-is}
 use Rattle.aic.proofs.KindsLaws.{kinds}
 

@@ -12,12 +12,12 @@ use Rattle.aic_record.specs.Sound.{sound}
 use Rattle.aic_sources.specs.Fast.{fiq}
 use Rattle.aic_sources.specs.Normal.{irq}
 use Rattle.aic.specs.declared.Begun.{Begun}
-use Rattle.aic.specs.declared.Answer.{Answer}
+use Rattle.aic_registers.specs.declared.Answer.{Answer}
 use Rattle.aic.specs.declared.Signals.{Signals}
-use Rattle.aic.specs.Map.{access, valueRefusal}
-use Rattle.aic.specs.Handlers.{answered, refused}
-use Rattle.aic.specs.Effects.{moved}
-use Rattle.aic.specs.Registers.{readAt, writtenAt}
+use Rattle.aic_registers.specs.Map.{access, valueRefusal}
+use Rattle.aic_registers.specs.Handlers.{answered, refused}
+use Rattle.aic_registers.specs.Effects.{moved}
+use Rattle.aic_registers.specs.Registers.{readAt, writtenAt}
 
 -- two configuration numbers, the external sources and the first line levels, each any word: no start is refused (01, AIC, Configuration)
 unfoldable pub within : ℕ → ℕ → Bool

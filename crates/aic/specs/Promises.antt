@@ -19,9 +19,9 @@ use Rattle.aic_sources.specs.Pending.{pending}
 use Rattle.aic_sources.specs.Fast.{fast, fiq}
 use Rattle.aic_sources.specs.Normal.{candidate, irq}
 use Rattle.aic_sources.specs.Promises.{AheadOfOthers}
-use Rattle.aic.specs.Map.{ivr, fvr, cisr, dcr, access, valueRefusal}
-use Rattle.aic.specs.Handlers.{answered, refused, vectorAt}
-use Rattle.aic.specs.Effects.{turns}
+use Rattle.aic_registers.specs.Map.{ivr, fvr, cisr, dcr, access, valueRefusal}
+use Rattle.aic_registers.specs.Handlers.{answered, refused, vectorAt}
+use Rattle.aic_registers.specs.Effects.{turns}
 use Rattle.aic.specs.Model.{within, start, read, write, line, step, outputs}
 use Rattle.aic.specs.Tables.{Sets, MapTable, Reads, Writes}
 

@@ -16,9 +16,9 @@ use Rattle.aic_record.specs.Sound.{sourceAt}
 use Rattle.aic_sources.specs.Pending.{pendingWord}
 use Rattle.aic_sources.specs.Fast.{fiq}
 use Rattle.aic_sources.specs.Normal.{irq}
-use Rattle.aic.specs.declared.Answer.{Answer}
-use Rattle.aic.specs.Map.{svr, ivr, fvr, isr, ipr, imr, cisr, iecr, idcr, iccr, iscr, eoicr, spu, dcr, ffer, ffdr, ffsr, access}
-use Rattle.aic.specs.Handlers.{answered, vectorAt}
+use Rattle.aic_registers.specs.declared.Answer.{Answer}
+use Rattle.aic_registers.specs.Map.{svr, ivr, fvr, isr, ipr, imr, cisr, iecr, idcr, iccr, iscr, eoicr, spu, dcr, ffer, ffdr, ffsr, access}
+use Rattle.aic_registers.specs.Handlers.{answered, vectorAt}
 use Rattle.aic.specs.Model.{read, write}
 
 -- the step is carried out and answers `value`; its record is what `put` makes of a word whose bit k is `f k` for each source k

@@ -1,33 +1,22 @@
 // The AT91 controller: its register map, its vector reads, its line steps and its outputs.
-mod effects;
-mod handlers;
-mod map;
-mod registers;
-
 ghost use mathlib.Core.Path.{_≡_};
-ghost use mathlib.Core.Bool.{Bool, true};
+ghost use mathlib.Core.Bool.{true};
 ghost use Rattle.aic_record.specs.Sound.{sound};
 ghost use Rattle.aic.specs.Model.{within, start, read, write, line, step, outputs};
 use aic_record::Aic;
-use effects::move_line;
-use handlers::answer_of;
-use handlers::refusal_of;
-use map::access_of;
-use map::value_refusal;
-use registers::read_at;
-use registers::write_at;
+use aic_registers::Answer;
+use aic_registers::effects::move_line;
+use aic_registers::handlers::answer_of;
+use aic_registers::handlers::refusal_of;
+use aic_registers::map::access_of;
+use aic_registers::map::value_refusal;
+use aic_registers::registers::read_at;
+use aic_registers::registers::write_at;
 use steps::Step;
 
 // What a start answers: its refusal, and the record.
 pub struct Begun {
     pub refusal: u32,
-    pub aic: Aic,
-}
-
-// What a step answers: its refusal, the value read, and the record after it.
-pub struct Answer {
-    pub refusal: u32,
-    pub value: u32,
     pub aic: Aic,
 }
 
@@ -109,7 +98,7 @@ pub fn step_sound(s: Aic, x: Step) -> Answer
     }
 }
 
-// The outputs, for callers that know the record to be sound.
+// The two outputs and how many handlers are open, for callers that know the record to be sound.
 pub fn outputs_sound(s: Aic) -> Signals
     requires { ⌜ sound s ≡ true ⌝ }
     ensures { λ r. ⌜ r ≡ outputs s ⌝ }

@@ -1,8 +1,6 @@
--- Laws about the AT91 controller's record.
-pub mod MoreLaws
+-- Laws and theorems about the AT91 controller's record.
 pub mod PassLaws
 pub mod PlaceLaws
--- Theorems about the AT91 controller's record.
 pub mod Promises
 pub mod RuleLaws
 pub mod SoundLaws

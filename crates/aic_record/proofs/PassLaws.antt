@@ -1,11 +1,11 @@
 -- The two passes over a record ask what the rules of a sound one ask.
-use mathlib.Core.Path.{_≡_, refl, sym, ap, ap₂, _∙_}
+use mathlib.Core.Path.{_≡_, refl, sym, ap, _∙_}
 use mathlib.Core.Bool.{Bool, true, false, not, _&&_, _||_, and-assoc}
 use mathlib.Core.List.{List}
-use Prim.Native.Nat.{ℕ, zero, suc, _+_, _-_, _≤_, _<_}
+use Prim.Native.Nat.{ℕ, _+_, _-_, _<_}
 use native.Mathlib.Omega.{arith}
 use native.Mathlib.Decide.{decLt, ℕ-discrete}
-use borrow.Author.Tests.{eq-eqb, ne-eqb, lt-ltb, le-ltb, le-leb, lt-leb, leb-true}
+use borrow.Author.Tests.{eq-eqb, ne-eqb, lt-ltb, le-ltb, le-leb, lt-leb}
 use lib.Dec.{eqb, ltb, leb}
 use lib.ListN.{getD}
 use Rattle.words.specs.Choice.{pick}
@@ -13,12 +13,11 @@ use Rattle.words.specs.Counting.{allBelow}
 use Rattle.words.specs.Word.{bit}
 use Rattle.words.proofs.ChoiceLaws.{pick-true, pick-false}
 use Rattle.words.proofs.CountingLaws.{all-same}
-use Rattle.words.proofs.TruthLaws.{and-left}
 use Rattle.aic_record.specs.declared.Aic.{Aic}
 use Rattle.aic_record.specs.Mode.{modeAt, keptMode, edge, edgeOf}
 use Rattle.aic_record.specs.Passes.{floorAt, placeSound, modeSound}
 use Rattle.aic_record.specs.Sound.{sourceAt, levelAt, handlerSound, freeSound, handlersSound, memorySound, storedSound, sound}
-use Rattle.aic_record.proofs.MoreLaws.{all-and}
+use Rattle.words.proofs.CountingLaws.{all-and}
 
 -- before the first place any level may stand
 pub floor-none : (level : List ℕ) → _≡_ {A = ℕ} 0 (floorAt level 0)
@@ -71,13 +70,3 @@ sound-by s p m f e g h =
     rw (e, g, h, places-are s, modes-are s)
     (regroup (leb (s .depth) 8 && allBelow 8 (λ i. pick (ltb i (s .depth)) (handlerSound s i) (freeSound s i))) (memorySound s)
     (allBelow 32 (λ k. eqb (keptMode (modeAt s k)) (modeAt s k))) (eqb (s .mask) 0 || eqb (s .mask) 2) (not (bit (s .forced) 0)))
-
--- a sound record has at most eight handlers open
-pub sound-depth : (s : Aic) → sound s ≡ true → s .depth ≤ 8
-unfolding sound handlersSound
-sound-depth s e =
-    leb-true (s .depth) 8
-    (and-left (leb (s .depth) 8) (allBelow 8 (λ i. pick (ltb i (s .depth)) (handlerSound s i) (freeSound s i)))
-    (and-left (leb (s .depth) 8 && allBelow 8 (λ i. pick (ltb i (s .depth)) (handlerSound s i) (freeSound s i))) (memorySound s)
-    (and-left (leb (s .depth) 8 && allBelow 8 (λ i. pick (ltb i (s .depth)) (handlerSound s i) (freeSound s i)) && memorySound s) (storedSound s)
-    (and-left (leb (s .depth) 8 && allBelow 8 (λ i. pick (ltb i (s .depth)) (handlerSound s i) (freeSound s i)) && memorySound s && storedSound s) (not (bit (s .forced) 0)) e))))

@@ -1,12 +1,10 @@
 // The AT91 controller's record: its registers, its line levels, its edge memories and its open handlers.
 ghost use mathlib.Core.Path.{_≡_};
-ghost use mathlib.Core.Bool.{Bool, not, _&&_, _||_};
-ghost use lib.Dec.{eqb, ltb, leb};
+ghost use mathlib.Core.Bool.{not, _&&_, _||_};
+ghost use lib.Dec.{eqb, leb};
 ghost use lib.ListN.{getD, set};
-ghost use Prim.Native.Nat.{ℕ, _-_, _<_};
 ghost use Rattle.words.specs.Choice.{pick};
 ghost use Rattle.words.specs.Counting.{allBelow};
-ghost use Rattle.words.specs.Word.{bit};
 ghost use Rattle.aic_record.specs.Mode.{priorityOf, typeOf, keptMode, edgeOf, modeAt};
 ghost use Rattle.aic_record.specs.Record.{withLines, withEnabled, withMemory, withForced, withSpurious, withMask, withMode, withVector, withHandlers};
 ghost use Rattle.aic_record.specs.Record.{reset};
@@ -182,6 +180,17 @@ pub fn level_at(s: Aic, i: u32) -> u8
     s.level[at]
 }
 
+// The least priority that may start a handler: 0, or one above the level of the last open one.
+pub fn floor_of(s: Aic) -> u32
+    ensures { λ r. ⌜ r ≡ floorAt (s .level) (s .depth) ⌝ }
+{
+    let depth = s.depth;
+    if depth == 0 {
+        return 0;
+    }
+    level_at(s, depth - 1) as u32 + 1
+}
+
 // ---- the fields of a mode
 
 // Bits 2:0, the priority.
@@ -271,15 +280,4 @@ pub fn is_sound(s: Aic) -> bool
         & modes_sound(&s.mode, s.memory)
         & ((mask == 0) | (mask == 2))
         & !words::has(s.forced, 0)
-}
-
-// The least priority that may start a handler: 0, or one above the level of the last open one.
-pub fn floor_of(s: Aic) -> u32
-    ensures { λ r. ⌜ r ≡ floorAt (s .level) (s .depth) ⌝ }
-{
-    let depth = s.depth;
-    if depth == 0 {
-        return 0;
-    }
-    level_at(s, depth - 1) as u32 + 1
 }

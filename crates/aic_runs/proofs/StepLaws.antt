@@ -22,11 +22,11 @@ use Rattle.aic_sources.specs.Fast.{fast}
 use Rattle.aic_sources.specs.Normal.{ahead, candidate, candidates, chosen}
 use Rattle.aic_sources.proofs.HandlerLaws.{candidate-waits, waiting-is}
 use Rattle.aic_sources.proofs.OrderLaws.{chosen-is}
-use Rattle.aic.specs.Map.{ivr, iscr, eoicr, ffer, ffdr}
-use Rattle.aic.specs.Handlers.{startedAt, closedLast}
-use Rattle.aic.specs.Effects.{moded, setBy, turns, moved}
+use Rattle.aic_registers.specs.Map.{ivr, iscr, eoicr, ffer, ffdr}
+use Rattle.aic_registers.specs.Handlers.{startedAt, closedLast}
+use Rattle.aic_registers.specs.Effects.{moded, setBy, turns, moved}
 use Rattle.aic.specs.Model.{step}
-use Rattle.aic.proofs.MoreLaws.{bit-cleared-if, bit-put-if}
+use Rattle.words.proofs.WordLaws.{bit-cleared-if, bit-put-if}
 use Rattle.aic.proofs.HandlerLaws.{started-is, moved-is}
 use Rattle.aic.proofs.KindsLaws.{kinds}
 use Rattle.aic_runs.specs.Counted.{starts, startedBy, startsOf, closes, edges, commands, rewrites}

@@ -13,10 +13,10 @@ use Rattle.aic_record.specs.Sound.{handlerSound, freeSound, handlersSound, memo
 use Rattle.aic_sources.specs.Pending.{activeLow, activeAt, active, pending, asking, edgeWord}
 use Rattle.aic_sources.specs.Fast.{fast}
 use Rattle.aic_sources.specs.Normal.{waiting, above, candidate, ahead, foremost, candidates, chosen}
-use Rattle.aic.specs.Map.{access, valueRefusal}
-use Rattle.aic.specs.Handlers.{spent, opened, startedAt, closedLast, ended, ivrRead}
-use Rattle.aic.specs.Effects.{moded, enabledBy, setBy, turns, moved}
-use Rattle.aic.specs.Registers.{readAt, writtenAt}
+use Rattle.aic_registers.specs.Map.{access, valueRefusal}
+use Rattle.aic_registers.specs.Handlers.{spent, opened, startedAt, closedLast, ended, ivrRead}
+use Rattle.aic_registers.specs.Effects.{moded, enabledBy, setBy, turns, moved}
+use Rattle.aic_registers.specs.Registers.{readAt, writtenAt}
 use Rattle.aic.specs.Model.{readNumber, writeNumber, lineNumber, read, write, line}
 use Rattle.aic_runs.specs.Counted.{carried, vectorRead, startedBy, startsOf, startsOther, closes, rises, edges, commands, rewrites, steady, waits}
 use Rattle.aic_runs.specs.Runs.{run, count, always, owed, received, sumOver}

@@ -10,8 +10,8 @@ use Rattle.steps.specs.Refusals.{carriedOut}
 use Rattle.aic_record.specs.declared.Aic.{Aic}
 use Rattle.aic_record.specs.Mode.{edge}
 use Rattle.aic_sources.specs.Normal.{waiting, candidates, chosen}
-use Rattle.aic.specs.Map.{svr, ivr, iscr, eoicr, ffer, ffdr}
-use Rattle.aic.specs.Effects.{turns}
+use Rattle.aic_registers.specs.Map.{svr, ivr, iscr, eoicr, ffer, ffdr}
+use Rattle.aic_registers.specs.Effects.{turns}
 use Rattle.aic.specs.Model.{step}
 
 -- the controller refuses nothing of the step (01, Numbers)

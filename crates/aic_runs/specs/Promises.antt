@@ -14,7 +14,7 @@ use Rattle.aic_record.specs.Sound.{levelAt, sound}
 use Rattle.aic_record.specs.Promises.{Shaped}
 use Rattle.aic_sources.specs.Fast.{fast}
 use Rattle.aic_sources.specs.Normal.{ahead}
-use Rattle.aic.specs.Handlers.{startedAt, closedLast}
+use Rattle.aic_registers.specs.Handlers.{startedAt, closedLast}
 use Rattle.aic.specs.Model.{step}
 use Rattle.aic_runs.specs.Counted.{starts, startedBy, startsOf, startsOther, closes, edges, commands, steady, waits}
 use Rattle.aic_runs.specs.Runs.{run, count, always, EachStart, owed, received, sumOver}

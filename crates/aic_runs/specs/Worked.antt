@@ -5,7 +5,7 @@ use Rattle.steps.specs.declared.Step.{Step}
 use Rattle.steps.specs.declared.Step.the-variants.{Read, Write, Line}
 use Rattle.aic_record.specs.declared.Aic.{Aic}
 use Rattle.aic_record.specs.Record.{reset}
-use Rattle.aic.specs.Map.{ivr, iecr, iscr, eoicr}
+use Rattle.aic_registers.specs.Map.{ivr, iecr, iscr, eoicr}
 use Rattle.aic_runs.specs.Runs.{run}
 
 -- source k is made edge-triggered (type 3) at priority p, and enabled

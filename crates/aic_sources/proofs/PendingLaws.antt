@@ -2,18 +2,17 @@
 use mathlib.Core.Path.{_≡_, refl, sym, ap, ap₂, _∙_}
 use mathlib.Core.Bool.{Bool, true, false, not, _&&_, _||_}
 use mathlib.Core.List.{List}
-use Prim.Native.Nat.{ℕ, _+_, _*_, _/_, _%_, _^_, _≤_, _<_}
+use Prim.Native.Nat.{ℕ, _/_, _%_, _^_, _<_}
 use native.Mathlib.Omega.{arith}
 use native.Mathlib.Decide.{decLt, ℕ-discrete}
-use borrow.Author.Tests.{eq-eqb, ne-eqb, eqb-true, lt-ltb, le-ltb}
+use borrow.Author.Tests.{eq-eqb, ne-eqb, lt-ltb, le-ltb}
 use lib.Dec.{eqb, ltb}
 use lib.ListN.{getD}
 use Rattle.words.specs.Choice.{pick}
 use Rattle.words.specs.Counting.{anyBelow}
 use Rattle.words.specs.Word.{bit, wordOf, either, both, without}
-use Rattle.words.proofs.TruthLaws.{eqb-iff}
-use Rattle.words.proofs.CountingLaws.{any-same, any-none, any-some, any-fails}
-use Rattle.words.proofs.WordLaws.{bit-wordOf, wordOf-same, wordOf-lt, word-is, bit-either, bit-both, bit-without, either-lt, both-lt, without-lt, bit-alone, bit-none, bit-some}
+use Rattle.words.proofs.CountingLaws.{any-same, any-none, any-fails}
+use Rattle.words.proofs.WordLaws.{bit-wordOf, wordOf-same, word-is, bit-either, bit-both, bit-without, either-lt, both-lt, bit-alone, bit-none, bit-some}
 use Rattle.aic_record.specs.declared.Aic.{Aic}
 use Rattle.aic_record.specs.Mode.{typeOf, edgeOf, modeAt, kind, edge}
 use Rattle.aic_sources.specs.Pending.{activeLow, activeAt, active, pending, asking, pendingWord, edgeWord}

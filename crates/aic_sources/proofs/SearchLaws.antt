@@ -1,29 +1,25 @@
 -- The search keeps the one ahead of all others among the sources that it has seen, and ends with the chosen one.
 use mathlib.Core.Path.{_≡_, refl, sym, ap, ap₂, _∙_}
-use mathlib.Core.Bool.{Bool, true, false, not, _&&_, _||_, false≢true}
+use mathlib.Core.Bool.{Bool, true, false, _&&_}
 use mathlib.Core.List.{List}
 use mathlib.Core.Logic.{_⊎_, inl, inr, ⊎-elim}
-use Prim.Native.Nat.{ℕ, zero, suc, _+_, _-_, _*_, _%_, _≤_, _<_}
+use Prim.Native.Nat.{ℕ, _+_, _*_, _≤_, _<_}
 use native.Mathlib.Nat.{eq-or-lt-of-le}
-use native.Mathlib.Numerals.{add-one}
 use native.Mathlib.Omega.{arith}
-use native.Mathlib.Decide.{decLt, ℕ-discrete}
-use borrow.Author.Tests.{eq-eqb, ne-eqb, eqb-true, eqb-false, lt-ltb, le-ltb, ltb-true, le-leb, lt-leb, leb-true, leb-false}
-use lib.Dec.{eqb, ltb, leb}
-use lib.ListN.{getD}
+use borrow.Author.Tests.{lt-ltb, le-ltb, le-leb, leb-true, leb-false}
+use lib.Dec.{ltb, leb}
 use Rattle.words.specs.Choice.{pick}
-use Rattle.words.specs.Counting.{anyBelow, allBelow, lowestBelow}
-use Rattle.words.specs.Word.{bit, wordOf}
+use Rattle.words.specs.Word.{bit}
 use Rattle.words.proofs.ChoiceLaws.{pick-true, pick-false}
-use Rattle.words.proofs.WordLaws.{bit-wordOf}
-use Rattle.words.proofs.TruthLaws.{and-left, and-right, and-both, or-either, or-left, or-right, clash, not-holds, told}
-use Rattle.words.proofs.CountingLaws.{any-none, some-any, all-at, at-all, Lowest, lowest-found, lowest-one}
+use Rattle.words.proofs.TruthLaws.{and-left, and-right, and-both, clash, not-holds, told}
+use Rattle.words.proofs.CountingLaws.{any-none}
 use Rattle.aic_record.specs.declared.Aic.{Aic}
 use Rattle.aic_record.specs.Mode.{priorityOf, priority, modeAt}
 use Rattle.aic_record.specs.Passes.{floorAt}
 use Rattle.aic_record.proofs.PassLaws.{floor-rule}
-use Rattle.aic_sources.specs.Normal.{waiting, above, candidate, ahead, foremost, candidates, chosen}
-use Rattle.aic_sources.specs.Search.{rank, mayStart, Nobody, Leader, Found}
+use Rattle.aic_sources.specs.Normal.{waiting, above, candidate, candidates, chosen}
+use Rattle.aic_sources.specs.Search.{rank, mayStart, Leader, Found}
+use Rattle.aic_sources.proofs.OrderLaws.{Foremost, lt-ahead, chosen-is, chosen-one, chosen-none}
 
 -- a number below n + 1 is n or below it
 upto-last : (j n : ℕ) → j < n + 1 → (j ≡ n) ⊎ (j < n)
@@ -122,17 +118,6 @@ module _ (waits : ℕ) (mode : List ℕ) (least : ℕ) where
       let e : n ≡ 32 = omega arith in
       rw e at f
 
-  -- a search of the sources below n finds an end
-  search-runs : (n : ℕ) → n ≤ 32 → (best : ℕ) × ((floor : ℕ) × Kept waits mode least n best floor)
-  search-runs zero b = (32, (least, search-none))
-  search-runs (suc n) b = go (search-runs n (omega arith))
-    where
-      go : (best : ℕ) × ((floor : ℕ) × Kept waits mode least n best floor) → (best : ℕ) × ((floor : ℕ) × Kept waits mode least (suc n) best floor)
-      go (best, (floor, k)) = (
-        pick (bit waits n && leb floor (rank mode n)) n best,
-        (pick (bit waits n && leb floor (rank mode n)) (rank mode n + 1) floor, rw (sym (add-one n)) (search-more n best floor (rank mode n) (bit waits n) (omega arith) k refl refl refl refl)),
-      )
-
 -- ---- what the search finds is the chosen source
 
 -- the search's view of a record: its waiting sources are the word w
@@ -143,101 +128,25 @@ may-is : (s : Aic) (w k : ℕ) → Sees s w → k < 32 → mayStart w (s .mode) 
 unfolding Sees mayStart candidate above priority
 may-is s w k v l = ap₂ _&&_ (v k l) (floor-rule (s .level) (s .depth) (priorityOf (modeAt s k)))
 
-ahead-by : (s : Aic) (a b : ℕ) → a < 32 → b < 32 → rank (s .mode) b * 32 + a ≤ rank (s .mode) a * 32 + b → (eqb b a || ahead s a b) ≡ true
-unfolding ahead priority
-ahead-by s a b la lb h = go (ℕ-discrete b a) (decLt (rank (s .mode) b) (rank (s .mode) a))
-  where
-    p : ℕ
-    p = rank (s .mode) a
+leader-is : (s : Aic) (w r : ℕ) → Sees s w → Leader w (s .mode) (floorAt (s .level) (s .depth)) 32 r → Foremost s 32 r
+unfolding priority
+leader-is s w r v x =
+    record {
+      below = x .within;
+      fit = sym (may-is s w r v (x .within)) ∙ x .may;
+      first = λ j l c d. lt-ahead s r j l (omega (arith, x .within, x .each j l (may-is s w j v l ∙ c)));
+    }
 
-    q : ℕ
-    q = rank (s .mode) b
-
-    go : Dec (b ≡ a) → Dec (q < p) → (eqb b a || (ltb q p || (eqb p q && ltb a b))) ≡ true
-    go (yes e) d = or-left (ltb q p || (eqb p q && ltb a b)) (eq-eqb b a e)
-    go (no n) (yes l) = or-right (eqb b a) (or-left (eqb p q && ltb a b) (lt-ltb q p l))
-    go (no n) (no g) = or-right (eqb b a) (or-right (ltb q p) (and-both (eq-eqb p q (omega arith)) (lt-ltb a b (omega arith))))
-
--- and the other way: what is ahead ranks higher
-by-ahead : (s : Aic) (a b : ℕ) → a < 32 → b < 32 → ahead s a b ≡ true → rank (s .mode) b * 32 + a < rank (s .mode) a * 32 + b
-unfolding ahead priority
-by-ahead s a b la lb e = go (or-either (ltb q p) (eqb p q && ltb a b) e)
-  where
-    p : ℕ
-    p = rank (s .mode) a
-
-    q : ℕ
-    q = rank (s .mode) b
-
-    go : (ltb q p ≡ true) ⊎ ((eqb p q && ltb a b) ≡ true) → q * 32 + a < p * 32 + b
-    go (inl h) = omega (arith, ltb-true q p h)
-    go (inr h) = omega (arith, eqb-true p q (and-left (eqb p q) (ltb a b) h), ltb-true a b (and-right (eqb p q) (ltb a b) h))
-
--- of the foremost source: it is a candidate, and each other candidate is behind it
-foremost-is : (s : Aic) (k : ℕ) → foremost s k ≡ true → candidate s k ≡ true
-unfolding foremost
-foremost-is s k e = and-left (candidate s k) (allBelow 32 (λ j. not (candidate s j) || (eqb j k || ahead s k j))) e
-
-foremost-ahead : (s : Aic) (k j : ℕ) → foremost s k ≡ true → j < 32 → candidate s j ≡ true → (eqb j k || ahead s k j) ≡ true
-unfolding foremost
-foremost-ahead s k j e l c =
-    let h = all-at 32 (λ i. not (candidate s i) || (eqb i k || ahead s k i)) (and-right (candidate s k) (allBelow 32 (λ i. not (candidate s i) || (eqb i k || ahead s k i))) e) j l in
-    ap (λ (b : Bool). not b || (eqb j k || ahead s k j)) (sym c) ∙ h
-
-foremost-by : (s : Aic) (k : ℕ) → candidate s k ≡ true → ((j : ℕ) → j < 32 → candidate s j ≡ true → (eqb j k || ahead s k j) ≡ true) → foremost s k ≡ true
-unfolding foremost
-foremost-by s k c h = and-both c (at-all 32 (λ j. not (candidate s j) || (eqb j k || ahead s k j)) (λ j l. go j l (told (candidate s j))))
-  where
-    go : (j : ℕ) → j < 32 → (candidate s j ≡ true) ⊎ (candidate s j ≡ false) → (not (candidate s j) || (eqb j k || ahead s k j)) ≡ true
-    go j l (inl e) = or-right (not (candidate s j)) (h j l e)
-    go j l (inr e) = or-left (eqb j k || ahead s k j) (ap not e)
-
-module _ (s : Aic) (w : ℕ) (v : Sees s w) where
-  lowest-is : (r : ℕ) → Found w (s .mode) (floorAt (s .level) (s .depth)) 32 r → Lowest (foremost s) 32 r
-  lowest-is r (inl x) =
-      record {
-        within = omega (arith, x .none);
-        before = λ k l. not-holds (foremost s k) (λ e. clash (foremost-is s k e) (sym (may-is s w k v (omega (arith, x .none))) ∙ x .each k (omega (arith, x .none))));
-        found = λ l. absurd (omega (arith, x .none));
-      }
-  lowest-is r (inr x) =
-      record {
-        within = omega (arith, x .within);
-        before = λ k l. not-holds (foremost s k) (λ e. behind k l e (foremost-ahead s k r e (x .within) (sym (may-is s w r v (x .within)) ∙ x .may)));
-        found = λ l. foremost-by s r (sym (may-is s w r v l) ∙ x .may) (λ j m c. ahead-by s r j l m (x .each j m (may-is s w j v m ∙ c)));
-      }
-    where
-      behind : (k : ℕ) → k < r → foremost s k ≡ true → (eqb r k || ahead s k r) ≡ true → ⊥
-      behind k l e a =
-          let in-k : k < 32 = omega (arith, x .within) in
-          let a′ : ahead s k r ≡ true = ap (λ (b : Bool). b || ahead s k r) (sym (ne-eqb r k (omega arith))) ∙ a in
-          omega (arith, by-ahead s k r in-k (x .within) a′, x .each k in-k (may-is s w k v in-k ∙ foremost-is s k e))
-
-  -- the search answers the chosen source
-  pub chosen-by : (r : ℕ) → Found w (s .mode) (floorAt (s .level) (s .depth)) 32 r → r ≡ chosen s
-  unfolding chosen
-  chosen-by r f = lowest-one (foremost s) 32 r (lowestBelow 32 (foremost s)) (lowest-is r f) (lowest-found 32 (foremost s))
-
-  -- a source is found exactly if there is a candidate
-  pub some-by : (r : ℕ) → Found w (s .mode) (floorAt (s .level) (s .depth)) 32 r → ltb r 32 ≡ candidates s
-  unfolding candidates
-  some-by r (inl x) = le-ltb r 32 (omega (arith, x .none)) ∙ sym (any-none 32 (candidate s) (λ k l. sym (may-is s w k v l) ∙ x .each k l))
-  some-by r (inr x) = lt-ltb r 32 (x .within) ∙ sym (some-any 32 (candidate s) r (x .within) (sym (may-is s w r v (x .within)) ∙ x .may))
-
-sees-word : (s : Aic) → Sees s (wordOf 32 (waiting s))
-unfolding Sees
-sees-word s k l = bit-wordOf 32 (waiting s) k l
-
-found-chosen : (s : Aic) → Found (wordOf 32 (waiting s)) (s .mode) (floorAt (s .level) (s .depth)) 32 (chosen s)
-found-chosen s =
-    let r = search-runs (wordOf 32 (waiting s)) (s .mode) (floorAt (s .level) (s .depth)) 32 (omega arith) in
-    rw (sym (chosen-by s (wordOf 32 (waiting s)) (sees-word s) (r .0) (r .1 .1 .0))) (r .1 .1 .0)
+-- the search answers the chosen source
+pub chosen-by : (s : Aic) (w r : ℕ) → Sees s w → Found w (s .mode) (floorAt (s .level) (s .depth)) 32 r → r ≡ chosen s
+unfolding candidates
+chosen-by s w r v (inl x) = x .none ∙ sym (chosen-none s (any-none 32 (candidate s) (λ k l. sym (may-is s w k v l) ∙ x .each k l)))
+chosen-by s w r v (inr x) = sym (chosen-one s r (leader-is s w r v x))
 
 -- a source is chosen exactly if there is a candidate
 pub chosen-some : (s : Aic) → ltb (chosen s) 32 ≡ candidates s
-chosen-some s = some-by s (wordOf 32 (waiting s)) (sees-word s) (chosen s) (found-chosen s)
-
--- and it is one
-pub chosen-candidate : (s : Aic) → chosen s < 32 → candidate s (chosen s) ≡ true
-unfolding chosen
-chosen-candidate s l = foremost-is s (chosen s) (lowest-found 32 (foremost s) .found l)
+chosen-some s = go (told (candidates s))
+  where
+    go : (candidates s ≡ true) ⊎ (candidates s ≡ false) → ltb (chosen s) 32 ≡ candidates s
+    go (inl h) = lt-ltb (chosen s) 32 (chosen-is s h .below) ∙ sym h
+    go (inr h) = le-ltb (chosen s) 32 (omega (arith, chosen-none s h)) ∙ sym h

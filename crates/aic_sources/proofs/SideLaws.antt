@@ -1,5 +1,5 @@
 -- The two sides and the two outputs, from the words of the sources.
-use mathlib.Core.Path.{_≡_, refl, sym, ap, ap₂, _∙_}
+use mathlib.Core.Path.{_≡_, ap, ap₂, _∙_}
 use mathlib.Core.Bool.{Bool, not, _&&_}
 use Prim.Native.Nat.{ℕ}
 use lib.Dec.{eqb, ltb}
@@ -8,7 +8,7 @@ use Rattle.aic_record.specs.declared.Aic.{Aic}
 use Rattle.aic_record.specs.Passes.{floorAt}
 use Rattle.aic_sources.specs.Pending.{asking, pendingWord}
 use Rattle.aic_sources.specs.Fast.{fast, fastAsks, masked, fiq}
-use Rattle.aic_sources.specs.Normal.{candidates, chosen, irq}
+use Rattle.aic_sources.specs.Normal.{chosen, irq}
 use Rattle.aic_sources.specs.Search.{Found}
 use Rattle.aic_sources.proofs.PendingLaws.{asking-by, fast-asks-by, waits-are}
 use Rattle.aic_sources.proofs.SearchLaws.{Sees, chosen-by, chosen-some}
@@ -23,7 +23,7 @@ pub chosen-from : (s : Aic) (f a w l r : ℕ) → f ≡ wordOf 32 (fast s) → a
     → Found w (s .mode) l 32 r → r ≡ chosen s
 unfolding Sees
 chosen-from s f a w l r e g h i found =
-    chosen-by s w (λ k m. waits-are s w k (h ∙ ap₂ without g e) m) r (rw i at found)
+    chosen-by s w r (λ k m. waits-are s w k (h ∙ ap₂ without g e) m) (rw i at found)
 
 pub irq-from : (s : Aic) (h : Bool) (r : ℕ) → h ≡ bit (s .mask) 1 → r ≡ chosen s → (not h && ltb r 32) ≡ irq s
 unfolding irq masked

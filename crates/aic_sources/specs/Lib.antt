@@ -2,5 +2,5 @@
 pub mod Fast
 pub mod Normal
 pub mod Pending
-pub mod Search
 pub mod Promises
+pub mod Search

@@ -1,14 +1,11 @@
 // The AT91 controller's sources: which are pending, fast or candidates, which one is ahead of all others, and the two outputs.
 ghost use mathlib.Core.Path.{_≡_};
-ghost use mathlib.Core.Bool.{Bool, not, _&&_, _||_};
-ghost use Prim.Native.Nat.{ℕ, _+_, _<_};
-ghost use lib.Dec.{eqb, ltb, leb};
+ghost use mathlib.Core.Bool.{not};
 ghost use Rattle.words.specs.Choice.{pick};
-ghost use Rattle.words.specs.Counting.{anyBelow};
 ghost use Rattle.words.specs.Word.{bit, wordOf};
 ghost use Rattle.aic_sources.specs.Pending.{activeAt, asking, pendingWord, edgeWord};
-ghost use Rattle.aic_sources.specs.Fast.{fast, fastAsks, masked, fiq};
-ghost use Rattle.aic_sources.specs.Normal.{waiting, candidates, chosen, irq};
+ghost use Rattle.aic_sources.specs.Fast.{fast, fastAsks, fiq};
+ghost use Rattle.aic_sources.specs.Normal.{chosen, irq};
 ghost use Rattle.aic_sources.specs.Search.{modeWord, Found};
 use aic_record::Aic;
 

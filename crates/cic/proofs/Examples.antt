@@ -13,7 +13,7 @@ use Rattle.cic_record.specs.Sound.{withinOf, sound, numbersSound, wordsSound, m
 use Rattle.cic_record.specs.Start.{fresh, configured, started}
 use Rattle.cic_maps.specs.Maps.{byteTaken, mapTaken}
 use Rattle.cic_words.specs.Bits.{wordRead}
-use Rattle.cic_registers.specs.Map.{singleAt, registerAt, accessOf}
+use Rattle.cic_layout.specs.Map.{singleAt, registerAt, accessOf}
 use Rattle.cic_registers.specs.Registers.{valueOf, valueRefusal}
 use Rattle.cic.specs.Stepping.{readAs, writeAs, readOf, writeOf}
 

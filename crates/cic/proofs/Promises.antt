@@ -23,7 +23,7 @@ use Rattle.cic_record.specs.Kinds.{system}
 use Rattle.cic_record.specs.Record.{withLines, withStatus, refused, answered}
 use Rattle.cic_record.specs.Sound.{sound}
 use Rattle.cic_record.proofs.PartsLaws.{sound-parts, sound-lines, sound-status}
-use Rattle.cic_registers.specs.Map.{registerAt, access}
+use Rattle.cic_layout.specs.Map.{registerAt, access}
 use Rattle.cic_registers.specs.Registers.{valueOf, valueRefusal, writtenTo}
 use Rattle.cic_registers.proofs.WrittenLaws.{value-number, sound-written}
 use Rattle.cic.specs.Promises.{Promises}
@@ -70,6 +70,14 @@ unfolding lineAs
 lines-zero c s level = pick-cases (λ (a : Answer). a .value ≡ 0) (eqb (lineRefusal (sound c) (c .systems) s level) carriedOut) (λ _. refl) (λ _. refl)
 
 -- ---- lines
+
+rises : (c : Cic) (s : System) → bitAt (c .lines) (s .0) ≡ false → moved c s true .status ≡ withBitAt (c .status) (s .0) true
+unfolding moved
+rises c s e = ap (λ (d : Cic). d .status) (sym (pick-true (withLines c (withBitAt (c .lines) (s .0) true)) (ap not e)))
+
+keeps-level : (c : Cic) (s : System) (high : Bool) → moved c s high .lines ≡ withBitAt (c .lines) (s .0) high
+unfolding moved
+keeps-level c s high = pick-cases (λ (d : Cic). d .lines ≡ withBitAt (c .lines) (s .0) high) (high && not (bitAt (c .lines) (s .0))) (λ _. refl) (λ _. refl)
 
 falls : (c : Cic) (s : System) → moved c s false .status ≡ c .status
 unfolding moved
@@ -126,6 +134,8 @@ kept =
       lines = lines;
       writesZero = writes-zero;
       linesZero = lines-zero;
+      rises = rises;
+      keepsLevel = keeps-level;
       falls = falls;
       staysHigh = stays-high;
       same = λ c s a b p q. p ∙ sym q;

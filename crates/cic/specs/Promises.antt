@@ -2,8 +2,8 @@
 use mathlib.Core.Bool.{Bool, true, false}
 use mathlib.Core.Path.{_≡_}
 use mathlib.Core.Logic.{_≢_}
-use Prim.Native.Nat.{ℕ, _<_}
-use Rattle.words.specs.Array.{bitAt}
+use Prim.Native.Nat.{ℕ}
+use Rattle.words.specs.Array.{bitAt, withBitAt}
 use Rattle.steps.specs.declared.Step.{Step}
 use Rattle.steps.specs.Refusals.{carriedOut}
 use Rattle.steps.specs.Tables.{ReadTable, WriteTable, LineTable}
@@ -12,7 +12,7 @@ use Rattle.cic_record.specs.declared.Cic.{Cic}
 use Rattle.cic_record.specs.declared.System.{System}
 use Rattle.cic_record.specs.Record.{refused}
 use Rattle.cic_record.specs.Sound.{sound}
-use Rattle.cic_registers.specs.Map.{registerAt, access}
+use Rattle.cic_layout.specs.Map.{registerAt, access}
 use Rattle.cic_registers.specs.Registers.{valueRefusal}
 use Rattle.cic.specs.Stepping.{readOf, writeOf, lineOf, stepOf, moved}
 
@@ -28,6 +28,10 @@ pub record Promises : Type 0 where
   -- accepted writes and lines answer the value 0 (01, Numbers)
   pub writesZero : (c : Cic) (offset v : ℕ) → writeOf c offset v .value ≡ 0
   pub linesZero : (c : Cic) (s level : ℕ) → lineOf c s level .value ≡ 0
+  -- a rising line sets its own status (01, CIC, configuration)
+  pub rises : (c : Cic) (s : System) → bitAt (c .lines) (s .0) ≡ false → moved c s true .status ≡ withBitAt (c .status) (s .0) true
+  -- the line keeps its level (01, CIC, configuration)
+  pub keepsLevel : (c : Cic) (s : System) (high : Bool) → moved c s high .lines ≡ withBitAt (c .lines) (s .0) high
   -- a falling line changes no status, and neither does a high line that is put high again (01, CIC, configuration)
   pub falls : (c : Cic) (s : System) → moved c s false .status ≡ c .status
   pub staysHigh : (c : Cic) (s : System) → bitAt (c .lines) (s .0) ≡ true → moved c s true .status ≡ c .status

@@ -13,18 +13,18 @@ use Rattle.cic_record.specs.declared.System.{System}
 use Rattle.cic_record.specs.Kinds.{system}
 use Rattle.cic_record.specs.Record.{withLines, withStatus, refused, answered}
 use Rattle.cic_record.specs.Sound.{sound}
-use Rattle.cic_registers.specs.Map.{registerAt, access}
+use Rattle.cic_layout.specs.Map.{registerAt, access}
 use Rattle.cic_registers.specs.Registers.{valueOf, valueRefusal, writtenTo}
 
 -- the first answer where nothing is refused, else the same record with the number (01, Numbers)
 abbrev pub unlessRefused : Cic → ℕ → Answer → Answer
 unlessRefused c n a = pick (eqb n carriedOut) a (refused c n)
 
--- a read of a record that is sound or not, as `ok` says
+-- a read of a record that is sound or not, as `ok` says (01, Numbers)
 unfoldable pub readAs : Bool → Cic → ℕ → Answer
 readAs ok c offset = unlessRefused c (readRefusal ok offset (access c offset)) (answered c (valueOf c (registerAt offset)))
 
--- a write to such a record; one that is carried out answers the value 0
+-- a write to such a record; one that is carried out answers the value 0 (01, Numbers)
 unfoldable pub writeAs : Bool → Cic → ℕ → ℕ → Answer
 writeAs ok c offset v =
     unlessRefused c (writeRefusal ok offset (access c offset) (valueRefusal c (registerAt offset) v)) (answered (writtenTo c (registerAt offset) v) 0)
@@ -40,21 +40,24 @@ moved c s high =
 unfoldable pub lineAs : Bool → Cic → ℕ → ℕ → Answer
 lineAs ok c s level = unlessRefused c (lineRefusal ok (c .systems) s level) (answered (moved c (system s) (eqb level 1)) 0)
 
--- any step of such a record
+-- any step of such a record (01, Numbers)
 unfoldable pub stepAs : Bool → Cic → Step → Answer
 stepAs ok c (Read offset) = readAs ok c offset
 stepAs ok c (Write offset v) = writeAs ok c offset v
 stepAs ok c (Line s level) = lineAs ok c s level
 
--- what is carried out on the record c, and what is refused (01, CIC)
+-- a read of the record c; one that is not sound is refused by 12 (01, Numbers)
 abbrev pub readOf : Cic → ℕ → Answer
 readOf c offset = readAs (sound c) c offset
 
+-- a write to the record c (01, Numbers)
 abbrev pub writeOf : Cic → ℕ → ℕ → Answer
 writeOf c offset v = writeAs (sound c) c offset v
 
+-- a line step of the record c (01, Numbers)
 abbrev pub lineOf : Cic → ℕ → ℕ → Answer
 lineOf c s level = lineAs (sound c) c s level
 
+-- any step of the record c (01, Numbers)
 abbrev pub stepOf : Cic → Step → Answer
 stepOf c s = stepAs (sound c) c s

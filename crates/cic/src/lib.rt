@@ -89,6 +89,7 @@ pub fn asserted(c: Cic, h: Host) -> bool
     cic_hosts::asserted(c, h)
 }
 
+// A step that is refused: its number, the value 0 and the same record.
 fn refuse(c: Cic, n: u32) -> Answer
     ensures { λ r. ⌜ r ≡ refused c n ⌝ }
 {
@@ -99,6 +100,7 @@ fn refuse(c: Cic, n: u32) -> Answer
     }
 }
 
+// A step that is carried out, with its value and the record after it.
 fn carry_out(c: Cic, value: u32) -> Answer
     ensures { λ r. ⌜ r ≡ answered c value ⌝ }
 {
@@ -113,8 +115,8 @@ fn carry_out(c: Cic, value: u32) -> Answer
 fn read_as(ok: bool, c: Cic, offset: u32) -> Answer
     ensures { λ r. ⌜ r ≡ readAs ok c offset ⌝ }
 {
-    let r = cic_registers::register_at(offset);
-    let n = steps::read_refusal(ok, offset, cic_registers::access_of(c, r));
+    let r = cic_layout::register_at(offset);
+    let n = steps::read_refusal(ok, offset, cic_layout::access_of(c, r));
     if n != steps::CARRIED_OUT {
         return refuse(c, n);
     }
@@ -125,11 +127,11 @@ fn read_as(ok: bool, c: Cic, offset: u32) -> Answer
 fn write_as(ok: bool, c: Cic, offset: u32, value: u32) -> Answer
     ensures { λ r. ⌜ r ≡ writeAs ok c offset value ⌝ }
 {
-    let r = cic_registers::register_at(offset);
+    let r = cic_layout::register_at(offset);
     let n = steps::write_refusal(
         ok,
         offset,
-        cic_registers::access_of(c, r),
+        cic_layout::access_of(c, r),
         cic_registers::value_refusal(c, r, value),
     );
     if n != steps::CARRIED_OUT {

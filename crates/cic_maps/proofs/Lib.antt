@@ -1,2 +1,3 @@
--- The laws of map registers.
+-- The laws of map registers, and the proof of what is promised of them.
 pub mod MapLaws
+pub mod Promises

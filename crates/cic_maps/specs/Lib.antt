@@ -1,2 +1,3 @@
 -- Registers of map bytes.
 pub mod Maps
+pub mod Promises

@@ -54,6 +54,7 @@ pub struct Outputs {
     pub lowest: u32,
 }
 
+// Whether n is one of lowest to highest.
 fn in_range(lowest: u32, highest: u32, n: u32) -> bool
     ensures { λ r. ⌜ r ≡ between lowest highest n ⌝ }
 {
@@ -72,6 +73,7 @@ pub fn within(place: u32, n: u32) -> bool
     }
 }
 
+// Lines low and all registers 0, beside the configured numbers.
 fn make(systems: u32, channels: u32, hosts: u32, revision: u32) -> Cic
     ensures { λ r. ⌜ r ≡ fresh systems channels hosts revision ⌝ }
 {
@@ -90,6 +92,7 @@ fn make(systems: u32, channels: u32, hosts: u32, revision: u32) -> Cic
     }
 }
 
+// Whether each configuration number is within its limits.
 fn all_within(systems: u32, channels: u32, hosts: u32, revision: u32) -> bool
     ensures { λ r. ⌜ r ≡ configured systems channels hosts revision ⌝ }
 {
@@ -139,12 +142,14 @@ fn words_clean(n: u32, ws: &[u32]) -> bool
     ok
 }
 
+// Whether a map byte is below its limit.
 fn under(b: u8, limit: u32) -> bool
     ensures { λ r. ⌜ r ≡ ltb b limit ⌝ }
 {
     (b as u32) < limit
 }
 
+// Whether a map byte is 0.
 fn clear(b: u8) -> bool
     ensures { λ r. ⌜ r ≡ eqb b 0 ⌝ }
 {
@@ -187,12 +192,14 @@ fn map_sound(m: &[u8], n: usize, limit: u32) -> bool
     bytes_under(m, n, limit) & bytes_clear(m, n)
 }
 
+// Whether the counts are in their ranges and global enable is 0 or 1.
 fn numbers_sound(systems: u32, channels: u32, hosts: u32, global: u32) -> bool
     ensures { λ r. ⌜ r ≡ (withinOf 0 systems && (withinOf 1 channels && (withinOf 2 hosts && leb global 1))) ⌝ }
 {
     within(0, systems) & (within(1, channels) & (within(2, hosts) & (global <= 1)))
 }
 
+// Whether no bit beyond the counts is set.
 fn words_sound(c: Cic) -> bool
     ensures { λ r. ⌜ r ≡ wordsSound c ⌝ }
 {
@@ -204,6 +211,7 @@ fn words_sound(c: Cic) -> bool
     lines & (status & (enable & words_clean(hosts, &c.allow)))
 }
 
+// Whether both maps are sound, of a record whose counts are in their ranges.
 fn maps_sound(c: Cic) -> bool
     requires { ⌜ (c .systems ≤ 1024) × (c .channels ≤ 256) ⌝ }
     ensures { λ r. ⌜ r ≡ mapsSound c ⌝ }

@@ -1,2 +1,3 @@
--- The laws of the registers.
+-- The laws of the registers, and the proof of what is promised of them.
+pub mod Promises
 pub mod WrittenLaws

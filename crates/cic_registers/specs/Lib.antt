@@ -1,3 +1,3 @@
--- The CIC's registers: where they stand, what they answer, and what a write does.
-pub mod Map
+-- What the CIC's registers answer, what a write does, and what is promised of them.
+pub mod Promises
 pub mod Registers

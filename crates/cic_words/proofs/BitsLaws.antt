@@ -1,13 +1,67 @@
--- Writes to registers of bits keep an array clean of spare bits.
-use mathlib.Core.Path.{_≡_}
-use mathlib.Core.Bool.{true}
+-- Registers of bits: their bits after a read or a write, and that writes keep an array clean of spare bits.
+use mathlib.Core.Path.{_≡_, sym, ap, ap₂, _∙_}
+use mathlib.Core.Bool.{Bool, true, not, _&&_, _||_}
 use mathlib.Core.List.{List}
-use Prim.Native.Nat.{ℕ}
-use lib.ListN.{getD}
-use Rattle.words.specs.Array.{restAt, cleanBelow}
-use Rattle.words.specs.Word.{either, without, kept}
-use Rattle.words.proofs.ArrayLaws.{clean-put, clean-word, clean-kept, clean-either, clean-without}
-use Rattle.cic_words.specs.Bits.{bitsSet, bitsCleared, wordReplaced}
+use mathlib.Core.Logic.{_≢_}
+use Prim.Native.Nat.{ℕ, _+_, _-_, _*_, _<_}
+use native.Mathlib.Omega.{arith}
+use borrow.Author.Tests.{lt-ltb, ltb-true}
+use lib.Dec.{ltb}
+use lib.ListN.{getD, set, length}
+use lib.Seq.{getD-set-same, getD-set-other}
+use Rattle.words.specs.Array.{bitAt, restAt, cleanBelow}
+use Rattle.words.specs.Word.{bit, either, without, kept}
+use Rattle.words.proofs.ArrayLaws.{bitAt-word, clean-put, clean-word, clean-kept, clean-either, clean-without}
+use Rattle.words.proofs.TruthLaws.{same-test}
+use Rattle.words.proofs.WordLaws.{bit-either, bit-without, bit-kept}
+use Rattle.cic_words.specs.Bits.{wordRead, bitsSet, bitsCleared, wordReplaced}
+
+-- ---- their bits
+
+-- bit j of word k is one of the n exactly if thing 32 * k + j is
+in-use : (n k j : ℕ) → ltb j (restAt n k) ≡ ltb (32 * k + j) n
+in-use n k j = same-test (ltb j (n - 32 * k)) (ltb (32 * k + j) n) (λ e. lt-ltb (32 * k + j) n (omega (arith, ltb-true j (n - 32 * k) e))) (λ e. lt-ltb j (n - 32 * k) (omega (arith, ltb-true (32 * k + j) n e)))
+
+kept-bit : (n w k j : ℕ) → bit (kept (restAt n k) w) j ≡ (bit w j && ltb (32 * k + j) n)
+kept-bit n w k j = bit-kept (restAt n k) w j ∙ ap (λ (t : Bool). bit w j && t) (in-use n k j)
+
+-- the bits of the word that was put
+put-bit : (ws : List ℕ) (k x j : ℕ) → k < length ws → j < 32 → bitAt (set ws k x) (32 * k + j) ≡ bit x j
+put-bit ws k x j l b = bitAt-word (set ws k x) k j b ∙ ap (λ (w : ℕ). bit w j) (getD-set-same ws k x 0 l)
+
+pub read-bit : (n : ℕ) (ws : List ℕ) (k j : ℕ) → j < 32 → bit (wordRead n ws k) j ≡ (bitAt ws (32 * k + j) && ltb (32 * k + j) n)
+unfolding wordRead
+read-bit n ws k j b = kept-bit n (getD ws k 0) k j ∙ ap (λ (t : Bool). t && ltb (32 * k + j) n) (sym (bitAt-word ws k j b))
+
+pub set-bits : (n : ℕ) (ws : List ℕ) (k v j : ℕ) → k < length ws → j < 32 → bitAt (bitsSet n ws k v) (32 * k + j) ≡ (bitAt ws (32 * k + j) || (bit v j && ltb (32 * k + j) n))
+unfolding bitsSet
+set-bits n ws k v j l b =
+    put-bit ws k (either (getD ws k 0) (kept (restAt n k) v)) j l b ∙ bit-either (getD ws k 0) (kept (restAt n k) v) j b
+    ∙ ap₂ (λ (s t : Bool). s || t) (sym (bitAt-word ws k j b)) (kept-bit n v k j)
+
+pub clear-bits : (ws : List ℕ) (k v j : ℕ) → k < length ws → j < 32 → bitAt (bitsCleared ws k v) (32 * k + j) ≡ (bitAt ws (32 * k + j) && not (bit v j))
+unfolding bitsCleared
+clear-bits ws k v j l b =
+    put-bit ws k (without (getD ws k 0) v) j l b ∙ bit-without (getD ws k 0) v j b ∙ ap (λ (t : Bool). t && not (bit v j)) (sym (bitAt-word ws k j b))
+
+pub replace-bits : (n : ℕ) (ws : List ℕ) (k v j : ℕ) → k < length ws → j < 32 → bitAt (wordReplaced n ws k v) (32 * k + j) ≡ (bit v j && ltb (32 * k + j) n)
+unfolding wordReplaced
+replace-bits n ws k v j l b = put-bit ws k (kept (restAt n k) v) j l b ∙ kept-bit n v k j
+
+-- no other word changes
+pub set-no-other : (n : ℕ) (ws : List ℕ) (k v i : ℕ) → i ≢ k → getD (bitsSet n ws k v) i 0 ≡ getD ws i 0
+unfolding bitsSet
+set-no-other n ws k v i d = getD-set-other ws k i (either (getD ws k 0) (kept (restAt n k) v)) 0 d
+
+pub clear-no-other : (ws : List ℕ) (k v i : ℕ) → i ≢ k → getD (bitsCleared ws k v) i 0 ≡ getD ws i 0
+unfolding bitsCleared
+clear-no-other ws k v i d = getD-set-other ws k i (without (getD ws k 0) v) 0 d
+
+pub replace-no-other : (n : ℕ) (ws : List ℕ) (k v i : ℕ) → i ≢ k → getD (wordReplaced n ws k v) i 0 ≡ getD ws i 0
+unfolding wordReplaced
+replace-no-other n ws k v i d = getD-set-other ws k i (kept (restAt n k) v) 0 d
+
+-- ---- clean of spare bits
 
 pub clean-bitsSet : (m n : ℕ) (ws : List ℕ) (k v : ℕ) → cleanBelow m n ws ≡ true → cleanBelow m n (bitsSet n ws k v) ≡ true
 unfolding bitsSet

@@ -1,2 +1,3 @@
 -- Registers of bits.
 pub mod Bits
+pub mod Promises

@@ -47,7 +47,7 @@ pub fn read_word(n: u32, ws: &[u32], k: u32) -> u32
     kept_at(n, k, word_at(ws, k))
 }
 
-// The four arrays of bits with word k put anew; past the end nothing changes.
+// Word k of the line levels is put anew; past the end nothing changes, here and below.
 fn put_lines(c: Cic, k: u32, w: u32) -> Cic
     ensures { λ r. ⌜ r ≡ withLines c (set (c .lines) k w) ⌝ }
 {
@@ -60,6 +60,7 @@ fn put_lines(c: Cic, k: u32, w: u32) -> Cic
     d
 }
 
+// Word k of the status is put anew.
 fn put_status(c: Cic, k: u32, w: u32) -> Cic
     ensures { λ r. ⌜ r ≡ withStatus c (set (c .status) k w) ⌝ }
 {
@@ -72,6 +73,7 @@ fn put_status(c: Cic, k: u32, w: u32) -> Cic
     d
 }
 
+// Word k of the system enables is put anew.
 fn put_enable(c: Cic, k: u32, w: u32) -> Cic
     ensures { λ r. ⌜ r ≡ withEnable c (set (c .enable) k w) ⌝ }
 {
@@ -84,6 +86,7 @@ fn put_enable(c: Cic, k: u32, w: u32) -> Cic
     d
 }
 
+// Word k of the host enables is put anew.
 fn put_allow(c: Cic, k: u32, w: u32) -> Cic
     ensures { λ r. ⌜ r ≡ withAllow c (set (c .allow) k w) ⌝ }
 {

@@ -20,7 +20,7 @@ use Rattle.coreinterrupt_side.specs.declared.Group.{Group}
 use Rattle.coreinterrupt_side.specs.Group.{idle, raw, status, active, other, outputLevel, withInputs, withSoft, withEnable, clearAccess, groupAccess, groupRead, setBits, clearBits, groupWrite, moved, groupSound}
 use Rattle.coreinterrupt_side.specs.Promises.{SomeSource, Parts}
 use Rattle.coreinterrupt_side.proofs.TableLaws.{access-past, read-past, write-past}
-use Rattle.coreinterrupt_side.proofs.MoreLaws.{either-narrow, both-narrow, without-narrow, withBit-narrow, some-bit, bit-not-zero, bit-below}
+use Rattle.words.proofs.WordLaws.{either-narrow, both-narrow, without-narrow, withBit-narrow, some-bit, bit-not-zero, bit-below}
 
 -- ---- bits
 

@@ -2,7 +2,6 @@
 pub mod Examples
 pub mod FormLaws
 pub mod GroupLaws
-pub mod MoreLaws
 pub mod NumberLaws
 pub mod Promises
 pub mod ReadLaws

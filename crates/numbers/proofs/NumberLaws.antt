@@ -17,7 +17,7 @@ use Rattle.steps.specs.Refusals.{damaged}
 use Rattle.words.proofs.ChoiceLaws.{pick-true, pick-false}
 use Rattle.numbers.specs.declared.Number.{Number}
 use Rattle.numbers.specs.declared.Number.the-variants.{Value, Refused}
-use Rattle.numbers.proofs.MoreLaws.{or-neither}
+use Rattle.words.proofs.TruthLaws.{or-neither}
 use Rattle.numbers.proofs.GroupLaws.{worth-more, worth-lt}
 
 -- the test of the k-th byte of the number at a place

@@ -29,3 +29,14 @@ pub pick-ap : {A B : Type 0} (f : A → B) (t : Bool) (a b : A) → f (pick t a 
 unfolding pick
 pick-ap f true a b = refl
 pick-ap f false a b = refl
+
+-- what a function makes of both sides of a choice it makes of the choice
+pub pick-through : {A B : Type 0} (f : A → B) (t : Bool) {a b : A} {c d : B} → c ≡ f a → d ≡ f b → pick t c d ≡ f (pick t a b)
+unfolding pick
+pick-through f true p q = p
+pick-through f false p q = q
+
+-- where the test fails, of the one side
+pub pick-past : {A B : Type 0} (f : A → B) {t : Bool} (a : A) {b : A} (c : B) {d : B} → t ≡ false → d ≡ f b → pick t c d ≡ f (pick t a b)
+unfolding pick
+pick-past f a c e q = rw e q

@@ -1,6 +1,6 @@
 -- Loops that count up, one turn at a time, and what some, all, how many and the lowest of the numbers below n mean.
 use mathlib.Core.Path.{_≡_, refl, sym, ap, ap₂, _∙_}
-use mathlib.Core.Bool.{Bool, true, false, _&&_, _||_, and-assoc, or-assoc, and-true, or-false, false≢true}
+use mathlib.Core.Bool.{Bool, true, false, _&&_, _||_, and-assoc, or-assoc, and-true, and-false, or-false, false≢true}
 use mathlib.Core.Logic.{_⊎_, inl, inr, ⊎-elim}
 use Prim.Native.Nat.{ℕ, zero, suc, _+_, _≤_, _<_}
 use native.Mathlib.Nat.{add-zero, add-suc, add-assoc, le-of-suc-le-suc, eq-or-lt-of-le}
@@ -125,6 +125,18 @@ all-add n zero p = ap (λ (k : ℕ). allBelow k p) (add-zero n) ∙ sym (and-tru
 all-add n (suc m) p =
     ap (λ (k : ℕ). allBelow k p) (add-suc n m) ∙ ap (λ (b : Bool). b && p (n + m)) (all-add n m p)
     ∙ and-assoc (allBelow n p) (allBelow m (λ k. p (n + k))) (p (n + m))
+
+-- two `and`s of two parts, their inner parts changed over
+and-swap : (a b c d : Bool) → ((a && b) && (c && d)) ≡ ((a && c) && (b && d))
+and-swap true true c d = refl
+and-swap true false c d = sym (and-false c)
+and-swap false b c d = refl
+
+-- each number passes both tests exactly if each passes the one and each the other
+pub all-and : (n : ℕ) (p q : ℕ → Bool) → allBelow n (λ k. p k && q k) ≡ (allBelow n p && allBelow n q)
+unfolding allBelow
+all-and zero p q = refl
+all-and (suc n) p q = ap (λ (b : Bool). b && (p n && q n)) (all-and n p q) ∙ and-swap (allBelow n p) (allBelow n q) (p n) (q n)
 
 -- ---- how many numbers below n pass
 

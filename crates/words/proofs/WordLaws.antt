@@ -1,6 +1,7 @@
 -- The bits of a word, over any width n: of a gathered word, of what `|`, `&`, `!` and `%` make, and words that are equal if their bits are.
 use mathlib.Core.Path.{_≡_, refl, sym, ap, ap₂, _∙_}
-use mathlib.Core.Bool.{Bool, true, false, not, _&&_, _||_, and-true, and-false}
+use mathlib.Core.Bool.{Bool, true, false, not, _&&_, _||_, and-true, and-false, or-true, or-false}
+use mathlib.Core.Logic.{_≢_, _⊎_, inl, inr}
 use Prim.Native.Nat.{ℕ, zero, suc, _+_, _-_, _*_, _/_, _%_, _^_, _≤_, _<_}
 use native.Mathlib.Nat.{mod-lt, mod-eq-of-lt, div-eq-of-lt, lt-of-lt-of-le, zero-add, div-one, one-mul}
 use native.Mathlib.Numerals.{add-one}
@@ -8,15 +9,15 @@ use native.Mathlib.Decide.{decLt, ℕ-discrete}
 use native.Mathlib.Omega.{arith}
 use borrow.Author.Tests.{eq-eqb, ne-eqb, eqb-true, lt-ltb, le-ltb}
 use lib.Bits.{bitAnd, bitOr, and-shr, and-mod, or-shr, or-mod, or-lt, and-lt}
-use lib.Count.{ones, ones-step, under, trailingZeros, trailing-le}
+use lib.Count.{ones, ones-step, under, trailingZeros}
 use lib.Dec.{eqb, ltb}
-use lib.Pow.{pow-pos, pow-mono, pow-lt, high, low, field, mod-mod-pow, mod-pow-add, shr-shr, shr-lt, ones-sub-lt, shl-exact}
+use lib.Pow.{pow-pos, pow-mono, pow-lt, high, low, field, mod-mod-pow, mod-pow-add, shr-shr, ones-sub-lt, shl-exact}
 use Rattle.words.specs.Choice.{pick}
-use Rattle.words.specs.Counting.{one, countBelow, lowestBelow}
+use Rattle.words.specs.Counting.{anyBelow, one, countBelow, lowestBelow}
 use Rattle.words.specs.Word.{bit, wordOf, either, both, without, withBit, kept, clean}
-use Rattle.words.proofs.ChoiceLaws.{pick-true, pick-false}
-use Rattle.words.proofs.CountingLaws.{one-le, count-same, count-add, Lowest, lowest-found, lowest-one}
-use Rattle.words.proofs.TruthLaws.{clash}
+use Rattle.words.proofs.ChoiceLaws.{pick-true, pick-false, pick-cases}
+use Rattle.words.proofs.CountingLaws.{any-some, any-fails, count-same, count-add, Lowest, lowest-found, lowest-one}
+use Rattle.words.proofs.TruthLaws.{clash, told}
 
 -- ---- a gathered word
 
@@ -258,6 +259,52 @@ pub wordOf-none-yet : (f : ℕ → Bool) → _≡_ {A = ℕ} 0 (wordOf 0 f)
 unfolding wordOf
 wordOf-none-yet f = refl
 
+-- ---- one bit put anew, and one bit looked at
+
+-- the bits of a word that a word of one bit has
+pub both-alone : (w k : ℕ) → k < 32 → both w (2 ^ k) ≡ pick (bit w k) (2 ^ k) 0
+unfolding pick
+both-alone w k l =
+    same-word 32 (both w (2 ^ k)) (pick (bit w k) (2 ^ k) 0) (both-lt w (2 ^ k))
+    (pick-cases (λ n. n < 2 ^ 32) (bit w k) (λ _. pow-lt l) (λ _. pow-pos 32))
+    (λ j m. bit-both w (2 ^ k) j m ∙ ap (λ (t : Bool). bit w j && t) (bit-alone k j) ∙ go j (ℕ-discrete j k))
+  where
+    at : (t : Bool) → t ≡ bit (pick t (2 ^ k) 0) k
+    at true = sym (bit-alone k k ∙ eq-eqb k k refl)
+    at false = sym (bit-none k)
+
+    go : (j : ℕ) → Dec (j ≡ k) → (bit w j && eqb j k) ≡ bit (pick (bit w k) (2 ^ k) 0) j
+    go j (yes e) = rw (e, eq-eqb k k refl) (and-true (bit w k) ∙ at (bit w k))
+    go j (no n) =
+        rw (ne-eqb j k n) (and-false (bit w j) ∙ sym (pick-cases (λ x. bit x j ≡ false) (bit w k) (λ _. bit-alone k j ∙ ne-eqb j k n) (λ _. bit-none j)))
+
+-- a bit cleared, or set, and then the same where a test holds
+pub bit-cleared : (w k j : ℕ) → j < 32 → bit (withBit w k false) j ≡ (bit w j && not (eqb j k))
+unfolding pick
+bit-cleared w k j l = bit-withBit w k false j l ∙ go (eqb j k) (bit w j)
+  where
+    go : (q b : Bool) → pick q false b ≡ (b && not q)
+    go true b = sym (and-false b)
+    go false b = sym (and-true b)
+
+pub bit-put : (w k j : ℕ) → j < 32 → bit (withBit w k true) j ≡ (bit w j || eqb j k)
+unfolding pick
+bit-put w k j l = bit-withBit w k true j l ∙ go (eqb j k) (bit w j)
+  where
+    go : (q b : Bool) → pick q true b ≡ (b || q)
+    go true b = sym (or-true b)
+    go false b = sym (or-false b)
+
+pub bit-cleared-if : (w k : ℕ) (t : Bool) (j : ℕ) → j < 32 → bit (pick t (withBit w k false) w) j ≡ (bit w j && not (eqb j k && t))
+unfolding pick
+bit-cleared-if w k true j l = bit-cleared w k j l ∙ sym (ap (λ (x : Bool). bit w j && not x) (and-true (eqb j k)))
+bit-cleared-if w k false j l = sym (ap (λ (x : Bool). bit w j && not x) (and-false (eqb j k)) ∙ and-true (bit w j))
+
+pub bit-put-if : (w k : ℕ) (t : Bool) (j : ℕ) → j < 32 → bit (pick t (withBit w k true) w) j ≡ (bit w j || (eqb j k && t))
+unfolding pick
+bit-put-if w k true j l = bit-put w k j l ∙ sym (ap (λ (x : Bool). bit w j || x) (and-true (eqb j k)))
+bit-put-if w k false j l = sym (ap (λ (x : Bool). bit w j || x) (and-false (eqb j k)) ∙ or-false (bit w j))
+
 -- ---- dropped bits
 
 pub bit-kept : (n w k : ℕ) → bit (kept n w) k ≡ (bit w k && ltb k n)
@@ -293,6 +340,49 @@ bits-clean m n w l h = eq-eqb (kept n w) w (go (decLt n m))
         turn k q (yes p) = ap (λ (t : Bool). bit w k && t) (lt-ltb k n p) ∙ and-true (bit w k)
         turn k q (no p) = ap (λ (t : Bool). t && ltb k n) (h k (omega arith) q) ∙ sym (h k (omega arith) q)
     go (no s) = unfold kept in (mod-eq-of-lt (lt-of-lt-of-le l (pow-mono (omega arith))))
+
+-- ---- words of at most n bits stay such, and a word that is not 0 has a bit
+
+pub either-narrow : (n a b : ℕ) → a < 2 ^ n → b < 2 ^ n → either a b < 2 ^ n
+either-narrow n a b p q =
+    clean-lt n (either a b)
+    (bits-clean 32 n (either a b) (either-lt a b) (λ k r s. bit-either a b k s ∙ ap₂ _||_ (bit-past n a k p r) (bit-past n b k q r)))
+
+pub both-narrow : (n a b : ℕ) → a < 2 ^ n → both a b < 2 ^ n
+both-narrow n a b p =
+    clean-lt n (both a b)
+    (bits-clean 32 n (both a b) (both-lt a b) (λ k r s. bit-both a b k s ∙ ap (λ (t : Bool). t && bit b k) (bit-past n a k p r)))
+
+pub without-narrow : (n a b : ℕ) → a < 2 ^ n → without a b < 2 ^ n
+without-narrow n a b p =
+    clean-lt n (without a b)
+    (bits-clean 32 n (without a b) (without-lt a b) (λ k r s. bit-without a b k s ∙ ap (λ (t : Bool). t && not (bit b k)) (bit-past n a k p r)))
+
+pub withBit-narrow : (n w k : ℕ) (t : Bool) → k < n → w < 2 ^ n → withBit w k t < 2 ^ n
+withBit-narrow n w k t l p =
+    clean-lt n (withBit w k t)
+    (bits-clean 32 n (withBit w k t) (withBit-lt w k t)
+    (λ j r s. bit-withBit w k t j s ∙ sym (pick-false t (ne-eqb j k (omega arith))) ∙ bit-past n w j p r))
+
+-- a word that is not 0 has a bit
+pub some-bit : (n w : ℕ) → w < 2 ^ n → w ≢ 0 → (k : ℕ) × (k < n) × (bit w k ≡ true)
+some-bit n w l d = go (told (anyBelow n (bit w)))
+  where
+    go : (anyBelow n (bit w) ≡ true) ⊎ (anyBelow n (bit w) ≡ false) → (k : ℕ) × (k < n) × (bit w k ≡ true)
+    go (inl e) = any-some n (bit w) e
+    go (inr e) = absurd (d (bit-some n w l (any-fails n (bit w) e)))
+
+-- a word with a bit is not 0
+pub bit-not-zero : (w k : ℕ) → bit w k ≡ true → w ≢ 0
+bit-not-zero w k e z = clash e (ap (λ (x : ℕ). bit x k) z ∙ bit-none k)
+
+-- a bit of a word of n bits lies below n
+pub bit-below : (n w k : ℕ) → w < 2 ^ n → bit w k ≡ true → k < n
+bit-below n w k l e = go (decLt k n)
+  where
+    go : Dec (k < n) → k < n
+    go (yes p) = p
+    go (no p) = clash e (bit-past n w k l (omega arith))
 
 -- ---- counts of bits and the lowest bit
 

@@ -1,5 +1,5 @@
 use Rattle.aic.proofs.CallLaws.{line-unsound}
-use mathlib.Core.Path.{sym, ap, ap₂, _∙_}
+use mathlib.Core.Path.{sym, _∙_}
 use borrow.Author.Needs.{needs}
 use Rattle.aic.proofs.line.Statement.{statement}
 use Rattle.aic.proofs.line.Tie as tie

@@ -1,8 +1,8 @@
 use Rattle.aic_record.specs.declared.Aic.{Aic}
-use Rattle.aic.specs.Handlers.{answered}
+use Rattle.aic_registers.specs.Handlers.{answered}
 use Rattle.aic.specs.Model.{line}
 use Rattle.aic.proofs.CallLaws.{done, stopped, line-number}
-use mathlib.Core.Path.{sym, ap, ap₂, _∙_}
+use mathlib.Core.Path.{ap, _∙_}
 use borrow.Author.Needs.{needs}
 use Rattle.aic.proofs.line_sound.Statement.{statement}
 use Rattle.aic.proofs.line_sound.Tie as tie

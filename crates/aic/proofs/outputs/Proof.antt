@@ -1,6 +1,6 @@
 use Rattle.aic.specs.Model.{outputs}
-use Rattle.words.proofs.ChoiceLaws.{pick-true, pick-false, by-true, by-false}
-use mathlib.Core.Path.{sym, ap, ap₂, _∙_}
+use Rattle.words.proofs.ChoiceLaws.{by-false}
+use mathlib.Core.Path.{sym, _∙_}
 use borrow.Author.Needs.{needs}
 use Rattle.aic.proofs.outputs.Statement.{statement}
 use Rattle.aic.proofs.outputs.Tie as tie

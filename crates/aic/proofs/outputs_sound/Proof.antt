@@ -1,8 +1,8 @@
 use Rattle.steps.specs.Refusals.{carriedOut}
 use mathlib.Core.Bool.{Bool}
 use Rattle.aic.specs.Model.{outputs}
-use Rattle.words.proofs.ChoiceLaws.{pick-true, pick-false, by-true, by-false}
-use mathlib.Core.Path.{sym, ap, ap₂, _∙_}
+use Rattle.words.proofs.ChoiceLaws.{pick-true}
+use mathlib.Core.Path.{ap₂, _∙_}
 use borrow.Author.Needs.{needs}
 use Rattle.aic.proofs.outputs_sound.Statement.{statement}
 use Rattle.aic.proofs.outputs_sound.Tie as tie

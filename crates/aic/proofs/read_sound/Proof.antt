@@ -1,13 +1,13 @@
 use Rattle.aic.specs.Model.{read}
 use Rattle.aic.proofs.CallLaws.{done, stopped, read-number}
-use mathlib.Core.Path.{sym, ap, ap₂, _∙_}
-use Rattle.aic_record.proofs.PassLaws.{sound-depth}
+use mathlib.Core.Path.{_∙_}
+use Rattle.aic_record.proofs.SoundLaws.{sound-is}
 use borrow.Author.Needs.{needs}
 use Rattle.aic.proofs.read_sound.Statement.{statement}
 use Rattle.aic.proofs.read_sound.Tie as tie
 
 read-at-requires : tie.Need-read-at-requires
-read-at-requires c κs = sound-depth _ (c .before .before .before .pre)
+read-at-requires c κs = sound-is _ (c .before .before .before .pre) .handlers
 
 returns : tie.Need-returns
 unfolding read

@@ -1,5 +1,5 @@
 use Rattle.aic.specs.Model.{step}
-use mathlib.Core.Path.{sym, ap, ap₂, _∙_}
+use mathlib.Core.Path.{sym, ap, _∙_}
 use borrow.Author.Needs.{needs}
 use Rattle.aic.proofs.step_sound.Statement.{statement}
 use Rattle.aic.proofs.step_sound.Tie as tie

@@ -1,7 +1,5 @@
 use Prim.Native.Nat.{_-_, _≤_}
 use native.Mathlib.Omega.{arith}
-use mathlib.Core.Path.{ap, _∙_}
-use Rattle.aic_sources.specs.Search.{Found}
 use Rattle.aic_sources.proofs.SearchLaws.{Kept, search-none, search-more, search-done}
 use borrow.Author.Needs.{needs}
 use Rattle.aic_sources.proofs.search.Statement.{statement}

@@ -1,8 +1,8 @@
 use Rattle.cic.specs.Stepping.{readAs}
 use Rattle.cic.proofs.StepLaws.{refused-by, carried-by}
 use Rattle.cic_record.specs.Record.{answered}
-use Rattle.cic_registers.specs.declared.Register.{Register}
-use Rattle.cic_registers.specs.Map.{accessOf, registerAt}
+use Rattle.cic_layout.specs.declared.Register.{Register}
+use Rattle.cic_layout.specs.Map.{accessOf, registerAt}
 use Rattle.cic_registers.specs.Registers.{valueOf}
 use Rattle.steps.specs.Refusals.{readRefusal}
 use Rattle.cic_record.specs.declared.Cic.{Cic}

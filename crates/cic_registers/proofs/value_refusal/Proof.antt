@@ -1,6 +1,6 @@
 use Rattle.cic_registers.specs.Registers.{valueRefusal}
 use mathlib.Core.Path.{sym, ap, ap₂, _∙_}
-use Rattle.cic_registers.specs.declared.Register.{Register}
+use Rattle.cic_layout.specs.declared.Register.{Register}
 use Rattle.cic_registers.specs.Registers.{unless}
 use borrow.Author.Needs.{needs}
 use Rattle.cic_registers.proofs.value_refusal.Statement.{statement}

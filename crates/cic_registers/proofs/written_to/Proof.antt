@@ -1,6 +1,6 @@
 use Rattle.cic_registers.specs.Registers.{writtenTo}
 use mathlib.Core.Path.{sym, ap, ap₂, _∙_}
-use Rattle.cic_registers.specs.declared.Register.{Register}
+use Rattle.cic_layout.specs.declared.Register.{Register}
 use borrow.Author.Needs.{needs}
 use Rattle.cic_registers.proofs.written_to.Statement.{statement}
 use Rattle.cic_registers.proofs.written_to.Tie as tie

@@ -1,0 +1,2 @@
+-- Laws about the AT91 controller's registers.
+pub mod CallLaws

@@ -1,0 +1,3 @@
+-- The CIC's register map, and what is promised of it.
+pub mod Map
+pub mod Promises

@@ -1,0 +1,26 @@
+-- What is promised of registers of bits, bit by bit: bit j of register k is thing 32 * k + j.
+use mathlib.Core.Bool.{Bool, not, _&&_, _||_}
+use mathlib.Core.List.{List}
+use mathlib.Core.Logic.{_≢_}
+use mathlib.Core.Path.{_≡_}
+use Prim.Native.Nat.{ℕ, _+_, _*_, _<_}
+use lib.Dec.{ltb}
+use lib.ListN.{getD, length}
+use Rattle.words.specs.Array.{bitAt}
+use Rattle.words.specs.Word.{bit}
+use Rattle.cic_words.specs.Bits.{wordRead, bitsSet, bitsCleared, wordReplaced}
+
+pub record Promises : Type 0 where
+  -- a register reads the bits of its things; spare bits read 0 (01, CIC, registers)
+  pub reads : (n : ℕ) (ws : List ℕ) (k j : ℕ) → j < 32 → bit (wordRead n ws k) j ≡ (bitAt ws (32 * k + j) && ltb (32 * k + j) n)
+  -- each bit written as 1 sets its own bit; spare bits are dropped (01, CIC, registers)
+  pub sets : (n : ℕ) (ws : List ℕ) (k v j : ℕ) → k < length ws → j < 32
+      → bitAt (bitsSet n ws k v) (32 * k + j) ≡ (bitAt ws (32 * k + j) || (bit v j && ltb (32 * k + j) n))
+  -- each bit written as 1 clears its own bit (01, CIC, registers)
+  pub clears : (ws : List ℕ) (k v j : ℕ) → k < length ws → j < 32 → bitAt (bitsCleared ws k v) (32 * k + j) ≡ (bitAt ws (32 * k + j) && not (bit v j))
+  -- host enables are replaced by what is written; spare bits are dropped (01, CIC, registers)
+  pub replaces : (n : ℕ) (ws : List ℕ) (k v j : ℕ) → k < length ws → j < 32 → bitAt (wordReplaced n ws k v) (32 * k + j) ≡ (bit v j && ltb (32 * k + j) n)
+  -- no other register of the group changes
+  pub setsNoOther : (n : ℕ) (ws : List ℕ) (k v i : ℕ) → i ≢ k → getD (bitsSet n ws k v) i 0 ≡ getD ws i 0
+  pub clearsNoOther : (ws : List ℕ) (k v i : ℕ) → i ≢ k → getD (bitsCleared ws k v) i 0 ≡ getD ws i 0
+  pub replacesNoOther : (n : ℕ) (ws : List ℕ) (k v i : ℕ) → i ≢ k → getD (wordReplaced n ws k v) i 0 ≡ getD ws i 0
