@@ -12,10 +12,10 @@ use Rattle.aic_record.specs.Sound.{handlerSound, freeSound, handlersSound, memo
 use Rattle.aic_sources.specs.Pending.{activeLow, activeAt, active, pending, asking, pendingWord, edgeWord}
 use Rattle.aic_sources.specs.Fast.{fast, fastAsks, masked, fiq}
 use Rattle.aic_sources.specs.Normal.{waiting, above, candidate, ahead, foremost, candidates, chosen, irq}
-use Rattle.aic.specs.Map.{access, valueRefusal}
-use Rattle.aic.specs.Handlers.{spent, opened, startedAt, closedLast, ended, ivrRead, fastSpent, fvrRead, current}
-use Rattle.aic.specs.Effects.{moded, vectored, enabledBy, clearedBy, forcedBy, turns, moved}
-use Rattle.aic.specs.Registers.{stored, readAt, writtenAt}
+use Rattle.aic_registers.specs.Map.{access, valueRefusal}
+use Rattle.aic_registers.specs.Handlers.{spent, opened, startedAt, closedLast, ended, ivrRead, fastSpent, fvrRead, current}
+use Rattle.aic_registers.specs.Effects.{moded, vectored, enabledBy, clearedBy, forcedBy, turns, moved}
+use Rattle.aic_registers.specs.Registers.{stored, readAt, writtenAt}
 use Rattle.aic.specs.Model.{start, outputs, readNumber, writeNumber, lineNumber, read, write, line}
 use Rattle.coreinterrupt_side.specs.Group.{clearAccess, groupAccess, groupRead, groupSound}
 use Rattle.coreinterrupt.specs.Model as CoreInterrupt
@@ -23,7 +23,7 @@ use Rattle.cic_record.specs.Sound as Cic
 use Rattle.cic_record.specs.Start.{fresh, configured, started}
 use Rattle.cic_maps.specs.Maps.{byteRead, mapRead, byteTaken, mapTaken, bytePut, mapPut}
 use Rattle.cic_words.specs.Bits.{wordRead}
-use Rattle.cic_registers.specs.Map.{singleAt, registerAt, accessOf}
+use Rattle.cic_layout.specs.Map.{singleAt, registerAt, accessOf}
 use Rattle.cic_registers.specs.Registers as Registers
 use Rattle.cic.specs.Stepping.{readAs, writeAs, stepAs}
 use Rattle.cases.specs.Cases.{after, ran, raise, tower, answers, starts, startsNone, pendingBit, sameList, same, higherPriorityStarts, lowerNumberStarts, atLevelThree, equalPriorityWaits, nextPriorityNests, levelNotCleared, disabledEdge, disabledEdgeKept, forcedNine, forcedIsFast, allLevels, eightAtMost, noneToClose, clearOfNoneRead, clearOfOneRefused, cic, secondWordThere, thirdWordAbsent, channelOneNotTwo, starred, holds}

@@ -15,15 +15,15 @@ use Rattle.steps.specs.Refusals.{carriedOut, readRefusal, writeRefusal}
 use Rattle.aic_record.specs.Record.{reset}
 use Rattle.aic_record.specs.Mode.{kind, edge}
 use Rattle.aic_record.specs.Sound.{handlerSound, freeSound, handlersSound, memorySound, storedSound, sound}
-use Rattle.aic.specs.Map.{access, valueRefusal}
-use Rattle.aic.specs.Effects.{moded}
-use Rattle.aic.specs.Registers.{stored, readAt, writtenAt}
+use Rattle.aic_registers.specs.Map.{access, valueRefusal}
+use Rattle.aic_registers.specs.Effects.{moded}
+use Rattle.aic_registers.specs.Registers.{stored, readAt, writtenAt}
 use Rattle.aic.specs.Model.{start, readNumber, writeNumber, read, write}
 use Rattle.coreinterrupt_side.specs.Group.{clearAccess, groupAccess, groupRead, setBits, groupWrite, groupSound}
 use Rattle.coreinterrupt.specs.Model as CoreInterrupt
 use Rattle.cic_record.specs.Sound as Cic
 use Rattle.cic_record.specs.Start.{fresh, configured, started}
-use Rattle.cic_registers.specs.Map.{singleAt, registerAt, accessOf}
+use Rattle.cic_layout.specs.Map.{singleAt, registerAt, accessOf}
 use Rattle.cic_registers.specs.Registers as Registers
 use Rattle.cic.specs.Stepping.{readAs, writeAs, stepAs}
 use Rattle.cases.specs.Cheats.{Outcome, Model, Keeps, NoCheat, aicModel, coreModel, cicModel}

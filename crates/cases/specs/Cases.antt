@@ -8,7 +8,7 @@ use Rattle.steps.specs.declared.Step.{Step}
 use Rattle.steps.specs.declared.Step.the-variants.{Read, Write, Line}
 use Rattle.steps.specs.Refusals.{carriedOut, absent, unreadable, beyond}
 use Rattle.aic_record.specs.declared.Aic.{Aic}
-use Rattle.aic.specs.Map.{svr, ivr, fvr, isr, ipr, iecr, iccr, eoicr, spu, ffer}
+use Rattle.aic_registers.specs.Map.{svr, ivr, fvr, isr, ipr, iecr, iccr, eoicr, spu, ffer}
 use Rattle.aic.specs.Model.{start, step, outputs}
 use Rattle.coreinterrupt.specs.Model as CoreInterrupt
 use Rattle.cic_record.specs.declared.Cic.{Cic}
