@@ -17,8 +17,9 @@ pub(crate) fn line(s: Aic, number: u32, level: u32) {
     say::line(say::AIC, number, level, a.refusal);
 }
 
-// The two offsets of the paper, then around IVR, and a write.
-fn misaligned(s: Aic) {
+// The paper's two offsets, the bytes of IVR, and a write; then the gaps in the map and its end, from both sides, and no second map
+// at the chip's own address.
+fn map(s: Aic) {
     say::heading(say::AIC, 1);
     read(s, 0x118);
     read(s, 0x119);
@@ -29,10 +30,6 @@ fn misaligned(s: Aic) {
     read(s, 0x104);
     write(s, 0x120, 1);
     write(s, 0x121, 1);
-}
-
-// The two gaps in the map and its end, from both sides, and no second map at the chip's own address.
-fn absent(s: Aic) {
     say::heading(say::AIC, 2);
     read(s, 0x114);
     read(s, 0x118);
@@ -49,7 +46,8 @@ fn absent(s: Aic) {
     read(s, 0xFFFFF100);
 }
 
-fn unreadable(s: Aic) {
+// Every write-only register and its neighbours; every read-only one, with IVR, 0x100, that takes a write nevertheless.
+fn access(s: Aic) {
     say::heading(say::AIC, 3);
     read(s, 0x114);
     read(s, 0x120);
@@ -61,10 +59,6 @@ fn unreadable(s: Aic) {
     read(s, 0x140);
     read(s, 0x144);
     read(s, 0x148);
-}
-
-// IVR, 0x100, is the exception: it takes a write.
-fn unwritable(s: Aic) {
     say::heading(say::AIC, 4);
     write(s, 0x0FC, 1);
     write(s, 0x100, 1);
@@ -78,8 +72,8 @@ fn unwritable(s: Aic) {
     write(s, 0x148, 1);
 }
 
-// Debug control, 0x138, and a register beside it; a misaligned offset is refused before its value.
-fn protecting(s: Aic) {
+// Debug control, 0x138, and a register beside it; a misaligned offset is refused before its value. Then the lines.
+fn values(s: Aic) {
     say::heading(say::AIC, 5);
     write(s, 0x138, 0);
     write(s, 0x138, 1);
@@ -88,9 +82,6 @@ fn protecting(s: Aic) {
     write(s, 0x138, 0xFFFFFFFE);
     write(s, 0x134, 1);
     write(s, 0x139, 1);
-}
-
-fn beyond(s: Aic) {
     say::heading(say::AIC, 6);
     line(s, 31, 0);
     line(s, 31, 1);
@@ -102,10 +93,7 @@ fn beyond(s: Aic) {
 pub(crate) fn all() {
     let b = aic::start(0, 0);
     let s = b.aic;
-    misaligned(s);
-    absent(s);
-    unreadable(s);
-    unwritable(s);
-    protecting(s);
-    beyond(s);
+    map(s);
+    access(s);
+    values(s);
 }

@@ -17,7 +17,20 @@ pub(crate) fn line(c: Cic, number: u32, level: u32) {
     say::line(say::CIC, number, level, a.refusal);
 }
 
-fn misaligned(c: Cic) {
+// With this many systems, channels and hosts.
+fn with(systems: u32, channels: u32, hosts: u32) -> Cic {
+    say::decimal(systems);
+    say::text(b" systems, ");
+    say::decimal(channels);
+    say::text(b" channels, ");
+    say::decimal(hosts);
+    say::text(b" hosts\n");
+    let b = cic::start(systems, channels, hosts, 0x4E820100);
+    b.cic
+}
+
+// The single registers, and what 001 has beside them and is not built.
+fn map(c: Cic) {
     say::heading(say::CIC, 1);
     read(c, 0x200);
     read(c, 0x201);
@@ -26,10 +39,6 @@ fn misaligned(c: Cic) {
     read(c, 0x204);
     write(c, 0x020, 0);
     write(c, 0x021, 0);
-}
-
-// The single registers, and what 001 has beside them and is not built.
-fn absent(c: Cic) {
     say::heading(say::CIC, 2);
     read(c, 0x000);
     read(c, 0x004);
@@ -47,9 +56,8 @@ fn absent(c: Cic) {
     read(c, 0x1520);
 }
 
-// The last register of each group and the one after it, of 33 systems, 2 channels and 3 hosts.
-fn absent_beyond(c: Cic) {
-    say::heading(say::CIC, 2);
+// The last register of each group and the one after it, of 33 systems, 2 channels and 3 hosts; then what may be read and written.
+fn access(c: Cic) {
     read(c, 0x204);
     read(c, 0x208);
     read(c, 0x284);
@@ -64,23 +72,6 @@ fn absent_beyond(c: Cic) {
     read(c, 0x804);
     read(c, 0x1500);
     read(c, 0x1504);
-}
-
-// The last register of each group at the largest configuration.
-fn absent_full(c: Cic) {
-    say::heading(say::CIC, 2);
-    read(c, 0x27C);
-    read(c, 0x2FC);
-    read(c, 0x37C);
-    read(c, 0x3FC);
-    read(c, 0x7FC);
-    read(c, 0x8FC);
-    read(c, 0x900);
-    read(c, 0x151C);
-    read(c, 0x1520);
-}
-
-fn unreadable(c: Cic) {
     say::heading(say::CIC, 3);
     read(c, 0x010);
     read(c, 0x020);
@@ -90,16 +81,14 @@ fn unreadable(c: Cic) {
     read(c, 0x034);
     read(c, 0x038);
     read(c, 0x200);
-}
-
-fn unwritable(c: Cic) {
     say::heading(say::CIC, 4);
     write(c, 0x000, 1);
     write(c, 0x010, 1);
 }
 
-// 33 systems and 3 hosts; the whole word counts.
-fn beyond_index(c: Cic) {
+// Of 33 systems, 2 channels and 3 hosts: indices, of which the whole word counts; the bytes of the maps, where 0x420 holds one system
+// and three spare bytes, and 0x800 two channels and two spare bytes; lines.
+fn limits(c: Cic) {
     say::heading(say::CIC, 6);
     write(c, 0x020, 32);
     write(c, 0x020, 33);
@@ -114,11 +103,6 @@ fn beyond_index(c: Cic) {
     write(c, 0x038, 2);
     write(c, 0x038, 3);
     write(c, 0x020, 0x10020);
-}
-
-// 2 channels and 3 hosts; 0x420 holds one system and three spare bytes, 0x800 two channels and two spare bytes.
-fn beyond_map(c: Cic) {
-    say::heading(say::CIC, 6);
     write(c, 0x400, 0x01010101);
     write(c, 0x400, 0x00000002);
     write(c, 0x400, 0x00000200);
@@ -131,10 +115,24 @@ fn beyond_map(c: Cic) {
     write(c, 0x800, 0x00000003);
     write(c, 0x800, 0x00000300);
     write(c, 0x800, 0xFFFF0202);
+    line(c, 32, 0);
+    line(c, 32, 1);
+    line(c, 32, 2);
+    line(c, 33, 1);
 }
 
-// At the largest configuration no byte is beyond, and the first index that is has eleven bits.
-fn beyond_full(c: Cic) {
+// At the largest configuration: the last register of each group; no byte of a map is beyond, and the first index that is has eleven bits.
+fn full(c: Cic) {
+    say::heading(say::CIC, 2);
+    read(c, 0x27C);
+    read(c, 0x2FC);
+    read(c, 0x37C);
+    read(c, 0x3FC);
+    read(c, 0x7FC);
+    read(c, 0x8FC);
+    read(c, 0x900);
+    read(c, 0x151C);
+    read(c, 0x1520);
     say::heading(say::CIC, 6);
     write(c, 0x400, 0xFFFFFFFF);
     write(c, 0x800, 0xFFFFFFFF);
@@ -146,36 +144,10 @@ fn beyond_full(c: Cic) {
     line(c, 1024, 1);
 }
 
-fn beyond_line(c: Cic) {
-    say::heading(say::CIC, 6);
-    line(c, 32, 0);
-    line(c, 32, 1);
-    line(c, 32, 2);
-    line(c, 33, 1);
-}
-
-// With this many systems, channels and hosts.
-fn with(systems: u32, channels: u32, hosts: u32) -> Cic {
-    say::of(say::CIC, b"with");
-    say::hex(systems);
-    say::hex(channels);
-    say::hex(hosts);
-    say::text(b"\n");
-    let b = cic::start(systems, channels, hosts, 0x4E820100);
-    b.cic
-}
-
 pub(crate) fn all() {
     let c = with(33, 2, 3);
-    misaligned(c);
-    absent(c);
-    absent_beyond(c);
-    unreadable(c);
-    unwritable(c);
-    beyond_index(c);
-    beyond_map(c);
-    beyond_line(c);
-    let d = with(1024, 256, 256);
-    absent_full(d);
-    beyond_full(d);
+    map(c);
+    access(c);
+    limits(c);
+    full(with(1024, 256, 256));
 }

@@ -19,15 +19,15 @@ pub(crate) fn line(c: Core, number: u32, level: u32) {
 
 // With this many FIQ and IRQ sources, both outputs active high.
 fn with(fiqs: u32, irqs: u32) -> Core {
-    say::of(say::CORE, b"with");
-    say::hex(fiqs);
-    say::hex(irqs);
-    say::text(b"\n");
+    say::decimal(fiqs);
+    say::text(b" FIQ, ");
+    say::decimal(irqs);
+    say::text(b" IRQ\n");
     let b = coreinterrupt::start(fiqs, irqs, 1, 1);
     b.core
 }
 
-fn misaligned(c: Core) {
+fn map(c: Core) {
     say::heading(say::CORE, 1);
     read(c, 0x02C);
     read(c, 0x02D);
@@ -36,9 +36,6 @@ fn misaligned(c: Core) {
     read(c, 0x031);
     write(c, 0x000, 1);
     write(c, 0x001, 1);
-}
-
-fn absent(c: Core) {
     say::heading(say::CORE, 2);
     read(c, 0x02C);
     read(c, 0x030);
@@ -46,8 +43,9 @@ fn absent(c: Core) {
     write(c, 0x030, 1);
 }
 
-// The clears of each group are write-only where the group has sources, and read as 0 where it has none.
-fn unreadable(c: Core) {
+// The clears of each group are write-only where the group has sources, and read as 0 where it has none; raw and status are read-only,
+// sources or not. A spare input may move too, and its level has the same limit.
+fn access(c: Core) {
     say::heading(say::CORE, 3);
     read(c, 0x000);
     read(c, 0x004);
@@ -59,10 +57,6 @@ fn unreadable(c: Core) {
     read(c, 0x020);
     read(c, 0x024);
     read(c, 0x028);
-}
-
-// Raw and status of each group are read-only, sources or not.
-fn unwritable(c: Core) {
     say::heading(say::CORE, 4);
     write(c, 0x00C, 1);
     write(c, 0x010, 1);
@@ -71,10 +65,6 @@ fn unwritable(c: Core) {
     write(c, 0x024, 1);
     write(c, 0x028, 1);
     write(c, 0x02C, 1);
-}
-
-// A spare input may move too; its level has the same limit.
-fn beyond(c: Core) {
     say::heading(say::CORE, 6);
     line(c, 39, 0);
     line(c, 39, 1);
@@ -84,16 +74,8 @@ fn beyond(c: Core) {
 
 pub(crate) fn all() {
     let c = with(8, 32);
-    misaligned(c);
-    absent(c);
-    unreadable(c);
-    unwritable(c);
-    beyond(c);
-    let d = with(0, 1);
-    unreadable(d);
-    unwritable(d);
-    beyond(d);
-    let e = with(1, 0);
-    unreadable(e);
-    unwritable(e);
+    map(c);
+    access(c);
+    access(with(0, 1));
+    access(with(1, 0));
 }

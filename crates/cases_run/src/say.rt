@@ -89,19 +89,3 @@ pub(crate) fn line(model: u32, number: u32, level: u32, refusal: u32) {
     decimal(level);
     outcome(refusal);
 }
-
-// A record with one part of it named, in decimal.
-pub(crate) fn record(model: u32, part: &[u8], n: u32, refusal: u32) {
-    name(model);
-    text(b" record, ");
-    text(part);
-    decimal(n);
-    outcome(refusal);
-}
-
-// A controller's start or outputs.
-pub(crate) fn of(model: u32, what: &[u8]) {
-    name(model);
-    text(b" ");
-    text(what);
-}
