@@ -1,0 +1,2 @@
+-- Laws of the stand-in.
+pub mod MachineLaws

@@ -1,0 +1,4 @@
+-- The laws of beginnings and of reports.
+pub mod BeginLaws
+pub mod PlayLaws
+pub mod WayLaws
