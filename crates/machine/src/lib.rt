@@ -65,9 +65,7 @@ pub fn empty() -> Machine
 pub fn no_numbers() -> Configuration
     ensures { λ r. ⌜ r ≡ noNumbers ⌝ }
 {
-    Configuration {
-        numbers: [0; 4],
-    }
+    Configuration { numbers: [0; 4] }
 }
 
 // A configuration with its k-th number put anew. Past the last place nothing changes.
