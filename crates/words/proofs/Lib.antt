@@ -1,4 +1,5 @@
 -- The laws of choices, of counting and of words that every other crate cites.
+pub mod ArrayLaws
 pub mod ChoiceLaws
 pub mod CountingLaws
 pub mod Promises

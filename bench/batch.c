@@ -1,0 +1,130 @@
+/* Lists many traces in one process through the proved library, for machines whose Rust cannot link its x86-64 code.
+ *
+ * Standard input has requests and standard output the replies, all numbers 32 bits, lowest byte first:
+ *   request: length of the trace, step limit, room for the listing, then the trace;
+ *   reply:   bytes written, bytes changed behind them, then the bytes written.
+ * It ends with 0 at the end of the input, and with 1 at a request that it cannot serve.
+ *
+ * It stands alone, with no C library: three system calls, and the memory functions that compiled code calls.
+ */
+
+typedef __SIZE_TYPE__ size_t;
+typedef __UINT8_TYPE__ uint8_t;
+typedef __UINT32_TYPE__ uint32_t;
+
+enum { READ = 0, WRITE = 1, EXIT = 231, LARGEST = 1 << 22, UNTOUCHED = 0xA5 };
+
+/* The proved function: what each number counts is said in the library's own source. */
+size_t wisteria_list(const uint8_t *trace, size_t trace_len, uint32_t limit, uint8_t *out, size_t out_len);
+
+static uint8_t trace[LARGEST];
+static uint8_t listing[LARGEST];
+
+static long system_call(long number, long first, void *second, size_t third)
+{
+    long answer;
+    __asm__ volatile("syscall"
+                     : "=a"(answer)
+                     : "a"(number), "D"(first), "S"(second), "d"(third)
+                     : "rcx", "r11", "memory");
+    return answer;
+}
+
+static _Noreturn void end(long status)
+{
+    for (;;)
+        system_call(EXIT, status, 0, 0);
+}
+
+/* Moves all the bytes through a file descriptor; answers how many, which is less only at the end of the input. */
+static size_t move_all(long call, long descriptor, uint8_t *bytes, size_t count)
+{
+    size_t moved = 0;
+    while (moved < count) {
+        long now = system_call(call, descriptor, bytes + moved, count - moved);
+        if (now < 0)
+            end(1);
+        if (now == 0)
+            break;
+        moved += (size_t)now;
+    }
+    return moved;
+}
+
+static uint32_t number(const uint8_t *bytes)
+{
+    return bytes[0] | (uint32_t)bytes[1] << 8 | (uint32_t)bytes[2] << 16 | (uint32_t)bytes[3] << 24;
+}
+
+static void put_number(uint8_t *bytes, uint32_t value)
+{
+    for (int place = 0; place < 4; place++)
+        bytes[place] = (uint8_t)(value >> 8 * place);
+}
+
+static void serve(const uint8_t *request)
+{
+    uint32_t length = number(request), limit = number(request + 4), room = number(request + 8);
+    if (length > LARGEST || room > LARGEST || move_all(READ, 0, trace, length) < length)
+        end(1);
+    for (uint32_t place = 0; place < room; place++)
+        listing[place] = UNTOUCHED;
+    size_t written = wisteria_list(trace, length, limit, listing, room);
+    uint32_t changed = 0;
+    for (size_t place = written; place < room; place++)
+        changed += listing[place] != UNTOUCHED;
+    uint8_t reply[8];
+    put_number(reply, (uint32_t)written);
+    put_number(reply + 4, changed);
+    move_all(WRITE, 1, reply, sizeof reply);
+    move_all(WRITE, 1, listing, written < room ? written : room);
+}
+
+__attribute__((used)) static void batch(void)
+{
+    uint8_t request[12];
+    size_t there;
+    while ((there = move_all(READ, 0, request, sizeof request)) == sizeof request)
+        serve(request);
+    end(there == 0 ? 0 : 1);
+}
+
+__asm__(".globl _start\n"
+        "_start:\n"
+        "    xor %ebp, %ebp\n"
+        "    and $-16, %rsp\n"
+        "    call batch\n");
+
+void *memcpy(void *to, const void *from, size_t count)
+{
+    void *start = to;
+    __asm__ volatile("rep movsb" : "+D"(to), "+S"(from), "+c"(count) : : "memory");
+    return start;
+}
+
+void *memset(void *to, int byte, size_t count)
+{
+    void *start = to;
+    __asm__ volatile("rep stosb" : "+D"(to), "+c"(count) : "a"(byte) : "memory");
+    return start;
+}
+
+void *memmove(void *to, const void *from, size_t count)
+{
+    uint8_t *into = to;
+    const uint8_t *out_of = from;
+    if (into <= out_of)
+        return memcpy(to, from, count);
+    while (count-- > 0)
+        ((volatile uint8_t *)into)[count] = out_of[count];
+    return to;
+}
+
+int memcmp(const void *first, const void *second, size_t count)
+{
+    const volatile uint8_t *one = first, *other = second;
+    for (size_t place = 0; place < count; place++)
+        if (one[place] != other[place])
+            return one[place] - other[place];
+    return 0;
+}

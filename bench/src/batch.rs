@@ -1,0 +1,186 @@
+//! The other side as one program that lists many traces, for machines that cannot link the library into this process.
+//!
+//! Requests and replies are those of `batch.c`: numbers of 32 bits, lowest byte first, and bytes.
+
+use std::io::{self, Read, Write};
+use std::process::{Child, ChildStdin, Command, Stdio};
+use std::sync::mpsc::{self, Receiver};
+use std::thread;
+
+use crate::compare::Outcome;
+use crate::generate::Case;
+use crate::program::{Program, PATIENCE};
+
+/// The step limit and room of a request, and its trace.
+pub struct Request {
+    pub limit: u32,
+    pub room: usize,
+    pub trace: Vec<u8>,
+}
+
+impl Request {
+    pub fn new(case: &Case) -> Request {
+        Request {
+            limit: case.limit,
+            room: case.ample_room(),
+            trace: case.trace.clone(),
+        }
+    }
+
+    fn write(&self, to: &mut impl Write) -> io::Result<()> {
+        write_number(to, self.trace.len() as u32)?;
+        write_number(to, self.limit)?;
+        write_number(to, self.room as u32)?;
+        to.write_all(&self.trace)?;
+        to.flush()
+    }
+
+    /// The next request, or nothing at the end of the input.
+    fn read(from: &mut impl Read) -> io::Result<Option<Request>> {
+        let Some(length) = read_first_number(from)? else {
+            return Ok(None);
+        };
+        let limit = read_number(from)?;
+        let room = read_number(from)? as usize;
+        let mut trace = vec![0; length as usize];
+        from.read_exact(&mut trace)?;
+        Ok(Some(Request { limit, room, trace }))
+    }
+}
+
+/// What comes back: how many bytes behind the listing changed, and the listing.
+pub struct Reply {
+    pub changed: u32,
+    pub listing: Vec<u8>,
+}
+
+impl Reply {
+    fn write(&self, to: &mut impl Write) -> io::Result<()> {
+        write_number(to, self.listing.len() as u32)?;
+        write_number(to, self.changed)?;
+        to.write_all(&self.listing)?;
+        to.flush()
+    }
+
+    fn read(from: &mut impl Read) -> io::Result<Reply> {
+        let written = read_number(from)?;
+        let changed = read_number(from)?;
+        let mut listing = vec![0; written as usize];
+        from.read_exact(&mut listing)?;
+        Ok(Reply { changed, listing })
+    }
+}
+
+/// Answers requests until there are no more.
+pub fn serve(
+    from: &mut impl Read,
+    to: &mut impl Write,
+    list: impl Fn(&Request) -> Reply,
+) -> io::Result<()> {
+    while let Some(request) = Request::read(from)? {
+        list(&request).write(to)?;
+    }
+    Ok(())
+}
+
+/// A program that is kept running; after a failure it is started anew for the next case.
+pub struct Batch {
+    program: Program,
+    running: Option<Running>,
+}
+
+struct Running {
+    child: Child,
+    requests: ChildStdin,
+    replies: Receiver<Reply>,
+}
+
+impl Batch {
+    pub fn new(program: Program) -> Batch {
+        Batch {
+            program,
+            running: None,
+        }
+    }
+
+    pub fn list(&mut self, case: &Case) -> Outcome {
+        let running = match self.running.take() {
+            Some(running) => running,
+            None => Running::start(self.program.command())
+                .map_err(|error| format!("the program does not start: {error}"))?,
+        };
+        let (running, reply) = running.ask(Request::new(case))?;
+        self.running = Some(running);
+        match reply.changed {
+            0 => Ok(reply.listing),
+            changed => Err(format!("{changed} bytes behind the listing changed")),
+        }
+    }
+}
+
+impl Running {
+    fn start(mut command: Command) -> io::Result<Running> {
+        let mut child = command
+            .stdin(Stdio::piped())
+            .stdout(Stdio::piped())
+            .spawn()?;
+        let requests = child.stdin.take().expect("its input is piped");
+        let mut output = child.stdout.take().expect("its output is piped");
+        let (sender, replies) = mpsc::channel();
+        thread::spawn(move || {
+            while let Ok(reply) = Reply::read(&mut output) {
+                if sender.send(reply).is_err() {
+                    break;
+                }
+            }
+        });
+        Ok(Running {
+            child,
+            requests,
+            replies,
+        })
+    }
+
+    /// The reply, if there is one in time; if not, the program is ended.
+    fn ask(mut self, request: Request) -> Result<(Running, Reply), String> {
+        let asked = request.write(&mut self.requests);
+        match (asked, self.replies.recv_timeout(PATIENCE)) {
+            (Ok(()), Ok(reply)) => Ok((self, reply)),
+            (asked, _) => {
+                // It may have ended by itself.
+                let _ = self.child.kill();
+                let status = self.child.wait().map_err(|error| error.to_string())?;
+                Err(format!("no reply ({asked:?}), the program: {status}"))
+            }
+        }
+    }
+}
+
+impl Drop for Batch {
+    /// The end of its input ends the program.
+    fn drop(&mut self) {
+        if let Some(mut running) = self.running.take() {
+            drop(running.requests);
+            let _ = running.child.wait();
+        }
+    }
+}
+
+fn write_number(to: &mut impl Write, number: u32) -> io::Result<()> {
+    to.write_all(&number.to_le_bytes())
+}
+
+fn read_number(from: &mut impl Read) -> io::Result<u32> {
+    let mut bytes = [0; 4];
+    from.read_exact(&mut bytes)?;
+    Ok(u32::from_le_bytes(bytes))
+}
+
+/// A number, or nothing if the input ends before it.
+fn read_first_number(from: &mut impl Read) -> io::Result<Option<u32>> {
+    match read_number(from) {
+        Ok(number) => Ok(Some(number)),
+        Err(error) if error.kind() == io::ErrorKind::UnexpectedEof => Ok(None),
+        Err(error) => Err(error),
+    }
+}

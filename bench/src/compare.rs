@@ -1,0 +1,163 @@
+//! The comparison itself: another side lists the same traces, and every byte has to be the model's.
+
+use std::time::{Duration, Instant};
+
+use crate::coverage::Coverage;
+use crate::generate::Case;
+use crate::listing::{listing, Text};
+use crate::trace::{pieces, play};
+
+/// What the other side makes of a case: its listing, or what went wrong.
+pub type Outcome = Result<Vec<u8>, String>;
+
+/// What came of many comparisons.
+#[derive(Default)]
+pub struct Summary {
+    pub compared: usize,
+    pub listing_bytes: usize,
+    pub differ: usize,
+    /// How often the other side had no listing at all; after some failures the comparison stops.
+    pub failed: usize,
+    /// The number of the first case that differs, and the case.
+    pub first: Option<(usize, Case)>,
+    pub coverage: Coverage,
+}
+
+/// A comparison with so many failures is not worth the wait for more.
+pub const MOST_FAILURES: usize = 10;
+
+/// Compares numbered cases with the other side, and counts what they reach.
+pub fn compare(
+    cases: impl IntoIterator<Item = (usize, Case)>,
+    mut other: impl FnMut(&Case) -> Outcome,
+) -> Summary {
+    let mut summary = Summary::default();
+    for (number, case) in cases {
+        let mut text = Text::default();
+        play(
+            &case.trace,
+            case.limit,
+            &mut (&mut text, &mut summary.coverage),
+        );
+        let expected = within_room(&case, text.bytes);
+        summary.compared += 1;
+        summary.listing_bytes += expected.len();
+        let outcome = other(&case);
+        if outcome.as_ref() != Ok(&expected) {
+            summary.differ += 1;
+            summary.failed += usize::from(outcome.is_err());
+            summary.first.get_or_insert((number, case));
+        }
+        if summary.failed == MOST_FAILURES {
+            break;
+        }
+    }
+    summary
+}
+
+/// The listing of a case by the model, as far as there is room for it.
+pub fn expected(case: &Case) -> Vec<u8> {
+    within_room(case, listing(&case.trace, case.limit))
+}
+
+fn within_room(case: &Case, mut listing: Vec<u8>) -> Vec<u8> {
+    listing.truncate(case.room.unwrap_or(usize::MAX));
+    listing
+}
+
+/// The first line that differs, and what each side has there.
+#[derive(Debug, PartialEq, Eq)]
+pub struct Difference {
+    pub line: usize,
+    pub expected: String,
+    pub other: String,
+}
+
+/// The first line in which two listings differ, counted from 1; nothing if they are the same.
+pub fn first_difference(expected: &[u8], other: &[u8]) -> Option<Difference> {
+    if expected == other {
+        return None;
+    }
+    let lines = |text: &[u8]| -> Vec<String> {
+        let lines = text.split_inclusive(|&byte| byte == b'\n');
+        lines.map(|line| line.escape_ascii().to_string()).collect()
+    };
+    let (expected, other) = (lines(expected), lines(other));
+    let same = expected.iter().zip(&other).take_while(|(a, b)| a == b);
+    let at = same.count();
+    let line = |lines: &[String]| lines.get(at).cloned().unwrap_or("(nothing)".into());
+    Some(Difference {
+        line: at + 1,
+        expected: line(&expected),
+        other: line(&other),
+    })
+}
+
+/// A smaller case that still differs, found by leaving out steps, many at a time and then few, as long as there is time.
+pub fn shrink(case: &Case, time: Duration, mut differs: impl FnMut(&Case) -> bool) -> Case {
+    let begin = Instant::now();
+    let mut smallest = case.clone();
+    let mut size = pieces(&case.trace).len() / 2;
+    while size > 0 {
+        let mut from = 1;
+        while from < pieces(&smallest.trace).len() && begin.elapsed() < time {
+            let shorter = Case {
+                trace: without(&smallest.trace, from, size),
+                ..smallest.clone()
+            };
+            if differs(&shorter) {
+                smallest = shorter;
+            } else {
+                from += size;
+            }
+        }
+        size /= 2;
+    }
+    smallest
+}
+
+/// The trace without some of its pieces.
+fn without(trace: &[u8], from: usize, count: usize) -> Vec<u8> {
+    let mut pieces = pieces(trace);
+    let end = pieces.len().min(from + count);
+    pieces.drain(from..end);
+    pieces.concat()
+}
+
+#[cfg(test)]
+mod tests {
+    use super::*;
+
+    #[test]
+    fn the_first_differing_line_is_named() {
+        assert_eq!(first_difference(b"a\nb\n", b"a\nb\n"), None);
+        let difference = |other: &[u8]| first_difference(b"a\nb\n", other).expect("they differ");
+        assert_eq!(difference(b"a\nc\n").line, 2);
+        assert_eq!(difference(b"a\nc\n").other, "c\\n");
+        assert_eq!(difference(b"a\nb").other, "b");
+        assert_eq!(difference(b"a\n").other, "(nothing)");
+        assert_eq!(difference(b"a\nb\nd\n").expected, "(nothing)");
+        assert_eq!(difference(b"a\nb\nd\n").line, 3);
+    }
+
+    #[test]
+    fn a_case_shrinks_to_what_matters() {
+        let mut trace = vec![0, 0, 0];
+        trace.extend([1, 4].repeat(40));
+        trace.extend([3, 7, 1]);
+        trace.extend([1, 8].repeat(40));
+        let case = Case {
+            name: "test",
+            trace,
+            limit: 100,
+            room: None,
+        };
+        let long = Duration::from_secs(60);
+        let moves_line_7 = |case: &Case| pieces(&case.trace).contains(&[3, 7, 1].as_slice());
+        assert_eq!(shrink(&case, long, moves_line_7).trace, [0, 0, 0, 3, 7, 1]);
+        assert_eq!(
+            shrink(&case, Duration::ZERO, moves_line_7).trace,
+            case.trace
+        );
+    }
+}

@@ -1,0 +1,327 @@
+//! What the compared traces have reached, counted from the model's own run; a listed item that was not reached is a gap.
+
+mod aic;
+mod cic;
+mod core;
+
+use std::collections::HashMap;
+
+use crate::model::aic::Register as AicRegister;
+use crate::model::core::{Register as CoreRegister, Side};
+use crate::model::{Answer, Kind, Machine, Refusal, Step};
+use crate::trace::{Defect, Field, Observer, Report, LONGEST, PROGRAM_LIMIT};
+
+/// Something that a comparison should have reached.
+#[derive(Clone, Copy, Debug, PartialEq, Eq, PartialOrd, Ord, Hash)]
+pub enum Item {
+    /// A register of the AIC answered so.
+    Aic(AicRegister, Outcome),
+    /// A register of a CoreInterrupt group with no sources, or with some, answered so.
+    Core(CoreRegister, Size, Outcome),
+    /// A register of the CIC, named by its group and its place in the group, answered so.
+    Cic(&'static str, Spot, Outcome),
+    /// A step of a controller was refused, whatever it was aimed at.
+    Refused(Kind, Way, Refusal),
+    /// A controller was started, and then played so many steps (none, or some).
+    Started(Kind, Size),
+    /// A trace was ended early by a number of its own.
+    Ended(Refusal, Field),
+    /// A number of the trace had a defect.
+    Defect(Field, Defect),
+    /// An AIC source of a type, external or not, was pending or idle when IPR was read.
+    Pending(u8, bool, bool),
+    /// A line of an AIC edge source of a type, external or not, changed: an edge for it, or not.
+    Edge(u8, bool, bool),
+    /// An IVR read left so many handlers open.
+    Opened(usize),
+    /// An EOICR write found so many handlers open.
+    Closed(usize),
+    /// CISR answered this.
+    Cisr(u32),
+    /// A CoreInterrupt side was configured with so many sources.
+    Sources(Side, u32),
+    /// The CoreInterrupt outputs were configured with these active levels, FIQ first.
+    Levels(bool, bool),
+    /// A CIC was configured with so many systems, channels or hosts.
+    Count(&'static str, usize),
+    /// So many hosts were asserted after a step.
+    Asserted(usize),
+    /// This was the lowest asserted host after a step.
+    Lowest(usize),
+    /// A situation in plain words.
+    Fact(&'static str),
+}
+
+/// What came of an access to a register.
+#[derive(Clone, Copy, Debug, PartialEq, Eq, PartialOrd, Ord, Hash)]
+pub enum Outcome {
+    Read,
+    Written,
+    Refused(Refusal),
+}
+
+/// Which sort of step it was.
+#[derive(Clone, Copy, Debug, PartialEq, Eq, PartialOrd, Ord, Hash)]
+pub enum Way {
+    Read,
+    Write,
+    Line,
+}
+
+/// Nothing, or something.
+#[derive(Clone, Copy, Debug, PartialEq, Eq, PartialOrd, Ord, Hash)]
+pub enum Size {
+    None,
+    Some,
+}
+
+impl Size {
+    fn of(count: u32) -> Size {
+        match count {
+            0 => Size::None,
+            _ => Size::Some,
+        }
+    }
+}
+
+/// The place of a register in its group, as far as it is configured.
+#[derive(Clone, Copy, Debug, PartialEq, Eq, PartialOrd, Ord, Hash)]
+pub enum Spot {
+    /// A register that is alone in its group.
+    Single,
+    First,
+    Middle,
+    /// The last one, all of whose bits or bytes are configured.
+    LastWhole,
+    /// The last one, some of whose bits or bytes are spare.
+    LastWithSpare,
+    /// One that would exist in a larger part.
+    Beyond,
+}
+
+impl Way {
+    fn of(step: Step) -> Way {
+        match step {
+            Step::Read { .. } => Way::Read,
+            Step::Write { .. } => Way::Write,
+            Step::Line { .. } => Way::Line,
+        }
+    }
+
+    fn outcome(self, answer: Answer) -> Outcome {
+        match (self, answer) {
+            (_, Err(refusal)) => Outcome::Refused(refusal),
+            (Way::Read, Ok(_)) => Outcome::Read,
+            (_, Ok(_)) => Outcome::Written,
+        }
+    }
+}
+
+/// The counters, and what is known of a step before it is carried out.
+#[derive(Default)]
+pub struct Coverage {
+    counts: HashMap<Item, u64>,
+    steps: u64,
+    /// The AIC before the present step; of a CIC only what its rules need.
+    aic_before: Option<aic::Before>,
+    cic_before: Option<cic::Before>,
+}
+
+impl Coverage {
+    /// How many steps were played in all.
+    pub fn steps(&self) -> u64 {
+        self.steps
+    }
+
+    /// How often an item was reached.
+    pub fn count(&self, item: Item) -> u64 {
+        self.counts.get(&item).copied().unwrap_or(0)
+    }
+
+    /// All that was reached, listed or not.
+    pub fn reached(&self) -> impl Iterator<Item = Item> + '_ {
+        self.counts.keys().copied()
+    }
+
+    /// The listed items that were not reached.
+    pub fn gaps(&self) -> Vec<Item> {
+        let mut items = wanted();
+        items.retain(|&item| self.count(item) == 0);
+        items
+    }
+
+    /// The listed items with their counts, the rarest first.
+    pub fn table(&self) -> Vec<(u64, Item)> {
+        let mut table: Vec<_> = wanted()
+            .into_iter()
+            .map(|item| (self.count(item), item))
+            .collect();
+        table.sort();
+        table
+    }
+
+    fn reach(&mut self, item: Item) {
+        *self.counts.entry(item).or_insert(0) += 1;
+    }
+
+    /// Counts a situation if it is there.
+    fn fact_if(&mut self, there: bool, fact: &'static str) {
+        if there {
+            self.reach(Item::Fact(fact));
+        }
+    }
+
+    fn misaligned(&mut self, step: Step, answer: Answer) {
+        let (Step::Read { offset } | Step::Write { offset, .. }) = step else {
+            return;
+        };
+        if answer == Err(Refusal::Misaligned) {
+            self.fact_if(offset % 4 == 1, "an offset one past a word");
+            self.fact_if(offset % 4 == 2, "an offset two past a word");
+            self.fact_if(offset % 4 == 3, "an offset three past a word");
+        }
+        let alias = offset >= 0xFFFF_F000 && answer == Err(Refusal::NoRegister);
+        self.fact_if(alias, "an offset that names a register modulo 4 KiB");
+    }
+}
+
+impl Observer for Coverage {
+    fn started(&mut self, machine: &Machine) {
+        match machine {
+            Machine::Aic(_) => {}
+            Machine::Core(core) => self.core_started(core),
+            Machine::Cic(cic) => self.cic_started(cic),
+        }
+    }
+
+    fn before(&mut self, machine: &Machine, step: Step) {
+        match machine {
+            Machine::Aic(aic) => self.aic_before = Some(aic::Before::new(aic)),
+            Machine::Core(_) => {}
+            Machine::Cic(cic) => self.cic_before = Some(cic::Before::new(cic, step)),
+        }
+    }
+
+    fn after(&mut self, machine: &Machine, _number: u32, step: Step, answer: Answer) {
+        self.steps += 1;
+        self.misaligned(step, answer);
+        if let Err(refusal) = answer {
+            self.reach(Item::Refused(machine.kind(), Way::of(step), refusal));
+        }
+        match machine {
+            Machine::Aic(aic) => self.aic_step(aic, step, answer),
+            Machine::Core(core) => self.core_step(core, step, answer),
+            Machine::Cic(cic) => self.cic_step(cic, step, answer),
+        }
+    }
+
+    fn ended(&mut self, report: &Report) {
+        if let Some(machine) = &report.machine {
+            self.reach(Item::Started(machine.kind(), Size::of(report.steps)));
+        }
+        let at_limit = report.steps == PROGRAM_LIMIT;
+        match report.ending {
+            Ok(length) => {
+                self.fact_if(true, "a trace played to its end");
+                self.fact_if(at_limit, "as many steps as the program's limit");
+                self.fact_if(length == LONGEST, "the longest trace played to its end");
+            }
+            Err(fault) => {
+                if let Some(field) = fault.field {
+                    self.reach(Item::Ended(fault.refusal, field));
+                    if let Some(defect) = fault.defect {
+                        self.reach(Item::Defect(field, defect));
+                    }
+                }
+                let stopped = fault.refusal == Refusal::StepLimit;
+                self.fact_if(stopped && at_limit, "ended by the program's step limit");
+                let too_long = fault.refusal == Refusal::TraceTooLong;
+                self.fact_if(too_long, "ended by the length of the trace");
+            }
+        }
+    }
+}
+
+/// Everything that a comparison has to reach.
+pub fn wanted() -> Vec<Item> {
+    let mut items = traces();
+    items.extend(aic::wanted());
+    items.extend(core::wanted());
+    items.extend(cic::wanted());
+    items
+}
+
+/// The items about traces, endings and refusals in general.
+fn traces() -> Vec<Item> {
+    let mut items = Vec::new();
+    for kind in Kind::ALL {
+        items.extend([Size::None, Size::Some].map(|size| Item::Started(kind, size)));
+        for way in [Way::Read, Way::Write] {
+            items.push(Item::Refused(kind, way, Refusal::Misaligned));
+            items.push(Item::Refused(kind, way, Refusal::NoRegister));
+        }
+        items.push(Item::Refused(kind, Way::Line, Refusal::OutOfRange));
+    }
+    for field in fields() {
+        items.push(Item::Ended(Refusal::BadNumber, field));
+        items.extend(defects(field).map(|defect| Item::Defect(field, defect)));
+        if limited(field) {
+            items.push(Item::Ended(Refusal::BadConfiguration, field));
+        }
+    }
+    for field in [Field::Kind, Field::StepKind] {
+        items.push(Item::Ended(Refusal::UnknownKind, field));
+    }
+    items.extend(
+        [
+            "an offset one past a word",
+            "an offset two past a word",
+            "an offset three past a word",
+            "an offset that names a register modulo 4 KiB",
+            "a trace played to its end",
+            "as many steps as the program's limit",
+            "the longest trace played to its end",
+            "ended by the program's step limit",
+            "ended by the length of the trace",
+        ]
+        .map(Item::Fact),
+    );
+    items
+}
+
+/// All the numbers that a trace can have.
+fn fields() -> Vec<Field> {
+    let mut fields = vec![
+        Field::Kind,
+        Field::StepKind,
+        Field::Offset,
+        Field::Value,
+        Field::Line,
+        Field::Level,
+    ];
+    for (kind, count) in [(Kind::Aic, 2), (Kind::Core, 4), (Kind::Cic, 4)] {
+        fields.extend((0..count).map(|place| Field::Configuration(kind, place)));
+    }
+    fields
+}
+
+/// The defects that a number can have: a step that does not begin is no defect.
+fn defects(field: Field) -> impl Iterator<Item = Defect> {
+    let missing = (field != Field::StepKind).then_some(Defect::Missing);
+    let others = [
+        Defect::Cut,
+        Defect::TooManyBytes,
+        Defect::TooManyBits,
+        Defect::NotShortest,
+    ];
+    missing.into_iter().chain(others)
+}
+
+/// Whether a number has a limit (01: not the two words of the AIC, nor the revision of the CIC).
+fn limited(field: Field) -> bool {
+    match field {
+        Field::Configuration(Kind::Core, _) => true,
+        Field::Configuration(Kind::Cic, place) => place < 3,
+        _ => false,
+    }
+}

@@ -1,0 +1,432 @@
+//! What is to be reached on the AIC: every register in every permitted and refused way, and the situations of its rules.
+
+use super::{Coverage, Item, Outcome, Way};
+use crate::model::aic::{Aic, Register, Source, SOURCES};
+use crate::model::{Access, Answer, Refusal, Step};
+
+/// The controller as it was before a step.
+pub struct Before {
+    aic: Aic,
+}
+
+impl Before {
+    pub fn new(aic: &Aic) -> Before {
+        Before { aic: aic.clone() }
+    }
+}
+
+impl Coverage {
+    /// Counts what a step on the AIC shows.
+    pub(super) fn aic_step(&mut self, aic: &Aic, step: Step, answer: Answer) {
+        let before = self.aic_before.take().expect("a step has a before").aic;
+        self.aic_register(step, answer);
+        match (step, answer) {
+            (Step::Read { offset }, Ok(value)) => self.aic_read(&before, aic, offset, value),
+            (Step::Write { offset, value }, Ok(_)) => {
+                self.aic_write(&before, aic, offset, value);
+            }
+            (Step::Line { line, level }, Ok(_)) => {
+                self.aic_line(&before.sources()[line as usize], level == 1, line);
+            }
+            (Step::Line { line, level }, Err(_)) => {
+                self.fact_if(line == 32 && level < 2, "AIC line 32");
+                self.fact_if(line < 32 && level == 2, "AIC level 2");
+                self.fact_if(line > 31 && level > 1, "AIC line and level both wrong");
+            }
+            _ => {}
+        }
+    }
+
+    fn aic_register(&mut self, step: Step, answer: Answer) {
+        let (Step::Read { offset } | Step::Write { offset, .. }) = step else {
+            return;
+        };
+        if let Some(register) = Register::at(offset).filter(|_| offset.is_multiple_of(4)) {
+            self.reach(Item::Aic(register, Way::of(step).outcome(answer)));
+        }
+    }
+
+    fn aic_read(&mut self, before: &Aic, after: &Aic, offset: u32, value: u32) {
+        match Register::at(offset) {
+            Some(Register::Ivr) => self.ivr(before, after, value),
+            Some(Register::Fvr) => self.fvr(before, value),
+            Some(Register::Ipr) => self.ipr(after),
+            Some(Register::Isr) => self.isr(after),
+            Some(Register::Cisr) => {
+                self.reach(Item::Cisr(value));
+                let hidden = after.masked() && (after.best().is_some() || after.fast_request());
+                self.fact_if(hidden, "CISR while the mask hides a request");
+            }
+            _ => {}
+        }
+    }
+
+    fn ivr(&mut self, before: &Aic, after: &Aic, value: u32) {
+        self.remembered_level(before);
+        match before.best() {
+            Some(best) => {
+                self.reach(Item::Opened(after.handlers().len()));
+                self.ivr_starts(before, best);
+                self.fact_if(value != 0, "IVR answers a vector that is not 0");
+            }
+            None => {
+                self.ivr_spurious(before);
+                self.fact_if(value != 0, "IVR answers a SPU that is not 0");
+            }
+        }
+    }
+
+    fn ivr_starts(&mut self, before: &Aic, best: usize) {
+        let source = &before.sources()[best];
+        let priority = source.priority;
+        let others = || (1..SOURCES).filter(|&n| n != best && before.candidate(n));
+        let of = |n: usize| before.sources()[n].priority;
+        self.fact_if(source.edge_triggered(), "IVR starts an edge source");
+        self.fact_if(!source.edge_triggered(), "IVR starts a level source");
+        self.fact_if(before.masked(), "IVR starts while masked");
+        self.fact_if(
+            others().any(|n| of(n) == priority),
+            "IVR breaks a tie by the number",
+        );
+        self.fact_if(
+            others().any(|n| n < best && of(n) < priority),
+            "IVR passes over a lower number of lower priority",
+        );
+        let forced_above =
+            |source: &Source| source.forced && source.requests() && source.priority > priority;
+        self.fact_if(
+            before.sources().iter().any(forced_above),
+            "IVR passes over a forced source of higher priority",
+        );
+    }
+
+    fn ivr_spurious(&mut self, before: &Aic) {
+        let Some(last) = before.handlers().last() else {
+            self.fact_if(true, "IVR answers SPU with no handler open");
+            return;
+        };
+        let waits = |priority: u8| {
+            let waiting = |n: usize| {
+                let source = &before.sources()[n];
+                source.requests() && !before.fast(n) && source.priority == priority
+            };
+            (0..SOURCES).any(waiting)
+        };
+        self.fact_if(true, "IVR answers SPU with handlers open");
+        self.fact_if(
+            waits(last.level),
+            "IVR answers SPU while an equal priority waits",
+        );
+        self.fact_if(
+            (0..last.level).any(waits),
+            "IVR answers SPU while a lower priority waits",
+        );
+        self.fact_if(
+            last.level == 0 && waits(0),
+            "IVR answers SPU with level 0 open and priority 0 waiting",
+        );
+        self.fact_if(
+            before.handlers().len() == 8 && waits(7),
+            "IVR answers SPU with eight open and priority 7 waiting",
+        );
+    }
+
+    /// A handler's level and its source's priority now would not let the same sources in.
+    fn remembered_level(&mut self, before: &Aic) {
+        let Some(last) = before.handlers().last() else {
+            return;
+        };
+        let now = before.sources()[usize::from(last.source)].priority;
+        let matters = (1..SOURCES).any(|n| {
+            let source = &before.sources()[n];
+            let differs = (source.priority > last.level) != (source.priority > now);
+            source.requests() && !before.fast(n) && differs
+        });
+        self.fact_if(
+            matters,
+            "IVR where today's mode of the open source would mislead",
+        );
+    }
+
+    fn fvr(&mut self, before: &Aic, value: u32) {
+        let zero = &before.sources()[0];
+        let forced = || before.sources().iter().filter(|source| source.forced);
+        if !before.fast_request() {
+            self.fact_if(true, "FVR answers SPU");
+            self.fact_if(value != 0, "FVR answers a SPU that is not 0");
+            self.fact_if(zero.pending(), "FVR answers SPU while source 0 is disabled");
+            self.fact_if(
+                forced().any(Source::pending),
+                "FVR answers SPU while a forced source is disabled",
+            );
+            return;
+        }
+        let forced_requests = forced().any(Source::requests);
+        let zero_by_edge = zero.requests() && zero.edge_triggered();
+        self.fact_if(value != 0, "FVR answers a vector that is not 0");
+        self.fact_if(before.masked(), "FVR while masked");
+        self.fact_if(zero_by_edge && !before.some_forced(), "FVR clears source 0");
+        self.fact_if(
+            zero.requests() && !zero.edge_triggered(),
+            "FVR for source 0 by level",
+        );
+        self.fact_if(
+            forced_requests && !zero.requests(),
+            "FVR for a forced source alone",
+        );
+        self.fact_if(
+            forced_requests && zero_by_edge,
+            "FVR for source 0 and a forced one",
+        );
+        self.fact_if(
+            zero_by_edge && before.some_forced() && !forced_requests,
+            "FVR leaves source 0 while an idle source is forced",
+        );
+        self.fact_if(
+            forced().any(|source| source.requests() && source.edge_triggered()),
+            "FVR leaves a forced edge source",
+        );
+    }
+
+    fn ipr(&mut self, after: &Aic) {
+        for source in after.sources() {
+            self.reach(Item::Pending(
+                source.kind,
+                source.external,
+                source.pending(),
+            ));
+        }
+        let disabled = |source: &Source| source.pending() && !source.enabled;
+        self.fact_if(
+            after.sources().iter().any(disabled),
+            "IPR shows a disabled source",
+        );
+    }
+
+    fn isr(&mut self, after: &Aic) {
+        let Some(last) = after.handlers().last() else {
+            self.fact_if(true, "ISR with no handler open");
+            return;
+        };
+        let source = &after.sources()[usize::from(last.source)];
+        self.fact_if(true, "ISR with handlers open");
+        self.fact_if(!source.enabled, "ISR of a source that is now disabled");
+        self.fact_if(source.forced, "ISR of a source that is now forced");
+    }
+
+    fn aic_write(&mut self, before: &Aic, after: &Aic, offset: u32, value: u32) {
+        match Register::at(offset) {
+            Some(Register::Mode(n)) => {
+                let n = usize::from(n);
+                self.mode_write(&before.sources()[n], &after.sources()[n], value);
+            }
+            Some(Register::Ivr) => {
+                let waiting = before.best().is_some();
+                self.fact_if(waiting, "IVR written while a candidate waits");
+            }
+            Some(Register::Eoicr) => {
+                self.reach(Item::Closed(before.handlers().len()));
+                let lets_in = !before.irq() && after.irq();
+                self.fact_if(lets_in, "EOICR lets a waiting source in");
+            }
+            Some(Register::Dcr) => {
+                let masked = after.masked();
+                self.fact_if(masked && before.irq(), "the mask hides IRQ");
+                self.fact_if(masked && before.fiq(), "the mask hides FIQ");
+                self.fact_if(!masked && before.masked(), "the mask is lifted");
+                self.fact_if(value & !3 != 0, "DCR written with bits that are dropped");
+            }
+            Some(Register::Ffer) => self.forcing(before, value),
+            Some(Register::Ffdr) => {
+                let freed = !before.irq() && after.irq();
+                self.fact_if(freed, "FFDR makes a pending source a candidate");
+            }
+            Some(Register::Set) => self.set_command(before, value),
+            Some(Register::Clear) => self.clear_command(before, value),
+            _ => {}
+        }
+    }
+
+    fn mode_write(&mut self, before: &Source, after: &Source, value: u32) {
+        let retyped = before.kind != after.kind;
+        let reordered = before.priority != after.priority;
+        self.fact_if(
+            value & !0x67 != 0,
+            "mode written with bits that are dropped",
+        );
+        self.fact_if(before.memory && retyped, "a new type clears the memory");
+        self.fact_if(
+            before.memory && !before.external && before.kind == 1 && after.kind == 3,
+            "type 1 to 3 clears an internal source's memory",
+        );
+        self.fact_if(
+            before.memory && !retyped && reordered,
+            "a new priority keeps the memory",
+        );
+        self.fact_if(
+            before.memory && !retyped && !reordered && value & !0x67 != 0,
+            "dropped bits of the mode keep the memory",
+        );
+        self.fact_if(
+            after.line && retyped && after.edge_triggered(),
+            "a new edge type on a high line makes no edge",
+        );
+    }
+
+    fn forcing(&mut self, before: &Aic, value: u32) {
+        self.fact_if(value & 1 == 1, "FFER with bit 0");
+        let opened = before.handlers().iter().any(|h| value >> h.source & 1 == 1);
+        self.fact_if(opened, "FFER on a source whose handler is open");
+    }
+
+    fn set_command(&mut self, before: &Aic, value: u32) {
+        for (n, source) in before.sources().iter().enumerate() {
+            if value >> n & 1 == 0 {
+                continue;
+            }
+            let edge = source.edge_triggered();
+            self.fact_if(edge && !source.memory, "set on an edge source");
+            self.fact_if(edge && !source.enabled, "set on a disabled edge source");
+            self.fact_if(edge && source.forced, "set on a forced edge source");
+            self.fact_if(edge && n == 0, "set on source 0 by edge");
+            self.fact_if(!edge && !source.pending(), "set on an idle level source");
+        }
+    }
+
+    fn clear_command(&mut self, before: &Aic, value: u32) {
+        for (n, source) in before.sources().iter().enumerate() {
+            if value >> n & 1 == 0 {
+                continue;
+            }
+            let edge = source.edge_triggered();
+            self.fact_if(source.memory, "clear on a pending edge source");
+            self.fact_if(
+                source.memory && source.forced,
+                "clear on a forced edge source",
+            );
+            self.fact_if(!edge && source.pending(), "clear on a pending level source");
+        }
+    }
+
+    fn aic_line(&mut self, before: &Source, level: bool, line: u32) {
+        self.fact_if(line == 31, "AIC line 31");
+        if !before.edge_triggered() {
+            return;
+        }
+        let rising = !(before.external && before.kind == 1);
+        if before.line == level {
+            let again = level == rising && !before.memory;
+            self.fact_if(again, "a repeated level is no edge");
+            return;
+        }
+        let edge = level == rising;
+        self.reach(Item::Edge(before.kind, before.external, edge));
+        self.fact_if(edge && !before.enabled, "an edge on a disabled source");
+        self.fact_if(edge && before.forced, "an edge on a forced source");
+        self.fact_if(edge && line == 0, "an edge on source 0");
+        self.fact_if(
+            edge && before.memory,
+            "an edge on a source that is pending already",
+        );
+    }
+}
+
+/// The registers with all that can come of an access to each.
+fn registers() -> Vec<Item> {
+    let mut items = Vec::new();
+    for register in (0..0x14C).step_by(4).filter_map(Register::at) {
+        let (first, second) = match register.access() {
+            Access::ReadWrite => (Outcome::Read, Outcome::Written),
+            Access::ReadOnly => (Outcome::Read, Outcome::Refused(Refusal::ReadOnly)),
+            Access::WriteOnly => (Outcome::Refused(Refusal::WriteOnly), Outcome::Written),
+        };
+        items.push(Item::Aic(register, first));
+        items.push(Item::Aic(register, second));
+    }
+    let protect = Outcome::Refused(Refusal::ProtectMode);
+    items.push(Item::Aic(Register::Dcr, protect));
+    items
+}
+
+pub(super) fn wanted() -> Vec<Item> {
+    let mut items = registers();
+    items.extend((1..=8).map(Item::Opened));
+    items.extend((0..=8).map(Item::Closed));
+    items.extend((0..=3).map(Item::Cisr));
+    for external in [false, true] {
+        for now in [false, true] {
+            items.extend((0..4).map(|kind| Item::Pending(kind, external, now)));
+            items.extend([1, 3].map(|kind| Item::Edge(kind, external, now)));
+        }
+    }
+    items.extend(FACTS.iter().copied().map(Item::Fact));
+    items
+}
+
+const FACTS: &[&str] = &[
+    "AIC line 31",
+    "AIC line 32",
+    "AIC level 2",
+    "AIC line and level both wrong",
+    "CISR while the mask hides a request",
+    "IVR answers a vector that is not 0",
+    "IVR answers a SPU that is not 0",
+    "IVR starts an edge source",
+    "IVR starts a level source",
+    "IVR starts while masked",
+    "IVR breaks a tie by the number",
+    "IVR passes over a lower number of lower priority",
+    "IVR passes over a forced source of higher priority",
+    "IVR answers SPU with no handler open",
+    "IVR answers SPU with handlers open",
+    "IVR answers SPU while an equal priority waits",
+    "IVR answers SPU while a lower priority waits",
+    "IVR answers SPU with level 0 open and priority 0 waiting",
+    "IVR answers SPU with eight open and priority 7 waiting",
+    "IVR where today's mode of the open source would mislead",
+    "IVR written while a candidate waits",
+    "FVR answers SPU",
+    "FVR answers a SPU that is not 0",
+    "FVR answers SPU while source 0 is disabled",
+    "FVR answers SPU while a forced source is disabled",
+    "FVR answers a vector that is not 0",
+    "FVR while masked",
+    "FVR clears source 0",
+    "FVR for source 0 by level",
+    "FVR for a forced source alone",
+    "FVR for source 0 and a forced one",
+    "FVR leaves source 0 while an idle source is forced",
+    "FVR leaves a forced edge source",
+    "IPR shows a disabled source",
+    "ISR with no handler open",
+    "ISR with handlers open",
+    "ISR of a source that is now disabled",
+    "ISR of a source that is now forced",
+    "EOICR lets a waiting source in",
+    "the mask hides IRQ",
+    "the mask hides FIQ",
+    "the mask is lifted",
+    "DCR written with bits that are dropped",
+    "FFDR makes a pending source a candidate",
+    "FFER with bit 0",
+    "FFER on a source whose handler is open",
+    "mode written with bits that are dropped",
+    "a new type clears the memory",
+    "type 1 to 3 clears an internal source's memory",
+    "a new priority keeps the memory",
+    "dropped bits of the mode keep the memory",
+    "a new edge type on a high line makes no edge",
+    "set on an edge source",
+    "set on a disabled edge source",
+    "set on a forced edge source",
+    "set on source 0 by edge",
+    "set on an idle level source",
+    "clear on a pending edge source",
+    "clear on a forced edge source",
+    "clear on a pending level source",
+    "a repeated level is no edge",
+    "an edge on a disabled source",
+    "an edge on a forced source",
+    "an edge on source 0",
+    "an edge on a source that is pending already",
+];

@@ -1,0 +1,47 @@
+//! The other side in process: the proved listing through its C function, in a library that is linked on request.
+
+use crate::compare::Outcome;
+use crate::generate::Case;
+
+extern "C" {
+    /// Writes the listing of the lent trace into the lent buffer and answers the bytes written; what finds no room is
+    /// dropped. The declaration is checked by nothing: it has to be the one of the library.
+    fn wisteria_list(
+        trace: *const u8,
+        trace_len: usize,
+        limit: u32,
+        out: *mut u8,
+        out_len: usize,
+    ) -> usize;
+}
+
+/// Fills the buffer with the listing of a trace and answers how many bytes of it were written.
+pub fn list_into(trace: &[u8], limit: u32, buffer: &mut [u8]) -> usize {
+    // Both pointers come from slices of the lengths that go with them, and the two slices cannot overlap.
+    unsafe {
+        wisteria_list(
+            trace.as_ptr(),
+            trace.len(),
+            limit,
+            buffer.as_mut_ptr(),
+            buffer.len(),
+        )
+    }
+}
+
+/// What the buffer holds where nothing was written.
+const UNTOUCHED: u8 = 0xA5;
+
+/// The listing of a case. The bytes behind it must be left as they were.
+pub fn list(case: &Case) -> Outcome {
+    let mut buffer = vec![UNTOUCHED; case.ample_room()];
+    let written = list_into(&case.trace, case.limit, &mut buffer);
+    let rest = buffer
+        .get(written..)
+        .ok_or_else(|| format!("{written} bytes written into {}", buffer.len()))?;
+    if rest.iter().any(|&byte| byte != UNTOUCHED) {
+        return Err(format!("bytes behind the {written} written ones changed"));
+    }
+    buffer.truncate(written);
+    Ok(buffer)
+}

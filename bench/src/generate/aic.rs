@@ -1,0 +1,291 @@
+//! Tours of an AIC, in several moods: a bit of everything, deep nesting, the fast side, single edges.
+
+use super::{bad_line, odd_access, Script};
+use crate::random::Random;
+
+const VECTORS: u32 = 0x80;
+const IVR: u32 = 0x100;
+const FVR: u32 = 0x104;
+const STATUS: [u32; 6] = [0x108, 0x10C, 0x10C, 0x110, 0x114, 0x148];
+const ENABLE: u32 = 0x120;
+const DISABLE: u32 = 0x124;
+const CLEAR: u32 = 0x128;
+const SET: u32 = 0x12C;
+const EOICR: u32 = 0x130;
+const SPU: u32 = 0x134;
+const DCR: u32 = 0x138;
+const FFER: u32 = 0x140;
+const FFDR: u32 = 0x144;
+const END: u32 = 0x14C;
+
+/// What a tour does next.
+#[derive(Clone, Copy)]
+enum Act {
+    Line,
+    Mode,
+    Vector,
+    Command(u32),
+    ReadIvr,
+    WriteIvr,
+    ReadFvr,
+    ReadStatus,
+    Close,
+    Nest,
+    Mask,
+    Spurious,
+    AnyRegister,
+    OddAccess,
+    BadLine,
+}
+
+const MIXED: [(u32, Act); 19] = [
+    (24, Act::Line),
+    (12, Act::Mode),
+    (4, Act::Vector),
+    (6, Act::Command(ENABLE)),
+    (3, Act::Command(DISABLE)),
+    (4, Act::Command(SET)),
+    (3, Act::Command(CLEAR)),
+    (2, Act::Command(FFER)),
+    (2, Act::Command(FFDR)),
+    (10, Act::ReadIvr),
+    (1, Act::WriteIvr),
+    (4, Act::ReadFvr),
+    (10, Act::ReadStatus),
+    (7, Act::Close),
+    (2, Act::Mask),
+    (2, Act::Spurious),
+    (3, Act::AnyRegister),
+    (3, Act::OddAccess),
+    (1, Act::BadLine),
+];
+
+const NESTING: [(u32, Act); 10] = [
+    (30, Act::Nest),
+    (4, Act::Line),
+    (4, Act::Mode),
+    (8, Act::ReadIvr),
+    (6, Act::Close),
+    (6, Act::ReadStatus),
+    (1, Act::Command(FFER)),
+    (1, Act::Command(FFDR)),
+    (1, Act::Command(DISABLE)),
+    (1, Act::Mask),
+];
+
+const FAST: [(u32, Act); 11] = [
+    (20, Act::Line),
+    (14, Act::ReadFvr),
+    (6, Act::Command(FFER)),
+    (5, Act::Command(FFDR)),
+    (6, Act::Command(SET)),
+    (4, Act::Command(CLEAR)),
+    (5, Act::Command(ENABLE)),
+    (8, Act::Mode),
+    (8, Act::ReadStatus),
+    (4, Act::ReadIvr),
+    (1, Act::Mask),
+];
+
+const EDGES: [(u32, Act); 8] = [
+    (30, Act::Line),
+    (15, Act::Mode),
+    (20, Act::ReadStatus),
+    (4, Act::Command(SET)),
+    (4, Act::Command(CLEAR)),
+    (2, Act::Command(ENABLE)),
+    (2, Act::Command(DISABLE)),
+    (4, Act::ReadIvr),
+];
+
+/// What a tour is mostly about.
+#[derive(Clone, Copy, PartialEq, Eq)]
+enum Mood {
+    Mixed,
+    Nesting,
+    Fast,
+    Edges,
+}
+
+impl Mood {
+    fn acts(self) -> &'static [(u32, Act)] {
+        match self {
+            Mood::Mixed => &MIXED,
+            Mood::Nesting => &NESTING,
+            Mood::Fast => &FAST,
+            Mood::Edges => &EDGES,
+        }
+    }
+}
+
+/// A tour as it goes on: what is written, the levels of the lines, the sources it likes, the next level to nest.
+struct Tour<'a> {
+    random: &'a mut Random,
+    script: Script,
+    levels: u32,
+    sources: Vec<u32>,
+    next_level: u32,
+}
+
+/// A sound AIC trace of about so many steps.
+pub fn tour(random: &mut Random, steps: u32) -> Script {
+    let (external, levels) = (random.word(), random.word());
+    let mood = random.pick(&[Mood::Mixed, Mood::Nesting, Mood::Fast, Mood::Edges]);
+    let mut tour = Tour {
+        script: Script::new(0, &[external, levels]),
+        levels,
+        sources: favourites(random, mood),
+        next_level: 0,
+        random,
+    };
+    if steps > 8 {
+        tour.prepare();
+    }
+    for _ in 0..steps {
+        let act = tour.random.weighted(mood.acts());
+        tour.act(act);
+    }
+    tour.script
+}
+
+/// A few sources that the tour keeps to; the fast side wants source 0 among them.
+fn favourites(random: &mut Random, mood: Mood) -> Vec<u32> {
+    let count = random.pick(&[1, 2, 3, 8, 12]);
+    let mut sources: Vec<u32> = (0..count).map(|_| random.below(32)).collect();
+    if mood == Mood::Fast {
+        sources[0] = 0;
+    }
+    sources
+}
+
+impl Tour<'_> {
+    /// Gives the favourite sources modes and vectors that can be told apart, and mostly enables them.
+    fn prepare(&mut self) {
+        for place in 0..self.sources.len() {
+            let source = self.sources[place];
+            self.mode(source);
+            self.script
+                .write(VECTORS + 4 * source, 0x1000 + 0x11 * source);
+        }
+        if !self.random.one_in(4) {
+            self.script.write(ENABLE, u32::MAX);
+        }
+        self.script.write(SPU, 0x0BAD_0000 | self.random.below(256));
+    }
+
+    fn act(&mut self, act: Act) {
+        match act {
+            Act::Line => self.line(),
+            Act::Mode => {
+                let source = self.source();
+                self.mode(source);
+            }
+            Act::Vector => {
+                let source = self.source();
+                self.script.write(VECTORS + 4 * source, self.random.word());
+            }
+            Act::Command(offset) => {
+                let word = self.command_word();
+                self.script.write(offset, word);
+            }
+            Act::ReadIvr => self.script.read(IVR),
+            Act::WriteIvr => self.script.write(IVR, self.random.word()),
+            Act::ReadFvr => self.script.read(FVR),
+            Act::ReadStatus => self.script.read(self.random.pick(&STATUS)),
+            Act::Close => self.script.write(EOICR, self.random.below(2)),
+            Act::Nest => self.nest(),
+            Act::Mask => self.mask(),
+            Act::Spurious => self.script.write(SPU, self.random.word()),
+            Act::AnyRegister => self.any_register(),
+            Act::OddAccess => odd_access(self.random, &mut self.script, END),
+            Act::BadLine => bad_line(self.random, &mut self.script, 32),
+        }
+    }
+
+    fn source(&mut self) -> u32 {
+        if self.random.one_in(16) {
+            self.random.below(32)
+        } else {
+            self.random.pick(&self.sources)
+        }
+    }
+
+    /// Mostly turns a line round, since only that can be an edge; sometimes says its level again.
+    fn line(&mut self) {
+        let source = self.source();
+        let mut level = self.levels >> source & 1;
+        if !self.random.one_in(6) {
+            level ^= 1;
+        }
+        self.set_level(source, level);
+    }
+
+    fn set_level(&mut self, source: u32, level: u32) {
+        self.levels = self.levels & !(1 << source) | level << source;
+        self.script.line(source, level);
+    }
+
+    /// Any type and priority, now and then with bits that are dropped.
+    fn mode(&mut self, source: u32) {
+        let fields = self.random.below(4) << 5 | self.random.below(8);
+        let dropped = match self.random.below(4) {
+            0 => self.random.word() & !0x67,
+            _ => 0,
+        };
+        self.script.write(4 * source, fields | dropped);
+    }
+
+    fn command_word(&mut self) -> u32 {
+        match self.random.below(8) {
+            0 => self.random.word(),
+            1 => 1 | 1 << self.source(),
+            _ => 1 << self.source() | 1 << self.source(),
+        }
+    }
+
+    /// Raises a source one level above the last one raised and starts it; at the top, winds back.
+    fn nest(&mut self) {
+        if self.next_level == 8 {
+            self.unwind();
+            return;
+        }
+        let source = 1 + self.random.below(31);
+        let high_level = 0x40;
+        self.script.write(4 * source, high_level | self.next_level);
+        self.script.write(FFDR, 1 << source);
+        self.script.write(ENABLE, 1 << source);
+        self.set_level(source, 1);
+        self.script.read(IVR);
+        self.next_level += 1;
+    }
+
+    fn unwind(&mut self) {
+        self.script.read(IVR);
+        for _ in 0..self.random.within(1, 9) {
+            self.script.write(EOICR, 0);
+        }
+        let lowered = self.random.word();
+        for source in (0..32).filter(|source| lowered >> source & 1 == 1) {
+            self.set_level(source, 0);
+        }
+        self.next_level = self.random.below(3);
+    }
+
+    /// The mask on or off; with bit 0 it is refused, other bits are dropped.
+    fn mask(&mut self) {
+        let value = match self.random.below(5) {
+            0 => self.random.word(),
+            other => other & 3,
+        };
+        self.script.write(DCR, value);
+    }
+
+    fn any_register(&mut self) {
+        let offset = 4 * self.random.below(END / 4);
+        if self.random.one_in(2) {
+            self.script.read(offset);
+        } else {
+            self.script.write(offset, self.random.word());
+        }
+    }
+}

@@ -1,0 +1,110 @@
+//! Damaged traces: bad numbers in good places, cuts, flipped bits, lost and doubled bytes, and plain noise.
+
+use super::Script;
+use crate::random::Random;
+use crate::trace::{encode, Defect, NUMBER_BYTES};
+
+/// The trace with one number spoiled, or harmed at any byte, at times more than once.
+pub fn damaged(random: &mut Random, mut script: Script) -> Vec<u8> {
+    if random.one_in(2) {
+        spoil_a_number(random, &mut script);
+        return script.bytes;
+    }
+    harm(random, &mut script.bytes);
+    while random.one_in(4) {
+        harm(random, &mut script.bytes);
+    }
+    script.bytes
+}
+
+/// Any bytes, of which the first few often look like the beginning of a trace.
+pub fn noise(random: &mut Random) -> Vec<u8> {
+    let mut bytes = match random.below(4) {
+        0 => vec![],
+        1 => vec![0, 0, 0],
+        2 => vec![1, 8, 32, 0, 1],
+        _ => vec![2, 33, 4, 4, 0],
+    };
+    let most = random.pick(&[0x100, 0x80, 0x08, 0x04]);
+    for _ in 0..random.below(60) {
+        bytes.push(random.below(most) as u8);
+    }
+    bytes
+}
+
+/// Numbers at and just beyond the limits of kinds and configurations.
+const NEAR_LIMITS: [u32; 13] = [0, 1, 2, 3, 8, 9, 32, 33, 255, 256, 257, 1_024, 1_025];
+
+fn spoil_a_number(random: &mut Random, script: &mut Script) {
+    let place = random.below(script.numbers.len() as u32) as usize;
+    let defects = [
+        Defect::Missing,
+        Defect::Cut,
+        Defect::TooManyBytes,
+        Defect::TooManyBits,
+        Defect::NotShortest,
+    ];
+    match random.below(8) {
+        0 => exchange(script, place, random.word()),
+        1 | 2 => {
+            let among_first = random.below(5) as usize % script.numbers.len();
+            exchange(script, among_first, random.pick(&NEAR_LIMITS));
+        }
+        _ => spoil(script, place, random.pick(&defects)),
+    }
+}
+
+/// Gives the number of a place in the script a defect. A missing or cut number takes all that follows with it.
+pub fn spoil(script: &mut Script, place: usize, defect: Defect) {
+    let at = script.numbers[place];
+    match defect {
+        Defect::Missing => script.bytes.truncate(at),
+        Defect::Cut => {
+            script.bytes.truncate(at);
+            script.bytes.extend([0x83, 0x80]);
+        }
+        Defect::TooManyBytes => replace(script, place, |bytes| {
+            bytes.extend([0x81; NUMBER_BYTES]);
+            bytes.push(0x01);
+        }),
+        Defect::TooManyBits => replace(script, place, |bytes| {
+            bytes.extend([0x81, 0x80, 0x80, 0x80, 0x10]);
+        }),
+        Defect::NotShortest => replace(script, place, |bytes| {
+            bytes.extend([0x81, 0x80, 0x00]);
+        }),
+    }
+}
+
+/// Puts another number, well written, in the place of one.
+fn exchange(script: &mut Script, place: usize, value: u32) {
+    replace(script, place, |bytes| encode(value, bytes));
+}
+
+/// Puts other bytes where a number stood.
+fn replace(script: &mut Script, place: usize, write: impl Fn(&mut Vec<u8>)) {
+    let at = script.numbers[place];
+    let end = match script.numbers.get(place + 1) {
+        Some(&next) => next,
+        None => script.bytes.len(),
+    };
+    let mut number = Vec::new();
+    write(&mut number);
+    script.bytes.splice(at..end, number);
+}
+
+/// One harm that knows nothing of numbers.
+fn harm(random: &mut Random, bytes: &mut Vec<u8>) {
+    if bytes.is_empty() {
+        bytes.push(random.below(256) as u8);
+        return;
+    }
+    let at = random.below(bytes.len() as u32) as usize;
+    match random.below(6) {
+        0 | 1 => bytes.truncate(at),
+        2 => bytes[at] ^= 1 << random.below(8),
+        3 => bytes[at] = random.below(256) as u8,
+        4 => drop(bytes.remove(at)),
+        _ => bytes.insert(at, bytes[at]),
+    }
+}

@@ -1,0 +1,16 @@
+//! An independent model of document 01 in plain Rust, and what compares the proved program with it.
+
+pub mod batch;
+pub mod compare;
+pub mod coverage;
+pub mod digits;
+#[cfg(feature = "exports")]
+pub mod exports;
+pub mod generate;
+pub mod hex;
+pub mod listing;
+pub mod model;
+pub mod program;
+pub mod random;
+pub mod trace;
+pub mod workload;

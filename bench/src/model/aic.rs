@@ -1,0 +1,394 @@
+//! The AIC: 32 sources, eight levels and a fast side (01, AIC; 003, sections 27.7 and 27.8).
+
+use super::{Access, Controller, Refusal};
+
+/// The number of sources, and of input lines (003, 27.1).
+pub const SOURCES: usize = 32;
+
+/// The registers in the order of 003, table 27-2.
+#[derive(Clone, Copy, Debug, PartialEq, Eq, PartialOrd, Ord, Hash)]
+pub enum Register {
+    Mode(u8),
+    Vector(u8),
+    Ivr,
+    Fvr,
+    Isr,
+    Ipr,
+    Imr,
+    Cisr,
+    Enable,
+    Disable,
+    Clear,
+    Set,
+    Eoicr,
+    Spu,
+    Dcr,
+    Ffer,
+    Ffdr,
+    Ffsr,
+}
+
+impl Register {
+    /// The register at an aligned offset (01, AIC, map).
+    pub fn at(offset: u32) -> Option<Register> {
+        let place = (offset / 4 % 32) as u8;
+        Some(match offset {
+            0x000..=0x07C => Register::Mode(place),
+            0x080..=0x0FC => Register::Vector(place),
+            0x100 => Register::Ivr,
+            0x104 => Register::Fvr,
+            0x108 => Register::Isr,
+            0x10C => Register::Ipr,
+            0x110 => Register::Imr,
+            0x114 => Register::Cisr,
+            0x120 => Register::Enable,
+            0x124 => Register::Disable,
+            0x128 => Register::Clear,
+            0x12C => Register::Set,
+            0x130 => Register::Eoicr,
+            0x134 => Register::Spu,
+            0x138 => Register::Dcr,
+            0x140 => Register::Ffer,
+            0x144 => Register::Ffdr,
+            0x148 => Register::Ffsr,
+            _ => return None,
+        })
+    }
+
+    /// Who may do what. IVR counts as writable, though a write does nothing (01, AIC, map; 003, 27.7.5).
+    pub fn access(self) -> Access {
+        match self {
+            Register::Mode(_)
+            | Register::Vector(_)
+            | Register::Ivr
+            | Register::Spu
+            | Register::Dcr => Access::ReadWrite,
+            Register::Fvr
+            | Register::Isr
+            | Register::Ipr
+            | Register::Imr
+            | Register::Cisr
+            | Register::Ffsr => Access::ReadOnly,
+            Register::Enable
+            | Register::Disable
+            | Register::Clear
+            | Register::Set
+            | Register::Eoicr
+            | Register::Ffer
+            | Register::Ffdr => Access::WriteOnly,
+        }
+    }
+}
+
+/// What makes a source pending (01, AIC, mode; 003, 27.8.3).
+#[derive(Clone, Copy, Debug, PartialEq, Eq)]
+pub enum Trigger {
+    HighLevel,
+    LowLevel,
+    RisingEdge,
+    FallingEdge,
+}
+
+/// One source with all that is stored for it.
+#[derive(Clone, Copy, Debug, Default, PartialEq, Eq)]
+pub struct Source {
+    pub external: bool,
+    pub line: bool,
+    /// Bits 6:5 of the mode.
+    pub kind: u8,
+    /// Bits 2:0 of the mode.
+    pub priority: u8,
+    pub vector: u32,
+    pub enabled: bool,
+    pub forced: bool,
+    /// An edge was seen and is not cleared yet; never set on a level source.
+    pub memory: bool,
+}
+
+impl Source {
+    /// The trigger that the type names; only types 0 and 1 differ for an external source.
+    pub fn trigger(&self) -> Trigger {
+        match (self.kind, self.external) {
+            (0, true) => Trigger::LowLevel,
+            (1, true) => Trigger::FallingEdge,
+            (0 | 2, _) => Trigger::HighLevel,
+            _ => Trigger::RisingEdge,
+        }
+    }
+
+    pub fn edge_triggered(&self) -> bool {
+        matches!(self.trigger(), Trigger::RisingEdge | Trigger::FallingEdge)
+    }
+
+    /// A level source is pending by its line, an edge source by its memory (01, AIC, pending).
+    pub fn pending(&self) -> bool {
+        match self.trigger() {
+            Trigger::HighLevel => self.line,
+            Trigger::LowLevel => !self.line,
+            Trigger::RisingEdge | Trigger::FallingEdge => self.memory,
+        }
+    }
+
+    pub fn requests(&self) -> bool {
+        self.enabled && self.pending()
+    }
+
+    /// What the mode register reads: the two fields, all other bits 0.
+    fn mode(&self) -> u32 {
+        u32::from(self.kind) << 5 | u32::from(self.priority)
+    }
+
+    /// A new type forgets the edge, a new priority alone does not (01, AIC, mode).
+    fn set_mode(&mut self, value: u32) {
+        let kind = (value >> 5 & 3) as u8;
+        if kind != self.kind {
+            self.memory = false;
+        }
+        self.kind = kind;
+        self.priority = (value & 7) as u8;
+    }
+
+    /// Only a change of level can be an edge, and it is remembered though the source be disabled (01, AIC, pending).
+    fn set_line(&mut self, level: bool) {
+        let edge = match self.trigger() {
+            Trigger::RisingEdge => !self.line && level,
+            Trigger::FallingEdge => self.line && !level,
+            Trigger::HighLevel | Trigger::LowLevel => false,
+        };
+        self.memory |= edge;
+        self.line = level;
+    }
+
+    /// The set command, without effect on a level source (003, 27.7.1.3).
+    fn remember(&mut self) {
+        self.memory = self.edge_triggered();
+    }
+
+    /// The clear command; a level source has nothing to forget.
+    fn forget(&mut self) {
+        self.memory = false;
+    }
+}
+
+/// A handler that was started and not closed, with the priority its source had then.
+#[derive(Clone, Copy, Debug, PartialEq, Eq)]
+pub struct Handler {
+    pub source: u8,
+    pub level: u8,
+}
+
+/// The whole controller.
+#[derive(Clone, Debug, PartialEq, Eq)]
+pub struct Aic {
+    sources: [Source; SOURCES],
+    /// The open handlers, the last started one at the end.
+    handlers: Vec<Handler>,
+    spurious: u32,
+    masked: bool,
+}
+
+impl Aic {
+    /// The controller after reset: bit n of each word is for source n; a first level is no edge (01, AIC, configuration).
+    pub fn new(external: u32, levels: u32) -> Aic {
+        let sources = std::array::from_fn(|n| Source {
+            external: bit(external, n),
+            line: bit(levels, n),
+            ..Source::default()
+        });
+        Aic {
+            sources,
+            handlers: Vec::with_capacity(8),
+            spurious: 0,
+            masked: false,
+        }
+    }
+
+    pub fn sources(&self) -> &[Source; SOURCES] {
+        &self.sources
+    }
+
+    pub fn handlers(&self) -> &[Handler] {
+        &self.handlers
+    }
+
+    pub fn masked(&self) -> bool {
+        self.masked
+    }
+
+    /// Source 0 is always on the fast side, another one if it is forced there (01, AIC, fast side).
+    pub fn fast(&self, source: usize) -> bool {
+        source == 0 || self.sources[source].forced
+    }
+
+    pub fn some_forced(&self) -> bool {
+        self.sources.iter().any(|source| source.forced)
+    }
+
+    /// Some fast source is pending and enabled. The mask is not asked.
+    pub fn fast_request(&self) -> bool {
+        (0..SOURCES).any(|n| self.sources[n].requests() && self.fast(n))
+    }
+
+    /// A normal source that is pending, enabled and above the last open handler (01, AIC, normal side).
+    pub fn candidate(&self, source: usize) -> bool {
+        let above = match self.handlers.last() {
+            Some(handler) => self.sources[source].priority > handler.level,
+            None => true,
+        };
+        above && self.sources[source].requests() && !self.fast(source)
+    }
+
+    /// The candidate ahead of all others: the highest priority, and of equal ones the lowest number.
+    pub fn best(&self) -> Option<usize> {
+        let mut best: Option<usize> = None;
+        for source in (0..SOURCES).filter(|&n| self.candidate(n)) {
+            let ahead = match best {
+                Some(other) => self.sources[source].priority > self.sources[other].priority,
+                None => true,
+            };
+            if ahead {
+                best = Some(source);
+            }
+        }
+        best
+    }
+
+    /// The IRQ output, with the mask.
+    pub fn irq(&self) -> bool {
+        !self.masked && (0..SOURCES).any(|n| self.candidate(n))
+    }
+
+    /// The FIQ output, with the mask.
+    pub fn fiq(&self) -> bool {
+        !self.masked && self.fast_request()
+    }
+
+    /// Starts the best candidate, or answers SPU and changes nothing; the mask plays no part (01, AIC, normal side).
+    fn read_ivr(&mut self) -> u32 {
+        let Some(number) = self.best() else {
+            return self.spurious;
+        };
+        let source = &mut self.sources[number];
+        source.forget();
+        self.handlers.push(Handler {
+            source: number as u8,
+            level: source.priority,
+        });
+        source.vector
+    }
+
+    /// Answers vector 0 for any fast request. Source 0's edge is forgotten only while nothing is forced, be the
+    /// forced source idle or not (01, AIC, fast side; 003, 27.7.4.5).
+    fn read_fvr(&mut self) -> u32 {
+        if !self.fast_request() {
+            return self.spurious;
+        }
+        if !self.some_forced() {
+            self.sources[0].forget();
+        }
+        self.sources[0].vector
+    }
+
+    /// A word with a bit for each source that has the property.
+    fn word(&self, property: impl Fn(&Source) -> bool) -> u32 {
+        self.sources
+            .iter()
+            .rev()
+            .fold(0, |word, source| word << 1 | u32::from(property(source)))
+    }
+
+    /// Does something to each source whose bit is 1, as all the command registers do.
+    fn command(&mut self, word: u32, act: impl Fn(&mut Source)) {
+        for (n, source) in self.sources.iter_mut().enumerate() {
+            if bit(word, n) {
+                act(source);
+            }
+        }
+    }
+
+    /// Bit 0 would be protect mode, which is not built; bit 1 is the mask, the rest is dropped (01, AIC).
+    fn write_dcr(&mut self, value: u32) -> Result<(), Refusal> {
+        if bit(value, 0) {
+            return Err(Refusal::ProtectMode);
+        }
+        self.masked = bit(value, 1);
+        Ok(())
+    }
+}
+
+impl Controller for Aic {
+    type Register = Register;
+
+    fn register(&self, offset: u32) -> Option<(Register, Access)> {
+        Register::at(offset).map(|register| (register, register.access()))
+    }
+
+    fn lines(&self) -> u32 {
+        SOURCES as u32
+    }
+
+    fn read(&mut self, register: Register) -> u32 {
+        match register {
+            Register::Mode(n) => self.sources[usize::from(n)].mode(),
+            Register::Vector(n) => self.sources[usize::from(n)].vector,
+            Register::Ivr => self.read_ivr(),
+            Register::Fvr => self.read_fvr(),
+            Register::Isr => self.handlers.last().map_or(0, |h| u32::from(h.source)),
+            Register::Ipr => self.word(Source::pending),
+            Register::Imr => self.word(|source| source.enabled),
+            Register::Cisr => u32::from(self.irq()) << 1 | u32::from(self.fiq()),
+            Register::Spu => self.spurious,
+            Register::Dcr => u32::from(self.masked) << 1,
+            Register::Ffsr => self.word(|source| source.forced),
+            Register::Enable
+            | Register::Disable
+            | Register::Clear
+            | Register::Set
+            | Register::Eoicr
+            | Register::Ffer
+            | Register::Ffdr => unreachable!("{register:?} is write-only"),
+        }
+    }
+
+    fn write(&mut self, register: Register, value: u32) -> Result<(), Refusal> {
+        match register {
+            Register::Mode(n) => self.sources[usize::from(n)].set_mode(value),
+            Register::Vector(n) => self.sources[usize::from(n)].vector = value,
+            Register::Ivr => {}
+            Register::Enable => self.command(value, |source| source.enabled = true),
+            Register::Disable => self.command(value, |source| source.enabled = false),
+            Register::Clear => self.command(value, Source::forget),
+            Register::Set => self.command(value, Source::remember),
+            // One write closes one handler whatever its value, and none is fine too (003, 27.8.15).
+            Register::Eoicr => drop(self.handlers.pop()),
+            Register::Spu => self.spurious = value,
+            Register::Dcr => self.write_dcr(value)?,
+            // Source 0 cannot be forced: its bit is dropped (01, AIC, fast side).
+            Register::Ffer => self.command(value & !1, |source| source.forced = true),
+            Register::Ffdr => self.command(value, |source| source.forced = false),
+            Register::Fvr
+            | Register::Isr
+            | Register::Ipr
+            | Register::Imr
+            | Register::Cisr
+            | Register::Ffsr => unreachable!("{register:?} is read-only"),
+        }
+        Ok(())
+    }
+
+    fn set_line(&mut self, line: usize, level: bool) {
+        self.sources[line].set_line(level);
+    }
+
+    fn shown(&self) -> [u32; 3] {
+        [
+            u32::from(self.irq()),
+            u32::from(self.fiq()),
+            self.handlers.len() as u32,
+        ]
+    }
+}
+
+fn bit(word: u32, n: usize) -> bool {
+    word >> n & 1 == 1
+}

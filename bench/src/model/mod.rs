@@ -1,0 +1,161 @@
+//! The three controllers of document 01 as plain state, and what they have in common: steps, refusals, the order of checks.
+
+pub mod aic;
+pub mod cic;
+pub mod core;
+
+use self::aic::Aic;
+use self::cic::Cic;
+use self::core::CoreInterrupt;
+
+/// One step of a trace: a register is read or written, or an input line takes a level (01, house trace).
+#[derive(Clone, Copy, Debug, PartialEq, Eq)]
+pub enum Step {
+    Read { offset: u32 },
+    Write { offset: u32, value: u32 },
+    Line { line: u32, level: u32 },
+}
+
+/// Why a step or a trace is not carried out, with the number that 01's table gives it.
+///
+/// Number 12 is missing: it is about a record that somebody hands in, and these models keep their state to themselves.
+#[derive(Clone, Copy, Debug, PartialEq, Eq, PartialOrd, Ord, Hash)]
+pub enum Refusal {
+    Misaligned = 1,
+    NoRegister = 2,
+    WriteOnly = 3,
+    ReadOnly = 4,
+    ProtectMode = 5,
+    OutOfRange = 6,
+    StepLimit = 7,
+    BadNumber = 8,
+    UnknownKind = 9,
+    BadConfiguration = 10,
+    TraceTooLong = 11,
+}
+
+impl Refusal {
+    /// The number of 01's table.
+    pub fn number(self) -> u32 {
+        self as u32
+    }
+}
+
+/// What a step answers: the value read (0 for a write or a line), or why it was refused.
+pub type Answer = Result<u32, Refusal>;
+
+/// Which accesses a register allows.
+#[derive(Clone, Copy, Debug, PartialEq, Eq, PartialOrd, Ord, Hash)]
+pub enum Access {
+    ReadWrite,
+    ReadOnly,
+    WriteOnly,
+}
+
+/// A controller as the player sees it. A model says what it has; the order of the checks stands here, once.
+pub trait Controller {
+    /// The names of the model's registers.
+    type Register: Copy;
+
+    /// The register at an aligned offset with the accesses it allows, if there is one.
+    fn register(&self, offset: u32) -> Option<(Self::Register, Access)>;
+
+    /// How many input lines there are; a line number from there on is refused.
+    fn lines(&self) -> u32;
+
+    /// Reads a register that may be read.
+    fn read(&mut self, register: Self::Register) -> u32;
+
+    /// Writes a register that may be written; a refusal changes nothing.
+    fn write(&mut self, register: Self::Register, value: u32) -> Result<(), Refusal>;
+
+    /// Puts an existing input line at a level.
+    fn set_line(&mut self, line: usize, level: bool);
+
+    /// The three numbers that end a line of the listing (01, house trace).
+    fn shown(&self) -> [u32; 3];
+
+    /// Carries out a step, checked in 01's order: 1, 2, 3 or 4, then 5 or 6; a line step only against 6.
+    fn step(&mut self, step: Step) -> Answer {
+        match step {
+            Step::Read { offset } => match self.found(offset)? {
+                (_, Access::WriteOnly) => Err(Refusal::WriteOnly),
+                (register, _) => Ok(self.read(register)),
+            },
+            Step::Write { offset, value } => match self.found(offset)? {
+                (_, Access::ReadOnly) => Err(Refusal::ReadOnly),
+                (register, _) => self.write(register, value).map(|()| 0),
+            },
+            Step::Line { line, level } if line >= self.lines() || level > 1 => {
+                Err(Refusal::OutOfRange)
+            }
+            Step::Line { line, level } => {
+                self.set_line(line as usize, level == 1);
+                Ok(0)
+            }
+        }
+    }
+
+    /// The register at any offset, or refusal 1 or 2.
+    fn found(&self, offset: u32) -> Result<(Self::Register, Access), Refusal> {
+        if !offset.is_multiple_of(4) {
+            return Err(Refusal::Misaligned);
+        }
+        self.register(offset).ok_or(Refusal::NoRegister)
+    }
+}
+
+/// The kinds of controller that a trace can name (01, house trace).
+#[derive(Clone, Copy, Debug, PartialEq, Eq, PartialOrd, Ord, Hash)]
+pub enum Kind {
+    Aic,
+    Core,
+    Cic,
+}
+
+impl Kind {
+    pub const ALL: [Kind; 3] = [Kind::Aic, Kind::Core, Kind::Cic];
+
+    /// The name that opens the listing.
+    pub fn name(self) -> &'static str {
+        match self {
+            Kind::Aic => "AIC",
+            Kind::Core => "COREINTERRUPT",
+            Kind::Cic => "CIC",
+        }
+    }
+}
+
+/// One started controller of any kind.
+#[derive(Clone, Debug, PartialEq, Eq)]
+pub enum Machine {
+    Aic(Box<Aic>),
+    Core(CoreInterrupt),
+    Cic(Box<Cic>),
+}
+
+impl Machine {
+    pub fn kind(&self) -> Kind {
+        match self {
+            Machine::Aic(_) => Kind::Aic,
+            Machine::Core(_) => Kind::Core,
+            Machine::Cic(_) => Kind::Cic,
+        }
+    }
+
+    pub fn step(&mut self, step: Step) -> Answer {
+        match self {
+            Machine::Aic(aic) => aic.step(step),
+            Machine::Core(core) => core.step(step),
+            Machine::Cic(cic) => cic.step(step),
+        }
+    }
+
+    pub fn shown(&self) -> [u32; 3] {
+        match self {
+            Machine::Aic(aic) => aic.shown(),
+            Machine::Core(core) => core.shown(),
+            Machine::Cic(cic) => cic.shown(),
+        }
+    }
+}

@@ -1,0 +1,83 @@
+//! The other side as a program: a process for each trace, which reads it on standard input and prints the listing.
+
+use std::io::{Read, Write};
+use std::path::PathBuf;
+use std::process::{Child, Command, Stdio};
+use std::sync::mpsc;
+use std::thread;
+use std::time::Duration;
+
+use crate::compare::Outcome;
+
+/// A program that takes longer than this for one trace has failed.
+pub const PATIENCE: Duration = Duration::from_secs(10);
+
+/// A program to be run, which may be an emulator that is told what to run by its arguments.
+pub struct Program {
+    path: PathBuf,
+    arguments: Vec<String>,
+}
+
+impl Program {
+    pub fn new(path: impl Into<PathBuf>, arguments: &[&str]) -> Program {
+        Program {
+            path: path.into(),
+            arguments: arguments.iter().map(|&word| word.to_owned()).collect(),
+        }
+    }
+
+    pub fn command(&self) -> Command {
+        let mut command = Command::new(&self.path);
+        command.args(&self.arguments);
+        command
+    }
+
+    /// What the program prints for a trace. It has to end well, in time, and with nothing on standard error.
+    pub fn list(&self, trace: &[u8]) -> Outcome {
+        let mut child = self
+            .command()
+            .stdin(Stdio::piped())
+            .stdout(Stdio::piped())
+            .stderr(Stdio::piped())
+            .spawn()
+            .map_err(|error| format!("{} does not start: {error}", self.path.display()))?;
+        feed(&mut child, trace.to_vec());
+        let printed = in_background(child.stdout.take().expect("its output is piped"));
+        let complaints = in_background(child.stderr.take().expect("its errors are piped"));
+        let (Ok(printed), Ok(complaints)) = (
+            printed.recv_timeout(PATIENCE),
+            complaints.recv_timeout(PATIENCE),
+        ) else {
+            // It may have ended in the meantime, which is as good.
+            let _ = child.kill();
+            let _ = child.wait();
+            return Err(format!("no end after {PATIENCE:?}"));
+        };
+        let status = child.wait().map_err(|error| error.to_string())?;
+        if !status.success() || !complaints.is_empty() {
+            let complaints = complaints.escape_ascii();
+            return Err(format!("{status}, on standard error: {complaints}"));
+        }
+        Ok(printed)
+    }
+}
+
+/// Writes the trace from a thread of its own. A program may stop reading once it knows that a trace is too long.
+fn feed(child: &mut Child, trace: Vec<u8>) {
+    let mut input = child.stdin.take().expect("its input is piped");
+    thread::spawn(move || {
+        let _ = input.write_all(&trace);
+    });
+}
+
+/// All that a stream has, as soon as it ends.
+fn in_background(mut stream: impl Read + Send + 'static) -> mpsc::Receiver<Vec<u8>> {
+    let (sender, receiver) = mpsc::channel();
+    thread::spawn(move || {
+        let mut bytes = Vec::new();
+        if stream.read_to_end(&mut bytes).is_ok() {
+            let _ = sender.send(bytes);
+        }
+    });
+    receiver
+}

@@ -1,0 +1,415 @@
+//! The house trace: numbers, configurations and steps read from bytes, and the player that carries them out (01, house trace).
+
+use crate::model::aic::Aic;
+use crate::model::cic::Cic;
+use crate::model::core::CoreInterrupt;
+use crate::model::{Answer, Kind, Machine, Refusal, Step};
+
+/// The longest trace that is played (01, refusal 11).
+pub const LONGEST: usize = 65_536;
+/// The step limit of the program (01, house trace).
+pub const PROGRAM_LIMIT: u32 = 20_000;
+/// A number has at most this many bytes.
+pub const NUMBER_BYTES: usize = 5;
+
+/// Which number of a trace is meant. A configuration number has its place in the configuration, from 0.
+#[derive(Clone, Copy, Debug, PartialEq, Eq, PartialOrd, Ord, Hash)]
+pub enum Field {
+    Kind,
+    Configuration(Kind, u8),
+    StepKind,
+    Offset,
+    Value,
+    Line,
+    Level,
+}
+
+/// What is wrong with a number; 01 gives one refusal for all of them.
+#[derive(Clone, Copy, Debug, PartialEq, Eq, PartialOrd, Ord, Hash)]
+pub enum Defect {
+    Missing,
+    Cut,
+    TooManyBytes,
+    TooManyBits,
+    NotShortest,
+}
+
+/// Why a trace ends before its last byte: the number at fault, by name and by the place of its first byte.
+/// Refusals 7 and 11 have a place and no number.
+#[derive(Clone, Copy, Debug, PartialEq, Eq)]
+pub struct Fault {
+    pub refusal: Refusal,
+    pub offset: usize,
+    pub field: Option<Field>,
+    pub defect: Option<Defect>,
+}
+
+/// The bytes of a trace and the place of the next one to read.
+pub struct Reader<'a> {
+    trace: &'a [u8],
+    at: usize,
+}
+
+impl<'a> Reader<'a> {
+    pub fn new(trace: &'a [u8]) -> Reader<'a> {
+        Reader { trace, at: 0 }
+    }
+
+    pub fn at_end(&self) -> bool {
+        self.at == self.trace.len()
+    }
+
+    /// The next number, or refusal 8 at its first byte.
+    fn number(&mut self, field: Field) -> Result<u32, Fault> {
+        let (value, length) = decode(&self.trace[self.at..]).map_err(|defect| Fault {
+            defect: Some(defect),
+            ..self.fault(Refusal::BadNumber, field)
+        })?;
+        self.at += length;
+        Ok(value)
+    }
+
+    /// The next number if it is within its limits, else refusal 10; 8 comes before that.
+    fn limited(&mut self, field: Field, least: u32, most: u32) -> Result<u32, Fault> {
+        let fault = self.fault(Refusal::BadConfiguration, field);
+        let value = self.number(field)?;
+        if (least..=most).contains(&value) {
+            Ok(value)
+        } else {
+            Err(fault)
+        }
+    }
+
+    /// The fault of a number that begins at the present place.
+    fn fault(&self, refusal: Refusal, field: Field) -> Fault {
+        Fault {
+            refusal,
+            offset: self.at,
+            field: Some(field),
+            defect: None,
+        }
+    }
+
+    /// The controller that the trace asks for. Each number is judged as soon as it is read.
+    fn machine(&mut self) -> Result<Machine, Fault> {
+        let unknown = self.fault(Refusal::UnknownKind, Field::Kind);
+        match self.number(Field::Kind)? {
+            0 => self.aic(),
+            1 => self.core(),
+            2 => self.cic(),
+            _ => Err(unknown),
+        }
+    }
+
+    fn aic(&mut self) -> Result<Machine, Fault> {
+        let field = |place| Field::Configuration(Kind::Aic, place);
+        let external = self.number(field(0))?;
+        let levels = self.number(field(1))?;
+        Ok(Machine::Aic(Box::new(Aic::new(external, levels))))
+    }
+
+    fn core(&mut self) -> Result<Machine, Fault> {
+        let field = |place| Field::Configuration(Kind::Core, place);
+        let fiqs = self.limited(field(0), 0, 8)?;
+        let irqs = self.limited(field(1), 0, 32)?;
+        let fiq_level = self.limited(field(2), 0, 1)? == 1;
+        let irq_level = self.limited(field(3), 0, 1)? == 1;
+        let core = CoreInterrupt::new(fiqs, irqs, fiq_level, irq_level);
+        Ok(Machine::Core(core))
+    }
+
+    fn cic(&mut self) -> Result<Machine, Fault> {
+        let field = |place| Field::Configuration(Kind::Cic, place);
+        let systems = self.limited(field(0), 1, 1_024)? as usize;
+        let channels = self.limited(field(1), 1, 256)? as usize;
+        let hosts = self.limited(field(2), 1, 256)? as usize;
+        let revision = self.number(field(3))?;
+        let cic = Cic::new(systems, channels, hosts, revision);
+        Ok(Machine::Cic(Box::new(cic)))
+    }
+
+    /// The next step; an unknown step kind is refused before anything after it is read.
+    fn step(&mut self) -> Result<Step, Fault> {
+        let unknown = self.fault(Refusal::UnknownKind, Field::StepKind);
+        Ok(match self.number(Field::StepKind)? {
+            1 => Step::Read {
+                offset: self.number(Field::Offset)?,
+            },
+            2 => Step::Write {
+                offset: self.number(Field::Offset)?,
+                value: self.number(Field::Value)?,
+            },
+            3 => Step::Line {
+                line: self.number(Field::Line)?,
+                level: self.number(Field::Level)?,
+            },
+            _ => return Err(unknown),
+        })
+    }
+}
+
+/// A trace in pieces: its beginning with the configuration, each step, and what is left where no step can be read.
+pub fn pieces(trace: &[u8]) -> Vec<&[u8]> {
+    let mut reader = Reader::new(trace);
+    let mut pieces = Vec::new();
+    if reader.machine().is_ok() {
+        pieces.push(&trace[..reader.at]);
+        let mut begin = reader.at;
+        while !reader.at_end() && reader.step().is_ok() {
+            pieces.push(&trace[begin..reader.at]);
+            begin = reader.at;
+        }
+        pieces.push(&trace[begin..]);
+    } else {
+        pieces.push(trace);
+    }
+    pieces.retain(|piece| !piece.is_empty());
+    pieces
+}
+
+/// The number that the bytes begin with, and how many bytes it takes.
+pub fn decode(bytes: &[u8]) -> Result<(u32, usize), Defect> {
+    if bytes.is_empty() {
+        return Err(Defect::Missing);
+    }
+    let mut value = 0_u64;
+    for (place, &byte) in bytes.iter().take(NUMBER_BYTES).enumerate() {
+        value |= u64::from(byte & 0x7F) << (7 * place);
+        if byte & 0x80 == 0 {
+            if byte == 0 && place > 0 {
+                return Err(Defect::NotShortest);
+            }
+            let value = u32::try_from(value).map_err(|_| Defect::TooManyBits)?;
+            return Ok((value, place + 1));
+        }
+    }
+    if bytes.len() < NUMBER_BYTES {
+        Err(Defect::Cut)
+    } else {
+        Err(Defect::TooManyBytes)
+    }
+}
+
+/// Appends a number in its shortest form.
+pub fn encode(mut value: u32, bytes: &mut Vec<u8>) {
+    while value > 0x7F {
+        bytes.push((value & 0x7F) as u8 | 0x80);
+        value >>= 7;
+    }
+    bytes.push(value as u8);
+}
+
+/// Somebody who watches a trace being played. Every method may be left out.
+pub trait Observer {
+    /// The configuration was accepted.
+    fn started(&mut self, _machine: &Machine) {}
+
+    /// A step was read and is about to be carried out.
+    fn before(&mut self, _machine: &Machine, _step: Step) {}
+
+    /// A step, counted from 1, was carried out or refused.
+    fn after(&mut self, _machine: &Machine, _number: u32, _step: Step, _answer: Answer) {}
+
+    /// The trace is over.
+    fn ended(&mut self, _report: &Report) {}
+}
+
+/// Nobody watches.
+impl Observer for () {}
+
+/// Two watch, one after the other.
+impl<A: Observer, B: Observer> Observer for (&mut A, &mut B) {
+    fn started(&mut self, machine: &Machine) {
+        self.0.started(machine);
+        self.1.started(machine);
+    }
+
+    fn before(&mut self, machine: &Machine, step: Step) {
+        self.0.before(machine, step);
+        self.1.before(machine, step);
+    }
+
+    fn after(&mut self, machine: &Machine, number: u32, step: Step, answer: Answer) {
+        self.0.after(machine, number, step, answer);
+        self.1.after(machine, number, step, answer);
+    }
+
+    fn ended(&mut self, report: &Report) {
+        self.0.ended(report);
+        self.1.ended(report);
+    }
+}
+
+/// What the player reports (01, house trace): steps played, refused ones among them, the controller after them
+/// (none before a start), and the length of the trace or what ended it early.
+#[derive(Clone, Debug, PartialEq, Eq)]
+pub struct Report {
+    pub steps: u32,
+    pub machine: Option<Machine>,
+    pub ending: Result<usize, Fault>,
+}
+
+/// Plays a trace up to a number of steps.
+pub fn play(trace: &[u8], limit: u32, observer: &mut impl Observer) -> Report {
+    let mut report = Report {
+        steps: 0,
+        machine: None,
+        ending: Ok(trace.len()),
+    };
+    report.ending = play_into(&mut report, trace, limit, observer).map(|()| trace.len());
+    observer.ended(&report);
+    report
+}
+
+/// Plays a trace into a report that has seen nothing yet.
+fn play_into(
+    report: &mut Report,
+    trace: &[u8],
+    limit: u32,
+    observer: &mut impl Observer,
+) -> Result<(), Fault> {
+    if trace.len() > LONGEST {
+        return Err(stopped(Refusal::TraceTooLong, LONGEST));
+    }
+    let mut reader = Reader::new(trace);
+    let machine = report.machine.insert(reader.machine()?);
+    observer.started(machine);
+    while !reader.at_end() {
+        if report.steps == limit {
+            return Err(stopped(Refusal::StepLimit, reader.at));
+        }
+        let step = reader.step()?;
+        observer.before(machine, step);
+        let answer = machine.step(step);
+        report.steps += 1;
+        observer.after(machine, report.steps, step, answer);
+    }
+    Ok(())
+}
+
+/// A fault that is about no number.
+fn stopped(refusal: Refusal, offset: usize) -> Fault {
+    Fault {
+        refusal,
+        offset,
+        field: None,
+        defect: None,
+    }
+}
+
+#[cfg(test)]
+mod tests {
+    use super::*;
+
+    #[test]
+    fn a_number_is_read_as_it_is_written() {
+        let edges = [
+            0,
+            1,
+            0x7F,
+            0x80,
+            0x3FFF,
+            0x4000,
+            0x1F_FFFF,
+            0x20_0000,
+            0x0FFF_FFFF,
+            0x1000_0000,
+            u32::MAX,
+        ];
+        for value in edges {
+            let mut bytes = Vec::new();
+            encode(value, &mut bytes);
+            assert_eq!(decode(&bytes), Ok((value, bytes.len())));
+            bytes.push(0x55);
+            assert_eq!(decode(&bytes), Ok((value, bytes.len() - 1)));
+        }
+    }
+
+    #[test]
+    fn the_pieces_are_the_steps() {
+        let trace = [0, 0, 0, 1, 4, 2, 4, 7, 3, 9, 1, 0x81];
+        let parts: [&[u8]; 5] = [&[0, 0, 0], &[1, 4], &[2, 4, 7], &[3, 9, 1], &[0x81]];
+        assert_eq!(pieces(&trace), parts);
+        assert_eq!(pieces(&[9, 9]), [&[9, 9]]);
+        assert_eq!(pieces(&[0, 0, 0, 3, 9]).concat(), [0, 0, 0, 3, 9]);
+    }
+
+    #[test]
+    fn every_defect_is_seen() {
+        assert_eq!(decode(&[]), Err(Defect::Missing));
+        assert_eq!(decode(&[0x80]), Err(Defect::Cut));
+        assert_eq!(decode(&[0xFF; 4]), Err(Defect::Cut));
+        assert_eq!(decode(&[0x80, 0x00]), Err(Defect::NotShortest));
+        assert_eq!(
+            decode(&[0xFF, 0xFF, 0xFF, 0xFF, 0x00]),
+            Err(Defect::NotShortest)
+        );
+        assert_eq!(decode(&[0xFF, 0xFF, 0xFF, 0xFF, 0x0F]), Ok((u32::MAX, 5)));
+        assert_eq!(
+            decode(&[0xFF, 0xFF, 0xFF, 0xFF, 0x10]),
+            Err(Defect::TooManyBits)
+        );
+        assert_eq!(decode(&[0x80; 5]), Err(Defect::TooManyBytes));
+        assert_eq!(decode(&[0xFF; 9]), Err(Defect::TooManyBytes));
+    }
+
+    /// The number of the ending refusal and its offset, as 01 has the player report them.
+    fn ending(trace: &[u8], limit: u32) -> (u32, usize) {
+        match play(trace, limit, &mut ()).ending {
+            Ok(length) => (0, length),
+            Err(fault) => (fault.refusal.number(), fault.offset),
+        }
+    }
+
+    #[test]
+    fn at_one_number_8_comes_before_9_and_10() {
+        assert_eq!(ending(&[0x83, 0x00], 9), (8, 0));
+        assert_eq!(ending(&[0x83, 0x01], 9), (9, 0));
+        assert_eq!(ending(&[0x00, 0x00, 0x00, 0x84, 0x00], 9), (8, 3));
+        assert_eq!(ending(&[0x00, 0x00, 0x00, 0x04], 9), (9, 3));
+        assert_eq!(ending(&[0x01, 0x89, 0x00], 9), (8, 1));
+        assert_eq!(ending(&[0x01, 0x09], 9), (10, 1));
+    }
+
+    #[test]
+    fn the_first_number_at_fault_is_reported() {
+        assert_eq!(ending(&[0x01, 0x09, 0x80], 9), (10, 1));
+        assert_eq!(ending(&[0x01, 0x08, 0x21, 0x02, 0x02], 9), (10, 2));
+        assert_eq!(ending(&[0x01, 0x08, 0x20, 0x01, 0x02], 9), (10, 4));
+        assert_eq!(ending(&[0x02, 0x00], 9), (10, 1));
+        assert_eq!(ending(&[0x02, 0x81, 0x08], 9), (10, 1));
+        assert_eq!(ending(&[0x02, 0x80, 0x08, 0x81, 0x02], 9), (10, 3));
+        assert_eq!(ending(&[0x02, 0x01, 0x01, 0x00], 9), (10, 3));
+        assert_eq!(ending(&[0x02, 0x01, 0x01, 0x01], 9), (8, 4));
+    }
+
+    #[test]
+    fn a_step_cut_short_is_not_played() {
+        let trace = [0x00, 0x00, 0x00, 0x01, 0x00, 0x02, 0x00, 0x80];
+        let report = play(&trace, 9, &mut ());
+        assert_eq!(report.steps, 1);
+        assert_eq!(ending(&trace, 9), (8, 7));
+        assert_eq!(ending(&trace[..7], 9), (8, 7));
+        assert_eq!(ending(&trace[..6], 9), (8, 6));
+        assert_eq!(ending(&trace[..5], 9), (0, 5));
+    }
+
+    #[test]
+    fn the_limit_counts_only_if_bytes_remain() {
+        let trace = [0x00, 0x00, 0x00, 0x01, 0x00, 0x01, 0x01];
+        assert_eq!(ending(&trace, 2), (0, 7));
+        assert_eq!(ending(&trace, 1), (7, 5));
+        assert_eq!(ending(&trace, 0), (7, 3));
+        assert_eq!(ending(&trace[..3], 0), (0, 3));
+        assert_eq!(ending(&trace[..2], 0), (8, 2));
+        assert_eq!(ending(&[0x00, 0x00, 0x00, 0x80], 0), (7, 3));
+        assert_eq!(ending(&[0x00, 0x00, 0x00, 0x09], 0), (7, 3));
+    }
+
+    #[test]
+    fn too_long_a_trace_is_refused_before_all_else() {
+        assert_eq!(ending(&[0xFF; LONGEST + 1], 9), (11, LONGEST));
+        assert_eq!(ending(&[0xFF; LONGEST + 9], 9), (11, LONGEST));
+        assert_eq!(ending(&[0xFF; LONGEST], 9), (8, 0));
+    }
+}

@@ -1,0 +1,179 @@
+//! The traces that are timed: for each controller a small and a full one, with as many steps as wanted and none refused.
+
+use crate::generate::Script;
+use crate::random::Random;
+
+/// A trace with what is to be known of it.
+pub struct Workload {
+    pub controller: &'static str,
+    pub size: &'static str,
+    pub steps: u32,
+    pub trace: Vec<u8>,
+}
+
+/// What is written once at the beginning, and what is then done again and again.
+struct Plan {
+    controller: &'static str,
+    size: &'static str,
+    opening: fn() -> (Script, u32),
+    step: fn(&mut Random, &mut Script, u32),
+}
+
+const PLANS: [Plan; 6] = [
+    Plan {
+        controller: "AIC",
+        size: "1 source",
+        opening: || aic(1),
+        step: |random, script, at| aic_step(random, script, at, 1),
+    },
+    Plan {
+        controller: "AIC",
+        size: "32 sources",
+        opening: || aic(32),
+        step: |random, script, at| aic_step(random, script, at, 32),
+    },
+    Plan {
+        controller: "CoreInterrupt",
+        size: "1 FIQ, 1 IRQ",
+        opening: || core(1, 1),
+        step: |random, script, at| core_step(random, script, at, 1, 1),
+    },
+    Plan {
+        controller: "CoreInterrupt",
+        size: "8 FIQ, 32 IRQ",
+        opening: || core(8, 32),
+        step: |random, script, at| core_step(random, script, at, 8, 32),
+    },
+    Plan {
+        controller: "CIC",
+        size: "8 systems, 2 channels, 2 hosts",
+        opening: || cic(8, 2, 2),
+        step: |random, script, at| cic_step(random, script, at, 8),
+    },
+    Plan {
+        controller: "CIC",
+        size: "1,024 systems, 256 channels, 256 hosts",
+        opening: || cic(1_024, 256, 256),
+        step: |random, script, at| cic_step(random, script, at, 1_024),
+    },
+];
+
+/// All of them, with so many steps each.
+pub fn workloads(steps: u32) -> Vec<Workload> {
+    PLANS.iter().map(|plan| workload(plan, steps)).collect()
+}
+
+fn workload(plan: &Plan, steps: u32) -> Workload {
+    let random = &mut Random::new(11);
+    let (mut script, opened) = (plan.opening)();
+    for at in 0..steps - opened {
+        (plan.step)(random, &mut script, at);
+    }
+    Workload {
+        controller: plan.controller,
+        size: plan.size,
+        steps,
+        trace: script.bytes,
+    }
+}
+
+/// Sources of all priorities, those of odd number by edge, all enabled; source 0 is among them.
+fn aic(sources: u32) -> (Script, u32) {
+    let mut script = Script::new(0, &[0, 0]);
+    for source in 0..sources {
+        let kind = 2 + source % 2;
+        script.write(4 * source, kind << 5 | (source % 8));
+        script.write(0x80 + 4 * source, 0x100 + source);
+    }
+    script.write(0x120, u32::MAX);
+    (script, 2 * sources + 1)
+}
+
+/// Lines move, handlers are started and closed, and status is read.
+fn aic_step(random: &mut Random, script: &mut Script, at: u32, sources: u32) {
+    match at % 6 {
+        0 | 3 => script.line(random.below(sources), random.below(2)),
+        1 => script.read(0x100),
+        2 => script.write(0x130, 0),
+        4 => script.read(0x10C),
+        _ => script.read(4 * random.below(31)),
+    }
+}
+
+fn core(fiqs: u32, irqs: u32) -> (Script, u32) {
+    let mut script = Script::new(1, &[fiqs, irqs, 0, 0]);
+    script.write(0x08, u32::MAX);
+    script.write(0x20, u32::MAX);
+    (script, 2)
+}
+
+/// Lines of both sides move, software bits are set and cleared, and status is read.
+fn core_step(random: &mut Random, script: &mut Script, at: u32, fiqs: u32, irqs: u32) {
+    match at % 6 {
+        0 | 3 => script.line(random.below(irqs), random.below(2)),
+        1 => script.line(32 + random.below(fiqs), random.below(2)),
+        2 => script.write(random.pick(&[0x00, 0x04, 0x18, 0x1C]), 1 << random.below(7)),
+        4 => script.read(0x2C),
+        _ => script.read(0x10),
+    }
+}
+
+/// System n drives channel n and channel n drives host n, modulo how many there are; everything is enabled.
+fn cic(systems: u32, channels: u32, hosts: u32) -> (Script, u32) {
+    let mut script = Script::new(2, &[systems, channels, hosts, 0x4E82_0000]);
+    let mut steps = 0;
+    let maps = [(0x400, systems, channels), (0x800, channels, hosts)];
+    for (base, entries, limit) in maps {
+        for register in 0..entries.div_ceil(4) {
+            let byte = |place: u32| ((4 * register + place) % limit) << (8 * place);
+            script.write(base + 4 * register, byte(0) | byte(1) | byte(2) | byte(3));
+            steps += 1;
+        }
+    }
+    for (base, bits) in [(0x300, systems), (0x1500, hosts)] {
+        for word in 0..bits.div_ceil(32) {
+            script.write(base + 4 * word, u32::MAX);
+            steps += 1;
+        }
+    }
+    script.write(0x010, 1);
+    (script, steps + 1)
+}
+
+/// Lines move, single systems are set and cleared (about half of all are set before long), and registers are read.
+fn cic_step(random: &mut Random, script: &mut Script, at: u32, systems: u32) {
+    match at % 6 {
+        0 => script.line(random.below(systems), random.below(2)),
+        1 => script.write(0x020, random.below(systems)),
+        3 => script.write(0x024, random.below(systems)),
+        4 => script.read(0x280),
+        _ => script.read(0x010),
+    }
+}
+
+#[cfg(test)]
+mod tests {
+    use super::*;
+    use crate::model::{Answer, Machine, Step};
+    use crate::trace::{play, Observer, LONGEST, PROGRAM_LIMIT};
+
+    struct NoneRefused;
+
+    impl Observer for NoneRefused {
+        fn after(&mut self, _: &Machine, number: u32, step: Step, answer: Answer) {
+            assert!(answer.is_ok(), "step {number}, {step:?}: {answer:?}");
+        }
+    }
+
+    #[test]
+    fn the_workloads_have_their_steps_and_fit() {
+        for steps in [2_000, PROGRAM_LIMIT] {
+            for workload in workloads(steps) {
+                let report = play(&workload.trace, PROGRAM_LIMIT, &mut NoneRefused);
+                assert_eq!(report.steps, steps);
+                assert_eq!(report.ending, Ok(workload.trace.len()));
+                assert!(workload.trace.len() <= LONGEST);
+            }
+        }
+    }
+}

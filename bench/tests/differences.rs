@@ -1,0 +1,122 @@
+//! The comparison finds what differs: listings with one thing wrong, failures, and programs that are not ours.
+
+use std::process::Command;
+
+use bench::batch::Batch;
+use bench::compare::{compare, expected, Outcome, Summary, MOST_FAILURES};
+use bench::generate::{Case, Generator};
+use bench::program::Program;
+
+/// Some sweeps and some random cases.
+fn compare_some(other: impl FnMut(&Case) -> Outcome) -> Summary {
+    let generator = Generator::new(3);
+    let after = generator.sweeps();
+    let numbers = (1..20).chain(after..after + 60);
+    let cases = numbers.map(|number| (number, generator.case(number)));
+    compare(cases, other)
+}
+
+/// The model's listing with every line changed by a rule.
+fn mutated(case: &Case, change: impl Fn(&str) -> String) -> Outcome {
+    let text = String::from_utf8(expected(case)).expect("a listing is plain text");
+    let changed: String = text.split_inclusive('\n').map(change).collect();
+    Ok(changed.into_bytes())
+}
+
+#[test]
+fn the_model_does_not_differ_from_itself() {
+    let summary = compare_some(|case| Ok(expected(case)));
+    assert_eq!((summary.compared, summary.differ), (79, 0));
+    assert!(summary.first.is_none());
+}
+
+#[test]
+fn a_mutated_listing_differs() {
+    type Change = fn(&str) -> String;
+    let changes: [(&str, Change); 6] = [
+        ("lower-case digits", |line| line.replace("FF", "ff")),
+        ("another letter", |line| line.replace(" X ", " R ")),
+        ("no line end at the end of E", |line| {
+            match line.starts_with('E') {
+                true => line.trim_end().to_string(),
+                false => line.to_string(),
+            }
+        }),
+        ("one step lost", |line| match line.starts_with("7 ") {
+            true => String::new(),
+            false => line.to_string(),
+        }),
+        ("columns swapped", |line| line.replace(" 1 0 ", " 0 1 ")),
+        ("the step limit with another number", |line| {
+            line.replace("E 7 ", "E 8 ")
+        }),
+    ];
+    for (name, change) in changes {
+        let summary = compare_some(|case| mutated(case, change));
+        assert!(summary.differ > 0, "{name} was not found");
+        assert!(summary.differ < summary.compared, "{name} is everywhere");
+        assert!(summary.first.is_some());
+    }
+}
+
+#[test]
+fn one_wrong_byte_in_one_case_is_found() {
+    let mut seen = 0;
+    let summary = compare_some(|case| {
+        let mut listing = expected(case);
+        seen += 1;
+        if seen == 42 {
+            listing[0] ^= 1;
+        }
+        Ok(listing)
+    });
+    assert_eq!(summary.differ, 1);
+}
+
+#[test]
+fn failing_altogether_is_a_difference() {
+    let summary = compare_some(|_| Err("it fell over".to_string()));
+    assert_eq!(summary.differ, summary.compared);
+    assert_eq!(summary.compared, MOST_FAILURES);
+}
+
+#[test]
+fn a_program_is_fed_and_heard() {
+    let program = Program::new(env!("CARGO_BIN_EXE_reference"), &[]);
+    let generator = Generator::new(3);
+    for number in [0, 1, 5, generator.sweeps() - 1] {
+        let trace = generator.case(number).trace;
+        let listing = bench::listing::listing(&trace, 20_000);
+        assert_eq!(program.list(&trace), Ok(listing));
+    }
+    let complaining = Program::new(env!("CARGO_BIN_EXE_differential"), &[]);
+    assert!(complaining.list(b"").is_err());
+    assert!(Program::new("no/such/program", &[]).list(b"").is_err());
+}
+
+#[test]
+fn a_batch_is_fed_and_heard() {
+    let mut batch = Batch::new(Program::new(env!("CARGO_BIN_EXE_reference"), &["--batch"]));
+    let summary = compare_some(|case| batch.list(case));
+    assert_eq!(summary.differ, 0);
+    let mut silent = Batch::new(Program::new(env!("CARGO_BIN_EXE_reference"), &["--what"]));
+    let summary = compare_some(|case| silent.list(case));
+    assert_eq!(summary.differ, summary.compared);
+}
+
+/// The exit status of the differential test run against a program.
+fn status(program: &str, count: &str) -> Option<i32> {
+    let run = Command::new(env!("CARGO_BIN_EXE_differential"))
+        .args(["--program", program, "--count", count])
+        .output();
+    run.expect("the differential test runs").status.code()
+}
+
+#[test]
+fn the_exit_status_tells() {
+    let reference = env!("CARGO_BIN_EXE_reference");
+    assert_eq!(status(reference, "400"), Some(0));
+    assert_eq!(status(reference, "3"), Some(1), "a gap in coverage");
+    assert_eq!(status(env!("CARGO_BIN_EXE_assemble"), "400"), Some(1));
+    assert_eq!(status(reference, "many"), Some(2));
+}

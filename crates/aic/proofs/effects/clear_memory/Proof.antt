@@ -1,0 +1,13 @@
+use Rattle.aic.proofs.CallLaws.{cleared-by}
+use mathlib.Core.Path.{sym, ap, ap₂, _∙_}
+use borrow.Author.Needs.{needs}
+use Rattle.aic.proofs.effects.clear_memory.Statement.{statement}
+use Rattle.aic.proofs.effects.clear_memory.Tie as tie
+
+returns : tie.Need-returns
+returns c = c .with-memory .ensures ∙ cleared-by _ _ _ _ _ (c .before .before .before .edge-word .ensures) (c .before .before .meet .ensures) (c .before .drop-bits .ensures)
+
+pub clear-memory-spec : {M : Type 1} → statement M
+clear-memory-spec =
+    tie.close
+    (tie.spec (λ c κs. search needs) (λ c κs. search needs) (λ c κs. search needs) (λ c κs. search needs) returns)

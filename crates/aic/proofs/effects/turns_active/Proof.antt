@@ -1,0 +1,11 @@
+use Rattle.aic.proofs.CallLaws.{turns-by}
+use borrow.Author.Needs.{needs}
+use Rattle.aic.proofs.effects.turns_active.Statement.{statement}
+use Rattle.aic.proofs.effects.turns_active.Tie as tie
+
+returns : tie.Need-returns
+returns c = turns-by _ _ _ _ _ _ (c .before .before .has .ensures) (c .before .is-active-at .ensures) (c .is-active-at2 .ensures)
+
+pub turns-active-spec : {M : Type 1} → statement M
+turns-active-spec =
+    tie.close (tie.spec (λ c κs. search needs) (λ c κs. search needs) (λ c κs. search needs) returns)

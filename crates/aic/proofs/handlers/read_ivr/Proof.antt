@@ -1,0 +1,16 @@
+use Rattle.aic.proofs.CallLaws.{ivr-some, ivr-none}
+use mathlib.Core.Path.{sym, ap, ap₂, _∙_}
+use borrow.Author.Needs.{needs}
+use Rattle.aic.proofs.handlers.read_ivr.Statement.{statement}
+use Rattle.aic.proofs.handlers.read_ivr.Tie as tie
+
+returns : tie.Need-returns
+returns c = c .start-now .ensures ∙ ivr-some _ _ (c .before .before .chosen-source .ensures) (c .before .if1 .taken)
+
+returns-2 : tie.Need-returns-2
+returns-2 c = c .answer-of .ensures ∙ ivr-none _ _ (c .before .before .chosen-source .ensures) (c .before .if1 .left)
+
+pub read-ivr-spec : {M : Type 1} → statement M
+read-ivr-spec =
+    tie.close
+    (tie.spec (λ c κs. search needs) (λ c κs. search needs) returns (λ c κs. search needs) returns-2)

@@ -1,0 +1,16 @@
+use Rattle.aic.specs.Model.{outputs}
+use Rattle.words.proofs.ChoiceLaws.{pick-true, pick-false, by-true, by-false}
+use mathlib.Core.Path.{sym, ap, ap₂, _∙_}
+use borrow.Author.Needs.{needs}
+use Rattle.aic.proofs.outputs.Statement.{statement}
+use Rattle.aic.proofs.outputs.Tie as tie
+
+outputs-sound-requires : tie.Need-outputs-sound-requires
+outputs-sound-requires c κs = sym (c .before .is-sound .ensures) ∙ c .if1 .taken
+
+returns-2 : tie.Need-returns-2
+unfolding outputs
+returns-2 c = by-false _ (c .before .is-sound .ensures) (c .if1 .left)
+
+pub outputs-spec : {M : Type 1} → statement M
+outputs-spec = tie.close (tie.spec (λ c κs. search needs) outputs-sound-requires (λ c. search needs) returns-2)

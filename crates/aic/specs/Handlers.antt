@@ -1,0 +1,70 @@
+-- Starting and closing handlers, and the two vector reads (01, AIC, Fast side and Normal side; 003, 27.7.3.4, 27.7.4.3 and 27.7.4.5).
+use Prim.Native.Nat.{ℕ, _+_, _-_}
+use mathlib.Core.Bool.{Bool, false, _&&_}
+use lib.Dec.{eqb}
+use lib.ListN.{getD, set}
+use Rattle.words.specs.Choice.{pick}
+use Rattle.words.specs.Word.{withBit}
+use Rattle.steps.specs.Refusals.{carriedOut}
+use Rattle.aic_record.specs.declared.Aic.{Aic}
+use Rattle.aic_record.specs.Record.{withMemory, withHandlers}
+use Rattle.aic_record.specs.Mode.{priority, edge}
+use Rattle.aic_record.specs.Sound.{sourceAt}
+use Rattle.aic_sources.specs.Fast.{fastAsks}
+use Rattle.aic_sources.specs.Normal.{candidates, chosen}
+use Rattle.aic.specs.declared.Answer.{Answer}
+
+-- a step that is carried out answers a value and the record after it
+abbrev pub answered : Aic → ℕ → Answer
+answered s v = record { refusal = carriedOut; value = v; aic = s }
+
+-- a step that is refused answers its number, the value 0 and the same record
+abbrev pub refused : Aic → ℕ → Answer
+refused s n = record { refusal = n; value = 0; aic = s }
+
+-- the memory of source k is cleared
+abbrev pub forgotten : Aic → ℕ → Aic
+forgotten s k = withMemory s (withBit (s .memory) k false)
+
+-- the memory of source k is cleared if it is edge-triggered
+unfoldable pub spent : Aic → ℕ → Aic
+spent s k = pick (edge s k) (forgotten s k) s
+
+-- a handler of source k is opened at a level, after those already open
+unfoldable pub opened : Aic → ℕ → ℕ → Aic
+opened s k l = withHandlers s (set (s .source) (s .depth) k) (set (s .level) (s .depth) l) (s .depth + 1)
+
+-- source k is started at a level: a handler is opened, and its memory is cleared if it is edge-triggered
+unfoldable pub startedAt : Aic → ℕ → ℕ → Aic
+startedAt s k l = opened (spent s k) k l
+
+-- the last open handler is closed
+unfoldable pub closedLast : Aic → Aic
+closedLast s = withHandlers s (set (s .source) (s .depth - 1) 0) (set (s .level) (s .depth - 1) 0) (s .depth - 1)
+
+-- a write of EOICR, of any value: with no handler open it does nothing
+unfoldable pub ended : Aic → Aic
+ended s = pick (eqb (s .depth) 0) s (closedLast s)
+
+-- the vector of source k
+abbrev pub vectorAt : Aic → ℕ → ℕ
+vectorAt s k = getD (s .vector) k 0
+
+-- a read of IVR: the candidate ahead of all others starts, at the priority that it has now; without one SPU, and nothing changes
+unfoldable pub ivrRead : Aic → Answer
+ivrRead s =
+    pick (candidates s)
+    (answered (startedAt s (chosen s) (priority s (chosen s))) (vectorAt s (chosen s)))
+    (answered s (s .spurious))
+
+-- the fast vector read clears the memory of source 0 if that is edge-triggered and no source is forced
+unfoldable pub fastSpent : Aic → Aic
+fastSpent s = pick (eqb (s .forced) 0) (spent s 0) s
+
+-- a read of FVR: vector 0, whichever source asks; with no fast source that asks SPU, and nothing changes
+unfoldable pub fvrRead : Aic → Answer
+fvrRead s = pick (fastAsks s) (answered (fastSpent s) (vectorAt s 0)) (answered s (s .spurious))
+
+-- ISR: the source of the last handler still open, 0 if none is (003, 27.8.7)
+unfoldable pub current : Aic → ℕ
+current s = pick (eqb (s .depth) 0) 0 (sourceAt s (s .depth - 1))

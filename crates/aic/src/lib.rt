@@ -1,0 +1,182 @@
+// The AT91 controller: its register map, its vector reads, its line steps and its outputs.
+mod effects;
+mod handlers;
+mod map;
+mod registers;
+
+ghost use mathlib.Core.Path.{_≡_};
+ghost use mathlib.Core.Bool.{Bool, true};
+ghost use Rattle.aic_record.specs.Sound.{sound};
+ghost use Rattle.aic.specs.Model.{within, start, read, write, line, step, outputs};
+use aic_record::Aic;
+use effects::move_line;
+use handlers::answer_of;
+use handlers::refusal_of;
+use map::access_of;
+use map::value_refusal;
+use registers::read_at;
+use registers::write_at;
+use steps::Step;
+
+// What a start answers: its refusal, and the record.
+pub struct Begun {
+    pub refusal: u32,
+    pub aic: Aic,
+}
+
+// What a step answers: its refusal, the value read, and the record after it.
+pub struct Answer {
+    pub refusal: u32,
+    pub value: u32,
+    pub aic: Aic,
+}
+
+// The two outputs, active or not, and how many handlers are open.
+pub struct Signals {
+    pub refusal: u32,
+    pub irq: bool,
+    pub fiq: bool,
+    pub handlers: u32,
+}
+
+// Whether configuration number `place` may have this value: each of the two may have any.
+pub fn within(place: u32, value: u32) -> bool
+    ensures { λ r. ⌜ r ≡ within place value ⌝ }
+{
+    place < 2
+}
+
+// The controller after reset, with the word that marks external sources and the first levels of the lines.
+pub fn start(external: u32, lines: u32) -> Begun
+    ensures { λ r. ⌜ r ≡ start external lines ⌝ }
+{
+    let aic = aic_record::reset_to(external, lines);
+    Begun {
+        refusal: steps::CARRIED_OUT,
+        aic: aic,
+    }
+}
+
+// ---- the steps and the outputs of a record that is known to be sound
+
+fn read_sound(s: Aic, offset: u32) -> Answer
+    requires { ⌜ sound s ≡ true ⌝ }
+    ensures { λ r. ⌜ r ≡ read s offset ⌝ }
+{
+    let n = steps::read_refusal(true, offset, access_of(offset));
+    if n == steps::CARRIED_OUT {
+        return read_at(s, offset);
+    }
+    refusal_of(s, n)
+}
+
+fn write_sound(s: Aic, offset: u32, value: u32) -> Answer
+    requires { ⌜ sound s ≡ true ⌝ }
+    ensures { λ r. ⌜ r ≡ write s offset value ⌝ }
+{
+    let n = steps::write_refusal(
+        true,
+        offset,
+        access_of(offset),
+        value_refusal(offset, value),
+    );
+    if n == steps::CARRIED_OUT {
+        return answer_of(write_at(s, offset, value), 0);
+    }
+    refusal_of(s, n)
+}
+
+fn line_sound(s: Aic, k: u32, level: u32) -> Answer
+    requires { ⌜ sound s ≡ true ⌝ }
+    ensures { λ r. ⌜ r ≡ line s k level ⌝ }
+{
+    let n = steps::line_refusal(true, 32, k, level);
+    if n == steps::CARRIED_OUT {
+        return answer_of(move_line(s, k, level == 1), 0);
+    }
+    refusal_of(s, n)
+}
+
+// A step of a recorded trace, for callers that know the record to be sound: the check of that is the dearest part of a step.
+pub fn step_sound(s: Aic, x: Step) -> Answer
+    requires { ⌜ sound s ≡ true ⌝ }
+    ensures { λ r. ⌜ r ≡ step s x ⌝ }
+{
+    match x {
+        Step::Read(offset) => read_sound(s, offset),
+        Step::Write(offset, value) => write_sound(s, offset, value),
+        Step::Line(k, level) => line_sound(s, k, level),
+    }
+}
+
+// The outputs, for callers that know the record to be sound.
+pub fn outputs_sound(s: Aic) -> Signals
+    requires { ⌜ sound s ≡ true ⌝ }
+    ensures { λ r. ⌜ r ≡ outputs s ⌝ }
+{
+    let pins = aic_sources::pins_of(s);
+    let handlers = s.depth;
+    Signals {
+        refusal: steps::CARRIED_OUT,
+        irq: pins.irq,
+        fiq: pins.fiq,
+        handlers: handlers,
+    }
+}
+
+// ---- of any record
+
+// A read of the register at an offset.
+pub fn read(s: Aic, offset: u32) -> Answer
+    ensures { λ r. ⌜ r ≡ read s offset ⌝ }
+{
+    if aic_record::is_sound(s) {
+        return read_sound(s, offset);
+    }
+    refusal_of(s, steps::UNSOUND)
+}
+
+// A write of the register at an offset.
+pub fn write(s: Aic, offset: u32, value: u32) -> Answer
+    ensures { λ r. ⌜ r ≡ write s offset value ⌝ }
+{
+    if aic_record::is_sound(s) {
+        return write_sound(s, offset, value);
+    }
+    refusal_of(s, steps::UNSOUND)
+}
+
+// A line that goes to a level.
+pub fn line(s: Aic, k: u32, level: u32) -> Answer
+    ensures { λ r. ⌜ r ≡ line s k level ⌝ }
+{
+    if aic_record::is_sound(s) {
+        return line_sound(s, k, level);
+    }
+    refusal_of(s, steps::UNSOUND)
+}
+
+// A step of a recorded trace.
+pub fn step(s: Aic, x: Step) -> Answer
+    ensures { λ r. ⌜ r ≡ step s x ⌝ }
+{
+    if aic_record::is_sound(s) {
+        return step_sound(s, x);
+    }
+    refusal_of(s, steps::UNSOUND)
+}
+
+// The two outputs and how many handlers are open.
+pub fn outputs(s: Aic) -> Signals
+    ensures { λ r. ⌜ r ≡ outputs s ⌝ }
+{
+    if aic_record::is_sound(s) {
+        return outputs_sound(s);
+    }
+    Signals {
+        refusal: steps::UNSOUND,
+        irq: false,
+        fiq: false,
+        handlers: 0,
+    }
+}

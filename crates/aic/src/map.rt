@@ -1,0 +1,79 @@
+// The register map: offsets under the maker's names, and what each register allows.
+ghost use mathlib.Core.Path.{_≡_};
+ghost use Rattle.aic.specs.Map.{access, valueRefusal};
+use steps::Access;
+
+pub(crate) const SVR: u32 = 0x80;
+
+pub(crate) const IVR: u32 = 0x100;
+
+pub(crate) const FVR: u32 = 0x104;
+
+pub(crate) const ISR: u32 = 0x108;
+
+pub(crate) const IPR: u32 = 0x10C;
+
+pub(crate) const IMR: u32 = 0x110;
+
+pub(crate) const CISR: u32 = 0x114;
+
+pub(crate) const IECR: u32 = 0x120;
+
+pub(crate) const IDCR: u32 = 0x124;
+
+pub(crate) const ICCR: u32 = 0x128;
+
+pub(crate) const ISCR: u32 = 0x12C;
+
+pub(crate) const EOICR: u32 = 0x130;
+
+pub(crate) const SPU: u32 = 0x134;
+
+pub(crate) const DCR: u32 = 0x138;
+
+pub(crate) const FFER: u32 = 0x140;
+
+pub(crate) const FFDR: u32 = 0x144;
+
+pub(crate) const FFSR: u32 = 0x148;
+
+// What the register at an aligned offset may be used for. IVR takes writes, which do nothing.
+pub(crate) fn access_of(offset: u32) -> Access
+    ensures { λ r. ⌜ r ≡ access offset ⌝ }
+{
+    if offset <= IVR {
+        return Access::ReadWrite;
+    }
+    if offset <= CISR {
+        return Access::ReadOnly;
+    }
+    if offset < IECR {
+        return Access::NoRegister;
+    }
+    if offset <= EOICR {
+        return Access::WriteOnly;
+    }
+    if offset <= DCR {
+        return Access::ReadWrite;
+    }
+    if offset < FFER {
+        return Access::NoRegister;
+    }
+    if offset <= FFDR {
+        return Access::WriteOnly;
+    }
+    if offset == FFSR {
+        return Access::ReadOnly;
+    }
+    Access::NoRegister
+}
+
+// By which number the value written is refused: debug control does not take bit 0, protect mode.
+pub(crate) fn value_refusal(offset: u32, value: u32) -> u32
+    ensures { λ r. ⌜ r ≡ valueRefusal offset value ⌝ }
+{
+    if (offset == DCR) & words::has(value, 0) {
+        return steps::PROTECTING;
+    }
+    steps::CARRIED_OUT
+}

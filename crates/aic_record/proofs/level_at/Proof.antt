@@ -1,0 +1,10 @@
+use Rattle.aic_record.proofs.PlaceLaws.{past-getD}
+use borrow.Author.Needs.{needs}
+use Rattle.aic_record.proofs.level_at.Statement.{statement}
+use Rattle.aic_record.proofs.level_at.Tie as tie
+
+returns : tie.Need-returns
+returns c = past-getD (c .before .args .t1 .level) 8 (c .before .args .i) (search needs) (c .if1 .taken)
+
+pub level-at-spec : {M : Type 1} → statement M
+level-at-spec = tie.close (tie.spec returns (λ c. search needs) (λ c. search needs))

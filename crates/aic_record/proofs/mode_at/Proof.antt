@@ -1,0 +1,10 @@
+use Rattle.aic_record.proofs.PlaceLaws.{past-getD}
+use borrow.Author.Needs.{needs}
+use Rattle.aic_record.proofs.mode_at.Statement.{statement}
+use Rattle.aic_record.proofs.mode_at.Tie as tie
+
+returns : tie.Need-returns
+returns c = past-getD (c .before .args .t1 .mode) 32 (c .before .args .k) (search needs) (c .if1 .taken)
+
+pub mode-at-spec : {M : Type 1} → statement M
+mode-at-spec = tie.close (tie.spec returns (λ c. search needs) (λ c. search needs))

@@ -1,0 +1,12 @@
+use Rattle.words.proofs.ChoiceLaws.{pick-true, pick-false}
+use Rattle.aic_record.proofs.place_sound.Statement.{statement}
+use Rattle.aic_record.proofs.place_sound.Tie as tie
+
+returns : tie.Need-returns
+returns c = pick-true _ (c .if1 .taken)
+
+returns-2 : tie.Need-returns-2
+returns-2 c = pick-false _ (c .if1 .left)
+
+pub place-sound-spec : {M : Type 1} → statement M
+place-sound-spec = tie.close (tie.spec returns returns-2)

@@ -1,0 +1,57 @@
+use lib.ListN.{getD}
+use mir.Syntax.{w8}
+use mir.Val.{Fits}
+use mathlib.Core.Path.{_≡_}
+use Prim.Native.Nat.{_-_, _≤_}
+use native.Mathlib.Omega.{arith}
+use Rattle.words.specs.Counting.{allBelow}
+use Rattle.words.proofs.CountingLaws.{all-none-yet, all-more, at-end}
+use Rattle.aic_record.specs.Passes.{floorAt, placeSound}
+use Rattle.aic_record.proofs.PassLaws.{floor-none, floor-more, place-is}
+use borrow.Author.Needs.{needs}
+use Rattle.aic_record.proofs.places_sound.Statement.{statement}
+use Rattle.aic_record.proofs.places_sound.Tie as tie
+
+abbrev Inv-loop : tie.InvT-loop
+Inv-loop depth source level ok₀ floor₀ i₀ ok floor i = (i ≤ 8) × (ok ≡ allBelow i (placeSound source level depth)) × (floor ≡ floorAt level i)
+
+abbrev μ-loop : tie.MeasureT-loop
+μ-loop depth source level ok₀ floor₀ i₀ ok floor i = 8 - i
+
+loop-holds : tie.Need-loop-holds Inv-loop μ-loop
+loop-holds c = (omega arith, all-none-yet _, floor-none _)
+
+add-floor : tie.Need-add-floor Inv-loop μ-loop
+add-floor c =
+    let h : Fits w8 (getD (c .before .before .before .args .t2) (c .before .before .loop .i) 0) = search needs in
+    search needs
+
+loop-again : tie.Need-loop-again Inv-loop μ-loop
+loop-again c =
+    let a = c .before .before .before .args in
+    let l = c .before .before .loop in
+    (omega arith, all-more (placeSound (a .t1) (a .t2) (a .depth)) (l .i) (l .inv .1) (place-is (a .t1) (a .t2) (a .depth) (l .i) (l .floor) (l .inv .2) (c .place-sound .ensures)), floor-more (a .t2) (l .i))
+
+returns : tie.Need-returns Inv-loop μ-loop
+returns c =
+    let a = c .before .before .args in
+    at-end (λ n. allBelow n (placeSound (a .t1) (a .t2) (a .depth))) _ 8 (c .before .loop .inv .0) (c .loop-test .left) (c .before .loop .inv .1)
+
+pub places-sound-spec : {M : Type 1} → statement M
+places-sound-spec =
+    tie.close
+    (tie.spec
+    Inv-loop
+    μ-loop
+    loop-holds
+    (λ c. search needs)
+    (λ c. search needs)
+    (λ c. search needs)
+    (λ c κs. search needs)
+    (λ c. search needs)
+    (λ c. search needs)
+    add-floor
+    (λ c. search needs)
+    (λ c. search needs)
+    loop-again
+    returns)

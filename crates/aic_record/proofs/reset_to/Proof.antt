@@ -1,0 +1,11 @@
+use mathlib.Core.Path.{refl}
+use Rattle.aic_record.specs.Record.{reset}
+use Rattle.aic_record.proofs.reset_to.Statement.{statement}
+use Rattle.aic_record.proofs.reset_to.Tie as tie
+
+returns : tie.Need-returns
+unfolding reset
+returns c = refl
+
+pub reset-to-spec : {M : Type 1} → statement M
+reset-to-spec = tie.close (tie.spec returns)

@@ -1,0 +1,285 @@
+// The AT91 controller's record: its registers, its line levels, its edge memories and its open handlers.
+ghost use mathlib.Core.Path.{_≡_};
+ghost use mathlib.Core.Bool.{Bool, not, _&&_, _||_};
+ghost use lib.Dec.{eqb, ltb, leb};
+ghost use lib.ListN.{getD, set};
+ghost use Prim.Native.Nat.{ℕ, _-_, _<_};
+ghost use Rattle.words.specs.Choice.{pick};
+ghost use Rattle.words.specs.Counting.{allBelow};
+ghost use Rattle.words.specs.Word.{bit};
+ghost use Rattle.aic_record.specs.Mode.{priorityOf, typeOf, keptMode, edgeOf, modeAt};
+ghost use Rattle.aic_record.specs.Record.{withLines, withEnabled, withMemory, withForced, withSpurious, withMask, withMode, withVector, withHandlers};
+ghost use Rattle.aic_record.specs.Record.{reset};
+ghost use Rattle.aic_record.specs.Sound.{sourceAt, levelAt, sound};
+ghost use Rattle.aic_record.specs.Passes.{floorAt, placeSound, modeSound};
+
+// One word has a bit for each of the 32 sources. `source` and `level` hold the open handlers, the last one at `depth - 1`.
+pub struct Aic {
+    pub external: u32,
+    pub lines: u32,
+    pub enabled: u32,
+    pub memory: u32,
+    pub forced: u32,
+    pub spurious: u32,
+    pub mask: u32,
+    pub mode: [u8; 32],
+    pub vector: [u32; 32],
+    pub source: [u8; 8],
+    pub level: [u8; 8],
+    pub depth: u32,
+}
+
+// The record after reset, its lines at their first levels.
+pub fn reset_to(external: u32, lines: u32) -> Aic
+    ensures { λ r. ⌜ r ≡ reset external lines ⌝ }
+{
+    Aic {
+        external: external,
+        lines: lines,
+        enabled: 0,
+        memory: 0,
+        forced: 0,
+        spurious: 0,
+        mask: 0,
+        mode: [0; 32],
+        vector: [0; 32],
+        source: [0; 8],
+        level: [0; 8],
+        depth: 0,
+    }
+}
+
+// ---- the record with one part put anew
+
+pub fn with_lines(s: Aic, w: u32) -> Aic
+    ensures { λ r. ⌜ r ≡ withLines s w ⌝ }
+{
+    let mut t = s;
+    t.lines = w;
+    t
+}
+
+pub fn with_enabled(s: Aic, w: u32) -> Aic
+    ensures { λ r. ⌜ r ≡ withEnabled s w ⌝ }
+{
+    let mut t = s;
+    t.enabled = w;
+    t
+}
+
+pub fn with_memory(s: Aic, w: u32) -> Aic
+    ensures { λ r. ⌜ r ≡ withMemory s w ⌝ }
+{
+    let mut t = s;
+    t.memory = w;
+    t
+}
+
+pub fn with_forced(s: Aic, w: u32) -> Aic
+    ensures { λ r. ⌜ r ≡ withForced s w ⌝ }
+{
+    let mut t = s;
+    t.forced = w;
+    t
+}
+
+pub fn with_spurious(s: Aic, v: u32) -> Aic
+    ensures { λ r. ⌜ r ≡ withSpurious s v ⌝ }
+{
+    let mut t = s;
+    t.spurious = v;
+    t
+}
+
+pub fn with_mask(s: Aic, v: u32) -> Aic
+    ensures { λ r. ⌜ r ≡ withMask s v ⌝ }
+{
+    let mut t = s;
+    t.mask = v;
+    t
+}
+
+// The mode of source k put anew. Past the last source nothing changes.
+pub fn put_mode(s: Aic, k: u32, m: u8) -> Aic
+    ensures { λ r. ⌜ r ≡ withMode s (set (s .mode) k m) ⌝ }
+{
+    if 32 <= k {
+        return s;
+    }
+    let at = k as usize;
+    let mut t = s;
+    t.mode[at] = m;
+    t
+}
+
+// The vector of source k put anew. Past the last source nothing changes.
+pub fn put_vector(s: Aic, k: u32, v: u32) -> Aic
+    ensures { λ r. ⌜ r ≡ withVector s (set (s .vector) k v) ⌝ }
+{
+    if 32 <= k {
+        return s;
+    }
+    let at = k as usize;
+    let mut t = s;
+    t.vector[at] = v;
+    t
+}
+
+// Place i of the open handlers put anew, and how many are open. Past the last place nothing is stored.
+pub fn put_handler(s: Aic, i: u32, source: u8, level: u8, depth: u32) -> Aic
+    ensures { λ r. ⌜ r ≡ withHandlers s (set (s .source) i source) (set (s .level) i level) depth ⌝ }
+{
+    let mut t = s;
+    t.depth = depth;
+    if 8 <= i {
+        return t;
+    }
+    let at = i as usize;
+    t.source[at] = source;
+    t.level[at] = level;
+    t
+}
+
+// ---- what stands at a place, 0 past the last
+
+pub fn mode_at(s: Aic, k: u32) -> u8
+    ensures { λ r. ⌜ r ≡ modeAt s k ⌝ }
+{
+    if 32 <= k {
+        return 0;
+    }
+    let at = k as usize;
+    s.mode[at]
+}
+
+pub fn vector_at(s: Aic, k: u32) -> u32
+    ensures { λ r. ⌜ r ≡ getD (s .vector) k 0 ⌝ }
+{
+    if 32 <= k {
+        return 0;
+    }
+    let at = k as usize;
+    s.vector[at]
+}
+
+pub fn source_at(s: Aic, i: u32) -> u8
+    ensures { λ r. ⌜ r ≡ sourceAt s i ⌝ }
+{
+    if 8 <= i {
+        return 0;
+    }
+    let at = i as usize;
+    s.source[at]
+}
+
+pub fn level_at(s: Aic, i: u32) -> u8
+    ensures { λ r. ⌜ r ≡ levelAt s i ⌝ }
+{
+    if 8 <= i {
+        return 0;
+    }
+    let at = i as usize;
+    s.level[at]
+}
+
+// ---- the fields of a mode
+
+// Bits 2:0, the priority.
+pub fn priority_of(mode: u8) -> u32
+    ensures { λ r. ⌜ r ≡ priorityOf mode ⌝ }
+{
+    (mode % 8) as u32
+}
+
+// Bits 6:5, the type.
+pub fn type_of(mode: u32) -> u32
+    ensures { λ r. ⌜ r ≡ typeOf mode ⌝ }
+{
+    mode / 32 % 4
+}
+
+// The bits of a written mode that are kept.
+pub fn kept_of(mode: u32) -> u8
+    ensures { λ r. ⌜ r ≡ keptMode mode ⌝ }
+{
+    (mode / 32 % 4 * 32 + mode % 8) as u8
+}
+
+// Whether a source of this mode is edge-triggered.
+pub fn edge_of(mode: u8) -> bool
+    ensures { λ r. ⌜ r ≡ edgeOf mode ⌝ }
+{
+    mode / 32 % 4 % 2 == 1
+}
+
+// ---- the rules of a sound record
+
+// Whether a place of the handlers is as it should be: used at a level of at least `floor`, or not used.
+fn place_sound(used: bool, floor: u32, source: u8, level: u8) -> bool
+    ensures { λ r. ⌜ r ≡ pick used (leb 1 source && leb source 31 && leb level 7 && leb floor level) (eqb source 0 && eqb level 0) ⌝ }
+{
+    if used {
+        return (1 <= source) & (source <= 31) & (level <= 7) & (floor <= level as u32);
+    }
+    (source == 0) & (level == 0)
+}
+
+// Whether each of the eight places is as it should be, where `depth` of them are used.
+fn places_sound(source: [u8; 8], level: [u8; 8], depth: u32) -> bool
+    ensures { λ r. ⌜ r ≡ allBelow 8 (placeSound source level depth) ⌝ }
+{
+    let mut ok = true;
+    let mut floor: u32 = 0;
+    let mut i: u32 = 0;
+    while i < 8 {
+        let at = i as usize;
+        ok = ok & place_sound(i < depth, floor, source[at], level[at]);
+        floor = level[at] as u32 + 1;
+        i = i + 1;
+    }
+    ok
+}
+
+// Whether a mode has no dropped bit, and its source remembers an edge only if it is edge-triggered.
+fn mode_sound(mode: u8, remembered: bool) -> bool
+    ensures { λ r. ⌜ r ≡ ((edgeOf mode || not remembered) && eqb (keptMode mode) mode) ⌝ }
+{
+    (edge_of(mode) | !remembered) & (kept_of(mode as u32) == mode)
+}
+
+// The same of all 32 sources.
+fn modes_sound(mode: &[u8; 32], memory: u32) -> bool
+    ensures { λ r. ⌜ r ≡ allBelow 32 (modeSound (now (mode .entry)) memory) ⌝ }
+{
+    let mut ok = true;
+    let mut k: u32 = 0;
+    while k < 32 {
+        let at = k as usize;
+        ok = ok & mode_sound(mode[at], words::has(memory, k));
+        k = k + 1;
+    }
+    ok
+}
+
+// Whether the record breaks no rule.
+pub fn is_sound(s: Aic) -> bool
+    ensures { λ r. ⌜ r ≡ sound s ⌝ }
+{
+    let mask = s.mask;
+    (s.depth <= 8)
+        & places_sound(s.source, s.level, s.depth)
+        & modes_sound(&s.mode, s.memory)
+        & ((mask == 0) | (mask == 2))
+        & !words::has(s.forced, 0)
+}
+
+// The least priority that may start a handler: 0, or one above the level of the last open one.
+pub fn floor_of(s: Aic) -> u32
+    ensures { λ r. ⌜ r ≡ floorAt (s .level) (s .depth) ⌝ }
+{
+    let depth = s.depth;
+    if depth == 0 {
+        return 0;
+    }
+    level_at(s, depth - 1) as u32 + 1
+}

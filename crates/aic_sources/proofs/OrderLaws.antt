@@ -1,0 +1,213 @@
+-- Which source is ahead of which, and the one that is ahead of all other candidates.
+use Prim.Native.Nat.{ℕ, zero, suc, _+_, _-_, _*_, _<_}
+use mathlib.Core.Path.{_≡_, refl, sym, _∙_, subst}
+use mathlib.Core.Bool.{Bool, true, false, not, _&&_, _||_}
+use mathlib.Core.Logic.{_≢_, _⊎_, inl, inr, ⊎-elim}
+use native.Mathlib.Omega.{arith}
+use native.Mathlib.Decide.{ℕ-discrete, decLt}
+use lib.Dec.{eqb, ltb}
+use borrow.Author.Tests.{eqb-true, eq-eqb, ltb-true, ltb-false, lt-ltb, not-true}
+use Rattle.words.specs.Counting.{lowestBelow}
+use Rattle.words.proofs.TruthLaws.{and-left, and-right, and-both, or-either, or-left, or-right, clash, not-holds, told}
+use Rattle.words.proofs.CountingLaws.{any-some, some-any, any-fails, all-at, at-all, Lowest, lowest-found}
+use Rattle.aic_record.specs.declared.Aic.{Aic}
+use Rattle.aic_record.specs.Mode.{priority}
+use Rattle.aic_record.specs.Sound.{levelAt}
+use Rattle.aic_sources.specs.Normal.{waiting, above, candidate, ahead, foremost, candidates, chosen}
+
+-- ---- "ahead" between numbers
+
+-- a higher priority, or an equal one and a lower number
+abbrev pub Ahead : Aic → ℕ → ℕ → Type 0
+Ahead s a b = (priority s b < priority s a) ⊎ ((priority s a ≡ priority s b) × (a < b))
+
+pub ahead-is : (s : Aic) (a b : ℕ) → ahead s a b ≡ true → Ahead s a b
+unfolding ahead
+ahead-is s a b h =
+    ⊎-elim (λ (e : ltb (priority s b) (priority s a) ≡ true). inl (ltb-true (priority s b) (priority s a) e))
+    (λ (e : (eqb (priority s a) (priority s b) && ltb a b) ≡ true).
+    inr (eqb-true (priority s a) (priority s b) (and-left _ (ltb a b) e), ltb-true a b (and-right (eqb (priority s a) (priority s b)) _ e)))
+    (or-either (ltb (priority s b) (priority s a)) (eqb (priority s a) (priority s b) && ltb a b) h)
+
+pub is-ahead : (s : Aic) (a b : ℕ) → Ahead s a b → ahead s a b ≡ true
+unfolding ahead
+is-ahead s a b (inl l) = or-left (eqb (priority s a) (priority s b) && ltb a b) (lt-ltb (priority s b) (priority s a) l)
+is-ahead s a b (inr (e, l)) =
+    or-right (ltb (priority s b) (priority s a)) (and-both (eq-eqb (priority s a) (priority s b) e) (lt-ltb a b l))
+
+-- one comparison, for sources below 32
+pub ahead-lt : (s : Aic) (a b : ℕ) → a < 32 → ahead s a b ≡ true → priority s b * 32 + a < priority s a * 32 + b
+ahead-lt s a b l h =
+    ⊎-elim (λ (p : priority s b < priority s a). omega arith) (λ (p : (priority s a ≡ priority s b) × (a < b)). omega (arith, p .0, p .1))
+    (ahead-is s a b h)
+
+pub lt-ahead : (s : Aic) (a b : ℕ) → b < 32 → priority s b * 32 + a < priority s a * 32 + b → ahead s a b ≡ true
+lt-ahead s a b l h = go (decLt (priority s b) (priority s a))
+  where
+    go : Dec (priority s b < priority s a) → ahead s a b ≡ true
+    go (yes p) = is-ahead s a b (inl p)
+    go (no p) = is-ahead s a b (inr (omega arith, omega arith))
+
+-- no source is ahead of itself
+pub ahead-irreflexive : (s : Aic) (a : ℕ) → ahead s a a ≡ false
+ahead-irreflexive s a =
+    not-holds (ahead s a a)
+    (λ h. ⊎-elim (λ (p : priority s a < priority s a). omega arith) (λ (p : (priority s a ≡ priority s a) × (a < a)). omega (arith, p .1)) (ahead-is s a a h))
+
+pub ahead-transitive : (s : Aic) (a b c : ℕ) → ahead s a b ≡ true → ahead s b c ≡ true → ahead s a c ≡ true
+ahead-transitive s a b c h g = go (ahead-is s a b h) (ahead-is s b c g)
+  where
+    go : Ahead s a b → Ahead s b c → ahead s a c ≡ true
+    go (inl p) (inl q) = is-ahead s a c (inl (omega arith))
+    go (inl p) (inr (e, q)) = is-ahead s a c (inl (omega arith))
+    go (inr (d, p)) (inl q) = is-ahead s a c (inl (omega arith))
+    go (inr (d, p)) (inr (e, q)) = is-ahead s a c (inr (d ∙ e, omega arith))
+
+-- of two different sources one is ahead
+pub ahead-total : (s : Aic) (a b : ℕ) → a ≢ b → (ahead s a b ≡ true) ⊎ (ahead s b a ≡ true)
+ahead-total s a b d = go (decLt (priority s b) (priority s a)) (decLt (priority s a) (priority s b)) (decLt a b)
+  where
+    go : Dec (priority s b < priority s a) → Dec (priority s a < priority s b) → Dec (a < b) → (ahead s a b ≡ true) ⊎ (ahead s b a ≡ true)
+    go (yes p) q r = inl (is-ahead s a b (inl p))
+    go (no p) (yes q) r = inr (is-ahead s b a (inl q))
+    go (no p) (no q) (yes r) = inl (is-ahead s a b (inr (omega arith, r)))
+    go (no p) (no q) (no r) = inr (is-ahead s b a (inr (omega arith, omega arith)))
+
+-- and not the other
+pub ahead-asymmetric : (s : Aic) (a b : ℕ) → ahead s a b ≡ true → ahead s b a ≡ false
+ahead-asymmetric s a b h = not-holds (ahead s b a) (λ g. clash (ahead-transitive s a b a h g) (ahead-irreflexive s a))
+
+-- ---- the candidate ahead of all others
+
+-- source j is a candidate below n, and is ahead of every other candidate below n
+pub record Foremost (s : Aic) (n j : ℕ) : Type 0 where
+  pub below : j < n
+  pub fit : candidate s j ≡ true
+  pub first : (i : ℕ) → i < n → candidate s i ≡ true → i ≢ j → ahead s j i ≡ true
+
+pub foremost-is : (s : Aic) (j : ℕ) → j < 32 → foremost s j ≡ true → Foremost s 32 j
+unfolding foremost
+foremost-is s j l h = record { below = l; fit = and-left (candidate s j) _ h; first = rest }
+  where
+    rest : (i : ℕ) → i < 32 → candidate s i ≡ true → i ≢ j → ahead s j i ≡ true
+    rest i m c d =
+        ⊎-elim (λ (e : not (candidate s i) ≡ true). clash c (not-true (candidate s i) e))
+        (λ (e : (eqb i j || ahead s j i) ≡ true).
+        ⊎-elim (λ (q : eqb i j ≡ true). absurd (d (eqb-true i j q))) (λ (q : ahead s j i ≡ true). q) (or-either (eqb i j) (ahead s j i) e))
+        (or-either (not (candidate s i)) (eqb i j || ahead s j i)
+        (all-at 32 (λ i. not (candidate s i) || (eqb i j || ahead s j i)) (and-right (candidate s j) _ h) i m))
+
+pub is-foremost : (s : Aic) (j : ℕ) → Foremost s 32 j → foremost s j ≡ true
+unfolding foremost
+is-foremost s j f =
+    and-both (f .fit) (at-all 32 (λ i. not (candidate s i) || (eqb i j || ahead s j i)) (λ i l. go i l (told (candidate s i)) (ℕ-discrete i j)))
+  where
+    go : (i : ℕ) → i < 32 → (candidate s i ≡ true) ⊎ (candidate s i ≡ false) → Dec (i ≡ j) → (not (candidate s i) || (eqb i j || ahead s j i)) ≡ true
+    go i l (inr e) d = rw e
+    go i l (inl c) (yes e) = or-right (not (candidate s i)) (or-left (ahead s j i) (eq-eqb i j e))
+    go i l (inl c) (no d) = or-right (not (candidate s i)) (or-right (eqb i j) (f .first i l c d))
+
+-- what holds below n and of n holds below n + 1
+below-next : (P : ℕ → Type 0) (n : ℕ) → ((i : ℕ) → i < n → P i) → P n → (i : ℕ) → i < suc n → P i
+below-next P n h e i l = go (decLt i n)
+  where
+    go : Dec (i < n) → P i
+    go (yes m) = h i m
+    go (no m) =
+        let q : n ≡ i = omega arith in
+        subst P q e
+
+module _ (s : Aic) (n : ℕ) where
+  -- source j stays first, where source n is no candidate or behind it
+  stays-first : {j : ℕ} → Foremost s n j → (candidate s n ≡ true → ahead s j n ≡ true) → Foremost s (suc n) j
+  stays-first {j} f h =
+      record {
+        below = omega (arith, f .below);
+        fit = f .fit;
+        first = below-next (λ i. candidate s i ≡ true → i ≢ j → ahead s j i ≡ true) n (f .first) (λ c _. h c);
+      }
+
+  -- source n is first, where it is ahead of each candidate below it
+  comes-first : candidate s n ≡ true → ((i : ℕ) → i < n → candidate s i ≡ true → ahead s n i ≡ true) → Foremost s (suc n) n
+  comes-first c h =
+      record {
+        below = omega arith;
+        fit = c;
+        first = below-next (λ i. candidate s i ≡ true → i ≢ n → ahead s n i ≡ true) n (λ i l d _. h i l d) (λ _ d. absurd (d refl));
+      }
+
+  passes : {j : ℕ} → Foremost s n j → ahead s n j ≡ true → (i : ℕ) → i < n → candidate s i ≡ true → Dec (i ≡ j) → ahead s n i ≡ true
+  passes f a i l c (yes e) = rw e a
+  passes {j} f a i l c (no d) = ahead-transitive s n j i a (f .first i l c d)
+
+-- there is one, where there is a candidate
+leading : (s : Aic) (n : ℕ) → ((i : ℕ) → i < n → candidate s i ≡ false) ⊎ ((j : ℕ) × Foremost s n j)
+leading s zero = inl (λ i l. absurd (omega arith))
+leading s (suc n) = go (leading s n) (told (candidate s n))
+  where
+    go : ((i : ℕ) → i < n → candidate s i ≡ false) ⊎ ((j : ℕ) × Foremost s n j) → (candidate s n ≡ true) ⊎ (candidate s n ≡ false)
+        → ((i : ℕ) → i < suc n → candidate s i ≡ false) ⊎ ((j : ℕ) × Foremost s (suc n) j)
+    go (inl h) (inr e) = inl (below-next (λ i. candidate s i ≡ false) n h e)
+    go (inl h) (inl c) = inr (n, comes-first s n c (λ i l d. clash d (h i l)))
+    go (inr (j, f)) (inr e) = inr (j, stays-first s n f (λ c. clash c e))
+    go (inr (j, f)) (inl c) =
+        ⊎-elim (λ (a : ahead s j n ≡ true). inr (j, stays-first s n f (λ _. a)))
+        (λ (a : ahead s n j ≡ true). inr (n, comes-first s n c (λ i l d. passes s n f a i l d (ℕ-discrete i j))))
+        (ahead-total s j n (omega (arith, f .below)))
+
+-- with a candidate, the chosen source is the one ahead of all others
+pub chosen-is : (s : Aic) → candidates s ≡ true → Foremost s 32 (chosen s)
+unfolding candidates chosen
+chosen-is s h = go (leading s 32)
+  where
+    low : Lowest (foremost s) 32 (lowestBelow 32 (foremost s))
+    low = lowest-found 32 (foremost s)
+
+    go : ((i : ℕ) → i < 32 → candidate s i ≡ false) ⊎ ((j : ℕ) × Foremost s 32 j) → Foremost s 32 (lowestBelow 32 (foremost s))
+    go (inl e) = let r = any-some 32 (candidate s) h in clash (r .2) (e (r .0) (r .1))
+    go (inr (j, f)) = more (decLt (lowestBelow 32 (foremost s)) 32)
+      where
+        more : Dec (lowestBelow 32 (foremost s) < 32) → Foremost s 32 (lowestBelow 32 (foremost s))
+        more (yes l) = foremost-is s _ l (low .found l)
+        more (no l) = clash (is-foremost s j f) (low .before j (omega (arith, f .below)))
+
+-- and no other source is
+pub chosen-one : (s : Aic) (j : ℕ) → Foremost s 32 j → chosen s ≡ j
+unfolding candidates
+chosen-one s j f = go (chosen-is s (some-any 32 (candidate s) j (f .below) (f .fit))) (ℕ-discrete (chosen s) j)
+  where
+    go : Foremost s 32 (chosen s) → Dec (chosen s ≡ j) → chosen s ≡ j
+    go g (yes e) = e
+    go g (no d) =
+        clash (f .first (chosen s) (g .below) (g .fit) d) (ahead-asymmetric s (chosen s) j (g .first j (f .below) (f .fit) (λ e. d (sym e))))
+
+-- without a candidate it is 32
+pub chosen-none : (s : Aic) → candidates s ≡ false → chosen s ≡ 32
+unfolding candidates chosen foremost
+chosen-none s h = go (decLt (lowestBelow 32 (foremost s)) 32)
+  where
+    low : Lowest (foremost s) 32 (lowestBelow 32 (foremost s))
+    low = lowest-found 32 (foremost s)
+
+    go : Dec (lowestBelow 32 (foremost s) < 32) → lowestBelow 32 (foremost s) ≡ 32
+    go (yes l) = clash (and-left (candidate s _) _ (low .found l)) (any-fails 32 (candidate s) h _ l)
+    go (no l) = omega (arith, low .within)
+
+-- ---- a source that waits, candidate or not, is chosen or the chosen one is ahead of it
+
+above-lt : (s : Aic) (p q : ℕ) → above s p ≡ true → above s q ≡ false → q < p
+unfolding above
+above-lt s p q = go (eqb (s .depth) 0)
+  where
+    go : (t : Bool) → (t || ltb (levelAt s (s .depth - 1)) p) ≡ true → (t || ltb (levelAt s (s .depth - 1)) q) ≡ false → q < p
+    go true h k = clash refl k
+    go false h k = omega (arith, ltb-true, ltb-false)
+
+pub chosen-ahead : (s : Aic) (k : ℕ) → k < 32 → waiting s k ≡ true → candidates s ≡ true → chosen s ≢ k → ahead s (chosen s) k ≡ true
+unfolding candidate
+chosen-ahead s k l w h d = go (chosen-is s h) (told (above s (priority s k)))
+  where
+    go : Foremost s 32 (chosen s) → (above s (priority s k) ≡ true) ⊎ (above s (priority s k) ≡ false) → ahead s (chosen s) k ≡ true
+    go f (inl a) = f .first k l (and-both w a) (λ e. d (sym e))
+    go f (inr a) =
+        is-ahead s (chosen s) k (inl (above-lt s (priority s (chosen s)) (priority s k) (and-right (waiting s (chosen s)) _ (f .fit)) a))

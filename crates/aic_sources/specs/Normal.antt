@@ -1,0 +1,42 @@
+-- The normal side and its output (01, AIC, Normal side; 003, 27.7.3).
+use Prim.Native.Nat.{ℕ, _-_}
+use mathlib.Core.Bool.{Bool, not, _&&_, _||_}
+use lib.Dec.{eqb, ltb}
+use Rattle.words.specs.Counting.{anyBelow, allBelow, lowestBelow}
+use Rattle.aic_record.specs.declared.Aic.{Aic}
+use Rattle.aic_record.specs.Mode.{priority}
+use Rattle.aic_record.specs.Sound.{levelAt}
+use Rattle.aic_sources.specs.Pending.{asking}
+use Rattle.aic_sources.specs.Fast.{fast, masked}
+
+-- pending, enabled and not fast
+unfoldable pub waiting : Aic → ℕ → Bool
+waiting s k = asking s k && not (fast s k)
+
+-- a priority strictly above the level of the last open handler, if one is open (003, 27.7.3.1)
+unfoldable pub above : Aic → ℕ → Bool
+above s p = eqb (s .depth) 0 || ltb (levelAt s (s .depth - 1)) p
+
+-- a candidate waits, and its priority is above the level of the last open handler
+unfoldable pub candidate : Aic → ℕ → Bool
+candidate s k = waiting s k && above s (priority s k)
+
+-- a higher priority, or an equal one and a lower number (003, 27.7.3.1)
+unfoldable pub ahead : Aic → ℕ → ℕ → Bool
+ahead s a b = ltb (priority s b) (priority s a) || (eqb (priority s a) (priority s b) && ltb a b)
+
+-- source k is a candidate, and is ahead of every other candidate
+unfoldable pub foremost : Aic → ℕ → Bool
+foremost s k = candidate s k && allBelow 32 (λ j. not (candidate s j) || (eqb j k || ahead s k j))
+
+-- some source is a candidate
+unfoldable pub candidates : Aic → Bool
+candidates s = anyBelow 32 (candidate s)
+
+-- the candidate that is ahead of all others, 32 where there is none
+unfoldable pub chosen : Aic → ℕ
+chosen s = lowestBelow 32 (foremost s)
+
+-- IRQ is active if nothing masks it and some source is a candidate
+unfoldable pub irq : Aic → Bool
+irq s = not (masked s) && candidates s

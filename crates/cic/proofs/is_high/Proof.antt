@@ -1,0 +1,14 @@
+use Rattle.words.specs.Array.{bitAt}
+use Rattle.words.specs.Word.{bit}
+use Prim.Native.Nat.{ℕ, _%_}
+use mathlib.Core.Path.{ap, _∙_}
+use borrow.Author.Needs.{needs}
+use Rattle.cic.proofs.is_high.Statement.{statement}
+use Rattle.cic.proofs.is_high.Tie as tie
+
+returns : tie.Need-returns
+unfolding bitAt
+returns c = c .has .ensures ∙ ap (λ (w : ℕ). bit w (c .before .before .before .before .before .before .before .args .s .0 % 32)) (c .before .before .word-at .ensures)
+
+pub is-high-spec : {M : Type 1} → statement M
+is-high-spec = tie.close (tie.spec (λ c. search needs) (λ c κs. search needs) (λ c. search needs) (λ c κs. search needs) returns)

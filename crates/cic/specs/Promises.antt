@@ -1,0 +1,35 @@
+-- What is promised of the CIC's steps.
+use mathlib.Core.Bool.{Bool, true, false}
+use mathlib.Core.Path.{_≡_}
+use mathlib.Core.Logic.{_≢_}
+use Prim.Native.Nat.{ℕ, _<_}
+use Rattle.words.specs.Array.{bitAt}
+use Rattle.steps.specs.declared.Step.{Step}
+use Rattle.steps.specs.Refusals.{carriedOut}
+use Rattle.steps.specs.Tables.{ReadTable, WriteTable, LineTable}
+use Rattle.cic_record.specs.declared.Answer.{Answer}
+use Rattle.cic_record.specs.declared.Cic.{Cic}
+use Rattle.cic_record.specs.declared.System.{System}
+use Rattle.cic_record.specs.Record.{refused}
+use Rattle.cic_record.specs.Sound.{sound}
+use Rattle.cic_registers.specs.Map.{registerAt, access}
+use Rattle.cic_registers.specs.Registers.{valueRefusal}
+use Rattle.cic.specs.Stepping.{readOf, writeOf, lineOf, stepOf, moved}
+
+pub record Promises : Type 0 where
+  -- every step leaves a sound record sound (01, CIC, a sound record)
+  pub staysSound : (c : Cic) (s : Step) → sound c ≡ true → sound (stepOf c s .cic) ≡ true
+  -- a step that is refused answers its number, the value 0 and the same record (01, Numbers)
+  pub refusedSame : (c : Cic) (s : Step) → stepOf c s .refusal ≢ carriedOut → stepOf c s ≡ refused c (stepOf c s .refusal)
+  -- each number is given exactly when the table says (01, Numbers)
+  pub reads : (c : Cic) (offset : ℕ) → ReadTable (sound c) offset (access c offset) (readOf c offset .refusal)
+  pub writes : (c : Cic) (offset v : ℕ) → WriteTable (sound c) offset (access c offset) (valueRefusal c (registerAt offset) v) (writeOf c offset v .refusal)
+  pub lines : (c : Cic) (s level : ℕ) → LineTable (sound c) (c .systems) s level (lineOf c s level .refusal)
+  -- accepted writes and lines answer the value 0 (01, Numbers)
+  pub writesZero : (c : Cic) (offset v : ℕ) → writeOf c offset v .value ≡ 0
+  pub linesZero : (c : Cic) (s level : ℕ) → lineOf c s level .value ≡ 0
+  -- a falling line changes no status, and neither does a high line that is put high again (01, CIC, configuration)
+  pub falls : (c : Cic) (s : System) → moved c s false .status ≡ c .status
+  pub staysHigh : (c : Cic) (s : System) → bitAt (c .lines) (s .0) ≡ true → moved c s true .status ≡ c .status
+  -- any two outcomes that the contract of a step allows are equal (01, When a contract is strong enough)
+  pub same : (c : Cic) (s : Step) (a b : Answer) → a ≡ stepOf c s → b ≡ stepOf c s → a ≡ b

@@ -1,0 +1,98 @@
+-- The promises of the asserted hosts are kept.
+use mathlib.Core.Path.{_≡_, refl, sym, ap, _∙_}
+use mathlib.Core.Bool.{Bool, true, false, _&&_}
+use mathlib.Core.Logic.{_↔_, ⊎-elim}
+use Prim.Native.Nat.{ℕ, _≤_, _<_}
+use native.Mathlib.Omega.{arith}
+use borrow.Author.Tests.{eq-eqb, eqb-true}
+use lib.Dec.{eqb}
+use Rattle.words.specs.Array.{bitAt}
+use Rattle.words.specs.Choice.{pick}
+use Rattle.words.specs.Counting.{anyBelow, countBelow, lowestBelow}
+use Rattle.words.proofs.ArrayLaws.{clean-bit}
+use Rattle.words.proofs.ChoiceLaws.{pick-true, pick-false}
+use Rattle.words.proofs.CountingLaws.{any-some, some-any, Lowest, lowest-found}
+use Rattle.words.proofs.TruthLaws.{and-left, and-right, and-both, told}
+use Rattle.steps.specs.Refusals.{unsound}
+use Rattle.cic_record.specs.declared.Cic.{Cic}
+use Rattle.cic_record.specs.declared.Host.{Host}
+use Rattle.cic_record.specs.declared.Outputs.{Outputs}
+use Rattle.cic_record.specs.Kinds.{system, hostNumber}
+use Rattle.cic_record.specs.Sound.{sound}
+use Rattle.cic_record.proofs.PartsLaws.{sound-parts}
+use Rattle.cic_hosts.specs.Hosts.{channelOf, hostOf, raises, assertedOf, shownOf, outputsOf}
+use Rattle.cic_hosts.specs.Promises.{Raised, Promises}
+use Rattle.cic_hosts.proofs.ScanLaws.{not-allowed}
+
+-- some system interrupt raises h exactly if there is one
+raised : (c : Cic) (h : Host) → anyBelow (c .systems) (λ s. raises c h (system s)) ≡ true → Raised c h
+unfolding raises
+raised c h e =
+    let r = any-some (c .systems) (λ s. raises c h (system s)) e in
+    let s = r .0 in
+    let rest = and-right (bitAt (c .status) s) (bitAt (c .enable) s && eqb (hostOf c (channelOf c (system s)) .0) (h .0)) (r .2) in (
+      s,
+      r .1,
+      and-left (bitAt (c .status) s) (bitAt (c .enable) s && eqb (hostOf c (channelOf c (system s)) .0) (h .0)) (r .2),
+      and-left (bitAt (c .enable) s) (eqb (hostOf c (channelOf c (system s)) .0) (h .0)) rest,
+      eqb-true (hostOf c (channelOf c (system s)) .0) (h .0) (and-right (bitAt (c .enable) s) (eqb (hostOf c (channelOf c (system s)) .0) (h .0)) rest),
+    )
+
+raises-it : (c : Cic) (h : Host) → Raised c h → anyBelow (c .systems) (λ s. raises c h (system s)) ≡ true
+unfolding raises
+raises-it c h r =
+    some-any (c .systems) (λ s. raises c h (system s)) (r .0) (r .1) (and-both (r .2) (and-both (r .3) (eq-eqb (hostOf c (channelOf c (system (r .0))) .0) (h .0) (r .4))))
+
+asserted : (c : Cic) (h : Host) → (assertedOf c h ≡ true) ↔ ((c .global ≡ 1) × ((bitAt (c .allow) (h .0) ≡ true) × Raised c h))
+unfolding assertedOf
+asserted c h = (there, λ r. and-both (eq-eqb (c .global) 1 (r .0)) (and-both (r .1 .0) (raises-it c h (r .1 .1))))
+  where
+    there : (eqb (c .global) 1 && (bitAt (c .allow) (h .0) && anyBelow (c .systems) (λ s. raises c h (system s)))) ≡ true → (c .global ≡ 1) × ((bitAt (c .allow) (h .0) ≡ true) × Raised c h)
+    there e =
+        let rest = and-right (eqb (c .global) 1) (bitAt (c .allow) (h .0) && anyBelow (c .systems) (λ s. raises c h (system s))) e in (
+          eqb-true (c .global) 1 (and-left (eqb (c .global) 1) (bitAt (c .allow) (h .0) && anyBelow (c .systems) (λ s. raises c h (system s))) e),
+          (
+            and-left (bitAt (c .allow) (h .0)) (anyBelow (c .systems) (λ s. raises c h (system s))) rest,
+            raised c h (and-right (bitAt (c .allow) (h .0)) (anyBelow (c .systems) (λ s. raises c h (system s))) rest),
+          ),
+        )
+
+-- the outputs of a sound record, and of any other
+shows : (c : Cic) → sound c ≡ true → outputsOf c ≡ shownOf c
+unfolding outputsOf
+shows c e = sym (pick-true (record { refusal = unsound; hosts = 0; lowest = 0 }) e)
+
+refuses : (c : Cic) → sound c ≡ false → outputsOf c .refusal ≡ unsound
+unfolding outputsOf
+refuses c e = ap (λ (o : Outputs). o .refusal) (sym (pick-false (shownOf c) e))
+
+refused : (c : Cic) → (outputsOf c .refusal ≡ unsound) ↔ (sound c ≡ false)
+unfolding shownOf
+refused c = (there, refuses c)
+  where
+    twelve : _≡_ {A = ℕ} 0 12 → ⊥
+    twelve e = omega arith
+
+    there : outputsOf c .refusal ≡ unsound → sound c ≡ false
+    there e = ⊎-elim (λ (t : sound c ≡ true). absurd (twelve (sym (ap (λ (o : Outputs). o .refusal) (shows c t)) ∙ e))) (λ (t : sound c ≡ false). t) (told (sound c))
+
+counted : (c : Cic) → sound c ≡ true → outputsOf c .hosts ≡ countBelow 256 (λ h. assertedOf c (hostNumber h))
+unfolding shownOf
+counted c e = ap (λ (o : Outputs). o .hosts) (shows c e)
+
+low : (c : Cic) → sound c ≡ true → Lowest (λ h. assertedOf c (hostNumber h)) 256 (outputsOf c .lowest)
+unfolding shownOf
+low c e = rw (shows c e) (lowest-found 256 (λ h. assertedOf c (hostNumber h)))
+
+pub kept : Promises
+kept =
+    record {
+      asserted = asserted;
+      configured = λ c h e l b. not-allowed c h (clean-bit 8 (c .hosts) (c .allow) (sound-parts c e .allow) (h .0) l b);
+      refused = refused;
+      counted = counted;
+      lowestMost = λ c e. low c e .within;
+      lowestAsserted = λ c e. low c e .found;
+      noneBefore = λ c e. low c e .before;
+      same = λ c a b p q. p ∙ sym q;
+    }

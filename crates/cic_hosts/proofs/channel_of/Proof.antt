@@ -1,0 +1,11 @@
+use mathlib.Core.Path.{ap}
+use Rattle.cic_record.specs.Kinds.{channelNumber}
+use borrow.Author.Needs.{needs}
+use Rattle.cic_hosts.proofs.channel_of.Statement.{statement}
+use Rattle.cic_hosts.proofs.channel_of.Tie as tie
+
+returns : tie.Need-returns
+returns c = (ap channelNumber (c .wide .ensures .0), c .wide .ensures .1)
+
+pub channel-of-spec : {M : Type 1} → statement M
+channel-of-spec = tie.close (tie.spec (λ c. search needs) (λ c. search needs) (λ c κs. search needs) returns)

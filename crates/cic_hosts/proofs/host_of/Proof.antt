@@ -1,0 +1,11 @@
+use mathlib.Core.Path.{ap}
+use Rattle.cic_record.specs.Kinds.{hostNumber}
+use borrow.Author.Needs.{needs}
+use Rattle.cic_hosts.proofs.host_of.Statement.{statement}
+use Rattle.cic_hosts.proofs.host_of.Tie as tie
+
+returns : tie.Need-returns
+returns c = (ap hostNumber (c .wide .ensures .0), c .wide .ensures .1)
+
+pub host-of-spec : {M : Type 1} → statement M
+host-of-spec = tie.close (tie.spec (λ c. search needs) (λ c. search needs) (λ c κs. search needs) returns)

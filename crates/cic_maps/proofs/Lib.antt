@@ -1,0 +1,2 @@
+-- The laws of map registers.
+pub mod MapLaws

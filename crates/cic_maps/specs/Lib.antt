@@ -1,0 +1,2 @@
+-- Registers of map bytes.
+pub mod Maps

@@ -1,0 +1,44 @@
+-- What a configuration number may be, and which records are sound (01, CIC).
+use mathlib.Core.Bool.{Bool, true, false, _&&_}
+use mathlib.Core.List.{List}
+use Prim.Native.Nat.{ℕ}
+use lib.Dec.{eqb, ltb, leb}
+use lib.ListN.{getD}
+use Rattle.words.specs.Array.{cleanBelow}
+use Rattle.words.specs.Choice.{pick}
+use Rattle.words.specs.Counting.{allBelow}
+use Rattle.cic_record.specs.declared.Cic.{Cic}
+
+-- lowest to highest
+abbrev pub between : ℕ → ℕ → ℕ → Bool
+between lowest highest n = leb lowest n && leb n highest
+
+-- configuration number `place` may be n: 1 to 1,024 systems, 1 to 256 channels, 1 to 256 hosts, any revision; there are four (01, CIC, configuration)
+unfoldable pub withinOf : ℕ → ℕ → Bool
+withinOf place n =
+    pick (eqb place 0) (between 1 1024 n)
+    (pick (eqb place 1) (between 1 256 n)
+    (pick (eqb place 2) (between 1 256 n)
+    (eqb place 3)))
+
+-- the counts are in their ranges and global enable is 0 or 1 (01, CIC, a sound record)
+unfoldable pub numbersSound : Cic → Bool
+numbersSound c = withinOf 0 (c .systems) && (withinOf 1 (c .channels) && (withinOf 2 (c .hosts) && leb (c .global) 1))
+
+-- no line, status or enable bit beyond the systems is set, and no host enable beyond the hosts (01, CIC, a sound record)
+unfoldable pub wordsSound : Cic → Bool
+wordsSound c =
+    cleanBelow 32 (c .systems) (c .lines) && (cleanBelow 32 (c .systems) (c .status)
+    && (cleanBelow 32 (c .systems) (c .enable) && cleanBelow 8 (c .hosts) (c .allow)))
+
+-- entry i of the map m is below the limit if it is one of the n entries in use, else 0
+unfoldable pub entrySound : ℕ → ℕ → List ℕ → ℕ → Bool
+entrySound n limit m i = pick (ltb i n) (ltb (getD m i 0) limit) (eqb (getD m i 0) 0)
+
+-- each system has one of the channels and each channel one of the hosts; all bytes beyond the counts are 0 (01, CIC, a sound record)
+unfoldable pub mapsSound : Cic → Bool
+mapsSound c = allBelow 1024 (entrySound (c .systems) (c .channels) (c .channel)) && allBelow 256 (entrySound (c .channels) (c .hosts) (c .host))
+
+-- a sound record (01, CIC, a sound record)
+unfoldable pub sound : Cic → Bool
+sound c = numbersSound c && (wordsSound c && mapsSound c)

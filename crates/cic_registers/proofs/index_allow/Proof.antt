@@ -1,0 +1,17 @@
+use Rattle.words.proofs.ArrayLaws.{withBitAt-past}
+use Rattle.cic_record.specs.Record.{withAllow}
+use lib.ListN.{length}
+use mathlib.Core.Path.{_≡_, sym, ap}
+use native.Mathlib.Omega.{arith}
+use borrow.Author.Needs.{needs}
+use Rattle.cic_registers.proofs.index_allow.Statement.{statement}
+use Rattle.cic_registers.proofs.index_allow.Tie as tie
+
+returns : tie.Need-returns
+returns c =
+    let a = c .before .args in
+    let e : length (a .c .allow) ≡ 8 = search needs in
+    ap (withAllow (a .c)) (sym (withBitAt-past (a .c .allow) (a .v) (a .on) (omega (arith, e, c .if1 .taken))))
+
+pub index-allow-spec : {M : Type 1} → statement M
+index-allow-spec = tie.close (tie.spec returns (λ c. search needs) (λ c κs. search needs) (λ c. search needs))

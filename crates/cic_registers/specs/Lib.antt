@@ -1,0 +1,3 @@
+-- The CIC's registers: where they stand, what they answer, and what a write does.
+pub mod Map
+pub mod Registers

@@ -1,0 +1,2 @@
+-- The laws of registers of bits.
+pub mod BitsLaws

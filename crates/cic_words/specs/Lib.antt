@@ -1,0 +1,2 @@
+-- Registers of bits.
+pub mod Bits

@@ -1,0 +1,7 @@
+-- Laws of the definitions, and the proof that the promises are kept.
+pub mod AnswerLaws
+pub mod CaseLaws
+pub mod ModelLaws
+pub mod OutputLaws
+pub mod Promises
+pub mod StartLaws

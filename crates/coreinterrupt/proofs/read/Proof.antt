@@ -1,0 +1,20 @@
+use Rattle.coreinterrupt.specs.Model.{read}
+use borrow.Author.Needs.{needs}
+use Rattle.coreinterrupt.proofs.read.Statement.{statement}
+use Rattle.coreinterrupt.proofs.read.Tie as tie
+
+returns : tie.Need-returns
+unfolding read
+returns c = rw (c .unless-refused .ensures, c .before .accepted .ensures, c .before .before .value-at .ensures, c .before .before .before .read-refusal .ensures, c .before .before .before .before .access .ensures, c .before .before .before .before .before .sound .ensures)
+
+pub read-spec : {M : Type 1} → statement M
+read-spec =
+    tie.close
+    (tie.spec
+    (λ c κs. search needs)
+    (λ c κs. search needs)
+    (λ c κs. search needs)
+    (λ c κs. search needs)
+    (λ c κs. search needs)
+    (λ c κs. search needs)
+    returns)

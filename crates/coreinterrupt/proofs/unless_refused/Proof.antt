@@ -1,0 +1,14 @@
+use mathlib.Core.Path.{_∙_}
+use Rattle.coreinterrupt.proofs.AnswerLaws.{carried, stopped}
+use borrow.Author.Needs.{needs}
+use Rattle.coreinterrupt.proofs.unless_refused.Statement.{statement}
+use Rattle.coreinterrupt.proofs.unless_refused.Tie as tie
+
+returns : tie.Need-returns
+returns c = carried _ _ (c .if1 .taken)
+
+returns-2 : tie.Need-returns-2
+returns-2 c = c .refused .ensures ∙ stopped _ _ _ (c .before .if1 .left)
+
+pub unless-refused-spec : {M : Type 1} → statement M
+unless-refused-spec = tie.close (tie.spec returns (λ c κs. search needs) returns-2)

@@ -1,0 +1,20 @@
+use Rattle.coreinterrupt.specs.Model.{write}
+use borrow.Author.Needs.{needs}
+use Rattle.coreinterrupt.proofs.write.Statement.{statement}
+use Rattle.coreinterrupt.proofs.write.Tie as tie
+
+returns : tie.Need-returns
+unfolding write
+returns c = rw (c .unless-refused .ensures, c .before .accepted .ensures, c .before .before .written .ensures, c .before .before .before .write-refusal .ensures, c .before .before .before .before .access .ensures, c .before .before .before .before .before .sound .ensures)
+
+pub write-spec : {M : Type 1} → statement M
+write-spec =
+    tie.close
+    (tie.spec
+    (λ c κs. search needs)
+    (λ c κs. search needs)
+    (λ c κs. search needs)
+    (λ c κs. search needs)
+    (λ c κs. search needs)
+    (λ c κs. search needs)
+    returns)

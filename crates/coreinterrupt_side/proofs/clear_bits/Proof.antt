@@ -1,0 +1,11 @@
+use Rattle.coreinterrupt_side.specs.Group.{clearBits}
+use borrow.Author.Needs.{needs}
+use Rattle.coreinterrupt_side.proofs.clear_bits.Statement.{statement}
+use Rattle.coreinterrupt_side.proofs.clear_bits.Tie as tie
+
+returns : tie.Need-returns
+unfolding clearBits
+returns c = rw (c .drop-bits .ensures, c .before .keep .ensures)
+
+pub clear-bits-spec : {M : Type 1} → statement M
+clear-bits-spec = tie.close (tie.spec (λ c κs. search needs) (λ c κs. search needs) returns)

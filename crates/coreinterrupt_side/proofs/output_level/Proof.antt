@@ -1,0 +1,17 @@
+use Rattle.coreinterrupt_side.specs.Group.{outputLevel}
+use Rattle.words.proofs.ChoiceLaws.{by-true, by-false}
+use mathlib.Core.Path.{_∙_}
+use borrow.Author.Needs.{needs}
+use Rattle.coreinterrupt_side.proofs.output_level.Statement.{statement}
+use Rattle.coreinterrupt_side.proofs.output_level.Tie as tie
+
+returns : tie.Need-returns
+unfolding outputLevel
+returns c = by-true _ (c .before .active .ensures) (c .if1 .taken)
+
+returns-2 : tie.Need-returns-2
+unfolding outputLevel
+returns-2 c = c .other .ensures ∙ by-false _ (c .before .before .active .ensures) (c .before .if1 .left)
+
+pub output-level-spec : {M : Type 1} → statement M
+output-level-spec = tie.close (tie.spec (λ c κs. search needs) returns (λ c κs. search needs) returns-2)

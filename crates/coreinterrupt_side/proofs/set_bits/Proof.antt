@@ -1,0 +1,11 @@
+use Rattle.coreinterrupt_side.specs.Group.{setBits}
+use borrow.Author.Needs.{needs}
+use Rattle.coreinterrupt_side.proofs.set_bits.Statement.{statement}
+use Rattle.coreinterrupt_side.proofs.set_bits.Tie as tie
+
+returns : tie.Need-returns
+unfolding setBits
+returns c = rw (c .join .ensures, c .before .keep .ensures)
+
+pub set-bits-spec : {M : Type 1} → statement M
+set-bits-spec = tie.close (tie.spec (λ c κs. search needs) (λ c κs. search needs) returns)

@@ -1,0 +1,11 @@
+use Rattle.coreinterrupt_side.specs.Group.{groupSound}
+use borrow.Author.Needs.{needs}
+use Rattle.coreinterrupt_side.proofs.sound.Statement.{statement}
+use Rattle.coreinterrupt_side.proofs.sound.Tie as tie
+
+returns : tie.Need-returns
+unfolding groupSound
+returns c = rw (c .is-clean3 .ensures, c .before .is-clean2 .ensures, c .before .before .is-clean .ensures)
+
+pub sound-spec : {M : Type 1} → statement M
+sound-spec = tie.close (tie.spec (λ c κs. search needs) (λ c κs. search needs) (λ c κs. search needs) returns)

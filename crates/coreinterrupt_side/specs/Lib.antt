@@ -1,0 +1,3 @@
+-- One side of CoreInterrupt, FIQ or IRQ, and what is promised of it.
+pub mod Group
+pub mod Promises
