@@ -1,2 +1,6 @@
--- Laws of the stand-in.
+-- The laws of kinds and of machines, and the proof of what is promised.
+pub mod KindLaws
 pub mod MachineLaws
+pub mod Promises
+pub mod ShownLaws
+pub mod StepLaws

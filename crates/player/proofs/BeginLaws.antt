@@ -11,7 +11,8 @@ use Rattle.numbers.specs.Number.{numberAt}
 use Rattle.numbers.specs.declared.Number.the-variants.{Value, Refused}
 use Rattle.trace.specs.Trace.{Trace, ends, stepsFrom}
 use Rattle.machine.specs.declared.Configuration.{Configuration}
-use Rattle.machine.specs.Machine.{withinOf, withNumber}
+use Rattle.machine.specs.Kinds.{withinOf}
+use Rattle.machine.specs.Machine.{withNumber}
 use Rattle.player.specs.declared.Begun.{Begun}
 use Rattle.player.specs.declared.Played.{Played}
 use Rattle.player.specs.declared.Setup.{Setup}

@@ -1,7 +1,6 @@
 -- What a report is in each of the ways that a turn of the player goes, and what holds of all its steps.
 use Prim.Native.Nat.{ℕ, zero, suc, _+_, _-_, _<_, _≤_}
 use mathlib.Core.Path.{_≡_, refl, sym, ap, _∙_}
-use mathlib.Core.Bool.{true}
 use mathlib.Core.List.{List, [], _∷_}
 use native.Mathlib.Nat.{add-zero}
 use native.Mathlib.Omega.{arith}
@@ -19,8 +18,9 @@ use Rattle.trace.specs.Trace.{Trace, ends, after, goOn, stepsFrom}
 use Rattle.trace.proofs.TraceLaws.{trace-end, trace-limit, trace-refused, trace-step}
 use Rattle.machine.specs.declared.Machine.{Machine}
 use Rattle.machine.specs.declared.Answer.{Answer}
-use Rattle.machine.specs.Machine.{sound, stepOf}
-use Rattle.machine.proofs.MachineLaws.{step-sound}
+use Rattle.machine.specs.Promises.{Ready}
+use Rattle.machine.specs.Steps.{stepOf}
+use Rattle.machine.proofs.StepLaws.{step-ready}
 use Rattle.player.specs.declared.Begun.{Begun}
 use Rattle.player.specs.declared.Played.{Played}
 use Rattle.player.specs.Play.{recordsFrom, runOf, report}
@@ -82,7 +82,7 @@ records-limited limit s b =
 
 -- ---- the machine after some steps
 
-pub run-sound : (m : Machine) (xs : List Step) → sound m ≡ true → sound (runOf m xs) ≡ true
+pub run-ready : (m : Machine) (xs : List Step) → Ready m → Ready (runOf m xs)
 unfolding runOf
-run-sound m [] e = e
-run-sound m (x ∷ xs) e = run-sound (stepOf m x .machine) xs (step-sound m x e)
+run-ready m [] e = e
+run-ready m (x ∷ xs) e = run-ready (stepOf m x .machine) xs (step-ready m x e)

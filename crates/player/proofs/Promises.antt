@@ -20,16 +20,19 @@ use Rattle.trace.proofs.Promises.{kept as trace-kept}
 use Rattle.trace.proofs.StepLaws.{Outcome, noKind as Outcome·noKind, unknownKind, noFirst, oneNumber, noSecond, twoNumbered, outcome}
 use Rattle.machine.specs.declared.Answer.{Answer}
 use Rattle.machine.specs.declared.Machine.{Machine}
-use Rattle.machine.specs.Machine.{isKind, withinOf, blank, noNumbers, filled, startOf, sound, stepOf}
+use Rattle.machine.specs.Kinds.{isKind, withinOf}
+use Rattle.machine.specs.Machine.{blank, sound}
+use Rattle.machine.specs.Promises.{startWith}
+use Rattle.machine.specs.Steps.{stepOf}
 use Rattle.player.specs.declared.Begun.{Begun}
 use Rattle.player.specs.declared.Played.{Played}
 use Rattle.player.specs.Begin.{longest, notBegun, beginOf}
 use Rattle.player.specs.Play.{recordsOf, runOf, report, playOf}
 use Rattle.player.specs.Promises.{Wanting, Configures, Begins, Promises}
 use Rattle.player.proofs.BeginLaws.{play-refused}
-use Rattle.player.proofs.PlayLaws.{report-ends, records-begun, records-limited, run-sound}
+use Rattle.player.proofs.PlayLaws.{report-ends, records-begun, records-limited, run-ready}
 use Rattle.player.proofs.SoLaws.{overlong-so, damaged-so, no-kind-so, beyond-so, configured-so}
-use Rattle.player.proofs.WayLaws.{Beginning, overlong, damagedAt, noKind, beyondAt, configured, beginning, begun, begin-sound}
+use Rattle.player.proofs.WayLaws.{Beginning, overlong, damagedAt, noKind, beyondAt, configured, beginning, begun, begin-ready}
 
 -- ---- the beginning
 
@@ -112,12 +115,12 @@ module _ (s : List ℕ) (p : ℕ) where
   accepted : Begins s carriedOut p ↔ Accepted
   accepted = (
     accepted-only (beginOf s) (beginning s),
-    λ h. begins-so s (begun (startOf (h .0) (filled noNumbers 0 (h .1))) p) p
+    λ h. begins-so s (begun (startWith (h .0) (h .1)) p) p
         (configured-so s (h .0) (h .1) p (h .2) (h .3) (h .4 .0) (h .4 .1 .0) (h .4 .1 .1)) refl,
   )
 
 started : (s : List ℕ) (p kind : ℕ) (ns : List ℕ) → length s ≤ longest → Reads s 0 (kind ∷ ns) p → Configures kind ns
-    → beginOf s .machine ≡ startOf kind (filled noNumbers 0 ns)
+    → beginOf s .machine ≡ startWith kind ns
 started s p kind ns l r w = ap (λ (b : Begun). b .machine) (configured-so s kind ns p l r (w .0) (w .1 .0) (w .1 .1))
 
 -- a machine that has not begun has all its numbers 0
@@ -153,7 +156,7 @@ unfolding runOf
 played-none m = refl
 
 soundly : (s : List ℕ) (limit : ℕ) → beginOf s .refusal ≡ carriedOut → sound (playOf s limit .machine) ≡ true
-soundly s limit z = ap sound (played s limit) ∙ run-sound (beginOf s .machine) (recordsOf s limit .steps) (begin-sound s (beginOf s) refl z)
+soundly s limit z = ap sound (played s limit) ∙ run-ready (beginOf s .machine) (recordsOf s limit .steps) (begin-ready s (beginOf s) refl z) .0
 
 -- ---- how it ends
 

@@ -18,7 +18,9 @@ use Rattle.numbers.specs.declared.Number.the-variants.{Value, Refused}
 use Rattle.numbers.proofs.ReadLaws.{told-read, told-damaged}
 use Rattle.trace.specs.Promises.{Reads}
 use Rattle.machine.specs.declared.Configuration.{Configuration}
-use Rattle.machine.specs.Machine.{isKind, placesOf, withinOf, noNumbers, withNumber, filled, Within, startOf}
+use Rattle.machine.specs.Kinds.{isKind, placesOf, withinOf}
+use Rattle.machine.specs.Machine.{noNumbers, withNumber, filled}
+use Rattle.machine.specs.Promises.{Within, startWith}
 use Rattle.player.specs.declared.Begun.{Begun}
 use Rattle.player.specs.declared.Setup.{Setup}
 use Rattle.player.specs.Begin.{longest, refusedSetup, acceptedSetup, setupFrom, setupOf, notBegun, bySetup, byController, beginOf}
@@ -90,7 +92,7 @@ module _ (s : List ℕ) where
     to-setup : beginOf s ≡ bySetup kind (setupOf kind s (toldAt s 0 .place))
     to-setup = by-first _ l (first s 0 kind p ns r) ∙ sym (pick-true _ k)
 
-    pub configured-so : length ns ≡ placesOf kind → beginOf s ≡ begun (startOf kind (filled noNumbers 0 ns)) p
+    pub configured-so : length ns ≡ placesOf kind → beginOf s ≡ begun (startWith kind ns) p
     unfolding bySetup pick
     configured-so n = to-setup ∙ ap (bySetup kind) (whole-so kind s ns (toldAt s 0 .place) p (r .1 .1) w n)
 

@@ -21,8 +21,10 @@ use Rattle.numbers.proofs.ReadLaws.{IsRead, number-is, told-read, told-damaged}
 use Rattle.trace.specs.Promises.{Reads}
 use Rattle.machine.specs.declared.Configuration.{Configuration}
 use Rattle.machine.specs.declared.Machine.{Machine}
-use Rattle.machine.specs.Machine.{isKind, placesOf, withinOf, noNumbers, withNumber, filled, Within, startOf, sound}
-use Rattle.machine.proofs.MachineLaws.{start-sound}
+use Rattle.machine.specs.Kinds.{isKind, placesOf, withinOf}
+use Rattle.machine.specs.Machine.{noNumbers, withNumber, filled}
+use Rattle.machine.specs.Promises.{Within, Ready, startWith}
+use Rattle.machine.proofs.MachineLaws.{start-ready}
 use Rattle.player.specs.declared.Begun.{Begun}
 use Rattle.player.specs.declared.Setup.{Setup}
 use Rattle.player.specs.Begin.{longest, refusedSetup, acceptedSetup, setupFrom, setupOf, notBegun, bySetup, byController, beginOf}
@@ -90,7 +92,7 @@ pub data Beginning (s : List ℕ) : Begun → Type 0 where
   beyondAt : (kind : ℕ) (ns : List ℕ) (p : ℕ) → length s ≤ longest → Reads s 0 (kind ∷ ns) p → Wanting (kind ∷ ns) → toldAt s p .refusal ≡ carriedOut
       → withinOf kind (length ns) (toldAt s p .value) ≡ false → Beginning s (notBegun misconfigured p)
   configured : (kind : ℕ) (ns : List ℕ) (p : ℕ) → length s ≤ longest → Reads s 0 (kind ∷ ns) p → Configures kind ns
-      → Beginning s (begun (startOf kind (filled noNumbers 0 ns)) p)
+      → Beginning s (begun (startWith kind ns) p)
 
 module _ (s : List ℕ) where
   also : (b d : Begun) → d ≡ b → Beginning s d → Beginning s b
@@ -123,12 +125,12 @@ module _ (s : List ℕ) where
           (told-apart (isKind kind)))
 
 -- a machine that has begun is sound
-pub begin-sound : (s : List ℕ) (b : Begun) → b ≡ beginOf s → b .refusal ≡ carriedOut → sound (b .machine) ≡ true
-begin-sound s b e r = go b (rw e (beginning s)) r
+pub begin-ready : (s : List ℕ) (b : Begun) → b ≡ beginOf s → b .refusal ≡ carriedOut → Ready (b .machine)
+begin-ready s b e r = go b (rw e (beginning s)) r
   where
-    go : (d : Begun) → Beginning s d → d .refusal ≡ carriedOut → sound (d .machine) ≡ true
+    go : (d : Begun) → Beginning s d → d .refusal ≡ carriedOut → Ready (d .machine)
     go d (overlong l) z = absurd (omega arith)
     go d (damagedAt ns p l h w t) z = absurd (omega arith)
     go d (noKind l t k) z = absurd (omega arith)
     go d (beyondAt kind ns p l h w t b) z = absurd (omega arith)
-    go d (configured kind ns p l h w) z = start-sound kind ns (w .0) (w .1 .1) (w .1 .0)
+    go d (configured kind ns p l h w) z = start-ready kind ns (w .0) (w .1 .1) (w .1 .0)

@@ -9,7 +9,8 @@ use Rattle.numbers.specs.Number.{numberAt}
 use Rattle.numbers.specs.declared.Number.{Number}
 use Rattle.numbers.specs.declared.Number.the-variants.{Value, Refused}
 use Rattle.machine.specs.declared.Configuration.{Configuration}
-use Rattle.machine.specs.Machine.{isKind, placesOf, withinOf, blank, noNumbers, withNumber, startOf}
+use Rattle.machine.specs.Kinds.{isKind, placesOf, withinOf}
+use Rattle.machine.specs.Machine.{blank, noNumbers, withNumber, startOf}
 use Rattle.player.specs.declared.Setup.{Setup}
 use Rattle.player.specs.declared.Begun.{Begun}
 

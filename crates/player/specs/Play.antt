@@ -9,7 +9,7 @@ use Rattle.steps.specs.declared.Step.{Step}
 use Rattle.trace.specs.Trace.{Trace, ends, stepsFrom}
 use Rattle.machine.specs.declared.Machine.{Machine}
 use Rattle.machine.specs.declared.Answer.{Answer}
-use Rattle.machine.specs.Machine.{stepOf}
+use Rattle.machine.specs.Steps.{stepOf}
 use Rattle.player.specs.declared.Begun.{Begun}
 use Rattle.player.specs.declared.Played.{Played}
 use Rattle.player.specs.Begin.{beginOf}

@@ -12,7 +12,10 @@ use Rattle.trace.specs.Promises.{Reads, Along, Ends}
 use Rattle.trace.specs.Trace.{Trace}
 use Rattle.machine.specs.declared.Machine.{Machine}
 use Rattle.machine.specs.declared.Answer.{Answer}
-use Rattle.machine.specs.Machine.{isKind, placesOf, withinOf, Within, blank, noNumbers, filled, startOf, sound, stepOf}
+use Rattle.machine.specs.Kinds.{isKind, placesOf, withinOf}
+use Rattle.machine.specs.Machine.{blank, sound}
+use Rattle.machine.specs.Steps.{stepOf}
+use Rattle.machine.specs.Promises.{Within, startWith}
 use Rattle.player.specs.declared.Begun.{Begun}
 use Rattle.player.specs.declared.Played.{Played}
 use Rattle.player.specs.Begin.{longest, beginOf}
@@ -52,7 +55,7 @@ pub record Promises : Type 0 where
       → Begins s carriedOut p ↔ ((kind : ℕ) × (ns : List ℕ) × (length s ≤ longest) × Reads s 0 (kind ∷ ns) p × Configures kind ns)
   -- then the machine is the one that starts from these numbers (01, House trace)
   pub started : (s : List ℕ) (p kind : ℕ) (ns : List ℕ) → length s ≤ longest → Reads s 0 (kind ∷ ns) p → Configures kind ns
-      → beginOf s .machine ≡ startOf kind (filled noNumbers 0 ns)
+      → beginOf s .machine ≡ startWith kind ns
   -- before a configuration is accepted no step is played, all numbers of the record are 0, and the beginning's refusal ends the play (01, House trace)
   pub nothing : (s : List ℕ) (limit : ℕ) → beginOf s .refusal ≢ carriedOut
       → playOf s limit ≡ record { steps = 0; machine = blank; refusal = beginOf s .refusal; offset = beginOf s .place }

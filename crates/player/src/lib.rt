@@ -1,8 +1,6 @@
 // Plays a recorded trace on the machine that it names (01, "House trace").
 ghost use mathlib.Core.Path.{_≡_};
-ghost use mathlib.Core.Bool.{true};
-ghost use Prim.Native.Nat.{_≤_};
-ghost use Rattle.machine.specs.Machine.{sound};
+ghost use Rattle.machine.specs.Promises.{Ready};
 ghost use Rattle.player.specs.Begin.{refusedSetup, setupOf, notBegun, bySetup, byController, beginOf};
 ghost use Rattle.trace.specs.Trace.{ends, stepsFrom};
 ghost use Rattle.player.specs.Play.{report, playOf};
@@ -62,7 +60,7 @@ fn not_played(b: Begun) -> Played
 
 // Plays the steps of a trace that has begun. The limit falls by one with each step.
 fn play_from(trace: &[u8], limit: u32, b: Begun) -> Played
-    requires { ⌜ sound (b .machine) ≡ true ⌝ }
+    requires { ⌜ Ready (b .machine) ⌝ }
     ensures { λ r. ⌜ r ≡ report 0 (b .machine) (stepsFrom limit (now (trace .entry)) (b .place)) ⌝ }
 {
     let mut at = b.place;

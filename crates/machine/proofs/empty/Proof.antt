@@ -1,15 +1,13 @@
-use mathlib.Core.Path.{refl, sym, ap, _∙_}
-use Rattle.machine.specs.Machine.{isKind, placesOf, withinOf, blank, startOf, sound, stepOf, shownOf, nameOf}
+use Rattle.machine.proofs.MachineLaws.{blank-core, blank-cic}
+use mathlib.Core.Path.{refl}
 use borrow.Author.Needs.{needs}
 use Rattle.machine.proofs.empty.Statement.{statement}
 use Rattle.machine.proofs.empty.Tie as tie
-use Rattle.machine.proofs.empty.Reads as reads
-use Rattle.machine.proofs.empty.Lts as lts
+use Rattle.coreinterrupt.proofs.start.Reads as start-reads′
 
--- src/lib.rt:50:1
 returns : tie.Need-returns
-unfolding blank
-returns c = refl
+returns c = let b = c .before .before in
+    rw (b .before .before .reset-to .ensures, b .before .start .ensures, b .start2 .ensures) (rw (blank-core, blank-cic) refl)
 
 pub empty-spec : {M : Type 1} → statement M
-empty-spec = tie.close (tie.spec returns)
+empty-spec = tie.close (tie.spec (λ c κs. search needs) (λ c κs. search needs) (λ c κs. search needs) returns)

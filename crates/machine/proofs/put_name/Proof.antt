@@ -1,62 +1,42 @@
+use mathlib.Core.Path.{ap, sym, _∙_}
+use Rattle.machine.proofs.KindLaws.{at-aic, at-core, at-cic, at-none}
+use Rattle.text.proofs.WriteLaws.{nothing}
 use Rattle.text.specs.Text.{write}
-use Rattle.words.proofs.ChoiceLaws.{pick-true, pick-false}
-use borrow.Author.Tests.{eq-eqb, ne-eqb}
-use mathlib.Core.Path.{ap, _∙_}
-use Rattle.machine.specs.Machine.{isKind, placesOf, withinOf, blank, startOf, sound, stepOf, shownOf, nameOf}
+use Rattle.machine.specs.Kinds.{nameOf}
 use borrow.Author.Needs.{needs}
 use Rattle.machine.proofs.put_name.Statement.{statement}
 use Rattle.machine.proofs.put_name.Tie as tie
-use Rattle.machine.proofs.put_name.Reads as reads
-use Rattle.machine.proofs.put_name.Lts as lts
-use Rattle.text.proofs.put_all.Reads as put-all-reads
 
--- src/lib.rt:111:39
-slice-aggregate-put-all : tie.Need-slice-aggregate-put-all
-slice-aggregate-put-all c = search needs
-
--- src/lib.rt:111:9
-put-all-requires : tie.Need-put-all-requires
-put-all-requires c κs = search needs
-
--- src/lib.rt:111:9
-same-length : tie.Need-same-length
-same-length c = search needs
-
--- src/lib.rt:111:9
 returns : tie.Need-returns
 unfolding nameOf
-returns c =
-    let p = c .before .before in
-    p .put-all .ensures ∙ ap (write _) (pick-true _ (eq-eqb _ _ (p .before .before .before .if1 .taken)))
+returns c = c .before .before .put-all .ensures ∙ ap (write _) (at-aic _ _ _ _ _ (c .before .before .before .before .before .if1 .taken))
 
--- src/lib.rt:113:28
-slice-aggregate-put-all-2 : tie.Need-slice-aggregate-put-all-2
-slice-aggregate-put-all-2 c = search needs
-
--- src/lib.rt:113:5
-put-all-requires-2 : tie.Need-put-all-requires-2
-put-all-requires-2 c κs = search needs
-
--- src/lib.rt:107:1
-same-length-2 : tie.Need-same-length-2
-same-length-2 c = search needs
-
--- src/lib.rt:107:1
 returns-2 : tie.Need-returns-2
 unfolding nameOf
-returns-2 c =
-    let p = c .before .before in
-    p .put-all2 .ensures ∙ ap (write _) (pick-false _ (ne-eqb _ _ (p .before .before .before .if1 .left)))
+returns-2 c = c .before .before .put-all2 .ensures ∙ ap (write _) (at-core _ _ _ _ _ (c .before .before .before .before .before .if2 .taken))
+
+returns-3 : tie.Need-returns-3
+unfolding nameOf
+returns-3 c = c .before .before .put-all3 .ensures ∙ ap (write _) (at-cic _ _ _ _ _ (c .before .before .before .before .before .if3 .taken))
+
+returns-4 : tie.Need-returns-4
+unfolding nameOf
+returns-4 c = nothing _ ∙ ap (write _) (at-none _ _ _ _ _ (c .before .before .if1 .left) (c .before .if2 .left) (c .if3 .left))
 
 pub put-name-spec : {M : Type 1} → statement M
 put-name-spec =
     tie.close
     (tie.spec
-    slice-aggregate-put-all
-    put-all-requires
-    same-length
+    (λ c. search needs)
+    (λ c κs. search needs)
+    (λ c. search needs)
     returns
-    slice-aggregate-put-all-2
-    put-all-requires-2
-    same-length-2
-    returns-2)
+    (λ c. search needs)
+    (λ c κs. search needs)
+    (λ c. search needs)
+    returns-2
+    (λ c. search needs)
+    (λ c κs. search needs)
+    (λ c. search needs)
+    returns-3
+    returns-4)

@@ -1,9 +1,8 @@
 use Prim.Native.Nat.{_+_}
 use mathlib.Core.Path.{_≡_, ap, sym, _∙_}
-use mathlib.Core.Bool.{true}
 use Rattle.trace.specs.Trace.{stepsFrom}
-use Rattle.machine.specs.Machine.{sound}
-use Rattle.machine.proofs.MachineLaws.{step-sound}
+use Rattle.machine.specs.Promises.{Ready}
+use Rattle.machine.proofs.StepLaws.{step-ready}
 use Rattle.player.specs.Play.{report}
 use Rattle.player.proofs.PlayLaws.{report-end, report-limit, report-refused, report-step}
 use borrow.Author.Needs.{needs}
@@ -12,7 +11,7 @@ use Rattle.player.proofs.play_from.Tie as tie
 
 abbrev Inv-loop : tie.InvT-loop
 Inv-loop trace limit at₀ m₀ left₀ count₀ at m left count =
-    (report count m (stepsFrom left trace at) ≡ report 0 m₀ (stepsFrom limit trace at₀)) × (count + left ≡ limit) × (sound m ≡ true)
+    (report count m (stepsFrom left trace at) ≡ report 0 m₀ (stepsFrom limit trace at₀)) × (count + left ≡ limit) × Ready m
 
 abbrev μ-loop : tie.MeasureT-loop
 μ-loop trace limit at₀ m₀ left₀ count₀ at m left count = left
@@ -30,7 +29,7 @@ returns-3 c = let m = c .before .before .before in
 loop-again : tie.Need-loop-again Inv-loop μ-loop
 loop-again c = let m = c .before .before .before .before .before in
     let l = m .before .before .before .loop in
-    (rw (c .before .step-sound .ensures) (report-step _ _ _ _ _ _ _ (m .before .before .if1 .left) (m .before .if2 .left) (sym (m .step-at .ensures) ∙ c .before .before .before .x .given .1) ∙ l .inv .0), search needs, rw (c .before .step-sound .ensures) (step-sound _ _ (l .inv .2)))
+    (rw (c .before .step-sound .ensures) (report-step _ _ _ _ _ _ _ (m .before .before .if1 .left) (m .before .if2 .left) (sym (m .step-at .ensures) ∙ c .before .before .before .x .given .1) ∙ l .inv .0), search needs, rw (c .before .step-sound .ensures) (step-ready _ _ (l .inv .2)))
 
 pub play-from-spec : {M : Type 1} → statement M
 play-from-spec =

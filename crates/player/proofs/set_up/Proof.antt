@@ -3,7 +3,7 @@ use native.Mathlib.Omega.{arith}
 use mathlib.Core.Path.{refl}
 use Prim.Native.Nat.{_+_}
 use mathlib.Core.Path.{_≡_, ap, sym, _∙_}
-use Rattle.machine.specs.Machine.{placesOf}
+use Rattle.machine.specs.Kinds.{placesOf}
 use Rattle.player.specs.Begin.{setupFrom, setupOf}
 use Rattle.player.proofs.BeginLaws.{setup-done, setup-damaged, setup-beyond, setup-taken}
 use borrow.Author.Needs.{needs}
