@@ -8,7 +8,7 @@ use Rattle.steps.specs.declared.Step.{Step}
 use Rattle.steps.specs.declared.Step.the-variants.{Read, Write, Line}
 use Rattle.steps.specs.Refusals.{carriedOut, unsound}
 use Rattle.aic_record.specs.Sound.{sound as aicSound}
-use Rattle.aic.specs.declared.Answer.{Answer as AicAnswer}
+use Rattle.aic_registers.specs.declared.Answer.{Answer as AicAnswer}
 use Rattle.aic.specs.Model.{step as aicStep}
 use Rattle.aic.proofs.Promises.{kept as aic}
 use Rattle.coreinterrupt.specs.declared.Answer.{Answer as CoreAnswer}

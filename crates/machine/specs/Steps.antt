@@ -3,7 +3,7 @@ use Prim.Native.Nat.{ℕ}
 use Rattle.words.specs.Counting.{one}
 use Rattle.steps.specs.declared.Step.{Step}
 use Rattle.steps.specs.Refusals.{unsound}
-use Rattle.aic.specs.declared.Answer.{Answer as AicAnswer}
+use Rattle.aic_registers.specs.declared.Answer.{Answer as AicAnswer}
 use Rattle.aic.specs.declared.Signals.{Signals as AicSignals}
 use Rattle.aic.specs.Model.{step as aicStep, outputs as aicOutputs}
 use Rattle.coreinterrupt.specs.declared.Answer.{Answer as CoreAnswer}

@@ -189,7 +189,7 @@ pub fn start(kind: u32, c: Configuration) -> Machine
 
 // ---- steps
 
-fn after_aic(m: Machine, a: aic::Answer) -> Answer
+fn after_aic(m: Machine, a: aic_registers::Answer) -> Answer
     ensures { λ r. ⌜ r ≡ afterAic m a ⌝ }
 {
     let s = a.aic;
