@@ -1,0 +1,69 @@
+-- Three reads of one register, before a step, after it and after a second one, are enough against every cheat.
+use Prim.Native.Nat.{ℕ}
+use mathlib.Core.Path.{_≡_, refl, sym, ap, _∙_, subst⁻¹}
+use mathlib.Core.Bool.{true, false}
+use borrow.Author.Tests.{eq-eqb}
+use lib.Dec.{eqb}
+use Rattle.words.proofs.TruthLaws.{clash}
+use Rattle.words.specs.Choice.{pick}
+use Rattle.words.specs.Counting.{allBelow}
+use Rattle.words.specs.Word.{bit, wordOf, either, withBit, kept, clean}
+use Rattle.words.specs.Array.{cleanBelow}
+use Rattle.steps.specs.declared.Step.{Step}
+use Rattle.steps.specs.declared.Step.the-variants.{Read, Write}
+use Rattle.steps.specs.Refusals.{carriedOut, readRefusal, writeRefusal}
+use Rattle.aic_record.specs.Record.{reset}
+use Rattle.aic_record.specs.Mode.{kind, edge}
+use Rattle.aic_record.specs.Sound.{handlerSound, freeSound, handlersSound, memorySound, storedSound, sound}
+use Rattle.aic_registers.specs.Map.{access, valueRefusal}
+use Rattle.aic_registers.specs.Effects.{moded}
+use Rattle.aic_registers.specs.Registers.{stored, readAt, writtenAt}
+use Rattle.aic.specs.Model.{start, readNumber, writeNumber, read, write}
+use Rattle.coreinterrupt_side.specs.Group.{clearAccess, groupAccess, groupRead, setBits, groupWrite, groupSound}
+use Rattle.coreinterrupt.specs.Model as CoreInterrupt
+use Rattle.cic_record.specs.Sound as Cic
+use Rattle.cic_record.specs.Start.{fresh, configured, started}
+use Rattle.cic_layout.specs.Map.{singleAt, registerAt, accessOf}
+use Rattle.cic_registers.specs.Registers as Registers
+use Rattle.cic.specs.Stepping.{readAs, writeAs, stepAs}
+use Rattle.cases.specs.Cheats.{Outcome, Model, Keeps, NoCheat, aicModel, coreModel, cicModel}
+
+-- what a read of the register at o answers
+abbrev seen : {R : Type 0} → Model R → R → ℕ → ℕ
+seen d r o = d r (Read o) .value
+
+-- the register at o changes with the step x, and again with the step y after it
+pub record Moves {R : Type 0} (d : Model R) (r : R) (x y : Step) (o : ℕ) : Type 0 where
+  pub taken : d r x .refusal ≡ carriedOut
+  pub first : eqb (seen d (d r x .left) o) (seen d r o) ≡ false
+  pub second : eqb (seen d (d (d r x .left) y .left) o) (seen d (d r x .left) o) ≡ false
+
+-- the definition itself is then no cheat
+honest : {R : Type 0} (d : Model R) (r : R) (x y : Step) (o : ℕ) → Moves d r x y o → NoCheat d r
+honest d r x y o w =
+    let again = d r x .left in
+    record {
+      carriesOut = λ h. h r x (w .taken);
+      answersMore = λ h. clash (eq-eqb (seen d again o) (seen d r o) (h .1 again o ∙ sym (h .1 r o))) (w .first);
+      moves = λ h. clash (eq-eqb (seen d again o) (seen d r o) (ap (λ t. seen d t o) (h r x))) (w .first);
+      goesOn = λ h. clash (eq-eqb (seen d (d again y .left) o) (seen d again o) (ap (λ t. seen d t o) (h x y))) (w .second);
+    }
+
+-- and so is no model whose every answer is the definition's
+pub no-cheat : {R : Type 0} (d m : Model R) (r : R) (x y : Step) (o : ℕ) → Moves d r x y o → Keeps m d → NoCheat m r
+no-cheat d m r x y o w keeps = subst⁻¹ (λ e. NoCheat e r) (λ i s z. keeps s z i) (honest d r x y o w)
+
+-- AIC: the mode of source 1 is written, and written again
+pub aic-moves : Moves aicModel (start 0 0 .aic) (Write 4 0x61) (Write 4 0x62) 4
+unfolding aicModel pick allBelow bit wordOf withBit readRefusal writeRefusal reset kind edge handlerSound freeSound handlersSound memorySound storedSound sound access valueRefusal moded stored readAt writtenAt readNumber writeNumber read write start
+aic-moves = record { taken = refl; first = refl; second = refl }
+
+-- CoreInterrupt: two IRQ sources are enabled, one after the other
+pub core-moves : Moves coreModel (CoreInterrupt.start 8 32 1 1 .core) (Write 0x20 1) (Write 0x20 2) 0x20
+unfolding coreModel pick wordOf bit either kept clean readRefusal writeRefusal clearAccess groupAccess groupRead setBits groupWrite groupSound CoreInterrupt.side CoreInterrupt.withSide CoreInterrupt.sound CoreInterrupt.within CoreInterrupt.allWithin CoreInterrupt.start CoreInterrupt.unlessRefused CoreInterrupt.fiqOffset CoreInterrupt.register CoreInterrupt.access CoreInterrupt.valueAt CoreInterrupt.written CoreInterrupt.read CoreInterrupt.write
+core-moves = record { taken = refl; first = refl; second = refl }
+
+-- CIC: global enable is set, and cleared
+pub cic-moves : Moves cicModel (started 33 2 1 0 .cic) (Write 0x10 1) (Write 0x10 0) 0x10
+unfolding cicModel pick allBelow kept clean cleanBelow readRefusal writeRefusal Cic.withinOf Cic.numbersSound Cic.wordsSound Cic.mapsSound Cic.entrySound Cic.sound fresh configured started singleAt registerAt accessOf Registers.valueOf Registers.valueRefusal Registers.writtenTo readAs writeAs stepAs
+cic-moves = record { taken = refl; first = refl; second = refl }

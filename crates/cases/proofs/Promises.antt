@@ -1,0 +1,18 @@
+-- The promises of the worked cases, kept.
+use mathlib.Core.Path.{refl}
+use Rattle.cases.specs.Cases.{starred}
+use Rattle.cases.specs.Cheats.{aicModel, coreModel, cicModel}
+use Rattle.cases.specs.Promises.{Promises}
+use Rattle.cases.proofs.CaseLaws.{cases-hold}
+use Rattle.cases.proofs.CheatLaws.{no-cheat, aic-moves, core-moves, cic-moves}
+
+pub kept : Promises
+unfolding starred
+kept =
+    record {
+      casesHold = cases-hold;
+      fourteen = refl;
+      aicHonest = λ m. no-cheat aicModel m _ _ _ _ aic-moves;
+      coreHonest = λ m. no-cheat coreModel m _ _ _ _ core-moves;
+      cicHonest = λ m. no-cheat cicModel m _ _ _ _ cic-moves;
+    }
