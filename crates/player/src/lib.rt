@@ -163,9 +163,9 @@ fn set_up(trace: &[u8], kind: u32, start: usize) -> Setup
     let mut c = machine::no_numbers();
     let mut at = start;
     let mut k: u32 = 0;
-    let mut left = machine::places(kind);
+    let mut wanted = machine::places(kind);
     loop {
-        if left == 0 {
+        if wanted == 0 {
             return Setup {
                 refusal: steps::CARRIED_OUT,
                 place: at,
@@ -183,7 +183,7 @@ fn set_up(trace: &[u8], kind: u32, start: usize) -> Setup
                 c = machine::with_number(c, k, v);
                 at = next;
                 k = k + 1;
-                left = left - 1;
+                wanted = wanted - 1;
             }
         }
     }

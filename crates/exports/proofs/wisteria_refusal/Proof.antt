@@ -1,5 +1,5 @@
-use Rattle.player.specs.declared.Played.{Played}
 use mathlib.Core.Path.{ap}
+use Rattle.player.specs.declared.Played.{Played}
 use borrow.Author.Needs.{needs}
 use Rattle.exports.proofs.wisteria_refusal.Statement.{statement}
 use Rattle.exports.proofs.wisteria_refusal.Tie as tie

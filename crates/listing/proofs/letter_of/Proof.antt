@@ -1,7 +1,7 @@
-use Rattle.listing.specs.Listing.{letter}
 use mathlib.Core.Path.{_∙_}
 use borrow.Author.Tests.{eq-eqb, ne-eqb}
 use Rattle.words.proofs.ChoiceLaws.{pick-true, pick-false}
+use Rattle.listing.specs.Listing.{letter}
 use borrow.Author.Needs.{needs}
 use Rattle.listing.proofs.letter_of.Statement.{statement}
 use Rattle.listing.proofs.letter_of.Tie as tie

@@ -1,8 +1,8 @@
-use Rattle.listing.proofs.LineLaws.{listing-begun, listing-refused}
+use mathlib.Core.Path.{ap, _∙_}
 use Rattle.player.proofs.WayLaws.{begin-ready}
 use Rattle.text.proofs.WriteLaws.{write-laid}
 use Rattle.text.specs.Text.{write}
-use mathlib.Core.Path.{ap, _∙_}
+use Rattle.listing.proofs.LineLaws.{listing-begun, listing-refused}
 use borrow.Author.Needs.{needs}
 use Rattle.listing.proofs.list.Statement.{statement}
 use Rattle.listing.proofs.list.Tie as tie

@@ -1,9 +1,9 @@
-use Rattle.listing.specs.Listing.{endOf}
 use mathlib.Core.Path.{ap, _∙_}
 use borrow.Author.Tests.{eq-eqb, ne-eqb}
 use Rattle.words.proofs.ChoiceLaws.{pick-true, pick-false}
 use Rattle.text.proofs.WriteLaws.{nothing}
 use Rattle.text.specs.Text.{write}
+use Rattle.listing.specs.Listing.{endOf}
 use borrow.Author.Needs.{needs}
 use Rattle.listing.proofs.put_end.Statement.{statement}
 use Rattle.listing.proofs.put_end.Tie as tie

@@ -1,5 +1,5 @@
-use Rattle.listing.specs.Listing.{lineOf}
 use Rattle.text.proofs.WriteLaws.{and-then, same-length as same-len}
+use Rattle.listing.specs.Listing.{lineOf}
 use borrow.Author.Needs.{needs}
 use Rattle.listing.proofs.put_line.Statement.{statement}
 use Rattle.listing.proofs.put_line.Tie as tie

@@ -1,5 +1,5 @@
-use Rattle.listing.specs.Listing.{endLine}
 use Rattle.text.proofs.WriteLaws.{and-then}
+use Rattle.listing.specs.Listing.{endLine}
 use borrow.Author.Needs.{needs}
 use Rattle.listing.proofs.put_refusal.Statement.{statement}
 use Rattle.listing.proofs.put_refusal.Tie as tie

@@ -1,6 +1,6 @@
-use Rattle.listing.specs.Listing.{shownValue}
 use borrow.Author.Tests.{eq-eqb, ne-eqb}
 use Rattle.words.proofs.ChoiceLaws.{pick-true, pick-false}
+use Rattle.listing.specs.Listing.{shownValue}
 use Rattle.listing.proofs.shown_value.Statement.{statement}
 use Rattle.listing.proofs.shown_value.Tie as tie
 

@@ -1,9 +1,9 @@
-use Rattle.machine.proofs.MachineLaws.{blank-core, blank-cic}
 use mathlib.Core.Path.{refl}
+use Rattle.machine.proofs.MachineLaws.{blank-core, blank-cic}
+use Rattle.coreinterrupt.proofs.start.Reads as start-reads′
 use borrow.Author.Needs.{needs}
 use Rattle.machine.proofs.empty.Statement.{statement}
 use Rattle.machine.proofs.empty.Tie as tie
-use Rattle.coreinterrupt.proofs.start.Reads as start-reads′
 
 returns : tie.Need-returns
 returns c = let b = c .before .before in

@@ -1,9 +1,9 @@
 use mathlib.Core.Path.{_∙_}
 use Rattle.machine.proofs.MachineLaws.{sound-aic, sound-core, sound-cic, sound-none}
+use Rattle.cic_record.proofs.is_sound.Reads as is-sound-reads′
 use borrow.Author.Needs.{needs}
 use Rattle.machine.proofs.is_sound.Statement.{statement}
 use Rattle.machine.proofs.is_sound.Tie as tie
-use Rattle.cic_record.proofs.is_sound.Reads as is-sound-reads′
 
 returns : tie.Need-returns
 returns c = c .is-sound .ensures ∙ sound-aic _ (c .before .before .if1 .taken)

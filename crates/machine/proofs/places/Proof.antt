@@ -1,5 +1,5 @@
-use Rattle.machine.proofs.KindLaws.{at-aic, at-core, at-cic, at-none}
 use Rattle.machine.specs.Kinds.{placesOf}
+use Rattle.machine.proofs.KindLaws.{at-aic, at-core, at-cic, at-none}
 use Rattle.machine.proofs.places.Statement.{statement}
 use Rattle.machine.proofs.places.Tie as tie
 

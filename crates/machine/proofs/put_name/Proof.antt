@@ -1,8 +1,8 @@
 use mathlib.Core.Path.{ap, sym, _∙_}
-use Rattle.machine.proofs.KindLaws.{at-aic, at-core, at-cic, at-none}
 use Rattle.text.proofs.WriteLaws.{nothing}
 use Rattle.text.specs.Text.{write}
 use Rattle.machine.specs.Kinds.{nameOf}
+use Rattle.machine.proofs.KindLaws.{at-aic, at-core, at-cic, at-none}
 use borrow.Author.Needs.{needs}
 use Rattle.machine.proofs.put_name.Statement.{statement}
 use Rattle.machine.proofs.put_name.Tie as tie

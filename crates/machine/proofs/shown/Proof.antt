@@ -1,5 +1,5 @@
-use Rattle.machine.proofs.ShownLaws.{unsound-shown}
 use mathlib.Core.Path.{sym, _∙_}
+use Rattle.machine.proofs.ShownLaws.{unsound-shown}
 use borrow.Author.Needs.{needs}
 use Rattle.machine.proofs.shown.Statement.{statement}
 use Rattle.machine.proofs.shown.Tie as tie

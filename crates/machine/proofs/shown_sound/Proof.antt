@@ -2,10 +2,10 @@ use mathlib.Core.Path.{ap, sym, _∙_}
 use Rattle.machine.specs.Steps.{aicColumns, coreColumns, cicColumns}
 use Rattle.machine.proofs.MachineLaws.{sound-aic, sound-cic, third-kind}
 use Rattle.machine.proofs.ShownLaws.{aic-shows, core-shows, cic-shows, unsound-shown}
+use Rattle.cic.proofs.outputs_sound.Reads as outputs-sound-reads′
 use borrow.Author.Needs.{needs}
 use Rattle.machine.proofs.shown_sound.Statement.{statement}
 use Rattle.machine.proofs.shown_sound.Tie as tie
-use Rattle.cic.proofs.outputs_sound.Reads as outputs-sound-reads′
 
 outputs-sound-requires : tie.Need-outputs-sound-requires
 outputs-sound-requires c κs = sound-aic _ (c .before .if1 .taken) ∙ c .before .before .before .pre

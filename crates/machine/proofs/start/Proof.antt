@@ -1,14 +1,14 @@
+use mathlib.Core.Path.{ap, sym, _∙_}
 use Rattle.cic_record.specs.declared.Begun.{Begun as CicBegun}
 use Rattle.coreinterrupt.specs.declared.Begun.{Begun as CoreBegun}
 use Rattle.aic.specs.declared.Begun.{Begun}
-use mathlib.Core.Path.{ap, sym, _∙_}
-use Rattle.machine.proofs.KindLaws.{at-aic, at-core, at-cic, at-none}
 use Rattle.machine.specs.Machine.{startOf, ofAic, ofCore, ofCic}
+use Rattle.machine.proofs.KindLaws.{at-aic, at-core, at-cic, at-none}
+use Rattle.coreinterrupt.proofs.start.Reads as start-reads′′
+use Rattle.cic.proofs.start.Reads as start-reads′
 use borrow.Author.Needs.{needs}
 use Rattle.machine.proofs.start.Statement.{statement}
 use Rattle.machine.proofs.start.Tie as tie
-use Rattle.cic.proofs.start.Reads as start-reads′
-use Rattle.coreinterrupt.proofs.start.Reads as start-reads′′
 
 returns : tie.Need-returns
 unfolding startOf

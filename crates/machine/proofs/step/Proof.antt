@@ -1,5 +1,5 @@
-use Rattle.machine.proofs.StepLaws.{unsound-step}
 use mathlib.Core.Path.{sym, _∙_}
+use Rattle.machine.proofs.StepLaws.{unsound-step}
 use borrow.Author.Needs.{needs}
 use Rattle.machine.proofs.step.Statement.{statement}
 use Rattle.machine.proofs.step.Tie as tie

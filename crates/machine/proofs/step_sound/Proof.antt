@@ -2,10 +2,10 @@ use mathlib.Core.Path.{ap, sym, _∙_}
 use Rattle.machine.specs.Steps.{afterAic, afterCore, afterCic}
 use Rattle.machine.proofs.MachineLaws.{sound-aic, sound-cic, third-kind}
 use Rattle.machine.proofs.StepLaws.{aic-steps, core-steps, cic-steps, unsound-step}
+use Rattle.cic.proofs.step_sound.Reads as step-sound-reads′
 use borrow.Author.Needs.{needs}
 use Rattle.machine.proofs.step_sound.Statement.{statement}
 use Rattle.machine.proofs.step_sound.Tie as tie
-use Rattle.cic.proofs.step_sound.Reads as step-sound-reads′
 
 step-sound-requires : tie.Need-step-sound-requires
 step-sound-requires c κs = sound-aic _ (c .before .if1 .taken) ∙ c .before .before .before .pre

@@ -1,11 +1,11 @@
 use mathlib.Core.Path.{ap, sym, _∙_}
-use Rattle.machine.proofs.KindLaws.{at-aic, at-core, at-cic, at-none}
 use Rattle.machine.specs.Kinds.{withinOf}
+use Rattle.machine.proofs.KindLaws.{at-aic, at-core, at-cic, at-none}
+use Rattle.coreinterrupt.proofs.within.Reads as within-reads′′
+use Rattle.cic.proofs.within.Reads as within-reads′
 use borrow.Author.Needs.{needs}
 use Rattle.machine.proofs.within.Statement.{statement}
 use Rattle.machine.proofs.within.Tie as tie
-use Rattle.cic.proofs.within.Reads as within-reads′
-use Rattle.coreinterrupt.proofs.within.Reads as within-reads′′
 
 returns : tie.Need-returns
 unfolding withinOf

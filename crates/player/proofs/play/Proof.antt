@@ -1,6 +1,6 @@
+use mathlib.Core.Path.{_∙_}
 use Rattle.player.proofs.WayLaws.{begin-ready}
 use Rattle.player.proofs.BeginLaws.{play-begun, play-refused}
-use mathlib.Core.Path.{_∙_}
 use borrow.Author.Needs.{needs}
 use Rattle.player.proofs.play.Statement.{statement}
 use Rattle.player.proofs.play.Tie as tie

@@ -1,8 +1,7 @@
-use borrow.Author.Tests.{not-true, not-false}
-use native.Mathlib.Omega.{arith}
-use mathlib.Core.Path.{refl}
 use Prim.Native.Nat.{_+_}
-use mathlib.Core.Path.{_≡_, ap, sym, _∙_}
+use mathlib.Core.Path.{refl, _≡_, ap, sym, _∙_}
+use native.Mathlib.Omega.{arith}
+use borrow.Author.Tests.{not-true, not-false}
 use Rattle.machine.specs.Kinds.{placesOf}
 use Rattle.player.specs.Begin.{setupFrom, setupOf}
 use Rattle.player.proofs.BeginLaws.{setup-done, setup-damaged, setup-beyond, setup-taken}

@@ -1,10 +1,10 @@
-use Rattle.listing.proofs.Promises.{kept}
-use Rattle.listing.specs.Listing.{listingOf}
-use lib.ListN.{length, replicate, length-replicate}
-use native.Mathlib.Omega.{arith}
+use Prim.Native.Nat.{ℕ, _≤_}
 use mathlib.Core.List.{List}
 use mathlib.Core.Path.{_≡_, sym}
-use Prim.Native.Nat.{ℕ, _≤_}
+use native.Mathlib.Omega.{arith}
+use lib.ListN.{length, replicate, length-replicate}
+use Rattle.listing.proofs.Promises.{kept}
+use Rattle.listing.specs.Listing.{listingOf}
 use Rattle.wisteria.proofs.room.Statement.{statement}
 use Rattle.wisteria.proofs.room.Tie as tie
 
