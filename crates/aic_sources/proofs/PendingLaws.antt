@@ -4,15 +4,14 @@ use mathlib.Core.Bool.{Bool, true, false, not, _&&_, _||_}
 use mathlib.Core.List.{List}
 use Prim.Native.Nat.{ℕ, _/_, _%_, _^_, _<_}
 use native.Mathlib.Omega.{arith}
-use native.Mathlib.Decide.{decLt, ℕ-discrete}
+use native.Mathlib.Decide.{decLt}
 use borrow.Author.Tests.{eq-eqb, ne-eqb, lt-ltb, le-ltb}
 use lib.Dec.{eqb, ltb}
 use lib.ListN.{getD}
 use Rattle.words.specs.Choice.{pick}
-use Rattle.words.specs.Counting.{anyBelow}
 use Rattle.words.specs.Word.{bit, wordOf, either, both, without}
-use Rattle.words.proofs.CountingLaws.{any-same, any-none, any-fails}
-use Rattle.words.proofs.WordLaws.{bit-wordOf, wordOf-same, word-is, bit-either, bit-both, bit-without, either-lt, both-lt, bit-alone, bit-none, bit-some}
+use Rattle.words.proofs.CountingLaws.{any-same}
+use Rattle.words.proofs.WordLaws.{bit-wordOf, wordOf-same, word-is, bit-either, bit-both, bit-without, either-lt, both-lt, bit-alone, nonzero-any}
 use Rattle.aic_record.specs.declared.Aic.{Aic}
 use Rattle.aic_record.specs.Mode.{typeOf, edgeOf, modeAt, kind, edge}
 use Rattle.aic_sources.specs.Pending.{activeLow, activeAt, active, pending, asking, pendingWord, edgeWord}
@@ -122,17 +121,8 @@ bit-waits s k l =
 pub waits-are : (s : Aic) (w k : ℕ) → w ≡ without (wordOf 32 (asking s)) (wordOf 32 (fast s)) → k < 32 → bit w k ≡ waiting s k
 waits-are s w k e l = ap (λ (x : ℕ). bit x k) e ∙ bit-waits s k l
 
--- a word is 0 exactly if no bit of it is set
-any-bits : (w : ℕ) → w < 2 ^ 32 → not (eqb w 0) ≡ anyBelow 32 (bit w)
-any-bits w l = go (ℕ-discrete w 0) (anyBelow 32 (bit w)) refl
-  where
-    go : Dec (w ≡ 0) → (t : Bool) → anyBelow 32 (bit w) ≡ t → not (eqb w 0) ≡ anyBelow 32 (bit w)
-    go (yes e) t h = ap not (eq-eqb w 0 e) ∙ sym (any-none 32 (bit w) (λ k m. ap (λ (x : ℕ). bit x k) e ∙ bit-none k))
-    go (no n) true h = ap not (ne-eqb w 0 n) ∙ sym h
-    go (no n) false h = absurd (n (bit-some 32 w l (any-fails 32 (bit w) h)))
-
 pub fast-asks-by : (s : Aic) → not (eqb (both (wordOf 32 (fast s)) (wordOf 32 (asking s))) 0) ≡ fastAsks s
 unfolding fastAsks
 fast-asks-by s =
-    any-bits (both (wordOf 32 (fast s)) (wordOf 32 (asking s))) (both-lt (wordOf 32 (fast s)) (wordOf 32 (asking s)))
+    nonzero-any 32 (both (wordOf 32 (fast s)) (wordOf 32 (asking s))) (both-lt (wordOf 32 (fast s)) (wordOf 32 (asking s)))
     ∙ any-same 32 _ _ (λ k l. bit-both (wordOf 32 (fast s)) (wordOf 32 (asking s)) k l ∙ ap₂ _&&_ (bit-wordOf 32 (fast s) k l) (bit-wordOf 32 (asking s) k l))

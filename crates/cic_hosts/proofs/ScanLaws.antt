@@ -12,7 +12,7 @@ use Rattle.words.specs.Array.{bitAt, withBitAt, restAt}
 use Rattle.words.specs.Choice.{pick}
 use Rattle.words.specs.Counting.{anyBelow, countBelow, lowestBelow}
 use Rattle.words.specs.Word.{bit, both, kept}
-use Rattle.words.proofs.ArrayLaws.{bitAt-withBitAt, bitAt-word, lowest-same}
+use Rattle.words.proofs.ArrayLaws.{bitAt-withBitAt, bitAt-word, rest-ltb, lowest-same}
 use Rattle.words.proofs.ChoiceLaws.{pick-true, pick-false}
 use Rattle.words.proofs.CountingLaws.{count-same, any-more, any-add, any-same, any-some, some-any}
 use Rattle.words.proofs.TruthLaws.{and-left, and-right, and-both, clash, same-test, eqb-iff}
@@ -69,9 +69,6 @@ regroup true false false e = refl
 regroup false b true e = refl
 regroup false b false e = refl
 
-rest-ltb : (n k i : ℕ) → i < 32 → ltb i (restAt n k) ≡ ltb (32 * k + i) n
-rest-ltb n k i l = same-test (ltb i (n - 32 * k)) (ltb (32 * k + i) n) (λ e. lt-ltb (32 * k + i) n (omega (arith, ltb-true i (n - 32 * k) e))) (λ e. lt-ltb i (n - 32 * k) (omega (arith, ltb-true (32 * k + i) n e)))
-
 -- the bits of word k, those beyond the systems dropped, are the system interrupts from 32 * k on
 of-word : (c : Cic) (k h i : ℕ) → i < 32
     → goes (c .channel) (c .host) (32 * k) (kept (restAt (c .systems) k) (both (getD (c .status) k 0) (getD (c .enable) k 0))) h i ≡ counts c h (32 * k + i)
@@ -82,7 +79,7 @@ of-word c k h i l =
     (bit-kept (restAt (c .systems) k) (both (getD (c .status) k 0) (getD (c .enable) k 0)) i
     ∙ ap₂ (λ (a b : Bool). a && b)
     (bit-both (getD (c .status) k 0) (getD (c .enable) k 0) i l ∙ ap₂ (λ (a b : Bool). a && b) (sym (bitAt-word (c .status) k i l)) (sym (bitAt-word (c .enable) k i l)))
-    (rest-ltb (c .systems) k i l))
+    (rest-ltb (c .systems) k i))
     ∙ regroup (bitAt (c .status) (32 * k + i)) (bitAt (c .enable) (32 * k + i)) (ltb (32 * k + i) (c .systems)) to
 
 pub word-more : (c : Cic) (k h base w : ℕ) (o o′ : Bool) → base ≡ 32 * k → w ≡ kept (restAt (c .systems) k) (both (getD (c .status) k 0) (getD (c .enable) k 0))

@@ -3,27 +3,20 @@ use mathlib.Core.Path.{_≡_, sym, ap, ap₂, _∙_}
 use mathlib.Core.Bool.{Bool, true, not, _&&_, _||_}
 use mathlib.Core.List.{List}
 use mathlib.Core.Logic.{_≢_}
-use Prim.Native.Nat.{ℕ, _+_, _-_, _*_, _<_}
-use native.Mathlib.Omega.{arith}
-use borrow.Author.Tests.{lt-ltb, ltb-true}
+use Prim.Native.Nat.{ℕ, _+_, _*_, _<_}
 use lib.Dec.{ltb}
 use lib.ListN.{getD, set, length}
 use lib.Seq.{getD-set-same, getD-set-other}
 use Rattle.words.specs.Array.{bitAt, restAt, cleanBelow}
 use Rattle.words.specs.Word.{bit, either, without, kept}
-use Rattle.words.proofs.ArrayLaws.{bitAt-word, clean-put, clean-word, clean-kept, clean-either, clean-without}
-use Rattle.words.proofs.TruthLaws.{same-test}
+use Rattle.words.proofs.ArrayLaws.{bitAt-word, rest-ltb, clean-put, clean-word, clean-kept, clean-either, clean-without}
 use Rattle.words.proofs.WordLaws.{bit-either, bit-without, bit-kept}
 use Rattle.cic_words.specs.Bits.{wordRead, bitsSet, bitsCleared, wordReplaced}
 
 -- ---- their bits
 
--- bit j of word k is one of the n exactly if thing 32 * k + j is
-in-use : (n k j : ℕ) → ltb j (restAt n k) ≡ ltb (32 * k + j) n
-in-use n k j = same-test (ltb j (n - 32 * k)) (ltb (32 * k + j) n) (λ e. lt-ltb (32 * k + j) n (omega (arith, ltb-true j (n - 32 * k) e))) (λ e. lt-ltb j (n - 32 * k) (omega (arith, ltb-true (32 * k + j) n e)))
-
 kept-bit : (n w k j : ℕ) → bit (kept (restAt n k) w) j ≡ (bit w j && ltb (32 * k + j) n)
-kept-bit n w k j = bit-kept (restAt n k) w j ∙ ap (λ (t : Bool). bit w j && t) (in-use n k j)
+kept-bit n w k j = bit-kept (restAt n k) w j ∙ ap (λ (t : Bool). bit w j && t) (rest-ltb n k j)
 
 -- the bits of the word that was put
 put-bit : (ws : List ℕ) (k x j : ℕ) → k < length ws → j < 32 → bitAt (set ws k x) (32 * k + j) ≡ bit x j

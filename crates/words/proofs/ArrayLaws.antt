@@ -6,8 +6,8 @@ use Prim.Native.Nat.{ℕ, zero, suc, _+_, _-_, _*_, _/_, _%_, _^_, _≤_, _<_}
 use native.Mathlib.Nat.{mod-lt, zero-div, div-eq-of-lt, lt-of-lt-of-le, lt-of-not-le}
 use native.Mathlib.Decide.{decLt, ℕ-discrete}
 use native.Mathlib.Omega.{arith}
-use borrow.Author.Tests.{eq-eqb, ne-eqb}
-use lib.Dec.{eqb}
+use borrow.Author.Tests.{ne-eqb, lt-ltb, ltb-true}
+use lib.Dec.{eqb, ltb}
 use lib.ListN.{length, getD, set, replicate}
 use lib.Pow.{pow-pos, pow-mono, shr-shr}
 use lib.Seq.{getD-set-same, getD-set-other, set-out}
@@ -15,9 +15,9 @@ use Rattle.words.specs.Array.{bitAt, withBitAt, restAt, cleanBelow, byte
 use Rattle.words.specs.Choice.{pick}
 use Rattle.words.specs.Counting.{anyBelow, allBelow, countBelow, lowestBelow}
 use Rattle.words.specs.Word.{bit, either, both, without, withBit, kept, clean}
-use Rattle.words.proofs.ChoiceLaws.{pick-true, pick-false}
+use Rattle.words.proofs.ChoiceLaws.{pick-false}
 use Rattle.words.proofs.CountingLaws.{any-none, any-same, any-add, all-none-yet, all-more, all-at, at-all, count-same, count-add, Lowest, lowest-found, lowest-one}
-use Rattle.words.proofs.TruthLaws.{eqb-iff}
+use Rattle.words.proofs.TruthLaws.{eqb-iff, same-test}
 use Rattle.words.proofs.WordLaws.{bit-past, bit-none, bit-some, bit-either, bit-both, bit-without, bit-withBit, either-lt, without-lt, withBit-lt, kept-lt, clean-lt, lt-clean, bits-clean}
 
 -- ---- the bits of an array
@@ -72,6 +72,12 @@ all-put p m ws k x all new = at-all m (λ i. p i (getD (set ws k x) i 0)) (λ i 
     go i b old (no n) d = ap (p i) (getD-set-other ws k i x 0 n) ∙ old
 
 -- ---- clean arrays
+
+-- bit i of word k belongs to one of n things exactly if thing 32 * k + i is one of them
+pub rest-ltb : (n k i : ℕ) → ltb i (restAt n k) ≡ ltb (32 * k + i) n
+rest-ltb n k i =
+    same-test (ltb i (n - 32 * k)) (ltb (32 * k + i) n) (λ e. lt-ltb (32 * k + i) n (omega (arith, ltb-true i (n - 32 * k) e)))
+    (λ e. lt-ltb i (n - 32 * k) (omega (arith, ltb-true (32 * k + i) n e)))
 
 -- a loop that looks at one word after the other
 pub clean-none-yet : (n : ℕ) (ws : List ℕ) → true ≡ cleanBelow 0 n ws

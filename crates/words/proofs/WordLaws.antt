@@ -16,7 +16,7 @@ use Rattle.words.specs.Choice.{pick}
 use Rattle.words.specs.Counting.{anyBelow, one, countBelow, lowestBelow}
 use Rattle.words.specs.Word.{bit, wordOf, either, both, without, withBit, kept, clean}
 use Rattle.words.proofs.ChoiceLaws.{pick-true, pick-false, pick-cases}
-use Rattle.words.proofs.CountingLaws.{any-some, any-fails, count-same, count-add, Lowest, lowest-found, lowest-one}
+use Rattle.words.proofs.CountingLaws.{any-some, some-any, any-fails, any-none, count-same, count-add, Lowest, lowest-found, lowest-one}
 use Rattle.words.proofs.TruthLaws.{clash, told}
 
 -- ---- a gathered word
@@ -371,6 +371,14 @@ some-bit n w l d = go (told (anyBelow n (bit w)))
     go : (anyBelow n (bit w) ≡ true) ⊎ (anyBelow n (bit w) ≡ false) → (k : ℕ) × (k < n) × (bit w k ≡ true)
     go (inl e) = any-some n (bit w) e
     go (inr e) = absurd (d (bit-some n w l (any-fails n (bit w) e)))
+
+-- a word is not 0 exactly if some bit of it is set
+pub nonzero-any : (n w : ℕ) → w < 2 ^ n → not (eqb w 0) ≡ anyBelow n (bit w)
+nonzero-any n w l = go (ℕ-discrete w 0)
+  where
+    go : Dec (w ≡ 0) → not (eqb w 0) ≡ anyBelow n (bit w)
+    go (yes e) = ap not (eq-eqb w 0 e) ∙ sym (any-none n (bit w) (λ k m. ap (λ (x : ℕ). bit x k) e ∙ bit-none k))
+    go (no d) = ap not (ne-eqb w 0 d) ∙ sym (let b = some-bit n w l d in some-any n (bit w) (b .0) (b .1) (b .2))
 
 -- a word with a bit is not 0
 pub bit-not-zero : (w k : ℕ) → bit w k ≡ true → w ≢ 0

@@ -1,0 +1,11 @@
+use mathlib.Core.Path.{ap}
+use Rattle.player.specs.declared.Played.{Played}
+use borrow.Author.Needs.{needs}
+use Rattle.exports.proofs.wisteria_refusal.Statement.{statement}
+use Rattle.exports.proofs.wisteria_refusal.Tie as tie
+
+returns : tie.Need-returns
+returns c = ap (λ (p : Played). p .refusal) (c .play .ensures)
+
+pub wisteria-refusal-spec : {M : Type 1} → statement M
+wisteria-refusal-spec = tie.close (tie.spec (λ c κs. search needs) returns)

@@ -1,0 +1,47 @@
+// The player and the listing for callers in Rust and C. A slice goes as a pointer and a length, in this order; a length and an offset are of the
+// width of a pointer. The caller answers for what its pointers point to.
+//
+//     size_t   wisteria_list(const uint8_t *trace, size_t trace_len, uint32_t limit, uint8_t *out, size_t out_len);
+//     uint32_t wisteria_steps(const uint8_t *trace, size_t trace_len, uint32_t limit);
+//     uint32_t wisteria_refusal(const uint8_t *trace, size_t trace_len, uint32_t limit);
+//     size_t   wisteria_offset(const uint8_t *trace, size_t trace_len, uint32_t limit);
+ghost use mathlib.Core.Path.{_≡_};
+ghost use Rattle.text.specs.Text.{laid};
+ghost use Rattle.player.specs.Play.{playOf};
+ghost use Rattle.listing.specs.Listing.{listingOf};
+
+// Writes the listing of a trace of at most `limit` steps to the start of the lent buffer. Answers the number of bytes written: what finds no room
+// is dropped, and the rest of the buffer stays as it was. A listing of at most 99,999 steps has at most 29 bytes for each step and 58 more.
+#[no_mangle]
+pub extern "C" fn wisteria_list(trace: &[u8], limit: u32, out: &mut [u8]) -> usize
+    ensures { λ r. ⌜ (now (out .exit), r) ≡ laid (now (out .entry)) (listingOf (now (trace .entry)) limit) ⌝ }
+{
+    listing::list(trace, limit, out)
+}
+
+// The number of steps played, refused ones among them: at most `limit`, and 0 where the trace has no accepted configuration.
+#[no_mangle]
+pub extern "C" fn wisteria_steps(trace: &[u8], limit: u32) -> u32
+    ensures { λ r. ⌜ r ≡ playOf (now (trace .entry)) limit .steps ⌝ }
+{
+    let p = player::play(trace, limit);
+    p.steps
+}
+
+// The number of the refusal that ended the play, 7 to 11, or 0 where the trace was played to its end.
+#[no_mangle]
+pub extern "C" fn wisteria_refusal(trace: &[u8], limit: u32) -> u32
+    ensures { λ r. ⌜ r ≡ playOf (now (trace .entry)) limit .refusal ⌝ }
+{
+    let p = player::play(trace, limit);
+    p.refusal
+}
+
+// The place of that refusal, counted in bytes from the start of the trace, or the number of bytes of the trace where there is none.
+#[no_mangle]
+pub extern "C" fn wisteria_offset(trace: &[u8], limit: u32) -> usize
+    ensures { λ r. ⌜ r ≡ playOf (now (trace .entry)) limit .offset ⌝ }
+{
+    let p = player::play(trace, limit);
+    p.offset
+}

@@ -1,0 +1,3 @@
+-- The listing of a trace, and what is promised of it.
+pub mod Listing
+pub mod Promises

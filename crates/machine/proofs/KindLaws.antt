@@ -1,0 +1,68 @@
+-- Choices by the kind of controller: what they give where the kind is known, and what holds of each.
+use Prim.Native.Nat.{ℕ, _≤_}
+use mathlib.Core.Path.{_≡_, refl, sym, ap, _∙_}
+use mathlib.Core.Bool.{Bool, true, false, _||_}
+use mathlib.Core.Logic.{_↔_, _≢_, _⊎_, inl, inr}
+use native.Mathlib.Decide.{ℕ-discrete}
+use native.Mathlib.Omega.{arith}
+use lib.Dec.{eqb, ltb}
+use borrow.Author.Tests.{eq-eqb, ne-eqb, eqb-true, le-ltb}
+use Rattle.words.proofs.ChoiceLaws.{pick-true, pick-false}
+use Rattle.words.proofs.TruthLaws.{or-either, or-left, or-right}
+use Rattle.aic.specs.Model.{within as aicWithin}
+use Rattle.coreinterrupt.specs.Model.{within as coreWithin}
+use Rattle.cic_record.specs.Sound.{withinOf as cicWithin}
+use Rattle.machine.specs.Kinds.{aicKind, coreKind, cicKind, byKind, isKind, placesOf, withinOf}
+
+-- what kind a number is
+pub data KindOf (kind : ℕ) : Type 0 where
+  isAic : kind ≡ aicKind → KindOf kind
+  isCore : kind ≡ coreKind → KindOf kind
+  isCic : kind ≡ cicKind → KindOf kind
+  isNone : kind ≢ aicKind → kind ≢ coreKind → kind ≢ cicKind → KindOf kind
+
+pub kind-of : (kind : ℕ) → KindOf kind
+kind-of kind = go (ℕ-discrete kind aicKind) (ℕ-discrete kind coreKind) (ℕ-discrete kind cicKind)
+  where
+    go : Dec (kind ≡ aicKind) → Dec (kind ≡ coreKind) → Dec (kind ≡ cicKind) → KindOf kind
+    go (yes a) b c = isAic a
+    go (no a) (yes b) c = isCore b
+    go (no a) (no b) (yes c) = isCic c
+    go (no a) (no b) (no c) = isNone a b c
+
+module _ {A : Type 0} (kind : ℕ) (a b c d : A) where
+  pub at-aic : kind ≡ aicKind → a ≡ byKind kind a b c d
+  unfolding byKind
+  at-aic e = pick-true _ (eq-eqb kind aicKind e)
+
+  pub at-core : kind ≡ coreKind → b ≡ byKind kind a b c d
+  unfolding byKind
+  at-core e = pick-true _ (eq-eqb kind coreKind e) ∙ pick-false _ (ne-eqb kind aicKind (λ z. omega arith))
+
+  pub at-cic : kind ≡ cicKind → c ≡ byKind kind a b c d
+  unfolding byKind
+  at-cic e =
+      pick-true _ (eq-eqb kind cicKind e) ∙ pick-false _ (ne-eqb kind coreKind (λ z. omega arith)) ∙ pick-false _ (ne-eqb kind aicKind (λ z. omega arith))
+
+  pub at-none : kind ≢ aicKind → kind ≢ coreKind → kind ≢ cicKind → d ≡ byKind kind a b c d
+  unfolding byKind
+  at-none e f g = pick-false _ (ne-eqb kind cicKind g) ∙ pick-false _ (ne-eqb kind coreKind f) ∙ pick-false _ (ne-eqb kind aicKind e)
+
+-- ---- which kinds there are
+
+pub known : (kind : ℕ) → (isKind kind ≡ true) ↔ ((kind ≡ aicKind) ⊎ ((kind ≡ coreKind) ⊎ (kind ≡ cicKind)))
+unfolding isKind
+known kind = (λ e. go (or-either (eqb kind aicKind || eqb kind coreKind) (eqb kind cicKind) e), back)
+  where
+    goes : (eqb kind aicKind ≡ true) ⊎ (eqb kind coreKind ≡ true) → (kind ≡ aicKind) ⊎ ((kind ≡ coreKind) ⊎ (kind ≡ cicKind))
+    goes (inl e) = inl (eqb-true kind aicKind e)
+    goes (inr e) = inr (inl (eqb-true kind coreKind e))
+
+    go : ((eqb kind aicKind || eqb kind coreKind) ≡ true) ⊎ (eqb kind cicKind ≡ true) → (kind ≡ aicKind) ⊎ ((kind ≡ coreKind) ⊎ (kind ≡ cicKind))
+    go (inl e) = goes (or-either (eqb kind aicKind) (eqb kind coreKind) e)
+    go (inr e) = inr (inr (eqb-true kind cicKind e))
+
+    back : (kind ≡ aicKind) ⊎ ((kind ≡ coreKind) ⊎ (kind ≡ cicKind)) → (eqb kind aicKind || eqb kind coreKind || eqb kind cicKind) ≡ true
+    back (inl e) = or-left (eqb kind cicKind) (or-left (eqb kind coreKind) (eq-eqb kind aicKind e))
+    back (inr (inl e)) = or-left (eqb kind cicKind) (or-right (eqb kind aicKind) (eq-eqb kind coreKind e))
+    back (inr (inr e)) = or-right (eqb kind aicKind || eqb kind coreKind) (eq-eqb kind cicKind e)

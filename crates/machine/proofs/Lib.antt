@@ -1,0 +1,6 @@
+-- The laws of kinds and of machines, and the proof of what is promised.
+pub mod KindLaws
+pub mod MachineLaws
+pub mod Promises
+pub mod ShownLaws
+pub mod StepLaws

@@ -1,0 +1,80 @@
+-- What a machine shows, by its kind, and that no number of it is over 256.
+use Prim.Native.Nat.{ℕ, _≤_}
+use mathlib.Core.Path.{_≡_, refl, sym, ap, _∙_}
+use mathlib.Core.Bool.{Bool, true, false}
+use mathlib.Core.Logic.{_≢_}
+use native.Mathlib.Omega.{arith}
+use lib.Dec.{eqb}
+use Rattle.words.specs.Choice.{pick}
+use Rattle.words.specs.Counting.{one, countBelow}
+use Rattle.words.proofs.ChoiceLaws.{pick-false}
+use Rattle.words.proofs.CountingLaws.{count-le}
+use Rattle.aic_record.specs.Sound.{sound as aicSound}
+use Rattle.aic_record.proofs.Promises.{kept as record-kept}
+use Rattle.aic_sources.specs.Fast.{fiq}
+use Rattle.aic_sources.specs.Normal.{irq}
+use Rattle.aic.specs.declared.Signals.{Signals as AicSignals}
+use Rattle.aic.specs.Model.{outputs as aicOutputs}
+use Rattle.aic.proofs.Promises.{kept as aic}
+use Rattle.coreinterrupt.specs.declared.Signals.{Signals as CoreSignals}
+use Rattle.coreinterrupt.specs.Model.{sound as coreSound, outputs as coreOutputs}
+use Rattle.coreinterrupt.proofs.Promises.{kept as core}
+use Rattle.cic_record.specs.declared.Outputs.{Outputs as CicOutputs}
+use Rattle.cic_record.specs.Sound.{sound as cicSound}
+use Rattle.cic_record.specs.Kinds.{hostNumber}
+use Rattle.cic_hosts.specs.Hosts.{assertedOf, outputsOf as cicOutputs, shownOf as cicShown}
+use Rattle.cic_hosts.proofs.Promises.{kept as hosts}
+use Rattle.machine.specs.declared.Columns.{Columns}
+use Rattle.machine.specs.declared.Machine.{Machine}
+use Rattle.machine.specs.Kinds.{aicKind, coreKind, cicKind}
+use Rattle.machine.specs.Machine.{sound}
+use Rattle.machine.specs.Steps.{aicColumns, coreColumns, cicColumns, noColumns, shownOf}
+use Rattle.machine.specs.Promises.{Small}
+use Rattle.machine.proofs.KindLaws.{KindOf, isAic, isCore, isCic, isNone, kind-of, at-aic, at-core, at-cic, at-none}
+use Rattle.machine.proofs.MachineLaws.{sound-aic, sound-core, sound-cic, sound-none}
+
+module _ (m : Machine) where
+  pub aic-shows : m .kind ≡ aicKind → shownOf m ≡ aicColumns (aicOutputs (m .aic))
+  unfolding shownOf
+  aic-shows e = sym (at-aic (m .kind) _ _ _ _ e)
+
+  pub core-shows : m .kind ≡ coreKind → shownOf m ≡ coreColumns (coreOutputs (m .core))
+  unfolding shownOf
+  core-shows e = sym (at-core (m .kind) _ _ _ _ e)
+
+  pub cic-shows : m .kind ≡ cicKind → shownOf m ≡ cicColumns (cicOutputs (m .cic))
+  unfolding shownOf
+  cic-shows e = sym (at-cic (m .kind) _ _ _ _ e)
+
+  no-shows : m .kind ≢ aicKind → m .kind ≢ coreKind → m .kind ≢ cicKind → shownOf m ≡ noColumns
+  unfolding shownOf
+  no-shows e f g = sym (at-none (m .kind) _ _ _ _ e f g)
+
+  -- a machine that is not sound shows nothing
+  pub unsound-shown : sound m ≡ false → noColumns ≡ shownOf m
+  unfolding cicOutputs
+  unsound-shown s = sym (go (kind-of (m .kind)))
+    where
+      go : KindOf (m .kind) → shownOf m ≡ noColumns
+      go (isAic k) = aic-shows k ∙ ap aicColumns (aic .outputsUnsound (m .aic) (sound-aic m k ∙ s))
+      go (isCore k) = core-shows k ∙ ap coreColumns (core .outputsRefused (m .core) (sound-core m k ∙ s))
+      go (isCic k) = cic-shows k ∙ ap cicColumns (sym (pick-false (cicShown (m .cic)) (sound-cic m k ∙ s)))
+      go (isNone a b c) = no-shows a b c
+
+  one-small : (t : Bool) → one t ≤ 256
+  one-small true = omega arith
+  one-small false = omega arith
+
+  -- a sound machine shows no number over 256
+  pub small : sound m ≡ true → Small (shownOf m)
+  small s = go (kind-of (m .kind))
+    where
+      go : KindOf (m .kind) → Small (shownOf m)
+      go (isAic k) =
+          let e = sound-aic m k ∙ s in
+          rw (aic-shows k) (rw (aic .outputsSound (m .aic) e) (one-small (irq (m .aic)), one-small (fiq (m .aic)), omega (arith, record-kept .soundIs (m .aic) .0 e .handlers)))
+      go (isCore k) = rw (core-shows k) (one-small (coreOutputs (m .core) .irq), one-small (coreOutputs (m .core) .fiq), omega arith)
+      go (isCic k) =
+          let e = sound-cic m k ∙ s in
+          rw (cic-shows k) (rw (hosts .counted (m .cic) e) (count-le 256 (λ h. assertedOf (m .cic) (hostNumber h))), hosts .lowestMost (m .cic) e, omega arith)
+      go (isNone a b c) = rw (no-shows a b c) (omega arith, omega arith, omega arith)

@@ -1,0 +1,9 @@
+use borrow.Author.Needs.{needs}
+use Rattle.machine.proofs.aic_columns.Statement.{statement}
+use Rattle.machine.proofs.aic_columns.Tie as tie
+
+returns : tie.Need-returns
+returns c = rw (c .before .one-if .ensures, c .one-if2 .ensures)
+
+pub aic-columns-spec : {M : Type 1} → statement M
+aic-columns-spec = tie.close (tie.spec (λ c κs. search needs) (λ c κs. search needs) returns)

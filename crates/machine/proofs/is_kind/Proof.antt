@@ -1,0 +1,11 @@
+use Rattle.machine.specs.Kinds.{isKind}
+use borrow.Author.Needs.{needs}
+use Rattle.machine.proofs.is_kind.Statement.{statement}
+use Rattle.machine.proofs.is_kind.Tie as tie
+
+returns : tie.Need-returns
+unfolding isKind
+returns c = search needs
+
+pub is-kind-spec : {M : Type 1} → statement M
+is-kind-spec = tie.close (tie.spec returns)

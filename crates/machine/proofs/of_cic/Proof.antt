@@ -1,0 +1,9 @@
+use borrow.Author.Needs.{needs}
+use Rattle.machine.proofs.of_cic.Statement.{statement}
+use Rattle.machine.proofs.of_cic.Tie as tie
+
+returns : tie.Need-returns
+returns c = rw (c .empty .ensures)
+
+pub of-cic-spec : {M : Type 1} → statement M
+of-cic-spec = tie.close (tie.spec (λ c κs. search needs) returns)

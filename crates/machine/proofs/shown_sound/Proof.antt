@@ -1,0 +1,40 @@
+use mathlib.Core.Path.{ap, sym, _∙_}
+use Rattle.machine.specs.Steps.{aicColumns, coreColumns, cicColumns}
+use Rattle.machine.proofs.MachineLaws.{sound-aic, sound-cic, third-kind}
+use Rattle.machine.proofs.ShownLaws.{aic-shows, core-shows, cic-shows, unsound-shown}
+use Rattle.cic.proofs.outputs_sound.Reads as outputs-sound-reads′
+use borrow.Author.Needs.{needs}
+use Rattle.machine.proofs.shown_sound.Statement.{statement}
+use Rattle.machine.proofs.shown_sound.Tie as tie
+
+outputs-sound-requires : tie.Need-outputs-sound-requires
+outputs-sound-requires c κs = sound-aic _ (c .before .if1 .taken) ∙ c .before .before .before .pre
+
+returns : tie.Need-returns
+returns c = c .aic-columns .ensures ∙ ap aicColumns (c .before .outputs-sound .ensures) ∙ sym (aic-shows _ (c .before .before .before .if1 .taken))
+
+returns-2 : tie.Need-returns-2
+returns-2 c = c .core-columns .ensures ∙ ap coreColumns (c .before .outputs .ensures) ∙ sym (core-shows _ (c .before .before .before .if2 .taken))
+
+outputs-sound-requires-2 : tie.Need-outputs-sound-requires-2
+outputs-sound-requires-2 c κs = let k = third-kind _ (c .before .before .before .before .before .pre) (c .before .before .before .if1 .left) (c .before .if2 .left) in
+    sound-cic _ k ∙ c .before .before .before .before .before .pre
+
+returns-3 : tie.Need-returns-3
+returns-3 c = let p = c .before .before .before in
+    let k = third-kind _ (p .before .before .before .before .pre) (p .before .before .if1 .left) (p .if2 .left) in
+    c .cic-columns .ensures ∙ ap cicColumns (c .before .outputs-sound2 .ensures) ∙ sym (cic-shows _ k)
+
+pub shown-sound-spec : {M : Type 1} → statement M
+shown-sound-spec =
+    tie.close
+    (tie.spec
+    outputs-sound-requires
+    (λ c κs. search needs)
+    returns
+    (λ c κs. search needs)
+    (λ c κs. search needs)
+    returns-2
+    outputs-sound-requires-2
+    (λ c κs. search needs)
+    returns-3)

@@ -1,0 +1,65 @@
+-- One controller of any kind, before and after its start, and when it is sound (01, "House trace").
+use Prim.Native.Nat.{ℕ, _+_}
+use mathlib.Core.Bool.{Bool, false}
+use mathlib.Core.List.{List, [], _∷_}
+use lib.ListN.{getD, set}
+use Rattle.aic_record.specs.declared.Aic.{Aic}
+use Rattle.aic_record.specs.Record.{reset}
+use Rattle.aic_record.specs.Sound.{sound as aicSound}
+use Rattle.aic.specs.Model.{start as aicStart}
+use Rattle.coreinterrupt_side.specs.Group.{idle}
+use Rattle.coreinterrupt.specs.declared.Core.{Core}
+use Rattle.coreinterrupt.specs.Model.{coreOf, start as coreStart, sound as coreSound}
+use Rattle.cic_record.specs.declared.Cic.{Cic}
+use Rattle.cic_record.specs.Sound.{sound as cicSound}
+use Rattle.cic_record.specs.Start.{fresh, started as cicStart}
+use Rattle.machine.specs.declared.Configuration.{Configuration}
+use Rattle.machine.specs.declared.Machine.{Machine}
+use Rattle.machine.specs.Kinds.{aicKind, coreKind, cicKind, byKind}
+
+-- ---- the numbers of a configuration
+
+-- none yet
+abbrev pub noNumbers : Configuration
+noNumbers = record { numbers = 0 ∷ 0 ∷ 0 ∷ 0 ∷ [] }
+
+-- the k-th put anew
+unfoldable pub withNumber : Configuration → ℕ → ℕ → Configuration
+withNumber c k v = record { numbers = set (c .numbers) k v }
+
+-- these put one after the other from the k-th on
+unfoldable pub filled : Configuration → ℕ → List ℕ → Configuration
+filled c k [] = c
+filled c k (n ∷ ns) = filled (withNumber c k n) (k + 1) ns
+
+abbrev pub numberIn : Configuration → ℕ → ℕ
+numberIn c k = getD (c .numbers) k 0
+
+-- ---- the machine
+
+-- all numbers are 0 (01, House trace)
+abbrev pub blank : Machine
+blank = record { kind = 0; aic = reset 0 0; core = coreOf (idle 0 0) (idle 0 0); cic = fresh 0 0 0 0 }
+
+-- a machine of each kind, with its record
+abbrev pub ofAic : Aic → Machine
+ofAic a = record { kind = aicKind; aic = a; core = blank .core; cic = blank .cic }
+
+abbrev pub ofCore : Core → Machine
+ofCore c = record { kind = coreKind; aic = blank .aic; core = c; cic = blank .cic }
+
+abbrev pub ofCic : Cic → Machine
+ofCic c = record { kind = cicKind; aic = blank .aic; core = blank .core; cic = c }
+
+-- the model's own start, with the numbers in their order (01, House trace)
+unfoldable pub startOf : ℕ → Configuration → Machine
+startOf kind c =
+    byKind kind
+    (ofAic (aicStart (numberIn c 0) (numberIn c 1) .aic))
+    (ofCore (coreStart (numberIn c 0) (numberIn c 1) (numberIn c 2) (numberIn c 3) .core))
+    (ofCic (cicStart (numberIn c 0) (numberIn c 1) (numberIn c 2) (numberIn c 3) .cic))
+    blank
+
+-- the record of its kind keeps the rules of its model (01, Numbers, 12)
+unfoldable pub sound : Machine → Bool
+sound m = byKind (m .kind) (aicSound (m .aic)) (coreSound (m .core)) (cicSound (m .cic)) false

@@ -1,0 +1,64 @@
+-- What a step does to a machine, and the three numbers that a listing shows of it (01, "House trace").
+use Prim.Native.Nat.{ℕ}
+use Rattle.words.specs.Counting.{one}
+use Rattle.steps.specs.declared.Step.{Step}
+use Rattle.steps.specs.Refusals.{unsound}
+use Rattle.aic_registers.specs.declared.Answer.{Answer as AicAnswer}
+use Rattle.aic.specs.declared.Signals.{Signals as AicSignals}
+use Rattle.aic.specs.Model.{step as aicStep, outputs as aicOutputs}
+use Rattle.coreinterrupt.specs.declared.Answer.{Answer as CoreAnswer}
+use Rattle.coreinterrupt.specs.declared.Signals.{Signals as CoreSignals}
+use Rattle.coreinterrupt.specs.Model.{step as coreStep, outputs as coreOutputs}
+use Rattle.cic_record.specs.declared.Answer.{Answer as CicAnswer}
+use Rattle.cic_record.specs.declared.Outputs.{Outputs as CicOutputs}
+use Rattle.cic_hosts.specs.Hosts.{outputsOf as cicOutputs}
+use Rattle.cic.specs.Stepping.{stepOf as cicStep}
+use Rattle.machine.specs.declared.Answer.{Answer}
+use Rattle.machine.specs.declared.Columns.{Columns}
+use Rattle.machine.specs.declared.Machine.{Machine}
+use Rattle.machine.specs.Kinds.{byKind}
+
+-- ---- steps
+
+-- what the model answers, its record put back into the machine
+abbrev pub afterAic : Machine → AicAnswer → Answer
+afterAic m a =
+    record { refusal = a .refusal; value = a .value; machine = record { kind = m .kind; aic = a .aic; core = m .core; cic = m .cic } }
+
+abbrev pub afterCore : Machine → CoreAnswer → Answer
+afterCore m a =
+    record { refusal = a .refusal; value = a .value; machine = record { kind = m .kind; aic = m .aic; core = a .core; cic = m .cic } }
+
+abbrev pub afterCic : Machine → CicAnswer → Answer
+afterCic m a =
+    record { refusal = a .refusal; value = a .value; machine = record { kind = m .kind; aic = m .aic; core = m .core; cic = a .cic } }
+
+-- a step that is refused: its number, the value 0 and the same machine (01, Numbers)
+abbrev pub refused : Machine → ℕ → Answer
+refused m n = record { refusal = n; value = 0; machine = m }
+
+-- the step of the model of its kind (01, House trace)
+unfoldable pub stepOf : Machine → Step → Answer
+stepOf m x =
+    byKind (m .kind) (afterAic m (aicStep (m .aic) x)) (afterCore m (coreStep (m .core) x)) (afterCic m (cicStep (m .cic) x)) (refused m unsound)
+
+-- ---- what a listing shows
+
+-- IRQ active, FIQ active, handlers open (01, House trace)
+abbrev pub aicColumns : AicSignals → Columns
+aicColumns o = record { first = one (o .irq); second = one (o .fiq); third = o .handlers }
+
+-- IRQ active, FIQ active, 0 (01, House trace)
+abbrev pub coreColumns : CoreSignals → Columns
+coreColumns o = record { first = one (o .irq); second = one (o .fiq); third = 0 }
+
+-- asserted hosts, the lowest of them or 256, 0 (01, House trace)
+abbrev pub cicColumns : CicOutputs → Columns
+cicColumns o = record { first = o .hosts; second = o .lowest; third = 0 }
+
+abbrev pub noColumns : Columns
+noColumns = record { first = 0; second = 0; third = 0 }
+
+-- the outputs of the model of its kind (01, House trace)
+unfoldable pub shownOf : Machine → Columns
+shownOf m = byKind (m .kind) (aicColumns (aicOutputs (m .aic))) (coreColumns (coreOutputs (m .core))) (cicColumns (cicOutputs (m .cic))) noColumns

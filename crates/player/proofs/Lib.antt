@@ -1,0 +1,6 @@
+-- The laws of beginnings and of reports.
+pub mod BeginLaws
+pub mod PlayLaws
+pub mod Promises
+pub mod SoLaws
+pub mod WayLaws

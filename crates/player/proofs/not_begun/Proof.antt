@@ -1,0 +1,9 @@
+use borrow.Author.Needs.{needs}
+use Rattle.player.proofs.not_begun.Statement.{statement}
+use Rattle.player.proofs.not_begun.Tie as tie
+
+returns : tie.Need-returns
+returns c = rw (c .empty .ensures)
+
+pub not-begun-spec : {M : Type 1} → statement M
+not-begun-spec = tie.close (tie.spec (λ c κs. search needs) returns)

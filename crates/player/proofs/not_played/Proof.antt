@@ -1,0 +1,9 @@
+use Rattle.player.proofs.PlayLaws.{report-ends}
+use Rattle.player.proofs.not_played.Statement.{statement}
+use Rattle.player.proofs.not_played.Tie as tie
+
+returns : tie.Need-returns
+returns c = report-ends _ _ _ _
+
+pub not-played-spec : {M : Type 1} → statement M
+not-played-spec = tie.close (tie.spec returns)

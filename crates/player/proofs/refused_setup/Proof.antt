@@ -1,0 +1,9 @@
+use borrow.Author.Needs.{needs}
+use Rattle.player.proofs.refused_setup.Statement.{statement}
+use Rattle.player.proofs.refused_setup.Tie as tie
+
+returns : tie.Need-returns
+returns c = rw (c .no-numbers .ensures)
+
+pub refused-setup-spec : {M : Type 1} → statement M
+refused-setup-spec = tie.close (tie.spec (λ c κs. search needs) returns)

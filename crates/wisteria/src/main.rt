@@ -1,0 +1,34 @@
+// Prints the listing of the trace on standard input.
+ghost use mathlib.Core.Path.{_≡_};
+ghost use mathlib.Core.List.{List};
+ghost use Prim.Native.Nat.{ℕ, _≤_};
+ghost use lib.ListN.{length};
+ghost use Rattle.text.specs.Text.{laid};
+ghost use Rattle.listing.specs.Listing.{listingOf};
+
+// The most steps that are played.
+const LIMIT: u32 = 20000;
+
+// One byte more is read than a trace may have, so that a longer one is told apart.
+fn main() {
+    let mut input = [0u8; 65537];
+    let n = io::read_full(0, &mut input);
+    let mut out = room();
+    let k = listed(&input[..n], &mut out);
+    io::write_all(1, &out[..k]);
+}
+
+// The listing that is printed.
+fn listed(trace: &[u8], out: &mut [u8]) -> usize
+    ensures { λ r. ⌜ (now (out .exit), r) ≡ laid (now (out .entry)) (listingOf (now (trace .entry)) 20000) ⌝ }
+{
+    listing::list(trace, LIMIT, out)
+}
+
+// A buffer that any such listing fits.
+fn room() -> [u8; 580058]
+    ensures { λ r. ⌜ 580058 ≡ length r ⌝ }
+    ensures any { λ r. ⌜ ((s : List ℕ) → length (listingOf s 20000) ≤ length r) ⌝ }
+{
+    [0; 580058]
+}
