@@ -99,26 +99,29 @@ nextPriorityNests = outputs (atLevelThree 4) .irq && starts (atLevelThree 4) 10
 unfoldable pub levelNotCleared : Bool
 levelNotCleared = pendingBit (ran (Write (4 * 9) 0x40 ∷ Line 9 1 ∷ Write iccr (2 ^ 9) ∷ [])) 9
 
--- an edge source that is not enabled has an edge: its bit in IPR is set, and IRQ is inactive
+-- source 9 is edge-triggered and not enabled, and its line has risen
 unfoldable pub disabledEdge : Aic
 disabledEdge = ran (Write (4 * 9) 0x63 ∷ Line 9 1 ∷ [])
 
+-- a disabled edge source has an edge: its bit in IPR is set, and IRQ is inactive
 unfoldable pub disabledEdgeKept : Bool
 disabledEdgeKept = pendingBit disabledEdge 9 && not (outputs disabledEdge .irq)
 
--- source 9 is forced, enabled and pending: FIQ alone is active, FVR answers vector 0, and source 9 stays pending
+-- source 9 is forced, enabled and pending, and vector 0 is written
 unfoldable pub forcedNine : Aic
 forcedNine = ran (Write svr (vectorFor 0) ∷ Write ffer (2 ^ 9) ∷ raise 9 3)
 
+-- a forced source: FIQ alone is active, FVR answers vector 0, and source 9 stays pending
 unfoldable pub forcedIsFast : Bool
 forcedIsFast =
     outputs forcedNine .fiq && not (outputs forcedNine .irq) && answers forcedNine fvr (vectorFor 0)
     && pendingBit (step forcedNine (Read fvr) .aic) 9
 
--- levels 0 to 7 are open and priority 7 waits: IVR answers SPU, and eight handlers are open
+-- handlers are open at levels 0 to 7, and source 9 waits at priority 7
 unfoldable pub allLevels : Aic
 allLevels = ran (tower 8 ++ raise 9 7)
 
+-- all levels open: IVR answers SPU, and eight handlers are open
 unfoldable pub eightAtMost : Bool
 eightAtMost = startsNone allLevels && eqb (outputs allLevels .handlers) 8
 
@@ -160,6 +163,7 @@ channelOneNotTwo =
 
 -- ---- the list
 
+-- the marked cases, in the paper's order (01, Both sides of each rule)
 unfoldable pub starred : List Bool
 starred =
     higherPriorityStarts

@@ -7,7 +7,7 @@ mod cic_steps;
 mod core_records;
 mod core_steps;
 mod say;
-mod trace_numbers;
+mod traces;
 
 fn main() {
     aic_steps::all();
@@ -17,5 +17,5 @@ fn main() {
     core_records::all();
     cic_steps::all();
     cic_records::all();
-    trace_numbers::all();
+    traces::all();
 }

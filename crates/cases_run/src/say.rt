@@ -14,6 +14,11 @@ pub(crate) fn decimal(n: u32) {
     io::print_decimal(1, n as u64);
 }
 
+// A place in a trace.
+pub(crate) fn place(at: usize) {
+    io::print_decimal(1, at as u64);
+}
+
 // A controller's name, as the listing has it.
 pub(crate) fn name(model: u32) {
     match model {

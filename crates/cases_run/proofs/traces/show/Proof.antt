@@ -1,8 +1,8 @@
 use lib.ListN.{length}
 use Prim.Native.Nat.{_-_}
 use borrow.Author.Needs.{needs}
-use Rattle.cases_run.proofs.trace_numbers.show.Statement.{statement}
-use Rattle.cases_run.proofs.trace_numbers.show.Tie as tie
+use Rattle.cases_run.proofs.traces.show.Statement.{statement}
+use Rattle.cases_run.proofs.traces.show.Tie as tie
 
 abbrev Inv-loop : tie.InvT-loop
 Inv-loop bytes i₀ i = Unit
