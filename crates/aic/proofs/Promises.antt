@@ -26,7 +26,7 @@ use Rattle.aic_registers.specs.Handlers.{answered, refused, ivrRead, fvrRead}
 use Rattle.aic_registers.specs.Effects.{moved}
 use Rattle.aic_registers.specs.Registers.{readAt, writtenAt}
 use Rattle.aic.specs.Model.{within, start, readNumber, writeNumber, lineNumber, read, write, line, step, outputs}
-use Rattle.aic.specs.Promises.{Settled, Promises}
+use Rattle.aic.specs.Promises.{Promises}
 use Rattle.aic.proofs.KindsLaws.{value-number}
 use Rattle.aic.proofs.SoundLaws.{step-sound, step-shaped}
 use Rattle.aic.proofs.EffectLaws.{the-map, reads-of, writes-of}
@@ -91,10 +91,6 @@ value-else : (o v : ℕ) → (valueRefusal o v ≡ carriedOut) ⊎ (valueRefusal
 unfolding valueRefusal
 value-else o v = pick-cases (λ (n : ℕ). (n ≡ carriedOut) ⊎ (n ≡ protecting)) (eqb o dcr && bit v 0) (λ _. inr refl) (λ _. inl refl)
 
--- two that are equal to a third
-settled : {A : Type 0} (a : A) → Settled a
-settled a r t p q = p ∙ sym q
-
 pub kept : Promises
 unfolding within start outputs pick
 kept =
@@ -126,11 +122,4 @@ kept =
       maskIdle = λ s m x ok e. mask-idle s m ok e x;
       outputsSound = λ s ok. rw ok;
       outputsUnsound = λ s e. rw e;
-      oneWithin = λ place value. settled (within place value);
-      oneStart = λ external lines. settled (start external lines);
-      oneRead = λ s o. settled (read s o);
-      oneWrite = λ s o v. settled (write s o v);
-      oneLine = λ s k l. settled (line s k l);
-      oneStep = λ s x. settled (step s x);
-      oneOutputs = λ s. settled (outputs s);
     }

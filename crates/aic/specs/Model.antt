@@ -1,6 +1,6 @@
 -- The controller as its callers see it: start, read, write, line step, step and outputs, refused ones among them.
 use Prim.Native.Nat.{ℕ}
-use mathlib.Core.Bool.{Bool, true, false}
+use mathlib.Core.Bool.{Bool, false}
 use lib.Dec.{eqb, ltb}
 use Rattle.words.specs.Choice.{pick}
 use Rattle.steps.specs.declared.Step.{Step}

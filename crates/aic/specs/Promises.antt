@@ -31,10 +31,6 @@ MaskFree (Read o) = (o ≢ cisr) × (o ≢ dcr)
 MaskFree (Write o v) = o ≢ dcr
 MaskFree (Line k l) = Unit {0}
 
--- any two outcomes that are allowed by a contract which names this answer are equal
-abbrev pub Settled : {A : Type 0} → A → Type 0
-Settled {A} answer = (r t : A) → r ≡ answer → t ≡ answer → r ≡ t
-
 pub record Promises : Type 0 where
   -- two configuration numbers, each any word; no start is refused, and its record is sound (01, AIC, Configuration)
   pub configuration : (place value : ℕ) → (within place value ≡ true) ↔ (place < 2)
@@ -91,11 +87,3 @@ pub record Promises : Type 0 where
   -- the outputs of a sound record, and 12 and nothing else exactly if it is not sound (01, Numbers; AIC)
   pub outputsSound : (s : Aic) → sound s ≡ true → outputs s ≡ record { refusal = carriedOut; irq = irq s; fiq = fiq s; handlers = s .depth }
   pub outputsUnsound : (s : Aic) → sound s ≡ false → outputs s ≡ record { refusal = unsound; irq = false; fiq = false; handlers = 0 }
-  -- any two outcomes that a public function's contract allows are equal (01, When a contract is strong enough)
-  pub oneWithin : (place value : ℕ) → Settled (within place value)
-  pub oneStart : (external lines : ℕ) → Settled (start external lines)
-  pub oneRead : (s : Aic) (o : ℕ) → Settled (read s o)
-  pub oneWrite : (s : Aic) (o v : ℕ) → Settled (write s o v)
-  pub oneLine : (s : Aic) (k l : ℕ) → Settled (line s k l)
-  pub oneStep : (s : Aic) (x : Step) → Settled (step s x)
-  pub oneOutputs : (s : Aic) → Settled (outputs s)

@@ -4,7 +4,7 @@ use mathlib.Core.Bool.{Bool, true, not, _&&_}
 use lib.Dec.{eqb}
 use lib.ListN.{set}
 use Rattle.words.specs.Choice.{pick}
-use Rattle.words.specs.Word.{bit, either, both, without, withBit}
+use Rattle.words.specs.Word.{either, both, without, withBit}
 use Rattle.aic_record.specs.declared.Aic.{Aic}
 use Rattle.aic_record.specs.Record.{withLines, withEnabled, withMemory, withForced, withMask, withMode, withVector}
 use Rattle.aic_record.specs.Mode.{typeOf, keptMode, kind, edge}

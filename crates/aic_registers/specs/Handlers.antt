@@ -1,6 +1,6 @@
 -- Starting and closing handlers, and the two vector reads (01, AIC, Fast side and Normal side; 003, 27.7.3.4, 27.7.4.3 and 27.7.4.5).
 use Prim.Native.Nat.{ℕ, _+_, _-_}
-use mathlib.Core.Bool.{Bool, false, _&&_}
+use mathlib.Core.Bool.{false}
 use lib.Dec.{eqb}
 use lib.ListN.{getD, set}
 use Rattle.words.specs.Choice.{pick}

@@ -1,6 +1,6 @@
 -- The register map (01, AIC, Map; 003, table 27-2): offsets under the maker's names, and what each register allows.
 use Prim.Native.Nat.{ℕ}
-use mathlib.Core.Bool.{Bool, _&&_}
+use mathlib.Core.Bool.{_&&_}
 use lib.Dec.{eqb, ltb, leb}
 use Rattle.words.specs.Choice.{pick}
 use Rattle.words.specs.Word.{bit}

@@ -1,6 +1,5 @@
 -- What a read of each register answers, and what a write of each does, where nothing refuses it (01, AIC, Map; 003, table 27-2).
 use Prim.Native.Nat.{ℕ, _+_, _-_, _*_, _/_}
-use mathlib.Core.Bool.{Bool}
 use lib.Dec.{eqb, ltb}
 use Rattle.words.specs.Choice.{pick}
 use Rattle.words.specs.Counting.{one}

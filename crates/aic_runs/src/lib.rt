@@ -1,2 +1,1 @@
 // Runs of the AT91 controller: what is counted over any list of steps, and what is promised of it. Definitions and theorems only.
-ghost use mathlib.Core.Path.{_≡_};

@@ -1,7 +1,7 @@
 -- Three reads of one register, before a step, after it and after a second one, are enough against every cheat.
 use Prim.Native.Nat.{ℕ}
 use mathlib.Core.Path.{_≡_, refl, sym, ap, _∙_, subst⁻¹}
-use mathlib.Core.Bool.{true, false}
+use mathlib.Core.Bool.{false}
 use borrow.Author.Tests.{eq-eqb}
 use lib.Dec.{eqb}
 use Rattle.words.proofs.TruthLaws.{clash}
@@ -26,7 +26,7 @@ use Rattle.cic_record.specs.Start.{fresh, configured, started}
 use Rattle.cic_layout.specs.Map.{singleAt, registerAt, accessOf}
 use Rattle.cic_registers.specs.Registers as Registers
 use Rattle.cic.specs.Stepping.{readAs, writeAs, stepAs}
-use Rattle.cases.specs.Cheats.{Outcome, Model, Keeps, NoCheat, aicModel, coreModel, cicModel}
+use Rattle.cases.specs.Cheats.{Model, Keeps, NoCheat, aicModel, coreModel, cicModel}
 
 -- what a read of the register at o answers
 abbrev seen : {R : Type 0} → Model R → R → ℕ → ℕ

@@ -1,4 +1,3 @@
--- The laws of steps, the proof of what is promised of them, and worked cases.
-pub mod Examples
+-- The laws of steps, and the proof of what is promised of them.
 pub mod Promises
 pub mod StepLaws

@@ -1,16 +1,13 @@
 -- The promises of the steps are kept.
-use mathlib.Core.Path.{_≡_, refl, sym, ap, subst, _∙_}
+use mathlib.Core.Path.{_≡_, refl, sym, ap, subst}
 use mathlib.Core.Bool.{Bool, true, false, not, _&&_}
 use mathlib.Core.Logic.{_≢_}
 use Prim.Native.Nat.{ℕ, _<_}
-use native.Mathlib.Decide.{ℕ-discrete}
 use borrow.Author.Tests.{eqb-true}
 use lib.Dec.{eqb}
 use Rattle.words.specs.Array.{bitAt, withBitAt}
-use Rattle.words.specs.Choice.{pick}
 use Rattle.words.proofs.ArrayLaws.{clean-withBitAt}
 use Rattle.words.proofs.ChoiceLaws.{pick-true, pick-false, pick-cases}
-use Rattle.steps.specs.declared.Access.{Access}
 use Rattle.steps.specs.declared.Step.{Step}
 use Rattle.steps.specs.declared.Step.the-variants.{Read, Write, Line}
 use Rattle.steps.specs.Refusals.{carriedOut, readRefusal, writeRefusal, lineRefusal}
@@ -27,7 +24,7 @@ use Rattle.cic_layout.specs.Map.{registerAt, access}
 use Rattle.cic_registers.specs.Registers.{valueOf, valueRefusal, writtenTo}
 use Rattle.cic_registers.proofs.WrittenLaws.{value-number, sound-written}
 use Rattle.cic.specs.Promises.{Promises}
-use Rattle.cic.specs.Stepping.{unlessRefused, readAs, writeAs, moved, lineAs, stepAs, readOf, writeOf, lineOf, stepOf}
+use Rattle.cic.specs.Stepping.{readAs, writeAs, moved, lineAs, stepAs, readOf, writeOf, lineOf, stepOf}
 use Rattle.cic.proofs.StepLaws.{its-number, its-record}
 
 -- ---- the tables
@@ -138,5 +135,4 @@ kept =
       keepsLevel = keeps-level;
       falls = falls;
       staysHigh = stays-high;
-      same = λ c s a b p q. p ∙ sym q;
     }

@@ -1,22 +1,19 @@
 -- Refused or carried out: what a step answers by its number, and lines past the last one.
 use mathlib.Core.Path.{_≡_, refl, sym, ap, _∙_}
-use mathlib.Core.Bool.{Bool, true, false, not, _&&_}
-use mathlib.Core.List.{List}
-use Prim.Native.Nat.{ℕ, _/_, _≤_}
+use mathlib.Core.Bool.{Bool, true, not, _&&_}
+use Prim.Native.Nat.{ℕ, _≤_}
 use native.Mathlib.Decide.{ℕ-discrete}
 use native.Mathlib.Omega.{arith}
 use borrow.Author.Tests.{eq-eqb, ne-eqb}
-use lib.Dec.{eqb}
 use lib.ListN.{length}
 use Rattle.words.specs.Array.{bitAt, withBitAt}
-use Rattle.words.specs.Choice.{pick}
 use Rattle.words.proofs.ArrayLaws.{withBitAt-past}
 use Rattle.words.proofs.ChoiceLaws.{pick-true, pick-false, pick-cases}
 use Rattle.steps.specs.Refusals.{carriedOut}
 use Rattle.cic_record.specs.declared.Answer.{Answer}
 use Rattle.cic_record.specs.declared.Cic.{Cic}
 use Rattle.cic_record.specs.declared.System.{System}
-use Rattle.cic_record.specs.Record.{withLines, withStatus, refused}
+use Rattle.cic_record.specs.Record.{refused}
 use Rattle.cic.specs.Stepping.{unlessRefused, moved}
 
 -- ---- by the number

@@ -7,7 +7,6 @@ use Rattle.words.specs.Array.{bitAt, withBitAt}
 use Rattle.steps.specs.declared.Step.{Step}
 use Rattle.steps.specs.Refusals.{carriedOut}
 use Rattle.steps.specs.Tables.{ReadTable, WriteTable, LineTable}
-use Rattle.cic_record.specs.declared.Answer.{Answer}
 use Rattle.cic_record.specs.declared.Cic.{Cic}
 use Rattle.cic_record.specs.declared.System.{System}
 use Rattle.cic_record.specs.Record.{refused}
@@ -35,5 +34,3 @@ pub record Promises : Type 0 where
   -- a falling line changes no status, and neither does a high line that is put high again (01, CIC, configuration)
   pub falls : (c : Cic) (s : System) → moved c s false .status ≡ c .status
   pub staysHigh : (c : Cic) (s : System) → bitAt (c .lines) (s .0) ≡ true → moved c s true .status ≡ c .status
-  -- any two outcomes that the contract of a step allows are equal (01, When a contract is strong enough)
-  pub same : (c : Cic) (s : Step) (a b : Answer) → a ≡ stepOf c s → b ≡ stepOf c s → a ≡ b

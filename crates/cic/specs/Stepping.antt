@@ -1,5 +1,5 @@
 -- Reads, writes and line steps, with their refusals (01, Numbers; 01, CIC).
-use mathlib.Core.Bool.{Bool, true, false, not, _&&_}
+use mathlib.Core.Bool.{Bool, true, not, _&&_}
 use Prim.Native.Nat.{ℕ}
 use lib.Dec.{eqb}
 use Rattle.words.specs.Array.{bitAt, withBitAt}

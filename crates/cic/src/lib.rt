@@ -1,19 +1,18 @@
 // The KeyStone CIC without prioritisation: start, reads, writes, lines, steps and outputs (01, CIC; 001).
 ghost use mathlib.Core.Path.{_≡_};
-ghost use mathlib.Core.Bool.{Bool, true};
-ghost use Prim.Native.Nat.{ℕ};
+ghost use mathlib.Core.Bool.{true};
 ghost use Rattle.words.specs.Array.{bitAt};
 ghost use Rattle.cic_record.specs.Kinds.{system};
 ghost use Rattle.cic_record.specs.Record.{refused, answered};
 ghost use Rattle.cic_record.specs.Sound.{withinOf, sound};
 ghost use Rattle.cic_record.specs.Start.{started};
-ghost use Rattle.cic_hosts.specs.Hosts.{assertedOf, shownOf, outputsOf};
+ghost use Rattle.cic_hosts.specs.Hosts.{assertedOf, outputsOf};
 ghost use Rattle.cic.specs.Stepping.{readAs, writeAs, moved, lineAs, stepAs, readOf, writeOf, lineOf, stepOf};
 use cic_record::Answer;
 use cic_record::Begun;
 use cic_record::Cic;
 use cic_record::Host;
-use cic_record::Outputs;
+use cic_record::Signals;
 use cic_record::System;
 use steps::Step;
 
@@ -68,14 +67,14 @@ pub fn step_sound(c: Cic, s: Step) -> Answer
 }
 
 // How many hosts are asserted and the lowest of them, or refusal 12 where the record is not sound.
-pub fn outputs(c: Cic) -> Outputs
+pub fn outputs(c: Cic) -> Signals
     ensures { λ r. ⌜ r ≡ outputsOf c ⌝ }
 {
     cic_hosts::outputs(c)
 }
 
 // The same of a record that is known to be sound: it is not looked at again.
-pub fn outputs_sound(c: Cic) -> Outputs
+pub fn outputs_sound(c: Cic) -> Signals
     requires { ⌜ sound c ≡ true ⌝ }
     ensures { λ r. ⌜ r ≡ outputsOf c ⌝ }
 {

@@ -1,14 +1,13 @@
 -- The promises of the asserted hosts are kept.
-use mathlib.Core.Path.{_≡_, refl, sym, ap, _∙_}
-use mathlib.Core.Bool.{Bool, true, false, _&&_}
+use mathlib.Core.Path.{_≡_, sym, ap, _∙_}
+use mathlib.Core.Bool.{true, false, _&&_}
 use mathlib.Core.Logic.{_↔_, ⊎-elim}
-use Prim.Native.Nat.{ℕ, _≤_, _<_}
+use Prim.Native.Nat.{ℕ}
 use native.Mathlib.Omega.{arith}
 use borrow.Author.Tests.{eq-eqb, eqb-true}
 use lib.Dec.{eqb}
 use Rattle.words.specs.Array.{bitAt}
-use Rattle.words.specs.Choice.{pick}
-use Rattle.words.specs.Counting.{anyBelow, countBelow, lowestBelow}
+use Rattle.words.specs.Counting.{anyBelow, countBelow}
 use Rattle.words.proofs.ArrayLaws.{clean-bit}
 use Rattle.words.proofs.ChoiceLaws.{pick-true, pick-false}
 use Rattle.words.proofs.CountingLaws.{any-some, some-any, Lowest, lowest-found}
@@ -16,7 +15,7 @@ use Rattle.words.proofs.TruthLaws.{and-left, and-right, and-both, told}
 use Rattle.steps.specs.Refusals.{unsound}
 use Rattle.cic_record.specs.declared.Cic.{Cic}
 use Rattle.cic_record.specs.declared.Host.{Host}
-use Rattle.cic_record.specs.declared.Outputs.{Outputs}
+use Rattle.cic_record.specs.declared.Signals.{Signals}
 use Rattle.cic_record.specs.Kinds.{system, hostNumber}
 use Rattle.cic_record.specs.Sound.{sound}
 use Rattle.cic_record.proofs.PartsLaws.{sound-parts}
@@ -64,7 +63,7 @@ shows c e = sym (pick-true (record { refusal = unsound; hosts = 0; lowest = 0 })
 
 refuses : (c : Cic) → sound c ≡ false → outputsOf c .refusal ≡ unsound
 unfolding outputsOf
-refuses c e = ap (λ (o : Outputs). o .refusal) (sym (pick-false (shownOf c) e))
+refuses c e = ap (λ (o : Signals). o .refusal) (sym (pick-false (shownOf c) e))
 
 refused : (c : Cic) → (outputsOf c .refusal ≡ unsound) ↔ (sound c ≡ false)
 unfolding shownOf
@@ -74,11 +73,11 @@ refused c = (there, refuses c)
     twelve e = omega arith
 
     there : outputsOf c .refusal ≡ unsound → sound c ≡ false
-    there e = ⊎-elim (λ (t : sound c ≡ true). absurd (twelve (sym (ap (λ (o : Outputs). o .refusal) (shows c t)) ∙ e))) (λ (t : sound c ≡ false). t) (told (sound c))
+    there e = ⊎-elim (λ (t : sound c ≡ true). absurd (twelve (sym (ap (λ (o : Signals). o .refusal) (shows c t)) ∙ e))) (λ (t : sound c ≡ false). t) (told (sound c))
 
 counted : (c : Cic) → sound c ≡ true → outputsOf c .hosts ≡ countBelow 256 (λ h. assertedOf c (hostNumber h))
 unfolding shownOf
-counted c e = ap (λ (o : Outputs). o .hosts) (shows c e)
+counted c e = ap (λ (o : Signals). o .hosts) (shows c e)
 
 low : (c : Cic) → sound c ≡ true → Lowest (λ h. assertedOf c (hostNumber h)) 256 (outputsOf c .lowest)
 unfolding shownOf
@@ -94,5 +93,4 @@ kept =
       lowestMost = λ c e. low c e .within;
       lowestAsserted = λ c e. low c e .found;
       noneBefore = λ c e. low c e .before;
-      same = λ c a b p q. p ∙ sym q;
     }

@@ -1,9 +1,9 @@
 -- What the scan of the words rests on: a host marked, one bit more, one word more, and all of them.
 use mathlib.Core.Path.{_≡_, refl, sym, ap, ap₂, _∙_}
-use mathlib.Core.Bool.{Bool, true, false, _&&_, _||_, or-false, or-assoc, and-true, and-false}
+use mathlib.Core.Bool.{Bool, true, false, _&&_, _||_, or-false, or-assoc, and-false}
 use mathlib.Core.List.{List}
 use Prim.Native.Nat.{ℕ, _+_, _-_, _*_, _/_, _%_, _^_, _≤_, _<_}
-use native.Mathlib.Decide.{decLt, ℕ-discrete}
+use native.Mathlib.Decide.{decLt}
 use native.Mathlib.Omega.{arith}
 use borrow.Author.Tests.{eq-eqb, ne-eqb, lt-ltb, ltb-true}
 use lib.Dec.{eqb, ltb}
@@ -12,15 +12,14 @@ use Rattle.words.specs.Array.{bitAt, withBitAt, restAt}
 use Rattle.words.specs.Choice.{pick}
 use Rattle.words.specs.Counting.{anyBelow, countBelow, lowestBelow}
 use Rattle.words.specs.Word.{bit, both, kept}
-use Rattle.words.proofs.ArrayLaws.{bitAt-withBitAt, bitAt-word, rest-ltb, lowest-same}
-use Rattle.words.proofs.ChoiceLaws.{pick-true, pick-false}
-use Rattle.words.proofs.CountingLaws.{count-same, any-more, any-add, any-same, any-some, some-any}
+use Rattle.words.proofs.ArrayLaws.{bitAt-withBitAt, bitAt-word, rest-ltb}
+use Rattle.words.proofs.CountingLaws.{count-same, any-more, any-add, any-same, any-some, some-any, lowest-same}
 use Rattle.words.proofs.TruthLaws.{and-left, and-right, and-both, clash, same-test, eqb-iff}
 use Rattle.words.proofs.WordLaws.{bit-none, bit-both, bit-kept}
 use Rattle.steps.specs.Refusals.{carriedOut}
 use Rattle.cic_record.specs.declared.Cic.{Cic}
 use Rattle.cic_record.specs.declared.Host.{Host}
-use Rattle.cic_record.specs.declared.Outputs.{Outputs}
+use Rattle.cic_record.specs.declared.Signals.{Signals}
 use Rattle.cic_record.specs.Kinds.{system, hostNumber}
 use Rattle.cic_hosts.specs.Hosts.{raises, assertedOf, shownOf}
 use Rattle.cic_hosts.specs.Scan.{channelIn, hostIn, goes}
@@ -140,7 +139,7 @@ no-host c h e l = not-allowed c h (ap (λ (w : ℕ). bit w (h .0 % 32)) (List·g
 
 -- the count and the lowest of words that hold the asserted hosts
 pub shown-words : (c : Cic) (ws : List ℕ) (n low : ℕ) → ((h : ℕ) → h < 256 → bitAt ws h ≡ assertedOf c (hostNumber h)) → n ≡ countBelow 256 (bitAt ws) → low ≡ lowestBelow 256 (bitAt ws)
-    → _≡_ {A = Outputs} (record { refusal = carriedOut; hosts = n; lowest = low }) (shownOf c)
+    → _≡_ {A = Signals} (record { refusal = carriedOut; hosts = n; lowest = low }) (shownOf c)
 unfolding shownOf
 shown-words c ws n low h e f =
     ap₂ (λ (a b : ℕ). record { refusal = carriedOut; hosts = a; lowest = b })

@@ -1,6 +1,5 @@
 -- Which host interrupts are asserted (01, CIC, outputs; 001, 1.3.1 to 1.3.4).
 use mathlib.Core.Bool.{Bool, _&&_}
-use Prim.Native.Nat.{ℕ}
 use lib.Dec.{eqb}
 use lib.ListN.{getD}
 use Rattle.words.specs.Array.{bitAt}
@@ -13,7 +12,7 @@ use Rattle.cic_record.specs.declared.Host.{Host}
 use Rattle.cic_record.specs.declared.System.{System}
 use Rattle.cic_record.specs.Kinds.{system, channelNumber, hostNumber}
 use Rattle.cic_record.specs.Sound.{sound}
-use Rattle.cic_record.specs.declared.Outputs.{Outputs}
+use Rattle.cic_record.specs.declared.Signals.{Signals}
 
 -- the channel of a system interrupt (001, 1.3.3)
 abbrev pub channelOf : Cic → System → Channel
@@ -32,10 +31,10 @@ unfoldable pub assertedOf : Cic → Host → Bool
 assertedOf c h = eqb (c .global) 1 && (bitAt (c .allow) (h .0) && anyBelow (c .systems) (λ s. raises c h (system s)))
 
 -- how many hosts are asserted, and the lowest of them, 256 where none is (01, House trace)
-unfoldable pub shownOf : Cic → Outputs
+unfoldable pub shownOf : Cic → Signals
 shownOf c =
     record { refusal = carriedOut; hosts = countBelow 256 (λ h. assertedOf c (hostNumber h)); lowest = lowestBelow 256 (λ h. assertedOf c (hostNumber h)) }
 
 -- the same of a sound record; any other is refused by 12 (01, Numbers)
-unfoldable pub outputsOf : Cic → Outputs
+unfoldable pub outputsOf : Cic → Signals
 outputsOf c = pick (sound c) (shownOf c) (record { refusal = unsound; hosts = 0; lowest = 0 })

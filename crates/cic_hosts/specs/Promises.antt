@@ -1,16 +1,15 @@
 -- What is promised of the asserted hosts.
-use mathlib.Core.Bool.{Bool, true, false}
+use mathlib.Core.Bool.{true, false}
 use mathlib.Core.Logic.{_↔_}
 use mathlib.Core.Path.{_≡_}
 use Prim.Native.Nat.{ℕ, _≤_, _<_}
 use Rattle.words.specs.Array.{bitAt}
 use Rattle.words.specs.Counting.{countBelow}
-use Rattle.steps.specs.Refusals.{carriedOut, unsound}
+use Rattle.steps.specs.Refusals.{unsound}
 use Rattle.cic_record.specs.declared.Cic.{Cic}
 use Rattle.cic_record.specs.declared.Host.{Host}
 use Rattle.cic_record.specs.Kinds.{system, hostNumber}
 use Rattle.cic_record.specs.Sound.{sound}
-use Rattle.cic_record.specs.declared.Outputs.{Outputs}
 use Rattle.cic_hosts.specs.Hosts.{channelOf, hostOf, assertedOf, outputsOf}
 
 -- there is a configured system interrupt, set and enabled, whose channel is mapped to h (01, CIC, outputs)
@@ -31,5 +30,3 @@ pub record Promises : Type 0 where
   pub lowestMost : (c : Cic) → sound c ≡ true → outputsOf c .lowest ≤ 256
   pub lowestAsserted : (c : Cic) → sound c ≡ true → outputsOf c .lowest < 256 → assertedOf c (hostNumber (outputsOf c .lowest)) ≡ true
   pub noneBefore : (c : Cic) → sound c ≡ true → (h : ℕ) → h < outputsOf c .lowest → assertedOf c (hostNumber h) ≡ false
-  -- any two outcomes that the contract of the outputs allows are equal (01, When a contract is strong enough)
-  pub same : (c : Cic) (a b : Outputs) → a ≡ outputsOf c → b ≡ outputsOf c → a ≡ b

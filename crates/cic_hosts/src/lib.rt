@@ -1,9 +1,9 @@
 // Which host interrupts of a CIC are asserted, how many, and the lowest of them (01, CIC, outputs).
 ghost use mathlib.Core.Path.{_≡_};
-ghost use mathlib.Core.Bool.{Bool, true, false, _&&_, _||_};
+ghost use mathlib.Core.Bool.{true, false, _&&_, _||_};
 ghost use Prim.Native.Nat.{ℕ, _<_, _≤_};
 ghost use lib.Dec.{eqb};
-ghost use lib.ListN.{getD, length};
+ghost use lib.ListN.{length};
 ghost use Rattle.words.specs.Array.{bitAt, withBitAt};
 ghost use Rattle.words.specs.Counting.{anyBelow, countBelow, lowestBelow};
 ghost use Rattle.cic_record.specs.Kinds.{system, hostNumber};
@@ -12,7 +12,7 @@ ghost use Rattle.cic_hosts.specs.Scan.{channelIn, hostIn, goes};
 use cic_record::Channel;
 use cic_record::Cic;
 use cic_record::Host;
-use cic_record::Outputs;
+use cic_record::Signals;
 use cic_record::System;
 
 // A byte of a map as a number.
@@ -173,13 +173,13 @@ pub fn asserted(c: Cic, h: Host) -> bool
 }
 
 // How many hosts are asserted and which is the lowest, of a record that is taken to be sound.
-pub fn shown(c: Cic) -> Outputs
+pub fn shown(c: Cic) -> Signals
     ensures { λ r. ⌜ r ≡ shownOf c ⌝ }
 {
     let ws = asserted_hosts(c);
     let hosts = count_of(ws);
     let lowest = lowest_of(ws);
-    Outputs {
+    Signals {
         refusal: steps::CARRIED_OUT,
         hosts: hosts,
         lowest: lowest,
@@ -187,13 +187,13 @@ pub fn shown(c: Cic) -> Outputs
 }
 
 // The same, or refusal 12 where the record is not sound.
-pub fn outputs(c: Cic) -> Outputs
+pub fn outputs(c: Cic) -> Signals
     ensures { λ r. ⌜ r ≡ outputsOf c ⌝ }
 {
     if cic_record::is_sound(c) {
         return shown(c);
     }
-    Outputs {
+    Signals {
         refusal: steps::UNSOUND,
         hosts: 0,
         lowest: 0,

@@ -1,6 +1,5 @@
 -- Which register stands at an offset, and what it may be used for (001, table 2-1; 01, CIC, registers).
 use Prim.Native.Nat.{ℕ, _-_, _*_, _/_}
-use mathlib.Core.Bool.{Bool}
 use lib.Dec.{eqb, ltb}
 use Rattle.words.specs.Choice.{pick}
 use Rattle.steps.specs.declared.Access.{Access}

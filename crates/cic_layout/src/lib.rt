@@ -1,6 +1,5 @@
 // The CIC's register map: which register stands at an offset, and what it may be used for (001, table 2-1; 01, CIC, registers).
 ghost use mathlib.Core.Path.{_≡_};
-ghost use Prim.Native.Nat.{ℕ};
 ghost use Rattle.cic_layout.specs.Map.{singleAt, registerAt, ifAny, accessOf};
 use cic_record::Cic;
 use steps::Access;

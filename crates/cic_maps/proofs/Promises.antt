@@ -1,19 +1,18 @@
 -- The promises of map registers are kept.
 use mathlib.Core.Path.{_≡_, refl, sym, ap, _∙_}
-use mathlib.Core.Bool.{Bool, true, false, _||_}
+use mathlib.Core.Bool.{true, _||_}
 use mathlib.Core.List.{List}
 use mathlib.Core.Logic.{_↔_, ⊎-elim}
-use Prim.Native.Nat.{ℕ, zero, suc, _+_, _*_, _/_, _%_, _^_, _<_, _≤_}
+use Prim.Native.Nat.{ℕ, zero, suc, _+_, _*_, _<_, _≤_}
 use native.Mathlib.Decide.{decLt, ℕ-discrete}
 use native.Mathlib.Omega.{arith}
-use borrow.Author.Tests.{lt-ltb, le-ltb, ltb-true, leb-true, le-leb}
+use borrow.Author.Tests.{lt-ltb, ltb-true, leb-true, le-leb}
 use lib.Dec.{leb, ltb}
-use lib.ListN.{getD, set, length, length-set}
+use lib.ListN.{getD, length, length-set}
 use lib.Seq.{getD-set-same, getD-set-other}
 use Rattle.words.specs.Array.{byteOf}
-use Rattle.words.specs.Choice.{pick}
-use Rattle.words.specs.Counting.{allBelow, sumBelow, upto}
-use Rattle.words.proofs.ChoiceLaws.{pick-true, pick-false, pick-cases}
+use Rattle.words.specs.Counting.{allBelow, upto}
+use Rattle.words.proofs.ChoiceLaws.{pick-cases}
 use Rattle.words.proofs.CountingLaws.{all-at, at-all}
 use Rattle.words.proofs.TruthLaws.{or-either, or-left, or-right}
 use Rattle.cic_maps.specs.Maps.{byteRead, mapRead, byteTaken, mapTaken, bytePut, mapPut}

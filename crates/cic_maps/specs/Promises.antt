@@ -6,7 +6,7 @@ use mathlib.Core.Path.{_≡_}
 use Prim.Native.Nat.{ℕ, _+_, _*_, _/_, _<_, _≤_}
 use lib.ListN.{getD, length}
 use Rattle.words.specs.Array.{byteOf}
-use Rattle.cic_maps.specs.Maps.{byteRead, mapRead, mapTaken, mapPut}
+use Rattle.cic_maps.specs.Maps.{mapRead, mapTaken, mapPut}
 
 pub record Promises : Type 0 where
   -- a register reads the bytes of its things, the lowest number in the lowest byte (01, CIC, registers; 001, 2.2.15)

@@ -1,6 +1,6 @@
 // Map registers: what they read, which values they take, and the record after they are written (01, CIC, registers).
 ghost use mathlib.Core.Path.{_≡_};
-ghost use Prim.Native.Nat.{ℕ, _+_, _*_, _<_};
+ghost use Prim.Native.Nat.{_+_, _*_, _<_};
 ghost use lib.ListN.{set};
 ghost use Rattle.words.specs.Array.{byteOf};
 ghost use Rattle.cic_record.specs.Record.{withChannel, withHost};

@@ -1,11 +1,11 @@
 -- A sound record part by part: what each part says, and that a part put anew keeps the record sound.
-use mathlib.Core.Path.{_≡_, refl, sym, ap, _∙_}
-use mathlib.Core.Bool.{Bool, true, false, _&&_}
+use mathlib.Core.Path.{_≡_, refl, ap, _∙_}
+use mathlib.Core.Bool.{Bool, true, _&&_}
 use mathlib.Core.List.{List}
-use Prim.Native.Nat.{ℕ, _≤_, _<_}
-use borrow.Author.Tests.{lt-ltb, le-leb}
+use Prim.Native.Nat.{ℕ, _<_}
+use borrow.Author.Tests.{lt-ltb}
 use lib.Dec.{eqb, ltb, leb}
-use lib.ListN.{getD, replicate}
+use lib.ListN.{replicate}
 use Rattle.words.specs.Array.{cleanBelow}
 use Rattle.words.specs.Choice.{pick}
 use Rattle.words.specs.Counting.{allBelow}

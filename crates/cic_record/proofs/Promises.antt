@@ -1,18 +1,16 @@
 -- The promises of the start and of sound records are kept.
 use mathlib.Core.Path.{_≡_, refl, sym, ap, _∙_}
-use mathlib.Core.Bool.{Bool, true, false, _&&_}
+use mathlib.Core.Bool.{true, false, _&&_}
 use mathlib.Core.Logic.{_⊎_, _↔_, ⊎-elim}
-use Prim.Native.Nat.{ℕ, _≤_, _<_}
+use Prim.Native.Nat.{ℕ}
 use native.Mathlib.Omega.{arith}
 use borrow.Author.Tests.{le-leb}
-use lib.Dec.{leb}
 use Rattle.words.specs.Choice.{pick}
 use Rattle.words.proofs.ArrayLaws.{clean-bit}
 use Rattle.words.proofs.ChoiceLaws.{pick-true, pick-false}
 use Rattle.words.proofs.TruthLaws.{and-left, and-right, and-both, told, not-holds}
 use Rattle.steps.specs.Refusals.{carriedOut, misconfigured}
 use Rattle.cic_record.specs.declared.Begun.{Begun}
-use Rattle.cic_record.specs.declared.Cic.{Cic}
 use Rattle.cic_record.specs.Promises.{InRange, Promises}
 use Rattle.cic_record.specs.Record.{begun}
 use Rattle.cic_record.specs.Sound.{withinOf, sound}
@@ -62,5 +60,4 @@ kept =
       startSound = λ s k h v r. ap (λ (b : Begun). sound (b .cic)) (begins s k h v (range-in s k h v r)) ∙ fresh-sound s k h v (range-in s k h v r);
       noStatusBeyond = λ c e s l b. clean-bit 32 (c .systems) (c .status) (sound-parts c e .status) s l (omega arith);
       noHostBeyond = λ c e h l b. clean-bit 8 (c .hosts) (c .allow) (sound-parts c e .allow) h l (omega arith);
-      same = λ s k h v a b p q. p ∙ sym q;
     }

@@ -1,8 +1,8 @@
 -- The two passes over a map, and what a sound record tells.
-use mathlib.Core.Path.{_≡_, refl, sym, ap, ap₂, _∙_}
-use mathlib.Core.Bool.{Bool, true, false, _&&_}
+use mathlib.Core.Path.{_≡_, sym, ap, ap₂, _∙_}
+use mathlib.Core.Bool.{Bool, true, _&&_}
 use mathlib.Core.List.{List}
-use Prim.Native.Nat.{ℕ, _+_, _-_, _≤_, _<_}
+use Prim.Native.Nat.{ℕ, _+_, _-_, _≤_}
 use native.Mathlib.Omega.{arith}
 use borrow.Author.Tests.{lt-ltb, le-ltb, leb-true}
 use lib.Dec.{eqb, ltb, leb}
@@ -35,10 +35,6 @@ pub clear-more : (m : List ℕ) (n i : ℕ) {o q : Bool} → n ≤ i → o ≡ a
 clear-more m n i l e f =
     all-more (λ j. eqb (getD m (n + j) 0) 0) (i - n) e (f ∙ ap (λ (j : ℕ). eqb (getD m j 0) 0) (omega arith))
     ∙ ap (λ (k : ℕ). allBelow k (λ j. eqb (getD m (n + j) 0) 0)) (omega arith)
-
--- tests that agree part by part
-pub and-parts : {a b p q : Bool} → a ≡ p → b ≡ q → (a && b) ≡ (p && q)
-and-parts e f = ap₂ (λ (x y : Bool). x && y) e f
 
 -- a whole array looked at: its length is the number of words
 pub whole : (m n : ℕ) (ws : List ℕ) {o : Bool} → length ws ≡ m → o ≡ cleanBelow (length ws) n ws → o ≡ cleanBelow m n ws

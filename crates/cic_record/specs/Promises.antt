@@ -1,13 +1,11 @@
 -- What is promised of the start and of sound records.
-use mathlib.Core.Bool.{Bool, true, false}
+use mathlib.Core.Bool.{true, false}
 use mathlib.Core.Logic.{_↔_}
 use mathlib.Core.Path.{_≡_}
 use Prim.Native.Nat.{ℕ, _≤_}
-use lib.ListN.{getD}
 use Rattle.steps.specs.Refusals.{carriedOut, misconfigured}
 use Rattle.words.specs.Array.{bitAt}
 use Rattle.cic_record.specs.declared.Cic.{Cic}
-use Rattle.cic_record.specs.declared.Begun.{Begun}
 use Rattle.cic_record.specs.Record.{begun}
 use Rattle.cic_record.specs.Sound.{sound}
 use Rattle.cic_record.specs.Start.{fresh, started}
@@ -30,5 +28,3 @@ pub record Promises : Type 0 where
   -- in a sound record no status bit beyond the systems is set, nor a host enable beyond the hosts (01, CIC, a sound record)
   pub noStatusBeyond : (c : Cic) → sound c ≡ true → (s : ℕ) → c .systems ≤ s → s ≤ 1023 → bitAt (c .status) s ≡ false
   pub noHostBeyond : (c : Cic) → sound c ≡ true → (h : ℕ) → c .hosts ≤ h → h ≤ 255 → bitAt (c .allow) h ≡ false
-  -- any two outcomes that the contract of a start allows are equal (01, When a contract is strong enough)
-  pub same : (systems channels hosts revision : ℕ) (a b : Begun) → a ≡ started systems channels hosts revision → b ≡ started systems channels hosts revision → a ≡ b

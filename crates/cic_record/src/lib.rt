@@ -1,14 +1,12 @@
 // The CIC's record, its three kinds of number, the start, and which records are sound (01, CIC).
 ghost use mathlib.Core.Path.{_≡_};
-ghost use mathlib.Core.Bool.{Bool, true, false, _&&_};
-ghost use Prim.Native.Nat.{ℕ, _+_, _-_, _≤_};
+ghost use mathlib.Core.Bool.{true, false, _&&_};
+ghost use Prim.Native.Nat.{_+_, _-_, _≤_};
 ghost use lib.Dec.{eqb, ltb, leb};
-ghost use lib.ListN.{getD, set, length};
-ghost use Rattle.words.specs.Array.{cleanBelow, restAt};
+ghost use lib.ListN.{getD, length};
+ghost use Rattle.words.specs.Array.{cleanBelow};
 ghost use Rattle.words.specs.Counting.{allBelow};
-ghost use Rattle.words.specs.Word.{clean};
-ghost use Rattle.cic_record.specs.Record.{refused, answered};
-ghost use Rattle.cic_record.specs.Sound.{between, withinOf, numbersSound, wordsSound, entrySound, mapsSound, sound};
+ghost use Rattle.cic_record.specs.Sound.{between, withinOf, wordsSound, entrySound, mapsSound, sound};
 ghost use Rattle.cic_record.specs.Start.{fresh, configured, started};
 
 // A system interrupt, a channel and a host interrupt count three separate things: none can be passed for another.
@@ -48,7 +46,7 @@ pub struct Answer {
 }
 
 // How many hosts are asserted, and the lowest of them, 256 where none is.
-pub struct Outputs {
+pub struct Signals {
     pub refusal: u32,
     pub hosts: u32,
     pub lowest: u32,

@@ -7,14 +7,14 @@ use Prim.Native.Nat.{ℕ, _+_, _-_, _*_, _/_, _<_, _≤_}
 use native.Mathlib.Decide.{decLt}
 use native.Mathlib.Omega.{arith}
 use borrow.Author.Tests.{lt-ltb, le-ltb}
-use lib.Dec.{eqb, ltb}
+use lib.Dec.{ltb}
 use lib.ListN.{length}
 use Rattle.words.specs.Array.{bitAt, withBitAt}
 use Rattle.words.specs.Choice.{pick}
 use Rattle.words.specs.Word.{bit}
 use Rattle.words.proofs.ArrayLaws.{bitAt-withBitAt}
 use Rattle.words.proofs.WordLaws.{bit-both}
-use Rattle.steps.specs.Refusals.{carriedOut, beyond}
+use Rattle.steps.specs.Refusals.{beyond}
 use Rattle.cic_record.specs.declared.Cic.{Cic}
 use Rattle.cic_words.specs.Bits.{wordRead}
 use Rattle.cic_words.proofs.BitsLaws.{read-bit}

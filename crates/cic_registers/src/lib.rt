@@ -1,7 +1,6 @@
 // The CIC's registers: what each one answers, which values it refuses and what a write does (01, CIC, registers; 001, 2.2).
 ghost use mathlib.Core.Path.{_≡_};
-ghost use mathlib.Core.Bool.{Bool};
-ghost use Prim.Native.Nat.{ℕ, _%_};
+ghost use Prim.Native.Nat.{_%_};
 ghost use Rattle.words.specs.Array.{withBitAt};
 ghost use Rattle.cic_record.specs.Record.{withGlobal, withStatus, withEnable, withAllow};
 ghost use Rattle.cic_maps.specs.Maps.{mapRead};

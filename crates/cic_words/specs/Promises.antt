@@ -1,5 +1,5 @@
 -- What is promised of registers of bits, bit by bit: bit j of register k is thing 32 * k + j.
-use mathlib.Core.Bool.{Bool, not, _&&_, _||_}
+use mathlib.Core.Bool.{not, _&&_, _||_}
 use mathlib.Core.List.{List}
 use mathlib.Core.Logic.{_≢_}
 use mathlib.Core.Path.{_≡_}

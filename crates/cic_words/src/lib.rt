@@ -1,6 +1,5 @@
 // Registers of bits: what they read, and the record after their bits are written (01, CIC, registers).
 ghost use mathlib.Core.Path.{_≡_};
-ghost use Prim.Native.Nat.{ℕ};
 ghost use lib.ListN.{getD, set};
 ghost use Rattle.words.specs.Array.{restAt, withBitAt};
 ghost use Rattle.words.specs.Word.{kept};

@@ -1,6 +1,5 @@
 -- Laws of the definitions, and the proof that the promises are kept.
 pub mod AnswerLaws
-pub mod CaseLaws
 pub mod ModelLaws
 pub mod OutputLaws
 pub mod Promises

@@ -1,6 +1,6 @@
 -- The promises of CoreInterrupt, kept.
 use Prim.Native.Nat.{ℕ, _<_, _≤_}
-use mathlib.Core.Path.{_≡_, refl, sym, _∙_}
+use mathlib.Core.Path.{_≡_, refl}
 use mathlib.Core.Logic.{inl}
 use lib.Dec.{eqb}
 use Rattle.steps.specs.Refusals.{readRefusal, writeRefusal, lineRefusal}
@@ -12,14 +12,9 @@ use Rattle.coreinterrupt_side.specs.Group.{groupWrite, moved}
 use Rattle.coreinterrupt.specs.Model.{side, sound, accepted, fiqOffset, register, access, valueAt, written, read, write, fiqLine, input, lineMoved, line}
 use Rattle.coreinterrupt.specs.Promises.{Promises}
 use Rattle.coreinterrupt.proofs.AnswerLaws.{either-way, number-is, taken}
-use Rattle.coreinterrupt.proofs.CaseLaws.{case-none, case-one}
 use Rattle.coreinterrupt.proofs.ModelLaws.{step-sound, step-refused, registers, zero-fiq, zero-irq, spare-irq, spare-fiq, fiq-offset, irq-offset, fiq-line, irq-line, with-irq, with-fiq}
 use Rattle.coreinterrupt.proofs.OutputLaws.{shown, hidden, irq-active, fiq-active, irq-level, fiq-level, levels-small}
 use Rattle.coreinterrupt.proofs.StartLaws.{limits, four-numbers, start-refused, start-zeros, start-taken, start-sound}
-
--- two values that are the same third one
-same : {A : Type 0} {x : A} (a b : A) → a ≡ x → b ≡ x → a ≡ b
-same a b p q = p ∙ sym q
 
 -- ---- the tables
 
@@ -113,9 +108,4 @@ kept =
       levelsSmall = levels-small;
       outputsTaken = λ c e. rw (shown c e);
       outputsRefused = hidden;
-      oneBegun = λ f i fl il. same;
-      oneAnswer = λ c s. same;
-      oneSignals = λ c. same;
-      caseNone = case-none;
-      caseOne = case-one;
     }

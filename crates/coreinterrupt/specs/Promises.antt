@@ -6,12 +6,9 @@ use mathlib.Core.Logic.{_↔_, _≢_, _⊎_}
 use lib.Dec.{eqb}
 use Rattle.steps.specs.declared.Access.the-variants.{NoRegister}
 use Rattle.steps.specs.declared.Step.{Step}
-use Rattle.steps.specs.Refusals.{carriedOut, unreadable, misconfigured, unsound}
+use Rattle.steps.specs.Refusals.{carriedOut, misconfigured, unsound}
 use Rattle.steps.specs.Tables.{ReadTable, WriteTable, LineTable}
 use Rattle.coreinterrupt.specs.declared.Core.{Core}
-use Rattle.coreinterrupt.specs.declared.Begun.{Begun}
-use Rattle.coreinterrupt.specs.declared.Answer.{Answer}
-use Rattle.coreinterrupt.specs.declared.Signals.{Signals}
 use Rattle.coreinterrupt_side.specs.Group.{idle}
 use Rattle.coreinterrupt_side.specs.Promises.{SomeSource}
 use Rattle.coreinterrupt.specs.Model.{coreOf, sound, within, start, accepted, refused, access, valueAt, written, lineMoved, read, write, line, irqBase, irqLimit, step, outputs}
@@ -90,12 +87,3 @@ pub record Promises : Type 0 where
   -- of a record that is not sound the answer is refusal 12 and zeros (01, Numbers)
   pub outputsRefused : (c : Core) → sound c ≡ false
       → outputs c ≡ record { refusal = unsound; irq = false; fiq = false; irqlevel = 0; fiqlevel = 0 }
-  -- ---- what the contracts say is enough: any two answers that they allow are equal (01, When a contract is strong enough)
-  pub oneBegun : (f i fl il : ℕ) (a b : Begun) → a ≡ start f i fl il → b ≡ start f i fl il → a ≡ b
-  pub oneAnswer : (c : Core) (s : Step) (a b : Answer) → a ≡ step c s → b ≡ step c s → a ≡ b
-  pub oneSignals : (c : Core) (a b : Signals) → a ≡ outputs c → b ≡ outputs c → a ≡ b
-  -- ---- worked cases (01, Both sides of each rule)
-  -- no FIQ sources: a read of 0x04 answers 0
-  pub caseNone : read (start 0 8 0 0 .core) 0x04 ≡ accepted (start 0 8 0 0 .core) 0
-  -- one: refusal 3
-  pub caseOne : read (start 1 8 0 0 .core) 0x04 ≡ refused (start 1 8 0 0 .core) unreadable

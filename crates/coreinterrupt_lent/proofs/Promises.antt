@@ -58,6 +58,4 @@ kept =
       startNumber = start-number;
       startTaken = λ c d f i fl il r h z. h .1 ∙ taken-over c f i fl il (sym (reply-number (startOver c f i fl il) (h .0)) ∙ z);
       startAnswers = λ c d f i fl il r h. reply-value (startOver c f i fl il) (h .0) ∙ value-over c f i fl il;
-      oneStep = λ c d e s q r h k. (h .0 ∙ sym (k .0), h .1 ∙ sym (k .1));
-      oneStart = λ c d e f i fl il q r h k. (h .0 ∙ sym (k .0), h .1 ∙ sym (k .1));
     }

@@ -24,7 +24,3 @@ pub record Promises : Type 0 where
   pub startTaken : (c d : Core) (f i fl il : ℕ) (r : Reply) → Started c d f i fl il r → r .refusal ≡ carriedOut → d ≡ start f i fl il .core
   -- a start answers the value 0 (01, Numbers)
   pub startAnswers : (c d : Core) (f i fl il : ℕ) (r : Reply) → Started c d f i fl il r → r .value ≡ 0
-  -- any two outcomes that the contract of a step allows are equal, the lent bytes too (01, When a contract is strong enough)
-  pub oneStep : (c d e : Core) (s : Step) (q r : Reply) → Stepped c d s q → Stepped c e s r → (q ≡ r) × (d ≡ e)
-  -- and those that the contract of a start allows
-  pub oneStart : (c d e : Core) (f i fl il : ℕ) (q r : Reply) → Started c d f i fl il q → Started c e f i fl il r → (q ≡ r) × (d ≡ e)

@@ -15,7 +15,6 @@ use Rattle.steps.specs.Refusals.{carriedOut}
 use Rattle.steps.specs.declared.Step.{Step}
 use Rattle.steps.specs.declared.Step.the-variants.{Read, Write, Line}
 use Rattle.text.specs.Text.{newline, hexDigit, hexOf, decimalOf, field}
-use Rattle.machine.specs.declared.Answer.{Answer}
 use Rattle.machine.specs.declared.Columns.{Columns}
 use Rattle.machine.specs.declared.Machine.{Machine}
 use Rattle.machine.specs.Kinds.{nameOf}

@@ -1,6 +1,6 @@
 -- The worked example of 01 and the empty input, byte for byte, computed from the definitions (01, "House trace").
 use mathlib.Core.Path.{_≡_, refl}
-use mathlib.Core.List.{List, [], _∷_, _++_}
+use mathlib.Core.List.{List, [], _∷_}
 use Prim.Native.Nat.{ℕ}
 use Rattle.words.specs.Choice.{pick}
 use Rattle.words.specs.Counting.{anyBelow, allBelow, lowestBelow, sumBelow}

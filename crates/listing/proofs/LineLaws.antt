@@ -1,7 +1,7 @@
 -- What is left to list in each of the ways that a turn of the listing goes.
 use Prim.Native.Nat.{ℕ, _+_, _-_, _<_, _≤_}
 use mathlib.Core.Path.{_≡_, refl, sym, ap, _∙_}
-use mathlib.Core.List.{List, [], _∷_, _++_, append-assoc}
+use mathlib.Core.List.{List, _++_, append-assoc}
 use lib.ListN.{length}
 use borrow.Author.Tests.{eq-eqb, ne-eqb}
 use Rattle.words.proofs.ChoiceLaws.{pick-true, pick-false}
@@ -20,7 +20,7 @@ use Rattle.machine.specs.Kinds.{nameOf}
 use Rattle.machine.specs.Steps.{stepOf, shownOf}
 use Rattle.player.specs.declared.Begun.{Begun}
 use Rattle.player.specs.Begin.{beginOf}
-use Rattle.player.specs.Play.{recordsFrom, recordsOf}
+use Rattle.player.specs.Play.{recordsFrom}
 use Rattle.player.proofs.PlayLaws.{records-begun, records-refused}
 use Rattle.listing.specs.Listing.{letter, shownValue, lineOf, stepLine, linesFrom, joined, endOf, textFrom, nameLine, listingOf}
 

@@ -1,23 +1,20 @@
 -- The promises of a listing, kept.
-use Prim.Native.Nat.{ℕ, _+_, _≤_}
+use Prim.Native.Nat.{ℕ, _+_}
 use mathlib.Core.Path.{_≡_, refl, sym, ap, _∙_}
-use mathlib.Core.Bool.{Bool, true, false}
 use mathlib.Core.List.{List, [], _∷_, _++_}
 use mathlib.Core.Logic.{_≢_}
 use native.Mathlib.Decide.{ℕ-discrete}
 use native.Mathlib.Omega.{arith}
 use lib.Dec.{eqb}
-use lib.ListN.{length, drop}
+use lib.ListN.{length}
 use borrow.Author.Tests.{eq-eqb, ne-eqb}
 use Rattle.words.specs.Choice.{pick}
 use Rattle.words.specs.Counting.{one}
 use Rattle.steps.specs.Refusals.{carriedOut}
 use Rattle.steps.specs.declared.Step.{Step}
-use Rattle.text.specs.Text.{laid}
 use Rattle.text.proofs.Promises.{kept as text}
 use Rattle.text.proofs.WriteLaws.{write-laid}
-use Rattle.trace.specs.Trace.{Trace, stepsFrom}
-use Rattle.machine.specs.declared.Answer.{Answer}
+use Rattle.trace.specs.Trace.{Trace}
 use Rattle.machine.specs.declared.Machine.{Machine}
 use Rattle.machine.specs.Kinds.{nameOf}
 use Rattle.machine.specs.Steps.{stepOf}
@@ -87,5 +84,4 @@ kept =
       ended = ended;
       bounded = length-listing;
       fits = λ s l limit h. sym (write-laid l (listingOf s limit)) ∙ text .fits l (listingOf s limit) h;
-      sole = λ s l limit p q e f. e ∙ sym f;
     }

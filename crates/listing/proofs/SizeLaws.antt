@@ -1,20 +1,18 @@
 -- How long a listing is at most.
-use Prim.Native.Nat.{ℕ, zero, suc, _+_, _*_, _^_, _<_, _≤_}
-use mathlib.Core.Path.{_≡_, refl, sym, ap, _∙_}
+use Prim.Native.Nat.{ℕ, _+_, _*_, _^_, _<_, _≤_}
+use mathlib.Core.Path.{_≡_, refl, sym}
 use mathlib.Core.List.{List, [], _∷_, _++_}
 use native.Mathlib.Nat.{mul-suc, mul-le-mul-left}
 use native.Mathlib.Decide.{ℕ-discrete}
 use native.Mathlib.Omega.{arith}
 use lib.ListN.{length, length-append}
 use lib.Dec.{eqb}
-use Rattle.words.specs.Choice.{pick}
 use Rattle.words.proofs.ChoiceLaws.{pick-cases}
 use Rattle.steps.specs.Refusals.{carriedOut}
 use Rattle.steps.specs.declared.Step.{Step}
-use Rattle.text.specs.Text.{decimal, decimalOf, hex, hexOf, field}
+use Rattle.text.specs.Text.{field}
 use Rattle.text.proofs.DigitLaws.{length-hex, length-below, length-field}
 use Rattle.trace.specs.Trace.{Trace}
-use Rattle.machine.specs.declared.Answer.{Answer}
 use Rattle.machine.specs.declared.Columns.{Columns}
 use Rattle.machine.specs.declared.Machine.{Machine}
 use Rattle.machine.specs.Kinds.{byKind, nameOf}

@@ -10,8 +10,6 @@ use Rattle.words.specs.Counting.{one}
 use Rattle.steps.specs.Refusals.{carriedOut}
 use Rattle.text.specs.Text.{newline, laid}
 use Rattle.machine.specs.Kinds.{nameOf}
-use Rattle.player.specs.declared.Begun.{Begun}
-use Rattle.player.specs.declared.Played.{Played}
 use Rattle.player.specs.Begin.{beginOf}
 use Rattle.player.specs.Play.{recordsOf, playOf}
 use Rattle.listing.specs.Listing.{linesFrom, joined, endOf, listingOf}
@@ -42,5 +40,3 @@ pub record Promises : Type 0 where
   -- in a buffer that is long enough stands the whole of it, and the rest is as it was
   pub fits : (s l : List ℕ) (limit : ℕ) → length (listingOf s limit) ≤ length l
       → laid l (listingOf s limit) ≡ (listingOf s limit ++ drop (length (listingOf s limit)) l, length (listingOf s limit))
-  -- the contract of `list` allows one buffer and one number (01, When a contract is strong enough)
-  pub sole : (s l : List ℕ) (limit : ℕ) (p q : List ℕ × ℕ) → p ≡ laid l (listingOf s limit) → q ≡ laid l (listingOf s limit) → p ≡ q

@@ -1,18 +1,15 @@
 -- Choices by the kind of controller: what they give where the kind is known, and what holds of each.
-use Prim.Native.Nat.{ℕ, _≤_}
-use mathlib.Core.Path.{_≡_, refl, sym, ap, _∙_}
-use mathlib.Core.Bool.{Bool, true, false, _||_}
+use Prim.Native.Nat.{ℕ}
+use mathlib.Core.Path.{_≡_, _∙_}
+use mathlib.Core.Bool.{true, _||_}
 use mathlib.Core.Logic.{_↔_, _≢_, _⊎_, inl, inr}
 use native.Mathlib.Decide.{ℕ-discrete}
 use native.Mathlib.Omega.{arith}
-use lib.Dec.{eqb, ltb}
-use borrow.Author.Tests.{eq-eqb, ne-eqb, eqb-true, le-ltb}
+use lib.Dec.{eqb}
+use borrow.Author.Tests.{eq-eqb, ne-eqb, eqb-true}
 use Rattle.words.proofs.ChoiceLaws.{pick-true, pick-false}
 use Rattle.words.proofs.TruthLaws.{or-either, or-left, or-right}
-use Rattle.aic.specs.Model.{within as aicWithin}
-use Rattle.coreinterrupt.specs.Model.{within as coreWithin}
-use Rattle.cic_record.specs.Sound.{withinOf as cicWithin}
-use Rattle.machine.specs.Kinds.{aicKind, coreKind, cicKind, byKind, isKind, placesOf, withinOf}
+use Rattle.machine.specs.Kinds.{aicKind, coreKind, cicKind, byKind, isKind}
 
 -- what kind a number is
 pub data KindOf (kind : ℕ) : Type 0 where

@@ -1,40 +1,32 @@
 -- Laws of machines: configurations, starts, and soundness by kind.
-use Prim.Native.Nat.{ℕ, _+_, _≤_}
+use Prim.Native.Nat.{ℕ, _≤_}
 use mathlib.Core.Path.{_≡_, refl, sym, ap, _∙_}
-use mathlib.Core.Bool.{Bool, true, false, _&&_, false≢true}
+use mathlib.Core.Bool.{true, false, false≢true}
 use mathlib.Core.List.{List, [], _∷_}
 use mathlib.Core.Logic.{_≢_, ⊎-elim}
 use native.Mathlib.Omega.{arith}
-use lib.ListN.{length, getD, set}
+use lib.ListN.{length}
 use lib.Seq.{set-out}
-use lib.Dec.{eqb}
 use Rattle.words.specs.Choice.{pick}
 use Rattle.words.proofs.ChoiceLaws.{pick-true}
 use Rattle.words.proofs.TruthLaws.{and-both}
-use Rattle.steps.specs.Refusals.{carriedOut, misconfigured}
-use Rattle.aic_record.specs.declared.Aic.{Aic}
+use Rattle.steps.specs.Refusals.{carriedOut}
 use Rattle.aic_record.specs.Sound.{sound as aicSound}
-use Rattle.aic.specs.declared.Begun.{Begun as AicBegun}
 use Rattle.aic.specs.Model.{start as aicStart}
 use Rattle.aic_record.proofs.Promises.{kept as record-kept}
 use Rattle.aic.proofs.Promises.{kept as aic}
 use Rattle.coreinterrupt_side.specs.Group.{idle}
-use Rattle.coreinterrupt.specs.declared.Begun.{Begun as CoreBegun}
-use Rattle.coreinterrupt.specs.declared.Core.{Core}
 use Rattle.coreinterrupt.specs.Model.{coreOf, within as coreWithin, allWithin, start as coreStart, sound as coreSound}
 use Rattle.coreinterrupt.proofs.Promises.{kept as core}
 use Rattle.cic_record.specs.declared.Begun.{Begun as CicBegun}
-use Rattle.cic_record.specs.declared.Cic.{Cic}
-use Rattle.cic_record.specs.Record.{begun}
-use Rattle.cic_record.specs.Promises.{InRange}
 use Rattle.cic_record.specs.Sound.{withinOf as cicWithin, sound as cicSound}
 use Rattle.cic_record.specs.Start.{fresh, configured, started as cicStart}
 use Rattle.cic_record.proofs.Promises.{kept as cic}
 use Rattle.machine.specs.declared.Configuration.{Configuration}
 use Rattle.machine.specs.declared.Machine.{Machine}
 use Rattle.machine.specs.Kinds.{aicKind, coreKind, cicKind, byKind, isKind, placesOf, withinOf}
-use Rattle.machine.specs.Machine.{noNumbers, withNumber, filled, numberIn, blank, ofAic, ofCore, ofCic, startOf, sound}
-use Rattle.machine.specs.Promises.{Within, startWith, Shaped, Ready}
+use Rattle.machine.specs.Machine.{withNumber, filled, ofAic, ofCore, ofCic, startOf, sound}
+use Rattle.machine.specs.Promises.{Within, startWith, Ready}
 use Rattle.machine.proofs.KindLaws.{KindOf, isAic, isCore, isCic, isNone, kind-of, at-aic, at-core, at-cic, at-none, known}
 
 -- ---- configurations

@@ -1,10 +1,10 @@
 -- The promises of a machine, kept.
 use Prim.Native.Nat.{ℕ, _≤_}
-use mathlib.Core.Path.{_≡_, refl, sym, ap, _∙_}
-use mathlib.Core.Bool.{Bool, true, false}
-use mathlib.Core.Logic.{_≢_, inl, inr}
+use mathlib.Core.Path.{_≡_, refl, sym, _∙_}
+use mathlib.Core.Bool.{false}
+use mathlib.Core.Logic.{inl, inr}
 use native.Mathlib.Omega.{arith}
-use lib.Dec.{eqb, ltb}
+use lib.Dec.{ltb}
 use borrow.Author.Tests.{ne-eqb, le-ltb}
 use Rattle.words.specs.Choice.{pick}
 use Rattle.words.proofs.ChoiceLaws.{pick-false}
@@ -16,7 +16,7 @@ use Rattle.coreinterrupt.specs.Model.{within as coreWithin}
 use Rattle.coreinterrupt.proofs.Promises.{kept as core}
 use Rattle.cic_record.specs.Sound.{withinOf as cicWithin}
 use Rattle.machine.specs.declared.Machine.{Machine}
-use Rattle.machine.specs.Kinds.{aicKind, coreKind, cicKind, byKind, isKind, placesOf, withinOf}
+use Rattle.machine.specs.Kinds.{byKind, isKind, placesOf, withinOf}
 use Rattle.machine.specs.Steps.{refused, stepOf}
 use Rattle.machine.specs.Promises.{Promises}
 use Rattle.machine.proofs.KindLaws.{KindOf, isAic, isCore, isCic, isNone, kind-of, at-aic, at-core, at-cic, at-none, known}
@@ -71,6 +71,4 @@ kept =
       coreShows = core-shows;
       cicShows = cic-shows;
       shownSmall = small;
-      soleStep = λ m x r q e f. e ∙ sym f;
-      soleShown = λ m r q e f. e ∙ sym f;
     }

@@ -1,37 +1,29 @@
 -- What a machine shows, by its kind, and that no number of it is over 256.
-use Prim.Native.Nat.{ℕ, _≤_}
-use mathlib.Core.Path.{_≡_, refl, sym, ap, _∙_}
+use Prim.Native.Nat.{_≤_}
+use mathlib.Core.Path.{_≡_, sym, ap, _∙_}
 use mathlib.Core.Bool.{Bool, true, false}
 use mathlib.Core.Logic.{_≢_}
 use native.Mathlib.Omega.{arith}
-use lib.Dec.{eqb}
-use Rattle.words.specs.Choice.{pick}
-use Rattle.words.specs.Counting.{one, countBelow}
+use Rattle.words.specs.Counting.{one}
 use Rattle.words.proofs.ChoiceLaws.{pick-false}
 use Rattle.words.proofs.CountingLaws.{count-le}
-use Rattle.aic_record.specs.Sound.{sound as aicSound}
 use Rattle.aic_record.proofs.Promises.{kept as record-kept}
 use Rattle.aic_sources.specs.Fast.{fiq}
 use Rattle.aic_sources.specs.Normal.{irq}
-use Rattle.aic.specs.declared.Signals.{Signals as AicSignals}
 use Rattle.aic.specs.Model.{outputs as aicOutputs}
 use Rattle.aic.proofs.Promises.{kept as aic}
-use Rattle.coreinterrupt.specs.declared.Signals.{Signals as CoreSignals}
-use Rattle.coreinterrupt.specs.Model.{sound as coreSound, outputs as coreOutputs}
+use Rattle.coreinterrupt.specs.Model.{outputs as coreOutputs}
 use Rattle.coreinterrupt.proofs.Promises.{kept as core}
-use Rattle.cic_record.specs.declared.Outputs.{Outputs as CicOutputs}
-use Rattle.cic_record.specs.Sound.{sound as cicSound}
 use Rattle.cic_record.specs.Kinds.{hostNumber}
 use Rattle.cic_hosts.specs.Hosts.{assertedOf, outputsOf as cicOutputs, shownOf as cicShown}
 use Rattle.cic_hosts.proofs.Promises.{kept as hosts}
-use Rattle.machine.specs.declared.Columns.{Columns}
 use Rattle.machine.specs.declared.Machine.{Machine}
 use Rattle.machine.specs.Kinds.{aicKind, coreKind, cicKind}
 use Rattle.machine.specs.Machine.{sound}
 use Rattle.machine.specs.Steps.{aicColumns, coreColumns, cicColumns, noColumns, shownOf}
 use Rattle.machine.specs.Promises.{Small}
 use Rattle.machine.proofs.KindLaws.{KindOf, isAic, isCore, isCic, isNone, kind-of, at-aic, at-core, at-cic, at-none}
-use Rattle.machine.proofs.MachineLaws.{sound-aic, sound-core, sound-cic, sound-none}
+use Rattle.machine.proofs.MachineLaws.{sound-aic, sound-core, sound-cic}
 
 module _ (m : Machine) where
   pub aic-shows : m .kind ≡ aicKind → shownOf m ≡ aicColumns (aicOutputs (m .aic))

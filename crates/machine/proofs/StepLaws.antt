@@ -1,20 +1,16 @@
 -- Steps of a machine by its kind: what they are, that they keep it sound, and what a refused one answers.
-use Prim.Native.Nat.{ℕ}
 use mathlib.Core.Path.{_≡_, refl, sym, ap, _∙_}
-use mathlib.Core.Bool.{true, false, true≢false}
+use mathlib.Core.Bool.{false}
 use mathlib.Core.Logic.{_↔_, _≢_}
 use native.Mathlib.Omega.{arith}
 use Rattle.steps.specs.declared.Step.{Step}
 use Rattle.steps.specs.declared.Step.the-variants.{Read, Write, Line}
 use Rattle.steps.specs.Refusals.{carriedOut, unsound}
 use Rattle.aic_record.specs.Sound.{sound as aicSound}
-use Rattle.aic_registers.specs.declared.Answer.{Answer as AicAnswer}
 use Rattle.aic.specs.Model.{step as aicStep}
 use Rattle.aic.proofs.Promises.{kept as aic}
-use Rattle.coreinterrupt.specs.declared.Answer.{Answer as CoreAnswer}
 use Rattle.coreinterrupt.specs.Model.{sound as coreSound, step as coreStep}
 use Rattle.coreinterrupt.proofs.Promises.{kept as core}
-use Rattle.cic_record.specs.declared.Answer.{Answer as CicAnswer}
 use Rattle.cic_record.specs.Sound.{sound as cicSound}
 use Rattle.cic.specs.Stepping.{stepOf as cicStep, stepAs}
 use Rattle.cic.proofs.Promises.{kept as cic}
@@ -23,7 +19,7 @@ use Rattle.machine.specs.declared.Machine.{Machine}
 use Rattle.machine.specs.Kinds.{aicKind, coreKind, cicKind}
 use Rattle.machine.specs.Machine.{sound}
 use Rattle.machine.specs.Steps.{afterAic, afterCore, afterCic, refused, stepOf}
-use Rattle.machine.specs.Promises.{Shaped, Ready}
+use Rattle.machine.specs.Promises.{Ready}
 use Rattle.machine.proofs.KindLaws.{KindOf, isAic, isCore, isCic, isNone, kind-of, at-aic, at-core, at-cic, at-none}
 use Rattle.machine.proofs.MachineLaws.{sound-aic, sound-core, sound-cic, sound-none}
 

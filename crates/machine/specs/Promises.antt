@@ -14,7 +14,6 @@ use Rattle.cic_record.specs.Sound.{withinOf as cicWithin}
 use Rattle.cic_record.specs.Start.{started as cicStart}
 use Rattle.cic_hosts.specs.Hosts.{outputsOf as cicOutputs}
 use Rattle.cic.specs.Stepping.{stepOf as cicStep}
-use Rattle.machine.specs.declared.Answer.{Answer}
 use Rattle.machine.specs.declared.Columns.{Columns}
 use Rattle.machine.specs.declared.Machine.{Machine}
 use Rattle.machine.specs.Kinds.{aicKind, coreKind, cicKind, isKind, placesOf, withinOf}
@@ -83,8 +82,3 @@ pub record Promises : Type 0 where
   pub cicShows : (m : Machine) → m .kind ≡ cicKind → shownOf m ≡ cicColumns (cicOutputs (m .cic))
   -- of a sound machine none of them is over 256, the number that stands for no asserted host (01, House trace)
   pub shownSmall : (m : Machine) → sound m ≡ true → Small (shownOf m)
-  -- ---- contracts
-
-  -- a contract allows one outcome (01, When a contract is strong enough)
-  pub soleStep : (m : Machine) (x : Step) (r q : Answer) → r ≡ stepOf m x → q ≡ stepOf m x → r ≡ q
-  pub soleShown : (m : Machine) (r q : Columns) → r ≡ shownOf m → q ≡ shownOf m → r ≡ q

@@ -10,7 +10,7 @@ use Rattle.coreinterrupt.specs.declared.Answer.{Answer as CoreAnswer}
 use Rattle.coreinterrupt.specs.declared.Signals.{Signals as CoreSignals}
 use Rattle.coreinterrupt.specs.Model.{step as coreStep, outputs as coreOutputs}
 use Rattle.cic_record.specs.declared.Answer.{Answer as CicAnswer}
-use Rattle.cic_record.specs.declared.Outputs.{Outputs as CicOutputs}
+use Rattle.cic_record.specs.declared.Signals.{Signals as CicSignals}
 use Rattle.cic_hosts.specs.Hosts.{outputsOf as cicOutputs}
 use Rattle.cic.specs.Stepping.{stepOf as cicStep}
 use Rattle.machine.specs.declared.Answer.{Answer}
@@ -53,7 +53,7 @@ abbrev pub coreColumns : CoreSignals → Columns
 coreColumns o = record { first = one (o .irq); second = one (o .fiq); third = 0 }
 
 -- asserted hosts, the lowest of them or 256, 0 (01, House trace)
-abbrev pub cicColumns : CicOutputs → Columns
+abbrev pub cicColumns : CicSignals → Columns
 cicColumns o = record { first = o .hosts; second = o .lowest; third = 0 }
 
 abbrev pub noColumns : Columns

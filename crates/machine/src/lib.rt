@@ -5,7 +5,7 @@ ghost use Rattle.words.specs.Counting.{one};
 ghost use Rattle.text.specs.Text.{write};
 ghost use Rattle.machine.specs.Kinds.{isKind, placesOf, withinOf, nameOf};
 ghost use Rattle.machine.specs.Machine.{blank, noNumbers, withNumber, ofAic, ofCore, ofCic, startOf, sound};
-ghost use Rattle.machine.specs.Steps.{afterAic, afterCore, afterCic, refused, stepOf, aicColumns, coreColumns, cicColumns, noColumns, shownOf};
+ghost use Rattle.machine.specs.Steps.{afterAic, afterCore, afterCic, stepOf, aicColumns, coreColumns, cicColumns, shownOf};
 use aic_record::Aic;
 use cic_record::Cic;
 use coreinterrupt::Core;
@@ -312,7 +312,7 @@ fn core_columns(o: coreinterrupt::Signals) -> Columns
 }
 
 // Asserted hosts, the lowest of them, 0.
-fn cic_columns(o: cic_record::Outputs) -> Columns
+fn cic_columns(o: cic_record::Signals) -> Columns
     ensures { λ r. ⌜ r ≡ cicColumns o ⌝ }
 {
     Columns {

@@ -1,15 +1,15 @@
 -- A value has one form: as many bytes, and the same ones, wherever it is written.
-use Prim.Native.Nat.{ℕ, zero, suc, _+_, _-_, _*_, _^_, _%_, _<_, _≤_}
-use mathlib.Core.Path.{_≡_, refl, sym, ap, _∙_}
+use Prim.Native.Nat.{ℕ, zero, suc, _+_, _-_, _^_, _%_, _<_, _≤_}
+use mathlib.Core.Path.{_≡_, ap, _∙_}
 use mathlib.Core.List.{List}
-use mathlib.Core.Logic.{_⊎_, inl, inr, ⊎-elim}
-use native.Mathlib.Nat.{pow-le-pow-right, mod-lt, eq-or-lt-of-le}
-use native.Mathlib.Decide.{decLt, ℕ-discrete}
+use mathlib.Core.Logic.{_⊎_, inl, inr}
+use native.Mathlib.Nat.{pow-le-pow-right}
+use native.Mathlib.Decide.{ℕ-discrete}
 use native.Mathlib.Omega.{arith}
-use lib.ListN.{length, getD}
-use Rattle.numbers.specs.Number.{group, worthAt, sizeAt}
-use Rattle.numbers.proofs.GroupLaws.{worth, worth-lt, worth-le, same-digits}
-use Rattle.numbers.proofs.NumberLaws.{Sized, sized, Good, groupAt, group-lt}
+use lib.ListN.{getD}
+use Rattle.numbers.specs.Number.{group, worthAt}
+use Rattle.numbers.proofs.GroupLaws.{worth-lt, worth-le, same-digits}
+use Rattle.numbers.proofs.NumberLaws.{Sized, Good, groupAt, group-lt}
 
 -- n bytes whose last brings a bit are worth at least the unit of the last
 floor : (s : List ℕ) (at n v : ℕ) → Good s at n (worthAt s at n) → 1 < n → 128 ^ (n - 1) ≤ worthAt s at n

@@ -1,8 +1,8 @@
 -- Sums of groups: what n digits to the base 128 are worth, and that they are worth no less and no more than their own.
 use Prim.Native.Nat.{ℕ, zero, suc, _+_, _*_, _/_, _^_, _<_, _≤_}
-use mathlib.Core.Path.{_≡_, refl, sym, ap, _∙_}
+use mathlib.Core.Path.{_≡_, sym, ap, _∙_}
 use mathlib.Core.Logic.{⊎-elim}
-use native.Mathlib.Nat.{mul-le-mul-right, pow-le-pow-right, pow-succ', add-mul-div-right, div-eq-of-lt, zero-add, one-mul, le-of-suc-le-suc, eq-or-lt-of-le}
+use native.Mathlib.Nat.{mul-le-mul-right, pow-le-pow-right, pow-succ', add-mul-div-right, div-eq-of-lt, zero-add, le-of-suc-le-suc, eq-or-lt-of-le}
 use native.Mathlib.Numerals.{add-one}
 use native.Mathlib.Omega.{arith}
 use Rattle.words.specs.Counting.{sumBelow}

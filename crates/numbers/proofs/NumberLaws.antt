@@ -1,13 +1,13 @@
 -- How many bytes a number asks for, and what is known of a number that is refused or read.
-use Prim.Native.Nat.{ℕ, zero, suc, _+_, _-_, _*_, _^_, _%_, _<_, _≤_}
-use mathlib.Core.Path.{_≡_, refl, sym, ap, _∙_}
+use Prim.Native.Nat.{ℕ, _+_, _-_, _*_, _^_, _<_, _≤_}
+use mathlib.Core.Path.{_≡_, refl, ap, _∙_}
 use mathlib.Core.List.{List}
-use mathlib.Core.Bool.{Bool, true, false, _&&_, _||_}
+use mathlib.Core.Bool.{Bool, true, false, _||_}
 use native.Mathlib.Nat.{mod-lt, eq-or-lt-of-le}
 use mathlib.Core.Logic.{_⊎_, inl, inr, ⊎-elim}
 use native.Mathlib.Omega.{arith}
 use borrow.Author.Tests.{lt-ltb, ltb-true, ltb-false, leb-true, leb-false, eq-eqb, eqb-true}
-use lib.Dec.{ltb, leb, eqb}
+use lib.Dec.{ltb, eqb}
 use lib.ListN.{length, getD}
 use Rattle.words.specs.Counting.{sumBelow, lowestBelow}
 use Rattle.words.proofs.CountingLaws.{Lowest, lowest-found, lowest-one}
@@ -15,7 +15,6 @@ use Rattle.words.proofs.TruthLaws.{and-left, and-right, and-both, or-either, or
 use Rattle.numbers.specs.Number.{closes, group, sizeAt, worthAt, cutShort, tooLarge, tooLong, notShortest, faulty, answer, numberAt}
 use Rattle.steps.specs.Refusals.{damaged}
 use Rattle.words.proofs.ChoiceLaws.{pick-true, pick-false}
-use Rattle.numbers.specs.declared.Number.{Number}
 use Rattle.numbers.specs.declared.Number.the-variants.{Value, Refused}
 use Rattle.words.proofs.TruthLaws.{or-neither}
 use Rattle.numbers.proofs.GroupLaws.{worth-more, worth-lt}

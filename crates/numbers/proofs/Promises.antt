@@ -82,7 +82,6 @@ kept =
       value = λ s at e. ap (λ (t : Told). t .value) (taken s at e .1);
       fits = fits;
       next = next;
-      sole = λ s at r q e f. e ∙ sym f;
       oneForm =
           λ s t a b hs ht p q e.
           let x = taken s a p in

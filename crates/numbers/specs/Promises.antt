@@ -5,7 +5,6 @@ use mathlib.Core.List.{List}
 use mathlib.Core.Logic.{_↔_, _≢_, _⊎_}
 use lib.ListN.{length, getD}
 use Rattle.steps.specs.Refusals.{carriedOut, damaged}
-use Rattle.numbers.specs.declared.Number.{Number}
 use Rattle.numbers.specs.Number.{group, sizeAt, worthAt, numberAt, Told, told}
 
 -- what the number at a place tells
@@ -43,5 +42,3 @@ pub record Promises : Type 0 where
   -- a value has one form: numbers that tell the same value are written with the same bytes (01, House trace, shortest form)
   pub oneForm : (s t : List ℕ) (a b : ℕ) → Bytes s → Bytes t → toldAt s a .refusal ≡ carriedOut → toldAt t b .refusal ≡ carriedOut
       → toldAt s a .value ≡ toldAt t b .value → SameForm s a t b
-  -- the contract of `read_number` allows one answer (01, When a contract is strong enough)
-  pub sole : (s : List ℕ) (at : ℕ) (r q : Number) → r ≡ numberAt s at → q ≡ numberAt s at → r ≡ q

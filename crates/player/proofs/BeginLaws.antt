@@ -9,13 +9,11 @@ use Rattle.words.proofs.ChoiceLaws.{pick-true, pick-false}
 use Rattle.steps.specs.Refusals.{carriedOut, misconfigured}
 use Rattle.numbers.specs.Number.{numberAt}
 use Rattle.numbers.specs.declared.Number.the-variants.{Value, Refused}
-use Rattle.trace.specs.Trace.{Trace, ends, stepsFrom}
+use Rattle.trace.specs.Trace.{ends, stepsFrom}
 use Rattle.machine.specs.declared.Configuration.{Configuration}
 use Rattle.machine.specs.Kinds.{withinOf}
 use Rattle.machine.specs.Machine.{withNumber}
 use Rattle.player.specs.declared.Begun.{Begun}
-use Rattle.player.specs.declared.Played.{Played}
-use Rattle.player.specs.declared.Setup.{Setup}
 use Rattle.player.specs.Begin.{refusedSetup, acceptedSetup, byValue, setupFrom, beginOf}
 use Rattle.player.specs.Play.{recordsFrom, report, playOf}
 

@@ -1,13 +1,12 @@
 -- What a report is in each of the ways that a turn of the player goes, and what holds of all its steps.
 use Prim.Native.Nat.{ℕ, zero, suc, _+_, _-_, _<_, _≤_}
-use mathlib.Core.Path.{_≡_, refl, sym, ap, _∙_}
+use mathlib.Core.Path.{_≡_, sym, ap, _∙_}
 use mathlib.Core.List.{List, [], _∷_}
 use native.Mathlib.Nat.{add-zero}
 use native.Mathlib.Omega.{arith}
 use lib.ListN.{length}
 use lib.Dec.{eqb, ltb}
 use borrow.Author.Tests.{eq-eqb, ne-eqb}
-use Rattle.words.specs.Choice.{pick}
 use Rattle.words.proofs.ChoiceLaws.{pick-true, pick-false, pick-cases}
 use Rattle.steps.specs.Refusals.{carriedOut, limitReached}
 use Rattle.steps.specs.declared.Step.{Step}
@@ -17,12 +16,10 @@ use Rattle.trace.specs.Steps.{stepAt}
 use Rattle.trace.specs.Trace.{Trace, ends, after, goOn, stepsFrom}
 use Rattle.trace.proofs.TraceLaws.{trace-end, trace-limit, trace-refused, trace-step}
 use Rattle.machine.specs.declared.Machine.{Machine}
-use Rattle.machine.specs.declared.Answer.{Answer}
 use Rattle.machine.specs.Promises.{Ready}
 use Rattle.machine.specs.Steps.{stepOf}
 use Rattle.machine.proofs.StepLaws.{step-ready}
 use Rattle.player.specs.declared.Begun.{Begun}
-use Rattle.player.specs.declared.Played.{Played}
 use Rattle.player.specs.Play.{recordsFrom, runOf, report}
 
 -- nothing follows

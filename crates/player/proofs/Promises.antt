@@ -1,5 +1,5 @@
 -- The promises of a player, kept.
-use Prim.Native.Nat.{ℕ, _+_, _<_, _≤_}
+use Prim.Native.Nat.{ℕ, _<_, _≤_}
 use mathlib.Core.Path.{_≡_, refl, sym, ap, _∙_}
 use mathlib.Core.Bool.{true, false}
 use mathlib.Core.List.{List, [], _∷_}
@@ -12,13 +12,12 @@ use Rattle.steps.specs.Refusals.{carriedOut, limitReached, damaged, unknown, mi
 use Rattle.steps.specs.declared.Step.{Step}
 use Rattle.numbers.specs.Promises.{toldAt}
 use Rattle.trace.specs.declared.Next.{Next}
-use Rattle.trace.specs.declared.Next.the-variants.{Found, Refused}
+use Rattle.trace.specs.declared.Next.the-variants.{Refused}
 use Rattle.trace.specs.Promises.{Reads, Along, Ends}
-use Rattle.trace.specs.Steps.{stepAt, told}
+use Rattle.trace.specs.Steps.{told}
 use Rattle.trace.specs.Trace.{Trace}
 use Rattle.trace.proofs.Promises.{kept as trace-kept}
 use Rattle.trace.proofs.StepLaws.{Outcome, noKind as Outcome·noKind, unknownKind, noFirst, oneNumber, noSecond, twoNumbered, outcome}
-use Rattle.machine.specs.declared.Answer.{Answer}
 use Rattle.machine.specs.declared.Machine.{Machine}
 use Rattle.machine.specs.Kinds.{isKind, withinOf}
 use Rattle.machine.specs.Machine.{blank, sound}
@@ -254,6 +253,4 @@ kept =
       soundly = soundly;
       ends = ends;
       seven = λ s limit p. (seven-only s limit p, seven-so s limit p);
-      soleBeginning = λ s r q e f. e ∙ sym f;
-      solePlay = λ s limit r q e f. e ∙ sym f;
     }

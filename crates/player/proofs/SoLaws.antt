@@ -1,12 +1,11 @@
 -- What a beginning is where its numbers are known: each way leads to one answer.
 use Prim.Native.Nat.{ℕ, suc, _+_, _-_, _<_, _≤_}
-use mathlib.Core.Path.{_≡_, refl, sym, ap, _∙_}
+use mathlib.Core.Path.{_≡_, sym, ap, _∙_}
 use mathlib.Core.Bool.{true, false}
 use mathlib.Core.List.{List, [], _∷_}
 use native.Mathlib.Nat.{add-zero, zero-add}
 use native.Mathlib.Omega.{arith}
 use lib.ListN.{length}
-use lib.Dec.{eqb}
 use borrow.Author.Tests.{lt-ltb, le-ltb}
 use Rattle.words.specs.Choice.{pick}
 use Rattle.words.proofs.ChoiceLaws.{pick-true, pick-false}
@@ -14,17 +13,15 @@ use Rattle.steps.specs.Refusals.{carriedOut, damaged, unknown, misconfigured, t
 use Rattle.numbers.specs.Number.{numberAt}
 use Rattle.numbers.specs.Promises.{toldAt}
 use Rattle.numbers.specs.declared.Number.{Number}
-use Rattle.numbers.specs.declared.Number.the-variants.{Value, Refused}
+use Rattle.numbers.specs.declared.Number.the-variants.{Value}
 use Rattle.numbers.proofs.ReadLaws.{told-read, told-damaged}
 use Rattle.trace.specs.Promises.{Reads}
 use Rattle.machine.specs.declared.Configuration.{Configuration}
 use Rattle.machine.specs.Kinds.{isKind, placesOf, withinOf}
 use Rattle.machine.specs.Machine.{noNumbers, withNumber, filled}
 use Rattle.machine.specs.Promises.{Within, startWith}
-use Rattle.player.specs.declared.Begun.{Begun}
-use Rattle.player.specs.declared.Setup.{Setup}
 use Rattle.player.specs.Begin.{longest, refusedSetup, acceptedSetup, setupFrom, setupOf, notBegun, bySetup, byController, beginOf}
-use Rattle.player.specs.Promises.{Wanting, Configures}
+use Rattle.player.specs.Promises.{Wanting}
 use Rattle.player.proofs.BeginLaws.{setup-done, setup-damaged, setup-beyond, setup-taken}
 use Rattle.player.proofs.WayLaws.{begun}
 

@@ -9,7 +9,7 @@ use native.Mathlib.Numerals.{sub-one}
 use native.Mathlib.Omega.{arith}
 use lib.ListN.{length}
 use lib.Dec.{ltb}
-use borrow.Author.Tests.{lt-ltb, le-ltb, ltb-true, ltb-false}
+use borrow.Author.Tests.{ltb-true, ltb-false}
 use Rattle.words.specs.Choice.{pick}
 use Rattle.words.proofs.ChoiceLaws.{pick-true, pick-false}
 use Rattle.words.proofs.TruthLaws.{told as told-apart}
@@ -17,7 +17,7 @@ use Rattle.steps.specs.Refusals.{carriedOut, damaged, unknown, misconfigured, t
 use Rattle.numbers.specs.Number.{numberAt}
 use Rattle.numbers.specs.Promises.{toldAt}
 use Rattle.numbers.specs.declared.Number.the-variants.{Value, Refused}
-use Rattle.numbers.proofs.ReadLaws.{IsRead, number-is, told-read, told-damaged}
+use Rattle.numbers.proofs.ReadLaws.{IsRead, number-is}
 use Rattle.trace.specs.Promises.{Reads}
 use Rattle.machine.specs.declared.Configuration.{Configuration}
 use Rattle.machine.specs.declared.Machine.{Machine}

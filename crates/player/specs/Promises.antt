@@ -3,21 +3,17 @@ use Prim.Native.Nat.{ℕ, _<_, _≤_}
 use mathlib.Core.Path.{_≡_}
 use mathlib.Core.Bool.{true, false}
 use mathlib.Core.List.{List, [], _∷_}
-use mathlib.Core.Logic.{_↔_, _≢_, _⊎_}
+use mathlib.Core.Logic.{_↔_, _≢_}
 use lib.ListN.{length}
 use Rattle.steps.specs.Refusals.{carriedOut, limitReached, damaged, unknown, misconfigured, tooLong}
 use Rattle.steps.specs.declared.Step.{Step}
 use Rattle.numbers.specs.Promises.{toldAt}
 use Rattle.trace.specs.Promises.{Reads, Along, Ends}
-use Rattle.trace.specs.Trace.{Trace}
 use Rattle.machine.specs.declared.Machine.{Machine}
-use Rattle.machine.specs.declared.Answer.{Answer}
 use Rattle.machine.specs.Kinds.{isKind, placesOf, withinOf}
 use Rattle.machine.specs.Machine.{blank, sound}
 use Rattle.machine.specs.Steps.{stepOf}
 use Rattle.machine.specs.Promises.{Within, startWith}
-use Rattle.player.specs.declared.Begun.{Begun}
-use Rattle.player.specs.declared.Played.{Played}
 use Rattle.player.specs.Begin.{longest, beginOf}
 use Rattle.player.specs.Play.{recordsOf, runOf, playOf}
 
@@ -79,6 +75,3 @@ pub record Promises : Type 0 where
   pub seven : (s : List ℕ) (limit p : ℕ)
       → ((playOf s limit .refusal ≡ limitReached) × (playOf s limit .offset ≡ p))
       ↔ ((beginOf s .refusal ≡ carriedOut) × Along s (beginOf s .place) (recordsOf s limit .steps) p × (playOf s limit .steps ≡ limit) × (p < length s))
-  -- a contract allows one outcome (01, When a contract is strong enough)
-  pub soleBeginning : (s : List ℕ) (r q : Begun) → r ≡ beginOf s → q ≡ beginOf s → r ≡ q
-  pub solePlay : (s : List ℕ) (limit : ℕ) (r q : Played) → r ≡ playOf s limit → q ≡ playOf s limit → r ≡ q

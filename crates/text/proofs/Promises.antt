@@ -1,6 +1,6 @@
 -- The promises of texts, kept.
 use Prim.Native.Nat.{ℕ, _≤_}
-use mathlib.Core.Path.{_≡_, sym, ap, _∙_}
+use mathlib.Core.Path.{_≡_, sym, _∙_}
 use mathlib.Core.List.{List, _++_}
 use native.Mathlib.Nat.{min-eq-left}
 use lib.ListN.{length, drop}
@@ -25,5 +25,4 @@ kept =
       partly = write-laid;
       parts = λ o a b. sym (write-append o a b);
       sameLength = length-write;
-      sole = λ o p q a e f. e ∙ sym f;
     }

@@ -1,5 +1,5 @@
 -- What is promised of texts: their digits are those of the number, and a text stands in its buffer as far as there is room.
-use Prim.Native.Nat.{ℕ, zero, suc, _+_, _-_, _*_, _/_, _%_, _^_, _<_, _≤_}
+use Prim.Native.Nat.{ℕ, _+_, _-_, _*_, _/_, _%_, _^_, _<_, _≤_}
 use mathlib.Core.Path.{_≡_}
 use mathlib.Core.List.{List, [], _∷_, _++_}
 use lib.ListN.{length, getD, drop}
@@ -25,5 +25,3 @@ pub record Promises : Type 0 where
   -- a text and then another is the two together, and no byte goes beyond the buffer
   pub parts : (o : List ℕ × ℕ) (a b : List ℕ) → write (write o a) b ≡ write o (a ++ b)
   pub sameLength : (o : List ℕ × ℕ) (a : List ℕ) → length (write o a .0) ≡ length (o .0)
-  -- a contract allows one buffer and one place (01, When a contract is strong enough)
-  pub sole : (o p q : List ℕ × ℕ) (a : List ℕ) → p ≡ write o a → q ≡ write o a → p ≡ q

@@ -1,14 +1,12 @@
 -- Traces at both sides of each rule, computed by the definition.
-use Prim.Native.Nat.{ℕ}
 use mathlib.Core.Path.{_≡_, refl}
-use mathlib.Core.List.{List, [], _∷_}
+use mathlib.Core.List.{[], _∷_}
 use Rattle.words.specs.Choice.{pick}
 use Rattle.words.specs.Counting.{anyBelow, sumBelow, lowestBelow}
-use Rattle.steps.specs.declared.Step.{Step}
 use Rattle.steps.specs.declared.Step.the-variants.{Read, Write, Line}
 use Rattle.numbers.specs.Number.{sizeAt, worthAt, faulty, numberAt}
 use Rattle.trace.specs.Steps.{operandsOf, stepAt}
-use Rattle.trace.specs.Trace.{Trace, ends, stepsFrom}
+use Rattle.trace.specs.Trace.{ends, stepsFrom}
 
 -- a read, a write and a line, and nothing after them: 0 and the length
 whole : stepsFrom 20000 (1 ∷ 128 ∷ 2 ∷ 2 ∷ 20 ∷ 35 ∷ 3 ∷ 5 ∷ 1 ∷ []) 0

@@ -2,14 +2,14 @@
 use Prim.Native.Nat.{ℕ, zero, suc, _<_, _≤_}
 use mathlib.Core.Path.{_≡_, refl, sym, ap, _∙_}
 use mathlib.Core.List.{List, [], _∷_}
-use mathlib.Core.Logic.{_↔_, _⊎_, inl, inr, ⊎-elim}
+use mathlib.Core.Logic.{inl, inr}
 use native.Mathlib.Omega.{arith}
 use lib.ListN.{length}
 use lib.Dec.{ltb}
 use borrow.Author.Tests.{ltb-true, ltb-false}
 use Rattle.words.specs.Choice.{pick}
 use Rattle.words.proofs.ChoiceLaws.{pick-cases}
-use Rattle.steps.specs.Refusals.{carriedOut, limitReached, damaged, unknown}
+use Rattle.steps.specs.Refusals.{carriedOut, damaged, unknown}
 use Rattle.steps.specs.declared.Step.{Step}
 use Rattle.steps.specs.declared.Step.the-variants.{Read, Write, Line}
 use Rattle.numbers.specs.declared.Number.{Number}
@@ -19,8 +19,8 @@ use Rattle.numbers.specs.Promises.{toldAt}
 use Rattle.numbers.proofs.ReadLaws.{told-read, told-damaged, next-place}
 use Rattle.trace.specs.declared.Next.{Next}
 use Rattle.trace.specs.declared.Next.the-variants.{Found, Refused}
-use Rattle.trace.specs.Steps.{operandsOf, numbersOf, stepAt, Told, told}
-use Rattle.trace.specs.Trace.{Trace, ends, after, goOn, stepsFrom}
+use Rattle.trace.specs.Steps.{operandsOf, numbersOf, stepAt, told}
+use Rattle.trace.specs.Trace.{Trace, goOn, stepsFrom}
 use Rattle.trace.specs.Promises.{Reads, Wanting, Along, Ends, Promises}
 use Rattle.trace.proofs.StepLaws.{operands-le, read-one, write-two, line-two, kind-damaged, kind-unknown, first-damaged, one-number, second-damaged, two-numbers, Outcome, noKind, unknownKind, noFirst, oneNumber, noSecond, twoNumbered, outcome}
 
@@ -168,6 +168,5 @@ kept =
       );
       nineAt = λ s at h. nine-so s at (stepAt s at) (outcome s at) h .1;
       next = λ s at. next s at (stepAt s at) (outcome s at);
-      sole = λ s at r q e f. e ∙ sym f;
       trace = whole;
     }

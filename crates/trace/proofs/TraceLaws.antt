@@ -5,15 +5,13 @@ use mathlib.Core.List.{List}
 use native.Mathlib.Numerals.{sub-one}
 use native.Mathlib.Omega.{arith}
 use lib.ListN.{length}
-use lib.Dec.{ltb}
 use borrow.Author.Tests.{lt-ltb, le-ltb}
-use Rattle.words.proofs.ChoiceLaws.{pick-true, pick-false, pick-cases}
+use Rattle.words.proofs.ChoiceLaws.{pick-true, pick-false}
 use Rattle.steps.specs.Refusals.{carriedOut, limitReached}
 use Rattle.steps.specs.declared.Step.{Step}
-use Rattle.trace.specs.declared.Next.{Next}
 use Rattle.trace.specs.declared.Next.the-variants.{Found, Refused}
 use Rattle.trace.specs.Steps.{stepAt}
-use Rattle.trace.specs.Trace.{Trace, ends, after, goOn, stepsFrom}
+use Rattle.trace.specs.Trace.{ends, after, goOn, stepsFrom}
 
 -- nothing is left
 pub trace-end : (limit : ℕ) (s : List ℕ) (at : ℕ) → length s ≤ at → stepsFrom limit s at ≡ ends carriedOut (length s)

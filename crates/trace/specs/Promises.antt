@@ -7,9 +7,8 @@ use lib.ListN.{length}
 use Rattle.steps.specs.Refusals.{carriedOut, limitReached, damaged, unknown}
 use Rattle.steps.specs.declared.Step.{Step}
 use Rattle.numbers.specs.Promises.{toldAt}
-use Rattle.trace.specs.declared.Next.{Next}
 use Rattle.trace.specs.declared.Next.the-variants.{Found, Refused}
-use Rattle.trace.specs.Steps.{operandsOf, numbersOf, stepAt, Told, told}
+use Rattle.trace.specs.Steps.{operandsOf, numbersOf, stepAt, told}
 use Rattle.trace.specs.Trace.{stepsFrom}
 
 -- these numbers stand one after the other from a place on, and then comes the place p
@@ -47,8 +46,6 @@ pub record Promises : Type 0 where
   pub nineAt : (s : List ℕ) (at : ℕ) → told (stepAt s at) .refusal ≡ unknown → told (stepAt s at) .place ≡ at
   -- the next place is beyond this one and within the trace (01, House trace)
   pub next : (s : List ℕ) (at : ℕ) → told (stepAt s at) .refusal ≡ carriedOut → (at < told (stepAt s at) .place) × (told (stepAt s at) .place ≤ length s)
-  -- a contract allows one answer (01, When a contract is strong enough)
-  pub sole : (s : List ℕ) (at : ℕ) (r q : Next) → r ≡ stepAt s at → q ≡ stepAt s at → r ≡ q
   -- the steps of a trace stand one after the other, and it ends as 01 says where the next one would begin (01, House trace; Numbers, 7)
   pub trace : (limit : ℕ) (s : List ℕ) (at : ℕ)
       → (p : ℕ) × Along s at (stepsFrom limit s at .steps) p × Ends limit s (length (stepsFrom limit s at .steps)) p (stepsFrom limit s at .refusal) (stepsFrom limit s at .offset)

@@ -1,22 +1,22 @@
 -- Arrays of 32-bit words: their bits, counts over them, and what keeps them clean; and the bytes of a word.
 use mathlib.Core.Path.{_≡_, refl, sym, ap, ap₂, _∙_}
-use mathlib.Core.Bool.{Bool, true, false, not, _&&_, _||_, or-false}
+use mathlib.Core.Bool.{Bool, true, false, not, _&&_, _||_}
 use mathlib.Core.List.{List}
 use Prim.Native.Nat.{ℕ, zero, suc, _+_, _-_, _*_, _/_, _%_, _^_, _≤_, _<_}
-use native.Mathlib.Nat.{mod-lt, zero-div, div-eq-of-lt, lt-of-lt-of-le, lt-of-not-le}
+use native.Mathlib.Nat.{mod-lt}
 use native.Mathlib.Decide.{decLt, ℕ-discrete}
 use native.Mathlib.Omega.{arith}
 use borrow.Author.Tests.{ne-eqb, lt-ltb, ltb-true}
 use lib.Dec.{eqb, ltb}
 use lib.ListN.{length, getD, set, replicate}
-use lib.Pow.{pow-pos, pow-mono, shr-shr}
+use lib.Pow.{pow-pos}
 use lib.Seq.{getD-set-same, getD-set-other, set-out}
 use Rattle.words.specs.Array.{bitAt, withBitAt, restAt, cleanBelow, byteOf}
 use Rattle.words.specs.Choice.{pick}
-use Rattle.words.specs.Counting.{anyBelow, allBelow, countBelow, lowestBelow}
+use Rattle.words.specs.Counting.{allBelow, countBelow, lowestBelow}
 use Rattle.words.specs.Word.{bit, either, both, without, withBit, kept, clean}
 use Rattle.words.proofs.ChoiceLaws.{pick-false}
-use Rattle.words.proofs.CountingLaws.{any-none, any-same, any-add, all-none-yet, all-more, all-at, at-all, count-same, count-add, Lowest, lowest-found, lowest-one}
+use Rattle.words.proofs.CountingLaws.{all-none-yet, all-more, all-at, at-all, count-same, count-add, Lowest, lowest-found, lowest-one}
 use Rattle.words.proofs.TruthLaws.{eqb-iff, same-test}
 use Rattle.words.proofs.WordLaws.{bit-past, bit-none, bit-some, bit-either, bit-both, bit-without, bit-withBit, either-lt, without-lt, withBit-lt, kept-lt, clean-lt, lt-clean, bits-clean}
 
@@ -187,31 +187,6 @@ lowest-nowhere ws m z =
     lowest-one (bitAt ws) (32 * m) (32 * m) (lowestBelow (32 * m) (bitAt ws))
     (record { within = omega arith; before = none-before ws m z; found = λ l. absurd (omega arith) })
     (lowest-found (32 * m) (bitAt ws))
-
--- tests that agree below n have one lowest number
-pub lowest-same : (n : ℕ) (p q : ℕ → Bool) → ((k : ℕ) → k < n → p k ≡ q k) → lowestBelow n p ≡ lowestBelow n q
-unfolding lowestBelow
-lowest-same zero p q h = refl
-lowest-same (suc n) p q h = rw (any-same n p q (λ k l. h k (omega arith)), lowest-same n p q (λ k l. h k (omega arith)), h n (omega arith))
-
--- ---- a word that is shifted to the right, bit by bit
-
--- nothing is left after i places: no bit from i on
-pub bit-gone : (w i j : ℕ) → w / 2 ^ i ≡ 0 → bit w (i + j) ≡ false
-unfolding bit
-bit-gone w i j e = ap (λ (n : ℕ). eqb (n % 2) 1) (sym (shr-shr w i j) ∙ ap (λ (n : ℕ). n / 2 ^ j) e ∙ zero-div (2 ^ j))
-
--- something is left: i is a place of the word
-pub bit-left : (n w i : ℕ) → w < 2 ^ n → (w / 2 ^ i ≡ 0 → ⊥) → i < n
-bit-left n w i f l = lt-of-not-le (λ g. l (div-eq-of-lt (lt-of-lt-of-le f (pow-mono g))))
-
--- the bits below i, and none from i on
-pub any-gone : (n w i : ℕ) (q : ℕ → Bool) → w / 2 ^ i ≡ 0 → i ≤ n → anyBelow i (λ j. bit w j && q j) ≡ anyBelow n (λ j. bit w j && q j)
-any-gone n w i q e l =
-    sym (or-false (anyBelow i (λ j. bit w j && q j)))
-    ∙ ap (λ (b : Bool). anyBelow i (λ j. bit w j && q j) || b)
-    (sym (any-none (n - i) (λ j. bit w (i + j) && q (i + j)) (λ j _. ap (λ (b : Bool). b && q (i + j)) (bit-gone w i j e))))
-    ∙ sym (any-add i (n - i) (λ j. bit w j && q j)) ∙ ap (λ (k : ℕ). anyBelow k (λ j. bit w j && q j)) (omega arith)
 
 -- ---- an array that is filled word by word
 

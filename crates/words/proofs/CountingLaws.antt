@@ -1,7 +1,7 @@
 -- Loops that count up, one turn at a time, and what some, all, how many and the lowest of the numbers below n mean.
 use mathlib.Core.Path.{_≡_, refl, sym, ap, ap₂, _∙_}
 use mathlib.Core.Bool.{Bool, true, false, _&&_, _||_, and-assoc, or-assoc, and-true, and-false, or-false, false≢true}
-use mathlib.Core.Logic.{_⊎_, inl, inr, ⊎-elim}
+use mathlib.Core.Logic.{_⊎_, ⊎-elim}
 use Prim.Native.Nat.{ℕ, zero, suc, _+_, _≤_, _<_}
 use native.Mathlib.Nat.{add-zero, add-suc, add-assoc, le-of-suc-le-suc, eq-or-lt-of-le}
 use native.Mathlib.Numerals.{add-one}
@@ -227,3 +227,9 @@ lowest-one p n a b x y = go (decLt a b) (decLt b a)
     go (yes q) s = clash (x .found (omega (arith, y .within))) (y .before a q)
     go (no q) (yes s) = clash (y .found (omega (arith, x .within))) (x .before b s)
     go (no q) (no s) = omega arith
+
+-- tests that agree below n have one lowest number
+pub lowest-same : (n : ℕ) (p q : ℕ → Bool) → ((k : ℕ) → k < n → p k ≡ q k) → lowestBelow n p ≡ lowestBelow n q
+unfolding lowestBelow
+lowest-same zero p q h = refl
+lowest-same (suc n) p q h = rw (any-same n p q (λ k l. h k (omega arith)), lowest-same n p q (λ k l. h k (omega arith)), h n (omega arith))

@@ -3,5 +3,6 @@ pub mod ArrayLaws
 pub mod ChoiceLaws
 pub mod CountingLaws
 pub mod Promises
+pub mod ShiftLaws
 pub mod TruthLaws
 pub mod WordLaws

@@ -1,4 +1,5 @@
 -- The promises of a word of sources, kept.
+use mathlib.Core.Path.{sym, _∙_}
 use Rattle.words.specs.Promises.{Promises}
 use Rattle.words.proofs.CountingLaws.{any-some, some-any, all-at, at-all, lowest-found}
 use Rattle.words.proofs.WordLaws.{bit-wordOf, same-word, bit-past, bit-either, bit-both, bit-without, bit-withBit, bit-kept, clean-lt, lt-clean}
@@ -6,6 +7,8 @@ use Rattle.words.proofs.WordLaws.{bit-wordOf, same-word, bit-past, bit-
 pub kept : Promises
 kept =
     record {
+      settled = λ answer r t p q. p ∙ sym q;
+      settledLent = λ answer lent r t x y p q. (p .0 ∙ sym (q .0), p .1 ∙ sym (q .1));
       gathered = bit-wordOf;
       equal = same-word;
       past = bit-past;

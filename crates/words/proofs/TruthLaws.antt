@@ -1,6 +1,6 @@
 -- Truth values: taking an `and` or an `or` that holds apart, and tests that agree.
 use mathlib.Core.Path.{_≡_, refl, sym, ap, ap₂, _∙_}
-use mathlib.Core.Bool.{Bool, true, false, not, _&&_, _||_, true≢false, false≢true}
+use mathlib.Core.Bool.{Bool, true, false, _&&_, _||_, true≢false, false≢true}
 use mathlib.Core.Logic.{_⊎_, inl, inr}
 use Prim.Native.Nat.{ℕ}
 use native.Mathlib.Decide.{ℕ-discrete}
@@ -17,6 +17,10 @@ and-right false b e = absurd (false≢true e)
 
 pub and-both : {a b : Bool} → a ≡ true → b ≡ true → (a && b) ≡ true
 and-both p q = ap₂ _&&_ p q
+
+-- tests that agree part by part
+pub and-parts : {a b p q : Bool} → a ≡ p → b ≡ q → (a && b) ≡ (p && q)
+and-parts e f = ap₂ (λ (x y : Bool). x && y) e f
 
 pub or-either : (a b : Bool) → (a || b) ≡ true → (a ≡ true) ⊎ (b ≡ true)
 or-either true b e = inl refl

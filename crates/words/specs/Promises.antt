@@ -8,7 +8,10 @@ use Rattle.words.specs.Choice.{pick}
 use Rattle.words.specs.Counting.{anyBelow, allBelow, lowestBelow}
 use Rattle.words.specs.Word.{bit, wordOf, either, both, without, withBit, kept, clean}
 
-pub record Promises : Type 0 where
+pub record Promises : Type 1 where
+  -- a contract that names the answer allows one outcome; with a lent part, one answer and one content (01, When a contract is strong enough)
+  pub settled : {A : Type 0} (answer : A) (r t : A) → r ≡ answer → t ≡ answer → r ≡ t
+  pub settledLent : {A B : Type 0} (answer : A) (lent : B) (r t : A) (x y : B) → (r ≡ answer) × (x ≡ lent) → (t ≡ answer) × (y ≡ lent) → (r ≡ t) × (x ≡ y)
   -- bit k of a word gathered from a test is the test of k, at any width
   pub gathered : (n : ℕ) (f : ℕ → Bool) (k : ℕ) → k < n → bit (wordOf n f) k ≡ f k
   -- two words of n bits with the same bits are one word

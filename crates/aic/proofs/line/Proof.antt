@@ -1,3 +1,4 @@
+-- That `line` of src/lib.rt keeps its contract.
 use Rattle.aic.proofs.CallLaws.{line-unsound}
 use mathlib.Core.Path.{sym, _∙_}
 use borrow.Author.Needs.{needs}

@@ -1,3 +1,4 @@
+-- That `outputs` of src/lib.rt keeps its contract.
 use Rattle.aic.specs.Model.{outputs}
 use Rattle.words.proofs.ChoiceLaws.{by-false}
 use mathlib.Core.Path.{sym, _∙_}

@@ -1,3 +1,4 @@
+-- That `outputs_sound` of src/lib.rt keeps its contract.
 use Rattle.steps.specs.Refusals.{carriedOut}
 use mathlib.Core.Bool.{Bool}
 use Rattle.aic.specs.Model.{outputs}

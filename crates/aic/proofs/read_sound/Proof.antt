@@ -1,3 +1,4 @@
+-- That `read_sound` of src/lib.rt keeps its contract.
 use Rattle.aic.specs.Model.{read}
 use Rattle.aic.proofs.CallLaws.{done, stopped, read-number}
 use mathlib.Core.Path.{_∙_}

@@ -1,3 +1,4 @@
+-- That `start` of src/lib.rt keeps its contract.
 use Rattle.steps.specs.Refusals.{carriedOut}
 use Rattle.aic_record.specs.declared.Aic.{Aic}
 use Rattle.aic.specs.Model.{start}

@@ -1,3 +1,4 @@
+-- That `step` of src/lib.rt keeps its contract.
 use Rattle.aic.proofs.CallLaws.{step-unsound}
 use mathlib.Core.Path.{sym, _∙_}
 use borrow.Author.Needs.{needs}

@@ -1,3 +1,4 @@
+-- That `within` of src/lib.rt keeps its contract.
 use Rattle.aic.specs.Model.{within}
 use mathlib.Core.Path.{refl}
 use Rattle.aic.proofs.within.Statement.{statement}

@@ -1,3 +1,4 @@
+-- That `write_sound` of src/lib.rt keeps its contract.
 use Rattle.aic_record.specs.declared.Aic.{Aic}
 use Rattle.aic_registers.specs.Handlers.{answered}
 use Rattle.aic.specs.Model.{write}

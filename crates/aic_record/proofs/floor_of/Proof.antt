@@ -1,3 +1,4 @@
+-- That `floor_of` of src/lib.rt keeps its contract.
 use Prim.Native.Nat.{ℕ, _+_}
 use mathlib.Core.Path.{ap, _∙_}
 use Rattle.aic_record.specs.Passes.{floorAt}

@@ -1,3 +1,4 @@
+-- That `is_sound` of src/lib.rt keeps its contract.
 use Rattle.aic_record.proofs.PassLaws.{sound-by}
 use borrow.Author.Needs.{needs}
 use Rattle.aic_record.proofs.is_sound.Statement.{statement}

@@ -1,3 +1,4 @@
+-- That `mode_sound` of src/lib.rt keeps its contract.
 use borrow.Author.Needs.{needs}
 use Rattle.aic_record.proofs.mode_sound.Statement.{statement}
 use Rattle.aic_record.proofs.mode_sound.Tie as tie

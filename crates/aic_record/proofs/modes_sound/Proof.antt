@@ -1,3 +1,4 @@
+-- That `modes_sound` of src/lib.rt keeps its contract.
 use mathlib.Core.Path.{_≡_, ap, _∙_}
 use mathlib.Core.Bool.{Bool, not, _&&_, _||_}
 use Prim.Native.Nat.{_-_, _≤_}

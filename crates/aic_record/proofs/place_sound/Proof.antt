@@ -1,3 +1,4 @@
+-- That `place_sound` of src/lib.rt keeps its contract.
 use Rattle.words.proofs.ChoiceLaws.{pick-true, pick-false}
 use Rattle.aic_record.proofs.place_sound.Statement.{statement}
 use Rattle.aic_record.proofs.place_sound.Tie as tie

@@ -1,3 +1,4 @@
+-- That `places_sound` of src/lib.rt keeps its contract.
 use lib.ListN.{getD}
 use mir.Syntax.{w8}
 use mir.Val.{Fits}

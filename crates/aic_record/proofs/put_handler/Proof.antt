@@ -1,3 +1,4 @@
+-- That `put_handler` of src/lib.rt keeps its contract.
 use Prim.Native.Nat.{ℕ}
 use mathlib.Core.List.{List}
 use mathlib.Core.Path.{ap₂}

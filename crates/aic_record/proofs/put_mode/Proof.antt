@@ -1,3 +1,4 @@
+-- That `put_mode` of src/lib.rt keeps its contract.
 use mathlib.Core.Path.{ap}
 use Rattle.aic_record.specs.Record.{withMode}
 use Rattle.aic_record.proofs.PlaceLaws.{past-set}

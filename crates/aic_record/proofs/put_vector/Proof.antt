@@ -1,3 +1,4 @@
+-- That `put_vector` of src/lib.rt keeps its contract.
 use mathlib.Core.Path.{ap}
 use Rattle.aic_record.specs.Record.{withVector}
 use Rattle.aic_record.proofs.PlaceLaws.{past-set}

@@ -1,3 +1,4 @@
+-- That `source_at` of src/lib.rt keeps its contract.
 use Rattle.aic_record.proofs.PlaceLaws.{past-getD}
 use borrow.Author.Needs.{needs}
 use Rattle.aic_record.proofs.source_at.Statement.{statement}

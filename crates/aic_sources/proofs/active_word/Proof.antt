@@ -1,3 +1,4 @@
+-- That `active_word` of src/lib.rt keeps its contract.
 use Rattle.aic_sources.proofs.PendingLaws.{flipped}
 use mathlib.Core.Path.{ap₂, _∙_}
 use Rattle.words.specs.Word.{either}

@@ -1,3 +1,4 @@
+-- That `asking_word` of src/lib.rt keeps its contract.
 use Rattle.aic_sources.proofs.SideLaws.{asks-from}
 use borrow.Author.Needs.{needs}
 use Rattle.aic_sources.proofs.asking_word.Statement.{statement}

@@ -1,3 +1,4 @@
+-- That `choose` of src/lib.rt keeps its contract.
 use Rattle.words.proofs.ChoiceLaws.{pick-true, pick-false}
 use Rattle.aic_sources.proofs.choose.Statement.{statement}
 use Rattle.aic_sources.proofs.choose.Tie as tie

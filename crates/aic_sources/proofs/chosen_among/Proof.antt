@@ -1,3 +1,4 @@
+-- That `chosen_among` of src/lib.rt keeps its contract.
 use Rattle.aic_sources.proofs.SideLaws.{chosen-from}
 use borrow.Author.Needs.{needs}
 use Rattle.aic_sources.proofs.chosen_among.Statement.{statement}

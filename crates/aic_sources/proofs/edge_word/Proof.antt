@@ -1,3 +1,4 @@
+-- That `edge_word` of src/lib.rt keeps its contract.
 use Rattle.aic_sources.proofs.PendingLaws.{edges-are}
 use mathlib.Core.Path.{_∙_}
 use borrow.Author.Needs.{needs}

@@ -1,3 +1,4 @@
+-- That `fast_among` of src/lib.rt keeps its contract.
 use Rattle.aic_sources.proofs.SideLaws.{fast-from}
 use borrow.Author.Needs.{needs}
 use Rattle.aic_sources.proofs.fast_among.Statement.{statement}

@@ -1,3 +1,4 @@
+-- That `fast_word` of src/lib.rt keeps its contract.
 use Rattle.aic_sources.proofs.PendingLaws.{fast-by}
 use mathlib.Core.Path.{_∙_}
 use borrow.Author.Needs.{needs}

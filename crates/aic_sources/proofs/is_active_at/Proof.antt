@@ -1,3 +1,4 @@
+-- That `is_active_at` of src/lib.rt keeps its contract.
 use Rattle.aic_sources.specs.Pending.{activeAt}
 use Rattle.aic_sources.proofs.PendingLaws.{low-from}
 use Rattle.words.proofs.ChoiceLaws.{by-true, by-false}

@@ -1,3 +1,4 @@
+-- That `mode_word` of src/lib.rt keeps its contract.
 use mathlib.Core.Path.{_≡_, _∙_}
 use Prim.Native.Nat.{_-_, _≤_}
 use native.Mathlib.Omega.{arith}

@@ -1,3 +1,4 @@
+-- That `pending_word` of src/lib.rt keeps its contract.
 use Rattle.aic_sources.proofs.PendingLaws.{pending-by}
 use Rattle.words.specs.Word.{without}
 use mathlib.Core.Path.{ap, _∙_}

@@ -1,3 +1,4 @@
+-- That `pins_of` of src/lib.rt keeps its contract.
 use Rattle.aic_sources.proofs.SideLaws.{irq-from, fiq-from}
 use borrow.Author.Needs.{needs}
 use Rattle.aic_sources.proofs.pins_of.Statement.{statement}

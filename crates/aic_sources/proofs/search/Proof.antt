@@ -1,3 +1,4 @@
+-- That `search` of src/lib.rt keeps its contract.
 use Prim.Native.Nat.{_-_, _≤_}
 use native.Mathlib.Omega.{arith}
 use Rattle.aic_sources.proofs.SearchLaws.{Kept, search-none, search-more, search-done}

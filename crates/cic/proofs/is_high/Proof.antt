@@ -1,3 +1,4 @@
+-- That `is_high` of src/lib.rt keeps its contract.
 use Rattle.words.specs.Array.{bitAt}
 use Rattle.words.specs.Word.{bit}
 use Prim.Native.Nat.{ℕ, _%_}

@@ -1,3 +1,4 @@
+-- That `line` of src/lib.rt keeps its contract.
 use Rattle.cic.specs.Stepping.{lineAs}
 use mathlib.Core.Bool.{Bool}
 use mathlib.Core.Path.{ap, _∙_}

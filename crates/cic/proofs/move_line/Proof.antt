@@ -1,3 +1,4 @@
+-- That `move_line` of src/lib.rt keeps its contract.
 use Rattle.cic.specs.Stepping.{moved}
 use Rattle.words.proofs.ChoiceLaws.{by-true, by-false}
 use Rattle.words.specs.Array.{withBitAt}

@@ -1,3 +1,4 @@
+-- That `move_number` of src/lib.rt keeps its contract.
 use Rattle.cic.proofs.StepLaws.{moved-past}
 use Rattle.cic_record.specs.Kinds.{system}
 use mathlib.Core.Path.{sym}

@@ -1,3 +1,4 @@
+-- That `outputs_sound` of src/lib.rt keeps its contract.
 use Rattle.cic_hosts.specs.Hosts.{outputsOf}
 use Rattle.words.proofs.ChoiceLaws.{pick-true}
 use mathlib.Core.Path.{_∙_}

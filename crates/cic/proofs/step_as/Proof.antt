@@ -1,3 +1,4 @@
+-- That `step_as` of src/lib.rt keeps its contract.
 use Rattle.cic.specs.Stepping.{stepAs}
 use mathlib.Core.Path.{sym, ap, _∙_}
 use borrow.Author.Needs.{needs}

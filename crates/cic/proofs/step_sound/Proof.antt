@@ -1,3 +1,4 @@
+-- That `step_sound` of src/lib.rt keeps its contract.
 use Rattle.cic.specs.Stepping.{stepAs}
 use mathlib.Core.Bool.{Bool}
 use mathlib.Core.Path.{sym, ap, _∙_}

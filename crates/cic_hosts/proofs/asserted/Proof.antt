@@ -1,3 +1,4 @@
+-- That `asserted` of src/lib.rt keeps its contract.
 use Rattle.cic_hosts.proofs.ScanLaws.{no-host}
 use mathlib.Core.Path.{sym, _∙_}
 use borrow.Author.Needs.{needs}

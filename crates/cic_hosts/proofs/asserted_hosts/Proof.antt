@@ -1,3 +1,4 @@
+-- That `asserted_hosts` of src/lib.rt keeps its contract.
 use Rattle.cic_hosts.proofs.ScanLaws.{not-global, with-global}
 use Rattle.words.proofs.ArrayLaws.{zeros-bitAt}
 use Rattle.cic_record.specs.Kinds.{hostNumber}

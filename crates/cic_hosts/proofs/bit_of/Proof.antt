@@ -1,3 +1,4 @@
+-- That `bit_of` of src/lib.rt keeps its contract.
 use Rattle.words.specs.Array.{bitAt}
 use borrow.Author.Needs.{needs}
 use Rattle.cic_hosts.proofs.bit_of.Statement.{statement}

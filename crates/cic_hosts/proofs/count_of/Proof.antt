@@ -1,8 +1,9 @@
+-- That `count_of` of src/lib.rt keeps its contract.
 use Rattle.words.proofs.ArrayLaws.{count-word}
 use Rattle.words.proofs.CountingLaws.{count-none-yet, count-le, at-end}
 use Rattle.words.specs.Array.{bitAt}
 use Rattle.words.specs.Counting.{countBelow}
-use mathlib.Core.Path.{_≡_, ap₂, _∙_, ap}
+use mathlib.Core.Path.{_≡_, ap₂, _∙_}
 use native.Mathlib.Omega.{arith}
 use Prim.Native.Nat.{ℕ, _≤_, _-_, _*_, _+_}
 use borrow.Author.Needs.{needs}

@@ -1,3 +1,4 @@
+-- That `host_of` of src/lib.rt keeps its contract.
 use mathlib.Core.Path.{ap}
 use Rattle.cic_record.specs.Kinds.{hostNumber}
 use borrow.Author.Needs.{needs}

@@ -1,7 +1,7 @@
+-- That `lowest_of` of src/lib.rt keeps its contract.
 use Rattle.words.proofs.ArrayLaws.{lowest-word, lowest-nowhere}
 use Rattle.words.proofs.CountingLaws.{lowest-found}
 use Rattle.words.specs.Word.{bit}
-use Rattle.words.specs.Array.{bitAt}
 use borrow.Author.Count.{below-more, below-none}
 use lib.ListN.{getD}
 use mir.Syntax.{w32}

@@ -1,6 +1,6 @@
+-- That `mark` of src/lib.rt keeps its contract.
 use Rattle.words.specs.Array.{withBitAt}
 use mathlib.Core.Path.{ap}
-use mathlib.Core.List.{List}
 use Prim.Native.Nat.{ℕ, _/_}
 use lib.ListN.{set}
 use borrow.Author.Needs.{needs}

@@ -1,3 +1,4 @@
+-- That `outputs` of src/lib.rt keeps its contract.
 use Rattle.words.proofs.ChoiceLaws.{by-true, by-false}
 use Rattle.cic_hosts.specs.Hosts.{outputsOf}
 use mathlib.Core.Path.{_∙_}

@@ -1,11 +1,12 @@
+-- That `raised_hosts` of src/lib.rt keeps its contract.
 use Rattle.cic_hosts.proofs.ScanLaws.{counts, word-more, all-words}
 use Rattle.words.proofs.ArrayLaws.{zeros-bitAt}
 use Rattle.words.proofs.CountingLaws.{any-none-yet}
-use Rattle.words.specs.Array.{bitAt, restAt}
+use Rattle.words.specs.Array.{bitAt}
 use Rattle.words.specs.Counting.{anyBelow}
-use Rattle.words.specs.Word.{both, kept}
-use lib.ListN.{length, getD}
-use mathlib.Core.Path.{_≡_, refl, sym, ap, ap₂, _∙_}
+use Rattle.words.specs.Word.{kept}
+use lib.ListN.{length}
+use mathlib.Core.Path.{_≡_, refl, ap, ap₂, _∙_}
 use native.Mathlib.Omega.{arith}
 use Prim.Native.Nat.{ℕ, _≤_, _-_, _*_}
 use borrow.Author.Needs.{needs}

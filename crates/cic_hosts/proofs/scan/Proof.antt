@@ -1,5 +1,6 @@
+-- That `scan` of src/lib.rt keeps its contract.
 use Rattle.cic_hosts.proofs.ScanLaws.{grown, bit-of-left}
-use Rattle.words.proofs.ArrayLaws.{bit-left, any-gone}
+use Rattle.words.proofs.ShiftLaws.{bit-left, any-gone}
 use Rattle.words.proofs.CountingLaws.{any-none-yet}
 use Rattle.words.specs.Array.{bitAt}
 use Rattle.words.specs.Counting.{anyBelow}
@@ -12,7 +13,7 @@ use mathlib.Core.Bool.{Bool, _&&_, _||_, or-false}
 use mathlib.Core.Path.{_≡_, sym, ap, _∙_}
 use native.Mathlib.Nat.{div-one}
 use native.Mathlib.Omega.{arith}
-use Prim.Native.Nat.{ℕ, _≤_, _<_, _/_, _^_, _+_, _%_}
+use Prim.Native.Nat.{ℕ, _≤_, _<_, _/_, _^_, _+_}
 use borrow.Author.Needs.{needs}
 use Rattle.cic_hosts.proofs.scan.Statement.{statement}
 use Rattle.cic_hosts.proofs.scan.Tie as tie

@@ -1,3 +1,4 @@
+-- That `shared` of src/lib.rt keeps its contract.
 use Rattle.words.proofs.ArrayLaws.{filled, bitAt-both}
 use Rattle.words.specs.Word.{both}
 use borrow.Author.Count.{below-none}

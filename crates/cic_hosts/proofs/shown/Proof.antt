@@ -1,3 +1,4 @@
+-- That `shown` of src/lib.rt keeps its contract.
 use Rattle.cic_hosts.proofs.ScanLaws.{shown-words}
 use borrow.Author.Needs.{needs}
 use Rattle.cic_hosts.proofs.shown.Statement.{statement}

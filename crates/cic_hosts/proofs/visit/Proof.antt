@@ -1,3 +1,4 @@
+-- That `visit` of src/lib.rt keeps its contract.
 use Rattle.cic_hosts.proofs.ScanLaws.{marked, passed}
 use Rattle.cic_hosts.specs.Scan.{hostIn}
 use Rattle.cic_record.specs.declared.Host.{Host}

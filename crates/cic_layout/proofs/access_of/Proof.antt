@@ -1,5 +1,6 @@
+-- That `access_of` of src/lib.rt keeps its contract.
 use Rattle.cic_layout.specs.Map.{accessOf}
-use mathlib.Core.Path.{sym, ap, ap₂, _∙_}
+use mathlib.Core.Path.{sym, ap, _∙_}
 use borrow.Author.Needs.{needs}
 use Rattle.cic_layout.proofs.access_of.Statement.{statement}
 use Rattle.cic_layout.proofs.access_of.Tie as tie

@@ -1,3 +1,4 @@
+-- That `if_any` of src/lib.rt keeps its contract.
 use Rattle.words.proofs.ChoiceLaws.{pick-true, pick-false}
 use borrow.Author.Tests.{lt-ltb, le-ltb}
 use Rattle.cic_layout.proofs.if_any.Statement.{statement}

@@ -1,3 +1,4 @@
+-- That `register_at` of src/lib.rt keeps its contract.
 use Rattle.cic_layout.specs.Map.{registerAt}
 use Rattle.words.specs.Choice.{pick}
 use borrow.Author.Tests.{lt-ltb, le-ltb}

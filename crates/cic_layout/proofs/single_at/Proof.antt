@@ -1,3 +1,4 @@
+-- That `single_at` of src/lib.rt keeps its contract.
 use Rattle.cic_layout.specs.Map.{singleAt}
 use Rattle.words.specs.Choice.{pick}
 use borrow.Author.Tests.{ne-eqb}

@@ -1,3 +1,4 @@
+-- That `byte_of` of src/lib.rt keeps its contract.
 use Rattle.words.specs.Array.{byteOf}
 use Rattle.words.proofs.ArrayLaws.{byteOf-lt}
 use mathlib.Core.Path.{refl}

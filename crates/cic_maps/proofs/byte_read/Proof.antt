@@ -1,6 +1,6 @@
+-- That `byte_read` of src/lib.rt keeps its contract.
 use Rattle.cic_maps.proofs.MapLaws.{read-spare, read-past, read-there}
 use native.Mathlib.Omega.{arith}
-use mathlib.Core.Path.{ap, _∙_}
 use borrow.Author.Needs.{needs}
 use Rattle.cic_maps.proofs.byte_read.Statement.{statement}
 use Rattle.cic_maps.proofs.byte_read.Tie as tie

@@ -1,3 +1,4 @@
+-- That `byte_taken` of src/lib.rt keeps its contract.
 use Rattle.cic_maps.proofs.MapLaws.{taken-byte}
 use borrow.Author.Needs.{needs}
 use Rattle.cic_maps.proofs.byte_taken.Statement.{statement}

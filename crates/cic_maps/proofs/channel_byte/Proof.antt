@@ -1,3 +1,4 @@
+-- That `channel_byte` of src/lib.rt keeps its contract.
 use Rattle.cic_maps.proofs.MapLaws.{put-spare, put-past, put-there}
 use Rattle.cic_record.specs.Record.{withChannel}
 use lib.ListN.{length}

@@ -1,3 +1,4 @@
+-- That `host_byte` of src/lib.rt keeps its contract.
 use Rattle.cic_maps.proofs.MapLaws.{put-spare, put-past, put-there}
 use Rattle.cic_record.specs.Record.{withHost}
 use lib.ListN.{length}

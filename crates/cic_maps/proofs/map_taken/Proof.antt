@@ -1,3 +1,4 @@
+-- That `map_taken` of src/lib.rt keeps its contract.
 use Rattle.cic_maps.proofs.MapLaws.{taken-four}
 use borrow.Author.Needs.{needs}
 use Rattle.cic_maps.proofs.map_taken.Statement.{statement}

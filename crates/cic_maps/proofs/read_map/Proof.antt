@@ -1,3 +1,4 @@
+-- That `read_map` of src/lib.rt keeps its contract.
 use Rattle.cic_maps.proofs.MapLaws.{read-four}
 use borrow.Author.Needs.{needs}
 use Rattle.cic_maps.proofs.read_map.Statement.{statement}

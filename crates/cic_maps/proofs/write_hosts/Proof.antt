@@ -1,6 +1,7 @@
+-- That `write_hosts` of src/lib.rt keeps its contract.
 use Rattle.cic_maps.proofs.MapLaws.{put-four}
 use Rattle.cic_record.specs.Record.{withHost}
-use mathlib.Core.Path.{ap, _∙_}
+use mathlib.Core.Path.{ap}
 use borrow.Author.Needs.{needs}
 use Rattle.cic_maps.proofs.write_hosts.Statement.{statement}
 use Rattle.cic_maps.proofs.write_hosts.Tie as tie

@@ -1,3 +1,4 @@
+-- That `all_within` of src/lib.rt keeps its contract.
 use Rattle.cic_record.specs.Start.{configured}
 use borrow.Author.Needs.{needs}
 use Rattle.cic_record.proofs.all_within.Statement.{statement}

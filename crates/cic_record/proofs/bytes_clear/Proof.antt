@@ -1,7 +1,8 @@
-use Prim.Native.Nat.{ℕ, _≤_, _+_, _-_}
+-- That `bytes_clear` of src/lib.rt keeps its contract.
+use Prim.Native.Nat.{_≤_, _+_, _-_}
 use lib.ListN.{length, getD}
 use lib.Dec.{eqb}
-use mathlib.Core.Path.{_≡_, ap, _∙_}
+use mathlib.Core.Path.{_≡_}
 use native.Mathlib.Omega.{arith}
 use Rattle.words.specs.Counting.{allBelow}
 use Rattle.words.proofs.CountingLaws.{at-end}

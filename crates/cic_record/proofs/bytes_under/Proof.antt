@@ -1,6 +1,7 @@
-use mathlib.Core.Path.{_≡_, ap, _∙_}
-use Prim.Native.Nat.{ℕ, _≤_, _-_}
-use lib.ListN.{length, getD}
+-- That `bytes_under` of src/lib.rt keeps its contract.
+use mathlib.Core.Path.{_≡_}
+use Prim.Native.Nat.{_≤_, _-_}
+use lib.ListN.{getD}
 use lib.Dec.{ltb}
 use mathlib.Core.Path.{_≡_}
 use native.Mathlib.Omega.{arith}

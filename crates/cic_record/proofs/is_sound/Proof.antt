@@ -1,7 +1,9 @@
+-- That `is_sound` of src/lib.rt keeps its contract.
 use mathlib.Core.Path.{sym, ap, _∙_}
 use mathlib.Core.Bool.{Bool, _&&_}
 use Rattle.cic_record.specs.Sound.{sound, numbersSound, wordsSound, mapsSound}
-use Rattle.cic_record.proofs.SoundLaws.{and-parts, numbers-counts}
+use Rattle.words.proofs.TruthLaws.{and-parts}
+use Rattle.cic_record.proofs.SoundLaws.{numbers-counts}
 use borrow.Author.Needs.{needs}
 use Rattle.cic_record.proofs.is_sound.Statement.{statement}
 use Rattle.cic_record.proofs.is_sound.Tie as tie

@@ -1,4 +1,6 @@
-use Rattle.cic_record.proofs.SoundLaws.{and-parts, map-split}
+-- That `map_sound` of src/lib.rt keeps its contract.
+use Rattle.words.proofs.TruthLaws.{and-parts}
+use Rattle.cic_record.proofs.SoundLaws.{map-split}
 use mathlib.Core.Path.{_∙_}
 use borrow.Author.Needs.{needs}
 use Rattle.cic_record.proofs.map_sound.Statement.{statement}

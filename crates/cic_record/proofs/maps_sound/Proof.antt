@@ -1,5 +1,7 @@
+-- That `maps_sound` of src/lib.rt keeps its contract.
 use Rattle.cic_record.specs.Sound.{mapsSound}
-use Rattle.cic_record.proofs.SoundLaws.{and-parts, whole-map}
+use Rattle.words.proofs.TruthLaws.{and-parts}
+use Rattle.cic_record.proofs.SoundLaws.{whole-map}
 use borrow.Author.Needs.{needs}
 use Rattle.cic_record.proofs.maps_sound.Statement.{statement}
 use Rattle.cic_record.proofs.maps_sound.Tie as tie

@@ -1,3 +1,4 @@
+-- That `numbers_sound` of src/lib.rt keeps its contract.
 use borrow.Author.Needs.{needs}
 use Rattle.cic_record.proofs.numbers_sound.Statement.{statement}
 use Rattle.cic_record.proofs.numbers_sound.Tie as tie

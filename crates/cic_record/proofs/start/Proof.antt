@@ -1,3 +1,4 @@
+-- That `start` of src/lib.rt keeps its contract.
 use mathlib.Core.Path.{ap, _∙_}
 use Rattle.cic_record.specs.Record.{begun}
 use Rattle.steps.specs.Refusals.{carriedOut, misconfigured}

@@ -1,3 +1,4 @@
+-- That `within` of src/lib.rt keeps its contract.
 use Rattle.cic_record.specs.Sound.{withinOf}
 use Rattle.words.specs.Choice.{pick}
 use borrow.Author.Tests.{ne-eqb}

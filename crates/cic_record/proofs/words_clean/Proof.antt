@@ -1,3 +1,4 @@
+-- That `words_clean` of src/lib.rt keeps its contract.
 use mathlib.Core.Path.{_≡_, ap, _∙_}
 use Rattle.words.specs.Word.{clean}
 use lib.ListN.{getD}

@@ -1,5 +1,7 @@
+-- That `words_sound` of src/lib.rt keeps its contract.
 use Rattle.cic_record.specs.Sound.{wordsSound}
-use Rattle.cic_record.proofs.SoundLaws.{and-parts, whole}
+use Rattle.words.proofs.TruthLaws.{and-parts}
+use Rattle.cic_record.proofs.SoundLaws.{whole}
 use borrow.Author.Needs.{needs}
 use Rattle.cic_record.proofs.words_sound.Statement.{statement}
 use Rattle.cic_record.proofs.words_sound.Tie as tie

@@ -1,3 +1,4 @@
+-- That `beyond_unless` of src/lib.rt keeps its contract.
 use Rattle.words.proofs.ChoiceLaws.{pick-true, pick-false}
 use Rattle.cic_registers.proofs.beyond_unless.Statement.{statement}
 use Rattle.cic_registers.proofs.beyond_unless.Tie as tie

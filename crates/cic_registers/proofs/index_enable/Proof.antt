@@ -1,3 +1,4 @@
+-- That `index_enable` of src/lib.rt keeps its contract.
 use Rattle.words.proofs.ArrayLaws.{withBitAt-past}
 use Rattle.cic_record.specs.Record.{withEnable}
 use lib.ListN.{length}

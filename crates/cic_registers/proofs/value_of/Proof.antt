@@ -1,3 +1,4 @@
+-- That `value_of` of src/lib.rt keeps its contract.
 use Rattle.cic_registers.specs.Registers.{valueOf}
 use mathlib.Core.Path.{sym, ap, ap₂, _∙_}
 use Rattle.words.specs.Word.{both}

@@ -1,5 +1,6 @@
+-- That `value_refusal` of src/lib.rt keeps its contract.
 use Rattle.cic_registers.specs.Registers.{valueRefusal}
-use mathlib.Core.Path.{sym, ap, ap₂, _∙_}
+use mathlib.Core.Path.{sym, ap, _∙_}
 use Rattle.cic_layout.specs.declared.Register.{Register}
 use Rattle.cic_registers.specs.Registers.{unless}
 use borrow.Author.Needs.{needs}

@@ -1,5 +1,6 @@
+-- That `written_to` of src/lib.rt keeps its contract.
 use Rattle.cic_registers.specs.Registers.{writtenTo}
-use mathlib.Core.Path.{sym, ap, ap₂, _∙_}
+use mathlib.Core.Path.{sym, ap, _∙_}
 use Rattle.cic_layout.specs.declared.Register.{Register}
 use borrow.Author.Needs.{needs}
 use Rattle.cic_registers.proofs.written_to.Statement.{statement}

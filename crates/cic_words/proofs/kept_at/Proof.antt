@@ -1,3 +1,4 @@
+-- That `kept_at` of src/lib.rt keeps its contract.
 use Rattle.words.specs.Word.{kept}
 use Prim.Native.Nat.{ℕ}
 use mathlib.Core.Path.{ap, _∙_}

@@ -1,3 +1,4 @@
+-- That `mark_allow` of src/lib.rt keeps its contract.
 use Rattle.cic_record.specs.Record.{withAllow}
 use Rattle.words.specs.Word.{withBit}
 use Rattle.words.specs.Array.{withBitAt}

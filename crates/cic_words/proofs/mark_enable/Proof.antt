@@ -1,3 +1,4 @@
+-- That `mark_enable` of src/lib.rt keeps its contract.
 use Rattle.cic_record.specs.Record.{withEnable}
 use Rattle.words.specs.Word.{withBit}
 use Rattle.words.specs.Array.{withBitAt}

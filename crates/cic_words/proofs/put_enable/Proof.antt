@@ -1,3 +1,4 @@
+-- That `put_enable` of src/lib.rt keeps its contract.
 use Rattle.cic_record.specs.Record.{withEnable}
 use lib.Seq.{set-out}
 use lib.ListN.{length}

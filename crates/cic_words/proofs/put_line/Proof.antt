@@ -1,3 +1,4 @@
+-- That `put_line` of src/lib.rt keeps its contract.
 use Rattle.cic_record.specs.Record.{withLines}
 use Rattle.words.specs.Word.{withBit}
 use Rattle.words.specs.Array.{withBitAt}

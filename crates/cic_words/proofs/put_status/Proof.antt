@@ -1,3 +1,4 @@
+-- That `put_status` of src/lib.rt keeps its contract.
 use Rattle.cic_record.specs.Record.{withStatus}
 use lib.Seq.{set-out}
 use lib.ListN.{length}

@@ -1,3 +1,4 @@
+-- That `read_word` of src/lib.rt keeps its contract.
 use Rattle.words.specs.Array.{restAt}
 use Rattle.words.specs.Word.{kept}
 use Rattle.cic_words.specs.Bits.{wordRead}

@@ -1,3 +1,4 @@
+-- That `replace_allow` of src/lib.rt keeps its contract.
 use Rattle.cic_record.specs.Record.{withAllow}
 use Rattle.cic_words.specs.Bits.{wordReplaced}
 use lib.ListN.{set}

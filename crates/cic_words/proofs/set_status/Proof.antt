@@ -1,3 +1,4 @@
+-- That `set_status` of src/lib.rt keeps its contract.
 use Rattle.cic_record.specs.Record.{withStatus}
 use Rattle.words.specs.Word.{either}
 use Rattle.cic_words.specs.Bits.{bitsSet}

@@ -1,3 +1,4 @@
+-- That `word_at` of src/lib.rt keeps its contract.
 use lib.ListN.{List·getD-eq-default}
 use mathlib.Core.Path.{sym}
 use borrow.Author.Needs.{needs}

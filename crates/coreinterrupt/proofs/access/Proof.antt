@@ -1,3 +1,4 @@
+-- That `access` of src/lib.rt keeps its contract.
 use Rattle.coreinterrupt_side.specs.Group.{groupAccess}
 use Rattle.coreinterrupt.specs.Model.{fiqOffset}
 use Rattle.coreinterrupt.specs.Model.{access}

@@ -1,3 +1,4 @@
+-- That `all_within` of src/lib.rt keeps its contract.
 use Rattle.coreinterrupt.specs.Model.{allWithin}
 use borrow.Author.Needs.{needs}
 use Rattle.coreinterrupt.proofs.all_within.Statement.{statement}

@@ -1,3 +1,4 @@
+-- That `input` of src/lib.rt keeps its contract.
 use Rattle.coreinterrupt.specs.Model.{input, fiqLine}
 use Rattle.words.proofs.ChoiceLaws.{pick-true, pick-false}
 use borrow.Author.Tests.{le-leb, lt-leb}

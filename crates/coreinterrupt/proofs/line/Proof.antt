@@ -1,3 +1,4 @@
+-- That `line` of src/lib.rt keeps its contract.
 use Rattle.coreinterrupt.specs.Model.{line}
 use borrow.Author.Needs.{needs}
 use Rattle.coreinterrupt.proofs.line.Statement.{statement}

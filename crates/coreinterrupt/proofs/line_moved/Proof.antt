@@ -1,3 +1,4 @@
+-- That `line_moved` of src/lib.rt keeps its contract.
 use Rattle.coreinterrupt_side.specs.declared.Group.{Group}
 use Prim.Native.Nat.{ℕ}
 use Rattle.coreinterrupt_side.specs.Group.{moved}

@@ -1,3 +1,4 @@
+-- That `outputs` of src/lib.rt keeps its contract.
 use Rattle.coreinterrupt.specs.Model.{outputs}
 use Rattle.words.proofs.ChoiceLaws.{by-true, by-false}
 use borrow.Author.Needs.{needs}

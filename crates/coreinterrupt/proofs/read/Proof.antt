@@ -1,3 +1,4 @@
+-- That `read` of src/lib.rt keeps its contract.
 use Rattle.coreinterrupt.specs.Model.{read}
 use borrow.Author.Needs.{needs}
 use Rattle.coreinterrupt.proofs.read.Statement.{statement}

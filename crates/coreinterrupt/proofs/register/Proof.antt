@@ -1,3 +1,4 @@
+-- That `register` of src/lib.rt keeps its contract.
 use Rattle.coreinterrupt.specs.Model.{register, fiqOffset}
 use Rattle.words.proofs.ChoiceLaws.{pick-true, pick-false}
 use borrow.Author.Tests.{lt-ltb, le-ltb}

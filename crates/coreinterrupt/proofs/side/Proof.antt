@@ -1,3 +1,4 @@
+-- That `side` of src/lib.rt keeps its contract.
 use Rattle.coreinterrupt.specs.Model.{side}
 use Rattle.words.proofs.ChoiceLaws.{pick-true, pick-false}
 use Rattle.coreinterrupt.proofs.side.Statement.{statement}

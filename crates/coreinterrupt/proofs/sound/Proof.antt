@@ -1,3 +1,4 @@
+-- That `sound` of src/lib.rt keeps its contract.
 use Rattle.coreinterrupt.specs.Model.{sound}
 use borrow.Author.Needs.{needs}
 use Rattle.coreinterrupt.proofs.sound.Statement.{statement}

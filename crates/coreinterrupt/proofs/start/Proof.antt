@@ -1,3 +1,4 @@
+-- That `start` of src/lib.rt keeps its contract.
 use Rattle.coreinterrupt.specs.Model.{start}
 use Rattle.words.proofs.ChoiceLaws.{by-true, by-false}
 use borrow.Author.Needs.{needs}

@@ -1,3 +1,4 @@
+-- That `step` of src/lib.rt keeps its contract.
 use Rattle.coreinterrupt.specs.Model.{step}
 use mathlib.Core.Path.{sym, ap, _∙_}
 use borrow.Author.Needs.{needs}

@@ -1,3 +1,4 @@
+-- That `unless_refused` of src/lib.rt keeps its contract.
 use mathlib.Core.Path.{_∙_}
 use Rattle.coreinterrupt.proofs.AnswerLaws.{carried, stopped}
 use borrow.Author.Needs.{needs}

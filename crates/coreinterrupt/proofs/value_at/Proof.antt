@@ -1,3 +1,4 @@
+-- That `value_at` of src/lib.rt keeps its contract.
 use Rattle.coreinterrupt_side.specs.Group.{groupRead}
 use Rattle.coreinterrupt.specs.Model.{fiqOffset}
 use Rattle.coreinterrupt.specs.Model.{valueAt}

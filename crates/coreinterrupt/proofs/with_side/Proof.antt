@@ -1,3 +1,4 @@
+-- That `with_side` of src/lib.rt keeps its contract.
 use Rattle.coreinterrupt.specs.Model.{withSide}
 use Rattle.words.proofs.ChoiceLaws.{pick-true, pick-false}
 use Rattle.coreinterrupt.proofs.with_side.Statement.{statement}

@@ -1,3 +1,4 @@
+-- That `within` of src/lib.rt keeps its contract.
 use Rattle.words.specs.Choice.{pick}
 use Rattle.coreinterrupt.specs.Model.{within}
 use borrow.Author.Tests.{ne-eqb}

@@ -1,3 +1,4 @@
+-- That `write` of src/lib.rt keeps its contract.
 use Rattle.coreinterrupt.specs.Model.{write}
 use borrow.Author.Needs.{needs}
 use Rattle.coreinterrupt.proofs.write.Statement.{statement}

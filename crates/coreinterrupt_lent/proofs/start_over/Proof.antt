@@ -1,3 +1,4 @@
+-- That `start_over` of src/lib.rt keeps its contract.
 use borrow.Author.Needs.{needs}
 use Rattle.coreinterrupt_lent.specs.Lent.{startOver}
 use Rattle.coreinterrupt_lent.proofs.start_over.Statement.{statement}

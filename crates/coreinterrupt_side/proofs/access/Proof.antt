@@ -1,3 +1,4 @@
+-- That `access` of src/lib.rt keeps its contract.
 use Rattle.coreinterrupt_side.proofs.TableLaws.{access-past}
 use Rattle.coreinterrupt_side.specs.Group.{groupAccess}
 use native.Mathlib.Omega.{arith}

@@ -1,3 +1,4 @@
+-- That `active` of src/lib.rt keeps its contract.
 use Rattle.coreinterrupt_side.specs.Group.{active}
 use borrow.Author.Needs.{needs}
 use Rattle.coreinterrupt_side.proofs.active.Statement.{statement}

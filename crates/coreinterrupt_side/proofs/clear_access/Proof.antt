@@ -1,3 +1,4 @@
+-- That `clear_access` of src/lib.rt keeps its contract.
 use Rattle.coreinterrupt_side.specs.Group.{clearAccess}
 use Rattle.words.proofs.ChoiceLaws.{pick-true, pick-false}
 use borrow.Author.Tests.{eq-eqb, ne-eqb}

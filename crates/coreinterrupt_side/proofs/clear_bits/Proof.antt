@@ -1,3 +1,4 @@
+-- That `clear_bits` of src/lib.rt keeps its contract.
 use Rattle.coreinterrupt_side.specs.Group.{clearBits}
 use borrow.Author.Needs.{needs}
 use Rattle.coreinterrupt_side.proofs.clear_bits.Statement.{statement}

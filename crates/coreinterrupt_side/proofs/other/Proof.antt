@@ -1,3 +1,4 @@
+-- That `other` of src/lib.rt keeps its contract.
 use Rattle.words.proofs.ChoiceLaws.{pick-true, pick-false}
 use borrow.Author.Tests.{eq-eqb, ne-eqb}
 use Rattle.coreinterrupt_side.proofs.other.Statement.{statement}

@@ -1,3 +1,4 @@
+-- That `output_level` of src/lib.rt keeps its contract.
 use Rattle.coreinterrupt_side.specs.Group.{outputLevel}
 use Rattle.words.proofs.ChoiceLaws.{by-true, by-false}
 use mathlib.Core.Path.{_∙_}

@@ -1,3 +1,4 @@
+-- That `raw` of src/lib.rt keeps its contract.
 use Rattle.coreinterrupt_side.specs.Group.{raw}
 use borrow.Author.Needs.{needs}
 use Rattle.coreinterrupt_side.proofs.raw.Statement.{statement}

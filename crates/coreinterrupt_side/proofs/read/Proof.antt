@@ -1,3 +1,4 @@
+-- That `read` of src/lib.rt keeps its contract.
 use Rattle.coreinterrupt_side.proofs.TableLaws.{read-past}
 use Rattle.coreinterrupt_side.specs.Group.{groupRead}
 use native.Mathlib.Omega.{arith}

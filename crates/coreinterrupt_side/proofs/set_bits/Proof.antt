@@ -1,3 +1,4 @@
+-- That `set_bits` of src/lib.rt keeps its contract.
 use Rattle.coreinterrupt_side.specs.Group.{setBits}
 use borrow.Author.Needs.{needs}
 use Rattle.coreinterrupt_side.proofs.set_bits.Statement.{statement}

@@ -1,3 +1,4 @@
+-- That `sound` of src/lib.rt keeps its contract.
 use Rattle.coreinterrupt_side.specs.Group.{groupSound}
 use borrow.Author.Needs.{needs}
 use Rattle.coreinterrupt_side.proofs.sound.Statement.{statement}

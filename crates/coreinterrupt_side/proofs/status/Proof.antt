@@ -1,3 +1,4 @@
+-- That `status` of src/lib.rt keeps its contract.
 use Rattle.coreinterrupt_side.specs.Group.{status}
 use borrow.Author.Needs.{needs}
 use Rattle.coreinterrupt_side.proofs.status.Statement.{statement}

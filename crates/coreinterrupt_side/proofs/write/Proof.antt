@@ -1,3 +1,4 @@
+-- That `write` of src/lib.rt keeps its contract.
 use Rattle.coreinterrupt_side.proofs.TableLaws.{write-past}
 use Rattle.coreinterrupt_side.specs.Group.{groupWrite}
 use native.Mathlib.Omega.{arith}

@@ -1,3 +1,4 @@
+-- That `wisteria_refusal` of src/lib.rt keeps its contract.
 use mathlib.Core.Path.{ap}
 use Rattle.player.specs.declared.Played.{Played}
 use borrow.Author.Needs.{needs}

@@ -1,3 +1,4 @@
+-- That `letter_of` of src/lib.rt keeps its contract.
 use mathlib.Core.Path.{_∙_}
 use borrow.Author.Tests.{eq-eqb, ne-eqb}
 use Rattle.words.proofs.ChoiceLaws.{pick-true, pick-false}

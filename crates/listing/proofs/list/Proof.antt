@@ -1,3 +1,4 @@
+-- That `list` of src/lib.rt keeps its contract.
 use mathlib.Core.Path.{ap, _∙_}
 use Rattle.player.proofs.WayLaws.{begin-ready}
 use Rattle.text.proofs.WriteLaws.{write-laid}

@@ -1,3 +1,4 @@
+-- That `list_begun` of src/lib.rt keeps its contract.
 use Rattle.text.proofs.WriteLaws.{and-then}
 use borrow.Author.Needs.{needs}
 use Rattle.listing.proofs.list_begun.Statement.{statement}

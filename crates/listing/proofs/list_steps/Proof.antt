@@ -1,3 +1,4 @@
+-- That `list_steps` of src/lib.rt keeps its contract.
 use Prim.Native.Nat.{_+_}
 use mathlib.Core.Path.{_≡_, ap, sym, _∙_}
 use lib.ListN.{length}

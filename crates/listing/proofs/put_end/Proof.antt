@@ -1,3 +1,4 @@
+-- That `put_end` of src/lib.rt keeps its contract.
 use mathlib.Core.Path.{ap, _∙_}
 use borrow.Author.Tests.{eq-eqb, ne-eqb}
 use Rattle.words.proofs.ChoiceLaws.{pick-true, pick-false}

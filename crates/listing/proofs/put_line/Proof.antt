@@ -1,3 +1,4 @@
+-- That `put_line` of src/lib.rt keeps its contract.
 use Rattle.text.proofs.WriteLaws.{and-then, same-length as same-len}
 use Rattle.listing.specs.Listing.{lineOf}
 use borrow.Author.Needs.{needs}

@@ -1,3 +1,4 @@
+-- That `put_refusal` of src/lib.rt keeps its contract.
 use Rattle.text.proofs.WriteLaws.{and-then}
 use Rattle.listing.specs.Listing.{endLine}
 use borrow.Author.Needs.{needs}

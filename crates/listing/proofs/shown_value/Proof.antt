@@ -1,3 +1,4 @@
+-- That `shown_value` of src/lib.rt keeps its contract.
 use borrow.Author.Tests.{eq-eqb, ne-eqb}
 use Rattle.words.proofs.ChoiceLaws.{pick-true, pick-false}
 use Rattle.listing.specs.Listing.{shownValue}

@@ -1,3 +1,4 @@
+-- That `aic_columns` of src/lib.rt keeps its contract.
 use borrow.Author.Needs.{needs}
 use Rattle.machine.proofs.aic_columns.Statement.{statement}
 use Rattle.machine.proofs.aic_columns.Tie as tie

@@ -1,3 +1,4 @@
+-- That `core_columns` of src/lib.rt keeps its contract.
 use borrow.Author.Needs.{needs}
 use Rattle.machine.proofs.core_columns.Statement.{statement}
 use Rattle.machine.proofs.core_columns.Tie as tie

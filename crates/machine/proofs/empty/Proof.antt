@@ -1,3 +1,4 @@
+-- That `empty` of src/lib.rt keeps its contract.
 use mathlib.Core.Path.{refl}
 use Rattle.machine.proofs.MachineLaws.{blank-core, blank-cic}
 use Rattle.coreinterrupt.proofs.start.Reads as start-reads′

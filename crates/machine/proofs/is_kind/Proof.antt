@@ -1,3 +1,4 @@
+-- That `is_kind` of src/lib.rt keeps its contract.
 use Rattle.machine.specs.Kinds.{isKind}
 use borrow.Author.Needs.{needs}
 use Rattle.machine.proofs.is_kind.Statement.{statement}

@@ -1,3 +1,4 @@
+-- That `is_sound` of src/lib.rt keeps its contract.
 use mathlib.Core.Path.{_∙_}
 use Rattle.machine.proofs.MachineLaws.{sound-aic, sound-core, sound-cic, sound-none}
 use Rattle.cic_record.proofs.is_sound.Reads as is-sound-reads′

@@ -1,3 +1,4 @@
+-- That `of_aic` of src/lib.rt keeps its contract.
 use borrow.Author.Needs.{needs}
 use Rattle.machine.proofs.of_aic.Statement.{statement}
 use Rattle.machine.proofs.of_aic.Tie as tie

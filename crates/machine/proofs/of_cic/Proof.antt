@@ -1,3 +1,4 @@
+-- That `of_cic` of src/lib.rt keeps its contract.
 use borrow.Author.Needs.{needs}
 use Rattle.machine.proofs.of_cic.Statement.{statement}
 use Rattle.machine.proofs.of_cic.Tie as tie

@@ -1,3 +1,4 @@
+-- That `of_core` of src/lib.rt keeps its contract.
 use borrow.Author.Needs.{needs}
 use Rattle.machine.proofs.of_core.Statement.{statement}
 use Rattle.machine.proofs.of_core.Tie as tie

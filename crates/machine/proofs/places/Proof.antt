@@ -1,3 +1,4 @@
+-- That `places` of src/lib.rt keeps its contract.
 use Rattle.machine.specs.Kinds.{placesOf}
 use Rattle.machine.proofs.KindLaws.{at-aic, at-core, at-cic, at-none}
 use Rattle.machine.proofs.places.Statement.{statement}

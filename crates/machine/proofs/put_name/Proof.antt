@@ -1,4 +1,5 @@
-use mathlib.Core.Path.{ap, sym, _∙_}
+-- That `put_name` of src/lib.rt keeps its contract.
+use mathlib.Core.Path.{ap, _∙_}
 use Rattle.text.proofs.WriteLaws.{nothing}
 use Rattle.text.specs.Text.{write}
 use Rattle.machine.specs.Kinds.{nameOf}

@@ -1,3 +1,4 @@
+-- That `shown` of src/lib.rt keeps its contract.
 use mathlib.Core.Path.{sym, _∙_}
 use Rattle.machine.proofs.ShownLaws.{unsound-shown}
 use borrow.Author.Needs.{needs}

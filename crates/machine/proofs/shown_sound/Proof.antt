@@ -1,7 +1,8 @@
+-- That `shown_sound` of src/lib.rt keeps its contract.
 use mathlib.Core.Path.{ap, sym, _∙_}
 use Rattle.machine.specs.Steps.{aicColumns, coreColumns, cicColumns}
 use Rattle.machine.proofs.MachineLaws.{sound-aic, sound-cic, third-kind}
-use Rattle.machine.proofs.ShownLaws.{aic-shows, core-shows, cic-shows, unsound-shown}
+use Rattle.machine.proofs.ShownLaws.{aic-shows, core-shows, cic-shows}
 use Rattle.cic.proofs.outputs_sound.Reads as outputs-sound-reads′
 use borrow.Author.Needs.{needs}
 use Rattle.machine.proofs.shown_sound.Statement.{statement}

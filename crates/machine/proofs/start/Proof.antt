@@ -1,4 +1,5 @@
-use mathlib.Core.Path.{ap, sym, _∙_}
+-- That `start` of src/lib.rt keeps its contract.
+use mathlib.Core.Path.{ap, _∙_}
 use Rattle.cic_record.specs.declared.Begun.{Begun as CicBegun}
 use Rattle.coreinterrupt.specs.declared.Begun.{Begun as CoreBegun}
 use Rattle.aic.specs.declared.Begun.{Begun}

@@ -1,3 +1,4 @@
+-- That `step` of src/lib.rt keeps its contract.
 use mathlib.Core.Path.{sym, _∙_}
 use Rattle.machine.proofs.StepLaws.{unsound-step}
 use borrow.Author.Needs.{needs}

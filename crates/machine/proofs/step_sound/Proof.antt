@@ -1,7 +1,8 @@
+-- That `step_sound` of src/lib.rt keeps its contract.
 use mathlib.Core.Path.{ap, sym, _∙_}
 use Rattle.machine.specs.Steps.{afterAic, afterCore, afterCic}
 use Rattle.machine.proofs.MachineLaws.{sound-aic, sound-cic, third-kind}
-use Rattle.machine.proofs.StepLaws.{aic-steps, core-steps, cic-steps, unsound-step}
+use Rattle.machine.proofs.StepLaws.{aic-steps, core-steps, cic-steps}
 use Rattle.cic.proofs.step_sound.Reads as step-sound-reads′
 use borrow.Author.Needs.{needs}
 use Rattle.machine.proofs.step_sound.Statement.{statement}

@@ -1,3 +1,4 @@
+-- That `with_number` of src/lib.rt keeps its contract.
 use Rattle.machine.specs.Machine.{withNumber}
 use Rattle.machine.proofs.MachineLaws.{number-past}
 use borrow.Author.Needs.{needs}

@@ -1,4 +1,5 @@
-use mathlib.Core.Path.{ap, sym, _∙_}
+-- That `within` of src/lib.rt keeps its contract.
+use mathlib.Core.Path.{_∙_}
 use Rattle.machine.specs.Kinds.{withinOf}
 use Rattle.machine.proofs.KindLaws.{at-aic, at-core, at-cic, at-none}
 use Rattle.coreinterrupt.proofs.within.Reads as within-reads′′

@@ -1,3 +1,4 @@
+-- That `byte_at` of src/lib.rt keeps its contract.
 use mathlib.Core.Path.{sym}
 use lib.ListN.{List·getD-eq-default}
 use borrow.Author.Needs.{needs}

@@ -1,3 +1,4 @@
+-- That `is_faulty` of src/lib.rt keeps its contract.
 use Rattle.numbers.specs.Number.{faulty}
 use borrow.Author.Needs.{needs}
 use Rattle.numbers.proofs.is_faulty.Statement.{statement}

@@ -1,3 +1,4 @@
+-- That `number_at` of src/lib.rt keeps its contract.
 use Rattle.numbers.proofs.NumberLaws.{sized, missing, refused, faultless, read}
 use native.Mathlib.Omega.{arith}
 use mathlib.Core.Path.{sym, _∙_}

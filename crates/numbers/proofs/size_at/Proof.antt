@@ -1,3 +1,4 @@
+-- That `size_at` of src/lib.rt keeps its contract.
 use Rattle.numbers.proofs.NumberLaws.{closesAt, all-open, size-found, size-none}
 use lib.Dec.{ltb}
 use borrow.Author.Tests.{lt-ltb, le-ltb}

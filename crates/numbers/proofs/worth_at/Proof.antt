@@ -1,3 +1,4 @@
+-- That `worth_at` of src/lib.rt keeps its contract.
 use Rattle.numbers.proofs.NumberLaws.{worth-none, worth-below, worth-turn}
 use Rattle.numbers.proofs.GroupLaws.{part-le, unit-le, unit-more}
 use Rattle.numbers.specs.Number.{worthAt}

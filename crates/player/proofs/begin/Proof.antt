@@ -1,3 +1,4 @@
+-- That `begin` of src/lib.rt keeps its contract.
 use mathlib.Core.Path.{ap, _∙_}
 use borrow.Author.Tests.{lt-ltb, le-ltb}
 use Rattle.words.proofs.ChoiceLaws.{pick-true, pick-false}

@@ -1,3 +1,4 @@
+-- That `by_controller` of src/lib.rt keeps its contract.
 use mathlib.Core.Path.{ap, _∙_}
 use Rattle.words.proofs.ChoiceLaws.{by-true, by-false}
 use Rattle.player.specs.Begin.{bySetup}

@@ -1,4 +1,5 @@
-use mathlib.Core.Path.{ap, _∙_}
+-- That `by_setup` of src/lib.rt keeps its contract.
+use mathlib.Core.Path.{_∙_}
 use borrow.Author.Tests.{eq-eqb, ne-eqb}
 use Rattle.words.proofs.ChoiceLaws.{pick-true, pick-false}
 use Rattle.player.specs.Begin.{bySetup}

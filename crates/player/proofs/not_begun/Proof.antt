@@ -1,3 +1,4 @@
+-- That `not_begun` of src/lib.rt keeps its contract.
 use borrow.Author.Needs.{needs}
 use Rattle.player.proofs.not_begun.Statement.{statement}
 use Rattle.player.proofs.not_begun.Tie as tie

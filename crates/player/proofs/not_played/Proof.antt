@@ -1,3 +1,4 @@
+-- That `not_played` of src/lib.rt keeps its contract.
 use Rattle.player.proofs.PlayLaws.{report-ends}
 use Rattle.player.proofs.not_played.Statement.{statement}
 use Rattle.player.proofs.not_played.Tie as tie

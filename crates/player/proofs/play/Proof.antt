@@ -1,3 +1,4 @@
+-- That `play` of src/lib.rt keeps its contract.
 use mathlib.Core.Path.{_∙_}
 use Rattle.player.proofs.WayLaws.{begin-ready}
 use Rattle.player.proofs.BeginLaws.{play-begun, play-refused}

@@ -1,5 +1,6 @@
+-- That `play_from` of src/lib.rt keeps its contract.
 use Prim.Native.Nat.{_+_}
-use mathlib.Core.Path.{_≡_, ap, sym, _∙_}
+use mathlib.Core.Path.{_≡_, sym, _∙_}
 use Rattle.trace.specs.Trace.{stepsFrom}
 use Rattle.machine.specs.Promises.{Ready}
 use Rattle.machine.proofs.StepLaws.{step-ready}

@@ -1,3 +1,4 @@
+-- That `refused_setup` of src/lib.rt keeps its contract.
 use borrow.Author.Needs.{needs}
 use Rattle.player.proofs.refused_setup.Statement.{statement}
 use Rattle.player.proofs.refused_setup.Tie as tie

@@ -1,5 +1,6 @@
+-- That `set_up` of src/lib.rt keeps its contract.
 use Prim.Native.Nat.{_+_}
-use mathlib.Core.Path.{refl, _≡_, ap, sym, _∙_}
+use mathlib.Core.Path.{refl, _≡_, sym, _∙_}
 use native.Mathlib.Omega.{arith}
 use borrow.Author.Tests.{not-true, not-false}
 use Rattle.machine.specs.Kinds.{placesOf}

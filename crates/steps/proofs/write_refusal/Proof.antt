@@ -1,3 +1,4 @@
+-- That `write_refusal` of src/lib.rt keeps its contract.
 use mathlib.Core.Path.{_∙_}
 use borrow.Author.Tests.{not-true, not-false, eq-eqb, ne-eqb}
 use Rattle.steps.specs.Refusals.{writeRefusal}

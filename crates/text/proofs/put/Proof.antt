@@ -1,3 +1,4 @@
+-- That `put` of src/lib.rt keeps its contract.
 use Rattle.text.proofs.WriteLaws.{room, full}
 use borrow.Author.Needs.{needs}
 use Rattle.text.proofs.put.Statement.{statement}

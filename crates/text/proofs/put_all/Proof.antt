@@ -1,3 +1,4 @@
+-- That `put_all` of src/lib.rt keeps its contract.
 use Rattle.text.proofs.WriteLaws.{write-turn, write-done, same-length as same-length-of}
 use Rattle.text.specs.Text.{write}
 use lib.ListN.{length, drop}

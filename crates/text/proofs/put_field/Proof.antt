@@ -1,3 +1,4 @@
+-- That `put_field` of src/lib.rt keeps its contract.
 use borrow.Author.Needs.{needs}
 use Rattle.text.specs.Text.{field}
 use Rattle.text.proofs.WriteLaws.{and-then}

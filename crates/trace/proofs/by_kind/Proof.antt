@@ -1,3 +1,4 @@
+-- That `by_kind` of src/lib.rt keeps its contract.
 use lib.Dec.{eqb}
 use Prim.Native.Nat.{ℕ}
 use mathlib.Core.Path.{ap, _∙_}

@@ -1,3 +1,4 @@
+-- That `by_second` of src/lib.rt keeps its contract.
 use borrow.Author.Needs.{needs}
 use Rattle.trace.proofs.by_second.Statement.{statement}
 use Rattle.trace.proofs.by_second.Tie as tie

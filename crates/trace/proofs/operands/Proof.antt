@@ -1,3 +1,4 @@
+-- That `operands` of src/lib.rt keeps its contract.
 use Rattle.trace.specs.Steps.{operandsOf}
 use mathlib.Core.Path.{_∙_}
 use borrow.Author.Tests.{eq-eqb, ne-eqb}

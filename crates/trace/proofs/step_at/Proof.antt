@@ -1,3 +1,4 @@
+-- That `step_at` of src/lib.rt keeps its contract.
 use Rattle.trace.specs.Steps.{stepAt}
 use mathlib.Core.Path.{_∙_}
 use borrow.Author.Needs.{needs}

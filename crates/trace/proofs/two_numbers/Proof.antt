@@ -1,3 +1,4 @@
+-- That `two_numbers` of src/lib.rt keeps its contract.
 use borrow.Author.Tests.{eq-eqb, ne-eqb}
 use Rattle.words.proofs.ChoiceLaws.{pick-true, pick-false}
 use Rattle.trace.proofs.two_numbers.Statement.{statement}

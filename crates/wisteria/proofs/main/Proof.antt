@@ -1,3 +1,4 @@
+-- That `main` of src/main.rt keeps its contract.
 use mathlib.Core.Path.{sym}
 use lib.Seq.{length-take-le}
 use Rattle.text.proofs.WriteLaws.{laid-fits}

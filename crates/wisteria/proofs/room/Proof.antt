@@ -1,3 +1,4 @@
+-- That `room` of src/main.rt keeps its contract.
 use Prim.Native.Nat.{ℕ, _≤_}
 use mathlib.Core.List.{List}
 use mathlib.Core.Path.{_≡_, sym}

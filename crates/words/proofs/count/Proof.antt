@@ -1,3 +1,4 @@
+-- That `count` of src/lib.rt keeps its contract.
 use Rattle.words.proofs.WordLaws.{ones-count}
 use borrow.Author.Needs.{needs}
 use Rattle.words.proofs.count.Statement.{statement}

@@ -1,3 +1,4 @@
+-- That `drop_bits` of src/lib.rt keeps its contract.
 use Rattle.words.proofs.WordLaws.{and-without}
 use borrow.Author.Needs.{needs}
 use Rattle.words.proofs.drop_bits.Statement.{statement}

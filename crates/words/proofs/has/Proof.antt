@@ -1,3 +1,4 @@
+-- That `has` of src/lib.rt keeps its contract.
 use mathlib.Core.Path.{sym, refl}
 use Rattle.words.specs.Word.{bit}
 use Rattle.words.proofs.WordLaws.{bit-past}

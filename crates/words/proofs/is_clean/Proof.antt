@@ -1,3 +1,4 @@
+-- That `is_clean` of src/lib.rt keeps its contract.
 use Rattle.words.specs.Word.{clean}
 use borrow.Author.Needs.{needs}
 use Rattle.words.proofs.is_clean.Statement.{statement}

@@ -1,3 +1,4 @@
+-- That `join` of src/lib.rt keeps its contract.
 use Rattle.words.proofs.WordLaws.{or-either}
 use borrow.Author.Needs.{needs}
 use Rattle.words.proofs.join.Statement.{statement}

@@ -1,5 +1,5 @@
+-- That `keep` of src/lib.rt keeps its contract.
 use Prim.Native.Nat.{ℕ, _^_, _%_}
-use native.Mathlib.Omega.{arith}
 use Rattle.words.proofs.WordLaws.{one-shifted}
 use native.Mathlib.Nat.{mod-eq-of-lt, lt-of-lt-of-le}
 use lib.Pow.{pow-pos, pow-mono}

@@ -1,3 +1,4 @@
+-- That `lowest` of src/lib.rt keeps its contract.
 use Rattle.words.proofs.WordLaws.{lowest-bit}
 use borrow.Author.Needs.{needs}
 use Rattle.words.proofs.lowest.Statement.{statement}

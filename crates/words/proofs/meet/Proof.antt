@@ -1,3 +1,4 @@
+-- That `meet` of src/lib.rt keeps its contract.
 use Rattle.words.proofs.WordLaws.{and-both-bits}
 use borrow.Author.Needs.{needs}
 use Rattle.words.proofs.meet.Statement.{statement}

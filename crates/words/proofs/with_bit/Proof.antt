@@ -1,7 +1,7 @@
-use mathlib.Core.Bool.{Bool}
+-- That `with_bit` of src/lib.rt keeps its contract.
 use Rattle.words.specs.Word.{withBit}
 use lib.Bits.{bitAnd, bitOr}
-use Prim.Native.Nat.{ℕ, _^_, _%_, _-_}
+use Prim.Native.Nat.{ℕ, _-_}
 use mathlib.Core.Path.{sym, ap, _∙_}
 use Rattle.words.proofs.WordLaws.{one-shifted, past-withBit, or-withBit, and-withBit}
 use borrow.Author.Needs.{needs}

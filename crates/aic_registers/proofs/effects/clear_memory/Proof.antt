@@ -1,3 +1,4 @@
+-- That `clear_memory` of src/effects.rt keeps its contract.
 use Rattle.aic_registers.proofs.CallLaws.{cleared-by}
 use mathlib.Core.Path.{_∙_}
 use borrow.Author.Needs.{needs}

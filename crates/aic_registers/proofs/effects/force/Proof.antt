@@ -1,3 +1,4 @@
+-- That `force` of src/effects.rt keeps its contract.
 use Rattle.aic_registers.proofs.CallLaws.{forced-by}
 use mathlib.Core.Path.{_∙_}
 use borrow.Author.Needs.{needs}

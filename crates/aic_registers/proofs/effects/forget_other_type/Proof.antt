@@ -1,3 +1,4 @@
+-- That `forget_other_type` of src/effects.rt keeps its contract.
 use Rattle.aic_registers.proofs.CallLaws.{type-from}
 use borrow.Author.Tests.{eq-eqb, ne-eqb}
 use Rattle.words.proofs.ChoiceLaws.{pick-true, pick-false}

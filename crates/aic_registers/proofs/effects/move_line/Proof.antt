@@ -1,3 +1,4 @@
+-- That `move_line` of src/effects.rt keeps its contract.
 use Rattle.aic_registers.proofs.CallLaws.{moved-by}
 use mathlib.Core.Path.{_∙_}
 use borrow.Author.Needs.{needs}

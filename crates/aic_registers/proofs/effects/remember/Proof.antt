@@ -1,3 +1,4 @@
+-- That `remember` of src/effects.rt keeps its contract.
 use mathlib.Core.Bool.{_&&_}
 use Rattle.aic_registers.proofs.CallLaws.{edge-from}
 use Rattle.words.proofs.ChoiceLaws.{by-true, by-false}

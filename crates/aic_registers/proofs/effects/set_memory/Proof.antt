@@ -1,3 +1,4 @@
+-- That `set_memory` of src/effects.rt keeps its contract.
 use Rattle.aic_registers.proofs.CallLaws.{set-by}
 use mathlib.Core.Path.{_∙_}
 use borrow.Author.Needs.{needs}

@@ -1,3 +1,4 @@
+-- That `turns_active` of src/effects.rt keeps its contract.
 use Rattle.aic_registers.proofs.CallLaws.{turns-by}
 use borrow.Author.Needs.{needs}
 use Rattle.aic_registers.proofs.effects.turns_active.Statement.{statement}

@@ -1,3 +1,4 @@
+-- That `write_mode` of src/effects.rt keeps its contract.
 use Rattle.aic_registers.proofs.CallLaws.{moded-by}
 use mathlib.Core.Path.{_∙_}
 use borrow.Author.Needs.{needs}

@@ -1,3 +1,4 @@
+-- That `current_source` of src/handlers.rt keeps its contract.
 use Rattle.aic_registers.specs.Handlers.{current}
 use borrow.Author.Tests.{eq-eqb, ne-eqb}
 use Rattle.words.proofs.ChoiceLaws.{pick-true, pick-false}

@@ -1,3 +1,4 @@
+-- That `end_last` of src/handlers.rt keeps its contract.
 use Rattle.aic_registers.specs.Handlers.{ended, closedLast}
 use borrow.Author.Tests.{eq-eqb, ne-eqb}
 use Rattle.words.proofs.ChoiceLaws.{pick-true, pick-false}

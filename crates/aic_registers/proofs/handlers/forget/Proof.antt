@@ -1,3 +1,4 @@
+-- That `forget` of src/handlers.rt keeps its contract.
 use Rattle.aic_record.specs.Record.{withMemory}
 use mathlib.Core.Path.{ap, _∙_}
 use borrow.Author.Needs.{needs}

@@ -1,3 +1,4 @@
+-- That `read_fvr` of src/handlers.rt keeps its contract.
 use Rattle.aic_registers.specs.Handlers.{fvrRead, answered}
 use Rattle.words.proofs.ChoiceLaws.{by-true, by-false}
 use mathlib.Core.Path.{ap₂, _∙_}

@@ -1,3 +1,4 @@
+-- That `read_ivr` of src/handlers.rt keeps its contract.
 use Rattle.aic_registers.proofs.CallLaws.{ivr-some, ivr-none}
 use mathlib.Core.Path.{_∙_}
 use borrow.Author.Needs.{needs}

@@ -1,3 +1,4 @@
+-- That `spend` of src/handlers.rt keeps its contract.
 use Rattle.aic_registers.specs.Handlers.{spent}
 use Rattle.aic_registers.proofs.CallLaws.{edge-from}
 use Rattle.words.proofs.ChoiceLaws.{by-true, by-false}

@@ -1,3 +1,4 @@
+-- That `start_at` of src/handlers.rt keeps its contract.
 use Rattle.aic_registers.proofs.CallLaws.{started-by}
 use mathlib.Core.Path.{_∙_}
 use borrow.Author.Needs.{needs}

@@ -1,3 +1,4 @@
+-- That `start_now` of src/handlers.rt keeps its contract.
 use Rattle.aic_registers.proofs.CallLaws.{now-by}
 use mathlib.Core.Path.{_∙_}
 use borrow.Author.Needs.{needs}

@@ -1,3 +1,4 @@
+-- That `access_of` of src/map.rt keeps its contract.
 use Rattle.aic_registers.specs.Map.{access}
 use borrow.Author.Tests.{eq-eqb, ne-eqb, lt-ltb, le-ltb, le-leb, lt-leb}
 use Rattle.words.proofs.ChoiceLaws.{pick-true, pick-false}

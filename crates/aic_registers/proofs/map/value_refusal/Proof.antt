@@ -1,3 +1,4 @@
+-- That `value_refusal` of src/map.rt keeps its contract.
 use lib.Dec.{eqb}
 use mathlib.Core.Bool.{Bool, _&&_}
 use Rattle.aic_registers.specs.Map.{valueRefusal, dcr}

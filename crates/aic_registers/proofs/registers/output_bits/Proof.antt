@@ -1,3 +1,4 @@
+-- That `output_bits` of src/registers.rt keeps its contract.
 use Rattle.aic_registers.proofs.CallLaws.{bits-by}
 use Rattle.words.proofs.CountingLaws.{one-le}
 use native.Mathlib.Omega.{arith}

@@ -1,3 +1,4 @@
+-- That `read_at` of src/registers.rt keeps its contract.
 use Rattle.words.specs.Choice.{pick}
 use Rattle.aic_registers.specs.Handlers.{answered}
 use Rattle.aic_registers.specs.Registers.{readAt}

@@ -1,3 +1,4 @@
+-- That `read_stored` of src/registers.rt keeps its contract.
 use Rattle.words.specs.Choice.{pick}
 use Rattle.aic_registers.specs.Registers.{stored}
 use borrow.Author.Tests.{ne-eqb, lt-ltb, le-ltb}

@@ -1,3 +1,4 @@
+-- That `write_at` of src/registers.rt keeps its contract.
 use Prim.Native.Nat.{ℕ}
 use Rattle.words.specs.Choice.{pick}
 use Rattle.aic_record.specs.Record.{withEnabled, withMask, withForced}

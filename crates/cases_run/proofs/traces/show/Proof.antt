@@ -1,3 +1,4 @@
+-- That `show` of src/traces.rt keeps its contract.
 use lib.ListN.{length}
 use Prim.Native.Nat.{_-_}
 use borrow.Author.Needs.{needs}
