@@ -13,6 +13,12 @@ extern "C" {
         out: *mut u8,
         out_len: usize,
     ) -> usize;
+
+    /// The steps played, refused ones among them; the number of the refusal that ended the play, 0 where it went to the
+    /// end; the offset of that refusal, or the length of the trace, in bytes.
+    fn wisteria_steps(trace: *const u8, trace_len: usize, limit: u32) -> u32;
+    fn wisteria_refusal(trace: *const u8, trace_len: usize, limit: u32) -> u32;
+    fn wisteria_offset(trace: *const u8, trace_len: usize, limit: u32) -> usize;
 }
 
 /// Fills the buffer with the listing of a trace and answers how many bytes of it were written.
@@ -25,6 +31,22 @@ pub fn list_into(trace: &[u8], limit: u32, buffer: &mut [u8]) -> usize {
             limit,
             buffer.as_mut_ptr(),
             buffer.len(),
+        )
+    }
+}
+
+/// How many steps of a trace are played.
+pub fn steps_of(trace: &[u8], limit: u32) -> u32 {
+    // The pointer comes from a slice of the length that goes with it, here and below.
+    unsafe { wisteria_steps(trace.as_ptr(), trace.len(), limit) }
+}
+
+/// The number of the refusal that ends the play and its offset; 0 and the length where there is none.
+pub fn ending_of(trace: &[u8], limit: u32) -> (u32, usize) {
+    unsafe {
+        (
+            wisteria_refusal(trace.as_ptr(), trace.len(), limit),
+            wisteria_offset(trace.as_ptr(), trace.len(), limit),
         )
     }
 }

@@ -2,9 +2,10 @@
 #![cfg(feature = "exports")]
 
 use bench::compare::{compare, expected};
-use bench::exports::list_into;
+use bench::exports::{ending_of, list_into, steps_of};
 use bench::generate::Generator;
 use bench::listing::listing;
+use bench::trace::play;
 
 #[test]
 fn the_library_lists_as_the_model_does() {
@@ -26,5 +27,24 @@ fn what_finds_no_room_is_dropped() {
         assert_eq!(written, room.min(whole.len()));
         assert_eq!(buffer[..written], whole[..written]);
         assert!(buffer[written..].iter().all(|&byte| byte == 0xA5));
+    }
+}
+
+#[test]
+fn steps_and_endings_are_those_of_the_model() {
+    let generator = Generator::new(11);
+    for number in 0..generator.sweeps() + 500 {
+        let case = generator.case(number);
+        let report = play(&case.trace, case.limit, &mut ());
+        let ending = match report.ending {
+            Ok(length) => (0, length),
+            Err(fault) => (fault.refusal.number(), fault.offset),
+        };
+        assert_eq!(
+            steps_of(&case.trace, case.limit),
+            report.steps,
+            "case {number}"
+        );
+        assert_eq!(ending_of(&case.trace, case.limit), ending, "case {number}");
     }
 }

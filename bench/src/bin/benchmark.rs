@@ -12,10 +12,10 @@ use bench::workload::{workloads, Workload};
 const NOTES: &str = "\
 Nanoseconds per step in the fastest of several rounds; a round is one play of the whole trace by each side in turn.
 
-- proved: play and listing by the proved library, through its C function.
-- model: play and listing by the Rust model, with digits made by hand. The ratio is proved to model.
-- std text: the same with the standard library's formatting, as the differential test has it.
-- play alone: the model without any text, and so without its outputs after each step.
+- listing: play and listing, by the proved library through its C function and by the Rust model with digits made by hand.
+- std text: the model's listing with the standard library's formatting, as the differential test has it.
+- play: the steps alone, with no text and no outputs after each step.
+- A ratio is proved to model.
 
 Buffers: each side writes its listing into one buffer that is kept from round to round and not cleared. The proved
 library gets ample room; the model's vectors have grown to their size before the rounds begin. The trace is in memory
@@ -23,8 +23,8 @@ before the clock starts.
 ";
 
 const HEAD: &str = "\
-| controller | size | steps | trace bytes | listing bytes | proved | model | ratio | std text | play alone |
-|---|---|--:|--:|--:|--:|--:|--:|--:|--:|";
+| controller | size | steps | trace bytes | listing bytes | listing, proved | model | ratio | std text | play, proved | model | ratio |
+|---|---|--:|--:|--:|--:|--:|--:|--:|--:|--:|--:|";
 
 /// How often each workload is timed, unless said otherwise.
 const ROUNDS: usize = 31;
@@ -63,10 +63,24 @@ fn build() -> String {
 /// The times of one workload in nanoseconds for a whole play.
 struct Times {
     listing_bytes: usize,
+    listing: Sides,
+    std_text: u128,
+    play: Sides,
+}
+
+/// The same work by both sides; the proved one only where it is linked in.
+struct Sides {
     proved: Option<u128>,
     model: u128,
-    std_text: u128,
-    play_alone: u128,
+}
+
+impl Sides {
+    fn new(proved: u128, model: u128) -> Sides {
+        Sides {
+            proved: cfg!(feature = "exports").then_some(proved),
+            model,
+        }
+    }
 }
 
 fn measure(workload: &Workload, rounds: usize) -> Times {
@@ -76,20 +90,20 @@ fn measure(workload: &Workload, rounds: usize) -> Times {
     list_with_std(workload, &mut text);
     assert!(digits.bytes == text.bytes, "the model's listings differ");
     proved.check(&text.bytes);
-    let mut samples = [const { Vec::new() }; 4];
+    let mut samples = [const { Vec::new() }; 5];
     for _ in 0..rounds {
         samples[0].push(nanoseconds(|| proved.list()));
         samples[1].push(nanoseconds(|| list_by_hand(workload, &mut digits)));
         samples[2].push(nanoseconds(|| list_with_std(workload, &mut text)));
-        samples[3].push(nanoseconds(|| play_alone(workload)));
+        samples[3].push(nanoseconds(|| proved.play()));
+        samples[4].push(nanoseconds(|| play_alone(workload)));
     }
-    let [proved, model, std_text, play_alone] = samples.map(fastest);
+    let [proved, model, std_text, proved_play, model_play] = samples.map(fastest);
     Times {
         listing_bytes: text.bytes.len(),
-        proved: cfg!(feature = "exports").then_some(proved),
-        model,
+        listing: Sides::new(proved, model),
         std_text,
-        play_alone,
+        play: Sides::new(proved_play, model_play),
     }
 }
 
@@ -146,6 +160,13 @@ impl<'a> Proved<'a> {
         black_box(&self.buffer);
     }
 
+    fn play(&mut self) {
+        black_box(bench::exports::steps_of(
+            black_box(self.trace),
+            PROGRAM_LIMIT,
+        ));
+    }
+
     /// What is timed must be the same work.
     fn check(&mut self, listing: &[u8]) {
         self.list();
@@ -166,28 +187,35 @@ impl Proved {
 
     fn list(&mut self) {}
 
+    fn play(&mut self) {}
+
     fn check(&mut self, _: &[u8]) {}
 }
 
 fn row(workload: &Workload, times: &Times) -> String {
     let per_step = |whole: u128| format!("{:.1}", whole as f64 / f64::from(workload.steps));
-    let (proved, ratio) = match times.proved {
+    let side_by_side = |sides: &Sides| match sides.proved {
         Some(proved) => {
-            let ratio = proved as f64 / times.model as f64;
-            (per_step(proved), format!("{ratio:.2}"))
+            let ratio = proved as f64 / sides.model as f64;
+            [
+                per_step(proved),
+                per_step(sides.model),
+                format!("{ratio:.2}"),
+            ]
+            .join(" | ")
         }
-        None => ("-".to_string(), "-".to_string()),
+        None => format!("- | {} | -", per_step(sides.model)),
     };
     format!(
-        "| {} | {} | {} | {} | {} | {proved} | {} | {ratio} | {} | {} |",
+        "| {} | {} | {} | {} | {} | {} | {} | {} |",
         workload.controller,
         workload.size,
         workload.steps,
         workload.trace.len(),
         times.listing_bytes,
-        per_step(times.model),
+        side_by_side(&times.listing),
         per_step(times.std_text),
-        per_step(times.play_alone),
+        side_by_side(&times.play),
     )
 }
 
