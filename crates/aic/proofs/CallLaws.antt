@@ -1,10 +1,12 @@
 -- The steps of a record that is sound, and of one that is not: what the code answers is what the definition says.
 use mathlib.Core.Path.{_≡_, refl, sym, ap, ap₂, _∙_}
 use mathlib.Core.Bool.{Bool, true, false}
-use Prim.Native.Nat.{ℕ}
+use Prim.Native.Nat.{ℕ, _+_, _*_}
 use borrow.Author.Tests.{eq-eqb, ne-eqb}
 use lib.Dec.{eqb}
 use Rattle.words.specs.Choice.{pick}
+use Rattle.words.specs.Counting.{one}
+use Rattle.words.specs.Word.{bit}
 use Rattle.words.proofs.ChoiceLaws.{pick-true, pick-false}
 use Rattle.steps.specs.declared.Step.{Step}
 use Rattle.steps.specs.declared.Step.the-variants.{Read, Write, Line}
@@ -12,10 +14,12 @@ use Rattle.steps.specs.declared.Access.{Access}
 use Rattle.steps.specs.Refusals.{carriedOut, unsound, readRefusal, writeRefusal, lineRefusal}
 use Rattle.aic_record.specs.declared.Aic.{Aic}
 use Rattle.aic_record.specs.Sound.{sound}
+use Rattle.aic_sources.specs.Fast.{fiq}
+use Rattle.aic_sources.specs.Normal.{irq}
 use Rattle.aic_registers.specs.declared.Answer.{Answer}
 use Rattle.aic_registers.specs.Map.{access, valueRefusal}
 use Rattle.aic_registers.specs.Handlers.{refused}
-use Rattle.aic.specs.Model.{readNumber, writeNumber, lineNumber, read, write, line, step}
+use Rattle.aic.specs.Model.{readNumber, writeNumber, lineNumber, read, write, line, step, outputs}
 
 -- ---- the steps of a sound record
 
@@ -37,6 +41,24 @@ done n m x s e z = pick-true (refused s m) (eq-eqb m carriedOut (sym e ∙ z))
 
 pub stopped : (n m : ℕ) (x : Answer) (s : Aic) → n ≡ m → (n ≡ carriedOut → ⊥) → refused s n ≡ pick (eqb m carriedOut) x (refused s m)
 stopped n m x s e z = ap (refused s) e ∙ pick-false x (ne-eqb m carriedOut (λ q. z (e ∙ q)))
+
+-- ---- the outputs of a sound record, from the word of both
+
+two-bits : (f i : Bool) → (bit (one f + 2 * one i) 1 ≡ i) × (bit (one f + 2 * one i) 0 ≡ f)
+unfolding bit
+two-bits true true = (refl, refl)
+two-bits true false = (refl, refl)
+two-bits false true = (refl, refl)
+two-bits false false = (refl, refl)
+
+pub outputs-by : (s : Aic) (w : ℕ) (i f : Bool) → sound s ≡ true → w ≡ one (fiq s) + 2 * one (irq s) → i ≡ bit w 1 → f ≡ bit w 0
+    → record { refusal = carriedOut; irq = i; fiq = f; handlers = s .depth } ≡ outputs s
+unfolding outputs
+outputs-by s w i f ok e g h =
+    let b = two-bits (fiq s) (irq s) in
+    ap₂ (λ (x y : Bool). record { refusal = carriedOut; irq = x; fiq = y; handlers = s .depth })
+    (g ∙ ap (λ (n : ℕ). bit n 1) e ∙ b .0) (h ∙ ap (λ (n : ℕ). bit n 0) e ∙ b .1)
+    ∙ pick-true _ ok
 
 -- ---- a record that is not sound
 

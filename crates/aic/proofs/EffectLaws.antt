@@ -26,7 +26,7 @@ use Rattle.aic_registers.specs.Effects.{moded, vectored, enabledBy, disabledBy,
 use Rattle.aic_registers.specs.Registers.{outputBits, stored, readAt, writtenAt}
 use Rattle.aic.specs.Model.{readNumber, writeNumber, read, write}
 use Rattle.aic.specs.Tables.{Sets, MapTable, Reads, Writes}
-use Rattle.words.proofs.WordLaws.{both-alone, bit-cleared}
+use Rattle.words.proofs.WordLaws.{both-alone, bit-cleared, either-lt, without-lt, withBit-lt}
 
 module _ (s : Aic) (ok : sound s ≡ true) where
   -- ---- writes
@@ -59,13 +59,14 @@ module _ (s : Aic) (ok : sound s ≡ true) where
       )
 
   retyped : (k v : ℕ) → k < 32 → kind s k ≢ typeOf v
-      → Sets (write s (k * 4) v) 0 (λ w. withMode (withMemory s w) (set (s .mode) k (keptMode v))) (λ j. bit (s .memory) j && not (eqb j k))
+      → Sets (write s (k * 4) v) 0 (s .memory) (λ w. withMode (withMemory s w) (set (s .mode) k (keptMode v))) (λ j. bit (s .memory) j && not (eqb j k))
   unfolding moded pick
   retyped k v l d =
       record {
         word = withBit (s .memory) k false;
         done = mode-write k v l ∙ rw (ne-eqb (kind s k) (typeOf v) d);
         bits = bit-cleared (s .memory) k;
+        below = λ _. withBit-lt (s .memory) k false;
       }
 
   reranked : (k v : ℕ) → k < 32 → kind s k ≡ typeOf v → write s (k * 4) v ≡ answered (withMode s (set (s .mode) k (keptMode v))) 0
@@ -89,19 +90,21 @@ module _ (s : Aic) (ok : sound s ≡ true) where
           reranked = λ k l e. reranked k v l e;
           vectors = λ k l. vector-write k v l;
           ignored = rw ok;
-          enables = record { word = either (s .enabled) v; done = rw ok; bits = bit-either (s .enabled) v };
-          disables = record { word = without (s .enabled) v; done = rw ok; bits = bit-without (s .enabled) v };
+          enables = record { word = either (s .enabled) v; done = rw ok; bits = bit-either (s .enabled) v; below = λ _. either-lt (s .enabled) v };
+          disables = record { word = without (s .enabled) v; done = rw ok; bits = bit-without (s .enabled) v; below = λ _. without-lt (s .enabled) v };
           sets =
               record {
                 word = either (s .memory) (both v (edgeWord s));
                 done = rw ok;
                 bits = λ k l. bit-either (s .memory) (both v (edgeWord s)) k l ∙ rw (bits-edge k l);
+                below = λ _. either-lt (s .memory) (both v (edgeWord s));
               };
           clears =
               record {
                 word = without (s .memory) (both v (edgeWord s));
                 done = rw ok;
                 bits = λ k l. bit-without (s .memory) (both v (edgeWord s)) k l ∙ rw (bits-edge k l);
+                below = λ _. without-lt (s .memory) (both v (edgeWord s));
               };
           closes = λ d. rw (ok, ne-eqb (s .depth) 0 d);
           closesNone = λ e. rw (ok, eq-eqb (s .depth) 0 e);
@@ -112,8 +115,9 @@ module _ (s : Aic) (ok : sound s ≡ true) where
                 word = either (s .forced) (without v 1);
                 done = rw ok;
                 bits = λ k l. bit-either (s .forced) (without v 1) k l ∙ rw (bits-force k l);
+                below = λ _. either-lt (s .forced) (without v 1);
               };
-          unforces = record { word = without (s .forced) v; done = rw ok; bits = bit-without (s .forced) v };
+          unforces = record { word = without (s .forced) v; done = rw ok; bits = bit-without (s .forced) v; below = λ _. without-lt (s .forced) v };
         }
 
   -- ---- plain reads

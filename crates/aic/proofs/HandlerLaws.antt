@@ -1,11 +1,11 @@
 -- The steps that may clear or set one memory: starts, vector reads, mode writes and line steps.
-use Prim.Native.Nat.{ℕ, _+_, _<_, _≤_}
+use Prim.Native.Nat.{ℕ, _+_, _^_, _<_, _≤_}
 use mathlib.Core.Path.{_≡_, refl, sym, ap, _∙_}
-use mathlib.Core.Bool.{Bool, true, false, not, _&&_, _||_, and-true}
-use mathlib.Core.Logic.{_≢_}
+use mathlib.Core.Bool.{Bool, true, false, not, _&&_, _||_, and-true, and-false}
+use mathlib.Core.Logic.{_≢_, _⊎_, inl, inr}
 use lib.Dec.{eqb}
 use lib.ListN.{set}
-use borrow.Author.Tests.{ne-eqb, lt-ltb, le-leb}
+use borrow.Author.Tests.{ne-eqb, lt-ltb, le-ltb, le-leb}
 use Rattle.words.specs.Choice.{pick}
 use Rattle.words.specs.Word.{bit, withBit}
 use Rattle.words.proofs.ChoiceLaws.{pick-cases}
@@ -16,7 +16,7 @@ use Rattle.aic_record.specs.declared.Aic.{Aic}
 use Rattle.aic_record.specs.Record.{withLines, withMemory, withMode, withHandlers}
 use Rattle.aic_record.specs.Mode.{typeOf, keptMode, priority, kind, edge}
 use Rattle.aic_record.specs.Sound.{sound}
-use Rattle.aic_sources.specs.Pending.{pending, active}
+use Rattle.aic_sources.specs.Pending.{pending, activeLow, activeAt, active}
 use Rattle.aic_sources.specs.Fast.{fast, fastAsks}
 use Rattle.aic_sources.specs.Normal.{candidate, candidates, chosen}
 use Rattle.aic_sources.specs.Promises.{AheadOfOthers}
@@ -30,7 +30,7 @@ use Rattle.aic_registers.specs.Effects.{moded, turns, moved}
 use Rattle.aic_registers.specs.Registers.{readAt}
 use Rattle.aic.specs.Model.{readNumber, lineNumber, read, line}
 use Rattle.aic.specs.Tables.{Sets}
-use Rattle.words.proofs.WordLaws.{bit-cleared-if, bit-put-if}
+use Rattle.words.proofs.WordLaws.{bit-cleared-if, bit-put-if, withBit-lt}
 
 -- ---- the record after each, with one memory cleared or set where a test holds
 
@@ -78,6 +78,10 @@ pub started-is : (s : Aic) (k p : ℕ) → startedAt s k p
 unfolding startedAt opened
 started-is s k p = rw (spent-is s k)
 
+-- a word of 32 bits stays one where one of its bits may be put anew
+put-below : (w k : ℕ) (b t : Bool) → w < 2 ^ 32 → pick t (withBit w k b) w < 2 ^ 32
+put-below w k b t l = pick-cases (λ (n : ℕ). n < 2 ^ 32) t (λ _. withBit-lt w k b) (λ _. l)
+
 -- ---- reads of IVR and FVR
 
 module _ (s : Aic) (ok : sound s ≡ true) where
@@ -90,7 +94,7 @@ module _ (s : Aic) (ok : sound s ≡ true) where
   fvr-done = rw ok
 
   pub vector-read : (k : ℕ) → k < 32 → candidate s k ≡ true → AheadOfOthers s k
-      → Sets (read s ivr) (vectorAt s k)
+      → Sets (read s ivr) (vectorAt s k) (s .memory)
       (λ w. withHandlers (withMemory s w) (set (s .source) (s .depth) k) (set (s .level) (s .depth) (priority s k)) (s .depth + 1))
       (λ j. bit (s .memory) j && not (eqb j k && edge s k))
   unfolding ivrRead candidates pick
@@ -100,6 +104,7 @@ module _ (s : Aic) (ok : sound s ≡ true) where
         done = ivr-done
             ∙ rw (some-any 32 (candidate s) k l c, chosen-one s k (record { below = l; fit = c; first = h }), started-is s k (priority s k));
         bits = bit-cleared-if (s .memory) k (edge s k);
+        below = put-below (s .memory) k false (edge s k);
       }
 
   pub vector-spurious : ((k : ℕ) → k < 32 → candidate s k ≡ false) → read s ivr ≡ answered s (s .spurious)
@@ -107,13 +112,14 @@ module _ (s : Aic) (ok : sound s ≡ true) where
   vector-spurious h = ivr-done ∙ rw (any-none 32 (candidate s) h)
 
   pub fast-read : (k : ℕ) → k < 32 → fast s k ≡ true → pending s k ≡ true → bit (s .enabled) k ≡ true
-      → Sets (read s fvr) (vectorAt s 0) (withMemory s) (λ j. bit (s .memory) j && not (eqb j 0 && (edge s 0 && eqb (s .forced) 0)))
+      → Sets (read s fvr) (vectorAt s 0) (s .memory) (withMemory s) (λ j. bit (s .memory) j && not (eqb j 0 && (edge s 0 && eqb (s .forced) 0)))
   unfolding fvrRead pick
   fast-read k l f p e =
       record {
         word = pick (edge s 0 && eqb (s .forced) 0) (withBit (s .memory) 0 false) (s .memory);
         done = fvr-done ∙ rw (some-fast s k l f p e, fast-spent-is s);
         bits = bit-cleared-if (s .memory) 0 (edge s 0 && eqb (s .forced) 0);
+        below = put-below (s .memory) 0 false (edge s 0 && eqb (s .forced) 0);
       }
 
   pub fast-spurious : ((k : ℕ) → k < 32 → fast s k ≡ true → pending s k ≡ true → bit (s .enabled) k ≡ false) → read s fvr ≡ answered s (s .spurious)
@@ -123,7 +129,7 @@ module _ (s : Aic) (ok : sound s ≡ true) where
   -- ---- line steps
 
   pub line-moves : (k l : ℕ) → k < 32 → l ≤ 1
-      → Sets (line s k l) 0 (λ w. withLines (withMemory s w) (withBit (s .lines) k (eqb l 1)))
+      → Sets (line s k l) 0 (s .memory) (λ w. withLines (withMemory s w) (withBit (s .lines) k (eqb l 1)))
       (λ j. bit (s .memory) j || (eqb j k && (edge s k && turns s k (eqb l 1))))
   unfolding line lineNumber lineRefusal pick
   line-moves k l m n =
@@ -131,6 +137,7 @@ module _ (s : Aic) (ok : sound s ≡ true) where
         word = pick (edge s k && turns s k (eqb l 1)) (withBit (s .memory) k true) (s .memory);
         done = rw (ok, lt-ltb k 32 m, le-leb l 1 n, moved-is s k (eqb l 1));
         bits = bit-put-if (s .memory) k (edge s k && turns s k (eqb l 1));
+        below = put-below (s .memory) k true (edge s k && turns s k (eqb l 1));
       }
 
 -- a forced source is fast, so it is not the one that a read of IVR starts
@@ -169,3 +176,17 @@ line-repeated s k = go (active s k)
     go : (t : Bool) → (not t && t) ≡ false
     go true = refl
     go false = refl
+
+-- what an edge is: a fall of the line of an external source of type 0 or 1, a rise of any other
+pub edge-falls : (s : Aic) (k : ℕ) (high : Bool) → bit (s .external) k ≡ true → kind s k < 2 → turns s k high ≡ (bit (s .lines) k && not high)
+unfolding turns active activeAt activeLow pick
+edge-falls s k high e l = rw (e, lt-ltb (kind s k) 2 l) (go (bit (s .lines) k))
+  where
+    go : (b : Bool) → (not (not b) && not high) ≡ (b && not high)
+    go true = refl
+    go false = refl
+
+pub edge-rises : (s : Aic) (k : ℕ) (high : Bool) → (bit (s .external) k ≡ false) ⊎ (2 ≤ kind s k) → turns s k high ≡ (not (bit (s .lines) k) && high)
+unfolding turns active activeAt activeLow pick
+edge-rises s k high (inl e) = rw e
+edge-rises s k high (inr l) = rw (le-ltb (kind s k) 2 l, and-false (bit (s .external) k))

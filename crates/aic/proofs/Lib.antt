@@ -2,7 +2,7 @@
 pub mod CallLaws
 pub mod EffectLaws
 pub mod HandlerLaws
-pub mod KindsLaws
 pub mod MaskLaws
 pub mod Promises
 pub mod SoundLaws
+pub mod StepKindLaws

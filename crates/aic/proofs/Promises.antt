@@ -27,10 +27,10 @@ use Rattle.aic_registers.specs.Effects.{moved}
 use Rattle.aic_registers.specs.Registers.{readAt, writtenAt}
 use Rattle.aic.specs.Model.{within, start, readNumber, writeNumber, lineNumber, read, write, line, step, outputs}
 use Rattle.aic.specs.Promises.{Promises}
-use Rattle.aic.proofs.KindsLaws.{value-number}
+use Rattle.aic.proofs.StepKindLaws.{value-number}
 use Rattle.aic.proofs.SoundLaws.{step-sound, step-shaped}
 use Rattle.aic.proofs.EffectLaws.{the-map, reads-of, writes-of}
-use Rattle.aic.proofs.HandlerLaws.{vector-read, vector-spurious, vector-forced, fast-read, fast-spurious, fast-forced, line-moves, line-repeated}
+use Rattle.aic.proofs.HandlerLaws.{vector-read, vector-spurious, vector-forced, fast-read, fast-spurious, fast-forced, line-moves, line-repeated, edge-falls, edge-rises}
 use Rattle.aic.proofs.MaskLaws.{mask-idle}
 
 -- ---- refusals
@@ -95,9 +95,14 @@ pub kept : Promises
 unfolding within start outputs pick
 kept =
     record {
-      configuration = λ place value. (ltb-true place 2, lt-ltb place 2);
+      configuration = λ nth value. (ltb-true nth 2, lt-ltb nth 2);
       startTaken = λ external lines. refl;
+      startIs = record-promises.kept .resetIs;
       startSound = λ external lines. (record-promises.kept .resetSound external lines, record-promises.kept .resetShaped external lines);
+      stepIs = λ s o v k l. (refl, refl, refl);
+      answeredIs = λ s v. refl;
+      refusedIs = λ s n. refl;
+      vectorIs = λ s k. refl;
       stepSound = step-sound;
       stepShaped = step-shaped;
       refusedSame = step-refused;
@@ -118,6 +123,8 @@ kept =
       fastSpurious = fast-spurious;
       fastForced = fast-forced;
       lineMoves = λ s k l ok. line-moves s ok k l;
+      edgeFalls = edge-falls;
+      edgeRises = edge-rises;
       lineRepeated = line-repeated;
       maskIdle = λ s m x ok e. mask-idle s m ok e x;
       outputsSound = λ s ok. rw ok;

@@ -28,7 +28,7 @@ use Rattle.aic_registers.specs.Effects.{moded, setBy, turns, moved}
 use Rattle.aic.specs.Model.{step}
 use Rattle.words.proofs.WordLaws.{bit-cleared, bit-cleared-if, bit-put-if}
 use Rattle.aic.proofs.HandlerLaws.{moded-is, moved-is, started-is}
-use Rattle.aic.proofs.KindsLaws.{kinds}
+use Rattle.aic.proofs.StepKindLaws.{kinds}
 
 -- ---- the lengths of the arrays
 

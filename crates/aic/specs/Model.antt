@@ -21,7 +21,7 @@ use Rattle.aic_registers.specs.Registers.{readAt, writtenAt}
 
 -- two configuration numbers, the external sources and the first line levels, each any word: no start is refused (01, AIC, Configuration)
 unfoldable pub within : ℕ → ℕ → Bool
-within place value = ltb place 2
+within nth value = ltb nth 2
 
 unfoldable pub start : ℕ → ℕ → Begun
 start external lines = record { refusal = carriedOut; aic = reset external lines }

@@ -1,25 +1,24 @@
 -- What is promised of the controller: how it starts, when it refuses, what each step does, and that it stays sound.
 use Prim.Native.Nat.{ℕ, _+_, _<_, _≤_}
 use mathlib.Core.Path.{_≡_}
-use mathlib.Core.Bool.{true, false, not, _&&_, _||_}
+use mathlib.Core.Bool.{Bool, true, false, not, _&&_, _||_}
 use mathlib.Core.Logic.{_↔_, _≢_, _⊎_}
 use lib.Dec.{eqb}
-use lib.ListN.{set}
+use lib.ListN.{getD, set}
 use Rattle.words.specs.Word.{bit, withBit}
 use Rattle.steps.specs.declared.Step.{Step}
 use Rattle.steps.specs.declared.Step.the-variants.{Read, Write, Line}
-use Rattle.steps.specs.Refusals.{carriedOut, protecting, unsound}
 use Rattle.steps.specs.Tables.{ReadTable, WriteTable, LineTable}
 use Rattle.aic_record.specs.declared.Aic.{Aic}
 use Rattle.aic_record.specs.Record.{withLines, withMemory, withMask, withHandlers}
-use Rattle.aic_record.specs.Mode.{priority, edge}
+use Rattle.aic_record.specs.Mode.{priority, kind, edge}
 use Rattle.aic_record.specs.Sound.{sound}
-use Rattle.aic_record.specs.Promises.{Shaped}
+use Rattle.aic_record.specs.Promises.{Shaped, Fresh}
 use Rattle.aic_sources.specs.Pending.{pending}
 use Rattle.aic_sources.specs.Fast.{fast, fiq}
 use Rattle.aic_sources.specs.Normal.{candidate, irq}
 use Rattle.aic_sources.specs.Promises.{AheadOfOthers}
-use Rattle.aic_registers.specs.Map.{ivr, fvr, cisr, dcr, access, valueRefusal}
+use Rattle.aic_registers.specs.Map.{access, valueRefusal}
 use Rattle.aic_registers.specs.Handlers.{answered, refused, vectorAt}
 use Rattle.aic_registers.specs.Effects.{turns}
 use Rattle.aic.specs.Model.{within, start, read, write, line, step, outputs}
@@ -27,20 +26,28 @@ use Rattle.aic.specs.Tables.{Sets, MapTable, Reads, Writes}
 
 -- a step that neither shows nor sets the mask
 abbrev pub MaskFree : Step → Type 0
-MaskFree (Read o) = (o ≢ cisr) × (o ≢ dcr)
-MaskFree (Write o v) = o ≢ dcr
+MaskFree (Read o) = (o ≢ 0x114) × (o ≢ 0x138)
+MaskFree (Write o v) = o ≢ 0x138
 MaskFree (Line k l) = Unit {0}
 
 pub record Promises : Type 0 where
   -- two configuration numbers, each any word; no start is refused, and its record is sound (01, AIC, Configuration)
-  pub configuration : (place value : ℕ) → (within place value ≡ true) ↔ (place < 2)
-  pub startTaken : (external lines : ℕ) → start external lines .refusal ≡ carriedOut
+  pub configuration : (nth value : ℕ) → (within nth value ≡ true) ↔ (nth < 2)
+  pub startTaken : (external lines : ℕ) → start external lines .refusal ≡ 0
+  pub startIs : (external lines : ℕ) → Fresh external lines (start external lines .aic)
   pub startSound : (external lines : ℕ) → (sound (start external lines .aic) ≡ true) × Shaped (start external lines .aic)
+  -- a step of a recorded trace is a read, a write or a line step
+  pub stepIs : (s : Aic) (o v k l : ℕ) → (step s (Read o) ≡ read s o) × (step s (Write o v) ≡ write s o v) × (step s (Line k l) ≡ line s k l)
+  -- what is carried out answers 0, a value and the record after it; what is refused its number, the value 0 and the record as it was (01, Numbers)
+  pub answeredIs : (s : Aic) (v : ℕ) → answered s v ≡ record { refusal = 0; value = v; aic = s }
+  pub refusedIs : (s : Aic) (n : ℕ) → refused s n ≡ record { refusal = n; value = 0; aic = s }
+  -- the vector of source k; past the end of the array 0
+  pub vectorIs : (s : Aic) (k : ℕ) → vectorAt s k ≡ getD (s .vector) k 0
   -- every step keeps a sound record sound, and every array at its length (01, AIC, A sound record)
   pub stepSound : (s : Aic) (x : Step) → Shaped s → sound s ≡ true → sound (step s x .aic) ≡ true
   pub stepShaped : (s : Aic) (x : Step) → Shaped s → Shaped (step s x .aic)
   -- a refused step answers its number, the value 0 and the same record (01, Numbers)
-  pub refusedSame : (s : Aic) (x : Step) → step s x .refusal ≢ carriedOut → step s x ≡ refused s (step s x .refusal)
+  pub refusedSame : (s : Aic) (x : Step) → step s x .refusal ≢ 0 → step s x ≡ refused s (step s x .refusal)
   -- writes and line steps answer the value 0 (01, Numbers)
   pub writeValue : (s : Aic) (o v : ℕ) → write s o v .value ≡ 0
   pub lineValue : (s : Aic) (k l : ℕ) → line s k l .value ≡ 0
@@ -49,8 +56,8 @@ pub record Promises : Type 0 where
   pub writeNumbers : (s : Aic) (o v : ℕ) → WriteTable (sound s) o (access o) (valueRefusal o v) (write s o v .refusal)
   pub lineNumbers : (s : Aic) (k l : ℕ) → LineTable (sound s) 32 k l (line s k l .refusal)
   -- a value is refused by 5 exactly if it asks debug control for protect mode, and by no other number (01, Numbers; 003, 27.7.5)
-  pub valueFive : (o v : ℕ) → (valueRefusal o v ≡ protecting) ↔ ((o ≡ dcr) × (bit v 0 ≡ true))
-  pub valueElse : (o v : ℕ) → (valueRefusal o v ≡ carriedOut) ⊎ (valueRefusal o v ≡ protecting)
+  pub valueFive : (o v : ℕ) → (valueRefusal o v ≡ 5) ↔ ((o ≡ 0x138) × (bit v 0 ≡ true))
+  pub valueElse : (o v : ℕ) → (valueRefusal o v ≡ 0) ⊎ (valueRefusal o v ≡ 5)
   -- the map, the plain reads and the writes, register by register (01, AIC, Map; 003, table 27-2)
   pub map : MapTable
   pub reads : (s : Aic) → sound s ≡ true → Reads s
@@ -58,26 +65,29 @@ pub record Promises : Type 0 where
   -- a read of IVR starts the candidate ahead of all others, source k: it answers k's vector, opens a handler of k at the priority that k has
   -- now, and clears k's memory, and no other, if k is edge-triggered (01, AIC, Normal side; 003, 27.7.1.3, 27.7.3.1 and 27.7.3.4)
   pub vectorRead : (s : Aic) (k : ℕ) → sound s ≡ true → k < 32 → candidate s k ≡ true → AheadOfOthers s k
-      → Sets (read s ivr) (vectorAt s k)
+      → Sets (read s 0x100) (vectorAt s k) (s .memory)
       (λ w. withHandlers (withMemory s w) (set (s .source) (s .depth) k) (set (s .level) (s .depth) (priority s k)) (s .depth + 1))
       (λ j. bit (s .memory) j && not (eqb j k && edge s k))
   -- without a candidate it answers SPU and changes nothing (01, AIC, Normal side; 003, 27.7.6)
-  pub vectorSpurious : (s : Aic) → sound s ≡ true → ((k : ℕ) → k < 32 → candidate s k ≡ false) → read s ivr ≡ answered s (s .spurious)
+  pub vectorSpurious : (s : Aic) → sound s ≡ true → ((k : ℕ) → k < 32 → candidate s k ≡ false) → read s 0x100 ≡ answered s (s .spurious)
   -- it never clears the memory of a forced source (01, Slips; 003, 27.7.4.5)
-  pub vectorForced : (s : Aic) (j : ℕ) → j < 32 → bit (s .forced) j ≡ true → bit (read s ivr .aic .memory) j ≡ bit (s .memory) j
+  pub vectorForced : (s : Aic) (j : ℕ) → j < 32 → bit (s .forced) j ≡ true → bit (read s 0x100 .aic .memory) j ≡ bit (s .memory) j
   -- a read of FVR with a fast source pending and enabled answers vector 0, whichever source that is; it clears the memory of source 0
   -- alone, and that only if it is edge-triggered and no source is forced (01, AIC, Fast side; 003, 27.7.4.3 and 27.7.4.5)
   pub fastRead : (s : Aic) (k : ℕ) → sound s ≡ true → k < 32 → fast s k ≡ true → pending s k ≡ true → bit (s .enabled) k ≡ true
-      → Sets (read s fvr) (vectorAt s 0) (withMemory s) (λ j. bit (s .memory) j && not (eqb j 0 && (edge s 0 && eqb (s .forced) 0)))
+      → Sets (read s 0x104) (vectorAt s 0) (s .memory) (withMemory s) (λ j. bit (s .memory) j && not (eqb j 0 && (edge s 0 && eqb (s .forced) 0)))
   -- without one it answers SPU and changes nothing
   pub fastSpurious : (s : Aic) → sound s ≡ true → ((k : ℕ) → k < 32 → fast s k ≡ true → pending s k ≡ true → bit (s .enabled) k ≡ false)
-      → read s fvr ≡ answered s (s .spurious)
+      → read s 0x104 ≡ answered s (s .spurious)
   -- where a source is forced, a read of FVR changes nothing at all (01, Slips; 003, 27.7.4.5)
-  pub fastForced : (s : Aic) → s .forced ≢ 0 → read s fvr .aic ≡ s
+  pub fastForced : (s : Aic) → s .forced ≢ 0 → read s 0x104 .aic ≡ s
   -- a line step moves its line alone; an edge source that it turns active remembers it, enabled or not (01, AIC, Pending)
   pub lineMoves : (s : Aic) (k l : ℕ) → sound s ≡ true → k < 32 → l ≤ 1
-      → Sets (line s k l) 0 (λ w. withLines (withMemory s w) (withBit (s .lines) k (eqb l 1)))
+      → Sets (line s k l) 0 (s .memory) (λ w. withLines (withMemory s w) (withBit (s .lines) k (eqb l 1)))
       (λ j. bit (s .memory) j || (eqb j k && (edge s k && turns s k (eqb l 1))))
+  -- a line turns active by a fall where the source is external and of type 0 or 1, by a rise where it is any other (01, AIC, Mode; 003, 27.8.3)
+  pub edgeFalls : (s : Aic) (k : ℕ) (high : Bool) → bit (s .external) k ≡ true → kind s k < 2 → turns s k high ≡ (bit (s .lines) k && not high)
+  pub edgeRises : (s : Aic) (k : ℕ) (high : Bool) → (bit (s .external) k ≡ false) ⊎ (2 ≤ kind s k) → turns s k high ≡ (not (bit (s .lines) k) && high)
   -- the level that a line has already is no edge
   pub lineRepeated : (s : Aic) (k : ℕ) → turns s k (bit (s .lines) k) ≡ false
   -- the mask stands in the way of no step: with another mask each step answers the same, and does the same, save that the mask is
@@ -85,5 +95,5 @@ pub record Promises : Type 0 where
   pub maskIdle : (s : Aic) (m : ℕ) (x : Step) → sound s ≡ true → (m ≡ 0) ⊎ (m ≡ 2) → MaskFree x
       → step (withMask s m) x ≡ record { refusal = step s x .refusal; value = step s x .value; aic = withMask (step s x .aic) m }
   -- the outputs of a sound record, and 12 and nothing else exactly if it is not sound (01, Numbers; AIC)
-  pub outputsSound : (s : Aic) → sound s ≡ true → outputs s ≡ record { refusal = carriedOut; irq = irq s; fiq = fiq s; handlers = s .depth }
-  pub outputsUnsound : (s : Aic) → sound s ≡ false → outputs s ≡ record { refusal = unsound; irq = false; fiq = false; handlers = 0 }
+  pub outputsSound : (s : Aic) → sound s ≡ true → outputs s ≡ record { refusal = 0; irq = irq s; fiq = fiq s; handlers = s .depth }
+  pub outputsUnsound : (s : Aic) → sound s ≡ false → outputs s ≡ record { refusal = 12; irq = false; fiq = false; handlers = 0 }

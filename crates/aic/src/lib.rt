@@ -28,11 +28,11 @@ pub struct Signals {
     pub handlers: u32,
 }
 
-// Whether configuration number `place` may have this value: each of the two may have any.
-pub fn within(place: u32, value: u32) -> bool
-    ensures { λ r. ⌜ r ≡ within place value ⌝ }
+// Whether the nth configuration number may have this value: each of the two may have any.
+pub fn within(nth: u32, value: u32) -> bool
+    ensures { λ r. ⌜ r ≡ within nth value ⌝ }
 {
-    place < 2
+    nth < 2
 }
 
 // The controller after reset, with the word that marks external sources and the first levels of the lines.
@@ -103,12 +103,12 @@ pub fn outputs_sound(s: Aic) -> Signals
     requires { ⌜ sound s ≡ true ⌝ }
     ensures { λ r. ⌜ r ≡ outputs s ⌝ }
 {
-    let pins = aic_sources::pins_of(s);
+    let bits = aic_sources::output_bits(s);
     let handlers = s.depth;
     Signals {
         refusal: steps::CARRIED_OUT,
-        irq: pins.irq,
-        fiq: pins.fiq,
+        irq: words::has(bits, 1),
+        fiq: words::has(bits, 0),
         handlers: handlers,
     }
 }

@@ -1,6 +1,6 @@
 -- Laws and theorems about the AT91 controller's record.
 pub mod PassLaws
-pub mod PlaceLaws
 pub mod Promises
 pub mod RuleLaws
 pub mod SoundLaws
+pub mod TableLaws

@@ -20,16 +20,16 @@ use Rattle.aic_record.specs.Promises.{Rules}
 -- ---- apart
 
 module _ (s : Aic) (ok : sound s ≡ true) where
-  place : (i : ℕ) → i < 8 → pick (ltb i (s .depth)) (handlerSound s i) (freeSound s i) ≡ true
+  slot : (i : ℕ) → i < 8 → pick (ltb i (s .depth)) (handlerSound s i) (freeSound s i) ≡ true
   unfolding sound handlersSound
-  place = all-at 8 (λ i. pick (ltb i (s .depth)) (handlerSound s i) (freeSound s i)) (search (and-left, and-right))
+  slot = all-at 8 (λ i. pick (ltb i (s .depth)) (handlerSound s i) (freeSound s i)) (search (and-left, and-right))
 
   eight : s .depth ≤ 8
   unfolding sound handlersSound
   eight = leb-true (s .depth) 8 (search (and-left, and-right))
 
   used : (i : ℕ) → i < s .depth → handlerSound s i ≡ true
-  used i l = pick-true (freeSound s i) (lt-ltb i (s .depth) l) ∙ place i (omega (arith, eight))
+  used i l = pick-true (freeSound s i) (lt-ltb i (s .depth) l) ∙ slot i (omega (arith, eight))
 
   used-source : (i : ℕ) → i < s .depth → (1 ≤ sourceAt s i) × (sourceAt s i ≤ 31)
   unfolding handlerSound
@@ -61,7 +61,7 @@ module _ (s : Aic) (ok : sound s ≡ true) where
   free : (i : ℕ) → s .depth ≤ i → i < 8 → (sourceAt s i ≡ 0) × (levelAt s i ≡ 0)
   unfolding freeSound
   free i l m =
-      let h : freeSound s i ≡ true = pick-false (handlerSound s i) (le-ltb i (s .depth) l) ∙ place i m in
+      let h : freeSound s i ≡ true = pick-false (handlerSound s i) (le-ltb i (s .depth) l) ∙ slot i m in
       (eqb-true (sourceAt s i) 0 (search and-left), eqb-true (levelAt s i) 0 (search and-right))
 
   quiet : (k : ℕ) → k < 32 → edge s k ≡ false → bit (s .memory) k ≡ false
@@ -112,9 +112,9 @@ module _ (s : Aic) (r : Rules s) where
       (and-both (and-both (le-leb 1 (sourceAt s i) (r .sources i l .0)) (le-leb (sourceAt s i) 31 (r .sources i l .1))) (le-leb (levelAt s i) 7 (r .levels i l)))
       (above-last i l (ℕ-discrete i 0))
 
-  places : (i : ℕ) → i < 8 → pick (ltb i (s .depth)) (handlerSound s i) (freeSound s i) ≡ true
+  slots : (i : ℕ) → i < 8 → pick (ltb i (s .depth)) (handlerSound s i) (freeSound s i) ≡ true
   unfolding freeSound
-  places i l =
+  slots i l =
       pick-cases (λ t. t ≡ true) (ltb i (s .depth)) (λ e. holds i (ltb-true i (s .depth) e))
       (λ n. let u = r .unused i (ltb-false i (s .depth) n) l in and-both (eq-eqb (sourceAt s i) 0 (u .0)) (eq-eqb (levelAt s i) 0 (u .1)))
 
@@ -130,7 +130,7 @@ is-sound s r =
     and-both
     (and-both
     (and-both
-    (and-both (le-leb (s .depth) 8 (r .handlers)) (at-all 8 (λ i. pick (ltb i (s .depth)) (handlerSound s i) (freeSound s i)) (places s r)))
+    (and-both (le-leb (s .depth) 8 (r .handlers)) (at-all 8 (λ i. pick (ltb i (s .depth)) (handlerSound s i) (freeSound s i)) (slots s r)))
     (at-all 32 (λ k. edge s k || not (bit (s .memory) k)) (quiets s r)))
     (and-both (at-all 32 (λ k. eqb (keptMode (modeAt s k)) (modeAt s k)) (λ k l. eq-eqb (keptMode (modeAt s k)) (modeAt s k) (r .modes k l))) (masks s r)))
     (ap not (r .forced))
@@ -138,7 +138,7 @@ is-sound s r =
 -- ---- how many handlers fit
 
 module _ (s : Aic) (r : Rules s) where
-  -- each level is at least as high as its place
+  -- each level is at least as high as its slot
   climbs : (i : ℕ) → i < s .depth → i ≤ levelAt s i
   climbs zero l = omega arith
   climbs (suc i) l = omega (arith, climbs i (omega arith), r .rising i (suc i) (omega arith) l)

@@ -1,4 +1,4 @@
--- What the check of a record asks of each place and of each mode, as its two passes take them; the rules themselves are in Sound.
+-- What the check of a record asks of each slot and of each mode, as its two passes take them; the rules themselves are in Sound.
 use Prim.Native.Nat.{ℕ, _+_, _-_}
 use mathlib.Core.Bool.{Bool, not, _&&_, _||_}
 use mathlib.Core.List.{List}
@@ -8,13 +8,13 @@ use Rattle.words.specs.Choice.{pick}
 use Rattle.words.specs.Word.{bit}
 use Rattle.aic_record.specs.Mode.{keptMode, edgeOf}
 
--- the least level that may stand at place i: one above the level before it
+-- the least level that may stand in slot i: one above the level before it
 unfoldable pub floorAt : List ℕ → ℕ → ℕ
 floorAt level i = pick (eqb i 0) 0 (getD level (i - 1) 0 + 1)
 
--- place i, where `depth` places are used
-unfoldable pub placeSound : List ℕ → List ℕ → ℕ → ℕ → Bool
-placeSound source level depth i =
+-- slot i, where `depth` slots are used
+unfoldable pub slotSound : List ℕ → List ℕ → ℕ → ℕ → Bool
+slotSound source level depth i =
     pick (ltb i depth)
     (leb 1 (getD source i 0) && leb (getD source i 0) 31 && leb (getD level i 0) 7 && leb (floorAt level i) (getD level i 0))
     (eqb (getD source i 0) 0 && eqb (getD level i 0) 0)

@@ -1,13 +1,14 @@
--- What is promised of the record: its rules one by one, and that reset keeps them.
-use Prim.Native.Nat.{ℕ, _≤_, _<_}
+-- What is promised of the record: the record after reset, the fields of a mode, each part put anew, and the rules one by one.
+use Prim.Native.Nat.{ℕ, _/_, _%_, _≤_, _<_}
 use mathlib.Core.Path.{_≡_}
 use mathlib.Core.Bool.{true, false}
+use mathlib.Core.List.{List}
 use mathlib.Core.Logic.{_↔_, _⊎_}
-use lib.ListN.{length}
-use Rattle.words.specs.Word.{bit}
+use lib.ListN.{length, getD}
+use Rattle.words.specs.Word.{bit, both}
 use Rattle.aic_record.specs.declared.Aic.{Aic}
-use Rattle.aic_record.specs.Record.{reset}
-use Rattle.aic_record.specs.Mode.{priorityOf, typeOf, keptMode, modeAt, kind, edge}
+use Rattle.aic_record.specs.Record.{withLines, withEnabled, withMemory, withForced, withSpurious, withMask, withMode, withVector, withHandlers, reset}
+use Rattle.aic_record.specs.Mode.{priorityOf, typeOf, keptMode, modeAt, priority, kind, edge}
 use Rattle.aic_record.specs.Sound.{sourceAt, levelAt, sound}
 
 -- the arrays of a record have the lengths that the language gives them; a list in a definition has any length
@@ -24,7 +25,7 @@ pub record Rules (s : Aic) : Type 0 where
   pub levels : (i : ℕ) → i < s .depth → levelAt s i ≤ 7
   -- of any two, the one opened later is at the higher level
   pub rising : (i j : ℕ) → i < j → j < s .depth → levelAt s i < levelAt s j
-  -- an unused place holds 0
+  -- an unused slot holds 0
   pub unused : (i : ℕ) → s .depth ≤ i → i < 8 → (sourceAt s i ≡ 0) × (levelAt s i ≡ 0)
   -- a level source remembers nothing
   pub memory : (k : ℕ) → k < 32 → edge s k ≡ false → bit (s .memory) k ≡ false
@@ -35,7 +36,51 @@ pub record Rules (s : Aic) : Type 0 where
   -- source 0 is not forced
   pub forced : bit (s .forced) 0 ≡ false
 
+-- the two words of the configuration each in its field, all registers 0, no edge remembered, no handler open (01, AIC, Configuration)
+pub record Fresh (external lines : ℕ) (s : Aic) : Type 0 where
+  pub configured : (s .external ≡ external) × (s .lines ≡ lines)
+  pub words : (s .enabled ≡ 0) × (s .memory ≡ 0) × (s .forced ≡ 0) × (s .spurious ≡ 0) × (s .mask ≡ 0)
+  pub modes : (k : ℕ) → getD (s .mode) k 0 ≡ 0
+  pub vectors : (k : ℕ) → getD (s .vector) k 0 ≡ 0
+  pub slots : (i : ℕ) → (getD (s .source) i 0 ≡ 0) × (getD (s .level) i 0 ≡ 0)
+  pub noneOpen : s .depth ≡ 0
+
+-- the record with one of its parts put anew: each other part is as it was
+pub record Setters (s : Aic) : Type 0 where
+  pub lines : (w : ℕ) → withLines s w
+      ≡ record { external = s .external; lines = w; enabled = s .enabled; memory = s .memory; forced = s .forced; spurious = s .spurious; mask = s .mask; mode = s .mode; vector = s .vector; source = s .source; level = s .level; depth = s .depth }
+  pub enabled : (w : ℕ) → withEnabled s w
+      ≡ record { external = s .external; lines = s .lines; enabled = w; memory = s .memory; forced = s .forced; spurious = s .spurious; mask = s .mask; mode = s .mode; vector = s .vector; source = s .source; level = s .level; depth = s .depth }
+  pub memory : (w : ℕ) → withMemory s w
+      ≡ record { external = s .external; lines = s .lines; enabled = s .enabled; memory = w; forced = s .forced; spurious = s .spurious; mask = s .mask; mode = s .mode; vector = s .vector; source = s .source; level = s .level; depth = s .depth }
+  pub forced : (w : ℕ) → withForced s w
+      ≡ record { external = s .external; lines = s .lines; enabled = s .enabled; memory = s .memory; forced = w; spurious = s .spurious; mask = s .mask; mode = s .mode; vector = s .vector; source = s .source; level = s .level; depth = s .depth }
+  pub spurious : (w : ℕ) → withSpurious s w
+      ≡ record { external = s .external; lines = s .lines; enabled = s .enabled; memory = s .memory; forced = s .forced; spurious = w; mask = s .mask; mode = s .mode; vector = s .vector; source = s .source; level = s .level; depth = s .depth }
+  pub mask : (w : ℕ) → withMask s w
+      ≡ record { external = s .external; lines = s .lines; enabled = s .enabled; memory = s .memory; forced = s .forced; spurious = s .spurious; mask = w; mode = s .mode; vector = s .vector; source = s .source; level = s .level; depth = s .depth }
+  pub mode : (l : List ℕ) → withMode s l
+      ≡ record { external = s .external; lines = s .lines; enabled = s .enabled; memory = s .memory; forced = s .forced; spurious = s .spurious; mask = s .mask; mode = l; vector = s .vector; source = s .source; level = s .level; depth = s .depth }
+  pub vector : (l : List ℕ) → withVector s l
+      ≡ record { external = s .external; lines = s .lines; enabled = s .enabled; memory = s .memory; forced = s .forced; spurious = s .spurious; mask = s .mask; mode = s .mode; vector = l; source = s .source; level = s .level; depth = s .depth }
+  pub handlers : (sources levels : List ℕ) (n : ℕ) → withHandlers s sources levels n
+      ≡ record { external = s .external; lines = s .lines; enabled = s .enabled; memory = s .memory; forced = s .forced; spurious = s .spurious; mask = s .mask; mode = s .mode; vector = s .vector; source = sources; level = levels; depth = n }
+
 pub record Promises : Type 0 where
+  -- reset, field by field (01, AIC, Configuration)
+  pub resetIs : (external lines : ℕ) → Fresh external lines (reset external lines)
+  -- each part put anew, field by field
+  pub setters : (s : Aic) → Setters s
+  -- the mode of source k, and the source and the level in slot i of the handlers; past the end of an array 0
+  pub modeIs : (s : Aic) (k : ℕ) → modeAt s k ≡ getD (s .mode) k 0
+  pub slotIs : (s : Aic) (i : ℕ) → (sourceAt s i ≡ getD (s .source) i 0) × (levelAt s i ≡ getD (s .level) i 0)
+  -- of a mode bits 2:0 are the priority and bits 6:5 the type (01, AIC, Mode; 003, 27.8.3)
+  pub fieldsAre : (v : ℕ) → (priorityOf v ≡ v % 8) × (typeOf v ≡ v / 32 % 4)
+  -- a source has those of its stored mode
+  pub priorityIs : (s : Aic) (k : ℕ) → priority s k ≡ getD (s .mode) k 0 % 8
+  pub kindIs : (s : Aic) (k : ℕ) → kind s k ≡ getD (s .mode) k 0 / 32 % 4
+  -- a written mode is stored with these five bits alone, 2:0 and 6:5, which are the bits of 0x67 (01, AIC, Mode)
+  pub keptIs : (v : ℕ) → keptMode v ≡ both v 0x67
   -- a source is edge-triggered exactly if its type is 1 or 3 (01, AIC, Mode; 003, 27.8.3)
   pub edgeIs : (s : Aic) (k : ℕ) → (edge s k ≡ true) ↔ ((kind s k ≡ 1) ⊎ (kind s k ≡ 3))
   -- a mode that is stored has the priority and the type that were written (01, AIC, Mode; 003, 27.8.3)

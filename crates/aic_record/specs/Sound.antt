@@ -9,7 +9,7 @@ use Rattle.words.specs.Word.{bit}
 use Rattle.aic_record.specs.declared.Aic.{Aic}
 use Rattle.aic_record.specs.Mode.{modeAt, keptMode, edge}
 
--- the source and the level of the handler at place i of those open
+-- the source and the level of the handler in slot i
 abbrev pub sourceAt : Aic → ℕ → ℕ
 sourceAt s i = getD (s .source) i 0
 
@@ -21,11 +21,11 @@ unfoldable pub handlerSound : Aic → ℕ → Bool
 handlerSound s i =
     leb 1 (sourceAt s i) && leb (sourceAt s i) 31 && leb (levelAt s i) 7 && (eqb i 0 || ltb (levelAt s (i - 1)) (levelAt s i))
 
--- an unused place: 0
+-- an unused slot: 0
 unfoldable pub freeSound : Aic → ℕ → Bool
 freeSound s i = eqb (sourceAt s i) 0 && eqb (levelAt s i) 0
 
--- at most eight handlers, each place used or unused as it should be
+-- at most eight handlers, each slot used or unused as it should be
 unfoldable pub handlersSound : Aic → Bool
 handlersSound s = leb (s .depth) 8 && allBelow 8 (λ i. pick (ltb i (s .depth)) (handlerSound s i) (freeSound s i))
 

@@ -9,7 +9,7 @@ ghost use Rattle.aic_record.specs.Mode.{priorityOf, typeOf, keptMode, ed
 ghost use Rattle.aic_record.specs.Record.{withLines, withEnabled, withMemory, withForced, withSpurious, withMask, withMode, withVector, withHandlers};
 ghost use Rattle.aic_record.specs.Record.{reset};
 ghost use Rattle.aic_record.specs.Sound.{sourceAt, levelAt, sound};
-ghost use Rattle.aic_record.specs.Passes.{floorAt, placeSound, modeSound};
+ghost use Rattle.aic_record.specs.Passes.{floorAt, slotSound, modeSound};
 
 // One word has a bit for each of the 32 sources. `source` and `level` hold the open handlers, the last one at `depth - 1`.
 pub struct Aic {
@@ -123,7 +123,7 @@ pub fn put_vector(s: Aic, k: u32, v: u32) -> Aic
     t
 }
 
-// Place i of the open handlers put anew, and how many are open. Past the last place nothing is stored.
+// Slot i of the open handlers put anew, and how many are open. Past the last slot nothing is stored.
 pub fn put_handler(s: Aic, i: u32, source: u8, level: u8, depth: u32) -> Aic
     ensures { λ r. ⌜ r ≡ withHandlers s (set (s .source) i source) (set (s .level) i level) depth ⌝ }
 {
@@ -138,7 +138,7 @@ pub fn put_handler(s: Aic, i: u32, source: u8, level: u8, depth: u32) -> Aic
     t
 }
 
-// ---- what stands at a place, 0 past the last
+// ---- what stands in an array, 0 past its end
 
 pub fn mode_at(s: Aic, k: u32) -> u8
     ensures { λ r. ⌜ r ≡ modeAt s k ⌝ }
@@ -223,8 +223,8 @@ pub fn edge_of(mode: u8) -> bool
 
 // ---- the rules of a sound record
 
-// Whether a place of the handlers is as it should be: used at a level of at least `floor`, or not used.
-fn place_sound(used: bool, floor: u32, source: u8, level: u8) -> bool
+// Whether a slot of the handlers is as it should be: used at a level of at least `floor`, or not used.
+fn slot_sound(used: bool, floor: u32, source: u8, level: u8) -> bool
     ensures { λ r. ⌜ r ≡ pick used (leb 1 source && leb source 31 && leb level 7 && leb floor level) (eqb source 0 && eqb level 0) ⌝ }
 {
     if used {
@@ -233,16 +233,16 @@ fn place_sound(used: bool, floor: u32, source: u8, level: u8) -> bool
     (source == 0) & (level == 0)
 }
 
-// Whether each of the eight places is as it should be, where `depth` of them are used.
-fn places_sound(source: [u8; 8], level: [u8; 8], depth: u32) -> bool
-    ensures { λ r. ⌜ r ≡ allBelow 8 (placeSound source level depth) ⌝ }
+// Whether each of the eight slots is as it should be, where `depth` of them are used.
+fn slots_sound(source: [u8; 8], level: [u8; 8], depth: u32) -> bool
+    ensures { λ r. ⌜ r ≡ allBelow 8 (slotSound source level depth) ⌝ }
 {
     let mut ok = true;
     let mut floor: u32 = 0;
     let mut i: u32 = 0;
     while i < 8 {
         let at = i as usize;
-        ok = ok & place_sound(i < depth, floor, source[at], level[at]);
+        ok = ok & slot_sound(i < depth, floor, source[at], level[at]);
         floor = level[at] as u32 + 1;
         i = i + 1;
     }
@@ -276,7 +276,7 @@ pub fn is_sound(s: Aic) -> bool
 {
     let mask = s.mask;
     (s.depth <= 8)
-        & places_sound(s.source, s.level, s.depth)
+        & slots_sound(s.source, s.level, s.depth)
         & modes_sound(&s.mode, s.memory)
         & ((mask == 0) | (mask == 2))
         & !words::has(s.forced, 0)

@@ -2,24 +2,21 @@
 use mathlib.Core.Path.{_≡_, refl, sym, ap, ap₂, _∙_}
 use mathlib.Core.Bool.{Bool, true, false, not, _&&_}
 use mathlib.Core.List.{List}
-use Prim.Native.Nat.{ℕ, _+_, _*_, _≤_, _<_}
+use Prim.Native.Nat.{ℕ, _+_, _≤_, _<_}
 use borrow.Author.Tests.{lt-ltb, le-ltb}
 use lib.Dec.{eqb, ltb}
 use lib.ListN.{set}
 use Rattle.words.specs.Choice.{pick}
-use Rattle.words.specs.Counting.{one}
 use Rattle.words.specs.Word.{bit, either, both, without, withBit}
 use Rattle.words.proofs.ChoiceLaws.{pick-true, pick-false}
 use Rattle.aic_record.specs.declared.Aic.{Aic}
 use Rattle.aic_record.specs.Record.{withLines, withMemory, withForced, withMode, withHandlers}
 use Rattle.aic_record.specs.Mode.{priorityOf, typeOf, keptMode, edgeOf, modeAt, priority, kind, edge}
 use Rattle.aic_sources.specs.Pending.{activeAt, active, edgeWord}
-use Rattle.aic_sources.specs.Fast.{fiq}
-use Rattle.aic_sources.specs.Normal.{chosen, irq}
+use Rattle.aic_sources.specs.Normal.{chosen}
 use Rattle.aic_sources.proofs.SearchLaws.{chosen-some}
 use Rattle.aic_registers.specs.Handlers.{answered, forgotten, spent, opened, startedAt, vectorAt, ivrRead}
 use Rattle.aic_registers.specs.Effects.{moded, setBy, clearedBy, forcedBy, turns, moved}
-use Rattle.aic_registers.specs.Registers.{outputBits}
 
 -- ---- handlers
 
@@ -101,9 +98,3 @@ pub moved-by : (s t : Aic) (k w : ℕ) (high : Bool) → t ≡ pick (edge s k &&
     → w ≡ withBit (s .lines) k high → withLines t w ≡ moved s k high
 unfolding moved
 moved-by s t k w high e f = rw (e, f)
-
--- ---- registers
-
-pub bits-by : (s : Aic) (i f : Bool) (a b : ℕ) → i ≡ irq s → f ≡ fiq s → a ≡ one f → b ≡ one i → a + 2 * b ≡ outputBits s
-unfolding outputBits
-bits-by s i f a b e g h j = ap₂ (λ (x y : ℕ). x + 2 * y) (h ∙ ap one g) (j ∙ ap one e)

@@ -1,8 +1,7 @@
 // What a read of each register answers, and what a write of each does, where nothing refuses it.
 ghost use mathlib.Core.Path.{_≡_};
 ghost use Prim.Native.Nat.{_≤_};
-ghost use Rattle.words.specs.Counting.{one};
-ghost use Rattle.aic_registers.specs.Registers.{outputBits, stored, readAt, writtenAt};
+ghost use Rattle.aic_registers.specs.Registers.{stored, readAt, writtenAt};
 use super::Answer;
 use super::effects::clear_memory;
 use super::effects::force;
@@ -15,23 +14,6 @@ use super::handlers::read_fvr;
 use super::handlers::read_ivr;
 use super::map;
 use aic_record::Aic;
-
-fn one_of(b: bool) -> u32
-    ensures { λ r. ⌜ r ≡ one b ⌝ }
-{
-    if b {
-        return 1;
-    }
-    0
-}
-
-// CISR: bit 0 the FIQ output, bit 1 the IRQ output.
-fn output_bits(s: Aic) -> u32
-    ensures { λ r. ⌜ r ≡ outputBits s ⌝ }
-{
-    let pins = aic_sources::pins_of(s);
-    one_of(pins.fiq) + 2 * one_of(pins.irq)
-}
 
 // A register that a read leaves as it is; past the last one 0.
 fn read_stored(s: Aic, offset: u32) -> u32
@@ -47,7 +29,7 @@ fn read_stored(s: Aic, offset: u32) -> u32
         map::ISR => current_source(s),
         map::IPR => aic_sources::pending_word(s),
         map::IMR => s.enabled,
-        map::CISR => output_bits(s),
+        map::CISR => aic_sources::output_bits(s),
         map::SPU => s.spurious,
         map::DCR => s.mask,
         map::FFSR => s.forced,

@@ -19,7 +19,7 @@ use Rattle.aic_sources.specs.Normal.{candidates, chosen}
 use Rattle.aic_sources.proofs.OrderLaws.{chosen-none, chosen-is}
 use Rattle.aic_registers.specs.Map.{svr, ivr, iscr, eoicr, dcr, ffer, ffdr, access, valueRefusal}
 use Rattle.aic_registers.specs.Effects.{turns}
-use Rattle.aic.proofs.KindsLaws.{Plain}
+use Rattle.aic.proofs.StepKindLaws.{Plain}
 use Rattle.aic.proofs.Promises as Controller
 use Rattle.aic_runs.specs.Counted.{carried, vectorRead, starts, startedBy, startsOf, closes, rises, commands, rewrites}
 

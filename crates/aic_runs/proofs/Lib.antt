@@ -1,5 +1,6 @@
 -- Theorems about runs of the AT91 controller.
 pub mod CountedLaws
+pub mod ObserverLaws
 pub mod Promises
 pub mod RunLaws
 pub mod SoundRuns

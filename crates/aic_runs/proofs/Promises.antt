@@ -5,12 +5,13 @@ use mathlib.Core.Bool.{true, not, _||_}
 use mathlib.Core.List.{List}
 use mathlib.Core.Logic.{_≢_, ⊎-elim}
 use native.Mathlib.Omega.{arith}
+use lib.ListN.{set}
 use borrow.Author.Tests.{not-true}
 use Rattle.words.proofs.TruthLaws.{and-left, or-either, clash}
 use Rattle.words.proofs.CountingLaws.{all-at}
 use Rattle.steps.specs.declared.Step.{Step}
 use Rattle.aic_record.specs.declared.Aic.{Aic}
-use Rattle.aic_record.specs.Record.{reset}
+use Rattle.aic_record.specs.Record.{withHandlers, reset}
 use Rattle.aic_record.specs.Mode.{edge}
 use Rattle.aic_record.specs.Sound.{sound}
 use Rattle.aic_record.specs.Promises.{Shaped}
@@ -18,10 +19,13 @@ use Rattle.aic_record.proofs.SoundLaws.{sound-is}
 use Rattle.aic_record.proofs.Promises as Record
 use Rattle.aic_sources.specs.Fast.{fast}
 use Rattle.aic_sources.specs.Normal.{ahead}
+use Rattle.aic_registers.specs.Handlers.{closedLast}
+use Rattle.aic.proofs.HandlerLaws.{started-is}
 use Rattle.aic_runs.specs.Counted.{starts, closes, waits}
-use Rattle.aic_runs.specs.Runs.{run, count, always, EachStart}
-use Rattle.aic_runs.specs.Worked.{outset}
-use Rattle.aic_runs.specs.Promises.{Promises, Nested, EdgeTriggered, aheadOf, rivalOf}
+use Rattle.aic_runs.specs.Runs.{run, count, always, EachStart, owed, received, sumOver}
+use Rattle.aic_runs.specs.Worked.{ready, tower, outset, wait}
+use Rattle.aic_runs.specs.Promises.{Promises, Nested, Gathers, Steps, EdgeTriggered, aheadOf, rivalOf}
+use Rattle.aic_runs.proofs.ObserverLaws.{counts-of}
 use Rattle.aic_runs.proofs.CountedLaws.{started-some}
 use Rattle.aic_runs.proofs.StepLaws.{start-law, close-law, other-law}
 use Rattle.aic_runs.proofs.RunLaws.{balance, source-law, bound-over, rivals, each-start, waits-steady}
@@ -54,9 +58,38 @@ nested-on s h ok xs =
 reached-sound : (external lines : ℕ) (xs : List Step) → sound (run (reset external lines) xs) ≡ true
 reached-sound external lines xs = run-sound (reset external lines) xs (Record.kept .resetShaped external lines) (Record.kept .resetSound external lines)
 
+gathered : Gathers
+unfolding run count always EachStart owed received sumOver
+gathered =
+    record {
+      runNone = λ s. refl;
+      runMore = λ s x xs. refl;
+      countNone = λ t s. refl;
+      countMore = λ t s x xs. refl;
+      alwaysNone = λ t s. refl;
+      alwaysMore = λ t s x xs. refl;
+      eachMore = λ P s x xs. (λ h. h, λ h. h);
+      owedIs = λ s i. refl;
+      receivedIs = λ i s xs. refl;
+      sumIs = λ t f. refl;
+    }
+
+steps-worked : Steps
+unfolding ready tower outset wait
+steps-worked = record { towerNone = refl; towerMore = λ n. refl; outsetIs = refl; waitIs = refl }
+
+closed-is : (s : Aic) → closedLast s ≡ withHandlers s (set (s .source) (s .depth - 1) 0) (set (s .level) (s .depth - 1) 0) (s .depth - 1)
+unfolding closedLast
+closed-is s = refl
+
 pub kept : Promises
 kept =
     record {
+      counts = counts-of;
+      gathers = gathered;
+      worked = steps-worked;
+      startedIs = started-is;
+      closedIs = closed-is;
       handlers = from-reset;
       balance = balance;
       nested = λ external lines xs. nested-on (reset external lines) (Record.kept .resetShaped external lines) (Record.kept .resetSound external lines) xs;

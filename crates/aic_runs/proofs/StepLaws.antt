@@ -28,7 +28,7 @@ use Rattle.aic_registers.specs.Effects.{moded, setBy, turns, moved}
 use Rattle.aic.specs.Model.{step}
 use Rattle.words.proofs.WordLaws.{bit-cleared-if, bit-put-if}
 use Rattle.aic.proofs.HandlerLaws.{started-is, moved-is}
-use Rattle.aic.proofs.KindsLaws.{kinds}
+use Rattle.aic.proofs.StepKindLaws.{kinds}
 use Rattle.aic_runs.specs.Counted.{starts, startedBy, startsOf, closes, edges, commands, rewrites}
 use Rattle.aic_runs.specs.Runs.{owed}
 use Rattle.aic_runs.proofs.CountedLaws.{plain-start, write-start, line-start, no-start, take-start, take-chosen, plain-close, read-close, line-close, other-close, close-close, set-command, line-rise, mode-rewrite, forcing-rewrite}

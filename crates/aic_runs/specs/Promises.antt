@@ -1,20 +1,27 @@
 -- What is promised of every run of the AT91 controller, sentence by sentence (01, demand 3).
-use Prim.Native.Nat.{ℕ, _+_, _-_, _≤_, _<_}
+use Prim.Native.Nat.{ℕ, zero, suc, _+_, _-_, _*_, _^_, _≤_, _<_}
 use mathlib.Core.Path.{_≡_}
 use mathlib.Core.Bool.{Bool, true, false, not, _&&_}
-use mathlib.Core.List.{List, [], _∷_}
-use mathlib.Core.Logic.{_≢_}
-use lib.Dec.{ltb}
+use mathlib.Core.List.{List, [], _∷_, _++_}
+use mathlib.Core.Logic.{_↔_, _≢_, _⊎_}
+use lib.Dec.{eqb, ltb}
+use lib.ListN.{set}
+use Rattle.words.specs.Choice.{pick}
+use Rattle.words.specs.Counting.{one, sumBelow}
+use Rattle.words.specs.Word.{bit, withBit}
 use Rattle.steps.specs.declared.Step.{Step}
-use Rattle.steps.specs.Refusals.{unsound}
+use Rattle.steps.specs.declared.Step.the-variants.{Read, Write, Line}
 use Rattle.aic_record.specs.declared.Aic.{Aic}
-use Rattle.aic_record.specs.Record.{reset}
+use Rattle.aic_record.specs.Record.{withMemory, withHandlers, reset}
 use Rattle.aic_record.specs.Mode.{priority, edge}
 use Rattle.aic_record.specs.Sound.{levelAt, sound}
 use Rattle.aic_record.specs.Promises.{Shaped}
+use Rattle.aic_sources.specs.Pending.{pending}
 use Rattle.aic_sources.specs.Fast.{fast}
-use Rattle.aic_sources.specs.Normal.{ahead}
+use Rattle.aic_sources.specs.Normal.{ahead, chosen}
+use Rattle.aic_sources.specs.Promises.{SomeCandidate}
 use Rattle.aic_registers.specs.Handlers.{startedAt, closedLast}
+use Rattle.aic_registers.specs.Effects.{turns}
 use Rattle.aic.specs.Model.{step}
 use Rattle.aic_runs.specs.Counted.{starts, startedBy, startsOf, startsOther, closes, edges, commands, steady, waits}
 use Rattle.aic_runs.specs.Runs.{run, count, always, EachStart, owed, received, sumOver}
@@ -38,7 +45,66 @@ aheadOf s k i = ahead s i k
 abbrev pub rivalOf : Aic → ℕ → ℕ → Bool
 rivalOf s k i = ahead s i k && not (fast s i)
 
-pub record Promises : Type 0 where
+-- what a step x counts as in the record s that it meets; refused, it counts as nothing (01, demand 3; AIC, Pending and Normal side)
+pub record Counts (s : Aic) (x : Step) : Type 0 where
+  -- a start: a read of IVR with a candidate (003, 27.7.3.1)
+  pub start : (starts s x ≡ true) ↔ ((x ≡ Read 0x100) × (step s x .refusal ≡ 0) × SomeCandidate s)
+  -- it is of the candidate ahead of all others; where nothing is started the source is 32, which is none
+  pub startChosen : starts s x ≡ true → startedBy s x ≡ chosen s
+  pub startNone : starts s x ≡ false → startedBy s x ≡ 32
+  -- a start of source i, and of another than source k
+  pub startOf : (i : ℕ) → (startsOf i s x ≡ true) ↔ (i ≡ startedBy s x)
+  pub startOther : (k : ℕ) → (startsOther k s x ≡ true) ↔ ((startedBy s x < 32) × (k ≢ startedBy s x))
+  -- a close: a write of EOICR, of any value, that finds a handler open (003, 27.8.15)
+  pub close : (closes s x ≡ true) ↔ ((v : ℕ) × (x ≡ Write 0x130 v) × (step s x .refusal ≡ 0) × (s .depth ≢ 0))
+  -- an edge of source i: its line turns active, and it is edge-triggered
+  pub edgeIn : (i : ℕ) → (edges i s x ≡ true)
+      ↔ ((l : ℕ) × (x ≡ Line i l) × (step s x .refusal ≡ 0) × (turns s i (eqb l 1) ≡ true) × (edge s i ≡ true))
+  -- a set command to source i: a write of the set register whose bit i is 1 (003, 27.8.14)
+  pub command : (i : ℕ) → (commands i s x ≡ true) ↔ ((v : ℕ) × (x ≡ Write 0x12C v) × (step s x .refusal ≡ 0) × (bit v i ≡ true))
+  -- a rewrite, so that the step is not steady: a write of a mode, of FFER or of FFDR (003, 27.8.3 and 27.7.4.5)
+  pub rewrite : (steady s x ≡ false)
+      ↔ ((o : ℕ) × (v : ℕ) × (x ≡ Write o v) × (step s x .refusal ≡ 0) × ((o < 0x80) ⊎ ((o ≡ 0x140) ⊎ (o ≡ 0x144))))
+  -- source k waits: pending, enabled and not fast, before a step that is steady
+  pub waiting : (k : ℕ) → (waits k s x ≡ true)
+      ↔ ((pending s k ≡ true) × (bit (s .enabled) k ≡ true) × (fast s k ≡ false) × (steady s x ≡ true))
+
+-- what a run is, and what is gathered over it, each step in the record that it meets
+pub record Gathers : Type 1 where
+  pub runNone : (s : Aic) → run s [] ≡ s
+  pub runMore : (s : Aic) (x : Step) (xs : List Step) → run s (x ∷ xs) ≡ run (step s x .aic) xs
+  -- how many steps pass a test, and whether all do
+  pub countNone : (t : Aic → Step → Bool) (s : Aic) → count t s [] ≡ 0
+  pub countMore : (t : Aic → Step → Bool) (s : Aic) (x : Step) (xs : List Step) → count t s (x ∷ xs) ≡ one (t s x) + count t (step s x .aic) xs
+  pub alwaysNone : (t : Aic → Step → Bool) (s : Aic) → always t s [] ≡ true
+  pub alwaysMore : (t : Aic → Step → Bool) (s : Aic) (x : Step) (xs : List Step) → always t s (x ∷ xs) ≡ (t s x && always t (step s x .aic) xs)
+  -- P holds of each source that is started
+  pub eachMore : (P : ℕ → Type 0) (s : Aic) (x : Step) (xs : List Step)
+      → EachStart P s (x ∷ xs) ↔ ((startedBy s x < 32 → P (startedBy s x)) × EachStart P (step s x .aic) xs)
+  -- a source is owed one start while it is pending; it receives its edges and the set commands to it
+  pub owedIs : (s : Aic) (i : ℕ) → owed s i ≡ one (pending s i)
+  pub receivedIs : (i : ℕ) (s : Aic) (xs : List Step) → received i s xs ≡ count (edges i) s xs + count (commands i) s xs
+  -- a sum over those of the 32 sources that pass a test
+  pub sumIs : (t : ℕ → Bool) (f : ℕ → ℕ) → sumOver t f ≡ sumBelow 32 (λ i. pick (t i) (f i) 0)
+
+-- the two worked runs, step by step
+pub record Steps : Type 0 where
+  -- source n + 1 is made edge-triggered at priority n (0x60 is type 3), enabled, has an edge and is started
+  pub towerNone : tower 0 ≡ []
+  pub towerMore : (n : ℕ) → tower (suc n)
+      ≡ tower n ++ (Write ((n + 1) * 4) (0x60 + n) ∷ Write 0x120 (2 ^ (n + 1)) ∷ Line (n + 1) 1 ∷ Read 0x100 ∷ [])
+  -- sources 4, 6 and 9 are made edge-triggered at priorities 5, 4 and 3, and enabled; 4 and 9 have an edge
+  pub outsetIs : outset
+      ≡ run (reset 0 0)
+      (Write 0x10 0x65 ∷ Write 0x120 0x010 ∷ Write 0x18 0x64 ∷ Write 0x120 0x040 ∷ Write 0x24 0x63 ∷ Write 0x120 0x200 ∷ Line 4 1 ∷ Line 9 1 ∷ [])
+  pub waitIs : wait
+      ≡ Read 0x100 ∷ Line 6 1 ∷ Line 6 1 ∷ Read 0x100 ∷ Write 0x130 0 ∷ Read 0x100 ∷ Write 0x130 0 ∷ Write 0x130 0 ∷ Write 0x12C 0x50 ∷ Read 0x101
+      ∷ Read 0x100 ∷ Write 0x130 0 ∷ Read 0x100 ∷ []
+
+pub record Promises : Type 1 where
+  -- what is counted, step by step and over a run
+  pub counts : (s : Aic) (x : Step) → Counts s x
+  pub gathers : Gathers
   -- after any run from reset the open handlers are the starts less the closes that found one open, and the closes are no more than the starts
   -- (01, demand 3, first sentence)
   pub handlers : (external lines : ℕ) (xs : List Step)
@@ -51,13 +117,19 @@ pub record Promises : Type 0 where
   -- and so it is after any run from a sound record, whose arrays have their lengths
   pub nestedOn : (s : Aic) → Shaped s → sound s ≡ true → (xs : List Step) → Nested (run s xs)
   -- eight is reached: a run from reset opens the levels 0 to 7
+  pub worked : Steps
   pub eightOpen : (run (reset 0 0) (tower 8) .depth ≡ 8) × (run (reset 0 0) (tower 8) .level ≡ 0 ∷ 1 ∷ 2 ∷ 3 ∷ 4 ∷ 5 ∷ 6 ∷ 7 ∷ [])
   -- what is counted is what happens: a step is a start exactly if it starts the handler of some source (01, AIC, Normal side)
   pub startedSome : (s : Aic) (x : Step) → starts s x ≡ ltb (startedBy s x) 32
   -- after it that source is started, at the priority that it has then
   pub startIs : (s : Aic) (x : Step) → starts s x ≡ true → step s x .aic ≡ startedAt s (startedBy s x) (priority s (startedBy s x))
+  -- a start opens a handler of the source at that priority, and clears its memory, and no other, if it is edge-triggered
+  pub startedIs : (s : Aic) (k p : ℕ) → startedAt s k p
+      ≡ withHandlers (withMemory s (pick (edge s k) (withBit (s .memory) k false) (s .memory)))
+      (set (s .source) (s .depth) k) (set (s .level) (s .depth) p) (s .depth + 1)
   -- after a close the last open handler is closed
   pub closeIs : (s : Aic) (x : Step) → closes s x ≡ true → step s x .aic ≡ closedLast s
+  pub closedIs : (s : Aic) → closedLast s ≡ withHandlers s (set (s .source) (s .depth - 1) 0) (set (s .level) (s .depth - 1) 0) (s .depth - 1)
   -- any other step leaves the open handlers as they are
   pub otherIs : (s : Aic) (x : Step) → starts s x ≡ false → closes s x ≡ false
       → (step s x .aic .source ≡ s .source) × (step s x .aic .level ≡ s .level) × (step s x .aic .depth ≡ s .depth)
@@ -83,4 +155,4 @@ pub record Promises : Type 0 where
   -- every record that a run from reset reaches is sound (01, AIC, A sound record)
   pub reachedSound : (external lines : ℕ) (xs : List Step) → sound (run (reset external lines) xs) ≡ true
   -- so no step of such a run is refused by 12, and none is hidden by it (01, Numbers)
-  pub neverTwelve : (external lines : ℕ) (xs : List Step) (x : Step) → step (run (reset external lines) xs) x .refusal ≢ unsound
+  pub neverTwelve : (external lines : ℕ) (xs : List Step) (x : Step) → step (run (reset external lines) xs) x .refusal ≢ 12

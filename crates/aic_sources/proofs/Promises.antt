@@ -2,13 +2,14 @@
 use Prim.Native.Nat.{ℕ, _<_, _≤_}
 use mathlib.Core.Path.{_≡_, ap}
 use mathlib.Core.Bool.{true, false, not, and-false}
-use mathlib.Core.Logic.{_↔_, _⊎_, inl, inr}
-use borrow.Author.Tests.{lt-ltb, le-ltb, not-true}
+use mathlib.Core.Logic.{_↔_, _⊎_, inl, inr, ⊎-elim}
+use lib.Dec.{eqb}
+use borrow.Author.Tests.{lt-ltb, le-ltb, not-true, eqb-true, eq-eqb}
 use Rattle.words.specs.Choice.{pick}
 use Rattle.words.specs.Word.{bit}
-use Rattle.words.proofs.TruthLaws.{and-left, and-right, and-both}
+use Rattle.words.proofs.TruthLaws.{and-left, and-right, and-both, or-left, or-right, or-either}
 use Rattle.words.proofs.CountingLaws.{any-some, some-any, any-none}
-use Rattle.words.proofs.WordLaws.{bit-wordOf}
+use Rattle.words.proofs.WordLaws.{wordOf-lt, bit-wordOf}
 use Rattle.aic_record.specs.declared.Aic.{Aic}
 use Rattle.aic_record.specs.Mode.{kind}
 use Rattle.aic_record.proofs.SoundLaws.{sound-is}
@@ -24,19 +25,26 @@ some : (s : Aic) → SomeCandidate s → candidates s ≡ true
 unfolding candidates
 some s (k, l, c) = some-any 32 (candidate s) k l c
 
-irq-is : (s : Aic) → (irq s ≡ true) ↔ ((masked s ≡ false) × SomeCandidate s)
-unfolding irq candidates
+irq-is : (s : Aic) → (irq s ≡ true) ↔ ((bit (s .mask) 1 ≡ false) × SomeCandidate s)
+unfolding irq candidates masked
 irq-is s = (
   λ e. (not-true (masked s) (and-left _ (candidates s) e), any-some 32 (candidate s) (and-right (not (masked s)) _ e)),
   λ p. and-both (ap not (p .0)) (some s (p .1)),
 )
 
 fiq-is : (s : Aic) → (fiq s ≡ true)
-    ↔ ((masked s ≡ false) × ((k : ℕ) × (k < 32) × (fast s k ≡ true) × (pending s k ≡ true) × (bit (s .enabled) k ≡ true)))
-unfolding fiq
+    ↔ ((bit (s .mask) 1 ≡ false) × ((k : ℕ) × (k < 32) × (fast s k ≡ true) × (pending s k ≡ true) × (bit (s .enabled) k ≡ true)))
+unfolding fiq masked
 fiq-is s = (
   λ e. (not-true (masked s) (and-left _ (fastAsks s) e), fast-some s (and-right (not (masked s)) _ e)),
   λ (m, (k, l, f, p, e)). and-both (ap not m) (some-fast s k l f p e),
+)
+
+fast-is : (s : Aic) (k : ℕ) → (fast s k ≡ true) ↔ ((k ≡ 0) ⊎ (bit (s .forced) k ≡ true))
+unfolding fast
+fast-is s k = (
+  λ e. ⊎-elim (λ (z : eqb k 0 ≡ true). inl (eqb-true k 0 z)) inr (or-either (eqb k 0) (bit (s .forced) k) e),
+  ⊎-elim (λ (z : k ≡ 0). or-left (bit (s .forced) k) (eq-eqb k 0 z)) (or-right (eqb k 0)),
 )
 
 low-active : (s : Aic) (k : ℕ) → bit (s .external) k ≡ true → kind s k < 2 → active s k ≡ not (bit (s .lines) k)
@@ -58,6 +66,7 @@ kept =
       highActive = high-active;
       irqIs = irq-is;
       fiqIs = fiq-is;
+      fastIs = fast-is;
       candidateIs = λ s k. (
         λ c. let w = waiting-is s k (candidate-waits s k c) in (w .0, w .1, w .2, candidate-above s k c),
         λ (p, e, f, o). is-candidate s k p e f o,
@@ -71,4 +80,5 @@ kept =
       aheadEither = ahead-total;
       room = λ s ok (k, l, c). candidate-room s k (sound-is s ok) c;
       iprBit = λ s k l. bit-wordOf 32 (pending s) k l;
+      iprBelow = λ s. wordOf-lt 32 (pending s);
     }

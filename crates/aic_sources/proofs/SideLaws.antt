@@ -1,8 +1,9 @@
 -- The two sides and the two outputs, from the words of the sources.
 use mathlib.Core.Path.{_≡_, ap, ap₂, _∙_}
 use mathlib.Core.Bool.{Bool, not, _&&_}
-use Prim.Native.Nat.{ℕ}
+use Prim.Native.Nat.{ℕ, _+_, _*_}
 use lib.Dec.{eqb, ltb}
+use Rattle.words.specs.Counting.{one}
 use Rattle.words.specs.Word.{bit, wordOf, both, without}
 use Rattle.aic_record.specs.declared.Aic.{Aic}
 use Rattle.aic_record.specs.Passes.{floorAt}
@@ -32,3 +33,6 @@ irq-from s h r e f = ap₂ (λ (a b : Bool). not a && b) e (ap (λ (n : ℕ). lt
 pub fiq-from : (s : Aic) (h f : Bool) → h ≡ bit (s .mask) 1 → f ≡ fastAsks s → (not h && f) ≡ fiq s
 unfolding fiq masked
 fiq-from s h f e g = ap₂ (λ (a b : Bool). not a && b) e g
+
+pub bits-from : (s : Aic) (f i : Bool) (a b : ℕ) → f ≡ fiq s → i ≡ irq s → a ≡ one f → b ≡ one i → a + 2 * b ≡ one (fiq s) + 2 * one (irq s)
+bits-from s f i a b e g h j = ap₂ (λ (x y : ℕ). x + 2 * y) (h ∙ ap one e) (j ∙ ap one g)

@@ -1,5 +1,5 @@
 -- What is promised of the sources: when the outputs are active, which source is ahead, and that a start finds room.
-use Prim.Native.Nat.{ℕ, _-_, _<_, _≤_}
+use Prim.Native.Nat.{ℕ, _-_, _^_, _<_, _≤_}
 use mathlib.Core.Path.{_≡_}
 use mathlib.Core.Bool.{true, false, not}
 use mathlib.Core.Logic.{_↔_, _≢_, _⊎_}
@@ -8,7 +8,7 @@ use Rattle.aic_record.specs.declared.Aic.{Aic}
 use Rattle.aic_record.specs.Mode.{priority, kind, edge}
 use Rattle.aic_record.specs.Sound.{levelAt, sound}
 use Rattle.aic_sources.specs.Pending.{active, pending, pendingWord}
-use Rattle.aic_sources.specs.Fast.{fast, masked, fiq}
+use Rattle.aic_sources.specs.Fast.{fast, fiq}
 use Rattle.aic_sources.specs.Normal.{candidate, ahead, chosen, irq}
 
 -- there is a candidate
@@ -26,11 +26,13 @@ pub record Promises : Type 0 where
   -- low is the active level of an external source of type 0 or 1, high that of any other (01, AIC, Mode; 003, 27.8.3)
   pub lowActive : (s : Aic) (k : ℕ) → bit (s .external) k ≡ true → kind s k < 2 → active s k ≡ not (bit (s .lines) k)
   pub highActive : (s : Aic) (k : ℕ) → (bit (s .external) k ≡ false) ⊎ (2 ≤ kind s k) → active s k ≡ bit (s .lines) k
-  -- IRQ is active exactly if nothing masks it and there is a candidate (01, AIC, Normal side; 003, 27.7.3 and 27.7.7)
-  pub irqIs : (s : Aic) → (irq s ≡ true) ↔ ((masked s ≡ false) × SomeCandidate s)
-  -- FIQ is active exactly if nothing masks it and there is a fast source, pending and enabled (01, AIC, Fast side; 003, 27.7.4 and 27.7.7)
+  -- IRQ is active exactly if bit 1 of debug control does not mask it and there is a candidate (01, AIC, Normal side; 003, 27.7.3 and 27.7.7)
+  pub irqIs : (s : Aic) → (irq s ≡ true) ↔ ((bit (s .mask) 1 ≡ false) × SomeCandidate s)
+  -- FIQ is active exactly if that bit does not mask it and there is a fast source, pending and enabled (01, AIC, Fast side; 003, 27.7.4 and 27.7.7)
   pub fiqIs : (s : Aic) → (fiq s ≡ true)
-      ↔ ((masked s ≡ false) × ((k : ℕ) × (k < 32) × (fast s k ≡ true) × (pending s k ≡ true) × (bit (s .enabled) k ≡ true)))
+      ↔ ((bit (s .mask) 1 ≡ false) × ((k : ℕ) × (k < 32) × (fast s k ≡ true) × (pending s k ≡ true) × (bit (s .enabled) k ≡ true)))
+  -- a source is fast exactly if it is source 0 or forced (01, AIC, Fast side; 003, 27.7.4.1 and 27.7.4.5)
+  pub fastIs : (s : Aic) (k : ℕ) → (fast s k ≡ true) ↔ ((k ≡ 0) ⊎ (bit (s .forced) k ≡ true))
   -- a candidate is pending, enabled, not fast, and of a priority strictly above the level of the last open handler, if one is open
   -- (01, AIC, Normal side; 003, 27.7.3.1)
   pub candidateIs : (s : Aic) (k : ℕ) → (candidate s k ≡ true)
@@ -51,5 +53,6 @@ pub record Promises : Type 0 where
   pub aheadEither : (s : Aic) (a b : ℕ) → a ≢ b → (ahead s a b ≡ true) ⊎ (ahead s b a ≡ true)
   -- with a candidate, fewer than eight handlers of a sound record are open: a start finds room (01, AIC, A sound record; 003, 27.7.3.2)
   pub room : (s : Aic) → sound s ≡ true → SomeCandidate s → s .depth < 8
-  -- each bit of IPR says whether its source is pending, enabled or not (01, AIC, Pending; 003, 27.8.8)
+  -- each bit of IPR says whether its source is pending, enabled or not, and it has no other bit (01, AIC, Pending; 003, 27.8.8)
   pub iprBit : (s : Aic) (k : ℕ) → k < 32 → bit (pendingWord s) k ≡ pending s k
+  pub iprBelow : (s : Aic) → pendingWord s < 2 ^ 32

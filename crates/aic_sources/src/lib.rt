@@ -1,7 +1,9 @@
 // The AT91 controller's sources: which are pending, fast or candidates, which one is ahead of all others, and the two outputs.
 ghost use mathlib.Core.Path.{_≡_};
 ghost use mathlib.Core.Bool.{not};
+ghost use Prim.Native.Nat.{_+_, _*_};
 ghost use Rattle.words.specs.Choice.{pick};
+ghost use Rattle.words.specs.Counting.{one};
 ghost use Rattle.words.specs.Word.{bit, wordOf};
 ghost use Rattle.aic_sources.specs.Pending.{activeAt, asking, pendingWord, edgeWord};
 ghost use Rattle.aic_sources.specs.Fast.{fast, fastAsks, fiq};
@@ -152,20 +154,23 @@ pub fn chosen_source(s: Aic) -> u32
     chosen_among(s, asking_word(s))
 }
 
-// The two outputs, active or not.
-pub struct Pins {
-    pub irq: bool,
-    pub fiq: bool,
+// A test as a number.
+fn one_of(b: bool) -> u32
+    ensures { λ r. ⌜ r ≡ one b ⌝ }
+{
+    if b {
+        return 1;
+    }
+    0
 }
 
-// The two outputs, from one look at the sources: active unless debug control masks them.
-pub fn pins_of(s: Aic) -> Pins
-    ensures { λ r. ⌜ (r .irq ≡ irq s) × (r .fiq ≡ fiq s) ⌝ }
+// The two outputs from one look at the sources, active unless debug control masks them: bit 0 is FIQ, bit 1 IRQ.
+pub fn output_bits(s: Aic) -> u32
+    ensures { λ r. ⌜ r ≡ one (fiq s) + 2 * one (irq s) ⌝ }
 {
     let asks = asking_word(s);
     let clear = !words::has(s.mask, 1);
-    Pins {
-        irq: clear & (chosen_among(s, asks) < 32),
-        fiq: clear & fast_among(s, asks),
-    }
+    let fast = one_of(clear & fast_among(s, asks));
+    let normal = one_of(clear & (chosen_among(s, asks) < 32));
+    fast + 2 * normal
 }

@@ -13,7 +13,7 @@ use Rattle.steps.specs.declared.Access.{Access}
 use Rattle.steps.specs.declared.Access.the-variants.{NoRegister, ReadOnly, WriteOnly, ReadWrite}
 use Rattle.steps.specs.Refusals.{readRefusal, writeRefusal, lineRefusal, readAccess, writeAccess}
 use Rattle.steps.specs.Tables.{ReadTable, WriteTable, LineTable, Readable, Writable}
-use Rattle.steps.specs.Promises.{Promises, ValueNumber}
+use Rattle.steps.specs.Promises.{Promises, Numbers, ValueNumber}
 
 -- what holds and what holds, what fails and what fails
 ever : {P Q : Type 0} → P → Q → P ↔ Q
@@ -199,5 +199,23 @@ line-table s n k l =
     go-none (yes p) (no q) = rw (lt-ltb k n p, lt-leb l 1 (omega arith)) (unfold pick in (never (omega arith) (λ h. q (h .1))))
     go-none (no p) d = rw (le-ltb k n (omega arith)) (unfold pick in (never (omega arith) (λ h. p (h .0))))
 
+the-numbers : Numbers
+the-numbers =
+    record {
+      none = refl;
+      twelve = refl;
+      one = refl;
+      two = refl;
+      three = refl;
+      four = refl;
+      five = refl;
+      six = refl;
+      seven = refl;
+      eight = refl;
+      nine = refl;
+      ten = refl;
+      eleven = refl;
+    }
+
 pub kept : Promises
-kept = record { reads = read-table; writes = λ s o a value known. write-table value known s o a; lines = line-table }
+kept = record { numbers = the-numbers; reads = read-table; writes = λ s o a value known. write-table value known s o a; lines = line-table }

@@ -29,7 +29,8 @@ wordOf-lt (suc n) f = go (f n) (wordOf-lt n f)
     go true h = omega arith
     go false h = omega arith
 
-one-eqb : (x : ℕ) → x < 2 → one (eqb x 1) ≡ x
+-- a digit in base 2 is what its test counts
+pub one-eqb : (x : ℕ) → x < 2 → one (eqb x 1) ≡ x
 one-eqb zero h = refl
 one-eqb (suc zero) h = refl
 one-eqb (suc (suc x)) h = absurd (omega arith)

@@ -1,16 +1,11 @@
 -- That `outputs_sound` of src/lib.rt keeps its contract.
-use Rattle.steps.specs.Refusals.{carriedOut}
-use mathlib.Core.Bool.{Bool}
-use Rattle.aic.specs.Model.{outputs}
-use Rattle.words.proofs.ChoiceLaws.{pick-true}
-use mathlib.Core.Path.{ap₂, _∙_}
+use Rattle.aic.proofs.CallLaws.{outputs-by}
 use borrow.Author.Needs.{needs}
 use Rattle.aic.proofs.outputs_sound.Statement.{statement}
 use Rattle.aic.proofs.outputs_sound.Tie as tie
 
 returns : tie.Need-returns
-unfolding outputs
-returns c = ap₂ (λ (i f : Bool). record { refusal = carriedOut; irq = i; fiq = f; handlers = c .before .args .s .depth }) (c .pins-of .ensures .0) (c .pins-of .ensures .1) ∙ pick-true _ (c .before .pre)
+returns c = outputs-by _ _ _ _ (c .before .before .before .pre) (c .before .before .output-bits .ensures) (c .before .has .ensures) (c .has2 .ensures)
 
 pub outputs-sound-spec : {M : Type 1} → statement M
-outputs-sound-spec = tie.close (tie.spec (λ c κs. search needs) returns)
+outputs-sound-spec = tie.close (tie.spec (λ c κs. search needs) (λ c κs. search needs) (λ c κs. search needs) returns)

@@ -5,7 +5,7 @@ use Rattle.aic_record.proofs.is_sound.Statement.{statement}
 use Rattle.aic_record.proofs.is_sound.Tie as tie
 
 returns : tie.Need-returns
-returns c = sound-by (c .before .before .before .before .before .before .before .args .t1) _ _ _ (c .before .before .before .before .places-sound .ensures) (c .before .modes-sound .ensures) (c .has .ensures)
+returns c = sound-by (c .before .before .before .before .before .before .before .args .t1) _ _ _ (c .before .before .before .before .slots-sound .ensures) (c .before .modes-sound .ensures) (c .has .ensures)
 
 pub is-sound-spec : {M : Type 1} → statement M
 is-sound-spec =

@@ -1,5 +1,5 @@
 -- That `mode_at` of src/lib.rt keeps its contract.
-use Rattle.aic_record.proofs.PlaceLaws.{past-getD}
+use Rattle.aic_record.proofs.TableLaws.{past-getD}
 use borrow.Author.Needs.{needs}
 use Rattle.aic_record.proofs.mode_at.Statement.{statement}
 use Rattle.aic_record.proofs.mode_at.Tie as tie

@@ -3,7 +3,7 @@ use Prim.Native.Nat.{ℕ}
 use mathlib.Core.List.{List}
 use mathlib.Core.Path.{ap₂}
 use Rattle.aic_record.specs.Record.{withHandlers}
-use Rattle.aic_record.proofs.PlaceLaws.{past-set}
+use Rattle.aic_record.proofs.TableLaws.{past-set}
 use borrow.Author.Needs.{needs}
 use Rattle.aic_record.proofs.put_handler.Statement.{statement}
 use Rattle.aic_record.proofs.put_handler.Tie as tie

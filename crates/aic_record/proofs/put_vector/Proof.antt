@@ -1,7 +1,7 @@
 -- That `put_vector` of src/lib.rt keeps its contract.
 use mathlib.Core.Path.{ap}
 use Rattle.aic_record.specs.Record.{withVector}
-use Rattle.aic_record.proofs.PlaceLaws.{past-set}
+use Rattle.aic_record.proofs.TableLaws.{past-set}
 use borrow.Author.Needs.{needs}
 use Rattle.aic_record.proofs.put_vector.Statement.{statement}
 use Rattle.aic_record.proofs.put_vector.Tie as tie

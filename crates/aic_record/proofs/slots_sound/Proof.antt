@@ -1,4 +1,4 @@
--- That `places_sound` of src/lib.rt keeps its contract.
+-- That `slots_sound` of src/lib.rt keeps its contract.
 use lib.ListN.{getD}
 use mir.Syntax.{w8}
 use mir.Val.{Fits}
@@ -7,14 +7,14 @@ use Prim.Native.Nat.{_-_, _≤_}
 use native.Mathlib.Omega.{arith}
 use Rattle.words.specs.Counting.{allBelow}
 use Rattle.words.proofs.CountingLaws.{all-none-yet, all-more, at-end}
-use Rattle.aic_record.specs.Passes.{floorAt, placeSound}
-use Rattle.aic_record.proofs.PassLaws.{floor-none, floor-more, place-is}
+use Rattle.aic_record.specs.Passes.{floorAt, slotSound}
+use Rattle.aic_record.proofs.PassLaws.{floor-none, floor-more, slot-is}
 use borrow.Author.Needs.{needs}
-use Rattle.aic_record.proofs.places_sound.Statement.{statement}
-use Rattle.aic_record.proofs.places_sound.Tie as tie
+use Rattle.aic_record.proofs.slots_sound.Statement.{statement}
+use Rattle.aic_record.proofs.slots_sound.Tie as tie
 
 abbrev Inv-loop : tie.InvT-loop
-Inv-loop depth source level ok₀ floor₀ i₀ ok floor i = (i ≤ 8) × (ok ≡ allBelow i (placeSound source level depth)) × (floor ≡ floorAt level i)
+Inv-loop depth source level ok₀ floor₀ i₀ ok floor i = (i ≤ 8) × (ok ≡ allBelow i (slotSound source level depth)) × (floor ≡ floorAt level i)
 
 abbrev μ-loop : tie.MeasureT-loop
 μ-loop depth source level ok₀ floor₀ i₀ ok floor i = 8 - i
@@ -31,15 +31,15 @@ loop-again : tie.Need-loop-again Inv-loop μ-loop
 loop-again c =
     let a = c .before .before .before .args in
     let l = c .before .before .loop in
-    (omega arith, all-more (placeSound (a .t1) (a .t2) (a .depth)) (l .i) (l .inv .1) (place-is (a .t1) (a .t2) (a .depth) (l .i) (l .floor) (l .inv .2) (c .place-sound .ensures)), floor-more (a .t2) (l .i))
+    (omega arith, all-more (slotSound (a .t1) (a .t2) (a .depth)) (l .i) (l .inv .1) (slot-is (a .t1) (a .t2) (a .depth) (l .i) (l .floor) (l .inv .2) (c .slot-sound .ensures)), floor-more (a .t2) (l .i))
 
 returns : tie.Need-returns Inv-loop μ-loop
 returns c =
     let a = c .before .before .args in
-    at-end (λ n. allBelow n (placeSound (a .t1) (a .t2) (a .depth))) _ 8 (c .before .loop .inv .0) (c .loop-test .left) (c .before .loop .inv .1)
+    at-end (λ n. allBelow n (slotSound (a .t1) (a .t2) (a .depth))) _ 8 (c .before .loop .inv .0) (c .loop-test .left) (c .before .loop .inv .1)
 
-pub places-sound-spec : {M : Type 1} → statement M
-places-sound-spec =
+pub slots-sound-spec : {M : Type 1} → statement M
+slots-sound-spec =
     tie.close
     (tie.spec
     Inv-loop

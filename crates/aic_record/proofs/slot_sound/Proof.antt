@@ -1,0 +1,13 @@
+-- That `slot_sound` of src/lib.rt keeps its contract.
+use Rattle.words.proofs.ChoiceLaws.{pick-true, pick-false}
+use Rattle.aic_record.proofs.slot_sound.Statement.{statement}
+use Rattle.aic_record.proofs.slot_sound.Tie as tie
+
+returns : tie.Need-returns
+returns c = pick-true _ (c .if1 .taken)
+
+returns-2 : tie.Need-returns-2
+returns-2 c = pick-false _ (c .if1 .left)
+
+pub slot-sound-spec : {M : Type 1} → statement M
+slot-sound-spec = tie.close (tie.spec returns returns-2)
