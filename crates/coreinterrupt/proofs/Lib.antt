@@ -3,4 +3,5 @@ pub mod AnswerLaws
 pub mod ModelLaws
 pub mod OutputLaws
 pub mod Promises
+pub mod SoundLaws
 pub mod StartLaws

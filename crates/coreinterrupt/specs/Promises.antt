@@ -9,9 +9,9 @@ use Rattle.steps.specs.declared.Step.{Step}
 use Rattle.steps.specs.Refusals.{carriedOut, misconfigured, unsound}
 use Rattle.steps.specs.Tables.{ReadTable, WriteTable, LineTable}
 use Rattle.coreinterrupt.specs.declared.Core.{Core}
-use Rattle.coreinterrupt_side.specs.Group.{idle}
+use Rattle.coreinterrupt_side.specs.Side.{idle}
 use Rattle.coreinterrupt_side.specs.Promises.{SomeSource}
-use Rattle.coreinterrupt.specs.Model.{coreOf, sound, within, start, accepted, refused, access, valueAt, written, lineMoved, read, write, line, irqBase, irqLimit, step, outputs}
+use Rattle.coreinterrupt.specs.Model.{coreOf, sound, within, start, answered, refused, access, valueAt, written, lineMoved, read, write, line, irqBase, irqLimit, step, outputs}
 
 pub record Promises : Type 0 where
   -- ---- start
@@ -51,26 +51,26 @@ pub record Promises : Type 0 where
   pub registers : (c : Core) (offset : ℕ) → (access c offset ≡ NoRegister) ↔ (0x30 ≤ offset)
   -- with no FIQ sources every FIQ register reads 0, the clears too (01, CoreInterrupt; 004, FIQSoftInt and the five after it)
   pub noFiqSources : (c : Core) (offset : ℕ) → sound c ≡ true → c .fiq .count ≡ 0 → offset < irqBase → offset % 4 ≡ 0
-      → read c offset ≡ accepted c 0
+      → read c offset ≡ answered c 0
   -- with no IRQ sources every IRQ register reads 0, the clears too (01, CoreInterrupt; 004, IRQSoftInt and the five after it)
   pub noIrqSources : (c : Core) (offset : ℕ) → sound c ≡ true → c .irq .count ≡ 0 → irqBase ≤ offset → offset < 0x30 → offset % 4 ≡ 0
-      → read c offset ≡ accepted c 0
+      → read c offset ≡ answered c 0
   -- ---- what a step does to each side; what that does to each source's bit is promised of a side alone
   -- a read that is not refused answers what the register holds (01, CoreInterrupt)
-  pub readTaken : (c : Core) (offset : ℕ) → read c offset .refusal ≡ carriedOut → read c offset ≡ accepted c (valueAt c offset)
+  pub readTaken : (c : Core) (offset : ℕ) → read c offset .refusal ≡ carriedOut → read c offset ≡ answered c (valueAt c offset)
   -- a write that is not refused is done to the side that the offset belongs to (01, CoreInterrupt)
-  pub writeTaken : (c : Core) (offset v : ℕ) → write c offset v .refusal ≡ carriedOut → write c offset v ≡ accepted (written c offset v) 0
+  pub writeTaken : (c : Core) (offset v : ℕ) → write c offset v .refusal ≡ carriedOut → write c offset v ≡ answered (written c offset v) 0
   -- a write below 0x18 leaves the IRQ side as it was, one from there on the FIQ side (01, CoreInterrupt)
   pub writeSide : (c : Core) (offset v : ℕ)
       → (offset < irqBase → write c offset v .core .irq ≡ c .irq) × (irqBase ≤ offset → write c offset v .core .fiq ≡ c .fiq)
   -- a line step that is not refused is done to the input of that line (01, CoreInterrupt)
-  pub lineTaken : (c : Core) (k l : ℕ) → line c k l .refusal ≡ carriedOut → line c k l ≡ accepted (lineMoved c k (eqb l 1)) 0
+  pub lineTaken : (c : Core) (k l : ℕ) → line c k l .refusal ≡ carriedOut → line c k l ≡ answered (lineMoved c k (eqb l 1)) 0
   -- lines 0 to 31 leave the FIQ side as it was, those from 32 on the IRQ side (01, CoreInterrupt)
   pub lineSide : (c : Core) (k l : ℕ) → (k < irqLimit → line c k l .core .fiq ≡ c .fiq) × (irqLimit ≤ k → line c k l .core .irq ≡ c .irq)
   -- a spare IRQ input may move and changes nothing (01, CoreInterrupt; 004, table 2)
-  pub spareIrq : (c : Core) (k l : ℕ) → sound c ≡ true → c .irq .count ≤ k → k < 32 → l ≤ 1 → line c k l ≡ accepted c 0
+  pub spareIrq : (c : Core) (k l : ℕ) → sound c ≡ true → c .irq .count ≤ k → k < 32 → l ≤ 1 → line c k l ≡ answered c 0
   -- a spare FIQ input may move and changes nothing (01, CoreInterrupt; 004, table 2)
-  pub spareFiq : (c : Core) (k l : ℕ) → sound c ≡ true → 32 + c .fiq .count ≤ k → k < 40 → l ≤ 1 → line c k l ≡ accepted c 0
+  pub spareFiq : (c : Core) (k l : ℕ) → sound c ≡ true → 32 + c .fiq .count ≤ k → k < 40 → l ≤ 1 → line c k l ≡ answered c 0
   -- ---- outputs
   -- IRQ is active exactly if there is an IRQ source that is raised and enabled (01, CoreInterrupt; 004, IRQ Processing)
   pub irqActive : (c : Core) → sound c ≡ true → (outputs c .irq ≡ true) ↔ SomeSource (c .irq .count) (c .irq)
