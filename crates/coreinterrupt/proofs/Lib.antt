@@ -5,3 +5,4 @@ pub mod OutputLaws
 pub mod Promises
 pub mod SoundLaws
 pub mod StartLaws
+pub mod TableLaws

@@ -20,8 +20,9 @@ use Rattle.coreinterrupt.specs.declared.Core.{Core}
 use Rattle.coreinterrupt.specs.declared.Answer.{Answer}
 use Rattle.coreinterrupt_side.specs.Side.{sideAccess, sideWrite, moved, sideSound}
 use Rattle.coreinterrupt.specs.Model.{side, withSide, sound, answered, refused, fiqOffset, register, access, valueAt, written, read, write, fiqLine, input, lineMoved, line, step}
+use Rattle.coreinterrupt.specs.Promises.{Rules}
 use Rattle.coreinterrupt.proofs.AnswerLaws.{carried, either-way, refused-is}
-use Rattle.coreinterrupt_side.proofs.SideLaws.{write-sound, moved-sound, moved-spare, sound-rules, six-registers, zero-readable, zero-read}
+use Rattle.coreinterrupt_side.proofs.SideLaws.{write-sound, moved-sound, moved-spare, sound-rules, rules-sound, six-registers, zero-readable, zero-read}
 
 -- ---- soundness
 
@@ -32,6 +33,13 @@ fiq-sound c e = and-left (sideSound 8 (c .fiq)) (sideSound 32 (c .irq)) e
 pub irq-sound : (c : Core) → sound c ≡ true → sideSound 32 (c .irq) ≡ true
 unfolding sound
 irq-sound c e = and-right (sideSound 8 (c .fiq)) (sideSound 32 (c .irq)) e
+
+pub sound-is : (c : Core) → (sound c ≡ true) ↔ Rules c
+unfolding sound
+sound-is c = (
+  (λ e. record { fiq = sound-rules 8 (c .fiq) (fiq-sound c e); irq = sound-rules 32 (c .irq) (irq-sound c e) }),
+  (λ r. and-both (rules-sound 8 (c .fiq) (r .fiq)) (rules-sound 32 (c .irq) (r .irq))),
+)
 
 -- what keeps each side sound keeps the record sound, on whichever side it is done
 side-sound : (c : Core) (fast : Bool) (f : Side → Side)
@@ -49,7 +57,7 @@ line-sound : (c : Core) (k : ℕ) (high : Bool) → sound c ≡ true → sound (
 unfolding lineMoved
 line-sound c k high e = side-sound c (fiqLine k) (λ g. moved g (input k) high) (moved-sound (input k) high) e
 
-pub step-sound : (c : Core) (s : Step) → sound c ≡ true → sound (step c s .core) ≡ true
+pub step-sound : (c : Core) (x : Step) → sound c ≡ true → sound (step c x .core) ≡ true
 unfolding read write line
 step-sound c (Read o) e = either-way (λ (a : Answer). sound (a .core) ≡ true) c (readRefusal (sound c) o (access c o)) (answered c (valueAt c o)) e e
 step-sound c (Write o v) e =
@@ -58,7 +66,7 @@ step-sound c (Line k l) e =
     either-way (λ (a : Answer). sound (a .core) ≡ true) c (lineRefusal (sound c) 40 k l) (answered (lineMoved c k (eqb l 1)) 0)
     (line-sound c k (eqb l 1) e) e
 
-pub step-refused : (c : Core) (s : Step) → step c s .refusal ≢ 0 → step c s ≡ refused c (step c s .refusal)
+pub step-refused : (c : Core) (x : Step) → step c x .refusal ≢ 0 → step c x ≡ refused c (step c x .refusal)
 unfolding read write line
 step-refused c (Read o) d = refused-is c (readRefusal (sound c) o (access c o)) (answered c (valueAt c o)) refl d
 step-refused c (Write o v) d = refused-is c (writeRefusal (sound c) o (access c o) 0) (answered (written c o v) 0) refl d

@@ -11,10 +11,11 @@ use Rattle.coreinterrupt.specs.declared.Answer.{Answer}
 use Rattle.coreinterrupt_side.specs.Side.{sideWrite, moved}
 use Rattle.coreinterrupt.specs.Model.{side, sound, answered, fiqOffset, register, access, valueAt, written, read, write, fiqLine, input, lineMoved, line}
 use Rattle.coreinterrupt.specs.Promises.{Promises}
-use Rattle.coreinterrupt.proofs.AnswerLaws.{either-way, number-is, taken}
-use Rattle.coreinterrupt.proofs.ModelLaws.{step-sound, step-refused, registers, zero-fiq, zero-irq, spare-irq, spare-fiq, fiq-offset, irq-offset, fiq-line, irq-line, with-irq, with-fiq}
+use Rattle.coreinterrupt.proofs.AnswerLaws.{either-way, number-is}
+use Rattle.coreinterrupt.proofs.ModelLaws.{sound-is, step-sound, step-refused, zero-fiq, zero-irq, spare-irq, spare-fiq, fiq-offset, irq-offset, fiq-line, irq-line, with-irq, with-fiq}
 use Rattle.coreinterrupt.proofs.OutputLaws.{shown, hidden, irq-active, fiq-active, irq-level, fiq-level, levels-small}
-use Rattle.coreinterrupt.proofs.StartLaws.{limits, four-numbers, start-refused, start-zeros, start-taken, start-sound}
+use Rattle.coreinterrupt.proofs.StartLaws.{configuration, start-refused, start-zeros, start-taken, start-sound}
+use Rattle.coreinterrupt.proofs.TableLaws.{the-map, reads-of, writes-of, lines-of}
 
 -- ---- the tables
 
@@ -39,14 +40,14 @@ read-keeps : (c : Core) (o : ℕ) → read c o .core ≡ c
 unfolding read
 read-keeps c o = either-way (λ (a : Answer). a .core ≡ c) c (readRefusal (sound c) o (access c o)) (answered c (valueAt c o)) refl refl
 
-write-answers : (c : Core) (o v : ℕ) → write c o v .value ≡ 0
+write-value : (c : Core) (o v : ℕ) → write c o v .value ≡ 0
 unfolding write
-write-answers c o v =
+write-value c o v =
     either-way (λ (a : Answer). a .value ≡ 0) c (writeRefusal (sound c) o (access c o) 0) (answered (written c o v) 0) refl refl
 
-line-answers : (c : Core) (k l : ℕ) → line c k l .value ≡ 0
+line-value : (c : Core) (k l : ℕ) → line c k l .value ≡ 0
 unfolding line
-line-answers c k l =
+line-value c k l =
     either-way (λ (a : Answer). a .value ≡ 0) c (lineRefusal (sound c) 40 k l) (answered (lineMoved c k (eqb l 1)) 0) refl refl
 
 write-irq : (c : Core) (o v : ℕ) → o < 0x18 → write c o v .core .irq ≡ c .irq
@@ -74,38 +75,40 @@ line-irq c k l p =
     (with-irq c (fiqLine k) (moved (side c (fiqLine k)) (input k) (eqb l 1)) (fiq-line k p)) refl
 
 pub kept : Promises
-unfolding read write line
 kept =
     record {
-      limits = limits;
-      fourNumbers = four-numbers;
+      configuration = configuration;
+      startTaken = start-taken;
       startRefused = start-refused;
       startZeros = start-zeros;
-      startTaken = start-taken;
       startSound = start-sound;
+      stepIs = λ c. ((λ o. refl), (λ o v. refl), (λ k l. refl));
+      soundIs = sound-is;
       stepSound = step-sound;
-      stepRefused = step-refused;
-      readTable = reads;
-      writeTable = writes;
-      lineTable = lines;
+      answeredIs = λ c v. refl;
+      refusedIs = λ c n. refl;
+      refusedSame = step-refused;
+      writeValue = write-value;
+      lineValue = line-value;
+      readNumbers = reads;
+      writeNumbers = writes;
+      lineNumbers = lines;
+      map = the-map;
+      reads = reads-of;
+      writes = λ c v ok. writes-of c ok v;
+      lineMoves = λ c l ok. lines-of c ok l;
       readKeeps = read-keeps;
-      writeAnswers = write-answers;
-      lineAnswers = line-answers;
-      registers = registers;
       noFiqSources = zero-fiq;
       noIrqSources = zero-irq;
-      readTaken = λ c o e. taken c (readRefusal (sound c) o (access c o)) (answered c (valueAt c o)) refl e;
-      writeTaken = λ c o v e. taken c (writeRefusal (sound c) o (access c o) 0) (answered (written c o v) 0) refl e;
       writeSide = λ c o v. (write-irq c o v, write-fiq c o v);
-      lineTaken = λ c k l e. taken c (lineRefusal (sound c) 40 k l) (answered (lineMoved c k (eqb l 1)) 0) refl e;
       lineSide = λ c k l. (line-fiq c k l, line-irq c k l);
       spareIrq = spare-irq;
       spareFiq = spare-fiq;
+      outputsSound = shown;
+      outputsUnsound = hidden;
       irqActive = irq-active;
       fiqActive = fiq-active;
       irqLevel = irq-level;
       fiqLevel = fiq-level;
       levelsSmall = levels-small;
-      outputsTaken = λ c e. rw (shown c e);
-      outputsRefused = hidden;
     }

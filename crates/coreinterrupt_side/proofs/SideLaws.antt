@@ -15,7 +15,7 @@ use Rattle.words.proofs.TruthLaws.{and-left, and-right, and-both}
 use Rattle.words.proofs.WordLaws.{bit-either, bit-both, bit-without, bit-withBit, bit-kept, kept-lt, clean-lt, lt-clean, both-lt}
 use Rattle.steps.specs.declared.Access.{Access}
 use Rattle.steps.specs.declared.Access.the-variants.{NoRegister, ReadOnly, WriteOnly, ReadWrite}
-use Rattle.steps.specs.Tables.{Readable}
+use Rattle.steps.specs.Tables.{Readable, Writable}
 use Rattle.coreinterrupt_side.specs.declared.Side.{Side}
 use Rattle.coreinterrupt_side.specs.Side.{idle, raw, status, active, other, outputLevel, withInputs, withSoft, withEnable, clearAccess, sideAccess, sideRead, setBits, clearBits, sideWrite, moved, sideSound}
 use Rattle.coreinterrupt_side.specs.Promises.{SomeSource, Rules}
@@ -238,6 +238,11 @@ clears-hidden s d = let h = sym (pick-false ReadWrite (ne-eqb (s .count) 0 d)) i
 pub clears-shown : (s : Side) → s .count ≡ 0 → (sideAccess s 1 ≡ ReadWrite) × (sideAccess s 3 ≡ ReadWrite)
 unfolding sideAccess clearAccess
 clears-shown s z = let h = sym (pick-true WriteOnly (eq-eqb (s .count) 0 z)) in (h, h)
+
+-- whatever the count, they take writes
+pub clear-writable : (s : Side) → Writable (clearAccess s)
+unfolding clearAccess
+clear-writable s = pick-cases Writable (eqb (s .count) 0) (λ _. inr refl) (λ _. inl refl)
 
 pub raw-read-only : (s : Side) → (sideAccess s 4 ≡ ReadOnly) × (sideAccess s 5 ≡ ReadOnly)
 unfolding sideAccess
