@@ -269,7 +269,7 @@ pub fn is_sound(m: Machine) -> bool
     }
     if m.kind == CORE {
         let s = m.core;
-        return coreinterrupt::sound(s);
+        return coreinterrupt::is_sound(s);
     }
     if m.kind == CIC {
         let s = m.cic;
