@@ -239,7 +239,7 @@ pub fn step_sound(m: Machine, x: Step) -> Answer
     }
     if m.kind == CORE {
         let s = m.core;
-        return after_core(m, coreinterrupt::step(s, x));
+        return after_core(m, coreinterrupt::step_sound(s, x));
     }
     let s = m.cic;
     after_cic(m, cic::step_sound(s, x))
@@ -333,7 +333,7 @@ pub fn shown_sound(m: Machine) -> Columns
     }
     if m.kind == CORE {
         let s = m.core;
-        return core_columns(coreinterrupt::outputs(s));
+        return core_columns(coreinterrupt::outputs_sound(s));
     }
     let s = m.cic;
     cic_columns(cic::outputs_sound(s))
