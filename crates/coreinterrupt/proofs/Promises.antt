@@ -1,6 +1,6 @@
 -- The promises of CoreInterrupt, kept.
 use Prim.Native.Nat.{ℕ, _<_, _≤_}
-use mathlib.Core.Path.{_≡_, refl}
+use mathlib.Core.Path.{_≡_, refl, sym}
 use mathlib.Core.Logic.{inl}
 use lib.Dec.{eqb}
 use Rattle.steps.specs.Refusals.{readRefusal, writeRefusal, lineRefusal}
@@ -11,7 +11,7 @@ use Rattle.coreinterrupt.specs.declared.Answer.{Answer}
 use Rattle.coreinterrupt_side.specs.Side.{sideWrite, moved}
 use Rattle.coreinterrupt.specs.Model.{side, sound, answered, fiqOffset, register, access, valueAt, written, read, write, fiqLine, input, lineMoved, line}
 use Rattle.coreinterrupt.specs.Promises.{Promises}
-use Rattle.coreinterrupt.proofs.AnswerLaws.{either-way, number-is}
+use Rattle.coreinterrupt.proofs.AnswerLaws.{carried, stopped, either-way, number-is}
 use Rattle.coreinterrupt.proofs.ModelLaws.{sound-is, step-sound, step-refused, zero-fiq, zero-irq, spare-irq, spare-fiq, fiq-offset, irq-offset, fiq-line, irq-line, with-irq, with-fiq}
 use Rattle.coreinterrupt.proofs.OutputLaws.{shown, hidden, irq-active, fiq-active, irq-level, fiq-level, levels-small}
 use Rattle.coreinterrupt.proofs.StartLaws.{configuration, start-refused, start-zeros, start-taken, start-sound}
@@ -87,6 +87,7 @@ kept =
       stepSound = step-sound;
       answeredIs = λ c v. refl;
       refusedIs = λ c n. refl;
+      unlessIs = λ c n a. ((λ e. sym (carried c n e)), (λ d. sym (stopped c n a d)));
       refusedSame = step-refused;
       writeValue = write-value;
       lineValue = line-value;

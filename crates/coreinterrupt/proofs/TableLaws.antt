@@ -1,17 +1,18 @@
 -- What each read, each write and each line step does to a sound record, register by register.
 use Prim.Native.Nat.{ℕ, _+_, _-_, _%_, _^_, _<_, _≤_}
 use mathlib.Core.Path.{_≡_, refl, sym, ap, _∙_}
-use mathlib.Core.Bool.{Bool, true}
+use mathlib.Core.Bool.{Bool, true, not, _&&_, _||_}
 use mathlib.Core.Logic.{inl, inr}
 use native.Mathlib.Omega.{arith}
-use lib.Dec.{eqb}
+use lib.Dec.{eqb, ltb}
 use lib.Pow.{pow-mono}
 use Rattle.words.specs.Choice.{pick}
+use Rattle.words.specs.Word.{bit}
 use Rattle.steps.specs.Refusals.{readRefusal, writeRefusal, lineRefusal}
 use Rattle.steps.specs.Tables.{Readable, Writable}
 use Rattle.steps.proofs.Promises.{read-table, write-table, line-table}
 use Rattle.coreinterrupt_side.specs.declared.Side.{Side}
-use Rattle.coreinterrupt_side.specs.Side.{withInputs, clearAccess, sideAccess, sideRead, setBits, clearBits, sideWrite, moved}
+use Rattle.coreinterrupt_side.specs.Side.{sideAccess, sideRead, setBits, clearBits, sideWrite, moved}
 use Rattle.coreinterrupt_side.specs.Promises.{Rules}
 use Rattle.coreinterrupt_side.proofs.SideLaws.{clears-hidden, clears-shown, clear-writable, set-bit, clear-bit, set-word, clear-word, line-bit, line-word, line-only, sound-rules}
 use Rattle.coreinterrupt.specs.declared.Core.{Core}
@@ -81,20 +82,29 @@ module _ (c : Core) (ok : sound c ≡ true) where
     unfolding write
     takes o m w = sym (carried c (writeRefusal (sound c) o (access c o) 0) (write-table 0 (inl refl) (sound c) o (access c o) .none .1 (ok, (m, (w, refl)))))
 
+    -- the bits of v below n are set, or cleared, in the word w
+    sets : (o n w : ℕ) (put : ℕ → Core) → write c o v ≡ answered (put (setBits n w v)) 0
+        → Sets (write c o v) 0 put (λ k. bit w k || (bit v k && ltb k n))
+    sets o n w put e = record { word = setBits n w v; narrow = set-word n w v; done = e; bits = set-bit n w v }
+
+    clears : (o n w : ℕ) (put : ℕ → Core) → write c o v ≡ answered (put (clearBits n w v)) 0
+        → Sets (write c o v) 0 put (λ k. bit w k && not (bit v k && ltb k n))
+    clears o n w put e = record { word = clearBits n w v; narrow = clear-word n w v; done = e; bits = clear-bit n w v }
+
     pub writes-of : Writes c v
     unfolding written access side withSide register fiqOffset pick sideAccess sideWrite
     writes-of =
         let f = c .fiq in
         let i = c .irq in
         record {
-          fiqSoft = record { word = setBits (f .count) (f .soft) v; narrow = set-word (f .count) (f .soft) v; done = takes 0x00 refl (inr refl); bits = set-bit (f .count) (f .soft) v };
-          fiqSoftClear = record { word = clearBits (f .count) (f .soft) v; narrow = clear-word (f .count) (f .soft) v; done = takes 0x04 refl (clear-writable f); bits = clear-bit (f .count) (f .soft) v };
-          fiqEnable = record { word = setBits (f .count) (f .enable) v; narrow = set-word (f .count) (f .enable) v; done = takes 0x08 refl (inr refl); bits = set-bit (f .count) (f .enable) v };
-          fiqEnableClear = record { word = clearBits (f .count) (f .enable) v; narrow = clear-word (f .count) (f .enable) v; done = takes 0x0C refl (clear-writable f); bits = clear-bit (f .count) (f .enable) v };
-          irqSoft = record { word = setBits (i .count) (i .soft) v; narrow = set-word (i .count) (i .soft) v; done = takes 0x18 refl (inr refl); bits = set-bit (i .count) (i .soft) v };
-          irqSoftClear = record { word = clearBits (i .count) (i .soft) v; narrow = clear-word (i .count) (i .soft) v; done = takes 0x1C refl (clear-writable i); bits = clear-bit (i .count) (i .soft) v };
-          irqEnable = record { word = setBits (i .count) (i .enable) v; narrow = set-word (i .count) (i .enable) v; done = takes 0x20 refl (inr refl); bits = set-bit (i .count) (i .enable) v };
-          irqEnableClear = record { word = clearBits (i .count) (i .enable) v; narrow = clear-word (i .count) (i .enable) v; done = takes 0x24 refl (clear-writable i); bits = clear-bit (i .count) (i .enable) v };
+          fiqSoft = sets 0x00 (f .count) (f .soft) _ (takes 0x00 refl (inr refl));
+          fiqSoftClear = clears 0x04 (f .count) (f .soft) _ (takes 0x04 refl (clear-writable f));
+          fiqEnable = sets 0x08 (f .count) (f .enable) _ (takes 0x08 refl (inr refl));
+          fiqEnableClear = clears 0x0C (f .count) (f .enable) _ (takes 0x0C refl (clear-writable f));
+          irqSoft = sets 0x18 (i .count) (i .soft) _ (takes 0x18 refl (inr refl));
+          irqSoftClear = clears 0x1C (i .count) (i .soft) _ (takes 0x1C refl (clear-writable i));
+          irqEnable = sets 0x20 (i .count) (i .enable) _ (takes 0x20 refl (inr refl));
+          irqEnableClear = clears 0x24 (i .count) (i .enable) _ (takes 0x24 refl (clear-writable i));
         }
 
   -- ---- lines

@@ -10,7 +10,8 @@ use Rattle.steps.specs.Tables.{ReadTable, WriteTable, LineTable}
 use Rattle.coreinterrupt_side.specs.Side.{active, outputLevel}
 use Rattle.coreinterrupt_side.specs.Promises.{SomeSource, Rules as SideRules}
 use Rattle.coreinterrupt.specs.declared.Core.{Core}
-use Rattle.coreinterrupt.specs.Model.{sound, within, start, answered, refused, access, read, write, line, step, outputs}
+use Rattle.coreinterrupt.specs.declared.Answer.{Answer}
+use Rattle.coreinterrupt.specs.Model.{sound, within, start, answered, refused, unlessRefused, access, read, write, line, step, outputs}
 use Rattle.coreinterrupt.specs.Tables.{MapTable, Reads, Writes, Lines}
 
 -- the rules of a sound record: of at most 8 FIQ and 32 IRQ sources, of each side the active level 0 or 1 and no stored bit beyond the count
@@ -50,6 +51,8 @@ pub record Promises : Type 0 where
   -- a step that is carried out answers 0, a value and a record; a refused one its number, the value 0 and the same record (01, Numbers)
   pub answeredIs : (c : Core) (v : ℕ) → answered c v ≡ record { refusal = carriedOut; value = v; core = c }
   pub refusedIs : (c : Core) (n : ℕ) → refused c n ≡ record { refusal = n; value = 0; core = c }
+  pub unlessIs : (c : Core) (n : ℕ) (a : Answer)
+      → (n ≡ carriedOut → unlessRefused c n a ≡ a) × (n ≢ carriedOut → unlessRefused c n a ≡ refused c n)
   pub refusedSame : (c : Core) (x : Step) → step c x .refusal ≢ carriedOut → step c x ≡ refused c (step c x .refusal)
   -- writes and line steps answer the value 0 (01, Numbers)
   pub writeValue : (c : Core) (offset v : ℕ) → write c offset v .value ≡ 0

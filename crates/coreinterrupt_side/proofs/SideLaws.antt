@@ -12,7 +12,7 @@ use Rattle.words.specs.Choice.{pick}
 use Rattle.words.specs.Word.{bit, withBit, kept}
 use Rattle.words.proofs.ChoiceLaws.{pick-true, pick-false, pick-cases}
 use Rattle.words.proofs.TruthLaws.{and-left, and-right, and-both}
-use Rattle.words.proofs.WordLaws.{bit-either, bit-both, bit-without, bit-withBit, bit-kept, kept-lt, clean-lt, lt-clean, both-lt}
+use Rattle.words.proofs.WordLaws.{bit-either, bit-both, bit-without, bit-withBit, bit-kept, kept-lt, clean-lt, lt-clean, both-lt, either-narrow, both-narrow, without-narrow, withBit-narrow, some-bit, bit-not-zero, bit-below, either-lt, without-lt, withBit-lt}
 use Rattle.steps.specs.declared.Access.{Access}
 use Rattle.steps.specs.declared.Access.the-variants.{NoRegister, ReadOnly, WriteOnly, ReadWrite}
 use Rattle.steps.specs.Tables.{Readable, Writable}
@@ -20,7 +20,6 @@ use Rattle.coreinterrupt_side.specs.declared.Side.{Side}
 use Rattle.coreinterrupt_side.specs.Side.{idle, raw, status, active, other, outputLevel, withInputs, withSoft, withEnable, clearAccess, sideAccess, sideRead, setBits, clearBits, sideWrite, moved, sideSound}
 use Rattle.coreinterrupt_side.specs.Promises.{SomeSource, Rules}
 use Rattle.coreinterrupt_side.proofs.TableLaws.{access-past, read-past, write-past}
-use Rattle.words.proofs.WordLaws.{either-narrow, both-narrow, without-narrow, withBit-narrow, some-bit, bit-not-zero, bit-below, either-lt, without-lt, withBit-lt}
 
 -- ---- bits
 

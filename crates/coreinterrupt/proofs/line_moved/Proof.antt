@@ -2,8 +2,7 @@
 use Rattle.coreinterrupt_side.specs.declared.Side.{Side}
 use Prim.Native.Nat.{ℕ}
 use Rattle.coreinterrupt_side.specs.Side.{moved}
-use Rattle.coreinterrupt.specs.Model.{fiqLine, withSide}
-use Rattle.coreinterrupt.specs.Model.{lineMoved}
+use Rattle.coreinterrupt.specs.Model.{fiqLine, withSide, lineMoved}
 use mathlib.Core.Path.{ap, ap₂, _∙_}
 use borrow.Author.Needs.{needs}
 use Rattle.coreinterrupt.proofs.line_moved.Statement.{statement}

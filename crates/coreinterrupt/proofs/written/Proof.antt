@@ -2,8 +2,7 @@
 use Rattle.coreinterrupt_side.specs.declared.Side.{Side}
 use Prim.Native.Nat.{ℕ}
 use Rattle.coreinterrupt_side.specs.Side.{sideWrite}
-use Rattle.coreinterrupt.specs.Model.{fiqOffset, withSide}
-use Rattle.coreinterrupt.specs.Model.{written}
+use Rattle.coreinterrupt.specs.Model.{fiqOffset, withSide, written}
 use mathlib.Core.Path.{ap, ap₂, _∙_}
 use borrow.Author.Needs.{needs}
 use Rattle.coreinterrupt.proofs.written.Statement.{statement}
