@@ -19,7 +19,7 @@ use Rattle.aic_registers.specs.Map.{access, valueRefusal}
 use Rattle.aic_registers.specs.Effects.{moded}
 use Rattle.aic_registers.specs.Registers.{stored, readAt, writtenAt}
 use Rattle.aic.specs.Model.{start, readNumber, writeNumber, read, write}
-use Rattle.coreinterrupt_side.specs.Group.{clearAccess, groupAccess, groupRead, setBits, groupWrite, groupSound}
+use Rattle.coreinterrupt_side.specs.Side.{clearAccess, sideAccess, sideRead, setBits, sideWrite, sideSound}
 use Rattle.coreinterrupt.specs.Model as CoreInterrupt
 use Rattle.cic_record.specs.Sound as Cic
 use Rattle.cic_record.specs.Start.{fresh, configured, started}
@@ -60,7 +60,7 @@ aic-moves = record { taken = refl; first = refl; second = refl }
 
 -- CoreInterrupt: two IRQ sources are enabled, one after the other
 pub core-moves : Moves coreModel (CoreInterrupt.start 8 32 1 1 .core) (Write 0x20 1) (Write 0x20 2) 0x20
-unfolding coreModel pick wordOf bit either kept clean readRefusal writeRefusal clearAccess groupAccess groupRead setBits groupWrite groupSound CoreInterrupt.side CoreInterrupt.withSide CoreInterrupt.sound CoreInterrupt.within CoreInterrupt.allWithin CoreInterrupt.start CoreInterrupt.unlessRefused CoreInterrupt.fiqOffset CoreInterrupt.register CoreInterrupt.access CoreInterrupt.valueAt CoreInterrupt.written CoreInterrupt.read CoreInterrupt.write
+unfolding coreModel pick wordOf bit either kept clean readRefusal writeRefusal clearAccess sideAccess sideRead setBits sideWrite sideSound CoreInterrupt.side CoreInterrupt.withSide CoreInterrupt.sound CoreInterrupt.within CoreInterrupt.allWithin CoreInterrupt.start CoreInterrupt.unlessRefused CoreInterrupt.fiqOffset CoreInterrupt.register CoreInterrupt.access CoreInterrupt.valueAt CoreInterrupt.written CoreInterrupt.read CoreInterrupt.write
 core-moves = record { taken = refl; first = refl; second = refl }
 
 -- CIC: global enable is set, and cleared

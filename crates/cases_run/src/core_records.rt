@@ -4,7 +4,6 @@ use super::core_steps::read;
 use super::core_steps::write;
 use super::say;
 use coreinterrupt::Core;
-use coreinterrupt_side::Group;
 
 fn start(fiqs: u32, irqs: u32, fiqlevel: u32, irqlevel: u32) {
     let b = coreinterrupt::start(fiqs, irqs, fiqlevel, irqlevel);
@@ -17,14 +16,14 @@ fn start(fiqs: u32, irqs: u32, fiqlevel: u32, irqlevel: u32) {
 }
 
 // One side: its count, its active level, and the words of its inputs, soft and enable bits.
-fn side(count: u32, level: u32, inputs: u32, soft: u32, enable: u32) -> Group {
+fn side(count: u32, level: u32, inputs: u32, soft: u32, enable: u32) -> coreinterrupt_side::Side {
     say::text(b"side");
     say::hex(count);
     say::hex(level);
     say::hex(inputs);
     say::hex(soft);
     say::hex(enable);
-    Group {
+    coreinterrupt_side::Side {
         count: count,
         level: level,
         inputs: inputs,
@@ -34,9 +33,9 @@ fn side(count: u32, level: u32, inputs: u32, soft: u32, enable: u32) -> Group {
 }
 
 // A record is looked at by a read of its FIQ soft register: this side, the other having no sources.
-fn fiq(g: Group) {
+fn fiq(s: coreinterrupt_side::Side) {
     let c = Core {
-        fiq: g,
+        fiq: s,
         irq: coreinterrupt_side::idle(0, 0),
     };
     let a = coreinterrupt::read(c, 0x000);
@@ -44,10 +43,10 @@ fn fiq(g: Group) {
     say::outcome(a.refusal);
 }
 
-fn irq(g: Group) {
+fn irq(s: coreinterrupt_side::Side) {
     let c = Core {
         fiq: coreinterrupt_side::idle(0, 0),
-        irq: g,
+        irq: s,
     };
     let a = coreinterrupt::read(c, 0x000);
     say::text(b" IRQ");

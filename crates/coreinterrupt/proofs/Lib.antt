@@ -3,4 +3,6 @@ pub mod AnswerLaws
 pub mod ModelLaws
 pub mod OutputLaws
 pub mod Promises
+pub mod SoundLaws
 pub mod StartLaws
+pub mod TableLaws

@@ -1,6 +1,6 @@
 -- The configuration: which numbers are within their limits, and what a start answers.
-use Prim.Native.Nat.{ℕ, _<_, _≤_}
-use mathlib.Core.Path.{_≡_, sym, ap, _∙_}
+use Prim.Native.Nat.{ℕ, zero, suc, _<_, _≤_}
+use mathlib.Core.Path.{_≡_, refl, sym, ap, _∙_}
 use mathlib.Core.Bool.{true, false}
 use mathlib.Core.Logic.{_↔_, _≢_, _⊎_, inl, inr}
 use native.Mathlib.Omega.{arith}
@@ -8,11 +8,12 @@ use native.Mathlib.Decide.{decLe}
 use borrow.Author.Tests.{ne-eqb, le-leb, leb-true}
 use Rattle.words.specs.Choice.{pick}
 use Rattle.words.proofs.ChoiceLaws.{pick-true, pick-false}
-use Rattle.words.proofs.TruthLaws.{and-left, and-right, and-both, told}
+use Rattle.words.proofs.TruthLaws.{and-left, and-right, and-both, told, clash}
 use Rattle.coreinterrupt.specs.declared.Begun.{Begun}
-use Rattle.coreinterrupt_side.specs.Group.{idle}
+use Rattle.coreinterrupt_side.specs.Side.{idle}
 use Rattle.coreinterrupt.specs.Model.{coreOf, sound, within, allWithin, start}
-use Rattle.coreinterrupt_side.proofs.GroupLaws.{idle-sound}
+use Rattle.coreinterrupt.specs.Promises.{Limited}
+use Rattle.coreinterrupt_side.proofs.SideLaws.{idle-sound}
 
 pub limits : (v : ℕ)
     → ((within 0 v ≡ true) ↔ (v ≤ 8)) × ((within 1 v ≡ true) ↔ (v ≤ 32)) × ((within 2 v ≡ true) ↔ (v ≤ 1)) × ((within 3 v ≡ true) ↔ (v ≤ 1))
@@ -20,10 +21,25 @@ unfolding within pick
 limits v =
     ((leb-true v 8, le-leb v 8), (leb-true v 32, le-leb v 32), (leb-true v 1, le-leb v 1), (leb-true v 1, le-leb v 1))
 
-pub four-numbers : (place v : ℕ) → 4 ≤ place → within place v ≡ false
+pub four-numbers : (nth v : ℕ) → 4 ≤ nth → within nth v ≡ false
 unfolding within pick
-four-numbers place v l =
-    simp (ne-eqb place 0 (omega arith), ne-eqb place 1 (omega arith), ne-eqb place 2 (omega arith), ne-eqb place 3 (omega arith))
+four-numbers nth v l = simp (ne-eqb nth 0 (omega arith), ne-eqb nth 1 (omega arith), ne-eqb nth 2 (omega arith), ne-eqb nth 3 (omega arith))
+
+pub configuration : (nth v : ℕ) → (within nth v ≡ true) ↔ Limited nth v
+configuration nth v = (limited nth v, held)
+  where
+    limited : (n w : ℕ) → within n w ≡ true → Limited n w
+    limited zero w e = inl (refl, limits w .0 .0 e)
+    limited (suc zero) w e = inr (inl (refl, limits w .1 .0 e))
+    limited (suc (suc zero)) w e = inr (inr (inl refl, limits w .2 .0 e))
+    limited (suc (suc (suc zero))) w e = inr (inr (inr refl, limits w .3 .0 e))
+    limited (suc (suc (suc (suc n)))) w e = clash e (four-numbers (suc (suc (suc (suc n)))) w (omega arith))
+
+    held : Limited nth v → within nth v ≡ true
+    held (inl (e, l)) = ap (λ (n : ℕ). within n v) e ∙ limits v .0 .1 l
+    held (inr (inl (e, l))) = ap (λ (n : ℕ). within n v) e ∙ limits v .1 .1 l
+    held (inr (inr (inl e, l))) = ap (λ (n : ℕ). within n v) e ∙ limits v .2 .1 l
+    held (inr (inr (inr e, l))) = ap (λ (n : ℕ). within n v) e ∙ limits v .3 .1 l
 
 -- one number beyond its limit
 abbrev pub Beyond : ℕ → ℕ → ℕ → ℕ → Type 0
@@ -95,12 +111,8 @@ module _ (f i fl il : ℕ) where
       go (inl t) = absurd (d (ap (λ (b : Begun). b .refusal) (taken t)))
       go (inr t) = zeros t
 
-  pub start-taken : start f i fl il .refusal ≡ 0 → start f i fl il .core ≡ coreOf (idle f fl) (idle i il)
-  start-taken e = go (told (allWithin f i fl il))
-    where
-      go : (allWithin f i fl il ≡ true) ⊎ (allWithin f i fl il ≡ false) → start f i fl il .core ≡ coreOf (idle f fl) (idle i il)
-      go (inl t) = ap (λ (b : Begun). b .core) (taken t)
-      go (inr t) = absurd (let h = sym (ap (λ (b : Begun). b .refusal) (zeros t)) ∙ e in omega arith)
+  pub start-taken : f ≤ 8 → i ≤ 32 → fl ≤ 1 → il ≤ 1 → start f i fl il ≡ record { refusal = 0; core = coreOf (idle f fl) (idle i il) }
+  start-taken a b c d = taken (all-inside f i fl il (record { fiqs = a; irqs = b; fiqlevel = c; irqlevel = d }))
 
   pub start-sound : sound (start f i fl il .core) ≡ true
   unfolding sound

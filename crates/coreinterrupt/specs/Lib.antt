@@ -1,3 +1,4 @@
--- CoreInterrupt: one side of it, the whole controller, and what is promised of both.
+-- CoreInterrupt: the controller of two sides, and what is promised of it.
 pub mod Model
 pub mod Promises
+pub mod Tables

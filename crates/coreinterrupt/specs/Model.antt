@@ -7,12 +7,12 @@ use Rattle.steps.specs.declared.Access.{Access}
 use Rattle.steps.specs.declared.Step.{Step}
 use Rattle.steps.specs.declared.Step.the-variants.{Read, Write, Line}
 use Rattle.steps.specs.Refusals.{carriedOut, misconfigured, unsound, readRefusal, writeRefusal, lineRefusal}
-use Rattle.coreinterrupt_side.specs.declared.Group.{Group}
+use Rattle.coreinterrupt_side.specs.declared.Side.{Side}
 use Rattle.coreinterrupt.specs.declared.Core.{Core}
 use Rattle.coreinterrupt.specs.declared.Begun.{Begun}
 use Rattle.coreinterrupt.specs.declared.Answer.{Answer}
 use Rattle.coreinterrupt.specs.declared.Signals.{Signals}
-use Rattle.coreinterrupt_side.specs.Group.{idle, active, outputLevel, groupAccess, groupRead, groupWrite, moved, groupSound}
+use Rattle.coreinterrupt_side.specs.Side.{idle, active, outputLevel, sideAccess, sideRead, sideWrite, moved, sideSound}
 
 -- ---- numbers of the paper
 
@@ -34,27 +34,27 @@ irqBase = 0x18
 
 -- ---- the sides of the record
 
-abbrev pub coreOf : Group → Group → Core
+abbrev pub coreOf : Side → Side → Core
 coreOf f i = record { fiq = f; irq = i }
 
 -- the FIQ side or the IRQ side
-unfoldable pub side : Core → Bool → Group
+unfoldable pub side : Core → Bool → Side
 side c fast = pick fast (c .fiq) (c .irq)
 
 -- the record with the FIQ side or the IRQ side replaced
-unfoldable pub withSide : Core → Bool → Group → Core
-withSide c fast g = pick fast (coreOf g (c .irq)) (coreOf (c .fiq) g)
+unfoldable pub withSide : Core → Bool → Side → Core
+withSide c fast s = pick fast (coreOf s (c .irq)) (coreOf (c .fiq) s)
 
 -- both sides keep their rules (01, CoreInterrupt, a sound record)
 unfoldable pub sound : Core → Bool
-sound c = groupSound fiqLimit (c .fiq) && groupSound irqLimit (c .irq)
+sound c = sideSound fiqLimit (c .fiq) && sideSound irqLimit (c .irq)
 
 -- ---- start
 
--- whether a number of the configuration may have a value: FIQ count, IRQ count, FIQ level, IRQ level (01, CoreInterrupt)
+-- whether the nth number of the configuration may have a value: FIQ count, IRQ count, FIQ level, IRQ level (01, CoreInterrupt)
 unfoldable pub within : ℕ → ℕ → Bool
-within place v =
-    pick (eqb place 0) (leb v fiqLimit) (pick (eqb place 1) (leb v irqLimit) (pick (eqb place 2 || eqb place 3) (leb v 1) false))
+within nth v =
+    pick (eqb nth 0) (leb v fiqLimit) (pick (eqb nth 1) (leb v irqLimit) (pick (eqb nth 2 || eqb nth 3) (leb v 1) false))
 
 -- every number of the configuration is within its limit
 unfoldable pub allWithin : ℕ → ℕ → ℕ → ℕ → Bool
@@ -70,8 +70,8 @@ start fiqs irqs fiqLevel irqLevel =
 -- ---- answers
 
 -- a step that is carried out
-abbrev pub accepted : Core → ℕ → Answer
-accepted c v = record { refusal = carriedOut; value = v; core = c }
+abbrev pub answered : Core → ℕ → Answer
+answered c v = record { refusal = carriedOut; value = v; core = c }
 
 -- a step that is refused: its number, the value 0 and the same record (01, Numbers)
 abbrev pub refused : Core → ℕ → Answer
@@ -93,23 +93,23 @@ register offset = pick (fiqOffset offset) (offset / 4) ((offset - irqBase) / 4)
 
 -- what the register at an offset may be used for (01, CoreInterrupt; 004, table 3)
 unfoldable pub access : Core → ℕ → Access
-access c offset = groupAccess (side c (fiqOffset offset)) (register offset)
+access c offset = sideAccess (side c (fiqOffset offset)) (register offset)
 
 -- what the register at an offset answers
 unfoldable pub valueAt : Core → ℕ → ℕ
-valueAt c offset = groupRead (side c (fiqOffset offset)) (register offset)
+valueAt c offset = sideRead (side c (fiqOffset offset)) (register offset)
 
 -- the record after the register at an offset took a value
 unfoldable pub written : Core → ℕ → ℕ → Core
-written c offset v = withSide c (fiqOffset offset) (groupWrite (side c (fiqOffset offset)) (register offset) v)
+written c offset v = withSide c (fiqOffset offset) (sideWrite (side c (fiqOffset offset)) (register offset) v)
 
 -- a read (01, CoreInterrupt; 01, Numbers)
 unfoldable pub read : Core → ℕ → Answer
-read c offset = unlessRefused c (readRefusal (sound c) offset (access c offset)) (accepted c (valueAt c offset))
+read c offset = unlessRefused c (readRefusal (sound c) offset (access c offset)) (answered c (valueAt c offset))
 
 -- a write; no value is refused (01, CoreInterrupt; 01, Numbers)
 unfoldable pub write : Core → ℕ → ℕ → Answer
-write c offset v = unlessRefused c (writeRefusal (sound c) offset (access c offset) carriedOut) (accepted (written c offset v) 0)
+write c offset v = unlessRefused c (writeRefusal (sound c) offset (access c offset) carriedOut) (answered (written c offset v) 0)
 
 -- ---- lines
 
@@ -127,7 +127,7 @@ lineMoved c k high = withSide c (fiqLine k) (moved (side c (fiqLine k)) (input k
 
 -- a line step: level 1 is high, 0 is low (01, CoreInterrupt; 01, Numbers)
 unfoldable pub line : Core → ℕ → ℕ → Answer
-line c k l = unlessRefused c (lineRefusal (sound c) lineLimit k l) (accepted (lineMoved c k (eqb l 1)) 0)
+line c k l = unlessRefused c (lineRefusal (sound c) lineLimit k l) (answered (lineMoved c k (eqb l 1)) 0)
 
 -- ---- steps and outputs
 

@@ -1,12 +1,13 @@
 // CoreInterrupt by value: the model of 01, "CoreInterrupt". What each function answers is defined in specs/Model.antt.
 ghost use mathlib.Core.Path.{_≡_};
-ghost use Rattle.coreinterrupt.specs.Model.{side, withSide, sound, within, allWithin, start, accepted, refused, unlessRefused, register, access, valueAt, written, read, write, input, lineMoved, line, step, outputs};
+ghost use mathlib.Core.Bool.{true};
+ghost use Rattle.coreinterrupt.specs.Model.{side, withSide, sound, within, allWithin, start, answered, refused, unlessRefused, register, access, valueAt, written, read, write, input, lineMoved, line, step, outputs};
 
 // The controller: its FIQ side and its IRQ side.
 #[repr(C)]
 pub struct Core {
-    pub fiq: coreinterrupt_side::Group,
-    pub irq: coreinterrupt_side::Group,
+    pub fiq: coreinterrupt_side::Side,
+    pub irq: coreinterrupt_side::Side,
 }
 
 // What a start answers.
@@ -42,11 +43,11 @@ pub const LINE_LIMIT: u32 = 40;
 // The offset of the first IRQ register; the FIQ registers stand before it.
 pub const IRQ_BASE: u32 = 0x18;
 
-// Whether a number of the configuration may have this value: FIQ count, IRQ count, FIQ level, IRQ level, from place 0.
-pub fn within(place: u32, value: u32) -> bool
-    ensures { λ r. ⌜ r ≡ within place value ⌝ }
+// Whether the nth number of the configuration may have this value: FIQ count, IRQ count, FIQ level, IRQ level, from 0.
+pub fn within(nth: u32, value: u32) -> bool
+    ensures { λ r. ⌜ r ≡ within nth value ⌝ }
 {
-    match place {
+    match nth {
         0 => value <= FIQ_LIMIT,
         1 => value <= IRQ_LIMIT,
         2 => value <= 1,
@@ -85,15 +86,15 @@ pub fn start(fiqs: u32, irqs: u32, fiqlevel: u32, irqlevel: u32) -> Begun
 }
 
 // Whether the record keeps the rules of the model.
-pub fn sound(c: Core) -> bool
+pub fn is_sound(c: Core) -> bool
     ensures { λ r. ⌜ r ≡ sound c ⌝ }
 {
-    coreinterrupt_side::sound(FIQ_LIMIT, c.fiq) & coreinterrupt_side::sound(IRQ_LIMIT, c.irq)
+    coreinterrupt_side::is_sound(FIQ_LIMIT, c.fiq) & coreinterrupt_side::is_sound(IRQ_LIMIT, c.irq)
 }
 
 // The answer of a step that is carried out.
-pub fn accepted(c: Core, value: u32) -> Answer
-    ensures { λ r. ⌜ r ≡ accepted c value ⌝ }
+pub fn answer_of(c: Core, value: u32) -> Answer
+    ensures { λ r. ⌜ r ≡ answered c value ⌝ }
 {
     Answer {
         refusal: steps::CARRIED_OUT,
@@ -103,7 +104,7 @@ pub fn accepted(c: Core, value: u32) -> Answer
 }
 
 // The answer of a refused step: its number, the value 0, the same record.
-pub fn refused(c: Core, n: u32) -> Answer
+pub fn refusal_of(c: Core, n: u32) -> Answer
     ensures { λ r. ⌜ r ≡ refused c n ⌝ }
 {
     Answer {
@@ -120,25 +121,25 @@ pub fn unless_refused(c: Core, n: u32, a: Answer) -> Answer
     if n == steps::CARRIED_OUT {
         return a;
     }
-    refused(c, n)
+    refusal_of(c, n)
 }
 
 // The FIQ side or the IRQ side.
-fn side(c: Core, fast: bool) -> coreinterrupt_side::Group
+fn side(c: Core, fast: bool) -> coreinterrupt_side::Side
     ensures { λ r. ⌜ r ≡ side c fast ⌝ }
 {
     if fast { c.fiq } else { c.irq }
 }
 
 // The record with one side replaced.
-fn with_side(c: Core, fast: bool, g: coreinterrupt_side::Group) -> Core
-    ensures { λ r. ⌜ r ≡ withSide c fast g ⌝ }
+fn with_side(c: Core, fast: bool, s: coreinterrupt_side::Side) -> Core
+    ensures { λ r. ⌜ r ≡ withSide c fast s ⌝ }
 {
     let mut d = c;
     if fast {
-        d.fiq = g;
+        d.fiq = s;
     } else {
-        d.irq = g;
+        d.irq = s;
     }
     d
 }
@@ -172,24 +173,8 @@ fn written(c: Core, offset: u32, value: u32) -> Core
     ensures { λ r. ⌜ r ≡ written c offset value ⌝ }
 {
     let fast = offset < IRQ_BASE;
-    let g = coreinterrupt_side::write(side(c, fast), register(offset), value);
-    with_side(c, fast, g)
-}
-
-// A read of the register at an offset.
-pub fn read(c: Core, offset: u32) -> Answer
-    ensures { λ r. ⌜ r ≡ read c offset ⌝ }
-{
-    let n = steps::read_refusal(sound(c), offset, access(c, offset));
-    unless_refused(c, n, accepted(c, value_at(c, offset)))
-}
-
-// A write of a value to the register at an offset.
-pub fn write(c: Core, offset: u32, value: u32) -> Answer
-    ensures { λ r. ⌜ r ≡ write c offset value ⌝ }
-{
-    let n = steps::write_refusal(sound(c), offset, access(c, offset), steps::CARRIED_OUT);
-    unless_refused(c, n, accepted(written(c, offset, value), 0))
+    let s = coreinterrupt_side::write(side(c, fast), register(offset), value);
+    with_side(c, fast, s)
 }
 
 // The number of a line within its side.
@@ -207,41 +192,110 @@ fn line_moved(c: Core, k: u32, high: bool) -> Core
     ensures { λ r. ⌜ r ≡ lineMoved c k high ⌝ }
 {
     let fast = IRQ_LIMIT <= k;
-    let g = coreinterrupt_side::moved(side(c, fast), input(k), high);
-    with_side(c, fast, g)
+    let s = coreinterrupt_side::moved(side(c, fast), input(k), high);
+    with_side(c, fast, s)
+}
+
+// ---- the steps and the outputs of a record that is known to be sound
+
+fn read_sound(c: Core, offset: u32) -> Answer
+    requires { ⌜ sound c ≡ true ⌝ }
+    ensures { λ r. ⌜ r ≡ read c offset ⌝ }
+{
+    let n = steps::read_refusal(true, offset, access(c, offset));
+    unless_refused(c, n, answer_of(c, value_at(c, offset)))
+}
+
+fn write_sound(c: Core, offset: u32, value: u32) -> Answer
+    requires { ⌜ sound c ≡ true ⌝ }
+    ensures { λ r. ⌜ r ≡ write c offset value ⌝ }
+{
+    let n = steps::write_refusal(true, offset, access(c, offset), steps::CARRIED_OUT);
+    unless_refused(c, n, answer_of(written(c, offset, value), 0))
+}
+
+fn line_sound(c: Core, k: u32, level: u32) -> Answer
+    requires { ⌜ sound c ≡ true ⌝ }
+    ensures { λ r. ⌜ r ≡ line c k level ⌝ }
+{
+    let n = steps::line_refusal(true, LINE_LIMIT, k, level);
+    unless_refused(c, n, answer_of(line_moved(c, k, level == 1), 0))
+}
+
+// One step of any kind, for callers that know the record to be sound.
+pub fn step_sound(c: Core, x: steps::Step) -> Answer
+    requires { ⌜ sound c ≡ true ⌝ }
+    ensures { λ r. ⌜ r ≡ step c x ⌝ }
+{
+    match x {
+        steps::Step::Read(offset) => read_sound(c, offset),
+        steps::Step::Write(offset, value) => write_sound(c, offset, value),
+        steps::Step::Line(k, level) => line_sound(c, k, level),
+    }
+}
+
+// Both outputs, for callers that know the record to be sound.
+pub fn outputs_sound(c: Core) -> Signals
+    requires { ⌜ sound c ≡ true ⌝ }
+    ensures { λ r. ⌜ r ≡ outputs c ⌝ }
+{
+    Signals {
+        refusal: steps::CARRIED_OUT,
+        irq: coreinterrupt_side::active(c.irq),
+        fiq: coreinterrupt_side::active(c.fiq),
+        irqlevel: coreinterrupt_side::output_level(c.irq),
+        fiqlevel: coreinterrupt_side::output_level(c.fiq),
+    }
+}
+
+// ---- of any record
+
+// A read of the register at an offset.
+pub fn read(c: Core, offset: u32) -> Answer
+    ensures { λ r. ⌜ r ≡ read c offset ⌝ }
+{
+    if is_sound(c) {
+        return read_sound(c, offset);
+    }
+    refusal_of(c, steps::UNSOUND)
+}
+
+// A write of a value to the register at an offset.
+pub fn write(c: Core, offset: u32, value: u32) -> Answer
+    ensures { λ r. ⌜ r ≡ write c offset value ⌝ }
+{
+    if is_sound(c) {
+        return write_sound(c, offset, value);
+    }
+    refusal_of(c, steps::UNSOUND)
 }
 
 // Line k is put to a level: 0 to 31 are the IRQ inputs, 32 to 39 the FIQ inputs.
 pub fn line(c: Core, k: u32, level: u32) -> Answer
     ensures { λ r. ⌜ r ≡ line c k level ⌝ }
 {
-    let n = steps::line_refusal(sound(c), LINE_LIMIT, k, level);
-    unless_refused(c, n, accepted(line_moved(c, k, level == 1), 0))
+    if is_sound(c) {
+        return line_sound(c, k, level);
+    }
+    refusal_of(c, steps::UNSOUND)
 }
 
 // One step of any kind.
-pub fn step(c: Core, s: steps::Step) -> Answer
-    ensures { λ r. ⌜ r ≡ step c s ⌝ }
+pub fn step(c: Core, x: steps::Step) -> Answer
+    ensures { λ r. ⌜ r ≡ step c x ⌝ }
 {
-    match s {
-        steps::Step::Read(offset) => read(c, offset),
-        steps::Step::Write(offset, value) => write(c, offset, value),
-        steps::Step::Line(k, level) => line(c, k, level),
+    if is_sound(c) {
+        return step_sound(c, x);
     }
+    refusal_of(c, steps::UNSOUND)
 }
 
 // Both outputs; refusal 12 and zeros where the record is not sound.
 pub fn outputs(c: Core) -> Signals
     ensures { λ r. ⌜ r ≡ outputs c ⌝ }
 {
-    if sound(c) {
-        return Signals {
-            refusal: steps::CARRIED_OUT,
-            irq: coreinterrupt_side::active(c.irq),
-            fiq: coreinterrupt_side::active(c.fiq),
-            irqlevel: coreinterrupt_side::output_level(c.irq),
-            fiqlevel: coreinterrupt_side::output_level(c.fiq),
-        };
+    if is_sound(c) {
+        return outputs_sound(c);
     }
     Signals {
         refusal: steps::UNSOUND,

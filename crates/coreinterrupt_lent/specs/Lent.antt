@@ -4,7 +4,7 @@ use mathlib.Core.Path.{_≡_}
 use Rattle.steps.specs.declared.Step.{Step}
 use Rattle.coreinterrupt.specs.declared.Core.{Core}
 use Rattle.coreinterrupt.specs.declared.Answer.{Answer}
-use Rattle.coreinterrupt.specs.Model.{start, step, accepted, unlessRefused}
+use Rattle.coreinterrupt.specs.Model.{start, step, answered, unlessRefused}
 use Rattle.coreinterrupt_lent.specs.declared.Reply.{Reply}
 
 -- the answer of a step less the record, which the caller has
@@ -14,7 +14,7 @@ replyOf a = record { refusal = a .refusal; value = a .value }
 -- a start over the record c: the new record, or refusal 10 and c as it was (01, Numbers)
 unfoldable pub startOver : Core → ℕ → ℕ → ℕ → ℕ → Answer
 startOver c fiqs irqs fiqLevel irqLevel =
-    unlessRefused c (start fiqs irqs fiqLevel irqLevel .refusal) (accepted (start fiqs irqs fiqLevel irqLevel .core) 0)
+    unlessRefused c (start fiqs irqs fiqLevel irqLevel .refusal) (answered (start fiqs irqs fiqLevel irqLevel .core) 0)
 
 -- the step s, on a record that was `before` and is `after`, answered r
 abbrev pub Stepped : Core → Core → Step → Reply → Type 0

@@ -22,7 +22,7 @@ pub fn start_over(
 {
     let b = coreinterrupt::start(fiqs, irqs, fiqlevel, irqlevel);
     let d = b.core;
-    coreinterrupt::unless_refused(c, b.refusal, coreinterrupt::accepted(d, 0))
+    coreinterrupt::unless_refused(c, b.refusal, coreinterrupt::answer_of(d, 0))
 }
 
 // One step on the lent record. A refused one leaves it as it was.

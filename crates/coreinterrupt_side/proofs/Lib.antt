@@ -1,4 +1,4 @@
 -- Laws of one side, and the proof that the promises are kept.
-pub mod GroupLaws
+pub mod SideLaws
 pub mod Promises
 pub mod TableLaws

@@ -1,3 +1,3 @@
 -- One side of CoreInterrupt, FIQ or IRQ, and what is promised of it.
-pub mod Group
+pub mod Side
 pub mod Promises

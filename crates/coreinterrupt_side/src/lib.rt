@@ -1,10 +1,10 @@
-// One side of CoreInterrupt. FIQ and IRQ differ only in how many sources they may have; what is answered is defined in specs/Group.antt.
+// One side of CoreInterrupt. FIQ and IRQ differ only in how many sources they may have; what is answered is defined in specs/Side.antt.
 ghost use mathlib.Core.Path.{_≡_};
-ghost use Rattle.coreinterrupt_side.specs.Group.{idle, withInputs, withSoft, withEnable, raw, status, active, other, outputLevel, clearAccess, groupAccess, groupRead, setBits, clearBits, groupWrite, moved, groupSound};
+ghost use Rattle.coreinterrupt_side.specs.Side.{idle, withInputs, withSoft, withEnable, raw, status, active, other, outputLevel, clearAccess, sideAccess, sideRead, setBits, clearBits, sideWrite, moved, sideSound};
 
 // One side, FIQ or IRQ: how many sources it has, the active level of its output, its lines and its two stored registers.
 #[repr(C)]
-pub struct Group {
+pub struct Side {
     pub count: u32,
     pub level: u32,
     pub inputs: u32,
@@ -13,10 +13,10 @@ pub struct Group {
 }
 
 // A side as configured: its lines low, its registers 0.
-pub fn idle(count: u32, level: u32) -> Group
+pub fn idle(count: u32, level: u32) -> Side
     ensures { λ r. ⌜ r ≡ idle count level ⌝ }
 {
-    Group {
+    Side {
         count: count,
         level: level,
         inputs: 0,
@@ -26,51 +26,51 @@ pub fn idle(count: u32, level: u32) -> Group
 }
 
 // The side with its lines as the word w says.
-fn with_inputs(g: Group, w: u32) -> Group
-    ensures { λ r. ⌜ r ≡ withInputs g w ⌝ }
+fn with_inputs(s: Side, w: u32) -> Side
+    ensures { λ r. ⌜ r ≡ withInputs s w ⌝ }
 {
-    let mut h = g;
-    h.inputs = w;
-    h
+    let mut t = s;
+    t.inputs = w;
+    t
 }
 
 // The side with w in its soft register.
-fn with_soft(g: Group, w: u32) -> Group
-    ensures { λ r. ⌜ r ≡ withSoft g w ⌝ }
+fn with_soft(s: Side, w: u32) -> Side
+    ensures { λ r. ⌜ r ≡ withSoft s w ⌝ }
 {
-    let mut h = g;
-    h.soft = w;
-    h
+    let mut t = s;
+    t.soft = w;
+    t
 }
 
 // The side with w in its enable register.
-fn with_enable(g: Group, w: u32) -> Group
-    ensures { λ r. ⌜ r ≡ withEnable g w ⌝ }
+fn with_enable(s: Side, w: u32) -> Side
+    ensures { λ r. ⌜ r ≡ withEnable s w ⌝ }
 {
-    let mut h = g;
-    h.enable = w;
-    h
+    let mut t = s;
+    t.enable = w;
+    t
 }
 
 // The sources raised by their line or by software.
-pub fn raw(g: Group) -> u32
-    ensures { λ r. ⌜ r ≡ raw g ⌝ }
+pub fn raw(s: Side) -> u32
+    ensures { λ r. ⌜ r ≡ raw s ⌝ }
 {
-    words::join(g.inputs, g.soft)
+    words::join(s.inputs, s.soft)
 }
 
 // The raised sources that are enabled.
-pub fn status(g: Group) -> u32
-    ensures { λ r. ⌜ r ≡ status g ⌝ }
+pub fn status(s: Side) -> u32
+    ensures { λ r. ⌜ r ≡ status s ⌝ }
 {
-    words::meet(raw(g), g.enable)
+    words::meet(raw(s), s.enable)
 }
 
 // Whether the side's output is active.
-pub fn active(g: Group) -> bool
-    ensures { λ r. ⌜ r ≡ active g ⌝ }
+pub fn active(s: Side) -> bool
+    ensures { λ r. ⌜ r ≡ active s ⌝ }
 {
-    status(g) != 0
+    status(s) != 0
 }
 
 // The level that is not this one.
@@ -81,34 +81,34 @@ fn other(level: u32) -> u32
 }
 
 // The level of the side's output.
-pub fn output_level(g: Group) -> u32
-    ensures { λ r. ⌜ r ≡ outputLevel g ⌝ }
+pub fn output_level(s: Side) -> u32
+    ensures { λ r. ⌜ r ≡ outputLevel s ⌝ }
 {
-    if active(g) {
-        return g.level;
+    if active(s) {
+        return s.level;
     }
-    other(g.level)
+    other(s.level)
 }
 
 // What the clear registers may be used for: where there are no sources they read 0.
-fn clear_access(g: Group) -> steps::Access
-    ensures { λ r. ⌜ r ≡ clearAccess g ⌝ }
+fn clear_access(s: Side) -> steps::Access
+    ensures { λ r. ⌜ r ≡ clearAccess s ⌝ }
 {
-    if g.count == 0 {
+    if s.count == 0 {
         return steps::Access::ReadWrite;
     }
     steps::Access::WriteOnly
 }
 
 // What register i may be used for: 0 soft, 1 soft clear, 2 enable, 3 enable clear, 4 raw, 5 status.
-pub fn access(g: Group, i: u32) -> steps::Access
-    ensures { λ r. ⌜ r ≡ groupAccess g i ⌝ }
+pub fn access(s: Side, i: u32) -> steps::Access
+    ensures { λ r. ⌜ r ≡ sideAccess s i ⌝ }
 {
     match i {
         0 => steps::Access::ReadWrite,
-        1 => clear_access(g),
+        1 => clear_access(s),
         2 => steps::Access::ReadWrite,
-        3 => clear_access(g),
+        3 => clear_access(s),
         4 => steps::Access::ReadOnly,
         5 => steps::Access::ReadOnly,
         _ => steps::Access::NoRegister,
@@ -116,16 +116,16 @@ pub fn access(g: Group, i: u32) -> steps::Access
 }
 
 // What register i answers.
-pub fn read(g: Group, i: u32) -> u32
-    ensures { λ r. ⌜ r ≡ groupRead g i ⌝ }
+pub fn read(s: Side, i: u32) -> u32
+    ensures { λ r. ⌜ r ≡ sideRead s i ⌝ }
 {
     match i {
-        0 => g.soft,
+        0 => s.soft,
         1 => 0,
-        2 => g.enable,
+        2 => s.enable,
         3 => 0,
-        4 => raw(g),
-        5 => status(g),
+        4 => raw(s),
+        5 => status(s),
         _ => 0,
     }
 }
@@ -145,36 +145,36 @@ fn clear_bits(n: u32, w: u32, v: u32) -> u32
 }
 
 // The side after register i took the value v.
-pub fn write(g: Group, i: u32, v: u32) -> Group
-    ensures { λ r. ⌜ r ≡ groupWrite g i v ⌝ }
+pub fn write(s: Side, i: u32, v: u32) -> Side
+    ensures { λ r. ⌜ r ≡ sideWrite s i v ⌝ }
 {
     match i {
-        0 => with_soft(g, set_bits(g.count, g.soft, v)),
-        1 => with_soft(g, clear_bits(g.count, g.soft, v)),
-        2 => with_enable(g, set_bits(g.count, g.enable, v)),
-        3 => with_enable(g, clear_bits(g.count, g.enable, v)),
-        _ => g,
+        0 => with_soft(s, set_bits(s.count, s.soft, v)),
+        1 => with_soft(s, clear_bits(s.count, s.soft, v)),
+        2 => with_enable(s, set_bits(s.count, s.enable, v)),
+        3 => with_enable(s, clear_bits(s.count, s.enable, v)),
+        _ => s,
     }
 }
 
 // The side after its input k is put high or low. An input beyond the count is not stored.
-pub fn moved(g: Group, k: u32, high: bool) -> Group
-    ensures { λ r. ⌜ r ≡ moved g k high ⌝ }
+pub fn moved(s: Side, k: u32, high: bool) -> Side
+    ensures { λ r. ⌜ r ≡ moved s k high ⌝ }
 {
-    if k < g.count {
-        return with_inputs(g, words::with_bit(g.inputs, k, high));
+    if k < s.count {
+        return with_inputs(s, words::with_bit(s.inputs, k, high));
     }
-    g
+    s
 }
 
 // Whether the side keeps its rules: at most `limit` sources, a level of 0 or 1, no stored bit beyond the count.
-pub fn sound(limit: u32, g: Group) -> bool
-    ensures { λ r. ⌜ r ≡ groupSound limit g ⌝ }
+pub fn is_sound(limit: u32, s: Side) -> bool
+    ensures { λ r. ⌜ r ≡ sideSound limit s ⌝ }
 {
-    let n = g.count;
+    let n = s.count;
     (n <= limit)
-        & (g.level <= 1)
-        & words::is_clean(n, g.inputs)
-        & words::is_clean(n, g.soft)
-        & words::is_clean(n, g.enable)
+        & (s.level <= 1)
+        & words::is_clean(n, s.inputs)
+        & words::is_clean(n, s.soft)
+        & words::is_clean(n, s.enable)
 }

@@ -15,7 +15,7 @@ use Rattle.aic_record.specs.Sound.{sound as aicSound}
 use Rattle.aic.specs.Model.{start as aicStart}
 use Rattle.aic_record.proofs.Promises.{kept as record-kept}
 use Rattle.aic.proofs.Promises.{kept as aic}
-use Rattle.coreinterrupt_side.specs.Group.{idle}
+use Rattle.coreinterrupt_side.specs.Side.{idle}
 use Rattle.coreinterrupt.specs.Model.{coreOf, within as coreWithin, allWithin, start as coreStart, sound as coreSound}
 use Rattle.coreinterrupt.proofs.Promises.{kept as core}
 use Rattle.cic_record.specs.declared.Begun.{Begun as CicBegun}

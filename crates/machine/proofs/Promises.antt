@@ -13,7 +13,7 @@ use Rattle.steps.specs.declared.Step.{Step}
 use Rattle.steps.specs.Refusals.{unsound}
 use Rattle.aic.specs.Model.{within as aicWithin}
 use Rattle.coreinterrupt.specs.Model.{within as coreWithin}
-use Rattle.coreinterrupt.proofs.Promises.{kept as core}
+use Rattle.coreinterrupt.proofs.StartLaws.{four-numbers}
 use Rattle.cic_record.specs.Sound.{withinOf as cicWithin}
 use Rattle.machine.specs.declared.Machine.{Machine}
 use Rattle.machine.specs.Kinds.{byKind, isKind, placesOf, withinOf}
@@ -37,7 +37,7 @@ no-number kind place value l = go (kind-of kind)
   where
     go : KindOf kind → byKind kind (ltb place 2) (coreWithin place value) (cicWithin place value) false ≡ false
     go (isAic k) = sym (at-aic kind _ _ _ _ k) ∙ le-ltb place 2 (omega (arith, at-aic {A = ℕ} kind 2 4 4 0 k))
-    go (isCore k) = sym (at-core kind _ _ _ _ k) ∙ core .fourNumbers place value (omega (arith, at-core {A = ℕ} kind 2 4 4 0 k))
+    go (isCore k) = sym (at-core kind _ _ _ _ k) ∙ four-numbers place value (omega (arith, at-core {A = ℕ} kind 2 4 4 0 k))
     go (isCic k) = sym (at-cic kind _ _ _ _ k) ∙ cic-four place value (omega (arith, at-cic {A = ℕ} kind 2 4 4 0 k))
     go (isNone a b c) = sym (at-none kind _ _ _ _ a b c)
 

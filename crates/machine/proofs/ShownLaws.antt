@@ -49,7 +49,7 @@ module _ (m : Machine) where
     where
       go : KindOf (m .kind) → shownOf m ≡ noColumns
       go (isAic k) = aic-shows k ∙ ap aicColumns (aic .outputsUnsound (m .aic) (sound-aic m k ∙ s))
-      go (isCore k) = core-shows k ∙ ap coreColumns (core .outputsRefused (m .core) (sound-core m k ∙ s))
+      go (isCore k) = core-shows k ∙ ap coreColumns (core .outputsUnsound (m .core) (sound-core m k ∙ s))
       go (isCic k) = cic-shows k ∙ ap cicColumns (sym (pick-false (cicShown (m .cic)) (sound-cic m k ∙ s)))
       go (isNone a b c) = no-shows a b c
 

@@ -76,7 +76,7 @@ module _ (m : Machine) (x : Step) where
     where
       go : KindOf (m .kind) → Same (stepOf m x)
       go (isAic k) = rw (aic-steps k) (λ z. ap (afterAic m) (aic .refusedSame (m .aic) x z))
-      go (isCore k) = rw (core-steps k) (λ z. ap (afterCore m) (core .stepRefused (m .core) x z))
+      go (isCore k) = rw (core-steps k) (λ z. ap (afterCore m) (core .refusedSame (m .core) x z))
       go (isCic k) = rw (cic-steps k) (λ z. ap (afterCic m) (cic .refusedSame (m .cic) x z))
       go (isNone a b c) = rw (no-steps a b c) (λ z. refl)
 
@@ -88,9 +88,9 @@ aic-twelve m (Write o v) = aic .writeNumbers (m .aic) o v .twelve
 aic-twelve m (Line k l) = aic .lineNumbers (m .aic) k l .twelve
 
 core-twelve : (m : Machine) (x : Step) → (coreStep (m .core) x .refusal ≡ unsound) ↔ (coreSound (m .core) ≡ false)
-core-twelve m (Read o) = core .readTable (m .core) o .twelve
-core-twelve m (Write o v) = core .writeTable (m .core) o v .twelve
-core-twelve m (Line k l) = core .lineTable (m .core) k l .twelve
+core-twelve m (Read o) = core .readNumbers (m .core) o .twelve
+core-twelve m (Write o v) = core .writeNumbers (m .core) o v .twelve
+core-twelve m (Line k l) = core .lineNumbers (m .core) k l .twelve
 
 cic-twelve : (m : Machine) (x : Step) → (cicStep (m .cic) x .refusal ≡ unsound) ↔ (cicSound (m .cic) ≡ false)
 unfolding stepAs

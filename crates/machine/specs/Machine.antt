@@ -7,7 +7,7 @@ use Rattle.aic_record.specs.declared.Aic.{Aic}
 use Rattle.aic_record.specs.Record.{reset}
 use Rattle.aic_record.specs.Sound.{sound as aicSound}
 use Rattle.aic.specs.Model.{start as aicStart}
-use Rattle.coreinterrupt_side.specs.Group.{idle}
+use Rattle.coreinterrupt_side.specs.Side.{idle}
 use Rattle.coreinterrupt.specs.declared.Core.{Core}
 use Rattle.coreinterrupt.specs.Model.{coreOf, start as coreStart, sound as coreSound}
 use Rattle.cic_record.specs.declared.Cic.{Cic}

@@ -239,7 +239,7 @@ pub fn step_sound(m: Machine, x: Step) -> Answer
     }
     if m.kind == CORE {
         let s = m.core;
-        return after_core(m, coreinterrupt::step(s, x));
+        return after_core(m, coreinterrupt::step_sound(s, x));
     }
     let s = m.cic;
     after_cic(m, cic::step_sound(s, x))
@@ -269,7 +269,7 @@ pub fn is_sound(m: Machine) -> bool
     }
     if m.kind == CORE {
         let s = m.core;
-        return coreinterrupt::sound(s);
+        return coreinterrupt::is_sound(s);
     }
     if m.kind == CIC {
         let s = m.cic;
@@ -333,7 +333,7 @@ pub fn shown_sound(m: Machine) -> Columns
     }
     if m.kind == CORE {
         let s = m.core;
-        return core_columns(coreinterrupt::outputs(s));
+        return core_columns(coreinterrupt::outputs_sound(s));
     }
     let s = m.cic;
     cic_columns(cic::outputs_sound(s))

@@ -1,9 +1,8 @@
 -- That `line_moved` of src/lib.rt keeps its contract.
-use Rattle.coreinterrupt_side.specs.declared.Group.{Group}
+use Rattle.coreinterrupt_side.specs.declared.Side.{Side}
 use Prim.Native.Nat.{ℕ}
-use Rattle.coreinterrupt_side.specs.Group.{moved}
-use Rattle.coreinterrupt.specs.Model.{fiqLine, withSide}
-use Rattle.coreinterrupt.specs.Model.{lineMoved}
+use Rattle.coreinterrupt_side.specs.Side.{moved}
+use Rattle.coreinterrupt.specs.Model.{fiqLine, withSide, lineMoved}
 use mathlib.Core.Path.{ap, ap₂, _∙_}
 use borrow.Author.Needs.{needs}
 use Rattle.coreinterrupt.proofs.line_moved.Statement.{statement}
@@ -11,7 +10,7 @@ use Rattle.coreinterrupt.proofs.line_moved.Tie as tie
 
 returns : tie.Need-returns
 unfolding lineMoved fiqLine
-returns c = c .with-side .ensures ∙ ap (withSide _ _) (c .before .moved .ensures ∙ ap₂ (λ (g : Group) (i : ℕ). moved g i (c .before .before .before .before .args .high)) (c .before .before .before .side .ensures) (c .before .before .input .ensures))
+returns c = c .with-side .ensures ∙ ap (withSide _ _) (c .before .moved .ensures ∙ ap₂ (λ (g : Side) (i : ℕ). moved g i (c .before .before .before .before .args .high)) (c .before .before .before .side .ensures) (c .before .before .input .ensures))
 
 pub line-moved-spec : {M : Type 1} → statement M
 line-moved-spec =

@@ -9,7 +9,7 @@ returns : tie.Need-returns
 returns c = carried _ _ (c .if1 .taken)
 
 returns-2 : tie.Need-returns-2
-returns-2 c = c .refused .ensures ∙ stopped _ _ _ (c .before .if1 .left)
+returns-2 c = c .refusal-of .ensures ∙ stopped _ _ _ (c .before .if1 .left)
 
 pub unless-refused-spec : {M : Type 1} → statement M
 unless-refused-spec = tie.close (tie.spec returns (λ c κs. search needs) returns-2)

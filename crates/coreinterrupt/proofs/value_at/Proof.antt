@@ -1,7 +1,6 @@
 -- That `value_at` of src/lib.rt keeps its contract.
-use Rattle.coreinterrupt_side.specs.Group.{groupRead}
-use Rattle.coreinterrupt.specs.Model.{fiqOffset}
-use Rattle.coreinterrupt.specs.Model.{valueAt}
+use Rattle.coreinterrupt_side.specs.Side.{sideRead}
+use Rattle.coreinterrupt.specs.Model.{fiqOffset, valueAt}
 use mathlib.Core.Path.{ap₂, _∙_}
 use borrow.Author.Needs.{needs}
 use Rattle.coreinterrupt.proofs.value_at.Statement.{statement}
@@ -9,7 +8,7 @@ use Rattle.coreinterrupt.proofs.value_at.Tie as tie
 
 returns : tie.Need-returns
 unfolding valueAt fiqOffset
-returns c = c .read .ensures ∙ ap₂ groupRead (c .before .before .side .ensures) (c .before .register .ensures)
+returns c = c .read .ensures ∙ ap₂ sideRead (c .before .before .side .ensures) (c .before .register .ensures)
 
 pub value-at-spec : {M : Type 1} → statement M
 value-at-spec = tie.close (tie.spec (λ c κs. search needs) (λ c κs. search needs) (λ c κs. search needs) returns)

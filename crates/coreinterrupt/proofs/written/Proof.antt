@@ -1,9 +1,8 @@
 -- That `written` of src/lib.rt keeps its contract.
-use Rattle.coreinterrupt_side.specs.declared.Group.{Group}
+use Rattle.coreinterrupt_side.specs.declared.Side.{Side}
 use Prim.Native.Nat.{ℕ}
-use Rattle.coreinterrupt_side.specs.Group.{groupWrite}
-use Rattle.coreinterrupt.specs.Model.{fiqOffset, withSide}
-use Rattle.coreinterrupt.specs.Model.{written}
+use Rattle.coreinterrupt_side.specs.Side.{sideWrite}
+use Rattle.coreinterrupt.specs.Model.{fiqOffset, withSide, written}
 use mathlib.Core.Path.{ap, ap₂, _∙_}
 use borrow.Author.Needs.{needs}
 use Rattle.coreinterrupt.proofs.written.Statement.{statement}
@@ -11,7 +10,7 @@ use Rattle.coreinterrupt.proofs.written.Tie as tie
 
 returns : tie.Need-returns
 unfolding written fiqOffset
-returns c = c .with-side .ensures ∙ ap (withSide _ _) (c .before .write .ensures ∙ ap₂ (λ (g : Group) (i : ℕ). groupWrite g i (c .before .before .before .before .args .value)) (c .before .before .before .side .ensures) (c .before .before .register .ensures))
+returns c = c .with-side .ensures ∙ ap (withSide _ _) (c .before .write .ensures ∙ ap₂ (λ (g : Side) (i : ℕ). sideWrite g i (c .before .before .before .before .args .value)) (c .before .before .before .side .ensures) (c .before .before .register .ensures))
 
 pub written-spec : {M : Type 1} → statement M
 written-spec =

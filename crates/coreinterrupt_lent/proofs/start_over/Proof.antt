@@ -6,7 +6,7 @@ use Rattle.coreinterrupt_lent.proofs.start_over.Tie as tie
 
 returns : tie.Need-returns
 unfolding startOver
-returns c = rw (c .unless-refused .ensures, c .before .accepted .ensures, c .before .before .before .start .ensures)
+returns c = rw (c .unless-refused .ensures, c .before .answer-of .ensures, c .before .before .before .start .ensures)
 
 pub start-over-spec : {M : Type 1} → statement M
 start-over-spec = tie.close (tie.spec (λ c κs. search needs) (λ c κs. search needs) (λ c κs. search needs) returns)

@@ -1,33 +1,33 @@
 -- That `access` of src/lib.rt keeps its contract.
 use Rattle.coreinterrupt_side.proofs.TableLaws.{access-past}
-use Rattle.coreinterrupt_side.specs.Group.{groupAccess}
+use Rattle.coreinterrupt_side.specs.Side.{sideAccess}
 use native.Mathlib.Omega.{arith}
 use borrow.Author.Needs.{needs}
 use Rattle.coreinterrupt_side.proofs.access.Statement.{statement}
 use Rattle.coreinterrupt_side.proofs.access.Tie as tie
 
 returns : tie.Need-returns
-unfolding groupAccess
+unfolding sideAccess
 returns c = rw (c .match .keys1)
 
 returns-2 : tie.Need-returns-2
-unfolding groupAccess
+unfolding sideAccess
 returns-2 c = rw (c .clear-access .ensures, c .before .match .keys2)
 
 returns-3 : tie.Need-returns-3
-unfolding groupAccess
+unfolding sideAccess
 returns-3 c = rw (c .match .keys3)
 
 returns-4 : tie.Need-returns-4
-unfolding groupAccess
+unfolding sideAccess
 returns-4 c = rw (c .clear-access2 .ensures, c .before .match .keys4)
 
 returns-5 : tie.Need-returns-5
-unfolding groupAccess
+unfolding sideAccess
 returns-5 c = rw (c .match .keys5)
 
 returns-6 : tie.Need-returns-6
-unfolding groupAccess
+unfolding sideAccess
 returns-6 c = rw (c .match .keys6)
 
 returns-7 : tie.Need-returns-7

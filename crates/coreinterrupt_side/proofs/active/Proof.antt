@@ -1,5 +1,5 @@
 -- That `active` of src/lib.rt keeps its contract.
-use Rattle.coreinterrupt_side.specs.Group.{active}
+use Rattle.coreinterrupt_side.specs.Side.{active}
 use borrow.Author.Needs.{needs}
 use Rattle.coreinterrupt_side.proofs.active.Statement.{statement}
 use Rattle.coreinterrupt_side.proofs.active.Tie as tie

@@ -1,5 +1,5 @@
 -- That `clear_access` of src/lib.rt keeps its contract.
-use Rattle.coreinterrupt_side.specs.Group.{clearAccess}
+use Rattle.coreinterrupt_side.specs.Side.{clearAccess}
 use Rattle.words.proofs.ChoiceLaws.{pick-true, pick-false}
 use borrow.Author.Tests.{eq-eqb, ne-eqb}
 use Rattle.coreinterrupt_side.proofs.clear_access.Statement.{statement}

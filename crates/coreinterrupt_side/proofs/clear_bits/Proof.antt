@@ -1,5 +1,5 @@
 -- That `clear_bits` of src/lib.rt keeps its contract.
-use Rattle.coreinterrupt_side.specs.Group.{clearBits}
+use Rattle.coreinterrupt_side.specs.Side.{clearBits}
 use borrow.Author.Needs.{needs}
 use Rattle.coreinterrupt_side.proofs.clear_bits.Statement.{statement}
 use Rattle.coreinterrupt_side.proofs.clear_bits.Tie as tie

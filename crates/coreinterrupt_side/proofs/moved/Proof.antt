@@ -1,5 +1,5 @@
 -- That `moved` of src/lib.rt keeps its contract.
-use Rattle.coreinterrupt_side.specs.Group.{moved}
+use Rattle.coreinterrupt_side.specs.Side.{moved}
 use Rattle.words.proofs.ChoiceLaws.{pick-true, pick-false}
 use borrow.Author.Tests.{lt-ltb, le-ltb}
 use borrow.Author.Needs.{needs}

@@ -1,5 +1,5 @@
 -- That `output_level` of src/lib.rt keeps its contract.
-use Rattle.coreinterrupt_side.specs.Group.{outputLevel}
+use Rattle.coreinterrupt_side.specs.Side.{outputLevel}
 use Rattle.words.proofs.ChoiceLaws.{by-true, by-false}
 use mathlib.Core.Path.{_∙_}
 use borrow.Author.Needs.{needs}

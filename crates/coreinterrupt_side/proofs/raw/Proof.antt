@@ -1,5 +1,5 @@
 -- That `raw` of src/lib.rt keeps its contract.
-use Rattle.coreinterrupt_side.specs.Group.{raw}
+use Rattle.coreinterrupt_side.specs.Side.{raw}
 use borrow.Author.Needs.{needs}
 use Rattle.coreinterrupt_side.proofs.raw.Statement.{statement}
 use Rattle.coreinterrupt_side.proofs.raw.Tie as tie

@@ -1,33 +1,33 @@
 -- That `read` of src/lib.rt keeps its contract.
 use Rattle.coreinterrupt_side.proofs.TableLaws.{read-past}
-use Rattle.coreinterrupt_side.specs.Group.{groupRead}
+use Rattle.coreinterrupt_side.specs.Side.{sideRead}
 use native.Mathlib.Omega.{arith}
 use borrow.Author.Needs.{needs}
 use Rattle.coreinterrupt_side.proofs.read.Statement.{statement}
 use Rattle.coreinterrupt_side.proofs.read.Tie as tie
 
 returns : tie.Need-returns
-unfolding groupRead
+unfolding sideRead
 returns c = rw (c .match .keys1)
 
 returns-2 : tie.Need-returns-2
-unfolding groupRead
+unfolding sideRead
 returns-2 c = rw (c .match .keys2)
 
 returns-3 : tie.Need-returns-3
-unfolding groupRead
+unfolding sideRead
 returns-3 c = rw (c .match .keys3)
 
 returns-4 : tie.Need-returns-4
-unfolding groupRead
+unfolding sideRead
 returns-4 c = rw (c .match .keys4)
 
 returns-5 : tie.Need-returns-5
-unfolding groupRead
+unfolding sideRead
 returns-5 c = rw (c .raw .ensures, c .before .match .keys5)
 
 returns-6 : tie.Need-returns-6
-unfolding groupRead
+unfolding sideRead
 returns-6 c = rw (c .status .ensures, c .before .match .keys6)
 
 returns-7 : tie.Need-returns-7

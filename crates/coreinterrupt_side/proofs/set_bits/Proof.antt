@@ -1,5 +1,5 @@
 -- That `set_bits` of src/lib.rt keeps its contract.
-use Rattle.coreinterrupt_side.specs.Group.{setBits}
+use Rattle.coreinterrupt_side.specs.Side.{setBits}
 use borrow.Author.Needs.{needs}
 use Rattle.coreinterrupt_side.proofs.set_bits.Statement.{statement}
 use Rattle.coreinterrupt_side.proofs.set_bits.Tie as tie

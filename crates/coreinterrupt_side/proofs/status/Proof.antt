@@ -1,5 +1,5 @@
 -- That `status` of src/lib.rt keeps its contract.
-use Rattle.coreinterrupt_side.specs.Group.{status}
+use Rattle.coreinterrupt_side.specs.Side.{status}
 use borrow.Author.Needs.{needs}
 use Rattle.coreinterrupt_side.proofs.status.Statement.{statement}
 use Rattle.coreinterrupt_side.proofs.status.Tie as tie

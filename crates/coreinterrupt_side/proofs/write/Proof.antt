@@ -1,25 +1,25 @@
 -- That `write` of src/lib.rt keeps its contract.
 use Rattle.coreinterrupt_side.proofs.TableLaws.{write-past}
-use Rattle.coreinterrupt_side.specs.Group.{groupWrite}
+use Rattle.coreinterrupt_side.specs.Side.{sideWrite}
 use native.Mathlib.Omega.{arith}
 use borrow.Author.Needs.{needs}
 use Rattle.coreinterrupt_side.proofs.write.Statement.{statement}
 use Rattle.coreinterrupt_side.proofs.write.Tie as tie
 
 returns : tie.Need-returns
-unfolding groupWrite
+unfolding sideWrite
 returns c = rw (c .with-soft .ensures, c .before .set-bits .ensures, c .before .before .match .keys1)
 
 returns-2 : tie.Need-returns-2
-unfolding groupWrite
+unfolding sideWrite
 returns-2 c = rw (c .with-soft2 .ensures, c .before .clear-bits .ensures, c .before .before .match .keys2)
 
 returns-3 : tie.Need-returns-3
-unfolding groupWrite
+unfolding sideWrite
 returns-3 c = rw (c .with-enable .ensures, c .before .set-bits2 .ensures, c .before .before .match .keys3)
 
 returns-4 : tie.Need-returns-4
-unfolding groupWrite
+unfolding sideWrite
 returns-4 c = rw (c .with-enable2 .ensures, c .before .clear-bits2 .ensures, c .before .before .match .keys4)
 
 returns-5 : tie.Need-returns-5

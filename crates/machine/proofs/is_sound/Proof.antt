@@ -10,10 +10,10 @@ returns : tie.Need-returns
 returns c = c .is-sound .ensures ∙ sound-aic _ (c .before .before .if1 .taken)
 
 returns-2 : tie.Need-returns-2
-returns-2 c = c .sound .ensures ∙ sound-core _ (c .before .before .if2 .taken)
+returns-2 c = c .is-sound2 .ensures ∙ sound-core _ (c .before .before .if2 .taken)
 
 returns-3 : tie.Need-returns-3
-returns-3 c = c .is-sound2 .ensures ∙ sound-cic _ (c .before .before .if3 .taken)
+returns-3 c = c .is-sound3 .ensures ∙ sound-cic _ (c .before .before .if3 .taken)
 
 returns-4 : tie.Need-returns-4
 returns-4 c = sound-none _ (c .before .before .before .before .if1 .left) (c .before .before .if2 .left) (c .if3 .left)

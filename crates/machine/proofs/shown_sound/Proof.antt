@@ -1,8 +1,9 @@
 -- That `shown_sound` of src/lib.rt keeps its contract.
 use mathlib.Core.Path.{ap, sym, _∙_}
 use Rattle.machine.specs.Steps.{aicColumns, coreColumns, cicColumns}
-use Rattle.machine.proofs.MachineLaws.{sound-aic, sound-cic, third-kind}
+use Rattle.machine.proofs.MachineLaws.{sound-aic, sound-core, sound-cic, third-kind}
 use Rattle.machine.proofs.ShownLaws.{aic-shows, core-shows, cic-shows}
+use Rattle.coreinterrupt.proofs.outputs_sound.Reads as outputs-sound-reads′′
 use Rattle.cic.proofs.outputs_sound.Reads as outputs-sound-reads′
 use borrow.Author.Needs.{needs}
 use Rattle.machine.proofs.shown_sound.Statement.{statement}
@@ -14,17 +15,20 @@ outputs-sound-requires c κs = sound-aic _ (c .before .if1 .taken) ∙ c .before
 returns : tie.Need-returns
 returns c = c .aic-columns .ensures ∙ ap aicColumns (c .before .outputs-sound .ensures) ∙ sym (aic-shows _ (c .before .before .before .if1 .taken))
 
-returns-2 : tie.Need-returns-2
-returns-2 c = c .core-columns .ensures ∙ ap coreColumns (c .before .outputs .ensures) ∙ sym (core-shows _ (c .before .before .before .if2 .taken))
-
 outputs-sound-requires-2 : tie.Need-outputs-sound-requires-2
-outputs-sound-requires-2 c κs = let k = third-kind _ (c .before .before .before .before .before .pre) (c .before .before .before .if1 .left) (c .before .if2 .left) in
+outputs-sound-requires-2 c κs = sound-core _ (c .before .if2 .taken) ∙ c .before .before .before .before .before .pre
+
+returns-2 : tie.Need-returns-2
+returns-2 c = c .core-columns .ensures ∙ ap coreColumns (c .before .outputs-sound2 .ensures) ∙ sym (core-shows _ (c .before .before .before .if2 .taken))
+
+outputs-sound-requires-3 : tie.Need-outputs-sound-requires-3
+outputs-sound-requires-3 c κs = let k = third-kind _ (c .before .before .before .before .before .pre) (c .before .before .before .if1 .left) (c .before .if2 .left) in
     sound-cic _ k ∙ c .before .before .before .before .before .pre
 
 returns-3 : tie.Need-returns-3
 returns-3 c = let p = c .before .before .before in
     let k = third-kind _ (p .before .before .before .before .pre) (p .before .before .if1 .left) (p .if2 .left) in
-    c .cic-columns .ensures ∙ ap cicColumns (c .before .outputs-sound2 .ensures) ∙ sym (cic-shows _ k)
+    c .cic-columns .ensures ∙ ap cicColumns (c .before .outputs-sound3 .ensures) ∙ sym (cic-shows _ k)
 
 pub shown-sound-spec : {M : Type 1} → statement M
 shown-sound-spec =
@@ -33,9 +37,9 @@ shown-sound-spec =
     outputs-sound-requires
     (λ c κs. search needs)
     returns
-    (λ c κs. search needs)
+    outputs-sound-requires-2
     (λ c κs. search needs)
     returns-2
-    outputs-sound-requires-2
+    outputs-sound-requires-3
     (λ c κs. search needs)
     returns-3)
