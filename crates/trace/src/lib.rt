@@ -31,8 +31,8 @@ pub fn turn_at(trace: &[u8], at: usize, left: u32) -> Turn
     step_at(trace, at)
 }
 
-// The step at a place of a trace. Where no byte is left that is a number cut short: whoever may end there looks first.
-pub fn step_at(trace: &[u8], at: usize) -> Turn
+// The step at a place of a trace. Where no byte is left that is a number cut short: a turn looks for the end first.
+fn step_at(trace: &[u8], at: usize) -> Turn
     ensures { λ r. ⌜ r ≡ stepAt (now (trace .entry)) at ⌝ }
 {
     by_kind(trace, at, read_number(trace, at))
