@@ -14,6 +14,11 @@ whole : stepsFrom 20000 (1 ∷ 128 ∷ 2 ∷ 2 ∷ 20 ∷ 35 ∷ 3 ∷ 5 ∷ 1 �
 unfolding pick anyBelow sumBelow lowestBelow sizeAt worthAt faulty numberAt operandsOf stepAt turnAt stepsFrom
 whole = refl
 
+-- an offset of three bytes, and a limit of two steps
+pub three-bytes : stepsFrom 2 (1 ∷ 229 ∷ 142 ∷ 38 ∷ 3 ∷ 5 ∷ 1 ∷ 2 ∷ 20 ∷ 35 ∷ []) 0 ≡ record { steps = Read 624485 ∷ Line 5 1 ∷ []; refusal = 7; offset = 7 }
+unfolding pick anyBelow sumBelow lowestBelow sizeAt worthAt faulty numberAt operandsOf stepAt turnAt stepsFrom
+three-bytes = refl
+
 -- a step cut short is refused at the number that is missing, and is no step
 cut : stepsFrom 20000 (1 ∷ 4 ∷ 2 ∷ 20 ∷ []) 0 ≡ record { steps = Read 4 ∷ []; refusal = 8; offset = 4 }
 unfolding pick anyBelow sumBelow lowestBelow sizeAt worthAt faulty numberAt operandsOf stepAt turnAt stepsFrom

@@ -2,7 +2,7 @@
 use Prim.Native.Nat.{ℕ, _<_, _≤_}
 use mathlib.Core.Path.{_≡_, refl, sym, ap, _∙_}
 use mathlib.Core.List.{List, [], _∷_}
-use mathlib.Core.Logic.{_⊎_, inl, inr, ⊎-elim}
+use mathlib.Core.Logic.{_↔_, _≢_, _⊎_, inl, inr, ⊎-elim}
 use native.Mathlib.Decide.{ℕ-discrete}
 use native.Mathlib.Omega.{arith}
 use borrow.Author.Tests.{eq-eqb, ne-eqb}
@@ -55,6 +55,36 @@ write-two = refl
 pub line-two : operandsOf lineKind ≡ 2
 unfolding operandsOf pick
 line-two = refl
+
+-- it goes with more than so many, in the words of the promises, and back
+pub more-operands : (kind n : ℕ) → n < operandsOf kind ↔ (((kind ≡ 1) × (n < 1)) ⊎ (((kind ≡ 2) ⊎ (kind ≡ 3)) × (n < 2)))
+more-operands kind n = (only (kind-is kind), so)
+  where
+    only : Kind kind → n < operandsOf kind → ((kind ≡ 1) × (n < 1)) ⊎ (((kind ≡ 2) ⊎ (kind ≡ 3)) × (n < 2))
+    only (none e) l = absurd (omega arith)
+    only (one k e) l = inl (k, omega arith)
+    only (two k e) l = inr (k, omega arith)
+
+    so : ((kind ≡ 1) × (n < 1)) ⊎ (((kind ≡ 2) ⊎ (kind ≡ 3)) × (n < 2)) → n < operandsOf kind
+    so (inl h) = rw (h .0, read-one) (h .1)
+    so (inr (inl h, l)) = rw (h, write-two) l
+    so (inr (inr h, l)) = rw (h, line-two) l
+
+-- it goes with none where it is no kind of step
+pub no-operands : (kind : ℕ) → (operandsOf kind ≡ 0) ↔ ((kind ≢ 1) × ((kind ≢ 2) × (kind ≢ 3)))
+no-operands kind = (only, λ h. so (kind-is kind) (h .0) (h .1 .0) (h .1 .1))
+  where
+    only : operandsOf kind ≡ 0 → (kind ≢ 1) × ((kind ≢ 2) × (kind ≢ 3))
+    only z = (
+      λ k. let e : operandsOf kind ≡ 1 = rw (k, read-one) in omega arith,
+      (λ k. let e : operandsOf kind ≡ 2 = rw (k, write-two) in omega arith, λ k. let e : operandsOf kind ≡ 2 = rw (k, line-two) in omega arith),
+    )
+
+    so : Kind kind → kind ≢ 1 → kind ≢ 2 → kind ≢ 3 → operandsOf kind ≡ 0
+    so (none e) a b d = e
+    so (one k e) a b d = absurd (a k)
+    so (two (inl k) e) a b d = absurd (b k)
+    so (two (inr k) e) a b d = absurd (d k)
 
 -- ---- the ways
 
@@ -111,7 +141,7 @@ pub data Outcome (s : List ℕ) (at : ℕ) : Turn → Type 0 where
       → numberAt s q ≡ Value y next → Outcome s at (Found step next)
 
 -- the same outcome of what it is equal to
-over : {s : List ℕ} {at : ℕ} (a b : Turn) → a ≡ b → Outcome s at b → Outcome s at a
+pub over : {s : List ℕ} {at : ℕ} (a b : Turn) → a ≡ b → Outcome s at b → Outcome s at a
 over a b e o = rw e o
 
 pub outcome : (s : List ℕ) (at : ℕ) → Outcome s at (stepAt s at)
