@@ -1,6 +1,7 @@
 -- Hexadecimal and decimal digits, one at a time, and how many there are.
 use Prim.Native.Nat.{ℕ, zero, suc, _+_, _-_, _*_, _/_, _%_, _^_, _<_, _≤_}
 use mathlib.Core.Path.{_≡_, refl, sym, ap, _∙_}
+use mathlib.Core.Bool.{Bool, true}
 use mathlib.Core.List.{List, [], _∷_, _++_}
 use native.Mathlib.Nat.{div-div-eq-div-mul, pow-succ', div-one}
 use native.Mathlib.Decide.{decLt}
@@ -8,8 +9,11 @@ use native.Mathlib.Numerals.{sub-one}
 use native.Mathlib.Omega.{arith}
 use lib.ListN.{length, getD, length-append, List·getD-append}
 use lib.Seq.{getD-append-add}
-use lib.Dec.{ltb}
-use borrow.Author.Tests.{lt-ltb, le-ltb, ltb-true, ltb-false}
+use lib.Dec.{eqb, ltb}
+use borrow.Author.Tests.{eqb-true, lt-ltb, le-ltb, ltb-true, ltb-false}
+use Rattle.words.specs.Choice.{pick}
+use Rattle.words.specs.Counting.{allBelow}
+use Rattle.words.proofs.CountingLaws.{all-at}
 use Rattle.words.proofs.ChoiceLaws.{pick-true, pick-false, pick-cases}
 use Rattle.text.specs.Text.{hexOf, hexDigit, decimalOf, field}
 use Rattle.text.specs.Promises.{worthAfter}
@@ -74,10 +78,24 @@ length-field n = omega (arith, length-decimal 20 n)
 
 -- ---- which digits
 
-pub hex-place : (p v k : ℕ) → k < p → getD (hexOf p v) k 0 ≡ hexDigit (v / 16 ^ (p - 1 - k) % 16)
+-- the rule of the sixteen is one test of all, computed one by one
+abbrev digits : List ℕ
+digits = 48 ∷ 49 ∷ 50 ∷ 51 ∷ 52 ∷ 53 ∷ 54 ∷ 55 ∷ 56 ∷ 57 ∷ 65 ∷ 66 ∷ 67 ∷ 68 ∷ 69 ∷ 70 ∷ []
+
+abbrev right : ℕ → Bool
+right d = eqb (getD digits d 0) (hexDigit d)
+
+rule : allBelow 16 right ≡ true
+unfolding allBelow hexDigit pick
+rule = refl
+
+pub digit-listed : (d : ℕ) → d < 16 → getD digits d 0 ≡ hexDigit d
+digit-listed d l = eqb-true (getD digits d 0) (hexDigit d) (all-at 16 right rule d l)
+
+pub hex-nth : (p v k : ℕ) → k < p → getD (hexOf p v) k 0 ≡ hexDigit (v / 16 ^ (p - 1 - k) % 16)
 unfolding hexOf
-hex-place zero v k l = absurd (omega arith)
-hex-place (suc p) v k l = go (decLt k p) (hex-place p (v / 16) k)
+hex-nth zero v k l = absurd (omega arith)
+hex-nth (suc p) v k l = go (decLt k p) (hex-nth p (v / 16) k)
   where
     e : length (hexOf p (v / 16)) ≡ p
     e = length-hex p (v / 16)
@@ -92,6 +110,25 @@ hex-place (suc p) v k l = go (decLt k p) (hex-place p (v / 16) k)
         let z : suc p - 1 - k ≡ 0 = omega arith in
         ap (λ (x : ℕ). getD (hexOf p (v / 16) ++ (hexDigit (v % 16) ∷ [])) x 0) q ∙ getD-append-add (hexOf p (v / 16)) (hexDigit (v % 16) ∷ []) 0 0
         ∙ ap (λ (x : ℕ). hexDigit (x % 16)) (sym (div-one v) ∙ ap (λ (x : ℕ). v / 16 ^ x) (sym z))
+
+-- every byte is a digit from 0 to 9
+abbrev Digits : List ℕ → Type 0
+Digits l = (k : ℕ) → k < length l → (48 ≤ getD l k 0) × (getD l k 0 ≤ 57)
+
+digits-snoc : (l : List ℕ) (n : ℕ) → Digits l → Digits (l ++ ((48 + n % 10) ∷ []))
+digits-snoc l n h k m = go (decLt k (length l))
+  where
+    go : Dec (k < length l) → (48 ≤ getD (l ++ ((48 + n % 10) ∷ [])) k 0) × (getD (l ++ ((48 + n % 10) ∷ [])) k 0 ≤ 57)
+    go (yes q) = rw (List·getD-append l ((48 + n % 10) ∷ []) 0 k q) (h k q)
+    go (no q) =
+        let e : k ≡ length l + 0 = omega (arith, length-append l ((48 + n % 10) ∷ [])) in
+        rw (e, getD-append-add l ((48 + n % 10) ∷ []) 0 0) (omega arith, omega arith)
+
+pub decimal-digits : (k n : ℕ) → Digits (decimalOf k n)
+unfolding decimalOf
+decimal-digits zero n = λ k l. absurd (omega arith)
+decimal-digits (suc k) n =
+    pick-cases Digits (ltb n 10) (λ e. digits-snoc [] n (λ j l. absurd (omega arith))) (λ e. digits-snoc (decimalOf k (n / 10)) n (decimal-digits k (n / 10)))
 
 -- one digit more
 worth-snoc : (v : ℕ) (a : List ℕ) (b : ℕ) → worthAfter v (a ++ (b ∷ [])) ≡ 10 * worthAfter v a + (b - 48)

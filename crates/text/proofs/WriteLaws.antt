@@ -53,7 +53,7 @@ same-length o p a e = ap (λ (x : List ℕ × ℕ). length (x .0)) e ∙ length-
 -- ---- what a text leaves in a buffer
 
 -- a full buffer takes nothing
-write-full : (bs l : List ℕ) (at : ℕ) → length l ≤ at → write (l, at) bs ≡ (l, at)
+pub write-full : (bs l : List ℕ) (at : ℕ) → length l ≤ at → write (l, at) bs ≡ (l, at)
 unfolding write
 write-full [] l at h = refl
 write-full (b ∷ bs) l at h = sym (ap (λ (o : List ℕ × ℕ). write o bs) (full l at b h)) ∙ write-full bs l at h

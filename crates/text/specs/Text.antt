@@ -20,7 +20,7 @@ hexDigit d = pick (ltb d 10) (48 + d) (55 + d)
 -- the last digits of v to the base 16, so many of them, the highest first
 unfoldable pub hexOf : ℕ → ℕ → List ℕ
 hexOf zero v = []
-hexOf (suc places) v = hexOf places (v / 16) ++ (hexDigit (v % 16) ∷ [])
+hexOf (suc digits) v = hexOf digits (v / 16) ++ (hexDigit (v % 16) ∷ [])
 
 -- a word is written with eight digits (01, House trace)
 abbrev pub hex : ℕ → List ℕ
@@ -29,7 +29,7 @@ hex v = hexOf 8 v
 -- the digits of n to the base 10, the highest first, none of them a leading 0; at most so many
 unfoldable pub decimalOf : ℕ → ℕ → List ℕ
 decimalOf zero n = []
-decimalOf (suc places) n = pick (ltb n 10) ((48 + n % 10) ∷ []) (decimalOf places (n / 10) ++ ((48 + n % 10) ∷ []))
+decimalOf (suc digits) n = pick (ltb n 10) ((48 + n % 10) ∷ []) (decimalOf digits (n / 10) ++ ((48 + n % 10) ∷ []))
 
 -- a number is written with all its digits: 20 are enough for 64 bits
 abbrev pub decimal : ℕ → List ℕ
@@ -39,7 +39,7 @@ decimal n = decimalOf 20 n
 unfoldable pub field : ℕ → List ℕ
 field n = (space ∷ []) ++ decimal n
 
--- ---- a buffer and the next place in it
+-- ---- a buffer, and where the next byte goes in it
 
 -- after a byte: one that finds no room is dropped
 abbrev pub push : List ℕ × ℕ → ℕ → List ℕ × ℕ

@@ -27,7 +27,7 @@ const DIGITS: [u8; 16] = [
     b'F',
 ];
 
-// One byte at a place; the place after it.
+// One byte where the next one goes; answers where the one after it goes.
 pub fn put(out: &mut [u8], at: usize, b: u8) -> usize
     ensures { λ r. ⌜ (now (out .exit), r) ≡ write (now (out .entry), at) (b ∷ []) ⌝ }
 {
@@ -39,31 +39,31 @@ pub fn put(out: &mut [u8], at: usize, b: u8) -> usize
     }
 }
 
-// All bytes of a text, one after the other; the place after them.
+// All bytes of a text, one after the other.
 pub fn put_all(out: &mut [u8], at: usize, text: &[u8]) -> usize
     ensures { λ r. ⌜ (now (out .exit), r) ≡ write (now (out .entry), at) (now (text .entry)) ⌝ }
 {
-    let mut place = at;
+    let mut next = at;
     let mut k: usize = 0;
     while k < text.len() {
-        place = put(out, place, text[k]);
+        next = put(out, next, text[k]);
         k = k + 1;
     }
-    place
+    next
 }
 
 // The eight hexadecimal digits of a word, the letters upper case.
 pub fn put_hex(out: &mut [u8], at: usize, v: u32) -> usize
     ensures { λ r. ⌜ (now (out .exit), r) ≡ write (now (out .entry), at) (hex v) ⌝ }
 {
-    put_digits(out, at, v, 8)
+    put_hex_digits(out, at, v, 8)
 }
 
 // The decimal digits of a number.
 pub fn put_decimal(out: &mut [u8], at: usize, n: u64) -> usize
     ensures { λ r. ⌜ (now (out .exit), r) ≡ write (now (out .entry), at) (decimal n) ⌝ }
 {
-    put_places(out, at, n, 20)
+    put_decimal_digits(out, at, n, 20)
 }
 
 // A space and the decimal digits of a number.
@@ -74,28 +74,28 @@ pub fn put_field(out: &mut [u8], at: usize, n: u64) -> usize
     put_decimal(out, next, n)
 }
 
-// The last `places` hexadecimal digits of v: those before the last one first.
-fn put_digits(out: &mut [u8], at: usize, v: u32, places: u32) -> usize
-    ensures { λ r. ⌜ (now (out .exit), r) ≡ write (now (out .entry), at) (hexOf places v) ⌝ }
+// The last `digits` hexadecimal digits of v: those before the last one first.
+fn put_hex_digits(out: &mut [u8], at: usize, v: u32, digits: u32) -> usize
+    ensures { λ r. ⌜ (now (out .exit), r) ≡ write (now (out .entry), at) (hexOf digits v) ⌝ }
 {
-    if places == 0 {
+    if digits == 0 {
         return at;
     }
-    let next = put_digits(out, at, v / 16, places - 1);
+    let next = put_hex_digits(out, at, v / 16, digits - 1);
     put(out, next, digit((v % 16) as usize))
 }
 
-// The decimal digits of n, at most `places` of them.
-fn put_places(out: &mut [u8], at: usize, n: u64, places: u32) -> usize
-    ensures { λ r. ⌜ (now (out .exit), r) ≡ write (now (out .entry), at) (decimalOf places n) ⌝ }
+// The decimal digits of n, at most `digits` of them.
+fn put_decimal_digits(out: &mut [u8], at: usize, n: u64, digits: u32) -> usize
+    ensures { λ r. ⌜ (now (out .exit), r) ≡ write (now (out .entry), at) (decimalOf digits n) ⌝ }
 {
-    if places == 0 {
+    if digits == 0 {
         return at;
     }
     if n < 10 {
         return put(out, at, 48 + (n % 10) as u8);
     }
-    let next = put_places(out, at, n / 10, places - 1);
+    let next = put_decimal_digits(out, at, n / 10, digits - 1);
     put(out, next, 48 + (n % 10) as u8)
 }
 

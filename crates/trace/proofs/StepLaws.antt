@@ -2,7 +2,7 @@
 use Prim.Native.Nat.{ℕ, _<_, _≤_}
 use mathlib.Core.Path.{_≡_, refl, sym, ap, _∙_}
 use mathlib.Core.List.{List, [], _∷_}
-use mathlib.Core.Logic.{_⊎_, inl, inr, ⊎-elim}
+use mathlib.Core.Logic.{_↔_, _≢_, _⊎_, inl, inr, ⊎-elim}
 use native.Mathlib.Decide.{ℕ-discrete}
 use native.Mathlib.Omega.{arith}
 use borrow.Author.Tests.{eq-eqb, ne-eqb}
@@ -11,11 +11,11 @@ use Rattle.words.proofs.ChoiceLaws.{pick-true, pick-false}
 use Rattle.steps.specs.Refusals.{damaged, unknown}
 use Rattle.steps.specs.declared.Step.{Step}
 use Rattle.steps.specs.declared.Step.the-variants.{Read, Write, Line}
-use Rattle.numbers.specs.declared.Number.the-variants.{Value, Refused as Number·Refused}
+use Rattle.numbers.specs.declared.Number.the-variants.{Value, Refused}
 use Rattle.numbers.specs.Number.{numberAt}
 use Rattle.numbers.proofs.ReadLaws.{IsRead, number-is}
-use Rattle.trace.specs.declared.Next.{Next}
-use Rattle.trace.specs.declared.Next.the-variants.{Found, Refused}
+use Rattle.trace.specs.declared.Turn.{Turn}
+use Rattle.trace.specs.declared.Turn.the-variants.{Found, Ended}
 use Rattle.trace.specs.Steps.{readKind, writeKind, lineKind, operandsOf, twoNumbers, bySecond, byFirst, byKind, numbersOf, stepAt}
 
 -- ---- kinds
@@ -56,23 +56,53 @@ pub line-two : operandsOf lineKind ≡ 2
 unfolding operandsOf pick
 line-two = refl
 
+-- it goes with more than so many, in the words of the promises, and back
+pub more-operands : (kind n : ℕ) → n < operandsOf kind ↔ (((kind ≡ 1) × (n < 1)) ⊎ (((kind ≡ 2) ⊎ (kind ≡ 3)) × (n < 2)))
+more-operands kind n = (only (kind-is kind), so)
+  where
+    only : Kind kind → n < operandsOf kind → ((kind ≡ 1) × (n < 1)) ⊎ (((kind ≡ 2) ⊎ (kind ≡ 3)) × (n < 2))
+    only (none e) l = absurd (omega arith)
+    only (one k e) l = inl (k, omega arith)
+    only (two k e) l = inr (k, omega arith)
+
+    so : ((kind ≡ 1) × (n < 1)) ⊎ (((kind ≡ 2) ⊎ (kind ≡ 3)) × (n < 2)) → n < operandsOf kind
+    so (inl h) = rw (h .0, read-one) (h .1)
+    so (inr (inl h, l)) = rw (h, write-two) l
+    so (inr (inr h, l)) = rw (h, line-two) l
+
+-- it goes with none where it is no kind of step
+pub no-operands : (kind : ℕ) → (operandsOf kind ≡ 0) ↔ ((kind ≢ 1) × ((kind ≢ 2) × (kind ≢ 3)))
+no-operands kind = (only, λ h. so (kind-is kind) (h .0) (h .1 .0) (h .1 .1))
+  where
+    only : operandsOf kind ≡ 0 → (kind ≢ 1) × ((kind ≢ 2) × (kind ≢ 3))
+    only z = (
+      λ k. let e : operandsOf kind ≡ 1 = rw (k, read-one) in omega arith,
+      (λ k. let e : operandsOf kind ≡ 2 = rw (k, write-two) in omega arith, λ k. let e : operandsOf kind ≡ 2 = rw (k, line-two) in omega arith),
+    )
+
+    so : Kind kind → kind ≢ 1 → kind ≢ 2 → kind ≢ 3 → operandsOf kind ≡ 0
+    so (none e) a b d = e
+    so (one k e) a b d = absurd (a k)
+    so (two (inl k) e) a b d = absurd (b k)
+    so (two (inr k) e) a b d = absurd (d k)
+
 -- ---- the ways
 
 module _ (s : List ℕ) (at : ℕ) where
-  pub kind-damaged : numberAt s at ≡ Number·Refused damaged at → stepAt s at ≡ Refused damaged at
+  pub kind-damaged : numberAt s at ≡ Refused damaged at → stepAt s at ≡ Ended damaged at
   unfolding stepAt
   kind-damaged e = ap (byKind s at) e
 
-  pub kind-unknown : (kind p : ℕ) → numberAt s at ≡ Value kind p → operandsOf kind ≡ 0 → stepAt s at ≡ Refused unknown at
+  pub kind-unknown : (kind p : ℕ) → numberAt s at ≡ Value kind p → operandsOf kind ≡ 0 → stepAt s at ≡ Ended unknown at
   unfolding stepAt
   kind-unknown kind p e z = ap (byKind s at) e ∙ sym (pick-true (byFirst s kind (numberAt s p)) (eq-eqb (operandsOf kind) 0 z))
 
   -- the kind is known
   known : (kind p : ℕ) → numberAt s at ≡ Value kind p → 0 < operandsOf kind → stepAt s at ≡ byFirst s kind (numberAt s p)
   unfolding stepAt
-  known kind p e l = ap (byKind s at) e ∙ sym (pick-false (Refused unknown at) (ne-eqb (operandsOf kind) 0 (λ z. omega arith)))
+  known kind p e l = ap (byKind s at) e ∙ sym (pick-false (Ended unknown at) (ne-eqb (operandsOf kind) 0 (λ z. omega arith)))
 
-  pub first-damaged : (kind p : ℕ) → numberAt s at ≡ Value kind p → 0 < operandsOf kind → numberAt s p ≡ Number·Refused damaged p → stepAt s at ≡ Refused damaged p
+  pub first-damaged : (kind p : ℕ) → numberAt s at ≡ Value kind p → 0 < operandsOf kind → numberAt s p ≡ Refused damaged p → stepAt s at ≡ Ended damaged p
   first-damaged kind p e l f = known kind p e l ∙ ap (byFirst s kind) f
 
   pub one-number : (kind p x next : ℕ) → numberAt s at ≡ Value kind p → operandsOf kind ≡ 1 → numberAt s p ≡ Value x next → stepAt s at ≡ Found (Read x) next
@@ -84,8 +114,8 @@ module _ (s : List ℕ) (at : ℕ) where
   wider kind p x q e o f =
       known kind p e (omega arith) ∙ ap (byFirst s kind) f ∙ sym (pick-false (Found (Read x) q) (ne-eqb (operandsOf kind) 1 (λ z. omega arith)))
 
-  pub second-damaged : (kind p x q : ℕ) → numberAt s at ≡ Value kind p → operandsOf kind ≡ 2 → numberAt s p ≡ Value x q → numberAt s q ≡ Number·Refused damaged q
-      → stepAt s at ≡ Refused damaged q
+  pub second-damaged : (kind p x q : ℕ) → numberAt s at ≡ Value kind p → operandsOf kind ≡ 2 → numberAt s p ≡ Value x q → numberAt s q ≡ Refused damaged q
+      → stepAt s at ≡ Ended damaged q
   second-damaged kind p x q e o f g = wider kind p x q e o f ∙ ap (bySecond kind x) g
 
   pub two-numbers : (kind p x q y next : ℕ) → numberAt s at ≡ Value kind p → operandsOf kind ≡ 2 → numberAt s p ≡ Value x q → numberAt s q ≡ Value y next
@@ -100,18 +130,18 @@ numbers-two kind x y (inr k) =
 
 -- ---- one of them is gone
 
-pub data Outcome (s : List ℕ) (at : ℕ) : Next → Type 0 where
-  noKind : numberAt s at ≡ Number·Refused damaged at → Outcome s at (Refused damaged at)
-  unknownKind : (kind p : ℕ) → numberAt s at ≡ Value kind p → operandsOf kind ≡ 0 → Outcome s at (Refused unknown at)
-  noFirst : (kind p : ℕ) → numberAt s at ≡ Value kind p → 0 < operandsOf kind → numberAt s p ≡ Number·Refused damaged p → Outcome s at (Refused damaged p)
+pub data Outcome (s : List ℕ) (at : ℕ) : Turn → Type 0 where
+  noKind : numberAt s at ≡ Refused damaged at → Outcome s at (Ended damaged at)
+  unknownKind : (kind p : ℕ) → numberAt s at ≡ Value kind p → operandsOf kind ≡ 0 → Outcome s at (Ended unknown at)
+  noFirst : (kind p : ℕ) → numberAt s at ≡ Value kind p → 0 < operandsOf kind → numberAt s p ≡ Refused damaged p → Outcome s at (Ended damaged p)
   oneNumber : (p x next : ℕ) → numberAt s at ≡ Value readKind p → numberAt s p ≡ Value x next → Outcome s at (Found (Read x) next)
-  noSecond : (kind p x q : ℕ) → numberAt s at ≡ Value kind p → operandsOf kind ≡ 2 → numberAt s p ≡ Value x q → numberAt s q ≡ Number·Refused damaged q
-      → Outcome s at (Refused damaged q)
+  noSecond : (kind p x q : ℕ) → numberAt s at ≡ Value kind p → operandsOf kind ≡ 2 → numberAt s p ≡ Value x q → numberAt s q ≡ Refused damaged q
+      → Outcome s at (Ended damaged q)
   twoNumbered : (step : Step) (kind p x q y next : ℕ) → numbersOf step ≡ kind ∷ x ∷ y ∷ [] → numberAt s at ≡ Value kind p → numberAt s p ≡ Value x q
       → numberAt s q ≡ Value y next → Outcome s at (Found step next)
 
 -- the same outcome of what it is equal to
-over : {s : List ℕ} {at : ℕ} (a b : Next) → a ≡ b → Outcome s at b → Outcome s at a
+pub over : {s : List ℕ} {at : ℕ} (a b : Turn) → a ≡ b → Outcome s at b → Outcome s at a
 over a b e o = rw e o
 
 pub outcome : (s : List ℕ) (at : ℕ) → Outcome s at (stepAt s at)

@@ -9,10 +9,10 @@ use Rattle.text.proofs.put_all.Statement.{statement}
 use Rattle.text.proofs.put_all.Tie as tie
 
 abbrev Inv-loop : tie.InvT-loop
-Inv-loop out₀ at text place₀ k₀ out place k = (write (out, place) (drop k text) ≡ write (out₀, at) text) × (length out ≡ length out₀)
+Inv-loop out₀ at text next₀ k₀ out next k = (write (out, next) (drop k text) ≡ write (out₀, at) text) × (length out ≡ length out₀)
 
 abbrev μ-loop : tie.MeasureT-loop
-μ-loop out₀ at text place₀ k₀ out place k = length text - k
+μ-loop out₀ at text next₀ k₀ out next k = length text - k
 
 loop-holds : tie.Need-loop-holds Inv-loop μ-loop
 loop-holds c = (refl, refl)
