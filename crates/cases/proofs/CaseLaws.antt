@@ -25,7 +25,7 @@ use Rattle.cic_maps.specs.Maps.{byteRead, mapRead, byteTaken, mapTaken, bytePut
 use Rattle.cic_words.specs.Bits.{wordRead}
 use Rattle.cic_layout.specs.Map.{singleAt, registerAt, accessOf}
 use Rattle.cic_registers.specs.Registers as Registers
-use Rattle.cic.specs.Stepping.{readAs, writeAs, stepAs}
+use Rattle.cic.specs.Model.{readAs, writeAs, stepAs}
 use Rattle.cases.specs.Cases.{after, ran, raise, tower, answers, starts, startsNone, pendingBit, sameList, same, higherPriorityStarts, lowerNumberStarts, atLevelThree, equalPriorityWaits, nextPriorityNests, levelNotCleared, disabledEdge, disabledEdgeKept, forcedNine, forcedIsFast, allLevels, eightAtMost, noneToClose, clearOfNoneRead, clearOfOneRefused, cic, secondWordThere, thirdWordAbsent, channelOneNotTwo, starred, holds}
 
 pub cases-hold : holds starred ≡ true

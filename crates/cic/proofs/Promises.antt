@@ -24,47 +24,47 @@ use Rattle.cic_layout.specs.Map.{registerAt, access}
 use Rattle.cic_registers.specs.Registers.{valueOf, valueRefusal, writtenTo}
 use Rattle.cic_registers.proofs.WrittenLaws.{value-number, sound-written}
 use Rattle.cic.specs.Promises.{Promises}
-use Rattle.cic.specs.Stepping.{readAs, writeAs, moved, lineAs, stepAs, readOf, writeOf, lineOf, stepOf}
+use Rattle.cic.specs.Model.{readAs, writeAs, moved, lineAs, stepAs, read, write, line, step}
 use Rattle.cic.proofs.StepLaws.{its-number, its-record}
 
 -- ---- the tables
 
-reads : (c : Cic) (offset : ℕ) → ReadTable (sound c) offset (access c offset) (readOf c offset .refusal)
+read-numbers : (c : Cic) (offset : ℕ) → ReadTable (sound c) offset (access c offset) (read c offset .refusal)
 unfolding readAs
-reads c offset =
+read-numbers c offset =
     subst (ReadTable (sound c) offset (access c offset)) (sym (its-number c (readRefusal (sound c) offset (access c offset)) (answered c (valueOf c (registerAt offset))) refl))
     (checks.kept .reads (sound c) offset (access c offset))
 
-writes : (c : Cic) (offset v : ℕ) → WriteTable (sound c) offset (access c offset) (valueRefusal c (registerAt offset) v) (writeOf c offset v .refusal)
+write-numbers : (c : Cic) (offset v : ℕ) → WriteTable (sound c) offset (access c offset) (valueRefusal c (registerAt offset) v) (write c offset v .refusal)
 unfolding writeAs
-writes c offset v =
+write-numbers c offset v =
     subst (WriteTable (sound c) offset (access c offset) (valueRefusal c (registerAt offset) v))
     (sym (its-number c (writeRefusal (sound c) offset (access c offset) (valueRefusal c (registerAt offset) v)) (answered (writtenTo c (registerAt offset) v) 0) refl))
     (checks.kept .writes (sound c) offset (access c offset) (valueRefusal c (registerAt offset) v) (value-number c (registerAt offset) v))
 
-lines : (c : Cic) (s level : ℕ) → LineTable (sound c) (c .systems) s level (lineOf c s level .refusal)
+line-numbers : (c : Cic) (s level : ℕ) → LineTable (sound c) (c .systems) s level (line c s level .refusal)
 unfolding lineAs
-lines c s level =
+line-numbers c s level =
     subst (LineTable (sound c) (c .systems) s level) (sym (its-number c (lineRefusal (sound c) (c .systems) s level) (answered (moved c (system s) (eqb level 1)) 0) refl))
     (checks.kept .lines (sound c) (c .systems) s level)
 
 -- ---- refused steps
 
-refused-same : (c : Cic) (s : Step) → stepOf c s .refusal ≢ carriedOut → stepOf c s ≡ refused c (stepOf c s .refusal)
+refused-same : (c : Cic) (s : Step) → step c s .refusal ≢ carriedOut → step c s ≡ refused c (step c s .refusal)
 unfolding stepAs readAs writeAs lineAs
 refused-same c (Read offset) d = its-record c (readRefusal (sound c) offset (access c offset)) (answered c (valueOf c (registerAt offset))) refl d
 refused-same c (Write offset v) d =
     its-record c (writeRefusal (sound c) offset (access c offset) (valueRefusal c (registerAt offset) v)) (answered (writtenTo c (registerAt offset) v) 0) refl d
 refused-same c (Line s level) d = its-record c (lineRefusal (sound c) (c .systems) s level) (answered (moved c (system s) (eqb level 1)) 0) refl d
 
-writes-zero : (c : Cic) (offset v : ℕ) → writeOf c offset v .value ≡ 0
+write-value : (c : Cic) (offset v : ℕ) → write c offset v .value ≡ 0
 unfolding writeAs
-writes-zero c offset v =
+write-value c offset v =
     pick-cases (λ (a : Answer). a .value ≡ 0) (eqb (writeRefusal (sound c) offset (access c offset) (valueRefusal c (registerAt offset) v)) carriedOut) (λ _. refl) (λ _. refl)
 
-lines-zero : (c : Cic) (s level : ℕ) → lineOf c s level .value ≡ 0
+line-value : (c : Cic) (s level : ℕ) → line c s level .value ≡ 0
 unfolding lineAs
-lines-zero c s level = pick-cases (λ (a : Answer). a .value ≡ 0) (eqb (lineRefusal (sound c) (c .systems) s level) carriedOut) (λ _. refl) (λ _. refl)
+line-value c s level = pick-cases (λ (a : Answer). a .value ≡ 0) (eqb (lineRefusal (sound c) (c .systems) s level) carriedOut) (λ _. refl) (λ _. refl)
 
 -- ---- lines
 
@@ -95,7 +95,7 @@ moved-sound c s high e l =
 
 -- ---- a sound record stays sound
 
-write-sound : (c : Cic) (offset v : ℕ) → sound c ≡ true → sound (writeOf c offset v .cic) ≡ true
+write-sound : (c : Cic) (offset v : ℕ) → sound c ≡ true → sound (write c offset v .cic) ≡ true
 unfolding writeAs
 write-sound c offset v e =
     let n = writeRefusal (sound c) offset (access c offset) (valueRefusal c (registerAt offset) v) in
@@ -104,33 +104,33 @@ write-sound c offset v e =
     (checks.kept .writes (sound c) offset (access c offset) (valueRefusal c (registerAt offset) v) (value-number c (registerAt offset) v) .none .0 (eqb-true n carriedOut t) .1 .1 .1))
     (λ _. e)
 
-line-sound : (c : Cic) (s level : ℕ) → sound c ≡ true → sound (lineOf c s level .cic) ≡ true
+line-sound : (c : Cic) (s level : ℕ) → sound c ≡ true → sound (line c s level .cic) ≡ true
 unfolding lineAs
 line-sound c s level e =
     let n = lineRefusal (sound c) (c .systems) s level in
     pick-cases (λ (a : Answer). sound (a .cic) ≡ true) (eqb n carriedOut)
     (λ t. moved-sound c s (eqb level 1) e (checks.kept .lines (sound c) (c .systems) s level .none .0 (eqb-true n carriedOut t) .1 .0)) (λ _. e)
 
-read-sound : (c : Cic) (offset : ℕ) → sound c ≡ true → sound (readOf c offset .cic) ≡ true
+read-sound : (c : Cic) (offset : ℕ) → sound c ≡ true → sound (read c offset .cic) ≡ true
 unfolding readAs
 read-sound c offset e = pick-cases (λ (a : Answer). sound (a .cic) ≡ true) (eqb (readRefusal (sound c) offset (access c offset)) carriedOut) (λ _. e) (λ _. e)
 
-pub stays-sound : (c : Cic) (s : Step) → sound c ≡ true → sound (stepOf c s .cic) ≡ true
+pub step-sound : (c : Cic) (s : Step) → sound c ≡ true → sound (step c s .cic) ≡ true
 unfolding stepAs
-stays-sound c (Read offset) e = read-sound c offset e
-stays-sound c (Write offset v) e = write-sound c offset v e
-stays-sound c (Line s level) e = line-sound c s level e
+step-sound c (Read offset) e = read-sound c offset e
+step-sound c (Write offset v) e = write-sound c offset v e
+step-sound c (Line s level) e = line-sound c s level e
 
 pub kept : Promises
 kept =
     record {
-      staysSound = stays-sound;
+      stepSound = step-sound;
       refusedSame = refused-same;
-      reads = reads;
-      writes = writes;
-      lines = lines;
-      writesZero = writes-zero;
-      linesZero = lines-zero;
+      readNumbers = read-numbers;
+      writeNumbers = write-numbers;
+      lineNumbers = line-numbers;
+      writeValue = write-value;
+      lineValue = line-value;
       rises = rises;
       keepsLevel = keeps-level;
       falls = falls;

@@ -14,7 +14,7 @@ use Rattle.cic_record.specs.declared.Answer.{Answer}
 use Rattle.cic_record.specs.declared.Cic.{Cic}
 use Rattle.cic_record.specs.declared.System.{System}
 use Rattle.cic_record.specs.Record.{refused}
-use Rattle.cic.specs.Stepping.{unlessRefused, moved}
+use Rattle.cic.specs.Model.{unlessRefused, moved}
 
 -- ---- by the number
 

@@ -13,20 +13,20 @@ use Rattle.cic_record.specs.Record.{refused}
 use Rattle.cic_record.specs.Sound.{sound}
 use Rattle.cic_layout.specs.Map.{registerAt, access}
 use Rattle.cic_registers.specs.Registers.{valueRefusal}
-use Rattle.cic.specs.Stepping.{readOf, writeOf, lineOf, stepOf, moved}
+use Rattle.cic.specs.Model.{read, write, line, step, moved}
 
 pub record Promises : Type 0 where
   -- every step leaves a sound record sound (01, CIC, a sound record)
-  pub staysSound : (c : Cic) (s : Step) → sound c ≡ true → sound (stepOf c s .cic) ≡ true
+  pub stepSound : (c : Cic) (s : Step) → sound c ≡ true → sound (step c s .cic) ≡ true
   -- a step that is refused answers its number, the value 0 and the same record (01, Numbers)
-  pub refusedSame : (c : Cic) (s : Step) → stepOf c s .refusal ≢ carriedOut → stepOf c s ≡ refused c (stepOf c s .refusal)
+  pub refusedSame : (c : Cic) (s : Step) → step c s .refusal ≢ carriedOut → step c s ≡ refused c (step c s .refusal)
   -- each number is given exactly when the table says (01, Numbers)
-  pub reads : (c : Cic) (offset : ℕ) → ReadTable (sound c) offset (access c offset) (readOf c offset .refusal)
-  pub writes : (c : Cic) (offset v : ℕ) → WriteTable (sound c) offset (access c offset) (valueRefusal c (registerAt offset) v) (writeOf c offset v .refusal)
-  pub lines : (c : Cic) (s level : ℕ) → LineTable (sound c) (c .systems) s level (lineOf c s level .refusal)
+  pub readNumbers : (c : Cic) (offset : ℕ) → ReadTable (sound c) offset (access c offset) (read c offset .refusal)
+  pub writeNumbers : (c : Cic) (offset v : ℕ) → WriteTable (sound c) offset (access c offset) (valueRefusal c (registerAt offset) v) (write c offset v .refusal)
+  pub lineNumbers : (c : Cic) (s level : ℕ) → LineTable (sound c) (c .systems) s level (line c s level .refusal)
   -- accepted writes and lines answer the value 0 (01, Numbers)
-  pub writesZero : (c : Cic) (offset v : ℕ) → writeOf c offset v .value ≡ 0
-  pub linesZero : (c : Cic) (s level : ℕ) → lineOf c s level .value ≡ 0
+  pub writeValue : (c : Cic) (offset v : ℕ) → write c offset v .value ≡ 0
+  pub lineValue : (c : Cic) (s level : ℕ) → line c s level .value ≡ 0
   -- a rising line sets its own status (01, CIC, configuration)
   pub rises : (c : Cic) (s : System) → bitAt (c .lines) (s .0) ≡ false → moved c s true .status ≡ withBitAt (c .status) (s .0) true
   -- the line keeps its level (01, CIC, configuration)

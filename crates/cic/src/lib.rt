@@ -7,7 +7,7 @@ ghost use Rattle.cic_record.specs.Record.{refused, answered};
 ghost use Rattle.cic_record.specs.Sound.{withinOf, sound};
 ghost use Rattle.cic_record.specs.Start.{started};
 ghost use Rattle.cic_hosts.specs.Hosts.{assertedOf, outputsOf};
-ghost use Rattle.cic.specs.Stepping.{readAs, writeAs, moved, lineAs, stepAs, readOf, writeOf, lineOf, stepOf};
+ghost use Rattle.cic.specs.Model.{readAs, writeAs, moved, lineAs, stepAs, read, write, line, step};
 use cic_record::Answer;
 use cic_record::Begun;
 use cic_record::Cic;
@@ -32,28 +32,28 @@ pub fn start(systems: u32, channels: u32, hosts: u32, revision: u32) -> Begun
 
 // A read of the register at an offset.
 pub fn read(c: Cic, offset: u32) -> Answer
-    ensures { λ r. ⌜ r ≡ readOf c offset ⌝ }
+    ensures { λ r. ⌜ r ≡ read c offset ⌝ }
 {
     read_as(cic_record::is_sound(c), c, offset)
 }
 
 // A write of the register at an offset.
 pub fn write(c: Cic, offset: u32, value: u32) -> Answer
-    ensures { λ r. ⌜ r ≡ writeOf c offset value ⌝ }
+    ensures { λ r. ⌜ r ≡ write c offset value ⌝ }
 {
     write_as(cic_record::is_sound(c), c, offset, value)
 }
 
 // A line is put to a level.
 pub fn line(c: Cic, number: u32, level: u32) -> Answer
-    ensures { λ r. ⌜ r ≡ lineOf c number level ⌝ }
+    ensures { λ r. ⌜ r ≡ line c number level ⌝ }
 {
     line_as(cic_record::is_sound(c), c, number, level)
 }
 
 // Any step.
 pub fn step(c: Cic, s: Step) -> Answer
-    ensures { λ r. ⌜ r ≡ stepOf c s ⌝ }
+    ensures { λ r. ⌜ r ≡ step c s ⌝ }
 {
     step_as(cic_record::is_sound(c), c, s)
 }
@@ -61,7 +61,7 @@ pub fn step(c: Cic, s: Step) -> Answer
 // A step of a record that is known to be sound, as after a start and after every step: it is not looked at again.
 pub fn step_sound(c: Cic, s: Step) -> Answer
     requires { ⌜ sound c ≡ true ⌝ }
-    ensures { λ r. ⌜ r ≡ stepOf c s ⌝ }
+    ensures { λ r. ⌜ r ≡ step c s ⌝ }
 {
     step_as(true, c, s)
 }

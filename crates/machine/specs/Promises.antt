@@ -13,7 +13,7 @@ use Rattle.coreinterrupt.specs.Model.{start as coreStart, step as coreStep, out
 use Rattle.cic_record.specs.Sound.{withinOf as cicWithin}
 use Rattle.cic_record.specs.Start.{started as cicStart}
 use Rattle.cic_hosts.specs.Hosts.{outputsOf as cicOutputs}
-use Rattle.cic.specs.Stepping.{stepOf as cicStep}
+use Rattle.cic.specs.Model.{step as cicStep}
 use Rattle.machine.specs.declared.Columns.{Columns}
 use Rattle.machine.specs.declared.Machine.{Machine}
 use Rattle.machine.specs.Kinds.{aicKind, coreKind, cicKind, isKind, placesOf, withinOf}

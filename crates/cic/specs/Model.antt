@@ -47,17 +47,17 @@ stepAs ok c (Write offset v) = writeAs ok c offset v
 stepAs ok c (Line s level) = lineAs ok c s level
 
 -- a read of the record c; one that is not sound is refused by 12 (01, Numbers)
-abbrev pub readOf : Cic → ℕ → Answer
-readOf c offset = readAs (sound c) c offset
+abbrev pub read : Cic → ℕ → Answer
+read c offset = readAs (sound c) c offset
 
 -- a write to the record c (01, Numbers)
-abbrev pub writeOf : Cic → ℕ → ℕ → Answer
-writeOf c offset v = writeAs (sound c) c offset v
+abbrev pub write : Cic → ℕ → ℕ → Answer
+write c offset v = writeAs (sound c) c offset v
 
 -- a line step of the record c (01, Numbers)
-abbrev pub lineOf : Cic → ℕ → ℕ → Answer
-lineOf c s level = lineAs (sound c) c s level
+abbrev pub line : Cic → ℕ → ℕ → Answer
+line c s level = lineAs (sound c) c s level
 
 -- any step of the record c (01, Numbers)
-abbrev pub stepOf : Cic → Step → Answer
-stepOf c s = stepAs (sound c) c s
+abbrev pub step : Cic → Step → Answer
+step c s = stepAs (sound c) c s
