@@ -4,9 +4,9 @@ ghost use mathlib.Core.Bool.{true};
 ghost use Rattle.words.specs.Array.{bitAt};
 ghost use Rattle.cic_record.specs.Kinds.{system};
 ghost use Rattle.cic_record.specs.Record.{refused, answered};
-ghost use Rattle.cic_record.specs.Sound.{withinOf, sound};
-ghost use Rattle.cic_record.specs.Start.{started};
-ghost use Rattle.cic_hosts.specs.Hosts.{assertedOf, outputsOf};
+ghost use Rattle.cic_record.specs.Sound.{within, sound};
+ghost use Rattle.cic_record.specs.Start.{start};
+ghost use Rattle.cic_hosts.specs.Hosts.{asserted, outputs};
 ghost use Rattle.cic.specs.Stepping.{readAs, writeAs, moved, lineAs, stepAs, readOf, writeOf, lineOf, stepOf};
 use cic_record::Answer;
 use cic_record::Begun;
@@ -18,14 +18,14 @@ use steps::Step;
 
 // Whether configuration number `place`, in the order systems, channels, hosts, revision, may be n.
 pub fn within(place: u32, n: u32) -> bool
-    ensures { λ r. ⌜ r ≡ withinOf place n ⌝ }
+    ensures { λ r. ⌜ r ≡ within place n ⌝ }
 {
     cic_record::within(place, n)
 }
 
 // The CIC at reset, or refusal 10 and a record of zeros where a number is beyond its limit.
 pub fn start(systems: u32, channels: u32, hosts: u32, revision: u32) -> Begun
-    ensures { λ r. ⌜ r ≡ started systems channels hosts revision ⌝ }
+    ensures { λ r. ⌜ r ≡ start systems channels hosts revision ⌝ }
 {
     cic_record::start(systems, channels, hosts, revision)
 }
@@ -68,7 +68,7 @@ pub fn step_sound(c: Cic, s: Step) -> Answer
 
 // How many hosts are asserted and the lowest of them, or refusal 12 where the record is not sound.
 pub fn outputs(c: Cic) -> Signals
-    ensures { λ r. ⌜ r ≡ outputsOf c ⌝ }
+    ensures { λ r. ⌜ r ≡ outputs c ⌝ }
 {
     cic_hosts::outputs(c)
 }
@@ -76,14 +76,14 @@ pub fn outputs(c: Cic) -> Signals
 // The same of a record that is known to be sound: it is not looked at again.
 pub fn outputs_sound(c: Cic) -> Signals
     requires { ⌜ sound c ≡ true ⌝ }
-    ensures { λ r. ⌜ r ≡ outputsOf c ⌝ }
+    ensures { λ r. ⌜ r ≡ outputs c ⌝ }
 {
     cic_hosts::shown(c)
 }
 
 // Whether a host interrupt is asserted.
 pub fn asserted(c: Cic, h: Host) -> bool
-    ensures { λ r. ⌜ r ≡ assertedOf c h ⌝ }
+    ensures { λ r. ⌜ r ≡ asserted c h ⌝ }
 {
     cic_hosts::asserted(c, h)
 }
