@@ -12,7 +12,7 @@ use Rattle.aic_registers.specs.Map.{svr, ivr, fvr, isr, ipr, iecr, iccr, eoicr,
 use Rattle.aic.specs.Model.{start, step, outputs}
 use Rattle.coreinterrupt.specs.Model as CoreInterrupt
 use Rattle.cic_record.specs.declared.Cic.{Cic}
-use Rattle.cic_record.specs.Start.{started}
+use Rattle.cic_record.specs.Start.{start as cicStart}
 use Rattle.cic.specs.Model as Cic
 
 -- ---- how an AIC is brought where a case begins
@@ -145,7 +145,7 @@ clearOfOneRefused = eqb (CoreInterrupt.step (CoreInterrupt.start 1 32 1 1 .core)
 
 -- 33 system interrupts, two channels and one host
 unfoldable pub cic : Cic
-cic = started 33 2 1 0 .cic
+cic = cicStart 33 2 1 0 .cic
 
 -- 33 systems: a read of 0x204, the second word of the raw status, is carried out
 unfoldable pub secondWordThere : Bool

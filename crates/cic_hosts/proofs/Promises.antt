@@ -19,7 +19,7 @@ use Rattle.cic_record.specs.declared.Signals.{Signals}
 use Rattle.cic_record.specs.Kinds.{system, hostNumber}
 use Rattle.cic_record.specs.Sound.{sound}
 use Rattle.cic_record.proofs.PartsLaws.{sound-parts}
-use Rattle.cic_hosts.specs.Hosts.{channelOf, hostOf, raises, assertedOf, shownOf, outputsOf}
+use Rattle.cic_hosts.specs.Hosts.{channelOf, hostOf, raises, asserted, shown, outputs}
 use Rattle.cic_hosts.specs.Promises.{Raised, Promises}
 use Rattle.cic_hosts.proofs.ScanLaws.{not-allowed}
 
@@ -42,9 +42,9 @@ unfolding raises
 raises-it c h r =
     some-any (c .systems) (λ s. raises c h (system s)) (r .0) (r .1) (and-both (r .2) (and-both (r .3) (eq-eqb (hostOf c (channelOf c (system (r .0))) .0) (h .0) (r .4))))
 
-asserted : (c : Cic) (h : Host) → (assertedOf c h ≡ true) ↔ ((c .global ≡ 1) × ((bitAt (c .allow) (h .0) ≡ true) × Raised c h))
-unfolding assertedOf
-asserted c h = (there, λ r. and-both (eq-eqb (c .global) 1 (r .0)) (and-both (r .1 .0) (raises-it c h (r .1 .1))))
+asserted-is : (c : Cic) (h : Host) → (asserted c h ≡ true) ↔ ((c .global ≡ 1) × ((bitAt (c .allow) (h .0) ≡ true) × Raised c h))
+unfolding asserted
+asserted-is c h = (there, λ r. and-both (eq-eqb (c .global) 1 (r .0)) (and-both (r .1 .0) (raises-it c h (r .1 .1))))
   where
     there : (eqb (c .global) 1 && (bitAt (c .allow) (h .0) && anyBelow (c .systems) (λ s. raises c h (system s)))) ≡ true → (c .global ≡ 1) × ((bitAt (c .allow) (h .0) ≡ true) × Raised c h)
     there e =
@@ -57,36 +57,36 @@ asserted c h = (there, λ r. and-both (eq-eqb (c .global) 1 (r .0)) (and-both (r
         )
 
 -- the outputs of a sound record, and of any other
-shows : (c : Cic) → sound c ≡ true → outputsOf c ≡ shownOf c
-unfolding outputsOf
+shows : (c : Cic) → sound c ≡ true → outputs c ≡ shown c
+unfolding outputs
 shows c e = sym (pick-true (record { refusal = unsound; hosts = 0; lowest = 0 }) e)
 
-refuses : (c : Cic) → sound c ≡ false → outputsOf c .refusal ≡ unsound
-unfolding outputsOf
-refuses c e = ap (λ (o : Signals). o .refusal) (sym (pick-false (shownOf c) e))
+refuses : (c : Cic) → sound c ≡ false → outputs c .refusal ≡ unsound
+unfolding outputs
+refuses c e = ap (λ (o : Signals). o .refusal) (sym (pick-false (shown c) e))
 
-refused : (c : Cic) → (outputsOf c .refusal ≡ unsound) ↔ (sound c ≡ false)
-unfolding shownOf
+refused : (c : Cic) → (outputs c .refusal ≡ unsound) ↔ (sound c ≡ false)
+unfolding shown
 refused c = (there, refuses c)
   where
     twelve : _≡_ {A = ℕ} 0 12 → ⊥
     twelve e = omega arith
 
-    there : outputsOf c .refusal ≡ unsound → sound c ≡ false
+    there : outputs c .refusal ≡ unsound → sound c ≡ false
     there e = ⊎-elim (λ (t : sound c ≡ true). absurd (twelve (sym (ap (λ (o : Signals). o .refusal) (shows c t)) ∙ e))) (λ (t : sound c ≡ false). t) (told (sound c))
 
-counted : (c : Cic) → sound c ≡ true → outputsOf c .hosts ≡ countBelow 256 (λ h. assertedOf c (hostNumber h))
-unfolding shownOf
+counted : (c : Cic) → sound c ≡ true → outputs c .hosts ≡ countBelow 256 (λ h. asserted c (hostNumber h))
+unfolding shown
 counted c e = ap (λ (o : Signals). o .hosts) (shows c e)
 
-low : (c : Cic) → sound c ≡ true → Lowest (λ h. assertedOf c (hostNumber h)) 256 (outputsOf c .lowest)
-unfolding shownOf
-low c e = rw (shows c e) (lowest-found 256 (λ h. assertedOf c (hostNumber h)))
+low : (c : Cic) → sound c ≡ true → Lowest (λ h. asserted c (hostNumber h)) 256 (outputs c .lowest)
+unfolding shown
+low c e = rw (shows c e) (lowest-found 256 (λ h. asserted c (hostNumber h)))
 
 pub kept : Promises
 kept =
     record {
-      asserted = asserted;
+      assertedIs = asserted-is;
       configured = λ c h e l b. not-allowed c h (clean-bit 8 (c .hosts) (c .allow) (sound-parts c e .allow) (h .0) l b);
       refused = refused;
       counted = counted;

@@ -7,7 +7,7 @@ ghost use lib.ListN.{length};
 ghost use Rattle.words.specs.Array.{bitAt, withBitAt};
 ghost use Rattle.words.specs.Counting.{anyBelow, countBelow, lowestBelow};
 ghost use Rattle.cic_record.specs.Kinds.{system, hostNumber};
-ghost use Rattle.cic_hosts.specs.Hosts.{raises, assertedOf, shownOf, outputsOf};
+ghost use Rattle.cic_hosts.specs.Hosts.{raises, asserted, shown, outputs};
 ghost use Rattle.cic_hosts.specs.Scan.{channelIn, hostIn, goes};
 use cic_record::Channel;
 use cic_record::Cic;
@@ -112,7 +112,7 @@ fn shared(a: [u32; 8], b: [u32; 8]) -> [u32; 8]
 
 // The asserted hosts, one bit for each.
 fn asserted_hosts(c: Cic) -> [u32; 8]
-    ensures { λ r. ⌜ ((h : ℕ) → h < 256 → bitAt r h ≡ assertedOf c (hostNumber h)) ⌝ }
+    ensures { λ r. ⌜ ((h : ℕ) → h < 256 → bitAt r h ≡ asserted c (hostNumber h)) ⌝ }
 {
     let global = c.global;
     if global != 1 {
@@ -163,7 +163,7 @@ fn bit_of(ws: [u32; 8], h: Host) -> bool
 
 // Whether a host interrupt is asserted. There is none from 256 on.
 pub fn asserted(c: Cic, h: Host) -> bool
-    ensures { λ r. ⌜ r ≡ assertedOf c h ⌝ }
+    ensures { λ r. ⌜ r ≡ asserted c h ⌝ }
 {
     let number = h.0;
     if 256 <= number {
@@ -174,7 +174,7 @@ pub fn asserted(c: Cic, h: Host) -> bool
 
 // How many hosts are asserted and which is the lowest, of a record that is taken to be sound.
 pub fn shown(c: Cic) -> Signals
-    ensures { λ r. ⌜ r ≡ shownOf c ⌝ }
+    ensures { λ r. ⌜ r ≡ shown c ⌝ }
 {
     let ws = asserted_hosts(c);
     let hosts = count_of(ws);
@@ -188,7 +188,7 @@ pub fn shown(c: Cic) -> Signals
 
 // The same, or refusal 12 where the record is not sound.
 pub fn outputs(c: Cic) -> Signals
-    ensures { λ r. ⌜ r ≡ outputsOf c ⌝ }
+    ensures { λ r. ⌜ r ≡ outputs c ⌝ }
 {
     if cic_record::is_sound(c) {
         return shown(c);

@@ -13,8 +13,8 @@ use Rattle.steps.specs.Refusals.{carriedOut, misconfigured}
 use Rattle.cic_record.specs.declared.Begun.{Begun}
 use Rattle.cic_record.specs.Promises.{InRange, Promises}
 use Rattle.cic_record.specs.Record.{begun}
-use Rattle.cic_record.specs.Sound.{withinOf, sound}
-use Rattle.cic_record.specs.Start.{fresh, configured, started}
+use Rattle.cic_record.specs.Sound.{within, sound}
+use Rattle.cic_record.specs.Start.{fresh, configured, start}
 use Rattle.cic_record.proofs.PartsLaws.{sound-parts, fresh-sound}
 use Rattle.cic_record.proofs.SoundLaws.{within-systems, within-channels, within-hosts}
 
@@ -22,27 +22,27 @@ use Rattle.cic_record.proofs.SoundLaws.{within-systems, within-channels
 in-range : (s k h v : ℕ) → configured s k h v ≡ true → InRange s k h
 unfolding configured
 in-range s k h v e =
-    let a = and-right (withinOf 0 s) (withinOf 1 k && (withinOf 2 h && withinOf 3 v)) e in
-    let b = and-right (withinOf 1 k) (withinOf 2 h && withinOf 3 v) a in (
-      within-systems s (and-left (withinOf 0 s) (withinOf 1 k && (withinOf 2 h && withinOf 3 v)) e),
-      (within-channels k (and-left (withinOf 1 k) (withinOf 2 h && withinOf 3 v) a), within-hosts h (and-left (withinOf 2 h) (withinOf 3 v) b)),
+    let a = and-right (within 0 s) (within 1 k && (within 2 h && within 3 v)) e in
+    let b = and-right (within 1 k) (within 2 h && within 3 v) a in (
+      within-systems s (and-left (within 0 s) (within 1 k && (within 2 h && within 3 v)) e),
+      (within-channels k (and-left (within 1 k) (within 2 h && within 3 v) a), within-hosts h (and-left (within 2 h) (within 3 v) b)),
     )
 
 range-in : (s k h v : ℕ) → InRange s k h → configured s k h v ≡ true
-unfolding configured withinOf pick
+unfolding configured within pick
 range-in s k h v r =
     and-both (and-both (le-leb 1 s (r .0 .0)) (le-leb s 1024 (r .0 .1)))
     (and-both (and-both (le-leb 1 k (r .1 .0 .0)) (le-leb k 256 (r .1 .0 .1))) (and-both (and-both (le-leb 1 h (r .1 .1 .0)) (le-leb h 256 (r .1 .1 .1))) refl))
 
-begins : (s k h v : ℕ) → configured s k h v ≡ true → started s k h v ≡ begun carriedOut (fresh s k h v)
-unfolding started
+begins : (s k h v : ℕ) → configured s k h v ≡ true → start s k h v ≡ begun carriedOut (fresh s k h v)
+unfolding start
 begins s k h v e = sym (pick-true (begun misconfigured (fresh 0 0 0 0)) e)
 
-fails : (s k h v : ℕ) → configured s k h v ≡ false → started s k h v ≡ begun misconfigured (fresh 0 0 0 0)
-unfolding started
+fails : (s k h v : ℕ) → configured s k h v ≡ false → start s k h v ≡ begun misconfigured (fresh 0 0 0 0)
+unfolding start
 fails s k h v e = sym (pick-false (begun carriedOut (fresh s k h v)) e)
 
-starts : (s k h v : ℕ) → (started s k h v .refusal ≡ carriedOut) ↔ InRange s k h
+starts : (s k h v : ℕ) → (start s k h v .refusal ≡ carriedOut) ↔ InRange s k h
 starts s k h v = (
   λ e. ⊎-elim (λ (t : configured s k h v ≡ true). in-range s k h v t) (λ (t : configured s k h v ≡ false). absurd (ten (sym (ap (λ (b : Begun). b .refusal) (fails s k h v t)) ∙ e))) (told (configured s k h v)),
   λ r. ap (λ (b : Begun). b .refusal) (begins s k h v (range-in s k h v r)),
