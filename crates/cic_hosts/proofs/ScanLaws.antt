@@ -20,9 +20,9 @@ use Rattle.steps.specs.Refusals.{carriedOut}
 use Rattle.cic_record.specs.declared.Cic.{Cic}
 use Rattle.cic_record.specs.declared.Host.{Host}
 use Rattle.cic_record.specs.declared.Signals.{Signals}
-use Rattle.cic_record.specs.Kinds.{system, hostNumber}
+use Rattle.cic_record.specs.Kinds.{system, hostNumber, channelIn, hostIn}
 use Rattle.cic_hosts.specs.Hosts.{raises, asserted, shown}
-use Rattle.cic_hosts.specs.Scan.{channelIn, hostIn, goes}
+use Rattle.cic_hosts.specs.Scan.{goes}
 
 -- ---- one host
 

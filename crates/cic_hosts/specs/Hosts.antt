@@ -1,26 +1,16 @@
 -- Which host interrupts are asserted (01, CIC, outputs; 001, 1.3.1 to 1.3.4).
 use mathlib.Core.Bool.{Bool, _&&_}
 use lib.Dec.{eqb}
-use lib.ListN.{getD}
 use Rattle.words.specs.Array.{bitAt}
 use Rattle.words.specs.Choice.{pick}
 use Rattle.words.specs.Counting.{anyBelow, countBelow, lowestBelow}
 use Rattle.steps.specs.Refusals.{carriedOut, unsound}
-use Rattle.cic_record.specs.declared.Channel.{Channel}
 use Rattle.cic_record.specs.declared.Cic.{Cic}
 use Rattle.cic_record.specs.declared.Host.{Host}
 use Rattle.cic_record.specs.declared.System.{System}
-use Rattle.cic_record.specs.Kinds.{system, channelNumber, hostNumber}
+use Rattle.cic_record.specs.Kinds.{system, hostNumber, channelOf, hostOf}
 use Rattle.cic_record.specs.Sound.{sound}
 use Rattle.cic_record.specs.declared.Signals.{Signals}
-
--- the channel of a system interrupt (001, 1.3.3)
-abbrev pub channelOf : Cic → System → Channel
-channelOf c s = channelNumber (getD (c .channel) (s .0) 0)
-
--- the host interrupt that a channel is mapped to (001, 1.3.4)
-abbrev pub hostOf : Cic → Channel → Host
-hostOf c k = hostNumber (getD (c .host) (k .0) 0)
 
 -- system interrupt s is set and enabled, and its channel is mapped to host h (01, CIC, outputs)
 unfoldable pub raises : Cic → Host → System → Bool

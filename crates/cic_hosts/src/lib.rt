@@ -6,9 +6,9 @@ ghost use lib.Dec.{eqb};
 ghost use lib.ListN.{length};
 ghost use Rattle.words.specs.Array.{bitAt, withBitAt};
 ghost use Rattle.words.specs.Counting.{anyBelow, countBelow, lowestBelow};
-ghost use Rattle.cic_record.specs.Kinds.{system, hostNumber};
+ghost use Rattle.cic_record.specs.Kinds.{system, hostNumber, channelIn, hostIn};
 ghost use Rattle.cic_hosts.specs.Hosts.{raises, asserted, shown, outputs};
-ghost use Rattle.cic_hosts.specs.Scan.{channelIn, hostIn, goes};
+ghost use Rattle.cic_hosts.specs.Scan.{goes};
 use cic_record::Channel;
 use cic_record::Cic;
 use cic_record::Host;
@@ -22,8 +22,8 @@ fn wide(b: u8) -> u16
     b as u16
 }
 
-// The channel of a system interrupt.
-fn channel_of(channel: &[u8; 1024], s: System) -> Channel
+// The channel of a system interrupt in a lent channel map: the scan copies no record.
+fn channel_in(channel: &[u8; 1024], s: System) -> Channel
     requires { ⌜ s .0 < 1024 ⌝ }
     ensures { λ r. ⌜ (r ≡ channelIn (now (channel .entry)) s) × (r .0 < 256) ⌝ }
 {
@@ -31,8 +31,8 @@ fn channel_of(channel: &[u8; 1024], s: System) -> Channel
     Channel(wide(channel[at]))
 }
 
-// The host interrupt that a channel is mapped to.
-fn host_of(host: &[u8; 256], k: Channel) -> Host
+// The host interrupt that a channel is mapped to in a lent host map.
+fn host_in(host: &[u8; 256], k: Channel) -> Host
     requires { ⌜ k .0 < 256 ⌝ }
     ensures { λ r. ⌜ (r ≡ hostIn (now (host .entry)) k) × (r .0 < 256) ⌝ }
 {
@@ -58,7 +58,7 @@ fn visit<'a>(channel: &'a [u8; 1024], host: &'a [u8; 256], s: System, on: u32, o
     ensures long { λ _. ⌜ length (now (out .exit)) ≡ 8 ⌝ }
 {
     if on == 1 {
-        let h = host_of(host, channel_of(channel, s));
+        let h = host_in(host, channel_in(channel, s));
         mark(out, h);
     }
 }

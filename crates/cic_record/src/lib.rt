@@ -1,11 +1,12 @@
 // The CIC's record, its three kinds of number, the start, and which records are sound (01, CIC).
 ghost use mathlib.Core.Path.{_≡_};
 ghost use mathlib.Core.Bool.{true, false, _&&_};
-ghost use Prim.Native.Nat.{_+_, _-_, _≤_};
+ghost use Prim.Native.Nat.{_+_, _-_, _<_, _≤_};
 ghost use lib.Dec.{eqb, ltb, leb};
 ghost use lib.ListN.{getD, length};
 ghost use Rattle.words.specs.Array.{cleanBelow};
 ghost use Rattle.words.specs.Counting.{allBelow};
+ghost use Rattle.cic_record.specs.Kinds.{channelOf, hostOf};
 ghost use Rattle.cic_record.specs.Record.{answered, refused};
 ghost use Rattle.cic_record.specs.Sound.{between, within, wordsSound, entrySound, mapsSound, sound};
 ghost use Rattle.cic_record.specs.Start.{fresh, configured, start};
@@ -73,6 +74,49 @@ pub fn refusal_of(c: Cic, n: u32) -> Answer
         value: 0,
         cic: c,
     }
+}
+
+// Whether a system interrupt is one of those configured.
+pub fn is_system(c: Cic, s: System) -> bool
+    ensures { λ r. ⌜ r ≡ ltb (s .0) (c .systems) ⌝ }
+{
+    (s.0 as u32) < c.systems
+}
+
+// Whether a channel is one of those configured.
+pub fn is_channel(c: Cic, k: Channel) -> bool
+    ensures { λ r. ⌜ r ≡ ltb (k .0) (c .channels) ⌝ }
+{
+    (k.0 as u32) < c.channels
+}
+
+// Whether a host interrupt is one of those configured.
+pub fn is_host(c: Cic, h: Host) -> bool
+    ensures { λ r. ⌜ r ≡ ltb (h .0) (c .hosts) ⌝ }
+{
+    (h.0 as u32) < c.hosts
+}
+
+// The channel of a system interrupt, 0 past the end of the map.
+pub fn channel_of(c: Cic, s: System) -> Channel
+    ensures { λ r. ⌜ (r ≡ channelOf c s) × (r .0 < 256) ⌝ }
+{
+    let at = s.0 as usize;
+    if 1024 <= at {
+        return Channel(0);
+    }
+    Channel(c.channel[at] as u16)
+}
+
+// The host interrupt that a channel is mapped to, 0 past the end of the map.
+pub fn host_of(c: Cic, k: Channel) -> Host
+    ensures { λ r. ⌜ (r ≡ hostOf c k) × (r .0 < 256) ⌝ }
+{
+    let at = k.0 as usize;
+    if 256 <= at {
+        return Host(0);
+    }
+    Host(c.host[at] as u16)
 }
 
 // Whether n is one of lowest to highest.
