@@ -22,10 +22,10 @@ use Rattle.aic.specs.Model.{start, readNumber, writeNumber, read, write}
 use Rattle.coreinterrupt_side.specs.Side.{clearAccess, sideAccess, sideRead, setBits, sideWrite, sideSound}
 use Rattle.coreinterrupt.specs.Model as CoreInterrupt
 use Rattle.cic_record.specs.Sound as Cic
-use Rattle.cic_record.specs.Start.{fresh, configured, started}
+use Rattle.cic_record.specs.Start.{fresh, configured, start as cicStart}
 use Rattle.cic_layout.specs.Map.{singleAt, registerAt, accessOf}
 use Rattle.cic_registers.specs.Registers as Registers
-use Rattle.cic.specs.Stepping.{readAs, writeAs, stepAs}
+use Rattle.cic.specs.Model.{readAs, writeAs, stepAs}
 use Rattle.cases.specs.Cheats.{Model, Keeps, NoCheat, aicModel, coreModel, cicModel}
 
 -- what a read of the register at o answers
@@ -64,6 +64,6 @@ unfolding coreModel pick wordOf bit either kept clean readRefusal writeRefusal c
 core-moves = record { taken = refl; first = refl; second = refl }
 
 -- CIC: global enable is set, and cleared
-pub cic-moves : Moves cicModel (started 33 2 1 0 .cic) (Write 0x10 1) (Write 0x10 0) 0x10
-unfolding cicModel pick allBelow kept clean cleanBelow readRefusal writeRefusal Cic.withinOf Cic.numbersSound Cic.wordsSound Cic.mapsSound Cic.entrySound Cic.sound fresh configured started singleAt registerAt accessOf Registers.valueOf Registers.valueRefusal Registers.writtenTo readAs writeAs stepAs
+pub cic-moves : Moves cicModel (cicStart 33 2 1 0 .cic) (Write 0x10 1) (Write 0x10 0) 0x10
+unfolding cicModel pick allBelow kept clean cleanBelow readRefusal writeRefusal Cic.within Cic.numbersSound Cic.wordsSound Cic.mapsSound Cic.entrySound Cic.sound fresh configured cicStart singleAt registerAt accessOf Registers.valueOf Registers.valueRefusal Registers.writtenTo readAs writeAs stepAs
 cic-moves = record { taken = refl; first = refl; second = refl }

@@ -12,8 +12,8 @@ use Rattle.aic_registers.specs.Map.{svr, ivr, fvr, isr, ipr, iecr, iccr, eoicr,
 use Rattle.aic.specs.Model.{start, step, outputs}
 use Rattle.coreinterrupt.specs.Model as CoreInterrupt
 use Rattle.cic_record.specs.declared.Cic.{Cic}
-use Rattle.cic_record.specs.Start.{started}
-use Rattle.cic.specs.Stepping.{stepOf}
+use Rattle.cic_record.specs.Start.{start as cicStart}
+use Rattle.cic.specs.Model as Cic
 
 -- ---- how an AIC is brought where a case begins
 
@@ -145,21 +145,21 @@ clearOfOneRefused = eqb (CoreInterrupt.step (CoreInterrupt.start 1 32 1 1 .core)
 
 -- 33 system interrupts, two channels and one host
 unfoldable pub cic : Cic
-cic = started 33 2 1 0 .cic
+cic = cicStart 33 2 1 0 .cic
 
 -- 33 systems: a read of 0x204, the second word of the raw status, is carried out
 unfoldable pub secondWordThere : Bool
-secondWordThere = eqb (stepOf cic (Read 0x204) .refusal) carriedOut
+secondWordThere = eqb (Cic.step cic (Read 0x204) .refusal) carriedOut
 
 -- and 0x208, the third word, is refused by 2
 unfoldable pub thirdWordAbsent : Bool
-thirdWordAbsent = eqb (stepOf cic (Read 0x208) .refusal) absent
+thirdWordAbsent = eqb (Cic.step cic (Read 0x208) .refusal) absent
 
 -- two channels: a channel map byte of 1 is taken and stands in the map, 2 is refused by 6
 unfoldable pub channelOneNotTwo : Bool
 channelOneNotTwo =
-    eqb (stepOf cic (Write 0x400 1) .refusal) carriedOut && eqb (stepOf (stepOf cic (Write 0x400 1) .cic) (Read 0x400) .value) 1
-    && eqb (stepOf cic (Write 0x400 2) .refusal) beyond
+    eqb (Cic.step cic (Write 0x400 1) .refusal) carriedOut && eqb (Cic.step (Cic.step cic (Write 0x400 1) .cic) (Read 0x400) .value) 1
+    && eqb (Cic.step cic (Write 0x400 2) .refusal) beyond
 
 -- ---- the list
 

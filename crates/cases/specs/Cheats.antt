@@ -10,7 +10,7 @@ use Rattle.aic.specs.Model as Aic
 use Rattle.coreinterrupt.specs.declared.Core.{Core}
 use Rattle.coreinterrupt.specs.Model as CoreInterrupt
 use Rattle.cic_record.specs.declared.Cic.{Cic}
-use Rattle.cic.specs.Stepping as Cic
+use Rattle.cic.specs.Model as Cic
 
 -- what a step answers, whatever the controller
 pub record Outcome (R : Type 0) : Type 0 where
@@ -31,7 +31,7 @@ coreModel c x =
     record { refusal = CoreInterrupt.step c x .refusal; value = CoreInterrupt.step c x .value; left = CoreInterrupt.step c x .core }
 
 unfoldable pub cicModel : Model Cic
-cicModel c x = record { refusal = Cic.stepOf c x .refusal; value = Cic.stepOf c x .value; left = Cic.stepOf c x .cic }
+cicModel c x = record { refusal = Cic.step c x .refusal; value = Cic.step c x .value; left = Cic.step c x .cic }
 
 -- it keeps a contract that says: every answer is the definition's
 abbrev pub Keeps : {R : Type 0} → Model R → Model R → Type 0

@@ -7,7 +7,7 @@ use Rattle.aic.specs.Model as Aic
 use Rattle.coreinterrupt.specs.declared.Core.{Core}
 use Rattle.coreinterrupt.specs.Model as CoreInterrupt
 use Rattle.cic_record.specs.declared.Cic.{Cic}
-use Rattle.cic_record.specs.Start.{started}
+use Rattle.cic_record.specs.Start.{start as cicStart}
 use Rattle.cases.specs.Cases.{starred, holds}
 use Rattle.cases.specs.Cheats.{Model, Keeps, NoCheat, aicModel, coreModel, cicModel}
 
@@ -19,4 +19,4 @@ pub record Promises : Type 0 where
   -- after its first step from a start (01, When a contract is strong enough)
   pub aicHonest : (m : Model Aic) → Keeps m aicModel → NoCheat m (Aic.start 0 0 .aic)
   pub coreHonest : (m : Model Core) → Keeps m coreModel → NoCheat m (CoreInterrupt.start 8 32 1 1 .core)
-  pub cicHonest : (m : Model Cic) → Keeps m cicModel → NoCheat m (started 33 2 1 0 .cic)
+  pub cicHonest : (m : Model Cic) → Keeps m cicModel → NoCheat m (cicStart 33 2 1 0 .cic)

@@ -1,13 +1,11 @@
 -- The promises of the steps are kept.
-use mathlib.Core.Path.{_≡_, refl, sym, ap, subst}
-use mathlib.Core.Bool.{Bool, true, false, not, _&&_}
+use mathlib.Core.Path.{_≡_, refl, sym, ap, subst, _∙_}
+use mathlib.Core.Bool.{true}
 use mathlib.Core.Logic.{_≢_}
-use Prim.Native.Nat.{ℕ, _<_}
+use Prim.Native.Nat.{ℕ}
 use borrow.Author.Tests.{eqb-true}
 use lib.Dec.{eqb}
-use Rattle.words.specs.Array.{bitAt, withBitAt}
-use Rattle.words.proofs.ArrayLaws.{clean-withBitAt}
-use Rattle.words.proofs.ChoiceLaws.{pick-true, pick-false, pick-cases}
+use Rattle.words.proofs.ChoiceLaws.{pick-cases}
 use Rattle.steps.specs.declared.Step.{Step}
 use Rattle.steps.specs.declared.Step.the-variants.{Read, Write, Line}
 use Rattle.steps.specs.Refusals.{carriedOut, readRefusal, writeRefusal, lineRefusal}
@@ -15,124 +13,116 @@ use Rattle.steps.specs.Tables.{ReadTable, WriteTable, LineTable}
 use Rattle.steps.proofs.Promises as checks
 use Rattle.cic_record.specs.declared.Answer.{Answer}
 use Rattle.cic_record.specs.declared.Cic.{Cic}
-use Rattle.cic_record.specs.declared.System.{System}
 use Rattle.cic_record.specs.Kinds.{system}
-use Rattle.cic_record.specs.Record.{withLines, withStatus, refused, answered}
+use Rattle.cic_record.specs.Promises.{Shaped}
+use Rattle.cic_record.specs.Record.{refused, answered}
 use Rattle.cic_record.specs.Sound.{sound}
-use Rattle.cic_record.proofs.PartsLaws.{sound-parts, sound-lines, sound-status}
 use Rattle.cic_layout.specs.Map.{registerAt, access}
-use Rattle.cic_registers.specs.Registers.{valueOf, valueRefusal, writtenTo}
-use Rattle.cic_registers.proofs.WrittenLaws.{value-number, sound-written}
+use Rattle.cic_registers.specs.Registers.{valueOf, writtenTo}
+use Rattle.cic_registers.proofs.WrittenLaws.{value-number, sound-written, shaped-written}
+use Rattle.cic.specs.Model.{refusalAt, readAs, writeAs, moved, lineAs, stepAs, read, write, line, step}
 use Rattle.cic.specs.Promises.{Promises}
-use Rattle.cic.specs.Stepping.{readAs, writeAs, moved, lineAs, stepAs, readOf, writeOf, lineOf, stepOf}
+use Rattle.cic.proofs.LineLaws.{moved-sound, moved-shaped, line-moves, line-bits, clears-high, index-clears-high}
+use Rattle.cic.proofs.MapLaws.{the-map, the-limits}
+use Rattle.cic.proofs.ReadLaws.{reads-of}
 use Rattle.cic.proofs.StepLaws.{its-number, its-record}
+use Rattle.cic.proofs.WriteLaws.{writes-of}
 
 -- ---- the tables
 
-reads : (c : Cic) (offset : ℕ) → ReadTable (sound c) offset (access c offset) (readOf c offset .refusal)
+read-numbers : (c : Cic) (offset : ℕ) → ReadTable (sound c) offset (access c offset) (read c offset .refusal)
 unfolding readAs
-reads c offset =
+read-numbers c offset =
     subst (ReadTable (sound c) offset (access c offset)) (sym (its-number c (readRefusal (sound c) offset (access c offset)) (answered c (valueOf c (registerAt offset))) refl))
     (checks.kept .reads (sound c) offset (access c offset))
 
-writes : (c : Cic) (offset v : ℕ) → WriteTable (sound c) offset (access c offset) (valueRefusal c (registerAt offset) v) (writeOf c offset v .refusal)
+write-numbers : (c : Cic) (offset v : ℕ) → WriteTable (sound c) offset (access c offset) (refusalAt c offset v) (write c offset v .refusal)
 unfolding writeAs
-writes c offset v =
-    subst (WriteTable (sound c) offset (access c offset) (valueRefusal c (registerAt offset) v))
-    (sym (its-number c (writeRefusal (sound c) offset (access c offset) (valueRefusal c (registerAt offset) v)) (answered (writtenTo c (registerAt offset) v) 0) refl))
-    (checks.kept .writes (sound c) offset (access c offset) (valueRefusal c (registerAt offset) v) (value-number c (registerAt offset) v))
+write-numbers c offset v =
+    subst (WriteTable (sound c) offset (access c offset) (refusalAt c offset v))
+    (sym (its-number c (writeRefusal (sound c) offset (access c offset) (refusalAt c offset v)) (answered (writtenTo c (registerAt offset) v) 0) refl))
+    (checks.kept .writes (sound c) offset (access c offset) (refusalAt c offset v) (value-number c (registerAt offset) v))
 
-lines : (c : Cic) (s level : ℕ) → LineTable (sound c) (c .systems) s level (lineOf c s level .refusal)
+line-numbers : (c : Cic) (s level : ℕ) → LineTable (sound c) (c .systems) s level (line c s level .refusal)
 unfolding lineAs
-lines c s level =
+line-numbers c s level =
     subst (LineTable (sound c) (c .systems) s level) (sym (its-number c (lineRefusal (sound c) (c .systems) s level) (answered (moved c (system s) (eqb level 1)) 0) refl))
     (checks.kept .lines (sound c) (c .systems) s level)
 
 -- ---- refused steps
 
-refused-same : (c : Cic) (s : Step) → stepOf c s .refusal ≢ carriedOut → stepOf c s ≡ refused c (stepOf c s .refusal)
+refused-same : (c : Cic) (s : Step) → step c s .refusal ≢ carriedOut → step c s ≡ refused c (step c s .refusal)
 unfolding stepAs readAs writeAs lineAs
 refused-same c (Read offset) d = its-record c (readRefusal (sound c) offset (access c offset)) (answered c (valueOf c (registerAt offset))) refl d
 refused-same c (Write offset v) d =
-    its-record c (writeRefusal (sound c) offset (access c offset) (valueRefusal c (registerAt offset) v)) (answered (writtenTo c (registerAt offset) v) 0) refl d
+    its-record c (writeRefusal (sound c) offset (access c offset) (refusalAt c offset v)) (answered (writtenTo c (registerAt offset) v) 0) refl d
 refused-same c (Line s level) d = its-record c (lineRefusal (sound c) (c .systems) s level) (answered (moved c (system s) (eqb level 1)) 0) refl d
 
-writes-zero : (c : Cic) (offset v : ℕ) → writeOf c offset v .value ≡ 0
+write-value : (c : Cic) (offset v : ℕ) → write c offset v .value ≡ 0
 unfolding writeAs
-writes-zero c offset v =
-    pick-cases (λ (a : Answer). a .value ≡ 0) (eqb (writeRefusal (sound c) offset (access c offset) (valueRefusal c (registerAt offset) v)) carriedOut) (λ _. refl) (λ _. refl)
+write-value c offset v =
+    pick-cases (λ (a : Answer). a .value ≡ 0) (eqb (writeRefusal (sound c) offset (access c offset) (refusalAt c offset v)) carriedOut) (λ _. refl) (λ _. refl)
 
-lines-zero : (c : Cic) (s level : ℕ) → lineOf c s level .value ≡ 0
+line-value : (c : Cic) (s level : ℕ) → line c s level .value ≡ 0
 unfolding lineAs
-lines-zero c s level = pick-cases (λ (a : Answer). a .value ≡ 0) (eqb (lineRefusal (sound c) (c .systems) s level) carriedOut) (λ _. refl) (λ _. refl)
+line-value c s level = pick-cases (λ (a : Answer). a .value ≡ 0) (eqb (lineRefusal (sound c) (c .systems) s level) carriedOut) (λ _. refl) (λ _. refl)
 
--- ---- lines
+-- ---- a sound record stays sound, and every array at its length
 
-rises : (c : Cic) (s : System) → bitAt (c .lines) (s .0) ≡ false → moved c s true .status ≡ withBitAt (c .status) (s .0) true
-unfolding moved
-rises c s e = ap (λ (d : Cic). d .status) (sym (pick-true (withLines c (withBitAt (c .lines) (s .0) true)) (ap not e)))
-
-keeps-level : (c : Cic) (s : System) (high : Bool) → moved c s high .lines ≡ withBitAt (c .lines) (s .0) high
-unfolding moved
-keeps-level c s high = pick-cases (λ (d : Cic). d .lines ≡ withBitAt (c .lines) (s .0) high) (high && not (bitAt (c .lines) (s .0))) (λ _. refl) (λ _. refl)
-
-falls : (c : Cic) (s : System) → moved c s false .status ≡ c .status
-unfolding moved
-falls c s = ap (λ (d : Cic). d .status) (sym (pick-false {b = withLines c (withBitAt (c .lines) (s .0) false)} (withLines (withStatus c (withBitAt (c .status) (s .0) true)) (withBitAt (c .lines) (s .0) false)) refl))
-
-stays-high : (c : Cic) (s : System) → bitAt (c .lines) (s .0) ≡ true → moved c s true .status ≡ c .status
-unfolding moved
-stays-high c s e = ap (λ (d : Cic). d .status) (sym (pick-false (withLines (withStatus c (withBitAt (c .status) (s .0) true)) (withBitAt (c .lines) (s .0) true)) (ap not e)))
-
-moved-sound : (c : Cic) (s : ℕ) (high : Bool) → sound c ≡ true → s < c .systems → sound (moved c (system s) high) ≡ true
-unfolding moved
-moved-sound c s high e l =
-    let levels = clean-withBitAt 32 (c .systems) (c .lines) s high l (sound-parts c e .lines) in
-    let risen = sound-status c (withBitAt (c .status) s true) e (clean-withBitAt 32 (c .systems) (c .status) s true l (sound-parts c e .status)) in
-    pick-cases (λ (d : Cic). sound d ≡ true) (high && not (bitAt (c .lines) s))
-    (λ _. sound-lines (withStatus c (withBitAt (c .status) s true)) (withBitAt (c .lines) s high) risen levels)
-    (λ _. sound-lines c (withBitAt (c .lines) s high) e levels)
-
--- ---- a sound record stays sound
-
-write-sound : (c : Cic) (offset v : ℕ) → sound c ≡ true → sound (writeOf c offset v .cic) ≡ true
+write-sound : (c : Cic) (offset v : ℕ) → sound c ≡ true → sound (write c offset v .cic) ≡ true
 unfolding writeAs
 write-sound c offset v e =
-    let n = writeRefusal (sound c) offset (access c offset) (valueRefusal c (registerAt offset) v) in
+    let n = writeRefusal (sound c) offset (access c offset) (refusalAt c offset v) in
     pick-cases (λ (a : Answer). sound (a .cic) ≡ true) (eqb n carriedOut)
     (λ t. sound-written c (registerAt offset) v e
-    (checks.kept .writes (sound c) offset (access c offset) (valueRefusal c (registerAt offset) v) (value-number c (registerAt offset) v) .none .0 (eqb-true n carriedOut t) .1 .1 .1))
+    (checks.kept .writes (sound c) offset (access c offset) (refusalAt c offset v) (value-number c (registerAt offset) v) .none .0 (eqb-true n carriedOut t) .1 .1 .1))
     (λ _. e)
 
-line-sound : (c : Cic) (s level : ℕ) → sound c ≡ true → sound (lineOf c s level .cic) ≡ true
+line-sound : (c : Cic) (s level : ℕ) → sound c ≡ true → sound (line c s level .cic) ≡ true
 unfolding lineAs
 line-sound c s level e =
     let n = lineRefusal (sound c) (c .systems) s level in
     pick-cases (λ (a : Answer). sound (a .cic) ≡ true) (eqb n carriedOut)
     (λ t. moved-sound c s (eqb level 1) e (checks.kept .lines (sound c) (c .systems) s level .none .0 (eqb-true n carriedOut t) .1 .0)) (λ _. e)
 
-read-sound : (c : Cic) (offset : ℕ) → sound c ≡ true → sound (readOf c offset .cic) ≡ true
+read-same : (c : Cic) (o : ℕ) → read c o .cic ≡ c
 unfolding readAs
-read-sound c offset e = pick-cases (λ (a : Answer). sound (a .cic) ≡ true) (eqb (readRefusal (sound c) offset (access c offset)) carriedOut) (λ _. e) (λ _. e)
+read-same c o = pick-cases (λ (a : Answer). a .cic ≡ c) (eqb (readRefusal (sound c) o (access c o)) carriedOut) (λ _. refl) (λ _. refl)
 
-pub stays-sound : (c : Cic) (s : Step) → sound c ≡ true → sound (stepOf c s .cic) ≡ true
+pub step-sound : (c : Cic) (x : Step) → sound c ≡ true → sound (step c x .cic) ≡ true
 unfolding stepAs
-stays-sound c (Read offset) e = read-sound c offset e
-stays-sound c (Write offset v) e = write-sound c offset v e
-stays-sound c (Line s level) e = line-sound c s level e
+step-sound c (Read o) e = ap sound (read-same c o) ∙ e
+step-sound c (Write o v) e = write-sound c o v e
+step-sound c (Line s l) e = line-sound c s l e
+
+step-shaped : (c : Cic) (x : Step) → Shaped c → Shaped (step c x .cic)
+unfolding stepAs writeAs lineAs
+step-shaped c (Read o) h = subst Shaped (sym (read-same c o)) h
+step-shaped c (Write o v) h =
+    pick-cases (λ (a : Answer). Shaped (a .cic)) (eqb (writeRefusal (sound c) o (access c o) (refusalAt c o v)) carriedOut) (λ _. shaped-written c (registerAt o) v h) (λ _. h)
+step-shaped c (Line s l) h =
+    pick-cases (λ (a : Answer). Shaped (a .cic)) (eqb (lineRefusal (sound c) (c .systems) s l) carriedOut) (λ _. moved-shaped c s (eqb l 1) h) (λ _. h)
 
 pub kept : Promises
+unfolding stepAs
 kept =
     record {
-      staysSound = stays-sound;
+      stepIs = λ c. (λ o. refl, λ o v. refl, λ s l. refl);
+      stepSound = step-sound;
+      stepShaped = step-shaped;
       refusedSame = refused-same;
-      reads = reads;
-      writes = writes;
-      lines = lines;
-      writesZero = writes-zero;
-      linesZero = lines-zero;
-      rises = rises;
-      keepsLevel = keeps-level;
-      falls = falls;
-      staysHigh = stays-high;
+      writeValue = write-value;
+      lineValue = line-value;
+      readSame = read-same;
+      readNumbers = read-numbers;
+      writeNumbers = write-numbers;
+      lineNumbers = line-numbers;
+      map = the-map;
+      limits = the-limits;
+      reads = reads-of;
+      writes = λ c v h ok. writes-of c h ok v;
+      lineMoves = line-moves;
+      lineBits = λ c s l h ok there low. line-bits c s l ok there low h;
+      clearsHigh = λ c s v h ok there high. clears-high c s h ok there high v;
+      indexClearsHigh = index-clears-high;
     }

@@ -1,3 +1,4 @@
 -- The CIC's steps, and what is promised of them.
+pub mod Model
 pub mod Promises
-pub mod Stepping
+pub mod Tables

@@ -3,11 +3,10 @@ ghost use mathlib.Core.Path.{_≡_};
 ghost use mathlib.Core.Bool.{true};
 ghost use Rattle.words.specs.Array.{bitAt};
 ghost use Rattle.cic_record.specs.Kinds.{system};
-ghost use Rattle.cic_record.specs.Record.{refused, answered};
-ghost use Rattle.cic_record.specs.Sound.{withinOf, sound};
-ghost use Rattle.cic_record.specs.Start.{started};
-ghost use Rattle.cic_hosts.specs.Hosts.{assertedOf, outputsOf};
-ghost use Rattle.cic.specs.Stepping.{readAs, writeAs, moved, lineAs, stepAs, readOf, writeOf, lineOf, stepOf};
+ghost use Rattle.cic_record.specs.Sound.{within, sound};
+ghost use Rattle.cic_record.specs.Start.{start};
+ghost use Rattle.cic_hosts.specs.Hosts.{asserted, outputs};
+ghost use Rattle.cic.specs.Model.{readAs, writeAs, moved, lineAs, stepAs, read, write, line, step};
 use cic_record::Answer;
 use cic_record::Begun;
 use cic_record::Cic;
@@ -16,44 +15,44 @@ use cic_record::Signals;
 use cic_record::System;
 use steps::Step;
 
-// Whether configuration number `place`, in the order systems, channels, hosts, revision, may be n.
-pub fn within(place: u32, n: u32) -> bool
-    ensures { λ r. ⌜ r ≡ withinOf place n ⌝ }
+// Whether the nth configuration number, in the order systems, channels, hosts, revision, may be `value`. The first is number 0.
+pub fn within(nth: u32, value: u32) -> bool
+    ensures { λ r. ⌜ r ≡ within nth value ⌝ }
 {
-    cic_record::within(place, n)
+    cic_record::within(nth, value)
 }
 
 // The CIC at reset, or refusal 10 and a record of zeros where a number is beyond its limit.
 pub fn start(systems: u32, channels: u32, hosts: u32, revision: u32) -> Begun
-    ensures { λ r. ⌜ r ≡ started systems channels hosts revision ⌝ }
+    ensures { λ r. ⌜ r ≡ start systems channels hosts revision ⌝ }
 {
     cic_record::start(systems, channels, hosts, revision)
 }
 
 // A read of the register at an offset.
 pub fn read(c: Cic, offset: u32) -> Answer
-    ensures { λ r. ⌜ r ≡ readOf c offset ⌝ }
+    ensures { λ r. ⌜ r ≡ read c offset ⌝ }
 {
     read_as(cic_record::is_sound(c), c, offset)
 }
 
 // A write of the register at an offset.
 pub fn write(c: Cic, offset: u32, value: u32) -> Answer
-    ensures { λ r. ⌜ r ≡ writeOf c offset value ⌝ }
+    ensures { λ r. ⌜ r ≡ write c offset value ⌝ }
 {
     write_as(cic_record::is_sound(c), c, offset, value)
 }
 
 // A line is put to a level.
 pub fn line(c: Cic, number: u32, level: u32) -> Answer
-    ensures { λ r. ⌜ r ≡ lineOf c number level ⌝ }
+    ensures { λ r. ⌜ r ≡ line c number level ⌝ }
 {
     line_as(cic_record::is_sound(c), c, number, level)
 }
 
 // Any step.
 pub fn step(c: Cic, s: Step) -> Answer
-    ensures { λ r. ⌜ r ≡ stepOf c s ⌝ }
+    ensures { λ r. ⌜ r ≡ step c s ⌝ }
 {
     step_as(cic_record::is_sound(c), c, s)
 }
@@ -61,14 +60,14 @@ pub fn step(c: Cic, s: Step) -> Answer
 // A step of a record that is known to be sound, as after a start and after every step: it is not looked at again.
 pub fn step_sound(c: Cic, s: Step) -> Answer
     requires { ⌜ sound c ≡ true ⌝ }
-    ensures { λ r. ⌜ r ≡ stepOf c s ⌝ }
+    ensures { λ r. ⌜ r ≡ step c s ⌝ }
 {
     step_as(true, c, s)
 }
 
 // How many hosts are asserted and the lowest of them, or refusal 12 where the record is not sound.
 pub fn outputs(c: Cic) -> Signals
-    ensures { λ r. ⌜ r ≡ outputsOf c ⌝ }
+    ensures { λ r. ⌜ r ≡ outputs c ⌝ }
 {
     cic_hosts::outputs(c)
 }
@@ -76,38 +75,16 @@ pub fn outputs(c: Cic) -> Signals
 // The same of a record that is known to be sound: it is not looked at again.
 pub fn outputs_sound(c: Cic) -> Signals
     requires { ⌜ sound c ≡ true ⌝ }
-    ensures { λ r. ⌜ r ≡ outputsOf c ⌝ }
+    ensures { λ r. ⌜ r ≡ outputs c ⌝ }
 {
     cic_hosts::shown(c)
 }
 
 // Whether a host interrupt is asserted.
 pub fn asserted(c: Cic, h: Host) -> bool
-    ensures { λ r. ⌜ r ≡ assertedOf c h ⌝ }
+    ensures { λ r. ⌜ r ≡ asserted c h ⌝ }
 {
     cic_hosts::asserted(c, h)
-}
-
-// A step that is refused: its number, the value 0 and the same record.
-fn refuse(c: Cic, n: u32) -> Answer
-    ensures { λ r. ⌜ r ≡ refused c n ⌝ }
-{
-    Answer {
-        refusal: n,
-        value: 0,
-        cic: c,
-    }
-}
-
-// A step that is carried out, with its value and the record after it.
-fn carry_out(c: Cic, value: u32) -> Answer
-    ensures { λ r. ⌜ r ≡ answered c value ⌝ }
-{
-    Answer {
-        refusal: steps::CARRIED_OUT,
-        value: value,
-        cic: c,
-    }
 }
 
 // A read of a record that is sound or not, as `ok` says.
@@ -117,9 +94,9 @@ fn read_as(ok: bool, c: Cic, offset: u32) -> Answer
     let r = cic_layout::register_at(offset);
     let n = steps::read_refusal(ok, offset, cic_layout::access_of(c, r));
     if n != steps::CARRIED_OUT {
-        return refuse(c, n);
+        return cic_record::refusal_of(c, n);
     }
-    carry_out(c, cic_registers::value_of(c, r))
+    cic_record::answer_of(c, cic_registers::value_of(c, r))
 }
 
 // A write to such a record.
@@ -134,9 +111,9 @@ fn write_as(ok: bool, c: Cic, offset: u32, value: u32) -> Answer
         cic_registers::value_refusal(c, r, value),
     );
     if n != steps::CARRIED_OUT {
-        return refuse(c, n);
+        return cic_record::refusal_of(c, n);
     }
-    carry_out(cic_registers::written_to(c, r, value), 0)
+    cic_record::answer_of(cic_registers::written_to(c, r, value), 0)
 }
 
 // Whether the line of a system interrupt is high.
@@ -175,9 +152,9 @@ fn line_as(ok: bool, c: Cic, number: u32, level: u32) -> Answer
     let inputs = c.systems;
     let n = steps::line_refusal(ok, inputs, number, level);
     if n != steps::CARRIED_OUT {
-        return refuse(c, n);
+        return cic_record::refusal_of(c, n);
     }
-    carry_out(move_number(c, number, level == 1), 0)
+    cic_record::answer_of(move_number(c, number, level == 1), 0)
 }
 
 // Any step of such a record.

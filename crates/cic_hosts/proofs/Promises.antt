@@ -1,27 +1,28 @@
 -- The promises of the asserted hosts are kept.
-use mathlib.Core.Path.{_≡_, sym, ap, _∙_}
+use mathlib.Core.Path.{_≡_, sym}
 use mathlib.Core.Bool.{true, false, _&&_}
-use mathlib.Core.Logic.{_↔_, ⊎-elim}
-use Prim.Native.Nat.{ℕ}
+use mathlib.Core.Logic.{_↔_}
+use Prim.Native.Nat.{ℕ, _<_}
+use native.Mathlib.Decide.{decLt}
 use native.Mathlib.Omega.{arith}
 use borrow.Author.Tests.{eq-eqb, eqb-true}
 use lib.Dec.{eqb}
 use Rattle.words.specs.Array.{bitAt}
-use Rattle.words.specs.Counting.{anyBelow, countBelow}
+use Rattle.words.specs.Counting.{anyBelow}
 use Rattle.words.proofs.ArrayLaws.{clean-bit}
 use Rattle.words.proofs.ChoiceLaws.{pick-true, pick-false}
 use Rattle.words.proofs.CountingLaws.{any-some, some-any, Lowest, lowest-found}
-use Rattle.words.proofs.TruthLaws.{and-left, and-right, and-both, told}
+use Rattle.words.proofs.TruthLaws.{and-left, and-right, and-both, clash}
 use Rattle.steps.specs.Refusals.{unsound}
 use Rattle.cic_record.specs.declared.Cic.{Cic}
 use Rattle.cic_record.specs.declared.Host.{Host}
 use Rattle.cic_record.specs.declared.Signals.{Signals}
-use Rattle.cic_record.specs.Kinds.{system, hostNumber}
+use Rattle.cic_record.specs.Kinds.{system, hostNumber, channelOf, hostOf}
 use Rattle.cic_record.specs.Sound.{sound}
 use Rattle.cic_record.proofs.PartsLaws.{sound-parts}
-use Rattle.cic_hosts.specs.Hosts.{channelOf, hostOf, raises, assertedOf, shownOf, outputsOf}
+use Rattle.cic_hosts.specs.Hosts.{raises, asserted, shown, outputs}
 use Rattle.cic_hosts.specs.Promises.{Raised, Promises}
-use Rattle.cic_hosts.proofs.ScanLaws.{not-allowed}
+use Rattle.cic_hosts.proofs.ScanLaws.{not-allowed, no-host}
 
 -- some system interrupt raises h exactly if there is one
 raised : (c : Cic) (h : Host) → anyBelow (c .systems) (λ s. raises c h (system s)) ≡ true → Raised c h
@@ -42,9 +43,9 @@ unfolding raises
 raises-it c h r =
     some-any (c .systems) (λ s. raises c h (system s)) (r .0) (r .1) (and-both (r .2) (and-both (r .3) (eq-eqb (hostOf c (channelOf c (system (r .0))) .0) (h .0) (r .4))))
 
-asserted : (c : Cic) (h : Host) → (assertedOf c h ≡ true) ↔ ((c .global ≡ 1) × ((bitAt (c .allow) (h .0) ≡ true) × Raised c h))
-unfolding assertedOf
-asserted c h = (there, λ r. and-both (eq-eqb (c .global) 1 (r .0)) (and-both (r .1 .0) (raises-it c h (r .1 .1))))
+asserted-is : (c : Cic) (h : Host) → (asserted c h ≡ true) ↔ ((c .global ≡ 1) × ((bitAt (c .allow) (h .0) ≡ true) × Raised c h))
+unfolding asserted
+asserted-is c h = (there, λ r. and-both (eq-eqb (c .global) 1 (r .0)) (and-both (r .1 .0) (raises-it c h (r .1 .1))))
   where
     there : (eqb (c .global) 1 && (bitAt (c .allow) (h .0) && anyBelow (c .systems) (λ s. raises c h (system s)))) ≡ true → (c .global ≡ 1) × ((bitAt (c .allow) (h .0) ≡ true) × Raised c h)
     there e =
@@ -57,40 +58,36 @@ asserted c h = (there, λ r. and-both (eq-eqb (c .global) 1 (r .0)) (and-both (r
         )
 
 -- the outputs of a sound record, and of any other
-shows : (c : Cic) → sound c ≡ true → outputsOf c ≡ shownOf c
-unfolding outputsOf
+shows : (c : Cic) → sound c ≡ true → outputs c ≡ shown c
+unfolding outputs
 shows c e = sym (pick-true (record { refusal = unsound; hosts = 0; lowest = 0 }) e)
 
-refuses : (c : Cic) → sound c ≡ false → outputsOf c .refusal ≡ unsound
-unfolding outputsOf
-refuses c e = ap (λ (o : Signals). o .refusal) (sym (pick-false (shownOf c) e))
+refuses : (c : Cic) → sound c ≡ false → _≡_ {A = Signals} (outputs c) (record { refusal = unsound; hosts = 0; lowest = 0 })
+unfolding outputs
+refuses c e = sym (pick-false (shown c) e)
 
-refused : (c : Cic) → (outputsOf c .refusal ≡ unsound) ↔ (sound c ≡ false)
-unfolding shownOf
-refused c = (there, refuses c)
+low : (c : Cic) → sound c ≡ true → Lowest (λ h. asserted c (hostNumber h)) 256 (outputs c .lowest)
+unfolding shown
+low c e = rw (shows c e) (lowest-found 256 (λ h. asserted c (hostNumber h)))
+
+lowest-none : (c : Cic) → sound c ≡ true → (outputs c .lowest ≡ 256) ↔ ((h : ℕ) → h < 256 → asserted c (hostNumber h) ≡ false)
+lowest-none c e = (λ q h l. low c e .before h (omega arith), λ n. go n (decLt (outputs c .lowest) 256))
   where
-    twelve : _≡_ {A = ℕ} 0 12 → ⊥
-    twelve e = omega arith
-
-    there : outputsOf c .refusal ≡ unsound → sound c ≡ false
-    there e = ⊎-elim (λ (t : sound c ≡ true). absurd (twelve (sym (ap (λ (o : Signals). o .refusal) (shows c t)) ∙ e))) (λ (t : sound c ≡ false). t) (told (sound c))
-
-counted : (c : Cic) → sound c ≡ true → outputsOf c .hosts ≡ countBelow 256 (λ h. assertedOf c (hostNumber h))
-unfolding shownOf
-counted c e = ap (λ (o : Signals). o .hosts) (shows c e)
-
-low : (c : Cic) → sound c ≡ true → Lowest (λ h. assertedOf c (hostNumber h)) 256 (outputsOf c .lowest)
-unfolding shownOf
-low c e = rw (shows c e) (lowest-found 256 (λ h. assertedOf c (hostNumber h)))
+    go : ((h : ℕ) → h < 256 → asserted c (hostNumber h) ≡ false) → Dec (outputs c .lowest < 256) → outputs c .lowest ≡ 256
+    go n (yes l) = clash (low c e .found l) (n (outputs c .lowest) l)
+    go n (no l) = let m = low c e .within in omega arith
 
 pub kept : Promises
+unfolding shown
 kept =
     record {
-      asserted = asserted;
-      configured = λ c h e l b. not-allowed c h (clean-bit 8 (c .hosts) (c .allow) (sound-parts c e .allow) (h .0) l b);
-      refused = refused;
-      counted = counted;
+      assertedIs = asserted-is;
+      noneBeyond = λ c h e l b. not-allowed c h (clean-bit 8 (c .hosts) (c .allow) (sound-parts c e .allow) (h .0) l b);
+      noneFrom256 = no-host;
+      outputsSound = shows;
+      outputsUnsound = refuses;
       lowestMost = λ c e. low c e .within;
       lowestAsserted = λ c e. low c e .found;
       noneBefore = λ c e. low c e .before;
+      lowestNone = lowest-none;
     }

@@ -20,9 +20,9 @@ use Rattle.steps.specs.Refusals.{carriedOut}
 use Rattle.cic_record.specs.declared.Cic.{Cic}
 use Rattle.cic_record.specs.declared.Host.{Host}
 use Rattle.cic_record.specs.declared.Signals.{Signals}
-use Rattle.cic_record.specs.Kinds.{system, hostNumber}
-use Rattle.cic_hosts.specs.Hosts.{raises, assertedOf, shownOf}
-use Rattle.cic_hosts.specs.Scan.{channelIn, hostIn, goes}
+use Rattle.cic_record.specs.Kinds.{system, hostNumber, channelIn, hostIn}
+use Rattle.cic_hosts.specs.Hosts.{raises, asserted, shown}
+use Rattle.cic_hosts.specs.Scan.{goes}
 
 -- ---- one host
 
@@ -119,28 +119,28 @@ all-words c h len = same-test (anyBelow 1024 (counts c h)) (anyBelow (c .systems
 
 -- ---- the asserted hosts
 
-pub not-global : (c : Cic) (h : Host) → (c .global ≡ 1 → ⊥) → assertedOf c h ≡ false
-unfolding assertedOf
+pub not-global : (c : Cic) (h : Host) → (c .global ≡ 1 → ⊥) → asserted c h ≡ false
+unfolding asserted
 not-global c h n = ap (λ (t : Bool). t && (bitAt (c .allow) (h .0) && anyBelow (c .systems) (λ s. raises c h (system s)))) (ne-eqb (c .global) 1 n)
 
-pub with-global : (c : Cic) (h : Host) {r : Bool} → c .global ≡ 1 → r ≡ (bitAt (c .allow) (h .0) && anyBelow (c .systems) (λ s. raises c h (system s))) → r ≡ assertedOf c h
-unfolding assertedOf
+pub with-global : (c : Cic) (h : Host) {r : Bool} → c .global ≡ 1 → r ≡ (bitAt (c .allow) (h .0) && anyBelow (c .systems) (λ s. raises c h (system s))) → r ≡ asserted c h
+unfolding asserted
 with-global c h e f = f ∙ sym (ap (λ (t : Bool). t && (bitAt (c .allow) (h .0) && anyBelow (c .systems) (λ s. raises c h (system s)))) (eq-eqb (c .global) 1 e))
 
 -- a host that is not enabled
-pub not-allowed : (c : Cic) (h : Host) → bitAt (c .allow) (h .0) ≡ false → assertedOf c h ≡ false
-unfolding assertedOf
+pub not-allowed : (c : Cic) (h : Host) → bitAt (c .allow) (h .0) ≡ false → asserted c h ≡ false
+unfolding asserted
 not-allowed c h e = ap (λ (t : Bool). eqb (c .global) 1 && (t && anyBelow (c .systems) (λ s. raises c h (system s)))) e ∙ and-false (eqb (c .global) 1)
 
 -- there is no host from 256 on
-pub no-host : (c : Cic) (h : Host) → length (c .allow) ≡ 8 → 256 ≤ h .0 → assertedOf c h ≡ false
+pub no-host : (c : Cic) (h : Host) → length (c .allow) ≡ 8 → 256 ≤ h .0 → asserted c h ≡ false
 unfolding bitAt
 no-host c h e l = not-allowed c h (ap (λ (w : ℕ). bit w (h .0 % 32)) (List·getD-eq-default (c .allow) 0 (omega arith)) ∙ bit-none (h .0 % 32))
 
 -- the count and the lowest of words that hold the asserted hosts
-pub shown-words : (c : Cic) (ws : List ℕ) (n low : ℕ) → ((h : ℕ) → h < 256 → bitAt ws h ≡ assertedOf c (hostNumber h)) → n ≡ countBelow 256 (bitAt ws) → low ≡ lowestBelow 256 (bitAt ws)
-    → _≡_ {A = Signals} (record { refusal = carriedOut; hosts = n; lowest = low }) (shownOf c)
-unfolding shownOf
+pub shown-words : (c : Cic) (ws : List ℕ) (n low : ℕ) → ((h : ℕ) → h < 256 → bitAt ws h ≡ asserted c (hostNumber h)) → n ≡ countBelow 256 (bitAt ws) → low ≡ lowestBelow 256 (bitAt ws)
+    → _≡_ {A = Signals} (record { refusal = carriedOut; hosts = n; lowest = low }) (shown c)
+unfolding shown
 shown-words c ws n low h e f =
     ap₂ (λ (a b : ℕ). record { refusal = carriedOut; hosts = a; lowest = b })
-    (e ∙ count-same 256 (bitAt ws) (λ k. assertedOf c (hostNumber k)) h) (f ∙ lowest-same 256 (bitAt ws) (λ k. assertedOf c (hostNumber k)) h)
+    (e ∙ count-same 256 (bitAt ws) (λ k. asserted c (hostNumber k)) h) (f ∙ lowest-same 256 (bitAt ws) (λ k. asserted c (hostNumber k)) h)

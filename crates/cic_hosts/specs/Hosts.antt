@@ -1,40 +1,30 @@
 -- Which host interrupts are asserted (01, CIC, outputs; 001, 1.3.1 to 1.3.4).
 use mathlib.Core.Bool.{Bool, _&&_}
 use lib.Dec.{eqb}
-use lib.ListN.{getD}
 use Rattle.words.specs.Array.{bitAt}
 use Rattle.words.specs.Choice.{pick}
 use Rattle.words.specs.Counting.{anyBelow, countBelow, lowestBelow}
 use Rattle.steps.specs.Refusals.{carriedOut, unsound}
-use Rattle.cic_record.specs.declared.Channel.{Channel}
 use Rattle.cic_record.specs.declared.Cic.{Cic}
 use Rattle.cic_record.specs.declared.Host.{Host}
 use Rattle.cic_record.specs.declared.System.{System}
-use Rattle.cic_record.specs.Kinds.{system, channelNumber, hostNumber}
+use Rattle.cic_record.specs.Kinds.{system, hostNumber, channelOf, hostOf}
 use Rattle.cic_record.specs.Sound.{sound}
 use Rattle.cic_record.specs.declared.Signals.{Signals}
-
--- the channel of a system interrupt (001, 1.3.3)
-abbrev pub channelOf : Cic → System → Channel
-channelOf c s = channelNumber (getD (c .channel) (s .0) 0)
-
--- the host interrupt that a channel is mapped to (001, 1.3.4)
-abbrev pub hostOf : Cic → Channel → Host
-hostOf c k = hostNumber (getD (c .host) (k .0) 0)
 
 -- system interrupt s is set and enabled, and its channel is mapped to host h (01, CIC, outputs)
 unfoldable pub raises : Cic → Host → System → Bool
 raises c h s = bitAt (c .status) (s .0) && (bitAt (c .enable) (s .0) && eqb (hostOf c (channelOf c s) .0) (h .0))
 
 -- global enable and the host's own enable are set, and some configured system interrupt raises it (01, CIC, outputs)
-unfoldable pub assertedOf : Cic → Host → Bool
-assertedOf c h = eqb (c .global) 1 && (bitAt (c .allow) (h .0) && anyBelow (c .systems) (λ s. raises c h (system s)))
+unfoldable pub asserted : Cic → Host → Bool
+asserted c h = eqb (c .global) 1 && (bitAt (c .allow) (h .0) && anyBelow (c .systems) (λ s. raises c h (system s)))
 
 -- how many hosts are asserted, and the lowest of them, 256 where none is (01, House trace)
-unfoldable pub shownOf : Cic → Signals
-shownOf c =
-    record { refusal = carriedOut; hosts = countBelow 256 (λ h. assertedOf c (hostNumber h)); lowest = lowestBelow 256 (λ h. assertedOf c (hostNumber h)) }
+unfoldable pub shown : Cic → Signals
+shown c =
+    record { refusal = carriedOut; hosts = countBelow 256 (λ h. asserted c (hostNumber h)); lowest = lowestBelow 256 (λ h. asserted c (hostNumber h)) }
 
 -- the same of a sound record; any other is refused by 12 (01, Numbers)
-unfoldable pub outputsOf : Cic → Signals
-outputsOf c = pick (sound c) (shownOf c) (record { refusal = unsound; hosts = 0; lowest = 0 })
+unfoldable pub outputs : Cic → Signals
+outputs c = pick (sound c) (shown c) (record { refusal = unsound; hosts = 0; lowest = 0 })

@@ -1,2 +1,3 @@
--- The proof of what is promised of the register map.
+-- The laws of the register map, and the proof of what is promised of it.
+pub mod AccessLaws
 pub mod Promises

@@ -1,17 +1,13 @@
 -- The promises of the register map are kept.
-use mathlib.Core.Path.{_≡_, refl, sym, ap, _∙_}
-use mathlib.Core.Bool.{Bool}
-use mathlib.Core.Logic.{_↔_}
+use mathlib.Core.Path.{_≡_, refl, _∙_}
+use mathlib.Core.Logic.{_≢_}
 use Prim.Native.Nat.{ℕ, _+_, _-_, _*_, _/_, _<_, _≤_}
-use native.Mathlib.Decide.{decLt}
 use native.Mathlib.Omega.{arith}
-use borrow.Author.Tests.{lt-ltb, le-ltb}
+use borrow.Author.Tests.{lt-ltb, le-ltb, ne-eqb}
 use lib.Dec.{ltb}
 use Rattle.words.specs.Choice.{pick}
-use Rattle.steps.specs.declared.Access.{Access}
-use Rattle.steps.specs.declared.Access.the-variants.{NoRegister, ReadOnly, WriteOnly, ReadWrite}
 use Rattle.cic_layout.specs.declared.Register.the-variants.{Nothing, RawSet, EnabledClear, EnableSet, EnableClear, ChannelMap, HostMap, HostEnable}
-use Rattle.cic_layout.specs.Map.{singleAt, registerAt, ifAny, accessOf}
+use Rattle.cic_layout.specs.Map.{singleAt, registerAt}
 use Rattle.cic_layout.specs.Promises.{At, Promises}
 
 -- ---- places
@@ -104,31 +100,23 @@ after : (o : ℕ) → 0x1520 ≤ o → At o Nothing
 unfolding pick
 after o l = late o (omega arith) ∙ rw (le-ltb o 0x1500 (omega arith), le-ltb o 0x1520 l)
 
--- ---- registers that exist
-
--- 0 where there is no register
-there : Access → ℕ
-there NoRegister = 0
-there ReadOnly = 1
-there WriteOnly = 1
-there ReadWrite = 1
-
-absent-from : (first n : ℕ) → (ifAny first n ≡ NoRegister) ↔ (n ≤ first)
-unfolding pick there
-absent-from first n = go (decLt first n)
-  where
-    one : _≡_ {A = ℕ} 1 0 → ⊥
-    one e = omega arith
-
-    go : Dec (first < n) → (ifAny first n ≡ NoRegister) ↔ (n ≤ first)
-    go (yes l) = (λ e. absurd (one (ap there (ap (λ (t : Bool). pick t ReadWrite NoRegister) (sym (lt-ltb first n l)) ∙ e))), λ m. absurd (both-ways m))
-      where
-        both-ways : n ≤ first → ⊥
-        both-ways m = omega arith
-    go (no g) = (λ e. omega arith, λ m. ap (λ (t : Bool). pick t ReadWrite NoRegister) (le-ltb first n m))
+no-other : (o : ℕ) → o < 0x200 → o ≢ 0x000 → o ≢ 0x010 → o ≢ 0x020 → o ≢ 0x024 → o ≢ 0x028 → o ≢ 0x02C → o ≢ 0x034 → o ≢ 0x038 → At o Nothing
+unfolding registerAt singleAt pick
+no-other o l a b c d e f g h =
+    simp (
+      lt-ltb o 0x200 l,
+      ne-eqb o 0x000 a,
+      ne-eqb o 0x010 b,
+      ne-eqb o 0x020 c,
+      ne-eqb o 0x024 d,
+      ne-eqb o 0x028 e,
+      ne-eqb o 0x02C f,
+      ne-eqb o 0x034 g,
+      ne-eqb o 0x038 h,
+    )
 
 pub kept : Promises
-unfolding registerAt singleAt pick accessOf
+unfolding registerAt singleAt pick
 kept =
     record {
       revision = refl;
@@ -145,13 +133,7 @@ kept =
       hostEnable = enables-at;
       noControl = refl;
       noGlobalIndex = refl;
+      noOther = no-other;
       noHostIndices = gap;
       nothingAfter = after;
-      rawBeyond = λ c k. absent-from (32 * k) (c .systems);
-      enabledBeyond = λ c k. absent-from (32 * k) (c .systems);
-      setBeyond = λ c k. absent-from (32 * k) (c .systems);
-      clearBeyond = λ c k. absent-from (32 * k) (c .systems);
-      channelsBeyond = λ c k. absent-from (4 * k) (c .systems);
-      hostsBeyond = λ c k. absent-from (4 * k) (c .channels);
-      enablesBeyond = λ c k. absent-from (32 * k) (c .hosts);
     }

@@ -15,7 +15,7 @@ use Rattle.words.proofs.CountingLaws.{at-all}
 use Rattle.words.proofs.TruthLaws.{and-left, and-right, and-both}
 use Rattle.cic_record.specs.declared.Cic.{Cic}
 use Rattle.cic_record.specs.Record.{withGlobal, withLines, withStatus, withEnable, withChannel, withHost, withAllow}
-use Rattle.cic_record.specs.Sound.{withinOf, numbersSound, wordsSound, entrySound, mapsSound, sound}
+use Rattle.cic_record.specs.Sound.{within, numbersSound, wordsSound, entrySound, mapsSound, sound}
 use Rattle.cic_record.specs.Start.{fresh, configured}
 use Rattle.cic_record.proofs.SoundLaws.{Counts, numbers-counts, within-channels, within-hosts}
 
@@ -72,10 +72,10 @@ sound-global c x e n =
     put-global : (c : Cic) (x : ℕ) → numbersSound c ≡ true → leb x 1 ≡ true → numbersSound (withGlobal c x) ≡ true
     put-global c x e n =
         unfold numbersSound in
-        (let a = and-right (withinOf 0 (c .systems)) (withinOf 1 (c .channels) && (withinOf 2 (c .hosts) && leb (c .global) 1)) e in
-        let b = and-right (withinOf 1 (c .channels)) (withinOf 2 (c .hosts) && leb (c .global) 1) a in
-        and-both (and-left (withinOf 0 (c .systems)) (withinOf 1 (c .channels) && (withinOf 2 (c .hosts) && leb (c .global) 1)) e)
-        (and-both (and-left (withinOf 1 (c .channels)) (withinOf 2 (c .hosts) && leb (c .global) 1) a) (and-both (and-left (withinOf 2 (c .hosts)) (leb (c .global) 1) b) n)))
+        (let a = and-right (within 0 (c .systems)) (within 1 (c .channels) && (within 2 (c .hosts) && leb (c .global) 1)) e in
+        let b = and-right (within 1 (c .channels)) (within 2 (c .hosts) && leb (c .global) 1) a in
+        and-both (and-left (within 0 (c .systems)) (within 1 (c .channels) && (within 2 (c .hosts) && leb (c .global) 1)) e)
+        (and-both (and-left (within 1 (c .channels)) (within 2 (c .hosts) && leb (c .global) 1) a) (and-both (and-left (within 2 (c .hosts)) (leb (c .global) 1) b) n)))
 
 pub sound-lines : (c : Cic) (x : List ℕ) → sound c ≡ true → cleanBelow 32 (c .systems) x ≡ true → sound (withLines c x) ≡ true
 unfolding numbersSound
@@ -124,11 +124,11 @@ zeros-map n limit m l =
 pub fresh-sound : (s k h v : ℕ) → configured s k h v ≡ true → sound (fresh s k h v) ≡ true
 unfolding configured fresh numbersSound
 fresh-sound s k h v e =
-    let a = and-right (withinOf 0 s) (withinOf 1 k && (withinOf 2 h && withinOf 3 v)) e in
-    let b = and-right (withinOf 1 k) (withinOf 2 h && withinOf 3 v) a in
-    let es = and-left (withinOf 0 s) (withinOf 1 k && (withinOf 2 h && withinOf 3 v)) e in
-    let ek = and-left (withinOf 1 k) (withinOf 2 h && withinOf 3 v) a in
-    let eh = and-left (withinOf 2 h) (withinOf 3 v) b in
+    let a = and-right (within 0 s) (within 1 k && (within 2 h && within 3 v)) e in
+    let b = and-right (within 1 k) (within 2 h && within 3 v) a in
+    let es = and-left (within 0 s) (within 1 k && (within 2 h && within 3 v)) e in
+    let ek = and-left (within 1 k) (within 2 h && within 3 v) a in
+    let eh = and-left (within 2 h) (within 3 v) b in
     parts-sound (fresh s k h v) (record {
       numbers = and-both es (and-both ek (and-both eh refl));
       lines = clean-zeros 32 s;

@@ -4,7 +4,7 @@ use mathlib.Core.Bool.{Bool, true, _&&_}
 use mathlib.Core.List.{List}
 use Prim.Native.Nat.{ℕ, _+_, _-_, _≤_}
 use native.Mathlib.Omega.{arith}
-use borrow.Author.Tests.{lt-ltb, le-ltb, leb-true}
+use borrow.Author.Tests.{lt-ltb, le-ltb, leb-true, le-leb}
 use lib.Dec.{eqb, ltb, leb}
 use lib.ListN.{getD, length}
 use Rattle.words.specs.Array.{cleanBelow}
@@ -12,9 +12,9 @@ use Rattle.words.specs.Choice.{pick}
 use Rattle.words.specs.Counting.{allBelow}
 use Rattle.words.proofs.ChoiceLaws.{pick-true, pick-false}
 use Rattle.words.proofs.CountingLaws.{all-none-yet, all-more, all-same, all-add}
-use Rattle.words.proofs.TruthLaws.{and-left, and-right}
+use Rattle.words.proofs.TruthLaws.{and-left, and-right, and-both}
 use Rattle.cic_record.specs.declared.Cic.{Cic}
-use Rattle.cic_record.specs.Sound.{between, withinOf, numbersSound, entrySound}
+use Rattle.cic_record.specs.Sound.{between, within, numbersSound, entrySound}
 
 -- the entries in use are below the limit and the rest is 0
 pub map-split : (m : List ℕ) (n limit : ℕ) → n ≤ length m
@@ -45,20 +45,32 @@ whole-map m n limit es e f = f ∙ ap (λ (k : ℕ). allBelow k (entrySound n li
 
 -- ---- the ranges of the counts
 
-between-both : (lowest highest n : ℕ) → between lowest highest n ≡ true → (lowest ≤ n) × (n ≤ highest)
+pub between-both : (lowest highest n : ℕ) → between lowest highest n ≡ true → (lowest ≤ n) × (n ≤ highest)
 between-both lowest highest n e = (leb-true lowest n (and-left (leb lowest n) (leb n highest) e), leb-true n highest (and-right (leb lowest n) (leb n highest) e))
 
-pub within-systems : (n : ℕ) → withinOf 0 n ≡ true → (1 ≤ n) × (n ≤ 1024)
-unfolding withinOf pick
+pub within-systems : (n : ℕ) → within 0 n ≡ true → (1 ≤ n) × (n ≤ 1024)
+unfolding within pick
 within-systems n e = between-both 1 1024 n e
 
-pub within-channels : (n : ℕ) → withinOf 1 n ≡ true → (1 ≤ n) × (n ≤ 256)
-unfolding withinOf pick
+pub within-channels : (n : ℕ) → within 1 n ≡ true → (1 ≤ n) × (n ≤ 256)
+unfolding within pick
 within-channels n e = between-both 1 256 n e
 
-pub within-hosts : (n : ℕ) → withinOf 2 n ≡ true → (1 ≤ n) × (n ≤ 256)
-unfolding withinOf pick
+pub within-hosts : (n : ℕ) → within 2 n ≡ true → (1 ≤ n) × (n ≤ 256)
+unfolding within pick
 within-hosts n e = between-both 1 256 n e
+
+pub systems-within : (n : ℕ) → (1 ≤ n) × (n ≤ 1024) → within 0 n ≡ true
+unfolding within pick
+systems-within n r = and-both (le-leb 1 n (r .0)) (le-leb n 1024 (r .1))
+
+pub channels-within : (n : ℕ) → (1 ≤ n) × (n ≤ 256) → within 1 n ≡ true
+unfolding within pick
+channels-within n r = and-both (le-leb 1 n (r .0)) (le-leb n 256 (r .1))
+
+pub hosts-within : (n : ℕ) → (1 ≤ n) × (n ≤ 256) → within 2 n ≡ true
+unfolding within pick
+hosts-within n r = and-both (le-leb 1 n (r .0)) (le-leb n 256 (r .1))
 
 -- what sound numbers tell of the counts
 pub record Counts (c : Cic) : Type 0 where
@@ -70,11 +82,11 @@ pub record Counts (c : Cic) : Type 0 where
 pub numbers-counts : (c : Cic) → numbersSound c ≡ true → Counts c
 unfolding numbersSound
 numbers-counts c e =
-    let a = and-right (withinOf 0 (c .systems)) (withinOf 1 (c .channels) && (withinOf 2 (c .hosts) && leb (c .global) 1)) e in
-    let b = and-right (withinOf 1 (c .channels)) (withinOf 2 (c .hosts) && leb (c .global) 1) a in
+    let a = and-right (within 0 (c .systems)) (within 1 (c .channels) && (within 2 (c .hosts) && leb (c .global) 1)) e in
+    let b = and-right (within 1 (c .channels)) (within 2 (c .hosts) && leb (c .global) 1) a in
     record {
-      systems = within-systems (c .systems) (and-left (withinOf 0 (c .systems)) (withinOf 1 (c .channels) && (withinOf 2 (c .hosts) && leb (c .global) 1)) e);
-      channels = within-channels (c .channels) (and-left (withinOf 1 (c .channels)) (withinOf 2 (c .hosts) && leb (c .global) 1) a);
-      hosts = within-hosts (c .hosts) (and-left (withinOf 2 (c .hosts)) (leb (c .global) 1) b);
-      global = and-right (withinOf 2 (c .hosts)) (leb (c .global) 1) b;
+      systems = within-systems (c .systems) (and-left (within 0 (c .systems)) (within 1 (c .channels) && (within 2 (c .hosts) && leb (c .global) 1)) e);
+      channels = within-channels (c .channels) (and-left (within 1 (c .channels)) (within 2 (c .hosts) && leb (c .global) 1) a);
+      hosts = within-hosts (c .hosts) (and-left (within 2 (c .hosts)) (leb (c .global) 1) b);
+      global = and-right (within 2 (c .hosts)) (leb (c .global) 1) b;
     }

@@ -13,17 +13,17 @@ use Rattle.cic_record.specs.declared.Cic.{Cic}
 abbrev pub between : ℕ → ℕ → ℕ → Bool
 between lowest highest n = leb lowest n && leb n highest
 
--- configuration number `place` may be n: 1 to 1,024 systems, 1 to 256 channels, 1 to 256 hosts, any revision; there are four (01, CIC, configuration)
-unfoldable pub withinOf : ℕ → ℕ → Bool
-withinOf place n =
-    pick (eqb place 0) (between 1 1024 n)
-    (pick (eqb place 1) (between 1 256 n)
-    (pick (eqb place 2) (between 1 256 n)
-    (eqb place 3)))
+-- the nth configuration number, the first being number 0, may be `value`: 1 to 1,024 systems, 1 to 256 channels, 1 to 256 hosts, any revision; there are four (01, CIC, configuration)
+unfoldable pub within : ℕ → ℕ → Bool
+within nth value =
+    pick (eqb nth 0) (between 1 1024 value)
+    (pick (eqb nth 1) (between 1 256 value)
+    (pick (eqb nth 2) (between 1 256 value)
+    (eqb nth 3)))
 
 -- the counts are in their ranges and global enable is 0 or 1 (01, CIC, a sound record)
 unfoldable pub numbersSound : Cic → Bool
-numbersSound c = withinOf 0 (c .systems) && (withinOf 1 (c .channels) && (withinOf 2 (c .hosts) && leb (c .global) 1))
+numbersSound c = within 0 (c .systems) && (within 1 (c .channels) && (within 2 (c .hosts) && leb (c .global) 1))
 
 -- no line, status or enable bit beyond the systems is set, and no host enable beyond the hosts (01, CIC, a sound record)
 unfoldable pub wordsSound : Cic → Bool

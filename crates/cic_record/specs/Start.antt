@@ -7,7 +7,7 @@ use Rattle.steps.specs.Refusals.{carriedOut, misconfigured}
 use Rattle.cic_record.specs.declared.Begun.{Begun}
 use Rattle.cic_record.specs.declared.Cic.{Cic}
 use Rattle.cic_record.specs.Record.{begun}
-use Rattle.cic_record.specs.Sound.{withinOf}
+use Rattle.cic_record.specs.Sound.{within}
 
 -- lines low and all registers 0, beside the configured numbers (01, CIC, configuration)
 unfoldable pub fresh : ℕ → ℕ → ℕ → ℕ → Cic
@@ -28,9 +28,9 @@ fresh systems channels hosts revision =
 
 -- each number is within its limits
 unfoldable pub configured : ℕ → ℕ → ℕ → ℕ → Bool
-configured systems channels hosts revision = withinOf 0 systems && (withinOf 1 channels && (withinOf 2 hosts && withinOf 3 revision))
+configured systems channels hosts revision = within 0 systems && (within 1 channels && (within 2 hosts && within 3 revision))
 
 -- a number beyond its limit is refused by 10, with a record of zeros (01, CIC, configuration; 01, Numbers)
-unfoldable pub started : ℕ → ℕ → ℕ → ℕ → Begun
-started systems channels hosts revision =
+unfoldable pub start : ℕ → ℕ → ℕ → ℕ → Begun
+start systems channels hosts revision =
     pick (configured systems channels hosts revision) (begun carriedOut (fresh systems channels hosts revision)) (begun misconfigured (fresh 0 0 0 0))

@@ -1,13 +1,15 @@
 // The CIC's record, its three kinds of number, the start, and which records are sound (01, CIC).
 ghost use mathlib.Core.Path.{_≡_};
 ghost use mathlib.Core.Bool.{true, false, _&&_};
-ghost use Prim.Native.Nat.{_+_, _-_, _≤_};
+ghost use Prim.Native.Nat.{_+_, _-_, _<_, _≤_};
 ghost use lib.Dec.{eqb, ltb, leb};
 ghost use lib.ListN.{getD, length};
 ghost use Rattle.words.specs.Array.{cleanBelow};
 ghost use Rattle.words.specs.Counting.{allBelow};
-ghost use Rattle.cic_record.specs.Sound.{between, withinOf, wordsSound, entrySound, mapsSound, sound};
-ghost use Rattle.cic_record.specs.Start.{fresh, configured, started};
+ghost use Rattle.cic_record.specs.Kinds.{channelOf, hostOf};
+ghost use Rattle.cic_record.specs.Record.{answered, refused};
+ghost use Rattle.cic_record.specs.Sound.{between, within, wordsSound, entrySound, mapsSound, sound};
+ghost use Rattle.cic_record.specs.Start.{fresh, configured, start};
 
 // A system interrupt, a channel and a host interrupt count three separate things: none can be passed for another.
 pub struct System(pub u16);
@@ -52,6 +54,71 @@ pub struct Signals {
     pub lowest: u32,
 }
 
+// The answer of a step that is carried out, with its value and the record after it.
+pub fn answer_of(c: Cic, value: u32) -> Answer
+    ensures { λ r. ⌜ r ≡ answered c value ⌝ }
+{
+    Answer {
+        refusal: steps::CARRIED_OUT,
+        value: value,
+        cic: c,
+    }
+}
+
+// The answer of a step that is refused by number n.
+pub fn refusal_of(c: Cic, n: u32) -> Answer
+    ensures { λ r. ⌜ r ≡ refused c n ⌝ }
+{
+    Answer {
+        refusal: n,
+        value: 0,
+        cic: c,
+    }
+}
+
+// Whether a system interrupt is one of those configured.
+pub fn is_system(c: Cic, s: System) -> bool
+    ensures { λ r. ⌜ r ≡ ltb (s .0) (c .systems) ⌝ }
+{
+    (s.0 as u32) < c.systems
+}
+
+// Whether a channel is one of those configured.
+pub fn is_channel(c: Cic, k: Channel) -> bool
+    ensures { λ r. ⌜ r ≡ ltb (k .0) (c .channels) ⌝ }
+{
+    (k.0 as u32) < c.channels
+}
+
+// Whether a host interrupt is one of those configured.
+pub fn is_host(c: Cic, h: Host) -> bool
+    ensures { λ r. ⌜ r ≡ ltb (h .0) (c .hosts) ⌝ }
+{
+    (h.0 as u32) < c.hosts
+}
+
+// The channel of a system interrupt, 0 past the end of the map.
+pub fn channel_of(c: Cic, s: System) -> Channel
+    ensures { λ r. ⌜ (r ≡ channelOf c s) × (r .0 < 256) ⌝ }
+{
+    let at = s.0 as usize;
+    if 1024 <= at {
+        return Channel(0);
+    }
+    Channel(c.channel[at] as u16)
+}
+
+// The host interrupt that a channel is mapped to, 0 past the end of the map.
+pub fn host_of(c: Cic, k: Channel) -> Host
+    ensures { λ r. ⌜ (r ≡ hostOf c k) × (r .0 < 256) ⌝ }
+{
+    let at = k.0 as usize;
+    if 256 <= at {
+        return Host(0);
+    }
+    Host(c.host[at] as u16)
+}
+
 // Whether n is one of lowest to highest.
 fn in_range(lowest: u32, highest: u32, n: u32) -> bool
     ensures { λ r. ⌜ r ≡ between lowest highest n ⌝ }
@@ -59,15 +126,15 @@ fn in_range(lowest: u32, highest: u32, n: u32) -> bool
     (lowest <= n) & (n <= highest)
 }
 
-// Whether configuration number `place`, in the order systems, channels, hosts, revision, may be n.
-pub fn within(place: u32, n: u32) -> bool
-    ensures { λ r. ⌜ r ≡ withinOf place n ⌝ }
+// Whether the nth configuration number, in the order systems, channels, hosts, revision, may be `value`. The first is number 0.
+pub fn within(nth: u32, value: u32) -> bool
+    ensures { λ r. ⌜ r ≡ within nth value ⌝ }
 {
-    match place {
-        0 => in_range(1, 1024, n),
-        1 => in_range(1, 256, n),
-        2 => in_range(1, 256, n),
-        _ => place == 3,
+    match nth {
+        0 => in_range(1, 1024, value),
+        1 => in_range(1, 256, value),
+        2 => in_range(1, 256, value),
+        _ => nth == 3,
     }
 }
 
@@ -99,7 +166,7 @@ fn all_within(systems: u32, channels: u32, hosts: u32, revision: u32) -> bool
 
 // The CIC at reset, or refusal 10 and a record of zeros where a number is beyond its limit.
 pub fn start(systems: u32, channels: u32, hosts: u32, revision: u32) -> Begun
-    ensures { λ r. ⌜ r ≡ started systems channels hosts revision ⌝ }
+    ensures { λ r. ⌜ r ≡ start systems channels hosts revision ⌝ }
 {
     if all_within(systems, channels, hosts, revision) {
         let c = make(systems, channels, hosts, revision);
@@ -192,7 +259,7 @@ fn map_sound(m: &[u8], n: usize, limit: u32) -> bool
 
 // Whether the counts are in their ranges and global enable is 0 or 1.
 fn numbers_sound(systems: u32, channels: u32, hosts: u32, global: u32) -> bool
-    ensures { λ r. ⌜ r ≡ (withinOf 0 systems && (withinOf 1 channels && (withinOf 2 hosts && leb global 1))) ⌝ }
+    ensures { λ r. ⌜ r ≡ (within 0 systems && (within 1 channels && (within 2 hosts && leb global 1))) ⌝ }
 {
     within(0, systems) & (within(1, channels) & (within(2, hosts) & (global <= 1)))
 }

@@ -1,3 +1,4 @@
 -- The laws of the registers, and the proof of what is promised of them.
+pub mod MapRegisterLaws
 pub mod Promises
 pub mod WrittenLaws

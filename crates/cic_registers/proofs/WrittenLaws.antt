@@ -1,29 +1,34 @@
--- A write that is carried out keeps a sound record sound; its value is refused by 6 or not at all.
-use mathlib.Core.Path.{_≡_, refl}
+-- Which values are refused, by 6 or not at all; a write that is carried out keeps a sound record sound, and every array at its length.
+use mathlib.Core.Path.{_≡_, refl, sym, ap, _∙_}
 use mathlib.Core.Bool.{Bool, true, false}
-use mathlib.Core.Logic.{inl, inr}
-use Prim.Native.Nat.{ℕ, _%_}
+use mathlib.Core.Logic.{_↔_, _⊎_, inl, inr, ⊎-elim}
+use Prim.Native.Nat.{ℕ, _+_, _*_, _/_, _%_, _<_, _≤_}
+use native.Mathlib.Decide.{decLt}
 use native.Mathlib.Omega.{arith}
-use borrow.Author.Tests.{ltb-true, le-leb}
+use borrow.Author.Tests.{ltb-true, lt-ltb, le-ltb, le-leb}
 use lib.Dec.{ltb}
+use lib.ListN.{length-set}
 use Rattle.words.specs.Choice.{pick}
 use Rattle.words.proofs.ArrayLaws.{clean-withBitAt}
-use Rattle.words.specs.Array.{withBitAt}
-use Rattle.steps.specs.Refusals.{carriedOut}
+use Rattle.words.specs.Array.{withBitAt, byteOf}
+use Rattle.steps.specs.Refusals.{carriedOut, beyond}
 use Rattle.steps.specs.Promises.{ValueNumber}
 use Rattle.cic_record.specs.declared.Cic.{Cic}
+use Rattle.cic_record.specs.Promises.{Shaped}
 use Rattle.cic_record.specs.Sound.{sound}
 use Rattle.cic_record.proofs.PartsLaws.{sound-parts, sound-global, sound-status, sound-enable, sound-channel, sound-host, sound-allow}
 use Rattle.cic_maps.specs.Maps.{mapTaken, mapPut}
 use Rattle.cic_maps.proofs.MapLaws.{sound-mapPut}
+use Rattle.cic_maps.proofs.Promises as maps
 use Rattle.cic_words.specs.Bits.{bitsSet, bitsCleared, wordReplaced}
 use Rattle.cic_words.proofs.BitsLaws.{clean-bitsSet, clean-bitsCleared, clean-wordReplaced}
 use Rattle.cic_layout.specs.declared.Register.{Register}
 use Rattle.cic_layout.specs.declared.Register.the-variants.{Nothing, Revision, GlobalEnable, StatusIndexSet, StatusIndexClear, EnableIndexSet, EnableIndexClear, HostIndexSet, HostIndexClear, RawSet, EnabledClear, EnableSet, EnableClear, ChannelMap, HostMap, HostEnable}
 use Rattle.cic_registers.specs.Registers.{unless, valueRefusal, writtenTo}
+use Rattle.cic_registers.proofs.MapRegisterLaws.{put-length}
 
 -- what is not refused passed the test
-passes : (t : Bool) → unless t ≡ carriedOut → t ≡ true
+pub passes : (t : Bool) → unless t ≡ carriedOut → t ≡ true
 unfolding pick
 passes true e = refl
 passes false e = absurd (six e)
@@ -31,30 +36,53 @@ passes false e = absurd (six e)
     six : _≡_ {A = ℕ} 6 0 → ⊥
     six e = omega arith
 
-six-or-none : (t : Bool) → ValueNumber (unless t)
+-- a value that is compared with n is refused by 6 exactly if it is not below
+pub refused-from : (v n : ℕ) → (unless (ltb v n) ≡ beyond) ↔ (n ≤ v)
+unfolding pick
+refused-from v n = go (decLt v n)
+  where
+    six : _≡_ {A = ℕ} 0 6 → ⊥
+    six e = omega arith
+
+    go : Dec (v < n) → (unless (ltb v n) ≡ beyond) ↔ (n ≤ v)
+    go (yes l) = (λ e. absurd (six (ap unless (sym (lt-ltb v n l)) ∙ e)), λ m. absurd (both-ways m))
+      where
+        both-ways : n ≤ v → ⊥
+        both-ways m = omega arith
+    go (no g) = (λ e. omega arith, λ m. ap unless (le-ltb v n m))
+
+-- four map bytes are taken exactly if each of them that is not spare is below the limit
+pub taken-if : (n limit k v : ℕ) → (unless (mapTaken n limit k v) ≡ carriedOut) ↔ ((j : ℕ) → j < 4 → 4 * k + j < n → byteOf v j < limit)
+unfolding pick
+taken-if n limit k v = (λ e. maps.kept .taken n limit k v .0 (passes (mapTaken n limit k v) e), λ h. ap unless (maps.kept .taken n limit k v .1 h))
+
+six-or-none : (t : Bool) → (unless t ≡ carriedOut) ⊎ (unless t ≡ beyond)
 unfolding pick
 six-or-none true = inl refl
-six-or-none false = inr (inr refl)
+six-or-none false = inr refl
 
 -- a value is refused by 6 or not at all
-pub value-number : (c : Cic) (r : Register) (v : ℕ) → ValueNumber (valueRefusal c r v)
+pub value-six : (c : Cic) (r : Register) (v : ℕ) → (valueRefusal c r v ≡ carriedOut) ⊎ (valueRefusal c r v ≡ beyond)
 unfolding valueRefusal
-value-number c Nothing v = inl refl
-value-number c Revision v = inl refl
-value-number c GlobalEnable v = inl refl
-value-number c StatusIndexSet v = six-or-none (ltb v (c .systems))
-value-number c StatusIndexClear v = six-or-none (ltb v (c .systems))
-value-number c EnableIndexSet v = six-or-none (ltb v (c .systems))
-value-number c EnableIndexClear v = six-or-none (ltb v (c .systems))
-value-number c HostIndexSet v = six-or-none (ltb v (c .hosts))
-value-number c HostIndexClear v = six-or-none (ltb v (c .hosts))
-value-number c (RawSet k) v = inl refl
-value-number c (EnabledClear k) v = inl refl
-value-number c (EnableSet k) v = inl refl
-value-number c (EnableClear k) v = inl refl
-value-number c (ChannelMap k) v = six-or-none (mapTaken (c .systems) (c .channels) k v)
-value-number c (HostMap k) v = six-or-none (mapTaken (c .channels) (c .hosts) k v)
-value-number c (HostEnable k) v = inl refl
+value-six c Nothing v = inl refl
+value-six c Revision v = inl refl
+value-six c GlobalEnable v = inl refl
+value-six c StatusIndexSet v = six-or-none (ltb v (c .systems))
+value-six c StatusIndexClear v = six-or-none (ltb v (c .systems))
+value-six c EnableIndexSet v = six-or-none (ltb v (c .systems))
+value-six c EnableIndexClear v = six-or-none (ltb v (c .systems))
+value-six c HostIndexSet v = six-or-none (ltb v (c .hosts))
+value-six c HostIndexClear v = six-or-none (ltb v (c .hosts))
+value-six c (RawSet k) v = inl refl
+value-six c (EnabledClear k) v = inl refl
+value-six c (EnableSet k) v = inl refl
+value-six c (EnableClear k) v = inl refl
+value-six c (ChannelMap k) v = six-or-none (mapTaken (c .systems) (c .channels) k v)
+value-six c (HostMap k) v = six-or-none (mapTaken (c .channels) (c .hosts) k v)
+value-six c (HostEnable k) v = inl refl
+
+pub value-number : (c : Cic) (r : Register) (v : ℕ) → ValueNumber (valueRefusal c r v)
+value-number c r v = ⊎-elim (λ (e : valueRefusal c r v ≡ carriedOut). inl e) (λ (e : valueRefusal c r v ≡ beyond). inr (inr e)) (value-six c r v)
 
 -- one bit of the status, of the system enables, of the host enables
 bit-status : (c : Cic) (v : ℕ) (t : Bool) → sound c ≡ true → unless (ltb v (c .systems)) ≡ carriedOut → sound (writtenTo c (pick t StatusIndexSet StatusIndexClear) v) ≡ true
@@ -95,3 +123,23 @@ sound-written c (HostMap k) v e n =
     sound-host c (mapPut (c .channels) k v (c .host)) e
     (sound-mapPut 256 (c .channels) (c .hosts) k v (c .host) (sound-parts c e .host) (passes (mapTaken (c .channels) (c .hosts) k v) n))
 sound-written c (HostEnable k) v e n = sound-allow c (wordReplaced (c .hosts) (c .allow) k v) e (clean-wordReplaced 8 (c .hosts) (c .allow) k v (sound-parts c e .allow))
+
+-- no write changes the length of an array
+pub shaped-written : (c : Cic) (r : Register) (v : ℕ) → Shaped c → Shaped (writtenTo c r v)
+unfolding writtenTo withBitAt bitsSet bitsCleared wordReplaced
+shaped-written c Nothing v s = s
+shaped-written c Revision v s = s
+shaped-written c GlobalEnable v s = s
+shaped-written c StatusIndexSet v s = (s .0, length-set (c .status) (v / 32) _ ∙ s .1, s .2, s .3, s .4, s .5)
+shaped-written c StatusIndexClear v s = (s .0, length-set (c .status) (v / 32) _ ∙ s .1, s .2, s .3, s .4, s .5)
+shaped-written c EnableIndexSet v s = (s .0, s .1, length-set (c .enable) (v / 32) _ ∙ s .2, s .3, s .4, s .5)
+shaped-written c EnableIndexClear v s = (s .0, s .1, length-set (c .enable) (v / 32) _ ∙ s .2, s .3, s .4, s .5)
+shaped-written c HostIndexSet v s = (s .0, s .1, s .2, s .3, s .4, length-set (c .allow) (v / 32) _ ∙ s .5)
+shaped-written c HostIndexClear v s = (s .0, s .1, s .2, s .3, s .4, length-set (c .allow) (v / 32) _ ∙ s .5)
+shaped-written c (RawSet k) v s = (s .0, length-set (c .status) k _ ∙ s .1, s .2, s .3, s .4, s .5)
+shaped-written c (EnabledClear k) v s = (s .0, length-set (c .status) k _ ∙ s .1, s .2, s .3, s .4, s .5)
+shaped-written c (EnableSet k) v s = (s .0, s .1, length-set (c .enable) k _ ∙ s .2, s .3, s .4, s .5)
+shaped-written c (EnableClear k) v s = (s .0, s .1, length-set (c .enable) k _ ∙ s .2, s .3, s .4, s .5)
+shaped-written c (ChannelMap k) v s = (s .0, s .1, s .2, put-length (c .systems) k v (c .channel) ∙ s .3, s .4, s .5)
+shaped-written c (HostMap k) v s = (s .0, s .1, s .2, s .3, put-length (c .channels) k v (c .host) ∙ s .4, s .5)
+shaped-written c (HostEnable k) v s = (s .0, s .1, s .2, s .3, s .4, length-set (c .allow) k _ ∙ s .5)

@@ -19,8 +19,8 @@ use Rattle.coreinterrupt_side.specs.Side.{idle}
 use Rattle.coreinterrupt.specs.Model.{coreOf, within as coreWithin, allWithin, start as coreStart, sound as coreSound}
 use Rattle.coreinterrupt.proofs.Promises.{kept as core}
 use Rattle.cic_record.specs.declared.Begun.{Begun as CicBegun}
-use Rattle.cic_record.specs.Sound.{withinOf as cicWithin, sound as cicSound}
-use Rattle.cic_record.specs.Start.{fresh, configured, started as cicStart}
+use Rattle.cic_record.specs.Sound.{within as cicWithin, sound as cicSound}
+use Rattle.cic_record.specs.Start.{fresh, configured, start as cicStart}
 use Rattle.cic_record.proofs.Promises.{kept as cic}
 use Rattle.machine.specs.declared.Configuration.{Configuration}
 use Rattle.machine.specs.declared.Machine.{Machine}

@@ -14,7 +14,7 @@ use Rattle.steps.specs.Refusals.{unsound}
 use Rattle.aic.specs.Model.{within as aicWithin}
 use Rattle.coreinterrupt.specs.Model.{within as coreWithin}
 use Rattle.coreinterrupt.proofs.StartLaws.{four-numbers}
-use Rattle.cic_record.specs.Sound.{withinOf as cicWithin}
+use Rattle.cic_record.specs.Sound.{within as cicWithin}
 use Rattle.machine.specs.declared.Machine.{Machine}
 use Rattle.machine.specs.Kinds.{byKind, isKind, placesOf, withinOf}
 use Rattle.machine.specs.Steps.{refused, stepOf}

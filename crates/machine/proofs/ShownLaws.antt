@@ -15,7 +15,7 @@ use Rattle.aic.proofs.Promises.{kept as aic}
 use Rattle.coreinterrupt.specs.Model.{outputs as coreOutputs}
 use Rattle.coreinterrupt.proofs.Promises.{kept as core}
 use Rattle.cic_record.specs.Kinds.{hostNumber}
-use Rattle.cic_hosts.specs.Hosts.{assertedOf, outputsOf as cicOutputs, shownOf as cicShown}
+use Rattle.cic_hosts.specs.Hosts.{asserted, outputs as cicOutputs, shown as cicShown}
 use Rattle.cic_hosts.proofs.Promises.{kept as hosts}
 use Rattle.machine.specs.declared.Machine.{Machine}
 use Rattle.machine.specs.Kinds.{aicKind, coreKind, cicKind}
@@ -68,5 +68,5 @@ module _ (m : Machine) where
       go (isCore k) = rw (core-shows k) (one-small (coreOutputs (m .core) .irq), one-small (coreOutputs (m .core) .fiq), omega arith)
       go (isCic k) =
           let e = sound-cic m k ∙ s in
-          rw (cic-shows k) (rw (hosts .counted (m .cic) e) (count-le 256 (λ h. assertedOf (m .cic) (hostNumber h))), hosts .lowestMost (m .cic) e, omega arith)
+          rw (cic-shows k) (rw (hosts .counted (m .cic) e) (count-le 256 (λ h. asserted (m .cic) (hostNumber h))), hosts .lowestMost (m .cic) e, omega arith)
       go (isNone a b c) = rw (no-shows a b c) (omega arith, omega arith, omega arith)

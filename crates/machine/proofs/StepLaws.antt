@@ -12,7 +12,7 @@ use Rattle.aic.proofs.Promises.{kept as aic}
 use Rattle.coreinterrupt.specs.Model.{sound as coreSound, step as coreStep}
 use Rattle.coreinterrupt.proofs.Promises.{kept as core}
 use Rattle.cic_record.specs.Sound.{sound as cicSound}
-use Rattle.cic.specs.Stepping.{stepOf as cicStep, stepAs}
+use Rattle.cic.specs.Model.{step as cicStep, stepAs}
 use Rattle.cic.proofs.Promises.{kept as cic}
 use Rattle.machine.specs.declared.Answer.{Answer}
 use Rattle.machine.specs.declared.Machine.{Machine}
@@ -54,7 +54,7 @@ module _ (m : Machine) (x : Step) where
             aic .stepShaped (m .aic) x (r .1),
           )
       go (isCore k) = rw (core-steps k) (sym (sound-core _ k) ∙ core .stepSound (m .core) x (sound-core m k ∙ r .0), r .1)
-      go (isCic k) = rw (cic-steps k) (sym (sound-cic _ k) ∙ cic .staysSound (m .cic) x (sound-cic m k ∙ r .0), r .1)
+      go (isCic k) = rw (cic-steps k) (sym (sound-cic _ k) ∙ cic .stepSound (m .cic) x (sound-cic m k ∙ r .0), r .1)
       go (isNone a b c) = rw (no-steps a b c) r
 
   pub step-kind : stepOf m x .machine .kind ≡ m .kind
@@ -94,9 +94,9 @@ core-twelve m (Line k l) = core .lineNumbers (m .core) k l .twelve
 
 cic-twelve : (m : Machine) (x : Step) → (cicStep (m .cic) x .refusal ≡ unsound) ↔ (cicSound (m .cic) ≡ false)
 unfolding stepAs
-cic-twelve m (Read o) = cic .reads (m .cic) o .twelve
-cic-twelve m (Write o v) = cic .writes (m .cic) o v .twelve
-cic-twelve m (Line k l) = cic .lines (m .cic) k l .twelve
+cic-twelve m (Read o) = cic .readNumbers (m .cic) o .twelve
+cic-twelve m (Write o v) = cic .writeNumbers (m .cic) o v .twelve
+cic-twelve m (Line k l) = cic .lineNumbers (m .cic) k l .twelve
 
 pub twelve : (m : Machine) (x : Step) → (stepOf m x .refusal ≡ unsound) ↔ (sound m ≡ false)
 twelve m x = go (kind-of (m .kind))

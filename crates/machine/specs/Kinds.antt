@@ -6,7 +6,7 @@ use lib.Dec.{eqb}
 use Rattle.words.specs.Choice.{pick}
 use Rattle.aic.specs.Model.{within as aicWithin}
 use Rattle.coreinterrupt.specs.Model.{within as coreWithin}
-use Rattle.cic_record.specs.Sound.{withinOf as cicWithin}
+use Rattle.cic_record.specs.Sound.{within as cicWithin}
 
 abbrev pub aicKind : ℕ
 aicKind = 0

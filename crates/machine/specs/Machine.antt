@@ -12,7 +12,7 @@ use Rattle.coreinterrupt.specs.declared.Core.{Core}
 use Rattle.coreinterrupt.specs.Model.{coreOf, start as coreStart, sound as coreSound}
 use Rattle.cic_record.specs.declared.Cic.{Cic}
 use Rattle.cic_record.specs.Sound.{sound as cicSound}
-use Rattle.cic_record.specs.Start.{fresh, started as cicStart}
+use Rattle.cic_record.specs.Start.{fresh, start as cicStart}
 use Rattle.machine.specs.declared.Configuration.{Configuration}
 use Rattle.machine.specs.declared.Machine.{Machine}
 use Rattle.machine.specs.Kinds.{aicKind, coreKind, cicKind, byKind}

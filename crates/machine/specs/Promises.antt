@@ -10,10 +10,10 @@ use Rattle.steps.specs.Refusals.{carriedOut, unsound}
 use Rattle.aic_record.specs.Promises.{Shaped as AicShaped}
 use Rattle.aic.specs.Model.{start as aicStart, step as aicStep, outputs as aicOutputs, within as aicWithin}
 use Rattle.coreinterrupt.specs.Model.{start as coreStart, step as coreStep, outputs as coreOutputs, within as coreWithin}
-use Rattle.cic_record.specs.Sound.{withinOf as cicWithin}
-use Rattle.cic_record.specs.Start.{started as cicStart}
-use Rattle.cic_hosts.specs.Hosts.{outputsOf as cicOutputs}
-use Rattle.cic.specs.Stepping.{stepOf as cicStep}
+use Rattle.cic_record.specs.Sound.{within as cicWithin}
+use Rattle.cic_record.specs.Start.{start as cicStart}
+use Rattle.cic_hosts.specs.Hosts.{outputs as cicOutputs}
+use Rattle.cic.specs.Model.{step as cicStep}
 use Rattle.machine.specs.declared.Columns.{Columns}
 use Rattle.machine.specs.declared.Machine.{Machine}
 use Rattle.machine.specs.Kinds.{aicKind, coreKind, cicKind, isKind, placesOf, withinOf}

@@ -11,8 +11,8 @@ use Rattle.coreinterrupt.specs.declared.Signals.{Signals as CoreSignals}
 use Rattle.coreinterrupt.specs.Model.{step as coreStep, outputs as coreOutputs}
 use Rattle.cic_record.specs.declared.Answer.{Answer as CicAnswer}
 use Rattle.cic_record.specs.declared.Signals.{Signals as CicSignals}
-use Rattle.cic_hosts.specs.Hosts.{outputsOf as cicOutputs}
-use Rattle.cic.specs.Stepping.{stepOf as cicStep}
+use Rattle.cic_hosts.specs.Hosts.{outputs as cicOutputs}
+use Rattle.cic.specs.Model.{step as cicStep}
 use Rattle.machine.specs.declared.Answer.{Answer}
 use Rattle.machine.specs.declared.Columns.{Columns}
 use Rattle.machine.specs.declared.Machine.{Machine}

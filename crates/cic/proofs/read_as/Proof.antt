@@ -1,5 +1,5 @@
 -- That `read_as` of src/lib.rt keeps its contract.
-use Rattle.cic.specs.Stepping.{readAs}
+use Rattle.cic.specs.Model.{readAs}
 use Rattle.cic.proofs.StepLaws.{refused-by, carried-by}
 use Rattle.cic_record.specs.Record.{answered}
 use Rattle.cic_layout.specs.declared.Register.{Register}
@@ -23,14 +23,14 @@ returns : tie.Need-returns
 unfolding readAs
 returns c =
     let a = c .before .before .before .before .before .args in
-    c .refuse .ensures ∙ refused-by (a .c) _ (number (a .ok) (a .c) (a .offset) (c .before .before .read-refusal .ensures) (c .before .before .before .access-of .ensures) (c .before .before .before .before .register-at .ensures)) (c .before .if1 .taken)
+    c .refusal-of .ensures ∙ refused-by (a .c) _ (number (a .ok) (a .c) (a .offset) (c .before .before .read-refusal .ensures) (c .before .before .before .access-of .ensures) (c .before .before .before .before .register-at .ensures)) (c .before .if1 .taken)
 
 returns-2 : tie.Need-returns-2
 unfolding readAs
 returns-2 c =
     let a = c .before .before .before .before .before .before .args in
     carried-by (a .c) (number (a .ok) (a .c) (a .offset) (c .before .before .before .read-refusal .ensures) (c .before .before .before .before .access-of .ensures) (c .before .before .before .before .before .register-at .ensures)) (c .before .before .if1 .left)
-    (c .carry-out .ensures ∙ ap (answered (a .c)) (c .before .value-of .ensures ∙ ap (valueOf (a .c)) (c .before .before .before .before .before .register-at .ensures)))
+    (c .answer-of .ensures ∙ ap (answered (a .c)) (c .before .value-of .ensures ∙ ap (valueOf (a .c)) (c .before .before .before .before .before .register-at .ensures)))
 
 pub read-as-spec : {M : Type 1} → statement M
 read-as-spec =

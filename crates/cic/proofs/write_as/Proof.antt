@@ -1,5 +1,5 @@
 -- That `write_as` of src/lib.rt keeps its contract.
-use Rattle.cic.specs.Stepping.{writeAs}
+use Rattle.cic.specs.Model.{writeAs}
 use Rattle.cic.proofs.StepLaws.{refused-by, carried-by}
 use Rattle.cic_record.specs.Record.{answered}
 use Rattle.cic_layout.specs.declared.Register.{Register}
@@ -24,14 +24,14 @@ returns : tie.Need-returns
 unfolding writeAs
 returns c =
     let a = c .before .before .before .before .before .before .args in
-    c .refuse .ensures ∙ refused-by (a .c) _ (number (a .ok) (a .c) (a .offset) (a .value) (c .before .before .write-refusal .ensures) (c .before .before .before .before .access-of .ensures) (c .before .before .before .value-refusal .ensures) (c .before .before .before .before .before .register-at .ensures)) (c .before .if1 .taken)
+    c .refusal-of .ensures ∙ refused-by (a .c) _ (number (a .ok) (a .c) (a .offset) (a .value) (c .before .before .write-refusal .ensures) (c .before .before .before .before .access-of .ensures) (c .before .before .before .value-refusal .ensures) (c .before .before .before .before .before .register-at .ensures)) (c .before .if1 .taken)
 
 returns-2 : tie.Need-returns-2
 unfolding writeAs
 returns-2 c =
     let a = c .before .before .before .before .before .before .before .args in
     carried-by (a .c) (number (a .ok) (a .c) (a .offset) (a .value) (c .before .before .before .write-refusal .ensures) (c .before .before .before .before .before .access-of .ensures) (c .before .before .before .before .value-refusal .ensures) (c .before .before .before .before .before .before .register-at .ensures)) (c .before .before .if1 .left)
-    (c .carry-out .ensures ∙ ap (λ (d : Cic). answered d 0) (c .before .written-to .ensures ∙ ap (λ (x : Register). writtenTo (a .c) x (a .value)) (c .before .before .before .before .before .before .register-at .ensures)))
+    (c .answer-of .ensures ∙ ap (λ (d : Cic). answered d 0) (c .before .written-to .ensures ∙ ap (λ (x : Register). writtenTo (a .c) x (a .value)) (c .before .before .before .before .before .before .register-at .ensures)))
 
 pub write-as-spec : {M : Type 1} → statement M
 write-as-spec =

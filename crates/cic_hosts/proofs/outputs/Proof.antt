@@ -1,17 +1,17 @@
 -- That `outputs` of src/lib.rt keeps its contract.
 use Rattle.words.proofs.ChoiceLaws.{by-true, by-false}
-use Rattle.cic_hosts.specs.Hosts.{outputsOf}
+use Rattle.cic_hosts.specs.Hosts.{outputs}
 use mathlib.Core.Path.{_∙_}
 use borrow.Author.Needs.{needs}
 use Rattle.cic_hosts.proofs.outputs.Statement.{statement}
 use Rattle.cic_hosts.proofs.outputs.Tie as tie
 
 returns : tie.Need-returns
-unfolding outputsOf
+unfolding outputs
 returns c = c .shown .ensures ∙ by-true _ (c .before .before .is-sound .ensures) (c .before .if1 .taken)
 
 returns-2 : tie.Need-returns-2
-unfolding outputsOf
+unfolding outputs
 returns-2 c = by-false _ (c .before .is-sound .ensures) (c .if1 .left)
 
 pub outputs-spec : {M : Type 1} → statement M

@@ -4,8 +4,8 @@ use Rattle.words.proofs.ShiftLaws.{bit-left, any-gone}
 use Rattle.words.proofs.CountingLaws.{any-none-yet}
 use Rattle.words.specs.Array.{bitAt}
 use Rattle.words.specs.Counting.{anyBelow}
-use Rattle.cic_record.specs.Kinds.{system}
-use Rattle.cic_hosts.specs.Scan.{channelIn, hostIn, goes}
+use Rattle.cic_record.specs.Kinds.{system, channelIn, hostIn}
+use Rattle.cic_hosts.specs.Scan.{goes}
 use lib.Pow.{shr-shr}
 use lib.ListN.{length}
 use lib.Dec.{eqb}

@@ -1,6 +1,6 @@
 -- That `visit` of src/lib.rt keeps its contract.
 use Rattle.cic_hosts.proofs.ScanLaws.{marked, passed}
-use Rattle.cic_hosts.specs.Scan.{hostIn}
+use Rattle.cic_record.specs.Kinds.{hostIn}
 use Rattle.cic_record.specs.declared.Host.{Host}
 use Rattle.cic_record.specs.declared.Channel.{Channel}
 use Rattle.words.specs.Array.{withBitAt}
@@ -16,8 +16,8 @@ unfolding withBitAt
 returns c =
     let a = c .before .before .before .before .before .args in
     let p = c .before .before .before .before .before .pre in
-    let h = c .before .before .host-of in
-    let k = c .before .before .before .channel-of in (
+    let h = c .before .before .host-in in
+    let k = c .before .before .before .channel-in in (
       λ n. marked (a .out .now) _ (a .on) _ (h .result .0) n (omega (arith, p .1, h .ensures .1)) (c .before .before .before .before .if1 .taken) (ap (λ (x : Host). x .0) (h .ensures .0) ∙ ap (λ (x : Channel). hostIn (a .host .now) x .0) (k .ensures .0)) (c .mark .ensures),
       ap length (c .mark .ensures) ∙ simp length-set (p .1),
     )

@@ -20,6 +20,10 @@ use Rattle.cic_registers.specs.Registers.{valueOf, valueRefusal, writtenTo}
 abbrev pub unlessRefused : Cic → ℕ → Answer → Answer
 unlessRefused c n a = pick (eqb n carriedOut) a (refused c n)
 
+-- the number by which the value v is refused at an offset, 0 where it is not (01, Numbers; CIC, registers)
+abbrev pub refusalAt : Cic → ℕ → ℕ → ℕ
+refusalAt c offset v = valueRefusal c (registerAt offset) v
+
 -- a read of a record that is sound or not, as `ok` says (01, Numbers)
 unfoldable pub readAs : Bool → Cic → ℕ → Answer
 readAs ok c offset = unlessRefused c (readRefusal ok offset (access c offset)) (answered c (valueOf c (registerAt offset)))
@@ -27,7 +31,7 @@ readAs ok c offset = unlessRefused c (readRefusal ok offset (access c offset)) (
 -- a write to such a record; one that is carried out answers the value 0 (01, Numbers)
 unfoldable pub writeAs : Bool → Cic → ℕ → ℕ → Answer
 writeAs ok c offset v =
-    unlessRefused c (writeRefusal ok offset (access c offset) (valueRefusal c (registerAt offset) v)) (answered (writtenTo c (registerAt offset) v) 0)
+    unlessRefused c (writeRefusal ok offset (access c offset) (refusalAt c offset v)) (answered (writtenTo c (registerAt offset) v) 0)
 
 -- a rising line sets the status, a falling one changes nothing; the line keeps its level (01, CIC, configuration)
 unfoldable pub moved : Cic → System → Bool → Cic
@@ -47,17 +51,17 @@ stepAs ok c (Write offset v) = writeAs ok c offset v
 stepAs ok c (Line s level) = lineAs ok c s level
 
 -- a read of the record c; one that is not sound is refused by 12 (01, Numbers)
-abbrev pub readOf : Cic → ℕ → Answer
-readOf c offset = readAs (sound c) c offset
+abbrev pub read : Cic → ℕ → Answer
+read c offset = readAs (sound c) c offset
 
 -- a write to the record c (01, Numbers)
-abbrev pub writeOf : Cic → ℕ → ℕ → Answer
-writeOf c offset v = writeAs (sound c) c offset v
+abbrev pub write : Cic → ℕ → ℕ → Answer
+write c offset v = writeAs (sound c) c offset v
 
 -- a line step of the record c (01, Numbers)
-abbrev pub lineOf : Cic → ℕ → ℕ → Answer
-lineOf c s level = lineAs (sound c) c s level
+abbrev pub line : Cic → ℕ → ℕ → Answer
+line c s level = lineAs (sound c) c s level
 
 -- any step of the record c (01, Numbers)
-abbrev pub stepOf : Cic → Step → Answer
-stepOf c s = stepAs (sound c) c s
+abbrev pub step : Cic → Step → Answer
+step c s = stepAs (sound c) c s
