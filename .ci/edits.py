@@ -1,6 +1,6 @@
-"""What the checks that try edits share: an edit, and a room, which is a copy of the crates with what is proved of them, to try it in.
+"""What the checks that try edits share: an edit, and a room to try it in, which has the crates and what is proved of them.
 
-An edit is a file as the toolchain has it for must-fail/: comments, and `file:`, `old:` and `new:` lines, `old:` standing exactly once in the file.
+An edit is a file as the toolchain has it under must-fail/: comments, and `file:`, `old:` and `new:` lines; the old text stands exactly once in its file.
 """
 import glob
 import os
@@ -9,46 +9,38 @@ import subprocess
 
 
 class Edit:
-    def __init__(self, path):
-        self.path = path
-        self.crate, self.name = path.split("/")[1], os.path.basename(path)[: -len(".edit")]
-        self.pairs, self.says, self.bad = [], None, None
-        file = old = ""
-        with open(path, encoding="utf-8") as lines:
-            for line in lines.read().split("\n"):
-                if line.startswith("file: "):
-                    file = line[6:]
-                elif line.startswith("old: "):
-                    old = line[5:]
-                elif line.startswith("new:"):
-                    self.pairs.append((file, old, line[4:].removeprefix(" ")))
-                    old = ""
-                elif line.startswith("says: "):
-                    self.says = line[6:]
+    def __init__(self, crate, name, pairs=(), says=None):
+        self.crate, self.name, self.pairs, self.says = crate, name, list(pairs), says
 
-    def put(self, crate):
-        """Makes the edit in the folder of a crate. Answers why it cannot be made, or None."""
-        for file, old, new in self.pairs:
-            path = os.path.join(crate, file)
-            if not file.startswith(("src/", "specs/")) or ".." in file or not os.path.isfile(path):
-                return f"'{file}' is no file of src/ or specs/"
-            with open(path, encoding="utf-8") as source:
-                text = source.read()
-            if not old or text.count(old) != 1:
-                return f"the old text stands {text.count(old) if old else 0} times in {file}, not once"
-            with open(path, "w", encoding="utf-8") as source:
-                source.write(text.replace(old, new))
-        return None if self.pairs else "it changes nothing"
+    def __str__(self):
+        return f"{self.crate}/{self.name}"
+
+
+def read(path):
+    edit = Edit(path.split("/")[1], os.path.basename(path)[: -len(".edit")])
+    file = old = ""
+    with open(path, encoding="utf-8") as source:
+        for line in source.read().split("\n"):
+            if line.startswith("file: "):
+                file = line[6:]
+            elif line.startswith("old: "):
+                old = line[5:]
+            elif line.startswith("says: "):
+                edit.says = line[6:]
+            elif line.startswith("new:"):
+                edit.pairs.append((file, old, line[5:] if line.startswith("new: ") else line[4:]))
+                old = ""
+    return edit
 
 
 def all_in(folder, crates=()):
-    """The edits of a folder of every crate, or of the crates named."""
-    found = [Edit(path) for path in sorted(glob.glob(f"crates/*/{folder}/*.edit"))]
+    """The edits in a folder of every crate, or of the crates named."""
+    found = [read(path) for path in sorted(glob.glob(f"crates/*/{folder}/*.edit"))]
     return [edit for edit in found if not crates or edit.crate in crates]
 
 
 class Room:
-    """Files that are proved are linked and not copied: the toolchain puts a new file in the place of an old one, and writes into none."""
+    """A copy of the crates, with what is proved of them: linked, since the toolchain puts a new file in the place of an old one and writes into none."""
 
     def __init__(self, where):
         self.where = where
@@ -61,13 +53,31 @@ class Room:
     def path(self, *parts):
         return os.path.join(self.where, *parts)
 
-    def restore(self, crate):
-        shutil.rmtree(self.path("crates", crate))
-        shutil.copytree(f"crates/{crate}", self.path("crates", crate))
-
     def rt(self, *words):
-        """Runs the toolchain in the room: its exit status, and all that it said."""
-        ran = subprocess.run(
-            ["rt", *words], cwd=self.where, env=dict(os.environ, RT_CUT="0"), stdin=subprocess.DEVNULL, stdout=subprocess.PIPE, stderr=subprocess.STDOUT
-        )
+        """Runs the toolchain here. Answers its exit status and all that it said."""
+        ran = subprocess.run(["rt", *words], cwd=self.where, stdin=subprocess.DEVNULL, stdout=subprocess.PIPE, stderr=subprocess.STDOUT)
         return ran.returncode, ran.stdout.decode(errors="replace")
+
+    def rt_with(self, edit, *words):
+        """The same with an edit made, which is taken back afterwards. An edit that cannot be made answers None and why."""
+        before = {}
+        try:
+            bad = None if edit.pairs else "it changes nothing"
+            for file, old, new in edit.pairs:
+                path = self.path("crates", edit.crate, file)
+                if not file.startswith(("src/", "specs/")) or ".." in file or not os.path.isfile(path):
+                    bad = f"'{file}' is no file of src/ or specs/"
+                    break
+                with open(path, encoding="utf-8") as source:
+                    text = source.read()
+                before.setdefault(path, text)
+                if not old or text.count(old) != 1:
+                    bad = f"the old text stands {text.count(old) if old else 0} times in {file}, not once"
+                    break
+                with open(path, "w", encoding="utf-8") as source:
+                    source.write(text.replace(old, new))
+            return (None, bad) if bad else self.rt(*words)
+        finally:
+            for path, text in before.items():
+                with open(path, "w", encoding="utf-8") as source:
+                    source.write(text)
