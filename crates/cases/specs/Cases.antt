@@ -1,5 +1,5 @@
 -- The worked cases that 01 marks (Both sides of each rule), in its order: each is a test, computed from the definitions of the three models.
-use Prim.Native.Nat.{ℕ, zero, suc, _+_, _*_, _^_}
+use Prim.Native.Nat.{ℕ, _+_, _*_, _^_}
 use mathlib.Core.Bool.{Bool, true, false, not, _&&_}
 use mathlib.Core.List.{List, [], _∷_, _++_}
 use lib.Dec.{eqb}
@@ -8,8 +8,10 @@ use Rattle.steps.specs.declared.Step.{Step}
 use Rattle.steps.specs.declared.Step.the-variants.{Read, Write, Line}
 use Rattle.steps.specs.Refusals.{carriedOut, absent, unreadable, beyond}
 use Rattle.aic_record.specs.declared.Aic.{Aic}
-use Rattle.aic_registers.specs.Map.{svr, ivr, fvr, isr, ipr, iecr, iccr, eoicr, spu, ffer}
+use Rattle.aic_registers.specs.Map.{svr, ivr, fvr, isr, ipr, iccr, eoicr, spu, ffer}
 use Rattle.aic.specs.Model.{start, step, outputs}
+use Rattle.aic_runs.specs.Runs.{run}
+use Rattle.aic_runs.specs.Worked.{ready, tower}
 use Rattle.coreinterrupt.specs.Model as CoreInterrupt
 use Rattle.cic_record.specs.declared.Cic.{Cic}
 use Rattle.cic_record.specs.Start.{start as cicStart}
@@ -17,27 +19,17 @@ use Rattle.cic.specs.Model as Cic
 
 -- ---- how an AIC is brought where a case begins
 
--- the record after a list of steps
-unfoldable pub after : Aic → List Step → Aic
-after s [] = s
-after s (x ∷ xs) = after (step s x .aic) xs
-
 -- from reset: internal sources, lines low, and a spurious vector that no source has
 unfoldable pub ran : List Step → Aic
-ran xs = after (start 0 0 .aic) (Write spu 0xEE ∷ xs)
+ran xs = run (start 0 0 .aic) (Write spu 0xEE ∷ xs)
 
 -- the vector that source k is given
 abbrev pub vectorFor : ℕ → ℕ
 vectorFor k = 0xA0 + k
 
--- source k is given a vector, made edge-triggered (type 3) at priority p and enabled, and its line rises
+-- source k is given a vector, made edge-triggered at priority p and enabled, and its line rises
 unfoldable pub raise : ℕ → ℕ → List Step
-raise k p = Write (svr + 4 * k) (vectorFor k) ∷ Write (4 * k) (0x60 + p) ∷ Write iecr (2 ^ k) ∷ Line k 1 ∷ []
-
--- n handlers are opened: source 1 at level 0, source 2 at level 1, and so on
-unfoldable pub tower : ℕ → List Step
-tower zero = []
-tower (suc n) = tower n ++ (raise (n + 1) n ++ (Read ivr ∷ []))
+raise k p = Write (svr + 4 * k) (vectorFor k) ∷ (ready k p ++ (Line k 1 ∷ []))
 
 -- ---- what a case looks at
 

@@ -1,4 +1,4 @@
-// Prints the listing of the trace on standard input.
+// Prints the listing of the trace on standard input. Where the trace cannot be read, or its listing not be written, one line on standard error says so.
 ghost use mathlib.Core.Path.{_≡_};
 ghost use mathlib.Core.List.{List};
 ghost use Prim.Native.Nat.{ℕ, _≤_};
@@ -9,13 +9,67 @@ ghost use Rattle.listing.specs.Listing.{listingOf};
 // The most steps that are played.
 const LIMIT: u32 = 20000;
 
+// What came of reading: so many bytes at the start of the room, and whether a read failed.
+struct Came {
+    bytes: usize,
+    failed: bool,
+}
+
 // One byte more is read than a trace may have, so that a longer one is told apart.
 fn main() {
     let mut input = [0u8; 65537];
-    let n = io::read_full(0, &mut input);
+    let came = read(&mut input);
+    if came.failed {
+        tell(b"wisteria: the trace could not be read\n");
+        return;
+    }
+    let n = came.bytes;
+    print(&input[..n]);
+}
+
+// Reads standard input until the room is full, the input ends or a read fails.
+fn read(room: &mut [u8]) -> Came
+    ensures { λ r. ⌜ r .bytes ≤ length (now (room .exit)) ⌝ }
+{
+    let mut at: usize = 0;
+    while at < room.len() {
+        let more = read_once(&mut room[at..]);
+        let n = more.bytes;
+        if n == 0 {
+            return Came {
+                bytes: at,
+                failed: more.failed,
+            };
+        }
+        at = at + n;
+    }
+    Came {
+        bytes: at,
+        failed: false,
+    }
+}
+
+fn read_once(room: &mut [u8]) -> Came
+    ensures { λ r. ⌜ r .bytes ≤ length (now (room .entry)) ⌝ }
+{
+    let got = libc::read(0, room);
+    Came {
+        bytes: io::count(got, room),
+        failed: got < 0,
+    }
+}
+
+// Writes the listing to standard output.
+fn print(trace: &[u8]) {
     let mut out = room();
-    let k = listed(&input[..n], &mut out);
-    io::write_all(1, &out[..k]);
+    let k = listed(trace, &mut out);
+    if !io::write_all(1, &out[..k]) {
+        tell(b"wisteria: the listing could not be written\n");
+    }
+}
+
+fn tell(what: &[u8]) {
+    io::write_all(2, what);
 }
 
 // The listing that is printed.

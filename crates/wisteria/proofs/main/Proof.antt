@@ -1,16 +1,12 @@
 -- That `main` of src/main.rt keeps its contract.
 use mathlib.Core.Path.{sym}
 use lib.Seq.{length-take-le}
-use Rattle.text.proofs.WriteLaws.{laid-fits}
 use borrow.Author.Needs.{needs}
 use Rattle.wisteria.proofs.main.Statement.{statement}
 use Rattle.wisteria.proofs.main.Tie as tie
 
-array-share-prefix-out : tie.Need-array-share-prefix-out
-array-share-prefix-out c = laid-fits _ _ _ (c .before .listed .ensures)
-
-slice-aggregate-write-all : tie.Need-slice-aggregate-write-all
-slice-aggregate-write-all c = sym (length-take-le _ _ (laid-fits _ _ _ (c .before .before .listed .ensures)))
+slice-aggregate-print : tie.Need-slice-aggregate-print
+slice-aggregate-print c = sym (length-take-le _ _ (c .before .before .before .read .ensures))
 
 pub main-spec : {M : Type 1} → statement M
 main-spec =
@@ -18,12 +14,10 @@ main-spec =
     (tie.spec
     (λ c. search needs)
     (λ c κs. search needs)
-    (λ c κs. search needs)
-    (λ c. search needs)
-    (λ c. search needs)
     (λ c. search needs)
     (λ c κs. search needs)
-    array-share-prefix-out
-    slice-aggregate-write-all
+    (λ c. search needs)
+    (λ c. search needs)
+    slice-aggregate-print
     (λ c κs. search needs)
     (λ c. search needs))

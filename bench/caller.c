@@ -1,0 +1,101 @@
+/* A caller in C: the example of document 01 through the proved library and its header, the empty trace, and traces that end at a limit and beside it.
+ * It prints what differs, and ends with 1 where something does. */
+#include "wisteria.h"
+
+#include <stdio.h>
+#include <string.h>
+
+#define BYTES(text) ((const uint8_t *)(text)), (sizeof(text) - 1)
+
+static int wrong;
+
+static void expect(const char *what, int good)
+{
+    if (!good) {
+        printf("%s: another answer than expected\n", what);
+        wrong = 1;
+    }
+}
+
+/* The listing, into a room of so many bytes: its first bytes, and the room behind them untouched. */
+static void listed(const char *what, const uint8_t *trace, size_t length, size_t room, const char *listing)
+{
+    static uint8_t out[WISTERIA_ROOM(100)], same[sizeof out];
+    size_t whole = strlen(listing), fits = whole < room ? whole : room;
+    memset(out, 0xA5, sizeof out);
+    memset(same, 0xA5, sizeof same);
+    expect(what, wisteria_list(trace, length, 100, out, room) == fits);
+    expect(what, memcmp(out, listing, fits) == 0);
+    expect(what, memcmp(out + fits, same, sizeof out - fits) == 0);
+}
+
+/* How a trace ends with a limit: the steps played, the refusal, the place. */
+static void ends(const char *what, const uint8_t *trace, size_t length, uint32_t limit, uint32_t steps, uint32_t refusal, size_t offset)
+{
+    expect(what, wisteria_steps(trace, length, limit) == steps);
+    expect(what, wisteria_refusal(trace, length, limit) == refusal);
+    expect(what, wisteria_offset(trace, length, limit) == offset);
+}
+
+static void worked_example(void)
+{
+    static const uint8_t trace[] = {0x00, 0x00, 0x00, 0x02, 0x14, 0x23, 0x02, 0x94, 0x01, 0xA0, 0x01, 0x02, 0xA0, 0x02,
+                                    0x20, 0x03, 0x05, 0x01, 0x01, 0x80, 0x02, 0x01, 0x02, 0x02, 0xB0, 0x02, 0x00};
+    static const char listing[] = "AIC\n"
+                                  "1 W 00000000 0 0 0\n"
+                                  "2 W 00000000 0 0 0\n"
+                                  "3 W 00000000 0 0 0\n"
+                                  "4 L 00000000 1 0 0\n"
+                                  "5 R 000000A0 0 0 1\n"
+                                  "6 X 00000001 0 0 1\n"
+                                  "7 W 00000000 0 0 0\n";
+    size_t room;
+    for (room = 0; room < sizeof listing + 2; room++)
+        listed("the worked example", trace, sizeof trace, room, listing);
+    ends("the worked example", trace, sizeof trace, 7, 7, WISTERIA_ENDED, sizeof trace);
+    ends("six of its steps", trace, sizeof trace, 6, 6, WISTERIA_STEP_LIMIT, 23);
+    listed("the empty trace", trace, 0, WISTERIA_ROOM(0), "E 8 0\n");
+    ends("the empty trace", trace, 0, 7, 0, WISTERIA_DAMAGED_NUMBER, 0);
+}
+
+/* Endings at their edges and beside them (01, Numbers; House trace). */
+static void endings(void)
+{
+    ends("limit 0 and no step", BYTES("\0\0\0"), 0, 0, WISTERIA_ENDED, 3);
+    ends("limit 0 and a step", BYTES("\0\0\0\1\0"), 0, 0, WISTERIA_STEP_LIMIT, 3);
+    ends("limit 1 and a step", BYTES("\0\0\0\1\0"), 1, 1, WISTERIA_ENDED, 5);
+    ends("limit 1 and a damaged second", BYTES("\0\0\0\1\0\xFF"), 1, 1, WISTERIA_STEP_LIMIT, 5);
+    ends("cut short", BYTES("\0\x80"), 1, 0, WISTERIA_DAMAGED_NUMBER, 1);
+    ends("two bytes", BYTES("\0\x80\1\0"), 1, 0, WISTERIA_ENDED, 4);
+    ends("not shortest", BYTES("\0\x80\0\0"), 1, 0, WISTERIA_DAMAGED_NUMBER, 1);
+    ends("32 bits", BYTES("\0\xFF\xFF\xFF\xFF\x0F\0"), 1, 0, WISTERIA_ENDED, 7);
+    ends("33 bits", BYTES("\0\xFF\xFF\xFF\xFF\x10\0"), 1, 0, WISTERIA_DAMAGED_NUMBER, 1);
+    ends("six bytes", BYTES("\0\x80\x80\x80\x80\x80\1\0"), 1, 0, WISTERIA_DAMAGED_NUMBER, 1);
+    ends("controller 2", BYTES("\2\1\1\1\0"), 1, 0, WISTERIA_ENDED, 5);
+    ends("controller 3", BYTES("\3\1\1\1\0"), 1, 0, WISTERIA_UNKNOWN_KIND, 0);
+    ends("controller 3, not shortest", BYTES("\x83\0"), 1, 0, WISTERIA_DAMAGED_NUMBER, 0);
+    ends("controller 131", BYTES("\x83\1"), 1, 0, WISTERIA_UNKNOWN_KIND, 0);
+    ends("step 0", BYTES("\0\0\0\0\0\0"), 1, 0, WISTERIA_UNKNOWN_KIND, 3);
+    ends("step 3", BYTES("\0\0\0\3\0\0"), 1, 1, WISTERIA_ENDED, 6);
+    ends("step 4", BYTES("\0\0\0\4\0\0"), 1, 0, WISTERIA_UNKNOWN_KIND, 3);
+    ends("8 and 32 sources", BYTES("\1\x08\x20\1\1"), 1, 0, WISTERIA_ENDED, 5);
+    ends("9 FIQ sources", BYTES("\1\x09\x20\1\1"), 1, 0, WISTERIA_BEYOND_LIMIT, 1);
+    ends("33 IRQ sources, and a number cut short behind", BYTES("\1\x08\x21\1\x80"), 1, 0, WISTERIA_BEYOND_LIMIT, 2);
+    ends("9 FIQ sources, not shortest", BYTES("\1\x89\0\x21\1"), 1, 0, WISTERIA_DAMAGED_NUMBER, 1);
+}
+
+/* The longest trace and one byte more: all 0, so that the shorter one ends at its first step. */
+static void lengths(void)
+{
+    static const uint8_t zeros[WISTERIA_LONGEST + 1];
+    ends("65,536 bytes", zeros, WISTERIA_LONGEST, 1, 0, WISTERIA_UNKNOWN_KIND, 3);
+    ends("65,537 bytes", zeros, sizeof zeros, 1, 0, WISTERIA_TRACE_TOO_LONG, WISTERIA_LONGEST);
+}
+
+int main(void)
+{
+    worked_example();
+    endings();
+    lengths();
+    return wrong;
+}
