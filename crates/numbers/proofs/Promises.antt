@@ -8,7 +8,8 @@ use lib.ListN.{length, getD}
 use borrow.Author.Tests.{lt-ltb, le-ltb}
 use Rattle.words.proofs.TruthLaws.{told as told-apart}
 use Rattle.steps.specs.Refusals.{carriedOut, damaged}
-use Rattle.numbers.specs.Number.{sizeAt, worthAt, faulty, Told, told}
+use Rattle.numbers.specs.declared.Number.the-variants.{Value, Refused}
+use Rattle.numbers.specs.Number.{sizeAt, worthAt, faulty, numberAt, Told, told}
 use Rattle.numbers.specs.Promises.{toldAt, Spans, Damaged, Promises}
 use Rattle.numbers.proofs.FormLaws.{one-form}
 use Rattle.numbers.proofs.Examples.{three-groups}
@@ -22,12 +23,15 @@ gone at = record { refusal = damaged; value = 0; place = at }
 abbrev had : List ℕ → ℕ → Told
 had s at = record { refusal = carriedOut; value = worthAt s at (sizeAt s at); place = at + sizeAt s at }
 
-outcome : (s : List ℕ) (at : ℕ) → (Damaged s at × (toldAt s at ≡ gone at)) ⊎ (GoodAt s at × (toldAt s at ≡ had s at))
-outcome s at =
-    ⊎-elim
-    (λ e. inl (fault s at _ _ e, ap told (sym (refused s at _ _ (refl, refl) e))))
-    (λ e. inr (faultless s at _ _ e, ap told (sym (read s at _ _ (refl, refl) e))))
+-- a number is damaged and refused, or good and read
+answer : (s : List ℕ) (at : ℕ) → (Damaged s at × (numberAt s at ≡ Refused damaged at)) ⊎ (GoodAt s at × (numberAt s at ≡ Value (worthAt s at (sizeAt s at)) (at + sizeAt s at)))
+answer s at =
+    ⊎-elim (λ e. inl (fault s at _ _ e, sym (refused s at _ _ (refl, refl) e))) (λ e. inr (faultless s at _ _ e, sym (read s at _ _ (refl, refl) e)))
     (told-apart (faulty s at (sizeAt s at) (worthAt s at (sizeAt s at))))
+
+-- and tells so
+outcome : (s : List ℕ) (at : ℕ) → (Damaged s at × (toldAt s at ≡ gone at)) ⊎ (GoodAt s at × (toldAt s at ≡ had s at))
+outcome s at = ⊎-elim (λ h. inl (h .0, ap told (h .1))) (λ h. inr (h .0, ap told (h .1))) (answer s at)
 
 apart : {A : Type 0} → _≡_ {A = ℕ} carriedOut damaged → A
 apart e = absurd (let z : _≡_ {A = ℕ} 0 8 = e in omega arith)
@@ -85,6 +89,7 @@ kept =
       sizeMost = λ s at. sized s at .most;
       worthNone = λ s at. sym (worth-none s at);
       worthMore = λ s at n. sym (worth-turn s at n refl refl refl);
+      answers = λ s at. ⊎-elim (λ h. inl (h .1)) (λ h. inr (h .1)) (answer s at);
       eight = eight;
       refused = refused-so;
       missing = λ s at h. ap told (sym (missing s at h));

@@ -48,6 +48,8 @@ pub record Promises : Type 0 where
   pub worthMore : (s : List ℕ) (at n : ℕ) → worthAt s at (n + 1) ≡ worthAt s at n + getD s (at + n) 0 % 128 * 128 ^ n
   -- ---- what is answered
 
+  -- a number is refused by 8 where it begins, or its groups and the place after its bytes are answered (01, House trace)
+  pub answers : (s : List ℕ) (at : ℕ) → (numberAt s at ≡ Refused 8 at) ⊎ (numberAt s at ≡ Value (worthAt s at (sizeAt s at)) (at + sizeAt s at))
   -- 8 is given exactly when a number is damaged (01, Numbers)
   pub eight : (s : List ℕ) (at : ℕ) → (toldAt s at .refusal ≡ 8) ↔ Damaged s at
   -- no other refusal is given, and a refused number tells its first byte (01, House trace)
