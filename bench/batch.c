@@ -14,7 +14,7 @@ typedef __UINT32_TYPE__ uint32_t;
 
 enum { READ = 0, WRITE = 1, EXIT = 231, LARGEST = 1 << 22, UNTOUCHED = 0xA5 };
 
-/* The proved function: what each number counts is said in the library's own source. */
+/* The proved function: include/wisteria.h says what each number counts. */
 size_t wisteria_list(const uint8_t *trace, size_t trace_len, uint32_t limit, uint8_t *out, size_t out_len);
 
 static uint8_t trace[LARGEST];

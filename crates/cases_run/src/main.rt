@@ -1,5 +1,5 @@
-// Runs what no trace can show: which starts and which records each controller takes, at every limit and just beside it. Prints a line for each.
-// Steps, their refusals, endings and the slips that 01 names are traces by nature: examples/ has them.
+// Runs what no trace can show: the records that each controller takes or refuses, at every limit and just beside it; and its starts. Prints a line for
+// each. Steps, their refusals, endings and the slips that 01 names are traces by nature: examples/ has them.
 mod aic_records;
 mod cic_records;
 mod core_records;

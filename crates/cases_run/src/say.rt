@@ -1,17 +1,34 @@
-// The lines that are printed.
+// The lines that are printed: the numbers of a case and what came of it.
 
-pub(crate) fn text(t: &[u8]) {
+// The line above some cases: what their numbers are.
+pub(crate) fn heading(t: &[u8]) {
     io::write_all(1, t);
 }
 
-// A case, and whether what it asked was carried out.
-pub(crate) fn case(what: &[u8], refusal: u32) {
-    text(what);
+fn number(n: u32) {
+    io::write_all(1, b" 0x");
+    io::print_hex(1, n as u64, 1);
+}
+
+fn outcome(refusal: u32) {
     if refusal == steps::CARRIED_OUT {
-        text(b": accepted\n");
+        io::write_all(1, b": accepted\n");
         return;
     }
-    text(b": refusal ");
+    io::write_all(1, b": refusal ");
     io::print_decimal(1, refusal as u64);
-    text(b"\n");
+    io::write_all(1, b"\n");
+}
+
+pub(crate) fn four(a: u32, b: u32, c: u32, d: u32, refusal: u32) {
+    number(a);
+    number(b);
+    number(c);
+    number(d);
+    outcome(refusal);
+}
+
+pub(crate) fn one(a: u32, refusal: u32) {
+    number(a);
+    outcome(refusal);
 }

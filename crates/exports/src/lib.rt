@@ -1,10 +1,5 @@
 // The player and the listing for callers in Rust and C. A slice goes as a pointer and a length, in this order; a length and an offset are of the
-// width of a pointer. The caller answers for what its pointers point to.
-//
-//     size_t   wisteria_list(const uint8_t *trace, size_t trace_len, uint32_t limit, uint8_t *out, size_t out_len);
-//     uint32_t wisteria_steps(const uint8_t *trace, size_t trace_len, uint32_t limit);
-//     uint32_t wisteria_refusal(const uint8_t *trace, size_t trace_len, uint32_t limit);
-//     size_t   wisteria_offset(const uint8_t *trace, size_t trace_len, uint32_t limit);
+// width of a pointer. include/wisteria.h declares the functions for C, and says what a caller answers for.
 ghost use mathlib.Core.Path.{_≡_};
 ghost use Rattle.text.specs.Text.{laid};
 ghost use Rattle.player.specs.Play.{playOf};
