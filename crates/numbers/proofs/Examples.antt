@@ -13,6 +13,10 @@ two-groups : numberAt (160 ∷ 1 ∷ []) 0 ≡ Value 160 2
 unfolding pick anyBelow sumBelow lowestBelow sizeAt worthAt faulty numberAt
 two-groups = refl
 
+pub three-groups : numberAt (7 ∷ 229 ∷ 142 ∷ 38 ∷ 1 ∷ []) 1 ≡ Value 624485 4
+unfolding pick anyBelow sumBelow lowestBelow sizeAt worthAt faulty numberAt
+three-groups = refl
+
 -- 0 is one byte, and no other form of it is good
 zero-one : numberAt (0 ∷ []) 0 ≡ Value 0 1
 unfolding pick anyBelow sumBelow lowestBelow sizeAt worthAt faulty numberAt

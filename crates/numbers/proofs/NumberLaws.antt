@@ -98,6 +98,10 @@ pub record Good (s : List ℕ) (at n v : ℕ) : Type 0 where
   pub short : n ≤ 5
   pub shortest : 1 < n → group (getD s (at + (n - 1)) 0) ≡ 0 → ⊥
 
+-- so is the number at a place
+abbrev pub GoodAt : List ℕ → ℕ → Type 0
+GoodAt s at = Good s at (sizeAt s at) (worthAt s at (sizeAt s at))
+
 pub faultless : (s : List ℕ) (at n v : ℕ) → faulty s at n v ≡ false → Good s at n v
 unfolding faulty
 faultless s at n v e =

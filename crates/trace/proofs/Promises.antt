@@ -5,23 +5,21 @@ use mathlib.Core.List.{List, [], _∷_}
 use mathlib.Core.Logic.{inl, inr}
 use native.Mathlib.Omega.{arith}
 use lib.ListN.{length}
-use lib.Dec.{ltb}
-use borrow.Author.Tests.{ltb-true, ltb-false}
 use Rattle.words.specs.Choice.{pick}
-use Rattle.words.proofs.ChoiceLaws.{pick-cases}
-use Rattle.steps.specs.Refusals.{carriedOut, damaged, unknown}
+use Rattle.steps.specs.Refusals.{carriedOut, limitReached, damaged, unknown}
 use Rattle.steps.specs.declared.Step.{Step}
 use Rattle.steps.specs.declared.Step.the-variants.{Read, Write, Line}
 use Rattle.numbers.specs.declared.Number.{Number}
-use Rattle.numbers.specs.declared.Number.the-variants.{Value, Refused as Number·Refused}
+use Rattle.numbers.specs.declared.Number.the-variants.{Value, Refused}
 use Rattle.numbers.specs.Number.{numberAt, told as number-told}
 use Rattle.numbers.specs.Promises.{toldAt}
 use Rattle.numbers.proofs.ReadLaws.{told-read, told-damaged, next-place}
-use Rattle.trace.specs.declared.Next.{Next}
-use Rattle.trace.specs.declared.Next.the-variants.{Found, Refused}
+use Rattle.trace.specs.declared.Turn.{Turn}
+use Rattle.trace.specs.declared.Turn.the-variants.{Found, Ended}
 use Rattle.trace.specs.Steps.{operandsOf, numbersOf, stepAt, told}
-use Rattle.trace.specs.Trace.{Trace, goOn, stepsFrom}
+use Rattle.trace.specs.Trace.{Trace, ends, goOn, stepsFrom}
 use Rattle.trace.specs.Promises.{Reads, Wanting, Along, Ends, Promises}
+use Rattle.trace.proofs.TraceLaws.{turn-cases}
 use Rattle.trace.proofs.StepLaws.{operands-le, read-one, write-two, line-two, kind-damaged, kind-unknown, first-damaged, one-number, second-damaged, two-numbers, Outcome, noKind, unknownKind, noFirst, oneNumber, noSecond, twoNumbered, outcome}
 
 -- ---- numbers one after the other
@@ -36,7 +34,7 @@ had s at v p e f g = told-read s at e ∙ ap (λ (x : ℕ). Value x (toldAt s at
 
 -- ---- steps
 
-numbers : (s : List ℕ) (at : ℕ) (n : Next) → Outcome s at n → told n .refusal ≡ carriedOut → Reads s at (told n .numbers) (told n .place)
+numbers : (s : List ℕ) (at : ℕ) (n : Turn) → Outcome s at n → told n .refusal ≡ carriedOut → Reads s at (told n .numbers) (told n .place)
 numbers s at n (noKind e) z = absurd (omega arith)
 numbers s at n (unknownKind kind p e o) z = absurd (omega arith)
 numbers s at n (noFirst kind p e l f) z = absurd (omega arith)
@@ -73,13 +71,13 @@ found s at p (Line x y) r =
 -- ---- refusals
 
 -- a number that tells 8 where another place is meant
-damaged-at : (s : List ℕ) (p q : ℕ) → p ≡ q → numberAt s p ≡ Number·Refused damaged p → toldAt s q .refusal ≡ damaged
+damaged-at : (s : List ℕ) (p q : ℕ) → p ≡ q → numberAt s p ≡ Refused damaged p → toldAt s q .refusal ≡ damaged
 damaged-at s p q e f = ap (λ (k : ℕ). toldAt s k .refusal) (sym e) ∙ ap (λ (n : Number). number-told n .refusal) f
 
 abbrev AtFault : List ℕ → ℕ → ℕ → Type 0
 AtFault s at p = (ns : List ℕ) × Reads s at ns p × Wanting ns × (toldAt s p .refusal ≡ damaged)
 
-fault : (s : List ℕ) (at p : ℕ) (n : Next) → Outcome s at n → told n .refusal ≡ damaged → told n .place ≡ p → AtFault s at p
+fault : (s : List ℕ) (at p : ℕ) (n : Turn) → Outcome s at n → told n .refusal ≡ damaged → told n .place ≡ p → AtFault s at p
 fault s at p n (noKind e) z w = ([], w, tt, damaged-at s at p w e)
 fault s at p n (unknownKind kind q e o) z w = absurd (omega arith)
 fault s at p n (noFirst kind q e l f) z w = (kind ∷ [], before s at kind q p [] e w, l, damaged-at s q p w f)
@@ -89,8 +87,8 @@ fault s at p n (noSecond kind q x r e o f g) z w =
 fault s at p n (twoNumbered step kind q x r y next v e f g) z w = absurd (omega arith)
 
 -- a refusal at a place, told
-refused-there : (n : Next) (p q : ℕ) → n ≡ Refused damaged p → p ≡ q → (told n .refusal ≡ damaged) × (told n .place ≡ q)
-refused-there n p q e f = (ap (λ (x : Next). told x .refusal) e, ap (λ (x : Next). told x .place) e ∙ f)
+refused-there : (n : Turn) (p q : ℕ) → n ≡ Ended damaged p → p ≡ q → (told n .refusal ≡ damaged) × (told n .place ≡ q)
+refused-there n p q e f = (ap (λ (x : Turn). told x .refusal) e, ap (λ (x : Turn). told x .place) e ∙ f)
 
 -- a kind that goes with more than one number goes with two
 both : (kind : ℕ) → 1 < operandsOf kind → operandsOf kind ≡ 2
@@ -110,7 +108,7 @@ refused-so s at p (kind ∷ x ∷ y ∷ ns) r w d = absurd (omega (arith, operan
 abbrev NoKind : List ℕ → ℕ → Type 0
 NoKind s at = (toldAt s at .refusal ≡ carriedOut) × (operandsOf (toldAt s at .value) ≡ 0)
 
-nine-so : (s : List ℕ) (at : ℕ) (n : Next) → Outcome s at n → told n .refusal ≡ unknown → NoKind s at × (told n .place ≡ at)
+nine-so : (s : List ℕ) (at : ℕ) (n : Turn) → Outcome s at n → told n .refusal ≡ unknown → NoKind s at × (told n .place ≡ at)
 nine-so s at n (noKind e) z = absurd (omega arith)
 nine-so s at n (unknownKind kind q e o) z = (rw e (refl, o), refl)
 nine-so s at n (noFirst kind q e l f) z = absurd (omega arith)
@@ -120,7 +118,7 @@ nine-so s at n (twoNumbered step kind q x r y next v e f g) z = absurd (omega ar
 
 -- ---- places
 
-next : (s : List ℕ) (at : ℕ) (n : Next) → Outcome s at n → told n .refusal ≡ carriedOut → (at < told n .place) × (told n .place ≤ length s)
+next : (s : List ℕ) (at : ℕ) (n : Turn) → Outcome s at n → told n .refusal ≡ carriedOut → (at < told n .place) × (told n .place ≤ length s)
 next s at n (noKind e) z = absurd (omega arith)
 next s at n (unknownKind kind q e o) z = absurd (omega arith)
 next s at n (noFirst kind q e l f) z = absurd (omega arith)
@@ -136,25 +134,26 @@ Whole limit s at t = (p : ℕ) × Along s at (t .steps) p × Ends limit s (lengt
 
 -- one step more
 longer : (limit : ℕ) (s : List ℕ) (n p refusal offset : ℕ) → Ends limit s n p refusal offset → Ends (suc limit) s (suc n) p refusal offset
-longer limit s n p refusal offset (inl h) = inl h
+longer limit s n p refusal offset (inl h) = inl (h .0, (omega (arith, h .1 .0), h .1 .1))
 longer limit s n p refusal offset (inr (inl h)) = inr (inl (h .0, (ap suc (h .1 .0), h .1 .1)))
 longer limit s n p refusal offset (inr (inr h)) = inr (inr (h .0, (omega (arith, h .1 .0), h .1 .1)))
 
-turn : (limit : ℕ) (s : List ℕ) (at : ℕ) (n : Next) → at < length s → stepAt s at ≡ n → ((p : ℕ) → Whole limit s p (stepsFrom limit s p))
-    → Whole (suc limit) s at (goOn (stepsFrom limit s) n)
-turn limit s at (Found x q) l e ih =
+-- a step that stands here, and what follows it
+step : (limit : ℕ) (s : List ℕ) (at : ℕ) (t : Turn) → at < length s → stepAt s at ≡ t → ((p : ℕ) → Whole limit s p (stepsFrom limit s p))
+    → Whole (suc limit) s at (goOn (stepsFrom limit s) t)
+step limit s at (Found x q) l e ih =
     let w = ih q in
     (w .0, (q, e, w .1), longer limit s _ _ _ _ (w .2))
-turn limit s at (Refused n q) l e ih = (at, refl, inr (inr (l, (omega arith, e))))
+step limit s at (Ended n q) l e ih = (at, refl, inr (inr (l, (omega arith, e))))
 
 whole : (limit : ℕ) (s : List ℕ) (at : ℕ) → Whole limit s at (stepsFrom limit s at)
 unfolding stepsFrom
 whole zero s at =
-    pick-cases (Whole zero s at) (ltb at (length s)) (λ e. (at, refl, inr (inl (ltb-true at (length s) e, (refl, (refl, refl))))))
-    (λ e. (at, refl, inl (ltb-false at (length s) e, (refl, refl))))
+    turn-cases (λ (t : Turn). Whole 0 s at (goOn (ends limitReached) t)) s at 0 (λ h. (at, refl, inl (h, (omega arith, (refl, refl)))))
+    (λ h e. (at, refl, inr (inl (h, (refl, (refl, refl)))))) (λ h e. absurd (e refl))
 whole (suc limit) s at =
-    pick-cases (Whole (suc limit) s at) (ltb at (length s)) (λ e. turn limit s at (stepAt s at) (ltb-true at (length s) e) refl (whole limit s))
-    (λ e. (at, refl, inl (ltb-false at (length s) e, (refl, refl))))
+    turn-cases (λ (t : Turn). Whole (suc limit) s at (goOn (stepsFrom limit s) t)) s at (suc limit) (λ h. (at, refl, inl (h, (omega arith, (refl, refl)))))
+    (λ h e. absurd (omega arith)) (λ h e. step limit s at (stepAt s at) h refl (whole limit s))
 
 pub kept : Promises
 kept =
@@ -164,7 +163,7 @@ kept =
       eight = λ s at p. (λ h. fault s at p (stepAt s at) (outcome s at) (h .0) (h .1), λ h. refused-so s at p (h .0) (h .1) (h .2) (h .3));
       nine = λ s at. (
         λ h. nine-so s at (stepAt s at) (outcome s at) h .0,
-        λ h. ap (λ (n : Next). told n .refusal) (kind-unknown s at _ _ (told-read s at (h .0)) (h .1)),
+        λ h. ap (λ (n : Turn). told n .refusal) (kind-unknown s at _ _ (told-read s at (h .0)) (h .1)),
       );
       nineAt = λ s at h. nine-so s at (stepAt s at) (outcome s at) h .1;
       next = λ s at. next s at (stepAt s at) (outcome s at);

@@ -11,11 +11,11 @@ use Rattle.words.proofs.ChoiceLaws.{pick-true, pick-false}
 use Rattle.steps.specs.Refusals.{damaged, unknown}
 use Rattle.steps.specs.declared.Step.{Step}
 use Rattle.steps.specs.declared.Step.the-variants.{Read, Write, Line}
-use Rattle.numbers.specs.declared.Number.the-variants.{Value, Refused as Number·Refused}
+use Rattle.numbers.specs.declared.Number.the-variants.{Value, Refused}
 use Rattle.numbers.specs.Number.{numberAt}
 use Rattle.numbers.proofs.ReadLaws.{IsRead, number-is}
-use Rattle.trace.specs.declared.Next.{Next}
-use Rattle.trace.specs.declared.Next.the-variants.{Found, Refused}
+use Rattle.trace.specs.declared.Turn.{Turn}
+use Rattle.trace.specs.declared.Turn.the-variants.{Found, Ended}
 use Rattle.trace.specs.Steps.{readKind, writeKind, lineKind, operandsOf, twoNumbers, bySecond, byFirst, byKind, numbersOf, stepAt}
 
 -- ---- kinds
@@ -59,20 +59,20 @@ line-two = refl
 -- ---- the ways
 
 module _ (s : List ℕ) (at : ℕ) where
-  pub kind-damaged : numberAt s at ≡ Number·Refused damaged at → stepAt s at ≡ Refused damaged at
+  pub kind-damaged : numberAt s at ≡ Refused damaged at → stepAt s at ≡ Ended damaged at
   unfolding stepAt
   kind-damaged e = ap (byKind s at) e
 
-  pub kind-unknown : (kind p : ℕ) → numberAt s at ≡ Value kind p → operandsOf kind ≡ 0 → stepAt s at ≡ Refused unknown at
+  pub kind-unknown : (kind p : ℕ) → numberAt s at ≡ Value kind p → operandsOf kind ≡ 0 → stepAt s at ≡ Ended unknown at
   unfolding stepAt
   kind-unknown kind p e z = ap (byKind s at) e ∙ sym (pick-true (byFirst s kind (numberAt s p)) (eq-eqb (operandsOf kind) 0 z))
 
   -- the kind is known
   known : (kind p : ℕ) → numberAt s at ≡ Value kind p → 0 < operandsOf kind → stepAt s at ≡ byFirst s kind (numberAt s p)
   unfolding stepAt
-  known kind p e l = ap (byKind s at) e ∙ sym (pick-false (Refused unknown at) (ne-eqb (operandsOf kind) 0 (λ z. omega arith)))
+  known kind p e l = ap (byKind s at) e ∙ sym (pick-false (Ended unknown at) (ne-eqb (operandsOf kind) 0 (λ z. omega arith)))
 
-  pub first-damaged : (kind p : ℕ) → numberAt s at ≡ Value kind p → 0 < operandsOf kind → numberAt s p ≡ Number·Refused damaged p → stepAt s at ≡ Refused damaged p
+  pub first-damaged : (kind p : ℕ) → numberAt s at ≡ Value kind p → 0 < operandsOf kind → numberAt s p ≡ Refused damaged p → stepAt s at ≡ Ended damaged p
   first-damaged kind p e l f = known kind p e l ∙ ap (byFirst s kind) f
 
   pub one-number : (kind p x next : ℕ) → numberAt s at ≡ Value kind p → operandsOf kind ≡ 1 → numberAt s p ≡ Value x next → stepAt s at ≡ Found (Read x) next
@@ -84,8 +84,8 @@ module _ (s : List ℕ) (at : ℕ) where
   wider kind p x q e o f =
       known kind p e (omega arith) ∙ ap (byFirst s kind) f ∙ sym (pick-false (Found (Read x) q) (ne-eqb (operandsOf kind) 1 (λ z. omega arith)))
 
-  pub second-damaged : (kind p x q : ℕ) → numberAt s at ≡ Value kind p → operandsOf kind ≡ 2 → numberAt s p ≡ Value x q → numberAt s q ≡ Number·Refused damaged q
-      → stepAt s at ≡ Refused damaged q
+  pub second-damaged : (kind p x q : ℕ) → numberAt s at ≡ Value kind p → operandsOf kind ≡ 2 → numberAt s p ≡ Value x q → numberAt s q ≡ Refused damaged q
+      → stepAt s at ≡ Ended damaged q
   second-damaged kind p x q e o f g = wider kind p x q e o f ∙ ap (bySecond kind x) g
 
   pub two-numbers : (kind p x q y next : ℕ) → numberAt s at ≡ Value kind p → operandsOf kind ≡ 2 → numberAt s p ≡ Value x q → numberAt s q ≡ Value y next
@@ -100,18 +100,18 @@ numbers-two kind x y (inr k) =
 
 -- ---- one of them is gone
 
-pub data Outcome (s : List ℕ) (at : ℕ) : Next → Type 0 where
-  noKind : numberAt s at ≡ Number·Refused damaged at → Outcome s at (Refused damaged at)
-  unknownKind : (kind p : ℕ) → numberAt s at ≡ Value kind p → operandsOf kind ≡ 0 → Outcome s at (Refused unknown at)
-  noFirst : (kind p : ℕ) → numberAt s at ≡ Value kind p → 0 < operandsOf kind → numberAt s p ≡ Number·Refused damaged p → Outcome s at (Refused damaged p)
+pub data Outcome (s : List ℕ) (at : ℕ) : Turn → Type 0 where
+  noKind : numberAt s at ≡ Refused damaged at → Outcome s at (Ended damaged at)
+  unknownKind : (kind p : ℕ) → numberAt s at ≡ Value kind p → operandsOf kind ≡ 0 → Outcome s at (Ended unknown at)
+  noFirst : (kind p : ℕ) → numberAt s at ≡ Value kind p → 0 < operandsOf kind → numberAt s p ≡ Refused damaged p → Outcome s at (Ended damaged p)
   oneNumber : (p x next : ℕ) → numberAt s at ≡ Value readKind p → numberAt s p ≡ Value x next → Outcome s at (Found (Read x) next)
-  noSecond : (kind p x q : ℕ) → numberAt s at ≡ Value kind p → operandsOf kind ≡ 2 → numberAt s p ≡ Value x q → numberAt s q ≡ Number·Refused damaged q
-      → Outcome s at (Refused damaged q)
+  noSecond : (kind p x q : ℕ) → numberAt s at ≡ Value kind p → operandsOf kind ≡ 2 → numberAt s p ≡ Value x q → numberAt s q ≡ Refused damaged q
+      → Outcome s at (Ended damaged q)
   twoNumbered : (step : Step) (kind p x q y next : ℕ) → numbersOf step ≡ kind ∷ x ∷ y ∷ [] → numberAt s at ≡ Value kind p → numberAt s p ≡ Value x q
       → numberAt s q ≡ Value y next → Outcome s at (Found step next)
 
 -- the same outcome of what it is equal to
-over : {s : List ℕ} {at : ℕ} (a b : Next) → a ≡ b → Outcome s at b → Outcome s at a
+over : {s : List ℕ} {at : ℕ} (a b : Turn) → a ≡ b → Outcome s at b → Outcome s at a
 over a b e o = rw e o
 
 pub outcome : (s : List ℕ) (at : ℕ) → Outcome s at (stepAt s at)

@@ -1,40 +1,70 @@
--- What the steps from a place on are in each of the ways that a turn of a loop over them goes.
+-- What a turn is in each of its ways, and what the steps from a place on are by the turn there: a loop over a trace needs these.
 use Prim.Native.Nat.{ℕ, zero, suc, _-_, _<_, _≤_}
 use mathlib.Core.Path.{_≡_, refl, sym, ap, _∙_}
 use mathlib.Core.List.{List}
 use native.Mathlib.Numerals.{sub-one}
 use native.Mathlib.Omega.{arith}
 use lib.ListN.{length}
-use borrow.Author.Tests.{lt-ltb, le-ltb}
-use Rattle.words.proofs.ChoiceLaws.{pick-true, pick-false}
+use lib.Dec.{eqb, ltb}
+use borrow.Author.Tests.{eqb-true, eqb-false, ltb-true, ltb-false}
+use Rattle.words.specs.Choice.{pick}
+use Rattle.words.proofs.ChoiceLaws.{pick-cases}
 use Rattle.steps.specs.Refusals.{carriedOut, limitReached}
 use Rattle.steps.specs.declared.Step.{Step}
-use Rattle.trace.specs.declared.Next.the-variants.{Found, Refused}
+use Rattle.trace.specs.declared.Turn.{Turn}
+use Rattle.trace.specs.declared.Turn.the-variants.{Found, Ended}
 use Rattle.trace.specs.Steps.{stepAt}
-use Rattle.trace.specs.Trace.{ends, after, goOn, stepsFrom}
+use Rattle.trace.specs.Trace.{ends, after, goOn, turnAt, stepsFrom}
 
--- nothing is left
-pub trace-end : (limit : ℕ) (s : List ℕ) (at : ℕ) → length s ≤ at → stepsFrom limit s at ≡ ends carriedOut (length s)
+-- ---- one turn
+
+-- nothing is left; the limit is reached; a step, or what refuses it
+pub turn-cases : (P : Turn → Type 0) (s : List ℕ) (at left : ℕ) → (length s ≤ at → P (Ended carriedOut (length s)))
+    → (at < length s → left ≡ 0 → P (Ended limitReached at)) → (at < length s → (left ≡ 0 → ⊥) → P (stepAt s at)) → P (turnAt s at left)
+unfolding turnAt
+turn-cases P s at left end limit step =
+    pick-cases P (ltb at (length s))
+    (λ h. pick-cases P (eqb left 0) (λ e. limit (ltb-true at (length s) h) (eqb-true left 0 e)) (λ e. step (ltb-true at (length s) h) (eqb-false left 0 e)))
+    (λ h. end (ltb-false at (length s) h))
+
+-- a turn that finds a step finds what stands there, and something is left of the limit
+abbrev FoundHere : List ℕ → ℕ → ℕ → Turn → Type 0
+FoundHere s at left t = (x : Step) (next : ℕ) → t ≡ Found x next → (at < length s) × ((0 < left) × (stepAt s at ≡ Found x next))
+
+abbrev steps-of : Turn → ℕ
+steps-of (Found x next) = 1
+steps-of (Ended n p) = 0
+
+pub turn-found : (s : List ℕ) (at left : ℕ) → FoundHere s at left (turnAt s at left)
+turn-found s at left =
+    turn-cases (FoundHere s at left) s at left (λ h x next e. absurd (none e)) (λ h z x next e. absurd (none e)) (λ h z x next e. (h, (omega arith, e)))
+  where
+    none : {n p next : ℕ} {x : Step} → Ended n p ≡ Found x next → ⊥
+    none e = let z : _≡_ {A = ℕ} 0 1 = ap steps-of e in omega arith
+
+-- ---- a loop: what is left from here gives the whole
+
+-- a turn that ends
+pub trace-ended : (left : ℕ) (s : List ℕ) (at n p : ℕ) → turnAt s at left ≡ Ended n p → stepsFrom left s at ≡ ends n p
 unfolding stepsFrom
-trace-end zero s at h = sym (pick-false (ends limitReached at) (le-ltb at (length s) h))
-trace-end (suc limit) s at h = sym (pick-false (goOn (stepsFrom limit s) (stepAt s at)) (le-ltb at (length s) h))
+trace-ended zero s at n p e = ap (goOn (ends limitReached)) e
+trace-ended (suc left) s at n p e = ap (goOn (stepsFrom left s)) e
 
--- bytes remain, and no step may be read
-pub trace-limit : (limit : ℕ) (s : List ℕ) (at : ℕ) → at < length s → limit ≡ 0 → stepsFrom limit s at ≡ ends limitReached at
+-- a turn that finds a step
+pub trace-found : (left : ℕ) (s : List ℕ) (at : ℕ) (x : Step) (next : ℕ) → turnAt s at left ≡ Found x next
+    → stepsFrom left s at ≡ after x (stepsFrom (left - 1) s next)
 unfolding stepsFrom
-trace-limit zero s at h e = sym (pick-true (ends carriedOut (length s)) (lt-ltb at (length s) h))
-trace-limit (suc limit) s at h e = absurd (omega arith)
+trace-found zero s at x next e = absurd (omega (arith, turn-found s at 0 x next e .1 .0))
+trace-found (suc left) s at x next e = rw sub-one (ap (goOn (stepsFrom left s)) e)
 
-trace-more : (limit : ℕ) (s : List ℕ) (at : ℕ) → at < length s → (limit ≡ 0 → ⊥) → stepsFrom limit s at ≡ goOn (stepsFrom (limit - 1) s) (stepAt s at)
+-- ---- how many
+
+-- no more than the limit
+pub steps-limited : (limit : ℕ) (s : List ℕ) (at : ℕ) → length (stepsFrom limit s at .steps) ≤ limit
 unfolding stepsFrom
-trace-more zero s at h e = absurd (e refl)
-trace-more (suc limit) s at h e = rw sub-one (sym (pick-true (ends carriedOut (length s)) (lt-ltb at (length s) h)))
-
--- a number is refused
-pub trace-refused : (limit : ℕ) (s : List ℕ) (at n p : ℕ) → at < length s → (limit ≡ 0 → ⊥) → stepAt s at ≡ Refused n p → stepsFrom limit s at ≡ ends n p
-trace-refused limit s at n p h e q = trace-more limit s at h e ∙ ap (goOn (stepsFrom (limit - 1) s)) q
-
--- a step is read
-pub trace-step : (limit : ℕ) (s : List ℕ) (at : ℕ) (x : Step) (next : ℕ) → at < length s → (limit ≡ 0 → ⊥) → stepAt s at ≡ Found x next
-    → stepsFrom limit s at ≡ after x (stepsFrom (limit - 1) s next)
-trace-step limit s at x next h e q = trace-more limit s at h e ∙ ap (goOn (stepsFrom (limit - 1) s)) q
+steps-limited zero s at = turn-cases (λ (t : Turn). length (goOn (ends limitReached) t .steps) ≤ 0) s at 0 (λ h. omega arith) (λ h e. omega arith) (λ h e. absurd (e refl))
+steps-limited (suc limit) s at = go (turnAt s at (suc limit)) (steps-limited limit s)
+  where
+    go : (t : Turn) → ((p : ℕ) → length (stepsFrom limit s p .steps) ≤ limit) → length (goOn (stepsFrom limit s) t .steps) ≤ suc limit
+    go (Found x p) h = omega (arith, h p)
+    go (Ended n p) h = omega arith

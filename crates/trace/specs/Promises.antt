@@ -7,7 +7,7 @@ use lib.ListN.{length}
 use Rattle.steps.specs.Refusals.{carriedOut, limitReached, damaged, unknown}
 use Rattle.steps.specs.declared.Step.{Step}
 use Rattle.numbers.specs.Promises.{toldAt}
-use Rattle.trace.specs.declared.Next.the-variants.{Found, Refused}
+use Rattle.trace.specs.declared.Turn.the-variants.{Found, Ended}
 use Rattle.trace.specs.Steps.{operandsOf, numbersOf, stepAt, told}
 use Rattle.trace.specs.Trace.{stepsFrom}
 
@@ -26,12 +26,12 @@ abbrev pub Along : List ℕ → ℕ → List Step → ℕ → Type 0
 Along s at [] p = at ≡ p
 Along s at (x ∷ xs) p = (next : ℕ) × (stepAt s at ≡ Found x next) × Along s next xs p
 
--- how a trace of n steps ends at the place p where another one would begin, if at most so many are read
+-- how a trace of n steps, of which there may be so many, ends at the place p where another one would begin
 abbrev pub Ends : ℕ → List ℕ → ℕ → ℕ → ℕ → ℕ → Type 0
 Ends limit s n p refusal offset =
-    ((length s ≤ p) × ((refusal ≡ carriedOut) × (offset ≡ length s)))
+    ((length s ≤ p) × ((n ≤ limit) × ((refusal ≡ carriedOut) × (offset ≡ length s))))
     ⊎ (((p < length s) × ((n ≡ limit) × ((refusal ≡ limitReached) × (offset ≡ p))))
-    ⊎ ((p < length s) × ((n < limit) × (stepAt s p ≡ Refused refusal offset))))
+    ⊎ ((p < length s) × ((n < limit) × (stepAt s p ≡ Ended refusal offset))))
 
 pub record Promises : Type 0 where
   -- a step is found only where its numbers stand, and the next place is the one after them (01, House trace)

@@ -8,9 +8,9 @@ use Rattle.steps.specs.declared.Step.{Step}
 use Rattle.steps.specs.declared.Step.the-variants.{Read, Write, Line}
 use Rattle.numbers.specs.Number.{numberAt}
 use Rattle.numbers.specs.declared.Number.{Number}
-use Rattle.numbers.specs.declared.Number.the-variants.{Value, Refused as Number·Refused}
-use Rattle.trace.specs.declared.Next.{Next}
-use Rattle.trace.specs.declared.Next.the-variants.{Found, Refused}
+use Rattle.numbers.specs.declared.Number.the-variants.{Value, Refused}
+use Rattle.trace.specs.declared.Turn.{Turn}
+use Rattle.trace.specs.declared.Turn.the-variants.{Found, Ended}
 
 -- ---- kinds of steps (01, House trace)
 
@@ -34,22 +34,22 @@ twoNumbers kind x y = pick (eqb kind writeKind) (Write x y) (Line x y)
 -- ---- reading one, number by number: the first that is refused refuses the step, at its own place (01, House trace)
 
 -- the second number that goes with a kind
-abbrev pub bySecond : ℕ → ℕ → Number → Next
-bySecond kind x (Number·Refused n p) = Refused n p
+abbrev pub bySecond : ℕ → ℕ → Number → Turn
+bySecond kind x (Refused n p) = Ended n p
 bySecond kind x (Value y next) = Found (twoNumbers kind x y) next
 
 -- the first one; only a read has no other
-abbrev pub byFirst : List ℕ → ℕ → Number → Next
-byFirst s kind (Number·Refused n p) = Refused n p
+abbrev pub byFirst : List ℕ → ℕ → Number → Turn
+byFirst s kind (Refused n p) = Ended n p
 byFirst s kind (Value x next) = pick (eqb (operandsOf kind) 1) (Found (Read x) next) (bySecond kind x (numberAt s next))
 
 -- the kind: one that is not known is refused by 9 where it stands, and nothing after it is read
-abbrev pub byKind : List ℕ → ℕ → Number → Next
-byKind s at (Number·Refused n p) = Refused n p
-byKind s at (Value kind next) = pick (eqb (operandsOf kind) 0) (Refused unknown at) (byFirst s kind (numberAt s next))
+abbrev pub byKind : List ℕ → ℕ → Number → Turn
+byKind s at (Refused n p) = Ended n p
+byKind s at (Value kind next) = pick (eqb (operandsOf kind) 0) (Ended unknown at) (byFirst s kind (numberAt s next))
 
 -- the step at a place of a trace
-unfoldable pub stepAt : List ℕ → ℕ → Next
+unfoldable pub stepAt : List ℕ → ℕ → Turn
 stepAt s at = byKind s at (numberAt s at)
 
 -- ---- what an answer tells, in the numbers of 01
@@ -66,7 +66,7 @@ pub record Told : Type 0 where
   pub numbers : List ℕ
   pub place : ℕ
 
--- a step that was found: 0, its numbers and the next place; a refused one: its refusal, no numbers, and the offset of the number at fault
-abbrev pub told : Next → Told
+-- a step that was found: 0, its numbers and the next place; an end: its refusal, no numbers, and its offset
+abbrev pub told : Turn → Told
 told (Found x next) = record { refusal = carriedOut; numbers = numbersOf x; place = next }
-told (Refused n at) = record { refusal = n; numbers = []; place = at }
+told (Ended n at) = record { refusal = n; numbers = []; place = at }

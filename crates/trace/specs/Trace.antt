@@ -2,12 +2,12 @@
 use Prim.Native.Nat.{ℕ, zero, suc}
 use mathlib.Core.List.{List, [], _∷_}
 use lib.ListN.{length}
-use lib.Dec.{ltb}
+use lib.Dec.{eqb, ltb}
 use Rattle.words.specs.Choice.{pick}
 use Rattle.steps.specs.Refusals.{carriedOut, limitReached}
 use Rattle.steps.specs.declared.Step.{Step}
-use Rattle.trace.specs.declared.Next.{Next}
-use Rattle.trace.specs.declared.Next.the-variants.{Found, Refused}
+use Rattle.trace.specs.declared.Turn.{Turn}
+use Rattle.trace.specs.declared.Turn.the-variants.{Found, Ended}
 use Rattle.trace.specs.Steps.{stepAt}
 
 -- the steps, and the ending refusal with its offset, else 0 and the length
@@ -24,12 +24,17 @@ ends refusal offset = record { steps = []; refusal = refusal; offset = offset }
 abbrev pub after : Step → Trace → Trace
 after x t = record { steps = x ∷ t .steps; refusal = t .refusal; offset = t .offset }
 
--- a step and what follows it, or the end that a refusal makes
-abbrev pub goOn : (ℕ → Trace) → Next → Trace
-goOn rest (Found x next) = after x (rest next)
-goOn rest (Refused n p) = ends n p
+-- the turn at a place with so much left of a limit: the end with 0 and the length where no byte is left, with 7 here where bytes remain and nothing is left of
+-- the limit, else the step, or the end that its refusal makes (01, House trace; Numbers, 7)
+unfoldable pub turnAt : List ℕ → ℕ → ℕ → Turn
+turnAt s at left = pick (ltb at (length s)) (pick (eqb left 0) (Ended limitReached at) (stepAt s at)) (Ended carriedOut (length s))
 
--- at most so many steps from a place on: it ends where a step would begin, and by 7 where the limit is reached and bytes remain
+-- a step and what follows it, or the end
+abbrev pub goOn : (ℕ → Trace) → Turn → Trace
+goOn rest (Found x next) = after x (rest next)
+goOn rest (Ended n p) = ends n p
+
+-- at most so many steps from a place on, turn by turn; where nothing is left of the limit no turn finds a step
 unfoldable pub stepsFrom : ℕ → List ℕ → ℕ → Trace
-stepsFrom zero s at = pick (ltb at (length s)) (ends limitReached at) (ends carriedOut (length s))
-stepsFrom (suc limit) s at = pick (ltb at (length s)) (goOn (stepsFrom limit s) (stepAt s at)) (ends carriedOut (length s))
+stepsFrom zero s at = goOn (ends limitReached) (turnAt s at 0)
+stepsFrom (suc limit) s at = goOn (stepsFrom limit s) (turnAt s at (suc limit))
