@@ -1,10 +1,11 @@
 -- The promises of the kinds, kept.
 use Prim.Native.Nat.{ℕ, _≤_}
-use mathlib.Core.Path.{_≡_, refl, sym, _∙_}
-use mathlib.Core.Bool.{true, false, _||_, _&&_}
-use mathlib.Core.Logic.{_↔_}
+use mathlib.Core.Path.{_≡_, refl, sym, ap, _∙_}
+use mathlib.Core.Bool.{true, false, _&&_}
+use mathlib.Core.Logic.{_↔_, ⊎-elim}
 use native.Mathlib.Omega.{arith}
-use lib.Dec.{eqb, ltb, leb}
+use lib.Dec.{ltb, leb}
+use lib.ListN.{length}
 use borrow.Author.Tests.{ne-eqb, le-ltb, le-leb, leb-true}
 use Rattle.words.specs.Choice.{pick}
 use Rattle.words.proofs.ChoiceLaws.{pick-false}
@@ -14,7 +15,7 @@ use Rattle.coreinterrupt.specs.Model.{within as coreWithin}
 use Rattle.cic_record.specs.Sound.{withinOf as cicWithin}
 use Rattle.kinds.specs.Kinds.{byKind, isKind, wanted, within, name}
 use Rattle.kinds.specs.Configuration.{withNumber, filled}
-use Rattle.kinds.specs.Promises.{Promises}
+use Rattle.kinds.specs.Promises.{endings, Promises}
 use Rattle.kinds.proofs.KindLaws.{KindOf, isAic, isCore, isCic, isNone, kind-of, at-aic, at-core, at-cic, at-none, at-unknown, known}
 
 -- ---- limits
@@ -52,6 +53,28 @@ no-number kind nth value l = go (kind-of kind)
     go (isCic k) = sym (at-cic kind _ k) ∙ cic-four nth value (omega (arith, at-cic {A = ℕ} kind (record { aic = 2; core = 4; cic = 4; none = 0 }) k))
     go (isNone a b c) = sym (at-none kind _ a b c)
 
+-- ---- names
+
+name-line : (kind : ℕ) → isKind kind ≡ true → endings (name kind) ≡ 1
+unfolding name endings
+name-line kind h = go (kind-of kind)
+  where
+    go : KindOf kind → endings (name kind) ≡ 1
+    go (isAic k) = sym (ap endings (at-aic kind _ k))
+    go (isCore k) = sym (ap endings (at-core kind _ k))
+    go (isCic k) = sym (ap endings (at-cic kind _ k))
+    go (isNone a b c) = absurd (⊎-elim a (⊎-elim b c) (known kind .0 h))
+
+name-length : (kind : ℕ) → length (name kind) ≤ 14
+unfolding name
+name-length kind = go (kind-of kind)
+  where
+    go : KindOf kind → length (name kind) ≤ 14
+    go (isAic k) = let e : length (name kind) ≡ 4 = sym (ap length (at-aic kind _ k)) in omega arith
+    go (isCore k) = let e : length (name kind) ≡ 14 = sym (ap length (at-core kind _ k)) in omega arith
+    go (isCic k) = let e : length (name kind) ≡ 4 = sym (ap length (at-cic kind _ k)) in omega arith
+    go (isNone a b c) = let e : length (name kind) ≡ 0 = sym (ap length (at-none kind _ a b c)) in omega arith
+
 pub kept : Promises
 unfolding wanted within name withNumber filled byKind pick aicWithin coreWithin cicWithin
 kept =
@@ -69,6 +92,8 @@ kept =
       coreName = refl;
       cicName = refl;
       noName = λ kind h. sym (at-unknown kind _ h);
+      nameLine = name-line;
+      nameLength = name-length;
       blankNumbers = refl;
       numberPut = λ c nth v. refl;
       twoPut = λ a b. refl;

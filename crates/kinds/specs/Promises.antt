@@ -4,7 +4,9 @@ use mathlib.Core.Path.{_≡_}
 use mathlib.Core.Bool.{true, false}
 use mathlib.Core.List.{List, [], _∷_}
 use mathlib.Core.Logic.{_↔_, _⊎_}
-use lib.ListN.{set}
+use lib.Dec.{eqb}
+use lib.ListN.{length, set}
+use Rattle.words.specs.Counting.{one}
 use Rattle.kinds.specs.declared.Configuration.{Configuration}
 use Rattle.kinds.specs.Kinds.{isKind, wanted, within, name}
 use Rattle.kinds.specs.Configuration.{noNumbers, withNumber, filled}
@@ -13,6 +15,11 @@ use Rattle.kinds.specs.Configuration.{noNumbers, withNumber, filled}
 abbrev pub Within : ℕ → ℕ → List ℕ → Type 0
 Within kind nth [] = Unit
 Within kind nth (v ∷ vs) = (within kind nth v ≡ true) × Within kind (nth + 1) vs
+
+-- how many of these bytes end a line
+unfoldable pub endings : List ℕ → ℕ
+endings [] = 0
+endings (b ∷ bs) = one (eqb b 10) + endings bs
 
 pub record Promises : Type 0 where
   -- there are three kinds: 0, 1 and 2 (01, House trace)
@@ -37,6 +44,9 @@ pub record Promises : Type 0 where
   pub coreName : name 1 ≡ 67 ∷ 79 ∷ 82 ∷ 69 ∷ 73 ∷ 78 ∷ 84 ∷ 69 ∷ 82 ∷ 82 ∷ 85 ∷ 80 ∷ 84 ∷ 10 ∷ []
   pub cicName : name 2 ≡ 67 ∷ 73 ∷ 67 ∷ 10 ∷ []
   pub noName : (kind : ℕ) → isKind kind ≡ false → name kind ≡ []
+  -- each is one line, of at most 14 bytes (01, House trace)
+  pub nameLine : (kind : ℕ) → isKind kind ≡ true → endings (name kind) ≡ 1
+  pub nameLength : (kind : ℕ) → length (name kind) ≤ 14
   -- a configuration has four numbers, 0 before they are put; each is put at its own (01, House trace)
   pub blankNumbers : noNumbers .numbers ≡ 0 ∷ 0 ∷ 0 ∷ 0 ∷ []
   pub numberPut : (c : Configuration) (nth v : ℕ) → withNumber c nth v .numbers ≡ set (c .numbers) nth v

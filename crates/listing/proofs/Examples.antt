@@ -21,9 +21,10 @@ use Rattle.aic_registers.specs.Handlers.{spent, opened, startedAt, closedLast, 
 use Rattle.aic_registers.specs.Effects.{moded, vectored, enabledBy, disabledBy, setBy, clearedBy, maskedBy, forcedBy, unforcedBy, turns, moved}
 use Rattle.aic_registers.specs.Registers.{outputBits, stored, readAt, writtenAt}
 use Rattle.aic.specs.Model.{within, start, readNumber, writeNumber, lineNumber, read, write, line, outputs}
-use Rattle.machine.specs.Kinds.{byKind, isKind, placesOf, withinOf, nameOf}
-use Rattle.machine.specs.Machine.{withNumber, startOf}
-use Rattle.machine.specs.Steps.{stepOf, shownOf}
+use Rattle.kinds.specs.Kinds.{byKind, isKind, wanted, within, name}
+use Rattle.kinds.specs.Configuration.{withNumber}
+use Rattle.machine.specs.Machine.{start}
+use Rattle.machine.specs.Steps.{step, shown}
 use Rattle.player.specs.Begin.{setupFrom, setupOf, bySetup, beginOf}
 use Rattle.player.specs.Play.{recordsFrom}
 use Rattle.listing.specs.Listing.{letter, shownValue, lineOf, linesFrom, joined, endLine, endOf, textFrom, nameLine, listingOf}
@@ -42,10 +43,10 @@ listed : listingOf first 20000
     ∷ 53 ∷ 32 ∷ 82 ∷ 32 ∷ 48 ∷ 48 ∷ 48 ∷ 48 ∷ 48 ∷ 48 ∷ 65 ∷ 48 ∷ 32 ∷ 48 ∷ 32 ∷ 48 ∷ 32 ∷ 49 ∷ 10
     ∷ 54 ∷ 32 ∷ 88 ∷ 32 ∷ 48 ∷ 48 ∷ 48 ∷ 48 ∷ 48 ∷ 48 ∷ 48 ∷ 49 ∷ 32 ∷ 48 ∷ 32 ∷ 48 ∷ 32 ∷ 49 ∷ 10
     ∷ 55 ∷ 32 ∷ 87 ∷ 32 ∷ 48 ∷ 48 ∷ 48 ∷ 48 ∷ 48 ∷ 48 ∷ 48 ∷ 48 ∷ 32 ∷ 48 ∷ 32 ∷ 48 ∷ 32 ∷ 48 ∷ 10 ∷ []
-unfolding pick anyBelow allBelow lowestBelow sumBelow bit wordOf either both without withBit readRefusal writeRefusal lineRefusal sizeAt worthAt faulty numberAt hexDigit hexOf decimalOf field operandsOf stepAt stepsFrom reset priority kind edge handlerSound freeSound handlersSound memorySound storedSound sound activeLow activeAt active pending asking pendingWord edgeWord fast fastAsks masked fiq waiting above candidate ahead foremost candidates chosen irq access valueRefusal spent opened startedAt closedLast ended ivrRead fastSpent fvrRead current moded vectored enabledBy disabledBy setBy clearedBy maskedBy forcedBy unforcedBy turns moved outputBits stored readAt writtenAt within start readNumber writeNumber lineNumber read write line outputs byKind isKind placesOf withinOf nameOf withNumber startOf stepOf shownOf setupFrom setupOf bySetup beginOf recordsFrom letter shownValue lineOf linesFrom joined endLine endOf textFrom nameLine listingOf
+unfolding pick anyBelow allBelow lowestBelow sumBelow bit wordOf either both without withBit readRefusal writeRefusal lineRefusal sizeAt worthAt faulty numberAt hexDigit hexOf decimalOf field operandsOf stepAt stepsFrom reset priority kind edge handlerSound freeSound handlersSound memorySound storedSound sound activeLow activeAt active pending asking pendingWord edgeWord fast fastAsks masked fiq waiting above candidate ahead foremost candidates chosen irq access valueRefusal spent opened startedAt closedLast ended ivrRead fastSpent fvrRead current moded vectored enabledBy disabledBy setBy clearedBy maskedBy forcedBy unforcedBy turns moved outputBits stored readAt writtenAt within start readNumber writeNumber lineNumber read write line outputs byKind isKind wanted within name withNumber start step shown setupFrom setupOf bySetup beginOf recordsFrom letter shownValue lineOf linesFrom joined endLine endOf textFrom nameLine listingOf
 listed = refl
 
 -- nothing at all: E 8 0
 empty : listingOf [] 20000 ≡ 69 ∷ 32 ∷ 56 ∷ 32 ∷ 48 ∷ 10 ∷ []
-unfolding pick anyBelow allBelow lowestBelow sumBelow bit wordOf either both without withBit readRefusal writeRefusal lineRefusal sizeAt worthAt faulty numberAt hexDigit hexOf decimalOf field operandsOf stepAt stepsFrom reset priority kind edge handlerSound freeSound handlersSound memorySound storedSound sound activeLow activeAt active pending asking pendingWord edgeWord fast fastAsks masked fiq waiting above candidate ahead foremost candidates chosen irq access valueRefusal spent opened startedAt closedLast ended ivrRead fastSpent fvrRead current moded vectored enabledBy disabledBy setBy clearedBy maskedBy forcedBy unforcedBy turns moved outputBits stored readAt writtenAt within start readNumber writeNumber lineNumber read write line outputs byKind isKind placesOf withinOf nameOf withNumber startOf stepOf shownOf setupFrom setupOf bySetup beginOf recordsFrom letter shownValue lineOf linesFrom joined endLine endOf textFrom nameLine listingOf
+unfolding pick anyBelow allBelow lowestBelow sumBelow bit wordOf either both without withBit readRefusal writeRefusal lineRefusal sizeAt worthAt faulty numberAt hexDigit hexOf decimalOf field operandsOf stepAt stepsFrom reset priority kind edge handlerSound freeSound handlersSound memorySound storedSound sound activeLow activeAt active pending asking pendingWord edgeWord fast fastAsks masked fiq waiting above candidate ahead foremost candidates chosen irq access valueRefusal spent opened startedAt closedLast ended ivrRead fastSpent fvrRead current moded vectored enabledBy disabledBy setBy clearedBy maskedBy forcedBy unforcedBy turns moved outputBits stored readAt writtenAt within start readNumber writeNumber lineNumber read write line outputs byKind isKind wanted within name withNumber start step shown setupFrom setupOf bySetup beginOf recordsFrom letter shownValue lineOf linesFrom joined endLine endOf textFrom nameLine listingOf
 empty = refl

@@ -16,15 +16,15 @@ use Rattle.text.proofs.Promises.{kept as text}
 use Rattle.text.proofs.WriteLaws.{write-laid}
 use Rattle.trace.specs.Trace.{Trace}
 use Rattle.machine.specs.declared.Machine.{Machine}
-use Rattle.machine.specs.Kinds.{nameOf}
-use Rattle.machine.specs.Steps.{stepOf}
+use Rattle.kinds.specs.Kinds.{name}
+use Rattle.machine.specs.Steps.{step}
 use Rattle.player.specs.declared.Begun.{Begun}
 use Rattle.player.specs.declared.Played.{Played}
 use Rattle.player.specs.Begin.{beginOf}
 use Rattle.player.specs.Play.{recordsOf, report, playOf}
 use Rattle.player.proofs.PlayLaws.{records-begun}
 use Rattle.player.proofs.Promises.{kept as player}
-use Rattle.player.proofs.WayLaws.{begin-ready}
+use Rattle.player.proofs.BeginningLaws.{begin-ready}
 use Rattle.listing.specs.Listing.{linesFrom, joined, endOf, textFrom, listingOf}
 use Rattle.listing.specs.Promises.{endings, linesOf, Promises}
 use Rattle.listing.proofs.EndingLaws.{endings-append, lines-end, end-ends, name-ends}
@@ -37,12 +37,12 @@ unfolding playOf report
 ending s limit = refl
 
 begun : (s : List ℕ) (limit : ℕ) → beginOf s .refusal ≡ carriedOut
-    → listingOf s limit ≡ nameOf (beginOf s .machine .kind) ++ (joined (linesOf s limit) ++ endOf (playOf s limit .refusal) (playOf s limit .offset))
+    → listingOf s limit ≡ name (beginOf s .machine .kind) ++ (joined (linesOf s limit) ++ endOf (playOf s limit .refusal) (playOf s limit .offset))
 unfolding textFrom
 begun s limit e =
     let b = beginOf s in
-    sym (listing-begun s limit b refl e) ∙ ap (λ (t : Trace). nameOf (b .machine .kind) ++ textFrom 0 (b .machine) t) (sym (records-begun limit s b e))
-    ∙ ap (λ (l : List ℕ). nameOf (b .machine .kind) ++ (joined (linesOf s limit) ++ l)) (ending s limit)
+    sym (listing-begun s limit b refl e) ∙ ap (λ (t : Trace). name (b .machine .kind) ++ textFrom 0 (b .machine) t) (sym (records-begun limit s b e))
+    ∙ ap (λ (l : List ℕ). name (b .machine .kind) ++ (joined (linesOf s limit) ++ l)) (ending s limit)
 
 not-begun : (s : List ℕ) (limit : ℕ) → beginOf s .refusal ≢ carriedOut → listingOf s limit ≡ endOf (playOf s limit .refusal) (playOf s limit .offset)
 not-begun s limit e =
@@ -51,7 +51,7 @@ not-begun s limit e =
 lines-from : (n : ℕ) (m : Machine) (xs : List Step) → length (linesFrom n m xs) ≡ length xs
 unfolding linesFrom
 lines-from n m [] = refl
-lines-from n m (x ∷ xs) = let h = lines-from (n + 1) (stepOf m x .machine) xs in omega arith
+lines-from n m (x ∷ xs) = let h = lines-from (n + 1) (step m x .machine) xs in omega arith
 
 ended : (s : List ℕ) (limit : ℕ)
     → endings (listingOf s limit) ≡ one (eqb (beginOf s .refusal) carriedOut) + playOf s limit .steps + pick (eqb (playOf s limit .refusal) carriedOut) 0 1

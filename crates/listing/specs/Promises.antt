@@ -9,7 +9,7 @@ use Rattle.words.specs.Choice.{pick}
 use Rattle.words.specs.Counting.{one}
 use Rattle.steps.specs.Refusals.{carriedOut}
 use Rattle.text.specs.Text.{newline, laid}
-use Rattle.machine.specs.Kinds.{nameOf}
+use Rattle.kinds.specs.Kinds.{name}
 use Rattle.player.specs.Begin.{beginOf}
 use Rattle.player.specs.Play.{recordsOf, playOf}
 use Rattle.listing.specs.Listing.{linesFrom, joined, endOf, listingOf}
@@ -26,7 +26,7 @@ linesOf s limit = linesFrom 0 (beginOf s .machine) (recordsOf s limit .steps)
 pub record Promises : Type 0 where
   -- once a configuration is accepted a listing is the name, a line for each step and how the play ended (01, House trace)
   pub begun : (s : List ℕ) (limit : ℕ) → beginOf s .refusal ≡ carriedOut
-      → listingOf s limit ≡ nameOf (beginOf s .machine .kind) ++ (joined (linesOf s limit) ++ endOf (playOf s limit .refusal) (playOf s limit .offset))
+      → listingOf s limit ≡ name (beginOf s .machine .kind) ++ (joined (linesOf s limit) ++ endOf (playOf s limit .refusal) (playOf s limit .offset))
   -- before that it is only how the play ended (01, House trace)
   pub notBegun : (s : List ℕ) (limit : ℕ) → beginOf s .refusal ≢ carriedOut → listingOf s limit ≡ endOf (playOf s limit .refusal) (playOf s limit .offset)
   -- there are as many lines of steps as the player plays (01, House trace)
