@@ -1,7 +1,8 @@
 -- How many lines end in a listing: one for each line that it is made of.
 use Prim.Native.Nat.{ℕ, zero, suc, _+_, _/_, _%_}
 use mathlib.Core.Path.{_≡_, refl, sym, ap, _∙_}
-use mathlib.Core.Bool.{Bool, true, false, false≢true}
+use mathlib.Core.Bool.{Bool, true}
+use mathlib.Core.Logic.{⊎-elim}
 use mathlib.Core.List.{List, [], _∷_, _++_}
 use native.Mathlib.Nat.{zero-add}
 use native.Mathlib.Omega.{arith}
@@ -11,19 +12,20 @@ use borrow.Author.Tests.{ne-eqb}
 use Rattle.words.specs.Choice.{pick}
 use Rattle.words.specs.Counting.{one}
 use Rattle.words.proofs.ChoiceLaws.{pick-cases, pick-ap}
+use Rattle.words.proofs.TruthLaws.{clash, told}
 use Rattle.steps.specs.Refusals.{carriedOut}
 use Rattle.steps.specs.declared.Step.{Step}
 use Rattle.steps.specs.declared.Step.the-variants.{Read, Write, Line}
 use Rattle.text.specs.Text.{newline, hexDigit, hexOf, decimalOf, field}
 use Rattle.machine.specs.declared.Columns.{Columns}
 use Rattle.machine.specs.declared.Machine.{Machine}
-use Rattle.machine.specs.Kinds.{nameOf}
+use Rattle.kinds.specs.Kinds.{isKind, name}
+use Rattle.kinds.specs.Promises.{endings}
+use Rattle.kinds.proofs.Promises.{kept as kinds}
 use Rattle.machine.specs.Machine.{sound}
-use Rattle.machine.specs.Steps.{stepOf, shownOf}
-use Rattle.machine.proofs.KindLaws.{KindOf, isAic, isCore, isCic, isNone, kind-of, at-aic, at-core, at-cic}
-use Rattle.machine.proofs.MachineLaws.{sound-none}
+use Rattle.machine.specs.Steps.{step, shown}
+use Rattle.machine.proofs.Promises.{kept as machine}
 use Rattle.listing.specs.Listing.{letterOf, letter, shownValue, lineOf, stepLine, linesFrom, joined, endLine, endOf}
-use Rattle.listing.specs.Promises.{endings}
 
 -- ---- bytes
 
@@ -86,11 +88,11 @@ pub lines-end : (n : ℕ) (m : Machine) (xs : List Step) → endings (joined (li
 unfolding linesFrom joined endings
 lines-end n m [] = refl
 lines-end n m (x ∷ xs) =
-    let a = stepOf m x in
+    let a = step m x in
     endings-append (stepLine (n + 1) x a) (joined (linesFrom (n + 1) (a .machine) xs))
     ∙ omega (
       arith,
-      line-ends (n + 1) (letter x (a .refusal)) (shownValue (a .refusal) (a .value)) (shownOf (a .machine)) (letter-plain x (a .refusal)),
+      line-ends (n + 1) (letter x (a .refusal)) (shownValue (a .refusal) (a .value)) (shown (a .machine)) (letter-plain x (a .refusal)),
       lines-end (n + 1) (a .machine) xs,
     )
 
@@ -104,12 +106,5 @@ unfolding endOf endings
 end-ends refusal offset =
     pick-ap endings (eqb refusal carriedOut) [] (endLine refusal offset) ∙ ap (pick (eqb refusal carriedOut) 0) (end-line-ends refusal offset)
 
-pub name-ends : (m : Machine) → sound m ≡ true → endings (nameOf (m .kind)) ≡ 1
-unfolding nameOf endings
-name-ends m s = go (kind-of (m .kind))
-  where
-    go : KindOf (m .kind) → endings (nameOf (m .kind)) ≡ 1
-    go (isAic k) = sym (ap endings (at-aic (m .kind) _ _ _ _ k))
-    go (isCore k) = sym (ap endings (at-core (m .kind) _ _ _ _ k))
-    go (isCic k) = sym (ap endings (at-cic (m .kind) _ _ _ _ k))
-    go (isNone a b c) = absurd (false≢true (sound-none m a b c ∙ s))
+pub name-ends : (m : Machine) → sound m ≡ true → endings (name (m .kind)) ≡ 1
+name-ends m s = ⊎-elim (kinds .nameLine (m .kind)) (λ e. clash s (machine .noneSound m e)) (told (isKind (m .kind)))

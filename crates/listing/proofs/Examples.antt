@@ -1,51 +1,87 @@
--- The worked example of 01 and the empty input, byte for byte, computed from the definitions (01, "House trace").
-use mathlib.Core.Path.{_≡_, refl}
-use mathlib.Core.List.{List, [], _∷_}
-use Prim.Native.Nat.{ℕ}
-use Rattle.words.specs.Choice.{pick}
-use Rattle.words.specs.Counting.{anyBelow, allBelow, lowestBelow, sumBelow}
-use Rattle.words.specs.Word.{bit, wordOf, either, both, without, withBit}
-use Rattle.steps.specs.Refusals.{readRefusal, writeRefusal, lineRefusal}
+-- The worked listings, computed from the definitions (01, "House trace"). The steps of a CIC are computed without the check of its whole record, which is known.
+use Prim.Native.Nat.{ℕ, _+_}
+use mathlib.Core.Path.{_≡_, refl, ap, _∙_}
+use mathlib.Core.List.{List, [], _∷_, _++_}
+use Rattle.steps.specs.declared.Step.{Step}
 use Rattle.numbers.specs.Number.{sizeAt, worthAt, faulty, numberAt}
 use Rattle.text.specs.Text.{hexDigit, hexOf, decimalOf, field}
 use Rattle.trace.specs.Steps.{operandsOf, stepAt}
-use Rattle.trace.specs.Trace.{stepsFrom}
-use Rattle.aic_record.specs.Record.{reset}
-use Rattle.aic_record.specs.Mode.{priority, kind, edge}
-use Rattle.aic_record.specs.Sound.{handlerSound, freeSound, handlersSound, memorySound, storedSound, sound}
-use Rattle.aic_sources.specs.Pending.{activeLow, activeAt, active, pending, asking, pendingWord, edgeWord}
-use Rattle.aic_sources.specs.Fast.{fast, fastAsks, masked, fiq}
-use Rattle.aic_sources.specs.Normal.{waiting, above, candidate, ahead, foremost, candidates, chosen, irq}
-use Rattle.aic_registers.specs.Map.{access, valueRefusal}
-use Rattle.aic_registers.specs.Handlers.{spent, opened, startedAt, closedLast, ended, ivrRead, fastSpent, fvrRead, current}
-use Rattle.aic_registers.specs.Effects.{moded, vectored, enabledBy, disabledBy, setBy, clearedBy, maskedBy, forcedBy, unforcedBy, turns, moved}
-use Rattle.aic_registers.specs.Registers.{outputBits, stored, readAt, writtenAt}
-use Rattle.aic.specs.Model.{within, start, readNumber, writeNumber, lineNumber, read, write, line, outputs}
-use Rattle.machine.specs.Kinds.{byKind, isKind, placesOf, withinOf, nameOf}
-use Rattle.machine.specs.Machine.{withNumber, startOf}
-use Rattle.machine.specs.Steps.{stepOf, shownOf}
+use Rattle.trace.specs.Trace.{turnAt, stepsFrom}
+use Rattle.machine.specs.declared.Answer.{Answer}
+use Rattle.machine.specs.declared.Columns.{Columns}
+use Rattle.machine.specs.declared.Machine.{Machine}
+use Rattle.machine.specs.Promises.{Ready}
+use Rattle.machine.proofs.Computing.{aic-computes, core-computes, cic-computes, cicQuick, cicSeen, cic-quick, cic-seen}
+use Rattle.machine.proofs.StepLaws.{step-ready}
 use Rattle.player.specs.Begin.{setupFrom, setupOf, bySetup, beginOf}
-use Rattle.player.specs.Play.{recordsFrom}
-use Rattle.listing.specs.Listing.{letter, shownValue, lineOf, linesFrom, joined, endLine, endOf, textFrom, nameLine, listingOf}
+use Rattle.player.specs.Play.{recordsFrom, recordsOf}
+use Rattle.player.proofs.BeginningLaws.{begin-ready}
+use Rattle.listing.specs.Listing.{letter, shownValue, lineOf, stepLine, linesFrom, joined, endLine, endOf, textFrom, nameLine, listingOf}
+use Rattle.listing.specs.Promises.{aicTrace, aicText, coreTrace, coreText, cicTrace, cicText}
 
--- the trace of the example: a mode, a vector, an enable, a rising line, a vector read, a read at no multiple of 4, an end of interrupt
-abbrev first : List ℕ
-first =
-    0 ∷ 0 ∷ 0 ∷ 2 ∷ 20 ∷ 35 ∷ 2 ∷ 148 ∷ 1 ∷ 160 ∷ 1 ∷ 2 ∷ 160 ∷ 2 ∷ 32 ∷ 3 ∷ 5 ∷ 1 ∷ 1 ∷ 128 ∷ 2 ∷ 1 ∷ 2 ∷ 2 ∷ 176 ∷ 2 ∷ 0 ∷ []
+-- what is read of a trace, and how a line is written
+unfoldable reading : Unit {0}
+unfolding sizeAt worthAt faulty numberAt operandsOf stepAt turnAt stepsFrom setupFrom setupOf bySetup beginOf recordsFrom
+reading = tt
 
-listed : listingOf first 20000
-    ≡ 65 ∷ 73 ∷ 67 ∷ 10
-    ∷ 49 ∷ 32 ∷ 87 ∷ 32 ∷ 48 ∷ 48 ∷ 48 ∷ 48 ∷ 48 ∷ 48 ∷ 48 ∷ 48 ∷ 32 ∷ 48 ∷ 32 ∷ 48 ∷ 32 ∷ 48 ∷ 10
-    ∷ 50 ∷ 32 ∷ 87 ∷ 32 ∷ 48 ∷ 48 ∷ 48 ∷ 48 ∷ 48 ∷ 48 ∷ 48 ∷ 48 ∷ 32 ∷ 48 ∷ 32 ∷ 48 ∷ 32 ∷ 48 ∷ 10
-    ∷ 51 ∷ 32 ∷ 87 ∷ 32 ∷ 48 ∷ 48 ∷ 48 ∷ 48 ∷ 48 ∷ 48 ∷ 48 ∷ 48 ∷ 32 ∷ 48 ∷ 32 ∷ 48 ∷ 32 ∷ 48 ∷ 10
-    ∷ 52 ∷ 32 ∷ 76 ∷ 32 ∷ 48 ∷ 48 ∷ 48 ∷ 48 ∷ 48 ∷ 48 ∷ 48 ∷ 48 ∷ 32 ∷ 49 ∷ 32 ∷ 48 ∷ 32 ∷ 48 ∷ 10
-    ∷ 53 ∷ 32 ∷ 82 ∷ 32 ∷ 48 ∷ 48 ∷ 48 ∷ 48 ∷ 48 ∷ 48 ∷ 65 ∷ 48 ∷ 32 ∷ 48 ∷ 32 ∷ 48 ∷ 32 ∷ 49 ∷ 10
-    ∷ 54 ∷ 32 ∷ 88 ∷ 32 ∷ 48 ∷ 48 ∷ 48 ∷ 48 ∷ 48 ∷ 48 ∷ 48 ∷ 49 ∷ 32 ∷ 48 ∷ 32 ∷ 48 ∷ 32 ∷ 49 ∷ 10
-    ∷ 55 ∷ 32 ∷ 87 ∷ 32 ∷ 48 ∷ 48 ∷ 48 ∷ 48 ∷ 48 ∷ 48 ∷ 48 ∷ 48 ∷ 32 ∷ 48 ∷ 32 ∷ 48 ∷ 32 ∷ 48 ∷ 10 ∷ []
-unfolding pick anyBelow allBelow lowestBelow sumBelow bit wordOf either both without withBit readRefusal writeRefusal lineRefusal sizeAt worthAt faulty numberAt hexDigit hexOf decimalOf field operandsOf stepAt stepsFrom reset priority kind edge handlerSound freeSound handlersSound memorySound storedSound sound activeLow activeAt active pending asking pendingWord edgeWord fast fastAsks masked fiq waiting above candidate ahead foremost candidates chosen irq access valueRefusal spent opened startedAt closedLast ended ivrRead fastSpent fvrRead current moded vectored enabledBy disabledBy setBy clearedBy maskedBy forcedBy unforcedBy turns moved outputBits stored readAt writtenAt within start readNumber writeNumber lineNumber read write line outputs byKind isKind placesOf withinOf nameOf withNumber startOf stepOf shownOf setupFrom setupOf bySetup beginOf recordsFrom letter shownValue lineOf linesFrom joined endLine endOf textFrom nameLine listingOf
-listed = refl
+unfoldable writing : Unit {0}
+unfolding hexDigit hexOf decimalOf field letter shownValue lineOf joined endLine endOf nameLine
+writing = tt
 
--- nothing at all: E 8 0
-empty : listingOf [] 20000 ≡ 69 ∷ 32 ∷ 56 ∷ 32 ∷ 48 ∷ 10 ∷ []
-unfolding pick anyBelow allBelow lowestBelow sumBelow bit wordOf either both without withBit readRefusal writeRefusal lineRefusal sizeAt worthAt faulty numberAt hexDigit hexOf decimalOf field operandsOf stepAt stepsFrom reset priority kind edge handlerSound freeSound handlersSound memorySound storedSound sound activeLow activeAt active pending asking pendingWord edgeWord fast fastAsks masked fiq waiting above candidate ahead foremost candidates chosen irq access valueRefusal spent opened startedAt closedLast ended ivrRead fastSpent fvrRead current moded vectored enabledBy disabledBy setBy clearedBy maskedBy forcedBy unforcedBy turns moved outputBits stored readAt writtenAt within start readNumber writeNumber lineNumber read write line outputs byKind isKind placesOf withinOf nameOf withNumber startOf stepOf shownOf setupFrom setupOf bySetup beginOf recordsFrom letter shownValue lineOf linesFrom joined endLine endOf textFrom nameLine listingOf
-empty = refl
+pub aic-listed : listingOf aicTrace 20000 ≡ aicText
+unfolding aic-computes reading writing linesFrom textFrom listingOf
+aic-listed = refl
+
+pub nothing-listed : listingOf [] 20000 ≡ 69 ∷ 32 ∷ 56 ∷ 32 ∷ 48 ∷ 10 ∷ []
+unfolding aic-computes reading writing linesFrom textFrom listingOf
+nothing-listed = refl
+
+pub core-listed : listingOf coreTrace 20000 ≡ coreText
+unfolding core-computes reading writing linesFrom textFrom listingOf
+core-listed = refl
+
+-- ---- the lines of a CIC that is known to be sound
+
+unfoldable quickLines : ℕ → Machine → List Step → List (List ℕ)
+quickLines n m [] = []
+quickLines n m (x ∷ xs) =
+    lineOf (n + 1) (letter x (cicQuick m x .refusal)) (shownValue (cicQuick m x .refusal) (cicQuick m x .value)) (cicSeen (cicQuick m x .machine))
+    ∷ quickLines (n + 1) (cicQuick m x .machine) xs
+
+quick-lines : (n : ℕ) (m : Machine) (xs : List Step) → m .kind ≡ 2 → Ready m → linesFrom n m xs ≡ quickLines n m xs
+unfolding linesFrom quickLines
+quick-lines n m [] k r = refl
+quick-lines n m (x ∷ xs) k r =
+    let e = cic-quick m x k (r .0) in
+    let q : Ready (cicQuick m x .machine) = rw e at (step-ready m x r) in
+    ap (λ (a : Answer). stepLine (n + 1) x a ∷ linesFrom (n + 1) (a .machine) xs) e
+    ∙ ap (λ (c : Columns). lineOf (n + 1) (letter x (cicQuick m x .refusal)) (shownValue (cicQuick m x .refusal) (cicQuick m x .value)) c ∷ linesFrom (n + 1) (cicQuick m x .machine) xs)
+    (cic-seen (cicQuick m x .machine) k (q .0))
+    ∙ ap (λ (ls : List (List ℕ)). lineOf (n + 1) (letter x (cicQuick m x .refusal)) (shownValue (cicQuick m x .refusal) (cicQuick m x .value)) (cicSeen (cicQuick m x .machine)) ∷ ls)
+    (quick-lines (n + 1) (cicQuick m x .machine) xs k q)
+
+cic-begun : beginOf cicTrace .refusal ≡ 0
+unfolding cic-computes reading
+cic-begun = refl
+
+cic-kind : beginOf cicTrace .machine .kind ≡ 2
+unfolding cic-computes reading
+cic-kind = refl
+
+abbrev quickText : List ℕ
+quickText =
+    nameLine (beginOf cicTrace)
+    ++ (joined (quickLines 0 (beginOf cicTrace .machine) (recordsOf cicTrace 20000 .steps)) ++ endOf (recordsOf cicTrace 20000 .refusal) (recordsOf cicTrace 20000 .offset))
+
+to-quick : listingOf cicTrace 20000 ≡ quickText
+unfolding textFrom listingOf
+to-quick =
+    ap (λ (ls : List (List ℕ)). nameLine (beginOf cicTrace) ++ (joined ls ++ endOf (recordsOf cicTrace 20000 .refusal) (recordsOf cicTrace 20000 .offset)))
+    (quick-lines 0 (beginOf cicTrace .machine) (recordsOf cicTrace 20000 .steps) cic-kind (begin-ready cicTrace (beginOf cicTrace) refl cic-begun))
+
+quick-listed : quickText ≡ cicText
+unfolding cic-computes reading writing quickLines
+quick-listed = refl
+
+pub cic-listed : listingOf cicTrace 20000 ≡ cicText
+cic-listed = to-quick ∙ quick-listed

@@ -1,23 +1,21 @@
 -- What is left to list in each of the ways that a turn of the listing goes.
-use Prim.Native.Nat.{ℕ, _+_, _-_, _<_, _≤_}
+use Prim.Native.Nat.{ℕ, _+_, _-_}
 use mathlib.Core.Path.{_≡_, refl, sym, ap, _∙_}
 use mathlib.Core.List.{List, _++_, append-assoc}
-use lib.ListN.{length}
 use borrow.Author.Tests.{eq-eqb, ne-eqb}
 use Rattle.words.proofs.ChoiceLaws.{pick-true, pick-false}
-use Rattle.steps.specs.Refusals.{carriedOut, limitReached}
+use Rattle.steps.specs.Refusals.{carriedOut}
 use Rattle.steps.specs.declared.Step.{Step}
 use Rattle.text.specs.Text.{write}
 use Rattle.text.proofs.WriteLaws.{rest-of}
-use Rattle.trace.specs.declared.Next.the-variants.{Found, Refused}
-use Rattle.trace.specs.Steps.{stepAt}
-use Rattle.trace.specs.Trace.{Trace, ends, after, stepsFrom}
-use Rattle.trace.proofs.TraceLaws.{trace-end, trace-limit, trace-refused, trace-step}
+use Rattle.trace.specs.declared.Turn.the-variants.{Found, Ended}
+use Rattle.trace.specs.Trace.{Trace, ends, after, turnAt, stepsFrom}
+use Rattle.trace.proofs.TraceLaws.{trace-ended, trace-found}
 use Rattle.machine.specs.declared.Answer.{Answer}
 use Rattle.machine.specs.declared.Columns.{Columns}
 use Rattle.machine.specs.declared.Machine.{Machine}
-use Rattle.machine.specs.Kinds.{nameOf}
-use Rattle.machine.specs.Steps.{stepOf, shownOf}
+use Rattle.kinds.specs.Kinds.{name}
+use Rattle.machine.specs.Steps.{step, shown}
 use Rattle.player.specs.declared.Begun.{Begun}
 use Rattle.player.specs.Begin.{beginOf}
 use Rattle.player.specs.Play.{recordsFrom}
@@ -30,42 +28,39 @@ unfolding textFrom linesFrom joined
 text-ends n m refusal offset = refl
 
 -- a step, and the rest
-text-after : (n : ℕ) (m : Machine) (x : Step) (t : Trace) → stepLine (n + 1) x (stepOf m x) ++ textFrom (n + 1) (stepOf m x .machine) t ≡ textFrom n m (after x t)
+text-after : (n : ℕ) (m : Machine) (x : Step) (t : Trace) → stepLine (n + 1) x (step m x) ++ textFrom (n + 1) (step m x .machine) t ≡ textFrom n m (after x t)
 unfolding textFrom linesFrom joined
 text-after n m x t =
-    sym (append-assoc (stepLine (n + 1) x (stepOf m x)) (joined (linesFrom (n + 1) (stepOf m x .machine) (t .steps))) (endOf (t .refusal) (t .offset)))
+    sym (append-assoc (stepLine (n + 1) x (step m x)) (joined (linesFrom (n + 1) (step m x .machine) (t .steps))) (endOf (t .refusal) (t .offset)))
 
--- the four ways of a turn: nothing is left; the limit; a refusal; a step
+-- the two ways of a turn: the end; a step
 module _ (n : ℕ) (m : Machine) (left : ℕ) (s : List ℕ) (at : ℕ) where
-  pub text-end : length s ≤ at → endOf carriedOut (length s) ≡ textFrom n m (stepsFrom left s at)
-  text-end h = text-ends n m carriedOut (length s) ∙ ap (textFrom n m) (sym (trace-end left s at h))
+  pub text-ended : (refusal p : ℕ) → turnAt s at left ≡ Ended refusal p → endOf refusal p ≡ textFrom n m (stepsFrom left s at)
+  text-ended refusal p e = text-ends n m refusal p ∙ ap (textFrom n m) (sym (trace-ended left s at refusal p e))
 
-  pub text-limit : at < length s → left ≡ 0 → endOf limitReached at ≡ textFrom n m (stepsFrom left s at)
-  text-limit h e = text-ends n m limitReached at ∙ ap (textFrom n m) (sym (trace-limit left s at h e))
+  text-found : (x : Step) (p : ℕ) → turnAt s at left ≡ Found x p
+      → stepLine (n + 1) x (step m x) ++ textFrom (n + 1) (step m x .machine) (stepsFrom (left - 1) s p) ≡ textFrom n m (stepsFrom left s at)
+  text-found x p e = text-after n m x (stepsFrom (left - 1) s p) ∙ ap (textFrom n m) (sym (trace-found left s at x p e))
 
-  pub text-refused : (refusal p : ℕ) → at < length s → (left ≡ 0 → ⊥) → stepAt s at ≡ Refused refusal p → endOf refusal p ≡ textFrom n m (stepsFrom left s at)
-  text-refused refusal p h e q = text-ends n m refusal p ∙ ap (textFrom n m) (sym (trace-refused left s at refusal p h e q))
-
-  pub text-step : (x : Step) (p : ℕ) → at < length s → (left ≡ 0 → ⊥) → stepAt s at ≡ Found x p
-      → stepLine (n + 1) x (stepOf m x) ++ textFrom (n + 1) (stepOf m x .machine) (stepsFrom (left - 1) s p) ≡ textFrom n m (stepsFrom left s at)
-  text-step x p h e q = text-after n m x (stepsFrom (left - 1) s p) ∙ ap (textFrom n m) (sym (trace-step left s at x p h e q))
-
--- a turn that lists a step: q is what its line makes of o, and w is what the whole listing leaves
-module _ (n : ℕ) (m : Machine) (left : ℕ) (s : List ℕ) (at : ℕ) (x : Step) (p : ℕ) (a : Answer) (o q w : List ℕ × ℕ) where
-  pub listed : (l v : ℕ) (c : Columns) → at < length s → (left ≡ 0 → ⊥) → stepAt s at ≡ Found x p → a ≡ stepOf m x
-      → l ≡ letter x (a .refusal) → v ≡ shownValue (a .refusal) (a .value) → c ≡ shownOf (a .machine) → q ≡ write o (lineOf (n + 1) l v c)
+  -- a turn that lists a step: q is what its line makes of o, and w is what the whole listing leaves
+  pub listed : (x : Step) (p : ℕ) (a : Answer) (o q w : List ℕ × ℕ) → turnAt s at left ≡ Found x p → a ≡ step m x → q ≡ write o (stepLine (n + 1) x a)
       → write o (textFrom n m (stepsFrom left s at)) ≡ w → write q (textFrom (n + 1) (a .machine) (stepsFrom (left - 1) s p)) ≡ w
-  listed l v c h e f g el ev ec eq ew =
-      rest-of o q (stepLine (n + 1) x a) (textFrom (n + 1) (a .machine) (stepsFrom (left - 1) s p))
-      (eq ∙ ap (λ (k : ℕ). write o (lineOf (n + 1) k v c)) el ∙ ap (λ (k : ℕ). write o (lineOf (n + 1) (letter x (a .refusal)) k c)) ev
-      ∙ ap (λ (k : Columns). write o (lineOf (n + 1) (letter x (a .refusal)) (shownValue (a .refusal) (a .value)) k)) ec)
+  listed x p a o q w e g eq ew =
+      rest-of o q (stepLine (n + 1) x a) (textFrom (n + 1) (a .machine) (stepsFrom (left - 1) s p)) eq
       ∙ ap (λ (b : Answer). write o (stepLine (n + 1) x b ++ textFrom (n + 1) (b .machine) (stepsFrom (left - 1) s p))) g
-      ∙ ap (write o) (text-step n m left s at x p h e f) ∙ ew
+      ∙ ap (write o) (text-found x p e) ∙ ew
+
+-- the line of a step, its three parts made one by one
+pub line-made : (n : ℕ) (x : Step) (a : Answer) (l v : ℕ) (c : Columns) → l ≡ letter x (a .refusal) → v ≡ shownValue (a .refusal) (a .value)
+    → c ≡ shown (a .machine) → lineOf n l v c ≡ stepLine n x a
+line-made n x a l v c el ev ec =
+    ap (λ (k : ℕ). lineOf n k v c) el ∙ ap (λ (k : ℕ). lineOf n (letter x (a .refusal)) k c) ev
+    ∙ ap (lineOf n (letter x (a .refusal)) (shownValue (a .refusal) (a .value))) ec
 
 -- ---- the whole listing, by its beginning
 
 pub listing-begun : (s : List ℕ) (limit : ℕ) (b : Begun) → b ≡ beginOf s → b .refusal ≡ carriedOut
-    → nameOf (b .machine .kind) ++ textFrom 0 (b .machine) (stepsFrom limit s (b .place)) ≡ listingOf s limit
+    → name (b .machine .kind) ++ textFrom 0 (b .machine) (stepsFrom limit s (b .place)) ≡ listingOf s limit
 unfolding listingOf nameLine
 listing-begun s limit b e r =
     ap (λ (l : List ℕ). l ++ textFrom 0 (b .machine) (stepsFrom limit s (b .place))) (pick-true _ (eq-eqb (b .refusal) carriedOut r))

@@ -15,16 +15,16 @@ use Rattle.text.proofs.DigitLaws.{length-hex, length-below, length-field}
 use Rattle.trace.specs.Trace.{Trace}
 use Rattle.machine.specs.declared.Columns.{Columns}
 use Rattle.machine.specs.declared.Machine.{Machine}
-use Rattle.machine.specs.Kinds.{byKind, nameOf}
+use Rattle.kinds.proofs.Promises.{kept as kinds}
 use Rattle.machine.specs.Promises.{Ready, Small}
-use Rattle.machine.specs.Steps.{stepOf, shownOf}
+use Rattle.machine.specs.Steps.{step, shown}
 use Rattle.machine.proofs.ShownLaws.{small}
 use Rattle.machine.proofs.StepLaws.{step-ready}
 use Rattle.player.specs.declared.Begun.{Begun}
 use Rattle.player.specs.Begin.{beginOf}
 use Rattle.player.specs.Play.{recordsOf}
 use Rattle.player.proofs.PlayLaws.{records-limited}
-use Rattle.player.proofs.WayLaws.{begin-ready}
+use Rattle.player.proofs.BeginningLaws.{begin-ready}
 use Rattle.listing.specs.Listing.{letter, shownValue, lineOf, stepLine, linesFrom, joined, endLine, endOf, textFrom, nameLine, listingOf}
 use Rattle.listing.proofs.LineLaws.{listing-refused}
 
@@ -45,9 +45,9 @@ length-lines : (d n : ℕ) (m : Machine) (xs : List Step) → 0 < d → n + leng
 unfolding linesFrom joined
 length-lines d n m [] p h r = omega arith
 length-lines d n m (x ∷ xs) p h r =
-    let a = stepOf m x in
+    let a = step m x in
     let q = step-ready m x r in
-    let one : length (stepLine (n + 1) x a) ≤ d + 24 = length-line d (n + 1) (letter x (a .refusal)) (shownValue (a .refusal) (a .value)) (shownOf (a .machine)) p (omega arith) (small (a .machine) (q .0)) in
+    let one : length (stepLine (n + 1) x a) ≤ d + 24 = length-line d (n + 1) (letter x (a .refusal)) (shownValue (a .refusal) (a .value)) (shown (a .machine)) p (omega arith) (small (a .machine) (q .0)) in
     let rest : length (joined (linesFrom (n + 1) (a .machine) xs)) ≤ (d + 24) * length xs = length-lines d (n + 1) (a .machine) xs p (omega arith) q in
     simp (length-append, mul-suc) (omega arith)
 
@@ -57,16 +57,9 @@ length-end refusal offset =
     pick-cases (λ (l : List ℕ). length l ≤ 44) (eqb refusal carriedOut) (λ e. omega arith)
     (λ e. simp length-append (omega (arith, length-field refusal, length-field offset)))
 
-length-name : (kind : ℕ) → length (nameOf kind) ≤ 14
-unfolding nameOf byKind
-length-name kind =
-    pick-cases (λ (l : List ℕ). length l ≤ 14) (eqb kind 0) (λ e. omega arith)
-    (λ e. pick-cases (λ (l : List ℕ). length l ≤ 14) (eqb kind 1) (λ f. omega arith)
-    (λ f. pick-cases (λ (l : List ℕ). length l ≤ 14) (eqb kind 2) (λ g. omega arith) (λ g. omega arith)))
-
 length-name-line : (b : Begun) → length (nameLine b) ≤ 14
 unfolding nameLine
-length-name-line b = pick-cases (λ (l : List ℕ). length l ≤ 14) (eqb (b .refusal) carriedOut) (λ e. length-name (b .machine .kind)) (λ e. omega arith)
+length-name-line b = pick-cases (λ (l : List ℕ). length l ≤ 14) (eqb (b .refusal) carriedOut) (λ e. kinds .nameLength (b .machine .kind)) (λ e. omega arith)
 
 -- the whole of it
 pub length-listing : (s : List ℕ) (limit d : ℕ) → 0 < d → limit < 10 ^ d → length (listingOf s limit) ≤ (d + 24) * limit + 58

@@ -11,8 +11,8 @@ use Rattle.trace.specs.Trace.{Trace}
 use Rattle.machine.specs.declared.Answer.{Answer}
 use Rattle.machine.specs.declared.Columns.{Columns}
 use Rattle.machine.specs.declared.Machine.{Machine}
-use Rattle.machine.specs.Kinds.{nameOf}
-use Rattle.machine.specs.Steps.{stepOf, shownOf}
+use Rattle.kinds.specs.Kinds.{name}
+use Rattle.machine.specs.Steps.{step, shown}
 use Rattle.player.specs.declared.Begun.{Begun}
 use Rattle.player.specs.Begin.{beginOf}
 use Rattle.player.specs.Play.{recordsOf}
@@ -40,14 +40,14 @@ lineOf n letter value c =
 
 -- the line of step n by what it answered; the decimals are those of the machine after it (01, House trace)
 abbrev pub stepLine : ℕ → Step → Answer → List ℕ
-stepLine n x a = lineOf n (letter x (a .refusal)) (shownValue (a .refusal) (a .value)) (shownOf (a .machine))
+stepLine n x a = lineOf n (letter x (a .refusal)) (shownValue (a .refusal) (a .value)) (shown (a .machine))
 
 -- ---- the lines of a trace
 
 -- those of steps of which n others come before; they are numbered from 1
 unfoldable pub linesFrom : ℕ → Machine → List Step → List (List ℕ)
 linesFrom n m [] = []
-linesFrom n m (x ∷ xs) = stepLine (n + 1) x (stepOf m x) ∷ linesFrom (n + 1) (stepOf m x .machine) xs
+linesFrom n m (x ∷ xs) = stepLine (n + 1) x (step m x) ∷ linesFrom (n + 1) (step m x .machine) xs
 
 -- one line after the other
 unfoldable pub joined : List (List ℕ) → List ℕ
@@ -70,7 +70,7 @@ textFrom n m t = joined (linesFrom n m (t .steps)) ++ endOf (t .refusal) (t .off
 
 -- the controller's name, once its configuration is accepted (01, House trace)
 unfoldable pub nameLine : Begun → List ℕ
-nameLine b = pick (eqb (b .refusal) carriedOut) (nameOf (b .machine .kind)) []
+nameLine b = pick (eqb (b .refusal) carriedOut) (name (b .machine .kind)) []
 
 -- the name, the step records that the player plays, and their end (01, House trace)
 unfoldable pub listingOf : List ℕ → ℕ → List ℕ

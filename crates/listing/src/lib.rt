@@ -1,18 +1,21 @@
 // The listing of a recorded trace, as text in a buffer that the caller lends (01, "House trace").
 ghost use mathlib.Core.Path.{_≡_};
+ghost use mathlib.Core.Bool.{true};
 ghost use mathlib.Core.List.{_++_};
 ghost use Rattle.text.specs.Text.{write, laid};
 ghost use Rattle.trace.specs.Trace.{stepsFrom};
-ghost use Rattle.machine.specs.Kinds.{nameOf};
+ghost use Rattle.kinds.specs.Kinds.{name};
+ghost use Rattle.machine.specs.Machine.{sound};
 ghost use Rattle.machine.specs.Promises.{Ready};
-ghost use Rattle.listing.specs.Listing.{letterOf, letter, shownValue, lineOf, endLine, endOf, textFrom, listingOf};
+ghost use Rattle.listing.specs.Listing.{letterOf, letter, shownValue, lineOf, stepLine, endLine, endOf, textFrom, listingOf};
+use machine::Answer;
 use machine::Columns;
 use machine::Machine;
 use player::Begun;
 use steps::Step;
 use text::NEWLINE;
 use text::SPACE;
-use trace::Next;
+use trace::Turn;
 
 // The bytes of the listing of a trace of at most `limit` steps, from the start of the buffer on; answers how many were written.
 // What finds no room is dropped, and the rest of the buffer stays as it was.
@@ -29,10 +32,10 @@ pub fn list(trace: &[u8], limit: u32, out: &mut [u8]) -> usize
 // The name of the controller, then the steps.
 fn list_begun(trace: &[u8], limit: u32, b: Begun, out: &mut [u8]) -> usize
     requires { ⌜ Ready (b .machine) ⌝ }
-    ensures { λ r. ⌜ (now (out .exit), r) ≡ write (now (out .entry), 0) (nameOf (b .machine .kind) ++ textFrom 0 (b .machine) (stepsFrom limit (now (trace .entry)) (b .place))) ⌝ }
+    ensures { λ r. ⌜ (now (out .exit), r) ≡ write (now (out .entry), 0) (name (b .machine .kind) ++ textFrom 0 (b .machine) (stepsFrom limit (now (trace .entry)) (b .place))) ⌝ }
 {
     let m = b.machine;
-    let at = machine::put_name(out, 0, m.kind);
+    let at = kinds::put_name(out, 0, m.kind);
     list_steps(trace, limit, b.place, m, out, at)
 }
 
@@ -52,35 +55,33 @@ fn list_steps(
     let mut m = first;
     let mut left = limit;
     let mut count: u32 = 0;
-    let mut place = from;
+    let mut to = from;
     loop {
-        if trace.len() <= at {
-            return put_end(out, place, steps::CARRIED_OUT, trace.len());
-        }
-        if left == 0 {
-            return put_end(out, place, steps::LIMIT_REACHED, at);
-        }
-        match trace::step_at(trace, at) {
-            Next::Refused(refusal, offset) => {
-                return put_end(out, place, refusal, offset);
+        match trace::turn_at(trace, at, left) {
+            Turn::Ended(refusal, offset) => {
+                return put_end(out, to, refusal, offset);
             }
-            Next::Found(x, next) => {
+            Turn::Found(x, next) => {
                 let a = machine::step_sound(m, x);
                 m = a.machine;
                 at = next;
                 left = left - 1;
                 count = count + 1;
-                place = put_line(
-                    out,
-                    place,
-                    count,
-                    letter_of(x, a.refusal),
-                    shown_value(a.refusal, a.value),
-                    machine::shown_sound(m),
-                );
+                to = put_step(out, to, count, x, a);
             }
         }
     }
+}
+
+// The line of a step by what it answered; the three numbers are those of the machine after it.
+fn put_step(out: &mut [u8], at: usize, n: u32, x: Step, a: Answer) -> usize
+    requires { ⌜ sound (a .machine) ≡ true ⌝ }
+    ensures { λ r. ⌜ (now (out .exit), r) ≡ write (now (out .entry), at) (stepLine n x a) ⌝ }
+{
+    let m = a.machine;
+    let letter = letter_of(x, a.refusal);
+    let value = shown_value(a.refusal, a.value);
+    put_line(out, at, n, letter, value, machine::shown_sound(m))
 }
 
 // The line of a step: its number, its letter, the value in eight digits, and the machine's three numbers.

@@ -1,5 +1,5 @@
--- The laws of kinds and of machines, and the proof of what is promised.
-pub mod KindLaws
+-- The laws of machines, and the proof of what is promised.
+pub mod Computing
 pub mod MachineLaws
 pub mod Promises
 pub mod ShownLaws

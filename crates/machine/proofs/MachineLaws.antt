@@ -1,12 +1,11 @@
 -- Laws of machines: configurations, starts, and soundness by kind.
-use Prim.Native.Nat.{ℕ, _≤_}
+use Prim.Native.Nat.{ℕ}
 use mathlib.Core.Path.{_≡_, refl, sym, ap, _∙_}
 use mathlib.Core.Bool.{true, false, false≢true}
 use mathlib.Core.List.{List, [], _∷_}
 use mathlib.Core.Logic.{_≢_, ⊎-elim}
 use native.Mathlib.Omega.{arith}
 use lib.ListN.{length}
-use lib.Seq.{set-out}
 use Rattle.words.specs.Choice.{pick}
 use Rattle.words.proofs.ChoiceLaws.{pick-true}
 use Rattle.words.proofs.TruthLaws.{and-both}
@@ -22,19 +21,14 @@ use Rattle.cic_record.specs.declared.Begun.{Begun as CicBegun}
 use Rattle.cic_record.specs.Sound.{within as cicWithin, sound as cicSound}
 use Rattle.cic_record.specs.Start.{fresh, configured, start as cicStart}
 use Rattle.cic_record.proofs.Promises.{kept as cic}
-use Rattle.machine.specs.declared.Configuration.{Configuration}
+use Rattle.kinds.specs.Configuration.{withNumber, filled}
+use Rattle.kinds.specs.Kinds.{aicKind, coreKind, cicKind, byKind, isKind, wanted, within}
+use Rattle.kinds.specs.Promises.{Within}
+use Rattle.kinds.proofs.KindLaws.{KindOf, isAic, isCore, isCic, isNone, kind-of, at-aic, at-core, at-cic, at-none, known}
+use Rattle.kinds.proofs.Promises.{kept as kinds}
 use Rattle.machine.specs.declared.Machine.{Machine}
-use Rattle.machine.specs.Kinds.{aicKind, coreKind, cicKind, byKind, isKind, placesOf, withinOf}
-use Rattle.machine.specs.Machine.{withNumber, filled, ofAic, ofCore, ofCic, startOf, sound}
-use Rattle.machine.specs.Promises.{Within, startWith, Ready}
-use Rattle.machine.proofs.KindLaws.{KindOf, isAic, isCore, isCic, isNone, kind-of, at-aic, at-core, at-cic, at-none, known}
-
--- ---- configurations
-
--- past the last place nothing changes
-pub number-past : (c : Configuration) (k v : ℕ) → length (c .numbers) ≡ 4 → 4 ≤ k → c ≡ withNumber c k v
-unfolding withNumber
-number-past c k v h l = ap (λ (ns : List ℕ). record { numbers = ns }) (sym (set-out (c .numbers) k v (omega arith)))
+use Rattle.machine.specs.Machine.{ofAic, ofCore, ofCic, start, sound}
+use Rattle.machine.specs.Promises.{startWith, Ready}
 
 -- ---- records of zeros
 
@@ -49,19 +43,19 @@ blank-cic = ap (λ (b : CicBegun). b .cic) (cic .zeros 0 0 0 0 (λ h. omega (ari
 
 pub sound-aic : (m : Machine) → m .kind ≡ aicKind → aicSound (m .aic) ≡ sound m
 unfolding sound
-sound-aic m e = at-aic (m .kind) _ _ _ _ e
+sound-aic m e = at-aic (m .kind) _ e
 
 pub sound-core : (m : Machine) → m .kind ≡ coreKind → coreSound (m .core) ≡ sound m
 unfolding sound
-sound-core m e = at-core (m .kind) _ _ _ _ e
+sound-core m e = at-core (m .kind) _ e
 
 pub sound-cic : (m : Machine) → m .kind ≡ cicKind → cicSound (m .cic) ≡ sound m
 unfolding sound
-sound-cic m e = at-cic (m .kind) _ _ _ _ e
+sound-cic m e = at-cic (m .kind) _ e
 
 pub sound-none : (m : Machine) → m .kind ≢ aicKind → m .kind ≢ coreKind → m .kind ≢ cicKind → false ≡ sound m
 unfolding sound
-sound-none m e f g = at-none (m .kind) _ _ _ _ e f g
+sound-none m e f g = at-none (m .kind) _ e f g
 
 -- a sound machine that is neither of the first two kinds is of the third
 pub third-kind : (m : Machine) → sound m ≡ true → m .kind ≢ aicKind → m .kind ≢ coreKind → m .kind ≡ cicKind
@@ -76,15 +70,15 @@ third-kind m s e f = go (kind-of (m .kind))
 -- ---- starts
 
 pub aic-starts : (a b : ℕ) → startWith aicKind (a ∷ b ∷ []) ≡ ofAic (aicStart a b .aic)
-unfolding startOf filled withNumber byKind pick
+unfolding start filled withNumber byKind pick
 aic-starts a b = refl
 
 pub core-starts : (a b c d : ℕ) → startWith coreKind (a ∷ b ∷ c ∷ d ∷ []) ≡ ofCore (coreStart a b c d .core)
-unfolding startOf filled withNumber byKind pick
+unfolding start filled withNumber byKind pick
 core-starts a b c d = refl
 
 pub cic-starts : (a b c d : ℕ) → startWith cicKind (a ∷ b ∷ c ∷ d ∷ []) ≡ ofCic (cicStart a b c d .cic)
-unfolding startOf filled withNumber byKind pick
+unfolding start filled withNumber byKind pick
 cic-starts a b c d = refl
 
 aic-ready : (ns : List ℕ) → length ns ≡ 2 → Ready (startWith aicKind ns)
@@ -111,7 +105,7 @@ cic-start-sound a b c d e f g h =
     cic .startSound a b c d (cic .starts a b c d .0 z)
 
 cic-ready : (ns : List ℕ) → length ns ≡ 4 → Within cicKind 0 ns → Ready (startWith cicKind ns)
-unfolding withinOf byKind pick
+unfolding within byKind pick
 cic-ready [] l w = absurd (omega arith)
 cic-ready (a ∷ []) l w = absurd (omega arith)
 cic-ready (a ∷ b ∷ []) l w = absurd (omega arith)
@@ -124,12 +118,11 @@ cic-ready (a ∷ b ∷ c ∷ d ∷ []) l w =
 cic-ready (a ∷ b ∷ c ∷ d ∷ e ∷ ns) l w = absurd (omega arith)
 
 -- the start of numbers within their limits is sound
-pub start-ready : (kind : ℕ) (ns : List ℕ) → isKind kind ≡ true → length ns ≡ placesOf kind → Within kind 0 ns → Ready (startWith kind ns)
-unfolding placesOf
+pub start-ready : (kind : ℕ) (ns : List ℕ) → isKind kind ≡ true → length ns ≡ wanted kind → Within kind 0 ns → Ready (startWith kind ns)
 start-ready kind ns i l w = go (kind-of kind)
   where
     go : KindOf kind → Ready (startWith kind ns)
-    go (isAic k) = rw k (aic-ready ns (l ∙ sym (at-aic kind 2 4 4 0 k)))
-    go (isCore k) = rw k (core-ready ns (l ∙ sym (at-core kind 2 4 4 0 k)))
-    go (isCic k) = rw k (cic-ready ns (l ∙ sym (at-cic kind 2 4 4 0 k)) (rw (sym k) w))
+    go (isAic k) = rw k (aic-ready ns (l ∙ ap wanted k ∙ kinds .aicNumbers))
+    go (isCore k) = rw k (core-ready ns (l ∙ ap wanted k ∙ kinds .coreNumbers))
+    go (isCic k) = rw k (cic-ready ns (l ∙ ap wanted k ∙ kinds .cicNumbers) (rw (sym k) w))
     go (isNone a b c) = absurd (⊎-elim a (⊎-elim b c) (known kind .0 i))

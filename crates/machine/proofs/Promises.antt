@@ -1,74 +1,59 @@
 -- The promises of a machine, kept.
-use Prim.Native.Nat.{ℕ, _≤_}
-use mathlib.Core.Path.{_≡_, refl, sym, _∙_}
-use mathlib.Core.Bool.{false}
-use mathlib.Core.Logic.{inl, inr}
+use Prim.Native.Nat.{ℕ}
+use mathlib.Core.Path.{_≡_, refl, sym, ap, _∙_}
+use mathlib.Core.Bool.{Bool, true, false, false≢true, true≢false}
 use native.Mathlib.Omega.{arith}
-use lib.Dec.{ltb}
-use borrow.Author.Tests.{ne-eqb, le-ltb}
 use Rattle.words.specs.Choice.{pick}
-use Rattle.words.proofs.ChoiceLaws.{pick-false}
-use Rattle.words.proofs.TruthLaws.{clash}
-use Rattle.steps.specs.declared.Step.{Step}
-use Rattle.steps.specs.Refusals.{unsound}
-use Rattle.aic.specs.Model.{within as aicWithin}
-use Rattle.coreinterrupt.specs.Model.{within as coreWithin}
-use Rattle.coreinterrupt.proofs.StartLaws.{four-numbers}
-use Rattle.cic_record.specs.Sound.{within as cicWithin}
-use Rattle.machine.specs.declared.Machine.{Machine}
-use Rattle.machine.specs.Kinds.{byKind, isKind, placesOf, withinOf}
-use Rattle.machine.specs.Steps.{refused, stepOf}
-use Rattle.machine.specs.Promises.{Promises}
-use Rattle.machine.proofs.KindLaws.{KindOf, isAic, isCore, isCic, isNone, kind-of, at-aic, at-core, at-cic, at-none, known}
-use Rattle.machine.proofs.MachineLaws.{aic-starts, core-starts, cic-starts, start-ready}
-use Rattle.machine.proofs.ShownLaws.{aic-shows, core-shows, cic-shows, small}
-use Rattle.machine.proofs.StepLaws.{aic-steps, core-steps, cic-steps, no-steps, step-ready, step-kind, refused-same, twelve}
+use Rattle.words.specs.Counting.{one}
+use Rattle.aic_record.specs.Record.{reset}
+use Rattle.cic_record.specs.Start.{fresh}
+use Rattle.kinds.specs.Kinds.{byKind}
+use Rattle.kinds.proofs.KindLaws.{at-unknown}
+use Rattle.machine.specs.declared.Columns.{Columns}
+use Rattle.machine.specs.Machine.{start, sound}
+use Rattle.machine.specs.Steps.{step, shown}
+use Rattle.machine.specs.Promises.{Tells, Promises}
+use Rattle.machine.proofs.MachineLaws.{sound-aic, sound-core, sound-cic, aic-starts, core-starts, cic-starts, start-ready}
+use Rattle.machine.proofs.ShownLaws.{aic-shows, core-shows, cic-shows, unsound-shown, small}
+use Rattle.machine.proofs.StepLaws.{aic-steps, core-steps, cic-steps, step-ready, step-kind, refused-same, twelve}
 
--- no number from 4 on configures a CIC
-cic-four : (place value : ℕ) → 4 ≤ place → cicWithin place value ≡ false
-unfolding cicWithin
-cic-four place value l =
-    sym (pick-false _ (ne-eqb place 0 (λ z. omega arith))) ∙ sym (pick-false _ (ne-eqb place 1 (λ z. omega arith)))
-    ∙ sym (pick-false _ (ne-eqb place 2 (λ z. omega arith))) ∙ ne-eqb place 3 (λ z. omega arith)
-
-no-number : (kind place value : ℕ) → placesOf kind ≤ place → withinOf kind place value ≡ false
-unfolding placesOf withinOf aicWithin
-no-number kind place value l = go (kind-of kind)
-  where
-    go : KindOf kind → byKind kind (ltb place 2) (coreWithin place value) (cicWithin place value) false ≡ false
-    go (isAic k) = sym (at-aic kind _ _ _ _ k) ∙ le-ltb place 2 (omega (arith, at-aic {A = ℕ} kind 2 4 4 0 k))
-    go (isCore k) = sym (at-core kind _ _ _ _ k) ∙ four-numbers place value (omega (arith, at-core {A = ℕ} kind 2 4 4 0 k))
-    go (isCic k) = sym (at-cic kind _ _ _ _ k) ∙ cic-four place value (omega (arith, at-cic {A = ℕ} kind 2 4 4 0 k))
-    go (isNone a b c) = sym (at-none kind _ _ _ _ a b c)
-
-no-kind : (m : Machine) (x : Step) → isKind (m .kind) ≡ false → stepOf m x ≡ refused m unsound
-no-kind m x e =
-    no-steps m x (λ z. clash (known (m .kind) .1 (inl z)) e) (λ z. clash (known (m .kind) .1 (inr (inl z))) e)
-    (λ z. clash (known (m .kind) .1 (inr (inr z))) e)
+-- the number of an output tells whether it is active
+tells : (t : Bool) → Tells (one t) t
+tells true = ((λ z. refl, λ z. refl), (λ z. absurd (omega arith), λ z. absurd (true≢false z)))
+tells false = ((λ z. absurd (omega arith), λ z. absurd (false≢true z)), (λ z. refl, λ z. refl))
 
 pub kept : Promises
-unfolding placesOf withinOf byKind pick
+unfolding reset fresh start sound step byKind pick
 kept =
     record {
-      kinds = known;
-      aicNumbers = (refl, λ place value. refl);
-      coreNumbers = (refl, λ place value. refl);
-      cicNumbers = (refl, λ place value. refl);
-      noNumber = no-number;
-      aicStarts = aic-starts;
-      coreStarts = core-starts;
-      cicStarts = cic-starts;
+      blankKind = refl;
+      blankAic = refl;
+      blankFiq = refl;
+      blankIrq = refl;
+      blankCic = refl;
+      aicStarts = λ c. refl;
+      coreStarts = λ c. refl;
+      cicStarts = λ c. refl;
+      noStarts = λ kind c h. sym (at-unknown kind _ h);
+      aicFrom = aic-starts;
+      coreFrom = core-starts;
+      cicFrom = cic-starts;
       startReady = start-ready;
+      aicSoundIs = λ m k. sym (sound-aic m k);
+      coreSoundIs = λ m k. sym (sound-core m k);
+      cicSoundIs = λ m k. sym (sound-cic m k);
+      noneSound = λ m h. sym (at-unknown (m .kind) _ h);
       aicSteps = aic-steps;
       coreSteps = core-steps;
       cicSteps = cic-steps;
-      noSteps = no-kind;
+      noSteps = λ m x h. sym (at-unknown (m .kind) _ h);
       stepReady = step-ready;
       stepKind = step-kind;
       refusedSame = refused-same;
       twelve = twelve;
-      aicShows = aic-shows;
-      coreShows = core-shows;
-      cicShows = cic-shows;
+      aicShows = λ m k. rw (aic-shows m k) (tells _, tells _, refl);
+      coreShows = λ m k. rw (core-shows m k) (tells _, tells _, refl);
+      cicShows = λ m k. rw (cic-shows m k) (refl, refl, refl);
+      shownUnsound = λ m h. sym (unsound-shown m h);
       shownSmall = small;
     }

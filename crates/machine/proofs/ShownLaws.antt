@@ -18,36 +18,36 @@ use Rattle.cic_record.specs.Kinds.{hostNumber}
 use Rattle.cic_hosts.specs.Hosts.{asserted, outputs as cicOutputs, shown as cicShown}
 use Rattle.cic_hosts.proofs.Promises.{kept as hosts}
 use Rattle.machine.specs.declared.Machine.{Machine}
-use Rattle.machine.specs.Kinds.{aicKind, coreKind, cicKind}
+use Rattle.kinds.specs.Kinds.{aicKind, coreKind, cicKind}
 use Rattle.machine.specs.Machine.{sound}
-use Rattle.machine.specs.Steps.{aicColumns, coreColumns, cicColumns, noColumns, shownOf}
+use Rattle.machine.specs.Steps.{aicColumns, coreColumns, cicColumns, noColumns, shown}
 use Rattle.machine.specs.Promises.{Small}
-use Rattle.machine.proofs.KindLaws.{KindOf, isAic, isCore, isCic, isNone, kind-of, at-aic, at-core, at-cic, at-none}
+use Rattle.kinds.proofs.KindLaws.{KindOf, isAic, isCore, isCic, isNone, kind-of, at-aic, at-core, at-cic, at-none}
 use Rattle.machine.proofs.MachineLaws.{sound-aic, sound-core, sound-cic}
 
 module _ (m : Machine) where
-  pub aic-shows : m .kind ≡ aicKind → shownOf m ≡ aicColumns (aicOutputs (m .aic))
-  unfolding shownOf
-  aic-shows e = sym (at-aic (m .kind) _ _ _ _ e)
+  pub aic-shows : m .kind ≡ aicKind → shown m ≡ aicColumns (aicOutputs (m .aic))
+  unfolding shown
+  aic-shows e = sym (at-aic (m .kind) _ e)
 
-  pub core-shows : m .kind ≡ coreKind → shownOf m ≡ coreColumns (coreOutputs (m .core))
-  unfolding shownOf
-  core-shows e = sym (at-core (m .kind) _ _ _ _ e)
+  pub core-shows : m .kind ≡ coreKind → shown m ≡ coreColumns (coreOutputs (m .core))
+  unfolding shown
+  core-shows e = sym (at-core (m .kind) _ e)
 
-  pub cic-shows : m .kind ≡ cicKind → shownOf m ≡ cicColumns (cicOutputs (m .cic))
-  unfolding shownOf
-  cic-shows e = sym (at-cic (m .kind) _ _ _ _ e)
+  pub cic-shows : m .kind ≡ cicKind → shown m ≡ cicColumns (cicOutputs (m .cic))
+  unfolding shown
+  cic-shows e = sym (at-cic (m .kind) _ e)
 
-  no-shows : m .kind ≢ aicKind → m .kind ≢ coreKind → m .kind ≢ cicKind → shownOf m ≡ noColumns
-  unfolding shownOf
-  no-shows e f g = sym (at-none (m .kind) _ _ _ _ e f g)
+  no-shows : m .kind ≢ aicKind → m .kind ≢ coreKind → m .kind ≢ cicKind → shown m ≡ noColumns
+  unfolding shown
+  no-shows e f g = sym (at-none (m .kind) _ e f g)
 
   -- a machine that is not sound shows nothing
-  pub unsound-shown : sound m ≡ false → noColumns ≡ shownOf m
+  pub unsound-shown : sound m ≡ false → noColumns ≡ shown m
   unfolding cicOutputs
   unsound-shown s = sym (go (kind-of (m .kind)))
     where
-      go : KindOf (m .kind) → shownOf m ≡ noColumns
+      go : KindOf (m .kind) → shown m ≡ noColumns
       go (isAic k) = aic-shows k ∙ ap aicColumns (aic .outputsUnsound (m .aic) (sound-aic m k ∙ s))
       go (isCore k) = core-shows k ∙ ap coreColumns (core .outputsUnsound (m .core) (sound-core m k ∙ s))
       go (isCic k) = cic-shows k ∙ ap cicColumns (sym (pick-false (cicShown (m .cic)) (sound-cic m k ∙ s)))
@@ -58,10 +58,10 @@ module _ (m : Machine) where
   one-small false = omega arith
 
   -- a sound machine shows no number over 256
-  pub small : sound m ≡ true → Small (shownOf m)
+  pub small : sound m ≡ true → Small (shown m)
   small s = go (kind-of (m .kind))
     where
-      go : KindOf (m .kind) → Small (shownOf m)
+      go : KindOf (m .kind) → Small (shown m)
       go (isAic k) =
           let e = sound-aic m k ∙ s in
           rw (aic-shows k) (rw (aic .outputsSound (m .aic) e) (one-small (irq (m .aic)), one-small (fiq (m .aic)), omega (arith, record-kept .soundIs (m .aic) .0 e .handlers)))

@@ -16,38 +16,38 @@ use Rattle.cic.specs.Model.{step as cicStep, stepAs}
 use Rattle.cic.proofs.Promises.{kept as cic}
 use Rattle.machine.specs.declared.Answer.{Answer}
 use Rattle.machine.specs.declared.Machine.{Machine}
-use Rattle.machine.specs.Kinds.{aicKind, coreKind, cicKind}
+use Rattle.kinds.specs.Kinds.{aicKind, coreKind, cicKind}
 use Rattle.machine.specs.Machine.{sound}
-use Rattle.machine.specs.Steps.{afterAic, afterCore, afterCic, refused, stepOf}
+use Rattle.machine.specs.Steps.{afterAic, afterCore, afterCic, refused, step}
 use Rattle.machine.specs.Promises.{Ready}
-use Rattle.machine.proofs.KindLaws.{KindOf, isAic, isCore, isCic, isNone, kind-of, at-aic, at-core, at-cic, at-none}
+use Rattle.kinds.proofs.KindLaws.{KindOf, isAic, isCore, isCic, isNone, kind-of, at-aic, at-core, at-cic, at-none}
 use Rattle.machine.proofs.MachineLaws.{sound-aic, sound-core, sound-cic, sound-none}
 
 -- ---- the step of each kind
 
 module _ (m : Machine) (x : Step) where
-  pub aic-steps : m .kind ≡ aicKind → stepOf m x ≡ afterAic m (aicStep (m .aic) x)
-  unfolding stepOf
-  aic-steps e = sym (at-aic (m .kind) _ _ _ _ e)
+  pub aic-steps : m .kind ≡ aicKind → step m x ≡ afterAic m (aicStep (m .aic) x)
+  unfolding step
+  aic-steps e = sym (at-aic (m .kind) _ e)
 
-  pub core-steps : m .kind ≡ coreKind → stepOf m x ≡ afterCore m (coreStep (m .core) x)
-  unfolding stepOf
-  core-steps e = sym (at-core (m .kind) _ _ _ _ e)
+  pub core-steps : m .kind ≡ coreKind → step m x ≡ afterCore m (coreStep (m .core) x)
+  unfolding step
+  core-steps e = sym (at-core (m .kind) _ e)
 
-  pub cic-steps : m .kind ≡ cicKind → stepOf m x ≡ afterCic m (cicStep (m .cic) x)
-  unfolding stepOf
-  cic-steps e = sym (at-cic (m .kind) _ _ _ _ e)
+  pub cic-steps : m .kind ≡ cicKind → step m x ≡ afterCic m (cicStep (m .cic) x)
+  unfolding step
+  cic-steps e = sym (at-cic (m .kind) _ e)
 
-  pub no-steps : m .kind ≢ aicKind → m .kind ≢ coreKind → m .kind ≢ cicKind → stepOf m x ≡ refused m unsound
-  unfolding stepOf
-  no-steps e f g = sym (at-none (m .kind) _ _ _ _ e f g)
+  pub no-steps : m .kind ≢ aicKind → m .kind ≢ coreKind → m .kind ≢ cicKind → step m x ≡ refused m unsound
+  unfolding step
+  no-steps e f g = sym (at-none (m .kind) _ e f g)
 
   -- ---- soundness
 
-  pub step-ready : Ready m → Ready (stepOf m x .machine)
+  pub step-ready : Ready m → Ready (step m x .machine)
   step-ready r = go (kind-of (m .kind))
     where
-      go : KindOf (m .kind) → Ready (stepOf m x .machine)
+      go : KindOf (m .kind) → Ready (step m x .machine)
       go (isAic k) =
           rw (aic-steps k) (
             sym (sound-aic _ k) ∙ aic .stepSound (m .aic) x (r .1) (sound-aic m k ∙ r .0),
@@ -57,10 +57,10 @@ module _ (m : Machine) (x : Step) where
       go (isCic k) = rw (cic-steps k) (sym (sound-cic _ k) ∙ cic .stepSound (m .cic) x (sound-cic m k ∙ r .0), r .1)
       go (isNone a b c) = rw (no-steps a b c) r
 
-  pub step-kind : stepOf m x .machine .kind ≡ m .kind
+  pub step-kind : step m x .machine .kind ≡ m .kind
   step-kind = go (kind-of (m .kind))
     where
-      go : KindOf (m .kind) → stepOf m x .machine .kind ≡ m .kind
+      go : KindOf (m .kind) → step m x .machine .kind ≡ m .kind
       go (isAic k) = ap (λ (a : Answer). a .machine .kind) (aic-steps k)
       go (isCore k) = ap (λ (a : Answer). a .machine .kind) (core-steps k)
       go (isCic k) = ap (λ (a : Answer). a .machine .kind) (cic-steps k)
@@ -71,10 +71,10 @@ module _ (m : Machine) (x : Step) where
   abbrev Same : Answer → Type 0
   Same a = a .refusal ≢ carriedOut → a ≡ refused m (a .refusal)
 
-  pub refused-same : Same (stepOf m x)
+  pub refused-same : Same (step m x)
   refused-same = go (kind-of (m .kind))
     where
-      go : KindOf (m .kind) → Same (stepOf m x)
+      go : KindOf (m .kind) → Same (step m x)
       go (isAic k) = rw (aic-steps k) (λ z. ap (afterAic m) (aic .refusedSame (m .aic) x z))
       go (isCore k) = rw (core-steps k) (λ z. ap (afterCore m) (core .refusedSame (m .core) x z))
       go (isCic k) = rw (cic-steps k) (λ z. ap (afterCic m) (cic .refusedSame (m .cic) x z))
@@ -98,17 +98,17 @@ cic-twelve m (Read o) = cic .readNumbers (m .cic) o .twelve
 cic-twelve m (Write o v) = cic .writeNumbers (m .cic) o v .twelve
 cic-twelve m (Line k l) = cic .lineNumbers (m .cic) k l .twelve
 
-pub twelve : (m : Machine) (x : Step) → (stepOf m x .refusal ≡ unsound) ↔ (sound m ≡ false)
+pub twelve : (m : Machine) (x : Step) → (step m x .refusal ≡ unsound) ↔ (sound m ≡ false)
 twelve m x = go (kind-of (m .kind))
   where
-    go : KindOf (m .kind) → (stepOf m x .refusal ≡ unsound) ↔ (sound m ≡ false)
+    go : KindOf (m .kind) → (step m x .refusal ≡ unsound) ↔ (sound m ≡ false)
     go (isAic k) = rw (aic-steps m x k) (rw (sym (sound-aic m k)) (aic-twelve m x))
     go (isCore k) = rw (core-steps m x k) (rw (sym (sound-core m k)) (core-twelve m x))
     go (isCic k) = rw (cic-steps m x k) (rw (sym (sound-cic m k)) (cic-twelve m x))
     go (isNone a b c) = rw (no-steps m x a b c) (λ z. sym (sound-none m a b c), λ z. refl)
 
 -- a machine that is not sound refuses every step by 12
-pub unsound-step : (m : Machine) (x : Step) → sound m ≡ false → refused m unsound ≡ stepOf m x
+pub unsound-step : (m : Machine) (x : Step) → sound m ≡ false → refused m unsound ≡ step m x
 unsound-step m x e =
-    let n : stepOf m x .refusal ≡ unsound = twelve m x .1 e in
+    let n : step m x .refusal ≡ unsound = twelve m x .1 e in
     sym (refused-same m x (λ z. omega arith) ∙ ap (refused m) n)

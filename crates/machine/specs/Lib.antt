@@ -1,5 +1,4 @@
--- One controller of any kind: its kinds, its start, its steps, what it shows, and what is promised of it.
-pub mod Kinds
+-- One controller of any kind: its start, its steps, what it shows, and what is promised of it.
 pub mod Machine
 pub mod Promises
 pub mod Steps

@@ -1,8 +1,6 @@
 -- One controller of any kind, before and after its start, and when it is sound (01, "House trace").
-use Prim.Native.Nat.{ℕ, _+_}
+use Prim.Native.Nat.{ℕ}
 use mathlib.Core.Bool.{Bool, false}
-use mathlib.Core.List.{List, [], _∷_}
-use lib.ListN.{getD, set}
 use Rattle.aic_record.specs.declared.Aic.{Aic}
 use Rattle.aic_record.specs.Record.{reset}
 use Rattle.aic_record.specs.Sound.{sound as aicSound}
@@ -13,29 +11,10 @@ use Rattle.coreinterrupt.specs.Model.{coreOf, start as coreStart, sound as core
 use Rattle.cic_record.specs.declared.Cic.{Cic}
 use Rattle.cic_record.specs.Sound.{sound as cicSound}
 use Rattle.cic_record.specs.Start.{fresh, start as cicStart}
-use Rattle.machine.specs.declared.Configuration.{Configuration}
+use Rattle.kinds.specs.declared.Configuration.{Configuration}
+use Rattle.kinds.specs.Configuration.{numberIn}
+use Rattle.kinds.specs.Kinds.{aicKind, coreKind, cicKind, byKind}
 use Rattle.machine.specs.declared.Machine.{Machine}
-use Rattle.machine.specs.Kinds.{aicKind, coreKind, cicKind, byKind}
-
--- ---- the numbers of a configuration
-
--- none yet
-abbrev pub noNumbers : Configuration
-noNumbers = record { numbers = 0 ∷ 0 ∷ 0 ∷ 0 ∷ [] }
-
--- the k-th put anew
-unfoldable pub withNumber : Configuration → ℕ → ℕ → Configuration
-withNumber c k v = record { numbers = set (c .numbers) k v }
-
--- these put one after the other from the k-th on
-unfoldable pub filled : Configuration → ℕ → List ℕ → Configuration
-filled c k [] = c
-filled c k (n ∷ ns) = filled (withNumber c k n) (k + 1) ns
-
-abbrev pub numberIn : Configuration → ℕ → ℕ
-numberIn c k = getD (c .numbers) k 0
-
--- ---- the machine
 
 -- all numbers are 0 (01, House trace)
 abbrev pub blank : Machine
@@ -52,14 +31,16 @@ abbrev pub ofCic : Cic → Machine
 ofCic c = record { kind = cicKind; aic = blank .aic; core = blank .core; cic = c }
 
 -- the model's own start, with the numbers in their order (01, House trace)
-unfoldable pub startOf : ℕ → Configuration → Machine
-startOf kind c =
+unfoldable pub start : ℕ → Configuration → Machine
+start kind c =
     byKind kind
-    (ofAic (aicStart (numberIn c 0) (numberIn c 1) .aic))
-    (ofCore (coreStart (numberIn c 0) (numberIn c 1) (numberIn c 2) (numberIn c 3) .core))
-    (ofCic (cicStart (numberIn c 0) (numberIn c 1) (numberIn c 2) (numberIn c 3) .cic))
-    blank
+    (record {
+      aic = ofAic (aicStart (numberIn c 0) (numberIn c 1) .aic);
+      core = ofCore (coreStart (numberIn c 0) (numberIn c 1) (numberIn c 2) (numberIn c 3) .core);
+      cic = ofCic (cicStart (numberIn c 0) (numberIn c 1) (numberIn c 2) (numberIn c 3) .cic);
+      none = blank;
+    })
 
 -- the record of its kind keeps the rules of its model (01, Numbers, 12)
 unfoldable pub sound : Machine → Bool
-sound m = byKind (m .kind) (aicSound (m .aic)) (coreSound (m .core)) (cicSound (m .cic)) false
+sound m = byKind (m .kind) (record { aic = aicSound (m .aic); core = coreSound (m .core); cic = cicSound (m .cic); none = false })

@@ -1,33 +1,31 @@
 -- What is promised of a machine: it starts, steps and shows as the model of its kind does.
-use Prim.Native.Nat.{ℕ, _+_, _≤_}
+use Prim.Native.Nat.{ℕ, _≤_}
 use mathlib.Core.Path.{_≡_}
-use mathlib.Core.Bool.{true, false}
+use mathlib.Core.Bool.{Bool, true, false}
 use mathlib.Core.List.{List, [], _∷_}
-use mathlib.Core.Logic.{_↔_, _≢_, _⊎_}
-use lib.ListN.{length}
+use mathlib.Core.Logic.{_↔_, _≢_}
+use lib.ListN.{length, getD, replicate}
 use Rattle.steps.specs.declared.Step.{Step}
-use Rattle.steps.specs.Refusals.{carriedOut, unsound}
 use Rattle.aic_record.specs.Promises.{Shaped as AicShaped}
-use Rattle.aic.specs.Model.{start as aicStart, step as aicStep, outputs as aicOutputs, within as aicWithin}
-use Rattle.coreinterrupt.specs.Model.{start as coreStart, step as coreStep, outputs as coreOutputs, within as coreWithin}
-use Rattle.cic_record.specs.Sound.{within as cicWithin}
+use Rattle.aic_record.specs.Sound.{sound as aicSound}
+use Rattle.aic.specs.Model.{start as aicStart, step as aicStep, outputs as aicOutputs}
+use Rattle.coreinterrupt.specs.Model.{start as coreStart, sound as coreSound, step as coreStep, outputs as coreOutputs}
+use Rattle.cic_record.specs.Sound.{sound as cicSound}
 use Rattle.cic_record.specs.Start.{start as cicStart}
 use Rattle.cic_hosts.specs.Hosts.{outputs as cicOutputs}
 use Rattle.cic.specs.Model.{step as cicStep}
+use Rattle.kinds.specs.declared.Configuration.{Configuration}
+use Rattle.kinds.specs.Configuration.{noNumbers, filled}
+use Rattle.kinds.specs.Kinds.{isKind, wanted}
+use Rattle.kinds.specs.Promises.{Within}
 use Rattle.machine.specs.declared.Columns.{Columns}
 use Rattle.machine.specs.declared.Machine.{Machine}
-use Rattle.machine.specs.Kinds.{aicKind, coreKind, cicKind, isKind, placesOf, withinOf}
-use Rattle.machine.specs.Machine.{noNumbers, filled, ofAic, ofCore, ofCic, startOf, sound}
-use Rattle.machine.specs.Steps.{afterAic, afterCore, afterCic, refused, stepOf, aicColumns, coreColumns, cicColumns, shownOf}
-
--- each of these numbers is within its limit, the first being the k-th
-abbrev pub Within : ℕ → ℕ → List ℕ → Type 0
-Within kind k [] = Unit
-Within kind k (n ∷ ns) = (withinOf kind k n ≡ true) × Within kind (k + 1) ns
+use Rattle.machine.specs.Machine.{blank, start, sound}
+use Rattle.machine.specs.Steps.{step, shown}
 
 -- the machine that starts from these numbers
 abbrev pub startWith : ℕ → List ℕ → Machine
-startWith kind ns = startOf kind (filled noNumbers 0 ns)
+startWith kind ns = start kind (filled noNumbers 0 ns)
 
 -- the arrays of a machine have their lengths, as those of every machine in the code do
 abbrev pub Shaped : Machine → Type 0
@@ -37,48 +35,85 @@ Shaped m = AicShaped (m .aic)
 abbrev pub Ready : Machine → Type 0
 Ready m = (sound m ≡ true) × Shaped m
 
+-- a number is 1 exactly if an output is active, and 0 exactly if it is not
+abbrev pub Tells : ℕ → Bool → Type 0
+Tells n active = ((n ≡ 1) ↔ (active ≡ true)) × ((n ≡ 0) ↔ (active ≡ false))
+
 -- none of the three numbers is over 256
 abbrev pub Small : Columns → Type 0
 Small c = (c .first ≤ 256) × (c .second ≤ 256) × (c .third ≤ 256)
 
 pub record Promises : Type 0 where
-  -- ---- kinds
+  -- ---- before a start
 
-  -- there are three kinds (01, House trace)
-  pub kinds : (kind : ℕ) → (isKind kind ≡ true) ↔ ((kind ≡ aicKind) ⊎ ((kind ≡ coreKind) ⊎ (kind ≡ cicKind)))
-  -- each is configured by so many numbers, each within the limits of its model; no other number is (01, AIC, CoreInterrupt, CIC)
-  pub aicNumbers : (placesOf aicKind ≡ 2) × ((place value : ℕ) → withinOf aicKind place value ≡ aicWithin place value)
-  pub coreNumbers : (placesOf coreKind ≡ 4) × ((place value : ℕ) → withinOf coreKind place value ≡ coreWithin place value)
-  pub cicNumbers : (placesOf cicKind ≡ 4) × ((place value : ℕ) → withinOf cicKind place value ≡ cicWithin place value)
-  pub noNumber : (kind place value : ℕ) → placesOf kind ≤ place → withinOf kind place value ≡ false
+  -- every number of the machine is 0 (01, House trace; Numbers)
+  pub blankKind : blank .kind ≡ 0
+  pub blankAic : blank .aic
+      ≡ record { external = 0; lines = 0; enabled = 0; memory = 0; forced = 0; spurious = 0; mask = 0; mode = replicate 32 0; vector = replicate 32 0; source = replicate 8 0; level = replicate 8 0; depth = 0 }
+  pub blankFiq : blank .core .fiq ≡ record { count = 0; level = 0; inputs = 0; soft = 0; enable = 0 }
+  pub blankIrq : blank .core .irq ≡ record { count = 0; level = 0; inputs = 0; soft = 0; enable = 0 }
+  pub blankCic : blank .cic
+      ≡ record { systems = 0; channels = 0; hosts = 0; revision = 0; global = 0; lines = replicate 32 0; status = replicate 32 0; enable = replicate 32 0; channel = replicate 1024 0; host = replicate 256 0; allow = replicate 8 0 }
   -- ---- start
 
-  -- a start is that of the model, with the numbers in their order (01, House trace)
-  pub aicStarts : (a b : ℕ) → startWith aicKind (a ∷ b ∷ []) ≡ ofAic (aicStart a b .aic)
-  pub coreStarts : (a b c d : ℕ) → startWith coreKind (a ∷ b ∷ c ∷ d ∷ []) ≡ ofCore (coreStart a b c d .core)
-  pub cicStarts : (a b c d : ℕ) → startWith cicKind (a ∷ b ∷ c ∷ d ∷ []) ≡ ofCic (cicStart a b c d .cic)
+  -- a start is that of the model, with the numbers in their order; the records of the other kinds are all 0 (01, House trace)
+  pub aicStarts : (c : Configuration)
+      → start 0 c ≡ record { kind = 0; aic = aicStart (getD (c .numbers) 0 0) (getD (c .numbers) 1 0) .aic; core = blank .core; cic = blank .cic }
+  pub coreStarts : (c : Configuration)
+      → start 1 c
+      ≡ record { kind = 1; aic = blank .aic; core = coreStart (getD (c .numbers) 0 0) (getD (c .numbers) 1 0) (getD (c .numbers) 2 0) (getD (c .numbers) 3 0) .core; cic = blank .cic }
+  pub cicStarts : (c : Configuration)
+      → start 2 c
+      ≡ record { kind = 2; aic = blank .aic; core = blank .core; cic = cicStart (getD (c .numbers) 0 0) (getD (c .numbers) 1 0) (getD (c .numbers) 2 0) (getD (c .numbers) 3 0) .cic }
+  pub noStarts : (kind : ℕ) (c : Configuration) → isKind kind ≡ false → start kind c ≡ blank
+  -- the same of a list of numbers (01, House trace)
+  pub aicFrom : (a b : ℕ) → startWith 0 (a ∷ b ∷ []) ≡ record { kind = 0; aic = aicStart a b .aic; core = blank .core; cic = blank .cic }
+  pub coreFrom : (a b c d : ℕ)
+      → startWith 1 (a ∷ b ∷ c ∷ d ∷ []) ≡ record { kind = 1; aic = blank .aic; core = coreStart a b c d .core; cic = blank .cic }
+  pub cicFrom : (a b c d : ℕ)
+      → startWith 2 (a ∷ b ∷ c ∷ d ∷ []) ≡ record { kind = 2; aic = blank .aic; core = blank .core; cic = cicStart a b c d .cic }
   -- the start of numbers within their limits is sound (01, Numbers, 12)
-  pub startReady : (kind : ℕ) (ns : List ℕ) → isKind kind ≡ true → length ns ≡ placesOf kind → Within kind 0 ns → Ready (startWith kind ns)
+  pub startReady : (kind : ℕ) (ns : List ℕ) → isKind kind ≡ true → length ns ≡ wanted kind → Within kind 0 ns → Ready (startWith kind ns)
+  -- ---- soundness
+
+  -- a machine is sound exactly if the record of its kind is; one of no kind is not (01, Numbers, 12)
+  pub aicSoundIs : (m : Machine) → m .kind ≡ 0 → sound m ≡ aicSound (m .aic)
+  pub coreSoundIs : (m : Machine) → m .kind ≡ 1 → sound m ≡ coreSound (m .core)
+  pub cicSoundIs : (m : Machine) → m .kind ≡ 2 → sound m ≡ cicSound (m .cic)
+  pub noneSound : (m : Machine) → isKind (m .kind) ≡ false → sound m ≡ false
   -- ---- steps
 
-  -- a step is that of the model (01, House trace)
-  pub aicSteps : (m : Machine) (x : Step) → m .kind ≡ aicKind → stepOf m x ≡ afterAic m (aicStep (m .aic) x)
-  pub coreSteps : (m : Machine) (x : Step) → m .kind ≡ coreKind → stepOf m x ≡ afterCore m (coreStep (m .core) x)
-  pub cicSteps : (m : Machine) (x : Step) → m .kind ≡ cicKind → stepOf m x ≡ afterCic m (cicStep (m .cic) x)
+  -- a step answers what the model does, number, value and record, and leaves the rest of the machine alone (01, House trace)
+  pub aicSteps : (m : Machine) (x : Step) → m .kind ≡ 0
+      → step m x
+      ≡ record { refusal = aicStep (m .aic) x .refusal; value = aicStep (m .aic) x .value; machine = record { kind = m .kind; aic = aicStep (m .aic) x .aic; core = m .core; cic = m .cic } }
+  pub coreSteps : (m : Machine) (x : Step) → m .kind ≡ 1
+      → step m x
+      ≡ record { refusal = coreStep (m .core) x .refusal; value = coreStep (m .core) x .value; machine = record { kind = m .kind; aic = m .aic; core = coreStep (m .core) x .core; cic = m .cic } }
+  pub cicSteps : (m : Machine) (x : Step) → m .kind ≡ 2
+      → step m x
+      ≡ record { refusal = cicStep (m .cic) x .refusal; value = cicStep (m .cic) x .value; machine = record { kind = m .kind; aic = m .aic; core = m .core; cic = cicStep (m .cic) x .cic } }
   -- a machine of no kind has no step (01, Numbers, 12)
-  pub noSteps : (m : Machine) (x : Step) → isKind (m .kind) ≡ false → stepOf m x ≡ refused m unsound
+  pub noSteps : (m : Machine) (x : Step) → isKind (m .kind) ≡ false → step m x ≡ record { refusal = 12; value = 0; machine = m }
   -- every step keeps a sound machine sound, and the machine's kind (01, Numbers, 12)
-  pub stepReady : (m : Machine) (x : Step) → Ready m → Ready (stepOf m x .machine)
-  pub stepKind : (m : Machine) (x : Step) → stepOf m x .machine .kind ≡ m .kind
+  pub stepReady : (m : Machine) (x : Step) → Ready m → Ready (step m x .machine)
+  pub stepKind : (m : Machine) (x : Step) → step m x .machine .kind ≡ m .kind
   -- a refused step answers its number, the value 0 and the same machine (01, Numbers)
-  pub refusedSame : (m : Machine) (x : Step) → stepOf m x .refusal ≢ carriedOut → stepOf m x ≡ refused m (stepOf m x .refusal)
+  pub refusedSame : (m : Machine) (x : Step) → step m x .refusal ≢ 0 → step m x ≡ record { refusal = step m x .refusal; value = 0; machine = m }
   -- 12 is given exactly when a machine is not sound (01, Numbers, 12)
-  pub twelve : (m : Machine) (x : Step) → (stepOf m x .refusal ≡ unsound) ↔ (sound m ≡ false)
+  pub twelve : (m : Machine) (x : Step) → (step m x .refusal ≡ 12) ↔ (sound m ≡ false)
   -- ---- what is shown
 
-  -- the numbers shown are the outputs of the model (01, House trace)
-  pub aicShows : (m : Machine) → m .kind ≡ aicKind → shownOf m ≡ aicColumns (aicOutputs (m .aic))
-  pub coreShows : (m : Machine) → m .kind ≡ coreKind → shownOf m ≡ coreColumns (coreOutputs (m .core))
-  pub cicShows : (m : Machine) → m .kind ≡ cicKind → shownOf m ≡ cicColumns (cicOutputs (m .cic))
+  -- an AIC: IRQ active, FIQ active, handlers open (01, House trace)
+  pub aicShows : (m : Machine) → m .kind ≡ 0
+      → Tells (shown m .first) (aicOutputs (m .aic) .irq) × Tells (shown m .second) (aicOutputs (m .aic) .fiq) × (shown m .third ≡ aicOutputs (m .aic) .handlers)
+  -- a CoreInterrupt: IRQ active, FIQ active, 0 (01, House trace)
+  pub coreShows : (m : Machine) → m .kind ≡ 1
+      → Tells (shown m .first) (coreOutputs (m .core) .irq) × Tells (shown m .second) (coreOutputs (m .core) .fiq) × (shown m .third ≡ 0)
+  -- a CIC: asserted hosts, the lowest of them or 256, 0 (01, House trace)
+  pub cicShows : (m : Machine) → m .kind ≡ 2
+      → (shown m .first ≡ cicOutputs (m .cic) .hosts) × (shown m .second ≡ cicOutputs (m .cic) .lowest) × (shown m .third ≡ 0)
+  -- a machine that is not sound, so one of no kind too: three zeros (01, Numbers, 12)
+  pub shownUnsound : (m : Machine) → sound m ≡ false → shown m ≡ record { first = 0; second = 0; third = 0 }
   -- of a sound machine none of them is over 256, the number that stands for no asserted host (01, House trace)
-  pub shownSmall : (m : Machine) → sound m ≡ true → Small (shownOf m)
+  pub shownSmall : (m : Machine) → sound m ≡ true → Small (shown m)

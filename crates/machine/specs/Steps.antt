@@ -13,10 +13,10 @@ use Rattle.cic_record.specs.declared.Answer.{Answer as CicAnswer}
 use Rattle.cic_record.specs.declared.Signals.{Signals as CicSignals}
 use Rattle.cic_hosts.specs.Hosts.{outputs as cicOutputs}
 use Rattle.cic.specs.Model.{step as cicStep}
+use Rattle.kinds.specs.Kinds.{byKind}
 use Rattle.machine.specs.declared.Answer.{Answer}
 use Rattle.machine.specs.declared.Columns.{Columns}
 use Rattle.machine.specs.declared.Machine.{Machine}
-use Rattle.machine.specs.Kinds.{byKind}
 
 -- ---- steps
 
@@ -38,9 +38,15 @@ abbrev pub refused : Machine → ℕ → Answer
 refused m n = record { refusal = n; value = 0; machine = m }
 
 -- the step of the model of its kind (01, House trace)
-unfoldable pub stepOf : Machine → Step → Answer
-stepOf m x =
-    byKind (m .kind) (afterAic m (aicStep (m .aic) x)) (afterCore m (coreStep (m .core) x)) (afterCic m (cicStep (m .cic) x)) (refused m unsound)
+unfoldable pub step : Machine → Step → Answer
+step m x =
+    byKind (m .kind)
+    (record {
+      aic = afterAic m (aicStep (m .aic) x);
+      core = afterCore m (coreStep (m .core) x);
+      cic = afterCic m (cicStep (m .cic) x);
+      none = refused m unsound;
+    })
 
 -- ---- what a listing shows
 
@@ -60,5 +66,12 @@ abbrev pub noColumns : Columns
 noColumns = record { first = 0; second = 0; third = 0 }
 
 -- the outputs of the model of its kind (01, House trace)
-unfoldable pub shownOf : Machine → Columns
-shownOf m = byKind (m .kind) (aicColumns (aicOutputs (m .aic))) (coreColumns (coreOutputs (m .core))) (cicColumns (cicOutputs (m .cic))) noColumns
+unfoldable pub shown : Machine → Columns
+shown m =
+    byKind (m .kind)
+    (record {
+      aic = aicColumns (aicOutputs (m .aic));
+      core = coreColumns (coreOutputs (m .core));
+      cic = cicColumns (cicOutputs (m .cic));
+      none = noColumns;
+    })

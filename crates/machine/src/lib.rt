@@ -1,14 +1,19 @@
-// One controller of any kind: how it starts and steps, its name and the numbers it shows. A new kind changes this crate and none above it (01, "House trace").
+// One controller of any kind: how it starts, how it steps and the three numbers that it shows. What a new kind does comes here, its number, name
+// and configuration to `kinds`; the crates above know of no kind (01, "House trace").
 ghost use mathlib.Core.Path.{_≡_};
 ghost use mathlib.Core.Bool.{true};
 ghost use Rattle.words.specs.Counting.{one};
-ghost use Rattle.text.specs.Text.{write};
-ghost use Rattle.machine.specs.Kinds.{isKind, placesOf, withinOf, nameOf};
-ghost use Rattle.machine.specs.Machine.{blank, noNumbers, withNumber, ofAic, ofCore, ofCic, startOf, sound};
-ghost use Rattle.machine.specs.Steps.{afterAic, afterCore, afterCic, stepOf, aicColumns, coreColumns, cicColumns, shownOf};
+ghost use Rattle.aic_record.specs.Sound.{sound as aicSound};
+ghost use Rattle.aic.specs.Model.{step as aicStep};
+ghost use Rattle.coreinterrupt.specs.Model.{sound as coreSound, step as coreStep};
+ghost use Rattle.cic_record.specs.Sound.{sound as cicSound};
+ghost use Rattle.cic.specs.Model.{step as cicStep};
+ghost use Rattle.machine.specs.Machine.{blank, ofAic, ofCore, ofCic, start, sound};
+ghost use Rattle.machine.specs.Steps.{afterAic, afterCore, afterCic, step, aicColumns, coreColumns, cicColumns, shown};
 use aic_record::Aic;
 use cic_record::Cic;
 use coreinterrupt::Core;
+use kinds::Configuration;
 use steps::Step;
 
 // The record of each kind; only that of the machine's own kind is ever used.
@@ -17,11 +22,6 @@ pub struct Machine {
     pub aic: Aic,
     pub core: Core,
     pub cic: Cic,
-}
-
-// The numbers of a configuration in their order; a place that no number was put to has 0.
-pub struct Configuration {
-    pub numbers: [u32; 4],
 }
 
 // The refusal, 0 for none, the value read, and the machine after the step.
@@ -38,90 +38,7 @@ pub struct Columns {
     pub third: u32,
 }
 
-pub const AIC: u32 = 0;
-
-pub const CORE: u32 = 1;
-
-pub const CIC: u32 = 2;
-
-// ---- kinds
-
-// Whether there is a controller of this kind.
-pub fn is_kind(kind: u32) -> bool
-    ensures { λ r. ⌜ r ≡ isKind kind ⌝ }
-{
-    (kind == AIC) | (kind == CORE) | (kind == CIC)
-}
-
-// How many numbers configure a kind.
-pub fn places(kind: u32) -> u32
-    ensures { λ r. ⌜ r ≡ placesOf kind ⌝ }
-{
-    if kind == AIC {
-        return 2;
-    }
-    if kind == CORE {
-        return 4;
-    }
-    if kind == CIC {
-        return 4;
-    }
-    0
-}
-
-// Whether configuration number `place` of a kind may have this value.
-pub fn within(kind: u32, place: u32, value: u32) -> bool
-    ensures { λ r. ⌜ r ≡ withinOf kind place value ⌝ }
-{
-    if kind == AIC {
-        return aic::within(place, value);
-    }
-    if kind == CORE {
-        return coreinterrupt::within(place, value);
-    }
-    if kind == CIC {
-        return cic::within(place, value);
-    }
-    false
-}
-
-// The line with the name of a kind; nothing for any other number.
-pub fn put_name(out: &mut [u8], at: usize, kind: u32) -> usize
-    ensures { λ r. ⌜ (now (out .exit), r) ≡ write (now (out .entry), at) (nameOf kind) ⌝ }
-{
-    if kind == AIC {
-        return text::put_all(out, at, b"AIC\n");
-    }
-    if kind == CORE {
-        return text::put_all(out, at, b"COREINTERRUPT\n");
-    }
-    if kind == CIC {
-        return text::put_all(out, at, b"CIC\n");
-    }
-    at
-}
-
-// ---- configuration and start
-
-// No number yet.
-pub fn no_numbers() -> Configuration
-    ensures { λ r. ⌜ r ≡ noNumbers ⌝ }
-{
-    Configuration { numbers: [0; 4] }
-}
-
-// A configuration with its k-th number put anew. Past the last place nothing changes.
-pub fn with_number(c: Configuration, k: u32, v: u32) -> Configuration
-    ensures { λ r. ⌜ r ≡ withNumber c k v ⌝ }
-{
-    if 4 <= k {
-        return c;
-    }
-    let at = k as usize;
-    let mut d = c;
-    d.numbers[at] = v;
-    d
-}
+// ---- the start
 
 // The machine before a start: all its numbers are 0.
 pub fn empty() -> Machine
@@ -133,7 +50,7 @@ pub fn empty() -> Machine
     let core = b.core;
     let cic = c.cic;
     Machine {
-        kind: AIC,
+        kind: kinds::AIC,
         aic: a,
         core,
         cic,
@@ -144,7 +61,7 @@ fn of_aic(a: Aic) -> Machine
     ensures { λ r. ⌜ r ≡ ofAic a ⌝ }
 {
     let mut m = empty();
-    m.kind = AIC;
+    m.kind = kinds::AIC;
     m.aic = a;
     m
 }
@@ -153,7 +70,7 @@ fn of_core(c: Core) -> Machine
     ensures { λ r. ⌜ r ≡ ofCore c ⌝ }
 {
     let mut m = empty();
-    m.kind = CORE;
+    m.kind = kinds::CORE;
     m.core = c;
     m
 }
@@ -162,26 +79,30 @@ fn of_cic(c: Cic) -> Machine
     ensures { λ r. ⌜ r ≡ ofCic c ⌝ }
 {
     let mut m = empty();
-    m.kind = CIC;
+    m.kind = kinds::CIC;
     m.cic = c;
     m
 }
 
 // The machine of a kind with these numbers; one that starts from a number beyond its limit is not sound or has a record of zeros.
 pub fn start(kind: u32, c: Configuration) -> Machine
-    ensures { λ r. ⌜ r ≡ startOf kind c ⌝ }
+    ensures { λ r. ⌜ r ≡ start kind c ⌝ }
 {
     let n = c.numbers;
-    if kind == AIC {
-        let b = aic::start(n[0], n[1]);
+    let first = n[0];
+    let second = n[1];
+    if kind == kinds::AIC {
+        let b = aic::start(first, second);
         return of_aic(b.aic);
     }
-    if kind == CORE {
-        let b = coreinterrupt::start(n[0], n[1], n[2], n[3]);
+    let third = n[2];
+    let fourth = n[3];
+    if kind == kinds::CORE {
+        let b = coreinterrupt::start(first, second, third, fourth);
         return of_core(b.core);
     }
-    if kind == CIC {
-        let b = cic::start(n[0], n[1], n[2], n[3]);
+    if kind == kinds::CIC {
+        let b = cic::start(first, second, third, fourth);
         return of_cic(b.cic);
     }
     empty()
@@ -189,12 +110,16 @@ pub fn start(kind: u32, c: Configuration) -> Machine
 
 // ---- steps
 
-fn after_aic(m: Machine, a: aic_registers::Answer) -> Answer
-    ensures { λ r. ⌜ r ≡ afterAic m a ⌝ }
+// The step of each model, its record put back into the machine.
+fn aic_step(m: Machine, x: Step) -> Answer
+    requires { ⌜ aicSound (m .aic) ≡ true ⌝ }
+    ensures { λ r. ⌜ r ≡ afterAic m (aicStep (m .aic) x) ⌝ }
 {
-    let s = a.aic;
+    let s = m.aic;
+    let a = aic::step_sound(s, x);
+    let t = a.aic;
     let mut n = m;
-    n.aic = s;
+    n.aic = t;
     Answer {
         refusal: a.refusal,
         value: a.value,
@@ -202,12 +127,15 @@ fn after_aic(m: Machine, a: aic_registers::Answer) -> Answer
     }
 }
 
-fn after_core(m: Machine, a: coreinterrupt::Answer) -> Answer
-    ensures { λ r. ⌜ r ≡ afterCore m a ⌝ }
+fn core_step(m: Machine, x: Step) -> Answer
+    requires { ⌜ coreSound (m .core) ≡ true ⌝ }
+    ensures { λ r. ⌜ r ≡ afterCore m (coreStep (m .core) x) ⌝ }
 {
-    let s = a.core;
+    let s = m.core;
+    let a = coreinterrupt::step_sound(s, x);
+    let t = a.core;
     let mut n = m;
-    n.core = s;
+    n.core = t;
     Answer {
         refusal: a.refusal,
         value: a.value,
@@ -215,12 +143,15 @@ fn after_core(m: Machine, a: coreinterrupt::Answer) -> Answer
     }
 }
 
-fn after_cic(m: Machine, a: cic_record::Answer) -> Answer
-    ensures { λ r. ⌜ r ≡ afterCic m a ⌝ }
+fn cic_step(m: Machine, x: Step) -> Answer
+    requires { ⌜ cicSound (m .cic) ≡ true ⌝ }
+    ensures { λ r. ⌜ r ≡ afterCic m (cicStep (m .cic) x) ⌝ }
 {
-    let s = a.cic;
+    let s = m.cic;
+    let a = cic::step_sound(s, x);
+    let t = a.cic;
     let mut n = m;
-    n.cic = s;
+    n.cic = t;
     Answer {
         refusal: a.refusal,
         value: a.value,
@@ -231,23 +162,20 @@ fn after_cic(m: Machine, a: cic_record::Answer) -> Answer
 // A step of a machine that is known to be sound, as after a start and after every step: it is not looked at again.
 pub fn step_sound(m: Machine, x: Step) -> Answer
     requires { ⌜ sound m ≡ true ⌝ }
-    ensures { λ r. ⌜ r ≡ stepOf m x ⌝ }
+    ensures { λ r. ⌜ r ≡ step m x ⌝ }
 {
-    if m.kind == AIC {
-        let s = m.aic;
-        return after_aic(m, aic::step_sound(s, x));
+    if m.kind == kinds::AIC {
+        return aic_step(m, x);
     }
-    if m.kind == CORE {
-        let s = m.core;
-        return after_core(m, coreinterrupt::step_sound(s, x));
+    if m.kind == kinds::CORE {
+        return core_step(m, x);
     }
-    let s = m.cic;
-    after_cic(m, cic::step_sound(s, x))
+    cic_step(m, x)
 }
 
 // A step of any machine; one that is not sound is refused by 12.
 pub fn step(m: Machine, x: Step) -> Answer
-    ensures { λ r. ⌜ r ≡ stepOf m x ⌝ }
+    ensures { λ r. ⌜ r ≡ step m x ⌝ }
 {
     if is_sound(m) {
         return step_sound(m, x);
@@ -263,15 +191,15 @@ pub fn step(m: Machine, x: Step) -> Answer
 pub fn is_sound(m: Machine) -> bool
     ensures { λ r. ⌜ r ≡ sound m ⌝ }
 {
-    if m.kind == AIC {
+    if m.kind == kinds::AIC {
         let s = m.aic;
         return aic_record::is_sound(s);
     }
-    if m.kind == CORE {
+    if m.kind == kinds::CORE {
         let s = m.core;
         return coreinterrupt::is_sound(s);
     }
-    if m.kind == CIC {
+    if m.kind == kinds::CIC {
         let s = m.cic;
         return cic_record::is_sound(s);
     }
@@ -325,13 +253,13 @@ fn cic_columns(o: cic_record::Signals) -> Columns
 // The three numbers of a machine that is known to be sound.
 pub fn shown_sound(m: Machine) -> Columns
     requires { ⌜ sound m ≡ true ⌝ }
-    ensures { λ r. ⌜ r ≡ shownOf m ⌝ }
+    ensures { λ r. ⌜ r ≡ shown m ⌝ }
 {
-    if m.kind == AIC {
+    if m.kind == kinds::AIC {
         let s = m.aic;
         return aic_columns(aic::outputs_sound(s));
     }
-    if m.kind == CORE {
+    if m.kind == kinds::CORE {
         let s = m.core;
         return core_columns(coreinterrupt::outputs_sound(s));
     }
@@ -341,7 +269,7 @@ pub fn shown_sound(m: Machine) -> Columns
 
 // The three numbers of any machine, all 0 where it is not sound.
 pub fn shown(m: Machine) -> Columns
-    ensures { λ r. ⌜ r ≡ shownOf m ⌝ }
+    ensures { λ r. ⌜ r ≡ shown m ⌝ }
 {
     if is_sound(m) {
         return shown_sound(m);

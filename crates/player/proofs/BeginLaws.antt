@@ -10,9 +10,9 @@ use Rattle.steps.specs.Refusals.{carriedOut, misconfigured}
 use Rattle.numbers.specs.Number.{numberAt}
 use Rattle.numbers.specs.declared.Number.the-variants.{Value, Refused}
 use Rattle.trace.specs.Trace.{ends, stepsFrom}
-use Rattle.machine.specs.declared.Configuration.{Configuration}
-use Rattle.machine.specs.Kinds.{withinOf}
-use Rattle.machine.specs.Machine.{withNumber}
+use Rattle.kinds.specs.declared.Configuration.{Configuration}
+use Rattle.kinds.specs.Kinds.{within}
+use Rattle.kinds.specs.Configuration.{withNumber}
 use Rattle.player.specs.declared.Begun.{Begun}
 use Rattle.player.specs.Begin.{refusedSetup, acceptedSetup, byValue, setupFrom, beginOf}
 use Rattle.player.specs.Play.{recordsFrom, report, playOf}
@@ -34,11 +34,11 @@ module _ (kind left k : ℕ) (s : List ℕ) (c : Configuration) (at : ℕ) where
   pub setup-damaged : (n p : ℕ) → (left ≡ 0 → ⊥) → numberAt s at ≡ Refused n p → refusedSetup n p ≡ setupFrom kind left k s c at
   setup-damaged n p h e = sym (ap (byValue kind k c at (setupFrom kind (left - 1) (k + 1) s)) e) ∙ setup-turn h
 
-  pub setup-beyond : (v next : ℕ) → (left ≡ 0 → ⊥) → numberAt s at ≡ Value v next → withinOf kind k v ≡ false
+  pub setup-beyond : (v next : ℕ) → (left ≡ 0 → ⊥) → numberAt s at ≡ Value v next → within kind k v ≡ false
       → refusedSetup misconfigured at ≡ setupFrom kind left k s c at
   setup-beyond v next h e w = pick-false _ w ∙ sym (ap (byValue kind k c at (setupFrom kind (left - 1) (k + 1) s)) e) ∙ setup-turn h
 
-  pub setup-taken : (v next : ℕ) → (left ≡ 0 → ⊥) → numberAt s at ≡ Value v next → withinOf kind k v ≡ true
+  pub setup-taken : (v next : ℕ) → (left ≡ 0 → ⊥) → numberAt s at ≡ Value v next → within kind k v ≡ true
       → setupFrom kind (left - 1) (k + 1) s (withNumber c k v) next ≡ setupFrom kind left k s c at
   setup-taken v next h e w = pick-true _ w ∙ sym (ap (byValue kind k c at (setupFrom kind (left - 1) (k + 1) s)) e) ∙ setup-turn h
 

@@ -2,5 +2,5 @@
 pub mod BeginLaws
 pub mod PlayLaws
 pub mod Promises
-pub mod SoLaws
-pub mod WayLaws
+pub mod KnownLaws
+pub mod BeginningLaws

@@ -11,18 +11,18 @@ use lib.ListN.{length}
 use Rattle.steps.specs.Refusals.{carriedOut, limitReached, damaged, unknown, misconfigured, tooLong}
 use Rattle.steps.specs.declared.Step.{Step}
 use Rattle.numbers.specs.Promises.{toldAt}
-use Rattle.trace.specs.declared.Next.{Next}
-use Rattle.trace.specs.declared.Next.the-variants.{Refused}
+use Rattle.trace.specs.declared.Turn.{Turn}
+use Rattle.trace.specs.declared.Turn.the-variants.{Ended}
 use Rattle.trace.specs.Promises.{Reads, Along, Ends}
 use Rattle.trace.specs.Steps.{told}
 use Rattle.trace.specs.Trace.{Trace}
 use Rattle.trace.proofs.Promises.{kept as trace-kept}
 use Rattle.trace.proofs.StepLaws.{Outcome, noKind as Outcome·noKind, unknownKind, noFirst, oneNumber, noSecond, twoNumbered, outcome}
 use Rattle.machine.specs.declared.Machine.{Machine}
-use Rattle.machine.specs.Kinds.{isKind, withinOf}
+use Rattle.kinds.specs.Kinds.{isKind, within}
 use Rattle.machine.specs.Machine.{blank, sound}
 use Rattle.machine.specs.Promises.{startWith}
-use Rattle.machine.specs.Steps.{stepOf}
+use Rattle.machine.specs.Steps.{step}
 use Rattle.player.specs.declared.Begun.{Begun}
 use Rattle.player.specs.declared.Played.{Played}
 use Rattle.player.specs.Begin.{longest, notBegun, beginOf}
@@ -30,8 +30,8 @@ use Rattle.player.specs.Play.{recordsOf, runOf, report, playOf}
 use Rattle.player.specs.Promises.{Wanting, Configures, Begins, Promises}
 use Rattle.player.proofs.BeginLaws.{play-refused}
 use Rattle.player.proofs.PlayLaws.{report-ends, records-begun, records-limited, run-ready}
-use Rattle.player.proofs.SoLaws.{overlong-so, damaged-so, no-kind-so, beyond-so, configured-so}
-use Rattle.player.proofs.WayLaws.{Beginning, overlong, damagedAt, noKind, beyondAt, configured, beginning, begun, begin-ready}
+use Rattle.player.proofs.KnownLaws.{overlong-so, damaged-so, no-kind-so, beyond-so, configured-so}
+use Rattle.player.proofs.BeginningLaws.{Beginning, overlong, damagedAt, noKind, beyondAt, configured, beginning, begun, begin-ready}
 
 -- ---- the beginning
 
@@ -85,7 +85,7 @@ module _ (s : List ℕ) (p : ℕ) where
   abbrev Ten : Type 0
   Ten =
       (kind : ℕ) × (ns : List ℕ) × (length s ≤ longest) × Reads s 0 (kind ∷ ns) p × Wanting (kind ∷ ns) × (toldAt s p .refusal ≡ carriedOut)
-      × (withinOf kind (length ns) (toldAt s p .value) ≡ false)
+      × (within kind (length ns) (toldAt s p .value) ≡ false)
 
   ten-only : (b : Begun) → Beginning s b → Tells misconfigured b → Ten
   ten-only b (overlong l) t = absurd (omega (arith, t .0))
@@ -178,11 +178,11 @@ module _ (s : List ℕ) (limit : ℕ) (z : beginOf s .refusal ≡ carriedOut) wh
 along-one : (s : List ℕ) (at p q : ℕ) (xs : List Step) → Along s at xs p → Along s at xs q → p ≡ q
 along-one s at p q [] a b = sym a ∙ b
 along-one s at p q (x ∷ xs) a b =
-    let e : a .0 ≡ b .0 = ap (λ (n : Next). told n .place) (sym (a .1) ∙ b .1) in
+    let e : a .0 ≡ b .0 = ap (λ (n : Turn). told n .place) (sym (a .1) ∙ b .1) in
     along-one s (a .0) p q xs (a .2) (rw e (b .2))
 
 -- no step is refused by 7
-not-seven : (s : List ℕ) (at : ℕ) (n : Next) → Outcome s at n → told n .refusal ≢ limitReached
+not-seven : (s : List ℕ) (at : ℕ) (n : Turn) → Outcome s at n → told n .refusal ≢ limitReached
 not-seven s at n (Outcome·noKind e) z = omega arith
 not-seven s at n (unknownKind kind q e o) z = omega arith
 not-seven s at n (noFirst kind q e l f) z = omega arith
@@ -203,15 +203,15 @@ module _ (s : List ℕ) (limit p : ℕ) where
   Seven =
       (beginOf s .refusal ≡ carriedOut) × Along s (beginOf s .place) (recordsOf s limit .steps) p × (playOf s limit .steps ≡ limit) × (p < length s)
 
-  abbrev Ended : Type 0
-  Ended = (playOf s limit .refusal ≡ limitReached) × (playOf s limit .offset ≡ p)
+  abbrev TellsSeven : Type 0
+  TellsSeven = (playOf s limit .refusal ≡ limitReached) × (playOf s limit .offset ≡ p)
 
   -- after a beginning: 7 ends it only where the limit is reached
   by-limit : (z : beginOf s .refusal ≡ carriedOut) (q n refusal offset : ℕ) → n ≡ playOf s limit .steps → refusal ≡ limitReached → offset ≡ p
       → Along s (beginOf s .place) (recordsOf s limit .steps) q → Ends limit s n q refusal offset → Seven
-  by-limit z q n refusal offset c e f a (inl h) = absurd (omega (arith, h .1 .0))
+  by-limit z q n refusal offset c e f a (inl h) = absurd (omega (arith, h .1 .1 .0))
   by-limit z q n refusal offset c e f a (inr (inl h)) = (z, rw (sym f ∙ h .1 .1 .1) a, sym c ∙ h .1 .0, omega (arith, h .0, h .1 .1 .1))
-  by-limit z q n refusal offset c e f a (inr (inr h)) = absurd (not-seven s q (Refused refusal offset) (rw (sym (h .1 .1)) (outcome s q)) e)
+  by-limit z q n refusal offset c e f a (inr (inr h)) = absurd (not-seven s q (Ended refusal offset) (rw (sym (h .1 .1)) (outcome s q)) e)
 
   -- and it does so there
   at-limit : (q n refusal offset : ℕ) → n ≡ limit → p ≡ q → p < length s → Ends limit s n q refusal offset → (refusal ≡ limitReached) × (offset ≡ p)
@@ -219,19 +219,19 @@ module _ (s : List ℕ) (limit p : ℕ) where
   at-limit q n refusal offset c e l (inr (inl h)) = (h .1 .1 .0, h .1 .1 .1 ∙ sym e)
   at-limit q n refusal offset c e l (inr (inr h)) = absurd (omega (arith, h .1 .0))
 
-  seven-only : Ended → Seven
+  seven-only : TellsSeven → Seven
   seven-only h = go (ℕ-discrete (beginOf s .refusal) carriedOut)
     where
       go : Dec (beginOf s .refusal ≡ carriedOut) → Seven
       go (yes z) = let w = ends s limit z in by-limit z (w .0) _ _ _ refl (h .0) (h .1) (w .1) (w .2)
       go (no z) = absurd (begins-seven s (beginOf s) (beginning s) (sym (ap (λ (r : Played). r .refusal) (nothing s limit z)) ∙ h .0))
 
-  seven-so : Seven → Ended
+  seven-so : Seven → TellsSeven
   seven-so h =
       let w = ends s limit (h .0) in
       at-limit (w .0) _ _ _ (h .2) (along-one s (beginOf s .place) p (w .0) (recordsOf s limit .steps) (h .1) (w .1)) (h .3) (w .2)
 
-played-one : (m : Machine) (x : Step) (xs : List Step) → runOf m (x ∷ xs) ≡ runOf (stepOf m x .machine) xs
+played-one : (m : Machine) (x : Step) (xs : List Step) → runOf m (x ∷ xs) ≡ runOf (step m x .machine) xs
 unfolding runOf
 played-one m x xs = refl
 
@@ -244,6 +244,7 @@ kept =
       ten = ten;
       accepted = accepted;
       started = started;
+      notStarted = λ s z. not-started s (beginOf s) (beginning s) z;
       nothing = nothing;
       counted = counted;
       limited = limited;

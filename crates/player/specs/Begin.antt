@@ -8,9 +8,10 @@ use Rattle.steps.specs.Refusals.{carriedOut, unknown, misconfigured, tooLong}
 use Rattle.numbers.specs.Number.{numberAt}
 use Rattle.numbers.specs.declared.Number.{Number}
 use Rattle.numbers.specs.declared.Number.the-variants.{Value, Refused}
-use Rattle.machine.specs.declared.Configuration.{Configuration}
-use Rattle.machine.specs.Kinds.{isKind, placesOf, withinOf}
-use Rattle.machine.specs.Machine.{blank, noNumbers, withNumber, startOf}
+use Rattle.kinds.specs.declared.Configuration.{Configuration}
+use Rattle.kinds.specs.Kinds.{isKind, wanted, within}
+use Rattle.kinds.specs.Configuration.{noNumbers, withNumber}
+use Rattle.machine.specs.Machine.{blank, start}
 use Rattle.player.specs.declared.Setup.{Setup}
 use Rattle.player.specs.declared.Begun.{Begun}
 
@@ -28,19 +29,19 @@ refusedSetup refusal offset = record { refusal = refusal; place = offset; config
 abbrev pub acceptedSetup : Configuration → ℕ → Setup
 acceptedSetup c at = record { refusal = carriedOut; place = at; configuration = c }
 
--- the k-th number stands at a place: 8 where it is damaged, 10 where it is beyond its limit, else the rest (01, House trace)
+-- the nth number stands at a place: 8 where it is damaged, 10 where it is beyond its limit, else the rest (01, House trace)
 abbrev pub byValue : ℕ → ℕ → Configuration → ℕ → (Configuration → ℕ → Setup) → Number → Setup
-byValue kind k c at rest (Refused n p) = refusedSetup n p
-byValue kind k c at rest (Value v next) = pick (withinOf kind k v) (rest (withNumber c k v) next) (refusedSetup misconfigured at)
+byValue kind nth c at rest (Refused n p) = refusedSetup n p
+byValue kind nth c at rest (Value v next) = pick (within kind nth v) (rest (withNumber c nth v) next) (refusedSetup misconfigured at)
 
--- so many numbers from the k-th on, each checked as it is read (01, House trace)
+-- so many numbers from the nth on, each checked as it is read (01, House trace)
 unfoldable pub setupFrom : ℕ → ℕ → ℕ → List ℕ → Configuration → ℕ → Setup
-setupFrom kind zero k s c at = acceptedSetup c at
-setupFrom kind (suc left) k s c at = byValue kind k c at (setupFrom kind left (k + 1) s) (numberAt s at)
+setupFrom kind zero nth s c at = acceptedSetup c at
+setupFrom kind (suc left) nth s c at = byValue kind nth c at (setupFrom kind left (nth + 1) s) (numberAt s at)
 
 -- the whole configuration of a kind, from a place on
 unfoldable pub setupOf : ℕ → List ℕ → ℕ → Setup
-setupOf kind s at = setupFrom kind (placesOf kind) 0 s noNumbers at
+setupOf kind s at = setupFrom kind (wanted kind) 0 s noNumbers at
 
 -- ---- the beginning
 
@@ -52,7 +53,7 @@ notBegun refusal offset = record { refusal = refusal; place = offset; machine = 
 unfoldable pub bySetup : ℕ → Setup → Begun
 bySetup kind t =
     pick (eqb (t .refusal) carriedOut)
-    (record { refusal = carriedOut; place = t .place; machine = startOf kind (t .configuration) })
+    (record { refusal = carriedOut; place = t .place; machine = start kind (t .configuration) })
     (notBegun (t .refusal) (t .place))
 
 -- the number at the start of a trace is the controller's kind: 8 where it is damaged, 9 where there is no such kind (01, Numbers)

@@ -8,7 +8,7 @@ use Rattle.steps.specs.Refusals.{carriedOut}
 use Rattle.steps.specs.declared.Step.{Step}
 use Rattle.trace.specs.Trace.{Trace, ends, stepsFrom}
 use Rattle.machine.specs.declared.Machine.{Machine}
-use Rattle.machine.specs.Steps.{stepOf}
+use Rattle.machine.specs.Steps.{step}
 use Rattle.player.specs.declared.Begun.{Begun}
 use Rattle.player.specs.declared.Played.{Played}
 use Rattle.player.specs.Begin.{beginOf}
@@ -24,7 +24,7 @@ recordsOf s limit = recordsFrom limit s (beginOf s)
 -- the machine after some steps, refused ones among them
 unfoldable pub runOf : Machine → List Step → Machine
 runOf m [] = m
-runOf m (x ∷ xs) = runOf (stepOf m x .machine) xs
+runOf m (x ∷ xs) = runOf (step m x .machine) xs
 
 -- the report on step records of which n others have been played before
 unfoldable pub report : ℕ → Machine → Trace → Played

@@ -5,26 +5,26 @@ use mathlib.Core.Bool.{true, false}
 use mathlib.Core.List.{List, [], _∷_}
 use mathlib.Core.Logic.{_↔_, _≢_}
 use lib.ListN.{length}
-use Rattle.steps.specs.Refusals.{carriedOut, limitReached, damaged, unknown, misconfigured, tooLong}
 use Rattle.steps.specs.declared.Step.{Step}
 use Rattle.numbers.specs.Promises.{toldAt}
 use Rattle.trace.specs.Promises.{Reads, Along, Ends}
 use Rattle.machine.specs.declared.Machine.{Machine}
-use Rattle.machine.specs.Kinds.{isKind, placesOf, withinOf}
+use Rattle.kinds.specs.Kinds.{isKind, wanted, within}
 use Rattle.machine.specs.Machine.{blank, sound}
-use Rattle.machine.specs.Steps.{stepOf}
-use Rattle.machine.specs.Promises.{Within, startWith}
-use Rattle.player.specs.Begin.{longest, beginOf}
+use Rattle.machine.specs.Steps.{step}
+use Rattle.kinds.specs.Promises.{Within}
+use Rattle.machine.specs.Promises.{startWith}
+use Rattle.player.specs.Begin.{beginOf}
 use Rattle.player.specs.Play.{recordsOf, runOf, playOf}
 
 -- a beginning that has been read as far as these numbers, the kind first, asks for another one
 abbrev pub Wanting : List ℕ → Type 0
 Wanting [] = Unit
-Wanting (kind ∷ ns) = (isKind kind ≡ true) × (Within kind 0 ns × (length ns < placesOf kind))
+Wanting (kind ∷ ns) = (isKind kind ≡ true) × (Within kind 0 ns × (length ns < wanted kind))
 
 -- these numbers configure a controller of a kind
 abbrev pub Configures : ℕ → List ℕ → Type 0
-Configures kind ns = (isKind kind ≡ true) × (Within kind 0 ns × (length ns ≡ placesOf kind))
+Configures kind ns = (isKind kind ≡ true) × (Within kind 0 ns × (length ns ≡ wanted kind))
 
 -- a trace begins with a refusal, 0 for none, at a place
 abbrev pub Begins : List ℕ → ℕ → ℕ → Type 0
@@ -34,26 +34,28 @@ pub record Promises : Type 0 where
   -- ---- the beginning
 
   -- 11 is given exactly when a trace is longer than 65,536 bytes, at that offset (01, Numbers, 11)
-  pub eleven : (s : List ℕ) (p : ℕ) → Begins s tooLong p ↔ ((longest < length s) × (p ≡ longest))
+  pub eleven : (s : List ℕ) (p : ℕ) → Begins s 11 p ↔ ((65536 < length s) × (p ≡ 65536))
   -- 8 is given exactly when a number that the beginning asks for is damaged, at that number (01, House trace)
   pub eight : (s : List ℕ) (p : ℕ)
-      → Begins s damaged p ↔ ((ns : List ℕ) × (length s ≤ longest) × Reads s 0 ns p × Wanting ns × (toldAt s p .refusal ≡ damaged))
+      → Begins s 8 p ↔ ((ns : List ℕ) × (length s ≤ 65536) × Reads s 0 ns p × Wanting ns × (toldAt s p .refusal ≡ 8))
   -- 9 is given exactly when the first number is no kind of controller, at that number (01, Numbers, 9)
   pub nine : (s : List ℕ) (p : ℕ)
-      → Begins s unknown p ↔ ((length s ≤ longest) × (p ≡ 0) × (toldAt s 0 .refusal ≡ carriedOut) × (isKind (toldAt s 0 .value) ≡ false))
+      → Begins s 9 p ↔ ((length s ≤ 65536) × (p ≡ 0) × (toldAt s 0 .refusal ≡ 0) × (isKind (toldAt s 0 .value) ≡ false))
   -- 10 is given exactly when a number of the configuration is beyond its limit, at the first such number (01, Numbers, 10)
   pub ten : (s : List ℕ) (p : ℕ)
-      → Begins s misconfigured p
-      ↔ ((kind : ℕ) × (ns : List ℕ) × (length s ≤ longest) × Reads s 0 (kind ∷ ns) p × Wanting (kind ∷ ns) × (toldAt s p .refusal ≡ carriedOut)
-      × (withinOf kind (length ns) (toldAt s p .value) ≡ false))
+      → Begins s 10 p
+      ↔ ((kind : ℕ) × (ns : List ℕ) × (length s ≤ 65536) × Reads s 0 (kind ∷ ns) p × Wanting (kind ∷ ns) × (toldAt s p .refusal ≡ 0)
+      × (within kind (length ns) (toldAt s p .value) ≡ false))
   -- a configuration is accepted exactly when all its numbers are there and within their limits; the steps begin after them (01, House trace)
   pub accepted : (s : List ℕ) (p : ℕ)
-      → Begins s carriedOut p ↔ ((kind : ℕ) × (ns : List ℕ) × (length s ≤ longest) × Reads s 0 (kind ∷ ns) p × Configures kind ns)
+      → Begins s 0 p ↔ ((kind : ℕ) × (ns : List ℕ) × (length s ≤ 65536) × Reads s 0 (kind ∷ ns) p × Configures kind ns)
   -- then the machine is the one that starts from these numbers (01, House trace)
-  pub started : (s : List ℕ) (p kind : ℕ) (ns : List ℕ) → length s ≤ longest → Reads s 0 (kind ∷ ns) p → Configures kind ns
+  pub started : (s : List ℕ) (p kind : ℕ) (ns : List ℕ) → length s ≤ 65536 → Reads s 0 (kind ∷ ns) p → Configures kind ns
       → beginOf s .machine ≡ startWith kind ns
+  -- before that all its numbers are 0 (01, House trace; Numbers)
+  pub notStarted : (s : List ℕ) → beginOf s .refusal ≢ 0 → beginOf s .machine ≡ blank
   -- before a configuration is accepted no step is played, all numbers of the record are 0, and the beginning's refusal ends the play (01, House trace)
-  pub nothing : (s : List ℕ) (limit : ℕ) → beginOf s .refusal ≢ carriedOut
+  pub nothing : (s : List ℕ) (limit : ℕ) → beginOf s .refusal ≢ 0
       → playOf s limit ≡ record { steps = 0; machine = blank; refusal = beginOf s .refusal; offset = beginOf s .place }
   -- ---- the play
 
@@ -64,14 +66,14 @@ pub record Promises : Type 0 where
   -- the machine after them is what they make of the first one, step by step (01, House trace)
   pub played : (s : List ℕ) (limit : ℕ) → playOf s limit .machine ≡ runOf (beginOf s .machine) (recordsOf s limit .steps)
   pub playedNone : (m : Machine) → runOf m [] ≡ m
-  pub playedOne : (m : Machine) (x : Step) (xs : List Step) → runOf m (x ∷ xs) ≡ runOf (stepOf m x .machine) xs
+  pub playedOne : (m : Machine) (x : Step) (xs : List Step) → runOf m (x ∷ xs) ≡ runOf (step m x .machine) xs
   -- after an accepted configuration it is sound (01, a sound record)
-  pub soundly : (s : List ℕ) (limit : ℕ) → beginOf s .refusal ≡ carriedOut → sound (playOf s limit .machine) ≡ true
+  pub soundly : (s : List ℕ) (limit : ℕ) → beginOf s .refusal ≡ 0 → sound (playOf s limit .machine) ≡ true
   -- the step records stand one after the other behind the configuration, and the play ends as 01 says where the next would begin: 0 at the
   -- length, 7 at a byte that remains when the limit is reached, or what refuses the next step, at the number at fault (01, House trace)
-  pub ends : (s : List ℕ) (limit : ℕ) → beginOf s .refusal ≡ carriedOut
+  pub ends : (s : List ℕ) (limit : ℕ) → beginOf s .refusal ≡ 0
       → (p : ℕ) × Along s (beginOf s .place) (recordsOf s limit .steps) p × Ends limit s (playOf s limit .steps) p (playOf s limit .refusal) (playOf s limit .offset)
   -- 7 is given exactly when the limit is reached and bytes remain, at the first of them (01, Numbers, 7)
   pub seven : (s : List ℕ) (limit p : ℕ)
-      → ((playOf s limit .refusal ≡ limitReached) × (playOf s limit .offset ≡ p))
-      ↔ ((beginOf s .refusal ≡ carriedOut) × Along s (beginOf s .place) (recordsOf s limit .steps) p × (playOf s limit .steps ≡ limit) × (p < length s))
+      → ((playOf s limit .refusal ≡ 7) × (playOf s limit .offset ≡ p))
+      ↔ ((beginOf s .refusal ≡ 0) × Along s (beginOf s .place) (recordsOf s limit .steps) p × (playOf s limit .steps ≡ limit) × (p < length s))

@@ -4,11 +4,11 @@ ghost use Rattle.machine.specs.Promises.{Ready};
 ghost use Rattle.player.specs.Begin.{refusedSetup, setupOf, notBegun, bySetup, byController, beginOf};
 ghost use Rattle.trace.specs.Trace.{ends, stepsFrom};
 ghost use Rattle.player.specs.Play.{report, playOf};
-use machine::Configuration;
+use kinds::Configuration;
 use machine::Machine;
 use numbers::Number;
 use numbers::read_number;
-use trace::Next;
+use trace::Turn;
 
 // The numbers of a configuration with the place after them, or the refusal with the place of the number at fault.
 pub struct Setup {
@@ -68,24 +68,8 @@ fn play_from(trace: &[u8], limit: u32, b: Begun) -> Played
     let mut left = limit;
     let mut count: u32 = 0;
     loop {
-        if trace.len() <= at {
-            return Played {
-                steps: count,
-                machine: m,
-                refusal: steps::CARRIED_OUT,
-                offset: trace.len(),
-            };
-        }
-        if left == 0 {
-            return Played {
-                steps: count,
-                machine: m,
-                refusal: steps::LIMIT_REACHED,
-                offset: at,
-            };
-        }
-        match trace::step_at(trace, at) {
-            Next::Refused(refusal, offset) => {
+        match trace::turn_at(trace, at, left) {
+            Turn::Ended(refusal, offset) => {
                 return Played {
                     steps: count,
                     machine: m,
@@ -93,7 +77,7 @@ fn play_from(trace: &[u8], limit: u32, b: Begun) -> Played
                     offset,
                 };
             }
-            Next::Found(x, next) => {
+            Turn::Found(x, next) => {
                 let a = machine::step_sound(m, x);
                 m = a.machine;
                 at = next;
@@ -133,7 +117,7 @@ fn by_controller(trace: &[u8], n: Number) -> Begun
     match n {
         Number::Refused(refusal, p) => not_begun(refusal, p),
         Number::Value(kind, next) => {
-            if machine::is_kind(kind) {
+            if kinds::is_kind(kind) {
                 return by_setup(kind, set_up(trace, kind, next));
             }
             not_begun(steps::UNKNOWN, 0)
@@ -156,14 +140,14 @@ fn by_setup(kind: u32, t: Setup) -> Begun
     }
 }
 
-// The configuration of a kind of controller from a place on: each number is checked as it is read.
+// The configuration of a kind of controller from a place on: each number is checked as it is read, the nth one, from 0, by its own limit.
 fn set_up(trace: &[u8], kind: u32, start: usize) -> Setup
     ensures { λ r. ⌜ r ≡ setupOf kind (now (trace .entry)) start ⌝ }
 {
-    let mut c = machine::no_numbers();
+    let mut c = kinds::no_numbers();
     let mut at = start;
-    let mut k: u32 = 0;
-    let mut wanted = machine::places(kind);
+    let mut nth: u32 = 0;
+    let mut wanted = kinds::wanted(kind);
     loop {
         if wanted == 0 {
             return Setup {
@@ -177,12 +161,12 @@ fn set_up(trace: &[u8], kind: u32, start: usize) -> Setup
                 return refused_setup(refusal, p);
             }
             Number::Value(v, next) => {
-                if !machine::within(kind, k, v) {
+                if !kinds::within(kind, nth, v) {
                     return refused_setup(steps::MISCONFIGURED, at);
                 }
-                c = machine::with_number(c, k, v);
+                c = kinds::with_number(c, nth, v);
                 at = next;
-                k = k + 1;
+                nth = nth + 1;
                 wanted = wanted - 1;
             }
         }
@@ -196,6 +180,6 @@ fn refused_setup(refusal: u32, offset: usize) -> Setup
     Setup {
         refusal,
         place: offset,
-        configuration: machine::no_numbers(),
+        configuration: kinds::no_numbers(),
     }
 }

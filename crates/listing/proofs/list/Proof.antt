@@ -1,6 +1,6 @@
 -- That `list` of src/lib.rt keeps its contract.
 use mathlib.Core.Path.{ap, _∙_}
-use Rattle.player.proofs.WayLaws.{begin-ready}
+use Rattle.player.proofs.BeginningLaws.{begin-ready}
 use Rattle.text.proofs.WriteLaws.{write-laid}
 use Rattle.text.specs.Text.{write}
 use Rattle.listing.proofs.LineLaws.{listing-begun, listing-refused}

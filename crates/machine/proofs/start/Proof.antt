@@ -1,31 +1,30 @@
 -- That `start` of src/lib.rt keeps its contract.
 use mathlib.Core.Path.{ap, _∙_}
-use Rattle.cic_record.specs.declared.Begun.{Begun as CicBegun}
-use Rattle.coreinterrupt.specs.declared.Begun.{Begun as CoreBegun}
 use Rattle.aic.specs.declared.Begun.{Begun}
-use Rattle.machine.specs.Machine.{startOf, ofAic, ofCore, ofCic}
-use Rattle.machine.proofs.KindLaws.{at-aic, at-core, at-cic, at-none}
-use Rattle.coreinterrupt.proofs.start.Reads as start-reads′′
-use Rattle.cic.proofs.start.Reads as start-reads′
+use Rattle.coreinterrupt.specs.declared.Begun.{Begun as CoreBegun}
+use Rattle.cic_record.specs.declared.Begun.{Begun as CicBegun}
+use Rattle.kinds.proofs.KindLaws.{at-aic, at-core, at-cic, at-none}
+use Rattle.machine.specs.Machine.{start, ofAic, ofCore, ofCic}
 use borrow.Author.Needs.{needs}
 use Rattle.machine.proofs.start.Statement.{statement}
 use Rattle.machine.proofs.start.Tie as tie
 
 returns : tie.Need-returns
-unfolding startOf
-returns c = c .of-aic .ensures ∙ ap (λ (b : Begun). ofAic (b .aic)) (c .before .start .ensures) ∙ at-aic _ _ _ _ _ (c .before .before .if1 .taken)
+unfolding start
+returns c = c .of-aic .ensures ∙ ap (λ (b : Begun). ofAic (b .aic)) (c .before .start .ensures) ∙ at-aic _ _ (c .before .before .if1 .taken)
 
 returns-2 : tie.Need-returns-2
-unfolding startOf
-returns-2 c = c .of-core .ensures ∙ ap (λ (b : CoreBegun). ofCore (b .core)) (c .before .start2 .ensures) ∙ at-core _ _ _ _ _ (c .before .before .if2 .taken)
+unfolding start
+returns-2 c = c .of-core .ensures ∙ ap (λ (b : CoreBegun). ofCore (b .core)) (c .before .start2 .ensures) ∙ at-core _ _ (c .before .before .if2 .taken)
 
 returns-3 : tie.Need-returns-3
-unfolding startOf
-returns-3 c = c .of-cic .ensures ∙ ap (λ (b : CicBegun). ofCic (b .cic)) (c .before .start3 .ensures) ∙ at-cic _ _ _ _ _ (c .before .before .if3 .taken)
+unfolding start
+returns-3 c = c .of-cic .ensures ∙ ap (λ (b : CicBegun). ofCic (b .cic)) (c .before .start3 .ensures) ∙ at-cic _ _ (c .before .before .if3 .taken)
 
 returns-4 : tie.Need-returns-4
-unfolding startOf
-returns-4 c = c .empty .ensures ∙ at-none _ _ _ _ _ (c .before .before .before .if1 .left) (c .before .before .if2 .left) (c .before .if3 .left)
+unfolding start
+returns-4 c = let p = c .before in
+    c .empty .ensures ∙ at-none _ _ (p .before .before .if1 .left) (p .before .if2 .left) (p .if3 .left)
 
 pub start-spec : {M : Type 1} → statement M
 start-spec =
@@ -38,15 +37,9 @@ start-spec =
     returns
     (λ c. search needs)
     (λ c. search needs)
-    (λ c. search needs)
-    (λ c. search needs)
     (λ c κs. search needs)
     (λ c κs. search needs)
     returns-2
-    (λ c. search needs)
-    (λ c. search needs)
-    (λ c. search needs)
-    (λ c. search needs)
     (λ c κs. search needs)
     (λ c κs. search needs)
     returns-3

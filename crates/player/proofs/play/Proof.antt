@@ -1,6 +1,6 @@
 -- That `play` of src/lib.rt keeps its contract.
 use mathlib.Core.Path.{_∙_}
-use Rattle.player.proofs.WayLaws.{begin-ready}
+use Rattle.player.proofs.BeginningLaws.{begin-ready}
 use Rattle.player.proofs.BeginLaws.{play-begun, play-refused}
 use borrow.Author.Needs.{needs}
 use Rattle.player.proofs.play.Statement.{statement}

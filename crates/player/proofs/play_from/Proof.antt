@@ -1,11 +1,13 @@
 -- That `play_from` of src/lib.rt keeps its contract.
 use Prim.Native.Nat.{_+_}
 use mathlib.Core.Path.{_≡_, sym, _∙_}
+use native.Mathlib.Omega.{arith}
 use Rattle.trace.specs.Trace.{stepsFrom}
+use Rattle.trace.proofs.TraceLaws.{turn-found}
 use Rattle.machine.specs.Promises.{Ready}
 use Rattle.machine.proofs.StepLaws.{step-ready}
 use Rattle.player.specs.Play.{report}
-use Rattle.player.proofs.PlayLaws.{report-end, report-limit, report-refused, report-step}
+use Rattle.player.proofs.PlayLaws.{report-ended, report-found}
 use borrow.Author.Needs.{needs}
 use Rattle.player.proofs.play_from.Statement.{statement}
 use Rattle.player.proofs.play_from.Tie as tie
@@ -18,19 +20,30 @@ abbrev μ-loop : tie.MeasureT-loop
 μ-loop trace limit at₀ m₀ left₀ count₀ at m left count = left
 
 returns : tie.Need-returns Inv-loop μ-loop
-returns c = report-end _ _ _ _ _ (c .if1 .taken) ∙ c .before .loop .inv .0
+returns c = let m = c .before .before .before in
+    report-ended _ _ _ _ _ _ _ (sym (m .turn-at .ensures) ∙ c .before .refusal .given .1) ∙ m .before .loop .inv .0
 
-returns-2 : tie.Need-returns-2 Inv-loop μ-loop
-returns-2 c = report-limit _ _ _ _ _ (c .before .if1 .left) (c .if2 .taken) ∙ c .before .before .loop .inv .0
+-- a step is found only while something is left of the limit
+sub-left : tie.Need-sub-left Inv-loop μ-loop
+sub-left c = let m = c .before .before .before .before .before in
+    omega (arith, turn-found _ _ _ _ _ (sym (m .turn-at .ensures) ∙ c .before .before .before .x .given .1) .1 .0)
 
-returns-3 : tie.Need-returns-3 Inv-loop μ-loop
-returns-3 c = let m = c .before .before .before in
-    report-refused _ _ _ _ _ _ _ (m .before .before .if1 .left) (m .before .if2 .left) (sym (m .step-at .ensures) ∙ c .before .refusal .given .1) ∙ m .before .before .before .loop .inv .0
+add-count : tie.Need-add-count Inv-loop μ-loop
+add-count c = let m = c .before .before .before .before .before in
+    omega (arith, turn-found _ _ _ _ _ (sym (m .turn-at .ensures) ∙ c .before .before .before .x .given .1) .1 .0)
+
+loop-less : tie.Need-loop-less Inv-loop μ-loop
+loop-less c = let m = c .before .before .before .before .before in
+    omega (arith, turn-found _ _ _ _ _ (sym (m .turn-at .ensures) ∙ c .before .before .before .x .given .1) .1 .0)
 
 loop-again : tie.Need-loop-again Inv-loop μ-loop
 loop-again c = let m = c .before .before .before .before .before in
-    let l = m .before .before .before .loop in
-    (rw (c .before .step-sound .ensures) (report-step _ _ _ _ _ _ _ (m .before .before .if1 .left) (m .before .if2 .left) (sym (m .step-at .ensures) ∙ c .before .before .before .x .given .1) ∙ l .inv .0), search needs, rw (c .before .step-sound .ensures) (step-ready _ _ (l .inv .2)))
+    let e = sym (m .turn-at .ensures) ∙ c .before .before .before .x .given .1 in
+    let l = m .before .loop in (
+      rw (c .before .step-sound .ensures) (report-found _ _ _ _ _ _ _ e ∙ l .inv .0),
+      omega (arith, turn-found _ _ _ _ _ e .1 .0),
+      rw (c .before .step-sound .ensures) (step-ready _ _ (l .inv .2)),
+    )
 
 pub play-from-spec : {M : Type 1} → statement M
 play-from-spec =
@@ -39,14 +52,12 @@ play-from-spec =
     Inv-loop
     μ-loop
     (λ c. search needs)
+    (λ c κs. search needs)
+    (λ c. search needs)
     returns
-    returns-2
-    (λ c κs. search needs)
-    (λ c. search needs)
-    returns-3
     (λ c. search needs)
     (λ c κs. search needs)
-    (λ c. search needs)
-    (λ c. search needs)
-    (λ c. search needs)
+    sub-left
+    add-count
+    loop-less
     loop-again)

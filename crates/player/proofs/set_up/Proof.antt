@@ -3,7 +3,7 @@ use Prim.Native.Nat.{_+_}
 use mathlib.Core.Path.{refl, _≡_, sym, _∙_}
 use native.Mathlib.Omega.{arith}
 use borrow.Author.Tests.{not-true, not-false}
-use Rattle.machine.specs.Kinds.{placesOf}
+use Rattle.kinds.specs.Kinds.{wanted}
 use Rattle.player.specs.Begin.{setupFrom, setupOf}
 use Rattle.player.proofs.BeginLaws.{setup-done, setup-damaged, setup-beyond, setup-taken}
 use borrow.Author.Needs.{needs}
@@ -11,14 +11,14 @@ use Rattle.player.proofs.set_up.Statement.{statement}
 use Rattle.player.proofs.set_up.Tie as tie
 
 abbrev Inv-loop : tie.InvT-loop
-Inv-loop trace kind start c₀ at₀ k₀ left₀ c at k left = (setupFrom kind left k trace c at ≡ setupOf kind trace start) × (k + left ≡ placesOf kind)
+Inv-loop trace kind start c₀ at₀ k₀ left₀ c at k left = (setupFrom kind left k trace c at ≡ setupOf kind trace start) × (k + left ≡ wanted kind)
 
 abbrev μ-loop : tie.MeasureT-loop
 μ-loop trace kind start c₀ at₀ k₀ left₀ c at k left = left
 
 loop-holds : tie.Need-loop-holds Inv-loop μ-loop
 unfolding setupOf
-loop-holds c = rw (c .before .no-numbers .ensures, c .places .ensures) (refl, omega arith)
+loop-holds c = rw (c .before .no-numbers .ensures, c .wanted .ensures) (refl, omega arith)
 
 returns : tie.Need-returns Inv-loop μ-loop
 returns c = setup-done _ _ _ _ _ _ (c .if1 .taken) ∙ c .before .loop .inv .0

@@ -19,11 +19,12 @@ use Rattle.numbers.specs.Promises.{toldAt}
 use Rattle.numbers.specs.declared.Number.the-variants.{Value, Refused}
 use Rattle.numbers.proofs.ReadLaws.{IsRead, number-is}
 use Rattle.trace.specs.Promises.{Reads}
-use Rattle.machine.specs.declared.Configuration.{Configuration}
+use Rattle.kinds.specs.declared.Configuration.{Configuration}
 use Rattle.machine.specs.declared.Machine.{Machine}
-use Rattle.machine.specs.Kinds.{isKind, placesOf, withinOf}
-use Rattle.machine.specs.Machine.{noNumbers, withNumber, filled}
-use Rattle.machine.specs.Promises.{Within, Ready, startWith}
+use Rattle.kinds.specs.Kinds.{isKind, wanted, within}
+use Rattle.kinds.specs.Configuration.{noNumbers, withNumber, filled}
+use Rattle.kinds.specs.Promises.{Within}
+use Rattle.machine.specs.Promises.{Ready, startWith}
 use Rattle.machine.proofs.MachineLaws.{start-ready}
 use Rattle.player.specs.declared.Begun.{Begun}
 use Rattle.player.specs.declared.Setup.{Setup}
@@ -38,7 +39,7 @@ pub data Way (kind : ℕ) (s : List ℕ) (left k : ℕ) (c : Configuration) (at 
   torn : (ns : List ℕ) (p : ℕ) → Reads s at ns p → Within kind k ns → length ns < left → toldAt s p .refusal ≡ damaged
       → Way kind s left k c at (refusedSetup damaged p)
   astray : (ns : List ℕ) (p : ℕ) → Reads s at ns p → Within kind k ns → length ns < left → toldAt s p .refusal ≡ carriedOut
-      → withinOf kind (k + length ns) (toldAt s p .value) ≡ false → Way kind s left k c at (refusedSetup misconfigured p)
+      → within kind (k + length ns) (toldAt s p .value) ≡ false → Way kind s left k c at (refusedSetup misconfigured p)
 
 module _ (kind : ℕ) (s : List ℕ) where
   -- a way is one of whatever is equal to its setup
@@ -46,14 +47,14 @@ module _ (kind : ℕ) (s : List ℕ) where
   over e w = rw (sym e) w
 
   -- a number before the rest
-  further : (left k at v next : ℕ) (c : Configuration) (t : Setup) → numberAt s at ≡ Value v next → withinOf kind k v ≡ true
+  further : (left k at v next : ℕ) (c : Configuration) (t : Setup) → numberAt s at ≡ Value v next → within kind k v ≡ true
       → Way kind s left (k + 1) (withNumber c k v) next t → Way kind s (suc left) k c at t
   unfolding filled
   further left k at v next c t e h (whole ns p r w l) = whole (v ∷ ns) p (rw e (refl, (refl, r))) (h, w) (ap suc l)
   further left k at v next c t e h (torn ns p r w l d) = torn (v ∷ ns) p (rw e (refl, (refl, r))) (h, w) (omega arith) d
   further left k at v next c t e h (astray ns p r w l d b) =
       let z : k + 1 + length ns ≡ k + suc (length ns) = omega arith in
-      astray (v ∷ ns) p (rw e (refl, (refl, r))) (h, w) (omega arith) d (sym (ap (λ (n : ℕ). withinOf kind n (toldAt s p .value)) z) ∙ b)
+      astray (v ∷ ns) p (rw e (refl, (refl, r))) (h, w) (omega arith) d (sym (ap (λ (n : ℕ). within kind n (toldAt s p .value)) z) ∙ b)
 
   pub way : (left k : ℕ) (c : Configuration) (at : ℕ) → Way kind s left k c at (setupFrom kind left k s c at)
   unfolding filled
@@ -66,15 +67,15 @@ module _ (kind : ℕ) (s : List ℕ) where
       bad : numberAt s at ≡ Refused damaged at → W
       bad e = over (setup-damaged kind (suc left) k s c at damaged at (λ z. omega arith) e) (torn [] at refl tt (omega arith) (rw e refl))
 
-      limits : (v next : ℕ) → numberAt s at ≡ Value v next → withinOf kind k v ≡ false → W
+      limits : (v next : ℕ) → numberAt s at ≡ Value v next → within kind k v ≡ false → W
       limits v next e b =
           over (setup-beyond kind (suc left) k s c at v next (λ z. omega arith) e b)
-          (astray [] at refl tt (omega arith) (rw e refl) (rw e (ap (λ (n : ℕ). withinOf kind n v) (add-zero k) ∙ b)))
+          (astray [] at refl tt (omega arith) (rw e refl) (rw e (ap (λ (n : ℕ). within kind n v) (add-zero k) ∙ b)))
 
       turn : ((v next : ℕ) → Way kind s left (k + 1) (withNumber c k v) next (setupFrom kind left (k + 1) s (withNumber c k v) next)) → W
-      turn ih = ⊎-elim bad (λ (r : IsRead s at). ⊎-elim (rest (r .value) (r .next) (r .is)) (limits (r .value) (r .next) (r .is)) (told-apart (withinOf kind k (r .value)))) (number-is s at)
+      turn ih = ⊎-elim bad (λ (r : IsRead s at). ⊎-elim (rest (r .value) (r .next) (r .is)) (limits (r .value) (r .next) (r .is)) (told-apart (within kind k (r .value)))) (number-is s at)
         where
-          rest : (v next : ℕ) → numberAt s at ≡ Value v next → withinOf kind k v ≡ true → W
+          rest : (v next : ℕ) → numberAt s at ≡ Value v next → within kind k v ≡ true → W
           rest v next e h =
               over (ap (λ (n : ℕ). setupFrom kind n (k + 1) s (withNumber c k v) next) (sym (sub-one (suc left))) ∙ setup-taken kind (suc left) k s c at v next (λ z. omega arith) e h)
               (further left k at v next c _ e h (ih v next))
@@ -90,7 +91,7 @@ pub data Beginning (s : List ℕ) : Begun → Type 0 where
   damagedAt : (ns : List ℕ) (p : ℕ) → length s ≤ longest → Reads s 0 ns p → Wanting ns → toldAt s p .refusal ≡ damaged → Beginning s (notBegun damaged p)
   noKind : length s ≤ longest → toldAt s 0 .refusal ≡ carriedOut → isKind (toldAt s 0 .value) ≡ false → Beginning s (notBegun unknown 0)
   beyondAt : (kind : ℕ) (ns : List ℕ) (p : ℕ) → length s ≤ longest → Reads s 0 (kind ∷ ns) p → Wanting (kind ∷ ns) → toldAt s p .refusal ≡ carriedOut
-      → withinOf kind (length ns) (toldAt s p .value) ≡ false → Beginning s (notBegun misconfigured p)
+      → within kind (length ns) (toldAt s p .value) ≡ false → Beginning s (notBegun misconfigured p)
   configured : (kind : ℕ) (ns : List ℕ) (p : ℕ) → length s ≤ longest → Reads s 0 (kind ∷ ns) p → Configures kind ns
       → Beginning s (begun (startWith kind ns) p)
 
@@ -99,11 +100,11 @@ module _ (s : List ℕ) where
   also b d e w = rw (sym e) w
 
   by-kind : (kind next : ℕ) (t : Setup) → length s ≤ longest → numberAt s 0 ≡ Value kind next → isKind kind ≡ true
-      → Way kind s (placesOf kind) 0 noNumbers next t → Beginning s (bySetup kind t)
+      → Way kind s (wanted kind) 0 noNumbers next t → Beginning s (bySetup kind t)
   unfolding bySetup pick
   by-kind kind next t l e k (whole ns p r w n) = configured kind ns p l (rw e (refl, (refl, r))) (k, (w, n))
   by-kind kind next t l e k (torn ns p r w n d) = damagedAt (kind ∷ ns) p l (rw e (refl, (refl, r))) (k, (w, n)) d
-  by-kind kind next t l e k (astray ns p r w n d b) = beyondAt kind ns p l (rw e (refl, (refl, r))) (k, (w, n)) d (sym (ap (λ (j : ℕ). withinOf kind j (toldAt s p .value)) (zero-add (length ns))) ∙ b)
+  by-kind kind next t l e k (astray ns p r w n d b) = beyondAt kind ns p l (rw e (refl, (refl, r))) (k, (w, n)) d (sym (ap (λ (j : ℕ). within kind j (toldAt s p .value)) (zero-add (length ns))) ∙ b)
 
   pub beginning : Beginning s (beginOf s)
   unfolding beginOf setupOf
@@ -120,7 +121,7 @@ module _ (s : List ℕ) where
       good l kind next e =
           also _ _ (ap (byController s) (sym e))
           (⊎-elim
-          (λ k. also _ _ (pick-true _ k) (by-kind kind next _ l e k (way kind s (placesOf kind) 0 noNumbers next)))
+          (λ k. also _ _ (pick-true _ k) (by-kind kind next _ l e k (way kind s (wanted kind) 0 noNumbers next)))
           (λ k. also _ _ (pick-false _ k) (noKind l (rw e refl) (rw e k)))
           (told-apart (isKind kind)))
 

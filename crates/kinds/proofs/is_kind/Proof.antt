@@ -1,8 +1,8 @@
 -- That `is_kind` of src/lib.rt keeps its contract.
-use Rattle.machine.specs.Kinds.{isKind}
+use Rattle.kinds.specs.Kinds.{isKind}
 use borrow.Author.Needs.{needs}
-use Rattle.machine.proofs.is_kind.Statement.{statement}
-use Rattle.machine.proofs.is_kind.Tie as tie
+use Rattle.kinds.proofs.is_kind.Statement.{statement}
+use Rattle.kinds.proofs.is_kind.Tie as tie
 
 returns : tie.Need-returns
 unfolding isKind

@@ -1,12 +1,12 @@
 -- That `with_number` of src/lib.rt keeps its contract.
-use Rattle.machine.specs.Machine.{withNumber}
-use Rattle.machine.proofs.MachineLaws.{number-past}
+use Rattle.kinds.specs.Configuration.{withNumber}
+use Rattle.kinds.proofs.ConfigurationLaws.{number-past}
 use borrow.Author.Needs.{needs}
-use Rattle.machine.proofs.with_number.Statement.{statement}
-use Rattle.machine.proofs.with_number.Tie as tie
+use Rattle.kinds.proofs.with_number.Statement.{statement}
+use Rattle.kinds.proofs.with_number.Tie as tie
 
 returns : tie.Need-returns
-returns c = number-past (c .before .args .c) (c .before .args .k) _ (search needs) (c .if1 .taken)
+returns c = number-past (c .before .args .c) (c .before .args .nth) _ (search needs) (c .if1 .taken)
 
 returns-2 : tie.Need-returns-2
 unfolding withNumber

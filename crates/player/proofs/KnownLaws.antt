@@ -16,14 +16,15 @@ use Rattle.numbers.specs.declared.Number.{Number}
 use Rattle.numbers.specs.declared.Number.the-variants.{Value}
 use Rattle.numbers.proofs.ReadLaws.{told-read, told-damaged}
 use Rattle.trace.specs.Promises.{Reads}
-use Rattle.machine.specs.declared.Configuration.{Configuration}
-use Rattle.machine.specs.Kinds.{isKind, placesOf, withinOf}
-use Rattle.machine.specs.Machine.{noNumbers, withNumber, filled}
-use Rattle.machine.specs.Promises.{Within, startWith}
+use Rattle.kinds.specs.declared.Configuration.{Configuration}
+use Rattle.kinds.specs.Kinds.{isKind, wanted, within}
+use Rattle.kinds.specs.Configuration.{noNumbers, withNumber, filled}
+use Rattle.kinds.specs.Promises.{Within}
+use Rattle.machine.specs.Promises.{startWith}
 use Rattle.player.specs.Begin.{longest, refusedSetup, acceptedSetup, setupFrom, setupOf, notBegun, bySetup, byController, beginOf}
 use Rattle.player.specs.Promises.{Wanting}
 use Rattle.player.proofs.BeginLaws.{setup-done, setup-damaged, setup-beyond, setup-taken}
-use Rattle.player.proofs.WayLaws.{begun}
+use Rattle.player.proofs.BeginningLaws.{begun}
 
 -- the first of some numbers
 first : (s : List ℕ) (at v p : ℕ) (ns : List ℕ) → Reads s at (v ∷ ns) p → numberAt s at ≡ Value v (toldAt s at .place)
@@ -48,25 +49,25 @@ module _ (kind : ℕ) (s : List ℕ) where
   -- the whole of it, from a place on
   module _ (ns : List ℕ) (at p : ℕ) (r : Reads s at ns p) (w : Within kind 0 ns) where
     abbrev left : ℕ
-    left = placesOf kind - length ns
+    left = wanted kind - length ns
 
-    onward : length ns ≤ placesOf kind → setupOf kind s at ≡ setupFrom kind left (0 + length ns) s (filled noNumbers 0 ns) p
+    onward : length ns ≤ wanted kind → setupOf kind s at ≡ setupFrom kind left (0 + length ns) s (filled noNumbers 0 ns) p
     unfolding setupOf
-    onward l = reach ns (placesOf kind) left 0 at p noNumbers (omega arith) r w
+    onward l = reach ns (wanted kind) left 0 at p noNumbers (omega arith) r w
 
-    whole-so : length ns ≡ placesOf kind → setupOf kind s at ≡ acceptedSetup (filled noNumbers 0 ns) p
+    whole-so : length ns ≡ wanted kind → setupOf kind s at ≡ acceptedSetup (filled noNumbers 0 ns) p
     whole-so l = onward (omega arith) ∙ sym (setup-done kind left (0 + length ns) s (filled noNumbers 0 ns) p (omega arith))
 
-    torn-so : length ns < placesOf kind → toldAt s p .refusal ≡ damaged → setupOf kind s at ≡ refusedSetup damaged p
+    torn-so : length ns < wanted kind → toldAt s p .refusal ≡ damaged → setupOf kind s at ≡ refusedSetup damaged p
     torn-so l d =
         onward (omega arith) ∙ sym (setup-damaged kind left (0 + length ns) s (filled noNumbers 0 ns) p damaged p (λ z. omega arith) (told-damaged s p d))
 
-    astray-so : length ns < placesOf kind → toldAt s p .refusal ≡ carriedOut → withinOf kind (length ns) (toldAt s p .value) ≡ false
+    astray-so : length ns < wanted kind → toldAt s p .refusal ≡ carriedOut → within kind (length ns) (toldAt s p .value) ≡ false
         → setupOf kind s at ≡ refusedSetup misconfigured p
     astray-so l d b =
         onward (omega arith)
         ∙ sym (setup-beyond kind left (0 + length ns) s (filled noNumbers 0 ns) p _ _ (λ z. omega arith) (told-read s p d)
-        (ap (λ (j : ℕ). withinOf kind j (toldAt s p .value)) (zero-add (length ns)) ∙ b))
+        (ap (λ (j : ℕ). within kind j (toldAt s p .value)) (zero-add (length ns)) ∙ b))
 
 -- ---- beginnings
 
@@ -89,15 +90,15 @@ module _ (s : List ℕ) where
     to-setup : beginOf s ≡ bySetup kind (setupOf kind s (toldAt s 0 .place))
     to-setup = by-first _ l (first s 0 kind p ns r) ∙ sym (pick-true _ k)
 
-    pub configured-so : length ns ≡ placesOf kind → beginOf s ≡ begun (startWith kind ns) p
+    pub configured-so : length ns ≡ wanted kind → beginOf s ≡ begun (startWith kind ns) p
     unfolding bySetup pick
     configured-so n = to-setup ∙ ap (bySetup kind) (whole-so kind s ns (toldAt s 0 .place) p (r .1 .1) w n)
 
-    damaged-number-so : length ns < placesOf kind → toldAt s p .refusal ≡ damaged → beginOf s ≡ notBegun damaged p
+    damaged-number-so : length ns < wanted kind → toldAt s p .refusal ≡ damaged → beginOf s ≡ notBegun damaged p
     unfolding bySetup pick
     damaged-number-so n d = to-setup ∙ ap (bySetup kind) (torn-so kind s ns (toldAt s 0 .place) p (r .1 .1) w n d)
 
-    pub beyond-so : length ns < placesOf kind → toldAt s p .refusal ≡ carriedOut → withinOf kind (length ns) (toldAt s p .value) ≡ false
+    pub beyond-so : length ns < wanted kind → toldAt s p .refusal ≡ carriedOut → within kind (length ns) (toldAt s p .value) ≡ false
         → beginOf s ≡ notBegun misconfigured p
     unfolding bySetup pick
     beyond-so n d b = to-setup ∙ ap (bySetup kind) (astray-so kind s ns (toldAt s 0 .place) p (r .1 .1) w n d b)

@@ -1,0 +1,101 @@
+-- The promises of the kinds, kept.
+use Prim.Native.Nat.{ℕ, _≤_}
+use mathlib.Core.Path.{_≡_, refl, sym, ap, _∙_}
+use mathlib.Core.Bool.{true, false, _&&_}
+use mathlib.Core.Logic.{_↔_, ⊎-elim}
+use native.Mathlib.Omega.{arith}
+use lib.Dec.{ltb, leb}
+use lib.ListN.{length}
+use borrow.Author.Tests.{ne-eqb, le-ltb, le-leb, leb-true}
+use Rattle.words.specs.Choice.{pick}
+use Rattle.words.proofs.ChoiceLaws.{pick-false}
+use Rattle.words.proofs.TruthLaws.{and-left, and-right, and-both}
+use Rattle.aic.specs.Model.{within as aicWithin}
+use Rattle.coreinterrupt.specs.Model.{within as coreWithin}
+use Rattle.cic_record.specs.Sound.{within as cicWithin}
+use Rattle.kinds.specs.Kinds.{byKind, isKind, wanted, within, name}
+use Rattle.kinds.specs.Configuration.{withNumber, filled}
+use Rattle.kinds.specs.Promises.{endings, Promises}
+use Rattle.kinds.proofs.KindLaws.{KindOf, isAic, isCore, isCic, isNone, kind-of, at-aic, at-core, at-cic, at-none, at-unknown, known}
+
+-- ---- limits
+
+at-most : (v n : ℕ) → (leb v n ≡ true) ↔ (v ≤ n)
+at-most v n = (leb-true v n, le-leb v n)
+
+between : (v n : ℕ) → ((leb 1 v && leb v n) ≡ true) ↔ ((1 ≤ v) × (v ≤ n))
+between v n = (
+  λ e. (leb-true 1 v (and-left (leb 1 v) (leb v n) e), leb-true v n (and-right (leb 1 v) (leb v n) e)),
+  λ h. and-both (le-leb 1 v (h .0)) (le-leb v n (h .1)),
+)
+
+-- ---- no number past the last
+
+core-four : (nth v : ℕ) → 4 ≤ nth → coreWithin nth v ≡ false
+unfolding coreWithin
+core-four nth v l =
+    sym (pick-false _ (ne-eqb nth 0 (λ z. omega arith))) ∙ sym (pick-false _ (ne-eqb nth 1 (λ z. omega arith)))
+    ∙ sym (pick-false _ (rw (ne-eqb nth 2 (λ z. omega arith), ne-eqb nth 3 (λ z. omega arith)) refl))
+
+cic-four : (nth v : ℕ) → 4 ≤ nth → cicWithin nth v ≡ false
+unfolding cicWithin
+cic-four nth v l =
+    sym (pick-false _ (ne-eqb nth 0 (λ z. omega arith))) ∙ sym (pick-false _ (ne-eqb nth 1 (λ z. omega arith)))
+    ∙ sym (pick-false _ (ne-eqb nth 2 (λ z. omega arith))) ∙ ne-eqb nth 3 (λ z. omega arith)
+
+no-number : (kind nth value : ℕ) → wanted kind ≤ nth → within kind nth value ≡ false
+unfolding wanted within aicWithin
+no-number kind nth value l = go (kind-of kind)
+  where
+    go : KindOf kind → byKind kind (record { aic = ltb nth 2; core = coreWithin nth value; cic = cicWithin nth value; none = false }) ≡ false
+    go (isAic k) = sym (at-aic kind _ k) ∙ le-ltb nth 2 (omega (arith, at-aic {A = ℕ} kind (record { aic = 2; core = 4; cic = 4; none = 0 }) k))
+    go (isCore k) = sym (at-core kind _ k) ∙ core-four nth value (omega (arith, at-core {A = ℕ} kind (record { aic = 2; core = 4; cic = 4; none = 0 }) k))
+    go (isCic k) = sym (at-cic kind _ k) ∙ cic-four nth value (omega (arith, at-cic {A = ℕ} kind (record { aic = 2; core = 4; cic = 4; none = 0 }) k))
+    go (isNone a b c) = sym (at-none kind _ a b c)
+
+-- ---- names
+
+name-line : (kind : ℕ) → isKind kind ≡ true → endings (name kind) ≡ 1
+unfolding name endings
+name-line kind h = go (kind-of kind)
+  where
+    go : KindOf kind → endings (name kind) ≡ 1
+    go (isAic k) = sym (ap endings (at-aic kind _ k))
+    go (isCore k) = sym (ap endings (at-core kind _ k))
+    go (isCic k) = sym (ap endings (at-cic kind _ k))
+    go (isNone a b c) = absurd (⊎-elim a (⊎-elim b c) (known kind .0 h))
+
+name-length : (kind : ℕ) → length (name kind) ≤ 14
+unfolding name
+name-length kind = go (kind-of kind)
+  where
+    go : KindOf kind → length (name kind) ≤ 14
+    go (isAic k) = let e : length (name kind) ≡ 4 = sym (ap length (at-aic kind _ k)) in omega arith
+    go (isCore k) = let e : length (name kind) ≡ 14 = sym (ap length (at-core kind _ k)) in omega arith
+    go (isCic k) = let e : length (name kind) ≡ 4 = sym (ap length (at-cic kind _ k)) in omega arith
+    go (isNone a b c) = let e : length (name kind) ≡ 0 = sym (ap length (at-none kind _ a b c)) in omega arith
+
+pub kept : Promises
+unfolding wanted within name withNumber filled byKind pick aicWithin coreWithin cicWithin
+kept =
+    record {
+      kinds = known;
+      aicNumbers = refl;
+      aicLimits = λ v. (refl, refl);
+      coreNumbers = refl;
+      coreLimits = λ v. (at-most v 8, at-most v 32, at-most v 1, at-most v 1);
+      cicNumbers = refl;
+      cicLimits = λ v. (between v 1024, between v 256, between v 256, refl);
+      noneWanted = λ kind h. sym (at-unknown kind _ h);
+      noNumber = no-number;
+      aicName = refl;
+      coreName = refl;
+      cicName = refl;
+      noName = λ kind h. sym (at-unknown kind _ h);
+      nameLine = name-line;
+      nameLength = name-length;
+      blankNumbers = refl;
+      numberPut = λ c nth v. refl;
+      twoPut = λ a b. refl;
+      fourPut = λ a b c d. refl;
+    }

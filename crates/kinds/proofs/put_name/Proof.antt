@@ -1,0 +1,43 @@
+-- That `put_name` of src/lib.rt keeps its contract.
+use mathlib.Core.Path.{ap, _∙_}
+use Rattle.text.proofs.WriteLaws.{nothing}
+use Rattle.text.specs.Text.{write}
+use Rattle.kinds.specs.Kinds.{name}
+use Rattle.kinds.proofs.KindLaws.{at-aic, at-core, at-cic, at-none}
+use borrow.Author.Needs.{needs}
+use Rattle.kinds.proofs.put_name.Statement.{statement}
+use Rattle.kinds.proofs.put_name.Tie as tie
+
+returns : tie.Need-returns
+unfolding name
+returns c = c .before .before .put-all .ensures ∙ ap (write _) (at-aic _ _ (c .before .before .before .before .before .if1 .taken))
+
+returns-2 : tie.Need-returns-2
+unfolding name
+returns-2 c = c .before .before .put-all2 .ensures ∙ ap (write _) (at-core _ _ (c .before .before .before .before .before .if2 .taken))
+
+returns-3 : tie.Need-returns-3
+unfolding name
+returns-3 c = c .before .before .put-all3 .ensures ∙ ap (write _) (at-cic _ _ (c .before .before .before .before .before .if3 .taken))
+
+returns-4 : tie.Need-returns-4
+unfolding name
+returns-4 c = nothing _ ∙ ap (write _) (at-none _ _ (c .before .before .if1 .left) (c .before .if2 .left) (c .if3 .left))
+
+pub put-name-spec : {M : Type 1} → statement M
+put-name-spec =
+    tie.close
+    (tie.spec
+    (λ c. search needs)
+    (λ c κs. search needs)
+    (λ c. search needs)
+    returns
+    (λ c. search needs)
+    (λ c κs. search needs)
+    (λ c. search needs)
+    returns-2
+    (λ c. search needs)
+    (λ c κs. search needs)
+    (λ c. search needs)
+    returns-3
+    returns-4)

@@ -1,0 +1,37 @@
+-- That `within` of src/lib.rt keeps its contract.
+use mathlib.Core.Path.{_∙_}
+use Rattle.kinds.specs.Kinds.{within}
+use Rattle.kinds.proofs.KindLaws.{at-aic, at-core, at-cic, at-none}
+use Rattle.coreinterrupt.proofs.within.Reads as within-reads′′
+use Rattle.cic.proofs.within.Reads as within-reads′
+use borrow.Author.Needs.{needs}
+use Rattle.kinds.proofs.within.Statement.{statement}
+use Rattle.kinds.proofs.within.Tie as tie
+
+returns : tie.Need-returns
+unfolding within
+returns c = c .within .ensures ∙ at-aic _ _ (c .before .if1 .taken)
+
+returns-2 : tie.Need-returns-2
+unfolding within
+returns-2 c = c .within2 .ensures ∙ at-core _ _ (c .before .if2 .taken)
+
+returns-3 : tie.Need-returns-3
+unfolding within
+returns-3 c = c .within3 .ensures ∙ at-cic _ _ (c .before .if3 .taken)
+
+returns-4 : tie.Need-returns-4
+unfolding within
+returns-4 c = at-none _ _ (c .before .before .if1 .left) (c .before .if2 .left) (c .if3 .left)
+
+pub within-spec : {M : Type 1} → statement M
+within-spec =
+    tie.close
+    (tie.spec
+    (λ c κs. search needs)
+    returns
+    (λ c κs. search needs)
+    returns-2
+    (λ c κs. search needs)
+    returns-3
+    returns-4)

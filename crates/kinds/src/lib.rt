@@ -1,0 +1,96 @@
+// The kinds of controller: the number and the name of each, and the numbers that configure it. What a kind does is `machine`'s; no other
+// crate tells one kind from another (01, "House trace").
+ghost use mathlib.Core.Path.{_≡_};
+ghost use Rattle.text.specs.Text.{write};
+ghost use Rattle.kinds.specs.Kinds.{isKind, wanted, within, name};
+ghost use Rattle.kinds.specs.Configuration.{noNumbers, withNumber};
+
+// The numbers of a configuration in their order; one that was not put yet is 0.
+pub struct Configuration {
+    pub numbers: [u32; 4],
+}
+
+pub const AIC: u32 = 0;
+
+pub const CORE: u32 = 1;
+
+pub const CIC: u32 = 2;
+
+// ---- kinds
+
+// Whether there is a controller of this kind.
+pub fn is_kind(kind: u32) -> bool
+    ensures { λ r. ⌜ r ≡ isKind kind ⌝ }
+{
+    (kind == AIC) | (kind == CORE) | (kind == CIC)
+}
+
+// How many numbers configure a kind.
+pub fn wanted(kind: u32) -> u32
+    ensures { λ r. ⌜ r ≡ wanted kind ⌝ }
+{
+    if kind == AIC {
+        return 2;
+    }
+    if kind == CORE {
+        return 4;
+    }
+    if kind == CIC {
+        return 4;
+    }
+    0
+}
+
+// Whether the nth number that configures a kind, counted from 0, may have this value.
+pub fn within(kind: u32, nth: u32, value: u32) -> bool
+    ensures { λ r. ⌜ r ≡ within kind nth value ⌝ }
+{
+    if kind == AIC {
+        return aic::within(nth, value);
+    }
+    if kind == CORE {
+        return coreinterrupt::within(nth, value);
+    }
+    if kind == CIC {
+        return cic::within(nth, value);
+    }
+    false
+}
+
+// The line with the name of a kind; nothing for any other number.
+pub fn put_name(out: &mut [u8], at: usize, kind: u32) -> usize
+    ensures { λ r. ⌜ (now (out .exit), r) ≡ write (now (out .entry), at) (name kind) ⌝ }
+{
+    if kind == AIC {
+        return text::put_all(out, at, b"AIC\n");
+    }
+    if kind == CORE {
+        return text::put_all(out, at, b"COREINTERRUPT\n");
+    }
+    if kind == CIC {
+        return text::put_all(out, at, b"CIC\n");
+    }
+    at
+}
+
+// ---- configurations
+
+// No number yet.
+pub fn no_numbers() -> Configuration
+    ensures { λ r. ⌜ r ≡ noNumbers ⌝ }
+{
+    Configuration { numbers: [0; 4] }
+}
+
+// A configuration with its nth number put anew. Past the last one nothing changes.
+pub fn with_number(c: Configuration, nth: u32, v: u32) -> Configuration
+    ensures { λ r. ⌜ r ≡ withNumber c nth v ⌝ }
+{
+    if 4 <= nth {
+        return c;
+    }
+    let at = nth as usize;
+    let mut d = c;
+    d.numbers[at] = v;
+    d
+}

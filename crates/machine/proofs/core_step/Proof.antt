@@ -1,0 +1,10 @@
+-- That `core_step` of src/lib.rt keeps its contract.
+use borrow.Author.Needs.{needs}
+use Rattle.machine.proofs.core_step.Statement.{statement}
+use Rattle.machine.proofs.core_step.Tie as tie
+
+returns : tie.Need-returns
+returns c = rw (c .before .step .ensures)
+
+pub core-step-spec : {M : Type 1} → statement M
+core-step-spec = tie.close (tie.spec (λ c κs. search needs) returns)
