@@ -12,6 +12,7 @@ use Rattle.words.proofs.ChoiceLaws.{pick-false}
 use Rattle.words.proofs.TruthLaws.{and-left, and-right, and-both}
 use Rattle.aic.specs.Model.{within as aicWithin}
 use Rattle.coreinterrupt.specs.Model.{within as coreWithin}
+use Rattle.coreinterrupt.proofs.StartLaws.{four-numbers}
 use Rattle.cic_record.specs.Sound.{within as cicWithin}
 use Rattle.kinds.specs.Kinds.{byKind, isKind, wanted, within, name}
 use Rattle.kinds.specs.Configuration.{withNumber, filled}
@@ -31,12 +32,6 @@ between v n = (
 
 -- ---- no number past the last
 
-core-four : (nth v : ℕ) → 4 ≤ nth → coreWithin nth v ≡ false
-unfolding coreWithin
-core-four nth v l =
-    sym (pick-false _ (ne-eqb nth 0 (λ z. omega arith))) ∙ sym (pick-false _ (ne-eqb nth 1 (λ z. omega arith)))
-    ∙ sym (pick-false _ (rw (ne-eqb nth 2 (λ z. omega arith), ne-eqb nth 3 (λ z. omega arith)) refl))
-
 cic-four : (nth v : ℕ) → 4 ≤ nth → cicWithin nth v ≡ false
 unfolding cicWithin
 cic-four nth v l =
@@ -49,7 +44,7 @@ no-number kind nth value l = go (kind-of kind)
   where
     go : KindOf kind → byKind kind (record { aic = ltb nth 2; core = coreWithin nth value; cic = cicWithin nth value; none = false }) ≡ false
     go (isAic k) = sym (at-aic kind _ k) ∙ le-ltb nth 2 (omega (arith, at-aic {A = ℕ} kind (record { aic = 2; core = 4; cic = 4; none = 0 }) k))
-    go (isCore k) = sym (at-core kind _ k) ∙ core-four nth value (omega (arith, at-core {A = ℕ} kind (record { aic = 2; core = 4; cic = 4; none = 0 }) k))
+    go (isCore k) = sym (at-core kind _ k) ∙ four-numbers nth value (omega (arith, at-core {A = ℕ} kind (record { aic = 2; core = 4; cic = 4; none = 0 }) k))
     go (isCic k) = sym (at-cic kind _ k) ∙ cic-four nth value (omega (arith, at-cic {A = ℕ} kind (record { aic = 2; core = 4; cic = 4; none = 0 }) k))
     go (isNone a b c) = sym (at-none kind _ a b c)
 

@@ -4,7 +4,7 @@ use Rattle.machine.proofs.core_step.Statement.{statement}
 use Rattle.machine.proofs.core_step.Tie as tie
 
 returns : tie.Need-returns
-returns c = rw (c .before .step .ensures)
+returns c = rw (c .before .step-sound .ensures)
 
 pub core-step-spec : {M : Type 1} → statement M
 core-step-spec = tie.close (tie.spec (λ c κs. search needs) returns)
