@@ -1,11 +1,11 @@
 -- A map byte by byte: the spare ones, those past the end, and the four of a register.
 use mathlib.Core.Path.{_≡_, refl, sym, ap, ap₂, _∙_}
-use mathlib.Core.Bool.{Bool, true, _&&_, _||_}
+use mathlib.Core.Bool.{Bool, true, false, _&&_, _||_}
 use mathlib.Core.List.{List}
 use mathlib.Core.Logic.{⊎-elim}
 use Prim.Native.Nat.{ℕ, zero, suc, _+_, _*_, _≤_, _<_}
 use native.Mathlib.Omega.{arith}
-use borrow.Author.Tests.{lt-ltb, le-ltb, ltb-true, leb-true}
+use borrow.Author.Tests.{ltb-true, leb-true}
 use lib.Dec.{eqb, leb, ltb}
 use lib.ListN.{length, getD, set, List·getD-eq-default}
 use lib.Seq.{set-out}
@@ -13,7 +13,7 @@ use Rattle.words.specs.Array.{byteOf}
 use Rattle.words.specs.Choice.{pick}
 use Rattle.words.specs.Counting.{allBelow, sumBelow, upto}
 use Rattle.words.proofs.ArrayLaws.{all-put}
-use Rattle.words.proofs.ChoiceLaws.{pick-true, pick-false, pick-cases}
+use Rattle.words.proofs.ChoiceLaws.{by-true, by-false, pick-true, pick-cases}
 use Rattle.words.proofs.CountingLaws.{all-at}
 use Rattle.words.proofs.TruthLaws.{or-either}
 use Rattle.cic_record.specs.Sound.{entrySound}
@@ -21,16 +21,19 @@ use Rattle.cic_maps.specs.Maps.{byteRead, mapRead, byteTaken, mapTaken, 
 
 -- ---- reads
 
-pub read-spare : (n : ℕ) (m : List ℕ) (k j at : ℕ) → at ≡ 4 * k + j → n ≤ at → 0 ≡ byteRead n m k j
+-- by the code's test, that the thing is one of the n
+pub read-spare : (n : ℕ) (m : List ℕ) (k j at : ℕ) {t : Bool} → at ≡ 4 * k + j → t ≡ ltb at n → t ≡ false → 0 ≡ byteRead n m k j
 unfolding byteRead
-read-spare n m k j at e l = pick-false (getD m (4 * k + j) 0) (le-ltb (4 * k + j) n (omega arith))
+read-spare n m k j at e f z = by-false (getD m (4 * k + j) 0) (f ∙ ap (λ (i : ℕ). ltb i n) e) z
 
-pub read-there : (n : ℕ) (m : List ℕ) (k j at : ℕ) {b : ℕ} → at ≡ 4 * k + j → at < n → b ≡ getD m at 0 → b ≡ byteRead n m k j
+pub read-there : (n : ℕ) (m : List ℕ) (k j at : ℕ) {t : Bool} → at ≡ 4 * k + j → t ≡ ltb at n → t ≡ true → getD m at 0 ≡ byteRead n m k j
 unfolding byteRead
-read-there n m k j at e l f = f ∙ ap (λ (i : ℕ). getD m i 0) e ∙ pick-true 0 (lt-ltb (4 * k + j) n (omega arith))
+read-there n m k j at e f z = ap (λ (i : ℕ). getD m i 0) e ∙ by-true 0 (f ∙ ap (λ (i : ℕ). ltb i n) e) z
 
-pub read-past : (n : ℕ) (m : List ℕ) (k j at : ℕ) → at ≡ 4 * k + j → at < n → length m ≤ at → 0 ≡ byteRead n m k j
-read-past n m k j at e l p = read-there n m k j at e l (sym (List·getD-eq-default m 0 p))
+pub read-past : (n : ℕ) (m : List ℕ) (k j at : ℕ) → at ≡ 4 * k + j → length m ≤ at → 0 ≡ byteRead n m k j
+unfolding byteRead
+read-past n m k j at e p =
+    pick-cases (λ (x : ℕ). 0 ≡ x) (ltb (4 * k + j) n) (λ _. sym (List·getD-eq-default m 0 (omega arith))) (λ _. refl)
 
 pub read-four : (n : ℕ) (m : List ℕ) (k a b c d : ℕ) → a ≡ byteRead n m k 0 → b ≡ byteRead n m k 1 → c ≡ byteRead n m k 2 → d ≡ byteRead n m k 3
     → a + b * 256 + c * 65536 + d * 16777216 ≡ mapRead n m k
@@ -39,9 +42,9 @@ read-four n m k a b c d p q r s = omega (arith, p, q, r, s)
 
 -- ---- the check of a value
 
-pub taken-byte : (n limit k v j at b : ℕ) → at ≡ 4 * k + j → b ≡ byteOf v j → (leb n at || ltb b limit) ≡ byteTaken n limit k v j
+pub taken-byte : (n limit k v j at b : ℕ) {t : Bool} → at ≡ 4 * k + j → b ≡ byteOf v j → t ≡ ltb b limit → (leb n at || t) ≡ byteTaken n limit k v j
 unfolding byteTaken
-taken-byte n limit k v j at b e f = ap₂ (λ (x y : ℕ). leb n x || ltb y limit) e f
+taken-byte n limit k v j at b e f z = ap₂ (λ (x : ℕ) (y : Bool). leb n x || y) e (z ∙ ap (λ (y : ℕ). ltb y limit) f)
 
 pub taken-four : (n limit k v : ℕ) {a b c d : Bool} → a ≡ byteTaken n limit k v 0 → b ≡ byteTaken n limit k v 1 → c ≡ byteTaken n limit k v 2 → d ≡ byteTaken n limit k v 3
     → (((a && b) && c) && d) ≡ mapTaken n limit k v
@@ -50,16 +53,17 @@ taken-four n limit k v p q r s = ap₂ _&&_ (ap₂ _&&_ (ap₂ _&&_ p q) r) s
 
 -- ---- writes
 
-pub put-spare : (n k v : ℕ) (m : List ℕ) (j at : ℕ) → at ≡ 4 * k + j → n ≤ at → m ≡ bytePut n k v m j
+pub put-spare : (n k v : ℕ) (m : List ℕ) (j at : ℕ) {t : Bool} → at ≡ 4 * k + j → t ≡ ltb at n → t ≡ false → m ≡ bytePut n k v m j
 unfolding bytePut
-put-spare n k v m j at e l = pick-false (set m (4 * k + j) (byteOf v j)) (le-ltb (4 * k + j) n (omega arith))
+put-spare n k v m j at e f z = by-false (set m (4 * k + j) (byteOf v j)) (f ∙ ap (λ (i : ℕ). ltb i n) e) z
 
-pub put-there : (n k v : ℕ) (m : List ℕ) (j at b : ℕ) → at ≡ 4 * k + j → at < n → b ≡ byteOf v j → set m at b ≡ bytePut n k v m j
+pub put-there : (n k v : ℕ) (m : List ℕ) (j at b : ℕ) {t : Bool} → at ≡ 4 * k + j → b ≡ byteOf v j → t ≡ ltb at n → t ≡ true → set m at b ≡ bytePut n k v m j
 unfolding bytePut
-put-there n k v m j at b e l f = ap₂ (λ (x y : ℕ). set m x y) e f ∙ pick-true m (lt-ltb (4 * k + j) n (omega arith))
+put-there n k v m j at b e g f z = ap₂ (λ (x y : ℕ). set m x y) e g ∙ by-true m (f ∙ ap (λ (i : ℕ). ltb i n) e) z
 
-pub put-past : (n k v : ℕ) (m : List ℕ) (j at : ℕ) → at ≡ 4 * k + j → at < n → length m ≤ at → m ≡ bytePut n k v m j
-put-past n k v m j at e l p = sym (set-out m at (byteOf v j) p) ∙ put-there n k v m j at (byteOf v j) e l refl
+pub put-past : (n k v : ℕ) (m : List ℕ) (j at : ℕ) → at ≡ 4 * k + j → length m ≤ at → m ≡ bytePut n k v m j
+unfolding bytePut
+put-past n k v m j at e p = pick-cases (λ (x : List ℕ). m ≡ x) (ltb (4 * k + j) n) (λ _. sym (set-out m (4 * k + j) (byteOf v j) (omega arith))) (λ _. refl)
 
 pub put-four : (n k v : ℕ) (m : List ℕ) → bytePut n k v (bytePut n k v (bytePut n k v (bytePut n k v m 0) 1) 2) 3 ≡ mapPut n k v m
 unfolding mapPut upto

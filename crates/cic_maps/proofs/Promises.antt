@@ -3,10 +3,10 @@ use mathlib.Core.Path.{_≡_, refl, sym, ap, _∙_}
 use mathlib.Core.Bool.{true, _||_}
 use mathlib.Core.List.{List}
 use mathlib.Core.Logic.{_↔_, ⊎-elim}
-use Prim.Native.Nat.{ℕ, zero, suc, _+_, _*_, _<_, _≤_}
+use Prim.Native.Nat.{ℕ, zero, suc, _+_, _*_, _^_, _<_, _≤_}
 use native.Mathlib.Decide.{decLt, ℕ-discrete}
 use native.Mathlib.Omega.{arith}
-use borrow.Author.Tests.{lt-ltb, ltb-true, leb-true, le-leb}
+use borrow.Author.Tests.{lt-ltb, le-ltb, ltb-true, leb-true, le-leb}
 use lib.Dec.{leb, ltb}
 use lib.ListN.{getD, length, length-set}
 use lib.Seq.{getD-set-same, getD-set-other}
@@ -40,6 +40,11 @@ read-byte n m k j b l =
     ap (λ (w : ℕ). byteOf w j) (sym (read-four n m k (byteRead n m k 0) (byteRead n m k 1) (byteRead n m k 2) (byteRead n m k 3) refl refl refl refl))
     ∙ byte-of-sum (byteRead n m k 0) (byteRead n m k 1) (byteRead n m k 2) (byteRead n m k 3) j (byteRead n m k) refl refl refl refl
     (read-lt n m k 0 b) (read-lt n m k 1 b) (read-lt n m k 2 b) (read-lt n m k 3 b) l
+
+read-word : (n : ℕ) (m : List ℕ) (k : ℕ) → ((i : ℕ) → getD m i 0 < 256) → mapRead n m k < 2 ^ 32
+read-word n m k b =
+    rw (sym (read-four n m k (byteRead n m k 0) (byteRead n m k 1) (byteRead n m k 2) (byteRead n m k 3) refl refl refl refl))
+    (omega (arith, read-lt n m k 0 b, read-lt n m k 1 b, read-lt n m k 2 b, read-lt n m k 3 b))
 
 -- ---- values that are taken
 
@@ -101,7 +106,7 @@ puts-there n k v m j (suc i) l b p = go (λ q. puts-there n k v m j i q b p) (�
     go : (j < i → getD (upto (bytePut n k v) m i) (4 * k + j) 0 ≡ byteOf v j) → Dec (j ≡ i) → getD (bytePut n k v (upto (bytePut n k v) m i) i) (4 * k + j) 0 ≡ byteOf v j
     go before (yes e) =
         ap (λ (x : ℕ). getD (bytePut n k v (upto (bytePut n k v) m i) x) (4 * k + j) 0) (sym e)
-        ∙ ap (λ (x : List ℕ). getD x (4 * k + j) 0) (sym (put-there n k v (upto (bytePut n k v) m i) j (4 * k + j) (byteOf v j) refl b refl))
+        ∙ ap (λ (x : List ℕ). getD x (4 * k + j) 0) (sym (put-there n k v (upto (bytePut n k v) m i) j (4 * k + j) (byteOf v j) refl refl refl (lt-ltb (4 * k + j) n b)))
         ∙ getD-set-same (upto (bytePut n k v) m i) (4 * k + j) (byteOf v j) 0 (omega (arith, puts-length n k v m i))
     go before (no d) = put-other n k v (upto (bytePut n k v) m i) i (4 * k + j) (λ q. d (omega arith)) ∙ before (omega arith)
 
@@ -109,10 +114,12 @@ pub kept : Promises
 unfolding mapPut
 kept =
     record {
-      reads = λ n m k j b l u. read-byte n m k j b l ∙ sym (read-there n m k j (4 * k + j) refl u refl);
-      readsSpare = λ n m k j b l u. read-byte n m k j b l ∙ sym (read-spare n m k j (4 * k + j) refl u);
+      reads = λ n m k j b l u. read-byte n m k j b l ∙ sym (read-there n m k j (4 * k + j) refl refl (lt-ltb (4 * k + j) n u));
+      readsSpare = λ n m k j b l u. read-byte n m k j b l ∙ sym (read-spare n m k j (4 * k + j) refl refl (le-ltb (4 * k + j) n u));
+      readsWord = read-word;
       taken = taken;
       puts = λ n k v m j l b p. puts-there n k v m j 4 l b p;
       putsNoSpare = λ n k v m i l. puts-spare n k v m i 4 l;
       putsNoOther = λ n k v m i d. puts-other n k v m i 4 (λ x l e. d (omega arith));
+      putsLength = λ n k v m. puts-length n k v m 4;
     }

@@ -3,7 +3,6 @@ ghost use mathlib.Core.Path.{_≡_};
 ghost use Prim.Native.Nat.{_%_};
 ghost use Rattle.words.specs.Array.{withBitAt};
 ghost use Rattle.cic_record.specs.Record.{withGlobal, withStatus, withEnable, withAllow};
-ghost use Rattle.cic_maps.specs.Maps.{mapRead};
 ghost use Rattle.cic_words.specs.Bits.{wordRead};
 ghost use Rattle.cic_registers.specs.Registers.{valueOf, unless, valueRefusal, writtenTo};
 use cic_layout::Register;
@@ -35,22 +34,6 @@ fn read_allow(c: Cic, k: u32) -> u32
     cic_words::read_word(n, &c.allow, k)
 }
 
-// Register k of the channel map.
-fn read_channels(c: Cic, k: u32) -> u32
-    ensures { λ v. ⌜ v ≡ mapRead (c .systems) (c .channel) k ⌝ }
-{
-    let n = c.systems;
-    cic_maps::read_map(n, &c.channel, k)
-}
-
-// Register k of the host map.
-fn read_hosts(c: Cic, k: u32) -> u32
-    ensures { λ v. ⌜ v ≡ mapRead (c .channels) (c .host) k ⌝ }
-{
-    let n = c.channels;
-    cic_maps::read_map(n, &c.host, k)
-}
-
 // What a read of a register answers.
 pub fn value_of(c: Cic, r: Register) -> u32
     ensures { λ v. ⌜ v ≡ valueOf c r ⌝ }
@@ -69,8 +52,8 @@ pub fn value_of(c: Cic, r: Register) -> u32
         Register::EnabledClear(k) => words::meet(read_status(c, k), read_enable(c, k)),
         Register::EnableSet(k) => read_enable(c, k),
         Register::EnableClear(k) => read_enable(c, k),
-        Register::ChannelMap(k) => read_channels(c, k),
-        Register::HostMap(k) => read_hosts(c, k),
+        Register::ChannelMap(k) => cic_maps::read_channels(c, k),
+        Register::HostMap(k) => cic_maps::read_hosts(c, k),
         Register::HostEnable(k) => read_allow(c, k),
     }
 }
@@ -103,8 +86,8 @@ pub fn value_refusal(c: Cic, r: Register, v: u32) -> u32
         Register::EnabledClear(k) => steps::CARRIED_OUT,
         Register::EnableSet(k) => steps::CARRIED_OUT,
         Register::EnableClear(k) => steps::CARRIED_OUT,
-        Register::ChannelMap(k) => beyond_unless(cic_maps::map_taken(c.systems, c.channels, k, v)),
-        Register::HostMap(k) => beyond_unless(cic_maps::map_taken(c.channels, c.hosts, k, v)),
+        Register::ChannelMap(k) => beyond_unless(cic_maps::channels_taken(c, k, v)),
+        Register::HostMap(k) => beyond_unless(cic_maps::hosts_taken(c, k, v)),
         Register::HostEnable(k) => steps::CARRIED_OUT,
     }
 }

@@ -3,14 +3,15 @@ use mathlib.Core.Path.{_≡_, sym, ap, ap₂, _∙_}
 use mathlib.Core.Bool.{Bool, true, not, _&&_, _||_}
 use mathlib.Core.List.{List}
 use mathlib.Core.Logic.{_≢_}
-use Prim.Native.Nat.{ℕ, _+_, _*_, _<_}
+use Prim.Native.Nat.{ℕ, _+_, _*_, _^_, _<_}
+use native.Mathlib.Nat.{lt-of-le-of-lt, mod-le}
 use lib.Dec.{ltb}
-use lib.ListN.{getD, set, length}
+use lib.ListN.{getD, set, length, length-set}
 use lib.Seq.{getD-set-same, getD-set-other}
 use Rattle.words.specs.Array.{bitAt, restAt, cleanBelow}
 use Rattle.words.specs.Word.{bit, either, without, kept}
 use Rattle.words.proofs.ArrayLaws.{bitAt-word, rest-ltb, clean-put, clean-word, clean-kept, clean-either, clean-without}
-use Rattle.words.proofs.WordLaws.{bit-either, bit-without, bit-kept}
+use Rattle.words.proofs.WordLaws.{bit-either, bit-without, bit-kept, either-lt, without-lt}
 use Rattle.cic_words.specs.Bits.{wordRead, bitsSet, bitsCleared, wordReplaced}
 
 -- ---- their bits
@@ -53,6 +54,33 @@ clear-no-other ws k v i d = getD-set-other ws k i (without (getD ws k 0) v) 0 d
 pub replace-no-other : (n : ℕ) (ws : List ℕ) (k v i : ℕ) → i ≢ k → getD (wordReplaced n ws k v) i 0 ≡ getD ws i 0
 unfolding wordReplaced
 replace-no-other n ws k v i d = getD-set-other ws k i (kept (restAt n k) v) 0 d
+
+-- ---- their lengths and widths
+
+pub same-lengths : (n : ℕ) (ws : List ℕ) (k v : ℕ) → (length (bitsSet n ws k v) ≡ length ws) × (length (bitsCleared ws k v) ≡ length ws) × (length (wordReplaced n ws k v) ≡ length ws)
+unfolding bitsSet bitsCleared wordReplaced
+same-lengths n ws k v = (
+  length-set ws k (either (getD ws k 0) (kept (restAt n k) v)),
+  length-set ws k (without (getD ws k 0) v),
+  length-set ws k (kept (restAt n k) v),
+)
+
+kept-word : (n w : ℕ) → w < 2 ^ 32 → kept n w < 2 ^ 32
+unfolding kept
+kept-word n w l = lt-of-le-of-lt (mod-le w (2 ^ n)) l
+
+pub read-word : (n : ℕ) (ws : List ℕ) (k : ℕ) → getD ws k 0 < 2 ^ 32 → wordRead n ws k < 2 ^ 32
+unfolding wordRead
+read-word n ws k l = kept-word (restAt n k) (getD ws k 0) l
+
+pub put-word : (n : ℕ) (ws : List ℕ) (k v : ℕ) → k < length ws → v < 2 ^ 32
+    → (getD (bitsSet n ws k v) k 0 < 2 ^ 32) × (getD (bitsCleared ws k v) k 0 < 2 ^ 32) × (getD (wordReplaced n ws k v) k 0 < 2 ^ 32)
+unfolding bitsSet bitsCleared wordReplaced
+put-word n ws k v l b = (
+  rw (getD-set-same ws k (either (getD ws k 0) (kept (restAt n k) v)) 0 l) (either-lt (getD ws k 0) (kept (restAt n k) v)),
+  rw (getD-set-same ws k (without (getD ws k 0) v) 0 l) (without-lt (getD ws k 0) v),
+  rw (getD-set-same ws k (kept (restAt n k) v) 0 l) (kept-word (restAt n k) v b),
+)
 
 -- ---- clean of spare bits
 

@@ -3,7 +3,7 @@ use mathlib.Core.Bool.{not, _&&_, _||_}
 use mathlib.Core.List.{List}
 use mathlib.Core.Logic.{_≢_}
 use mathlib.Core.Path.{_≡_}
-use Prim.Native.Nat.{ℕ, _+_, _*_, _<_}
+use Prim.Native.Nat.{ℕ, _+_, _*_, _^_, _<_}
 use lib.Dec.{ltb}
 use lib.ListN.{getD, length}
 use Rattle.words.specs.Array.{bitAt}
@@ -24,3 +24,9 @@ pub record Promises : Type 0 where
   pub setsNoOther : (n : ℕ) (ws : List ℕ) (k v i : ℕ) → i ≢ k → getD (bitsSet n ws k v) i 0 ≡ getD ws i 0
   pub clearsNoOther : (ws : List ℕ) (k v i : ℕ) → i ≢ k → getD (bitsCleared ws k v) i 0 ≡ getD ws i 0
   pub replacesNoOther : (n : ℕ) (ws : List ℕ) (k v i : ℕ) → i ≢ k → getD (wordReplaced n ws k v) i 0 ≡ getD ws i 0
+  -- nor does the number of words
+  pub lengths : (n : ℕ) (ws : List ℕ) (k v : ℕ) → (length (bitsSet n ws k v) ≡ length ws) × (length (bitsCleared ws k v) ≡ length ws) × (length (wordReplaced n ws k v) ≡ length ws)
+  -- what is read and what is put is a word of 32 bits
+  pub readsWord : (n : ℕ) (ws : List ℕ) (k : ℕ) → getD ws k 0 < 2 ^ 32 → wordRead n ws k < 2 ^ 32
+  pub putsWord : (n : ℕ) (ws : List ℕ) (k v : ℕ) → k < length ws → v < 2 ^ 32
+      → (getD (bitsSet n ws k v) k 0 < 2 ^ 32) × (getD (bitsCleared ws k v) k 0 < 2 ^ 32) × (getD (wordReplaced n ws k v) k 0 < 2 ^ 32)

@@ -61,11 +61,11 @@ returns-13 c = sym (ap (λ (x : Register). valueRefusal (c .before .before .befo
 
 returns-14 : tie.Need-returns-14
 unfolding valueRefusal
-returns-14 c = c .beyond-unless7 .ensures ∙ ap unless (c .before .map-taken .ensures) ∙ sym (ap (λ (x : Register). valueRefusal (c .before .before .before .before .before .args .c) x (c .before .before .before .before .before .args .v)) (c .before .before .before .r5 .given .1))
+returns-14 c = c .beyond-unless7 .ensures ∙ ap unless (c .before .channels-taken .ensures) ∙ sym (ap (λ (x : Register). valueRefusal (c .before .before .before .before .before .args .c) x (c .before .before .before .before .before .args .v)) (c .before .before .before .r5 .given .1))
 
 returns-15 : tie.Need-returns-15
 unfolding valueRefusal
-returns-15 c = c .beyond-unless8 .ensures ∙ ap unless (c .before .map-taken2 .ensures) ∙ sym (ap (λ (x : Register). valueRefusal (c .before .before .before .before .before .args .c) x (c .before .before .before .before .before .args .v)) (c .before .before .before .r6 .given .1))
+returns-15 c = c .beyond-unless8 .ensures ∙ ap unless (c .before .hosts-taken .ensures) ∙ sym (ap (λ (x : Register). valueRefusal (c .before .before .before .before .before .args .c) x (c .before .before .before .before .before .args .v)) (c .before .before .before .r6 .given .1))
 
 returns-16 : tie.Need-returns-16
 unfolding valueRefusal
