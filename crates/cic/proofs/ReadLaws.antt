@@ -22,6 +22,7 @@ use Rattle.cic_record.specs.Sound.{sound}
 use Rattle.cic_record.proofs.PartsLaws.{sound-parts}
 use Rattle.cic_record.proofs.Promises as of-record
 use Rattle.cic_maps.specs.Maps.{mapRead}
+use Rattle.cic_maps.proofs.Promises as maps
 use Rattle.cic_words.specs.Bits.{wordRead}
 use Rattle.cic_words.proofs.BitsLaws.{read-bit}
 use Rattle.cic_layout.specs.declared.Register.{Register}
@@ -29,7 +30,7 @@ use Rattle.cic_layout.specs.Map.{registerAt, ifAny, accessOf}
 use Rattle.cic_layout.proofs.AccessLaws.{is-there}
 use Rattle.cic_layout.proofs.Promises as layout
 use Rattle.cic_registers.specs.Registers.{valueOf}
-use Rattle.cic_registers.proofs.MapRegisterLaws.{read-bytes, read-fits}
+use Rattle.cic_registers.proofs.MapRegisterLaws.{read-bytes}
 use Rattle.cic.specs.Model.{read}
 use Rattle.cic.specs.Tables.{Shows, BitsOf, BytesOf, Reads}
 use Rattle.cic.proofs.StepLaws.{read-done}
@@ -75,7 +76,7 @@ bytes-fit m n limit es l size used spare i = go (decLt i n) (decLt i m)
 map-shown : (c : Cic) {a : Answer} (n : ℕ) (es : List ℕ) (k : ℕ) → ((i : ℕ) → getD es i 0 < 256) → a ≡ answered c (mapRead n es k)
     → Shows c a (λ w. (w < 2 ^ 32) × BytesOf n (λ i. getD es i 0) k w)
 map-shown c n es k fit e =
-    shows c (λ w. (w < 2 ^ 32) × BytesOf n (λ i. getD es i 0) k w) (mapRead n es k) e (read-fits n es k fit, λ j l. read-bytes n es k j fit l)
+    shows c (λ w. (w < 2 ^ 32) × BytesOf n (λ i. getD es i 0) k w) (mapRead n es k) e (maps.kept .readsWord n es k fit, λ j l. read-bytes n es k j fit l)
 
 -- ---- every register
 

@@ -23,13 +23,14 @@ use Rattle.cic_record.specs.Record.{withStatus, withEnable, withChannel, withHo
 use Rattle.cic_record.specs.Sound.{sound}
 use Rattle.cic_record.proofs.Promises as of-record
 use Rattle.cic_maps.specs.Maps.{mapPut}
+use Rattle.cic_maps.proofs.Promises as maps
 use Rattle.cic_words.specs.Bits.{bitsSet, bitsCleared, wordReplaced}
 use Rattle.cic_layout.specs.declared.Register.{Register}
 use Rattle.cic_layout.specs.Map.{registerAt, ifAny, accessOf}
 use Rattle.cic_layout.proofs.AccessLaws.{is-there}
 use Rattle.cic_layout.proofs.Promises as layout
 use Rattle.cic_registers.specs.Registers.{unless, valueRefusal, writtenTo}
-use Rattle.cic_registers.proofs.MapRegisterLaws.{put-bytes, put-length}
+use Rattle.cic_registers.proofs.MapRegisterLaws.{put-bytes}
 use Rattle.cic_registers.proofs.WrittenLaws.{taken-if}
 use Rattle.cic.specs.Model.{write}
 use Rattle.cic.specs.Tables.{Sets, Maps, Writes}
@@ -110,7 +111,7 @@ module _ {a : Answer} (put : List ℕ → Cic) (ws : List ℕ) where
 
   map-put : (n k v : ℕ) → n ≤ length ws → a ≡ answered (put (mapPut n k v ws)) 0
       → Maps a put ws (λ i. pick (eqb (i / 4) k && ltb i n) (byteOf v (i % 4)) (getD ws i 0))
-  map-put n k v l e = record { map = mapPut n k v ws; done = e; size = put-length n k v ws; bytes = λ i. put-bytes n k v ws i l }
+  map-put n k v l e = record { map = mapPut n k v ws; done = e; size = maps.kept .putsLength n k v ws; bytes = λ i. put-bytes n k v ws i l }
 
 -- ---- every register
 

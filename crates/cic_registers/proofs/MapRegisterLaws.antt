@@ -1,21 +1,19 @@
 -- Map registers byte by byte: what they read, and what a write puts.
-use mathlib.Core.Path.{_≡_, refl, sym, ap, _∙_}
+use mathlib.Core.Path.{_≡_, sym, ap, _∙_}
 use mathlib.Core.Bool.{Bool, false, _&&_}
 use mathlib.Core.List.{List}
-use Prim.Native.Nat.{ℕ, _+_, _*_, _/_, _%_, _^_, _<_, _≤_}
+use Prim.Native.Nat.{ℕ, _+_, _*_, _/_, _%_, _<_, _≤_}
 use native.Mathlib.Decide.{decLt, ℕ-discrete}
 use native.Mathlib.Nat.{mod-lt}
 use native.Mathlib.Omega.{arith}
 use borrow.Author.Tests.{eq-eqb, ne-eqb, lt-ltb, le-ltb}
 use lib.Dec.{eqb, ltb}
-use lib.ListN.{getD, length, length-set}
+use lib.ListN.{getD, length}
 use Rattle.words.specs.Array.{byteOf}
 use Rattle.words.specs.Choice.{pick}
-use Rattle.words.specs.Counting.{upto}
-use Rattle.words.proofs.ChoiceLaws.{pick-true, pick-false, pick-cases}
+use Rattle.words.proofs.ChoiceLaws.{pick-true, pick-false}
 use Rattle.words.proofs.TruthLaws.{and-both}
-use Rattle.cic_maps.specs.Maps.{byteRead, mapRead, bytePut, mapPut}
-use Rattle.cic_maps.proofs.MapLaws.{read-four}
+use Rattle.cic_maps.specs.Maps.{mapRead, mapPut}
 use Rattle.cic_maps.proofs.Promises as maps
 
 -- the four bytes that are read
@@ -25,24 +23,6 @@ read-bytes n m k j b l = go (decLt (4 * k + j) n)
     go : Dec (4 * k + j < n) → byteOf (mapRead n m k) j ≡ pick (ltb (4 * k + j) n) (getD m (4 * k + j) 0) 0
     go (yes u) = maps.kept .reads n m k j b l u ∙ pick-true 0 (lt-ltb (4 * k + j) n u)
     go (no u) = maps.kept .readsSpare n m k j b l (omega arith) ∙ pick-false (getD m (4 * k + j) 0) (le-ltb (4 * k + j) n (omega arith))
-
--- they are one word
-pub read-fits : (n : ℕ) (m : List ℕ) (k : ℕ) → ((i : ℕ) → getD m i 0 < 256) → mapRead n m k < 2 ^ 32
-read-fits n m k b =
-    let e = read-four n m k (byteRead n m k 0) (byteRead n m k 1) (byteRead n m k 2) (byteRead n m k 3) refl refl refl refl in
-    omega (arith, e, byte-fits 0, byte-fits 1, byte-fits 2, byte-fits 3)
-  where
-    byte-fits : (j : ℕ) → byteRead n m k j < 256
-    byte-fits j = unfold byteRead in (pick-cases (λ (x : ℕ). x < 256) (ltb (4 * k + j) n) (λ _. b (4 * k + j)) (λ _. omega arith))
-
--- a write keeps the number of bytes
-pub put-length : (n k v : ℕ) (m : List ℕ) → length (mapPut n k v m) ≡ length m
-unfolding mapPut upto
-put-length n k v m = one (upto (bytePut n k v) m 3) 3 ∙ one (upto (bytePut n k v) m 2) 2 ∙ one (upto (bytePut n k v) m 1) 1 ∙ one m 0
-  where
-    one : (x : List ℕ) (j : ℕ) → length (bytePut n k v x j) ≡ length x
-    one x j =
-        unfold bytePut in (pick-cases (λ (y : List ℕ). length y ≡ length x) (ltb (4 * k + j) n) (λ _. length-set x (4 * k + j) (byteOf v j)) (λ _. refl))
 
 -- every byte after a write
 pub put-bytes : (n k v : ℕ) (m : List ℕ) (i : ℕ) → n ≤ length m → getD (mapPut n k v m) i 0 ≡ pick (eqb (i / 4) k && ltb i n) (byteOf v (i % 4)) (getD m i 0)

@@ -25,7 +25,6 @@ use Rattle.cic_words.proofs.BitsLaws.{clean-bitsSet, clean-bitsCleared, clean-w
 use Rattle.cic_layout.specs.declared.Register.{Register}
 use Rattle.cic_layout.specs.declared.Register.the-variants.{Nothing, Revision, GlobalEnable, StatusIndexSet, StatusIndexClear, EnableIndexSet, EnableIndexClear, HostIndexSet, HostIndexClear, RawSet, EnabledClear, EnableSet, EnableClear, ChannelMap, HostMap, HostEnable}
 use Rattle.cic_registers.specs.Registers.{unless, valueRefusal, writtenTo}
-use Rattle.cic_registers.proofs.MapRegisterLaws.{put-length}
 
 -- what is not refused passed the test
 pub passes : (t : Bool) → unless t ≡ carriedOut → t ≡ true
@@ -140,6 +139,6 @@ shaped-written c (RawSet k) v s = (s .0, length-set (c .status) k _ ∙ s .1, s 
 shaped-written c (EnabledClear k) v s = (s .0, length-set (c .status) k _ ∙ s .1, s .2, s .3, s .4, s .5)
 shaped-written c (EnableSet k) v s = (s .0, s .1, length-set (c .enable) k _ ∙ s .2, s .3, s .4, s .5)
 shaped-written c (EnableClear k) v s = (s .0, s .1, length-set (c .enable) k _ ∙ s .2, s .3, s .4, s .5)
-shaped-written c (ChannelMap k) v s = (s .0, s .1, s .2, put-length (c .systems) k v (c .channel) ∙ s .3, s .4, s .5)
-shaped-written c (HostMap k) v s = (s .0, s .1, s .2, s .3, put-length (c .channels) k v (c .host) ∙ s .4, s .5)
+shaped-written c (ChannelMap k) v s = (s .0, s .1, s .2, maps.kept .putsLength (c .systems) k v (c .channel) ∙ s .3, s .4, s .5)
+shaped-written c (HostMap k) v s = (s .0, s .1, s .2, s .3, maps.kept .putsLength (c .channels) k v (c .host) ∙ s .4, s .5)
 shaped-written c (HostEnable k) v s = (s .0, s .1, s .2, s .3, s .4, length-set (c .allow) k _ ∙ s .5)
