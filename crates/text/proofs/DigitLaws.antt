@@ -25,10 +25,10 @@ unfolding hexOf
 hex-none zero v e = refl
 hex-none (suc k) v e = absurd (omega arith)
 
-pub hex-more : (k v : ℕ) → (k ≡ 0 → ⊥) → hexOf (k - 1) (v / 16) ++ (hexDigit (v % 16) ∷ []) ≡ hexOf k v
+pub hex-more : (k v : ℕ) {d : ℕ} → (k ≡ 0 → ⊥) → d ≡ hexDigit (v % 16) → hexOf (k - 1) (v / 16) ++ (d ∷ []) ≡ hexOf k v
 unfolding hexOf
-hex-more zero v h = absurd (h refl)
-hex-more (suc k) v h = simp sub-one
+hex-more zero v h e = absurd (h refl)
+hex-more (suc k) v h e = rw (e, sub-one)
 
 pub decimal-none : (k n : ℕ) → k ≡ 0 → [] ≡ decimalOf k n
 unfolding decimalOf

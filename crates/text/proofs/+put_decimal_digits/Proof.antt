@@ -39,4 +39,5 @@ pub +put-decimal-digits-spec : {M : Type 1} → statement M
     (λ c.
     let p = c .before .before in
     let h = p .before .before .before .before in
-    cc (and-then _ _ _ (h .put-decimal-digits .ensures) (p .put2 .ensures), decimal-more _ _ (h .before .before .before .if1 .left) (h .before .before .if2 .left)))
+    and-then _ _ _ (h .put-decimal-digits .ensures) (p .put2 .ensures)
+    ∙ ap (write _) (decimal-more _ _ (h .before .before .before .if1 .left) (h .before .before .if2 .left)))

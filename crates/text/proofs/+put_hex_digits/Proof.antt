@@ -33,5 +33,5 @@ pub +put-hex-digits-spec : {M : Type 1} → statement M
     (λ c.
     let p = c .before .before in
     let h = p .before .before .before .before .before in
-    let a = h .before .before .before .before .args in
-    cc (and-then _ _ _ (h .put-hex-digits .ensures) (p .put .ensures), hex-more (a .digits) (a .v) (h .before .before .if1 .left)))
+    and-then _ _ _ (h .put-hex-digits .ensures) (p .put .ensures)
+    ∙ ap (write _) (hex-more _ _ (h .before .before .if1 .left) (p .before .digit .ensures)))
