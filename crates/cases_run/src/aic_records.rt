@@ -72,7 +72,7 @@ fn words(s: Aic) {
     stored(s, 0, 0, 0, 2);
 }
 
-// Of an unsound record 12 stands before every other number: a misaligned read, a write of protect mode, a line too far; and for the outputs.
+// Of an unsound record 12 stands before every other number, and its outputs are refused too.
 fn first_of_all(s: Aic) {
     let r = aic::read(s, 0x119);
     say::one(0x119, r.refusal);

@@ -43,59 +43,52 @@ fn side(count: u32, inputs: u32, soft: u32, enable: u32) -> Side {
     }
 }
 
-fn fiq(count: u32, inputs: u32, soft: u32, enable: u32) {
-    let refusal = look(
-        side(count, inputs, soft, enable),
-        coreinterrupt_side::idle(0, 0),
-    );
-    say::four(count, inputs, soft, enable, refusal);
+// This side as the FIQ side and as the IRQ side, the other without sources.
+fn both(count: u32, inputs: u32, soft: u32, enable: u32) {
+    let g = side(count, inputs, soft, enable);
+    let none = coreinterrupt_side::idle(0, 0);
+    say::four(count, inputs, soft, enable, look(g, none));
+    say::four(count, inputs, soft, enable, look(none, g));
 }
 
-fn irq(count: u32, inputs: u32, soft: u32, enable: u32) {
-    let refusal = look(
-        coreinterrupt_side::idle(0, 0),
-        side(count, inputs, soft, enable),
-    );
-    say::four(count, inputs, soft, enable, refusal);
-}
-
-// The last bit of 5 FIQ sources and of 31 IRQ sources, and the one after it.
+// The last bit of 5 sources, and of 31, which only the IRQ side can have, and the one after it.
 fn words() {
-    fiq(5, 0x10, 0x10, 0x10);
-    fiq(5, 0x20, 0, 0);
-    fiq(5, 0, 0x20, 0);
-    fiq(5, 0, 0, 0x20);
-    irq(31, 0x40000000, 0x40000000, 0x40000000);
-    irq(31, 0x80000000, 0, 0);
-    irq(31, 0, 0x80000000, 0);
-    irq(31, 0, 0, 0x80000000);
+    both(5, 0x10, 0x10, 0x10);
+    both(5, 0x20, 0, 0);
+    both(5, 0, 0x20, 0);
+    both(5, 0, 0, 0x20);
+    both(31, 0x40000000, 0x40000000, 0x40000000);
+    both(31, 0x80000000, 0, 0);
+    both(31, 0, 0x80000000, 0);
+    both(31, 0, 0, 0x80000000);
 }
 
-// Of an unsound record 12 stands before every other number: a misaligned read, a write of a read-only register, a line too far; and for the outputs.
-fn first_of_all(c: Core) {
+// Of an unsound record 12 stands before every other number, and its outputs are refused too.
+fn first_of_all() {
+    let c = Core {
+        fiq: coreinterrupt_side::idle(8, 2),
+        irq: coreinterrupt_side::idle(32, 1),
+    };
     let r = coreinterrupt::read(c, 0x031);
     say::one(0x031, r.refusal);
-    let w = coreinterrupt::write(c, 0x010, 1);
-    say::one(0x010, w.refusal);
-    let l = coreinterrupt::line(c, 40, 1);
-    say::one(40, l.refusal);
     let o = coreinterrupt::outputs(c);
     say::one(0, o.refusal);
+}
+
+fn levels() {
+    counts(8, 1);
+    counts(8, 2);
+    counts(9, 0);
+    counts(32, 0);
+    counts(33, 0);
 }
 
 pub(crate) fn all() {
     say::heading(b"COREINTERRUPT starts\n");
     starts();
     say::heading(b"FIQ count and level, IRQ count and level\n");
-    counts(8, 1);
-    counts(8, 2);
-    counts(9, 0);
-    counts(32, 0);
-    counts(33, 0);
+    levels();
     say::heading(b"count, inputs, soft, enable\n");
     words();
-    first_of_all(Core {
-        fiq: coreinterrupt_side::idle(8, 2),
-        irq: coreinterrupt_side::idle(32, 1),
-    });
+    first_of_all();
 }
