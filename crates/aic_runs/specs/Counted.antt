@@ -64,7 +64,7 @@ commands i s (Read o) = false
 commands i s (Write o v) = carried s (Write o v) && eqb o iscr && bit v i
 commands i s (Line k l) = false
 
--- a write of a source mode, or of one of the registers that force and unforce sources (01, demand 3; 003, 27.8.3 and 27.7.4.5)
+-- a write of a source mode, or of one of the registers that force and unforce sources (demand 3; 003, 27.8.3 and 27.7.4.5)
 unfoldable pub rewrites : Aic → Step → Bool
 rewrites s (Read o) = false
 rewrites s (Write o v) = carried s (Write o v) && (ltb o svr || eqb o ffer || eqb o ffdr)
@@ -74,6 +74,6 @@ rewrites s (Line k l) = false
 unfoldable pub steady : Aic → Step → Bool
 steady s x = not (rewrites s x)
 
--- source k waits, pending, enabled and not fast, before a step that rewrites no mode and no forcing (01, demand 3)
+-- source k waits, pending, enabled and not fast, before a step that rewrites no mode and no forcing (demand 3)
 unfoldable pub waits : ℕ → Aic → Step → Bool
 waits k s x = waiting s k && steady s x

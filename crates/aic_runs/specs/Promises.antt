@@ -1,4 +1,4 @@
--- What is promised of every run of the AT91 controller, sentence by sentence (01, demand 3).
+-- What is promised of every run of the AT91 controller, sentence by sentence (docs/DEMANDS.md, demand 3).
 use Prim.Native.Nat.{ℕ, zero, suc, _+_, _-_, _*_, _^_, _≤_, _<_}
 use mathlib.Core.Path.{_≡_}
 use mathlib.Core.Bool.{Bool, true, false, not, _&&_}
@@ -45,7 +45,7 @@ aheadOf s k i = ahead s i k
 abbrev pub rivalOf : Aic → ℕ → ℕ → Bool
 rivalOf s k i = ahead s i k && not (fast s i)
 
--- what a step x counts as in the record s that it meets; refused, it counts as nothing (01, demand 3; AIC, Pending and Normal side)
+-- what a step x counts as in the record s that it meets; refused, it counts as nothing (demand 3; AIC, Pending and Normal side)
 pub record Counts (s : Aic) (x : Step) : Type 0 where
   -- a start: a read of IVR with a candidate (003, 27.7.3.1)
   pub start : (starts s x ≡ true) ↔ ((x ≡ Read 0x100) × (step s x .refusal ≡ 0) × SomeCandidate s)
@@ -106,13 +106,13 @@ pub record Promises : Type 1 where
   pub counts : (s : Aic) (x : Step) → Counts s x
   pub gathers : Gathers
   -- after any run from reset the open handlers are the starts less the closes that found one open, and the closes are no more than the starts
-  -- (01, demand 3, first sentence)
+  -- (demand 3, first sentence)
   pub handlers : (external lines : ℕ) (xs : List Step)
       → (run (reset external lines) xs .depth ≡ count starts (reset external lines) xs - count closes (reset external lines) xs)
       × (count closes (reset external lines) xs ≤ count starts (reset external lines) xs)
   -- from any record, sound or not: the handlers open after a run and its closes are the handlers open before it and its starts
   pub balance : (s : Aic) (xs : List Step) → run s xs .depth + count closes s xs ≡ s .depth + count starts s xs
-  -- after any run from reset the levels rise strictly and are at most 7, so never more than eight handlers are open (01, demand 3, first sentence)
+  -- after any run from reset the levels rise strictly and are at most 7, so never more than eight handlers are open (demand 3, first sentence)
   pub nested : (external lines : ℕ) (xs : List Step) → Nested (run (reset external lines) xs)
   -- and so it is after any run from a sound record, whose arrays have their lengths
   pub nestedOn : (s : Aic) → Shaped s → sound s ≡ true → (xs : List Step) → Nested (run s xs)
@@ -134,13 +134,13 @@ pub record Promises : Type 1 where
   pub otherIs : (s : Aic) (x : Step) → starts s x ≡ false → closes s x ≡ false
       → (step s x .aic .source ≡ s .source) × (step s x .aic .level ≡ s .level) × (step s x .aic .depth ≡ s .depth)
   -- while source k stays pending, enabled and not fast (so it is not source 0), and no step rewrites a mode or the forcing, every handler
-  -- that is started is of k itself or of a source ahead of k; from any record, sound or not (01, demand 3, second sentence)
+  -- that is started is of k itself or of a source ahead of k; from any record, sound or not (demand 3, second sentence)
   pub order : (s : Aic) (k : ℕ) (xs : List Step) → k < 32 → always (waits k) s xs ≡ true → EachStart (λ j. j ≢ k → ahead s j k ≡ true) s xs
   -- an edge-triggered source starts no more than it is owed and receives, and what it is owed in the end is left over
   pub perSource : (s : Aic) (i : ℕ) (xs : List Step) → i < 32 → edge s i ≡ true → always steady s xs ≡ true
       → count (startsOf i) s xs + owed (run s xs) i ≤ owed s i + received i s xs
   -- so, if all sources ahead of k are edge-triggered, the starts of others while k waits are at most the sources ahead that are pending at
-  -- the outset, plus the edges and the set commands that the sources ahead receive meanwhile (01, demand 3, third sentence)
+  -- the outset, plus the edges and the set commands that the sources ahead receive meanwhile (demand 3, third sentence)
   pub bound : (s : Aic) (k : ℕ) (xs : List Step) → k < 32 → always (waits k) s xs ≡ true → EdgeTriggered s (aheadOf s k)
       → count (startsOther k) s xs ≤ sumOver (aheadOf s k) (λ i. owed s i + received i s xs)
   -- the same for less: only the sources ahead that are not fast need be edge-triggered, and only theirs is counted
