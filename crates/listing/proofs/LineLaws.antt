@@ -33,6 +33,13 @@ unfolding textFrom linesFrom joined
 text-after n m x t =
     sym (append-assoc (stepLine (n + 1) x (step m x)) (joined (linesFrom (n + 1) (step m x .machine) (t .steps))) (endOf (t .refusal) (t .offset)))
 
+-- the line of a step, its three parts made one by one
+line-made : (n : ℕ) (x : Step) (a : Answer) (l v : ℕ) (c : Columns) → l ≡ letter x (a .refusal) → v ≡ shownValue (a .refusal) (a .value)
+    → c ≡ shown (a .machine) → lineOf n l v c ≡ stepLine n x a
+line-made n x a l v c el ev ec =
+    ap (λ (k : ℕ). lineOf n k v c) el ∙ ap (λ (k : ℕ). lineOf n (letter x (a .refusal)) k c) ev
+    ∙ ap (lineOf n (letter x (a .refusal)) (shownValue (a .refusal) (a .value))) ec
+
 -- the two ways of a turn: the end; a step
 module _ (n : ℕ) (m : Machine) (left : ℕ) (s : List ℕ) (at : ℕ) where
   pub text-ended : (refusal p : ℕ) → turnAt s at left ≡ Ended refusal p → endOf refusal p ≡ textFrom n m (stepsFrom left s at)
@@ -43,19 +50,13 @@ module _ (n : ℕ) (m : Machine) (left : ℕ) (s : List ℕ) (at : ℕ) where
   text-found x p e = text-after n m x (stepsFrom (left - 1) s p) ∙ ap (textFrom n m) (sym (trace-found left s at x p e))
 
   -- a turn that lists a step: q is what its line makes of o, and w is what the whole listing leaves
-  pub listed : (x : Step) (p : ℕ) (a : Answer) (o q w : List ℕ × ℕ) → turnAt s at left ≡ Found x p → a ≡ step m x → q ≡ write o (stepLine (n + 1) x a)
+  pub listed : (x : Step) (p : ℕ) (a : Answer) (o q w : List ℕ × ℕ) (l v : ℕ) (c : Columns) → turnAt s at left ≡ Found x p → a ≡ step m x
+      → l ≡ letter x (a .refusal) → v ≡ shownValue (a .refusal) (a .value) → c ≡ shown (a .machine) → q ≡ write o (lineOf (n + 1) l v c)
       → write o (textFrom n m (stepsFrom left s at)) ≡ w → write q (textFrom (n + 1) (a .machine) (stepsFrom (left - 1) s p)) ≡ w
-  listed x p a o q w e g eq ew =
-      rest-of o q (stepLine (n + 1) x a) (textFrom (n + 1) (a .machine) (stepsFrom (left - 1) s p)) eq
+  listed x p a o q w l v c e g el ev ec eq ew =
+      rest-of o q (stepLine (n + 1) x a) (textFrom (n + 1) (a .machine) (stepsFrom (left - 1) s p)) (eq ∙ ap (write o) (line-made (n + 1) x a l v c el ev ec))
       ∙ ap (λ (b : Answer). write o (stepLine (n + 1) x b ++ textFrom (n + 1) (b .machine) (stepsFrom (left - 1) s p))) g
       ∙ ap (write o) (text-found x p e) ∙ ew
-
--- the line of a step, its three parts made one by one
-pub line-made : (n : ℕ) (x : Step) (a : Answer) (l v : ℕ) (c : Columns) → l ≡ letter x (a .refusal) → v ≡ shownValue (a .refusal) (a .value)
-    → c ≡ shown (a .machine) → lineOf n l v c ≡ stepLine n x a
-line-made n x a l v c el ev ec =
-    ap (λ (k : ℕ). lineOf n k v c) el ∙ ap (λ (k : ℕ). lineOf n (letter x (a .refusal)) k c) ev
-    ∙ ap (lineOf n (letter x (a .refusal)) (shownValue (a .refusal) (a .value))) ec
 
 -- ---- the whole listing, by its beginning
 

@@ -1,14 +1,11 @@
 // The listing of a recorded trace, as text in a buffer that the caller lends (01, "House trace").
 ghost use mathlib.Core.Path.{_≡_};
-ghost use mathlib.Core.Bool.{true};
 ghost use mathlib.Core.List.{_++_};
 ghost use Rattle.text.specs.Text.{write, laid};
 ghost use Rattle.trace.specs.Trace.{stepsFrom};
 ghost use Rattle.kinds.specs.Kinds.{name};
-ghost use Rattle.machine.specs.Machine.{sound};
 ghost use Rattle.machine.specs.Promises.{Ready};
-ghost use Rattle.listing.specs.Listing.{letterOf, letter, shownValue, lineOf, stepLine, endLine, endOf, textFrom, listingOf};
-use machine::Answer;
+ghost use Rattle.listing.specs.Listing.{letterOf, letter, shownValue, lineOf, endLine, endOf, textFrom, listingOf};
 use machine::Columns;
 use machine::Machine;
 use player::Begun;
@@ -67,21 +64,12 @@ fn list_steps(
                 at = next;
                 left = left - 1;
                 count = count + 1;
-                to = put_step(out, to, count, x, a);
+                let letter = letter_of(x, a.refusal);
+                let value = shown_value(a.refusal, a.value);
+                to = put_line(out, to, count, letter, value, machine::shown_sound(m));
             }
         }
     }
-}
-
-// The line of a step by what it answered; the three numbers are those of the machine after it.
-fn put_step(out: &mut [u8], at: usize, n: u32, x: Step, a: Answer) -> usize
-    requires { ⌜ sound (a .machine) ≡ true ⌝ }
-    ensures { λ r. ⌜ (now (out .exit), r) ≡ write (now (out .entry), at) (stepLine n x a) ⌝ }
-{
-    let m = a.machine;
-    let letter = letter_of(x, a.refusal);
-    let value = shown_value(a.refusal, a.value);
-    put_line(out, at, n, letter, value, machine::shown_sound(m))
 }
 
 // The line of a step: its number, its letter, the value in eight digits, and the machine's three numbers.

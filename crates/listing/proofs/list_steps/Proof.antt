@@ -36,23 +36,25 @@ add-count : tie.Need-add-count Inv-loop μ-loop
 add-count c = let m = c .before .before .before .before .before in
     omega (arith, turn-found _ _ _ _ _ (sym (m .turn-at .ensures) ∙ c .before .before .before .x .given .1) .1 .0)
 
-put-step-requires : tie.Need-put-step-requires Inv-loop μ-loop
-put-step-requires c κs = let a = c .before .before in
+shown-sound-requires : tie.Need-shown-sound-requires Inv-loop μ-loop
+shown-sound-requires c κs = let a = c .before .before .before .before in
     let l = a .before .before .before .before .before .loop in
     rw (a .step-sound .ensures) (step-ready _ _ (l .inv .3) .0)
 
 loop-less : tie.Need-loop-less Inv-loop μ-loop
-loop-less c = let a = c .before .before .before .before .before in
+loop-less c = let a = c .before .before .before .before .before .before .before .before in
     let m = a .before .before .before .before in
     omega (arith, turn-found _ _ _ _ _ (sym (m .turn-at .ensures) ∙ a .before .before .x .given .1) .1 .0)
 
 loop-again : tie.Need-loop-again Inv-loop μ-loop
 loop-again c = let p = c .before .before in
-    let a = p .before .before .before in
+    let v = p .before .before .before in
+    let a = v .before .before .before in
     let m = a .before .before .before .before in
     let e = sym (m .turn-at .ensures) ∙ a .before .before .x .given .1 in
     let l = m .before .loop in (
-      listed _ _ _ _ _ _ _ _ _ _ _ e (a .step-sound .ensures) (p .put-step .ensures) (l .inv .0),
+      listed _ _ _ _ _ _ _ _ _ _ _ _ _ _ e (a .step-sound .ensures) (v .before .letter-of .ensures) (v .shown-value .ensures) (p .before .shown-sound .ensures)
+          (p .put-line .ensures) (l .inv .0),
       search needs,
       omega (arith, turn-found _ _ _ _ _ e .1 .0),
       rw (a .step-sound .ensures) (step-ready _ _ (l .inv .3)),
@@ -74,6 +76,9 @@ list-steps-spec =
     (λ c κs. search needs)
     sub-left
     add-count
-    put-step-requires
+    (λ c κs. search needs)
+    (λ c κs. search needs)
+    shown-sound-requires
+    (λ c κs. search needs)
     loop-less
     loop-again)
