@@ -1,6 +1,7 @@
 // The AT91 controller's registers: what each allows, what a read of it answers, and what a write of it or a line step does.
 ghost use mathlib.Core.Path.{_≡_};
 ghost use Rattle.aic_registers.specs.Handlers.{answered, refused};
+
 pub mod effects;
 pub mod handlers;
 pub mod map;
