@@ -31,7 +31,8 @@ MaskFree (Write o v) = o ≢ 0x138
 MaskFree (Line k l) = Unit {0}
 
 pub record Promises : Type 0 where
-  -- two configuration numbers, each any word; no start is refused, and its record is sound (01, AIC, Configuration)
+  -- two configuration numbers, each any word; no start is refused; its record is that after reset, field by field, and it is sound
+  -- (01, AIC, Configuration)
   pub configuration : (nth value : ℕ) → (within nth value ≡ true) ↔ (nth < 2)
   pub startTaken : (external lines : ℕ) → start external lines .refusal ≡ 0
   pub startIs : (external lines : ℕ) → Fresh external lines (start external lines .aic)

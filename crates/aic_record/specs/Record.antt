@@ -1,4 +1,4 @@
--- The record with one of its parts put anew, and the record after reset. Each literal stands here once.
+-- The record with one of its parts put anew, and the record after reset.
 use Prim.Native.Nat.{ℕ}
 use mathlib.Core.List.{List}
 use lib.ListN.{replicate}

@@ -2,31 +2,10 @@
 ghost use mathlib.Core.Path.{_≡_};
 ghost use Prim.Native.Nat.{_≤_, _<_};
 ghost use Rattle.aic_record.specs.Mode.{priority};
-ghost use Rattle.aic_registers.specs.Handlers.{answered, refused, forgotten, spent, startedAt, ended, vectorAt, ivrRead, fastSpent, fvrRead, current};
+ghost use Rattle.aic_registers.specs.Handlers.{answered, forgotten, spent, startedAt, ended, vectorAt, ivrRead, fastSpent, fvrRead, current};
 use super::Answer;
+use super::answer_of;
 use aic_record::Aic;
-
-// The answer of a step that is carried out.
-pub fn answer_of(s: Aic, v: u32) -> Answer
-    ensures { λ r. ⌜ r ≡ answered s v ⌝ }
-{
-    Answer {
-        refusal: steps::CARRIED_OUT,
-        value: v,
-        aic: s,
-    }
-}
-
-// The answer of a step that is refused by number n.
-pub fn refusal_of(s: Aic, n: u32) -> Answer
-    ensures { λ r. ⌜ r ≡ refused s n ⌝ }
-{
-    Answer {
-        refusal: n,
-        value: 0,
-        aic: s,
-    }
-}
 
 // The memory of source k is cleared.
 pub(crate) fn forget(s: Aic, k: u32) -> Aic

@@ -102,7 +102,7 @@ fn choose(t: bool, a: u32, b: u32) -> u32
 }
 
 // Of the waiting sources whose priority is at least the floor the one ahead of all others, 32 if there is none.
-// The floor rises above each priority that is taken, so an equal priority of a higher number does not take its place.
+// The floor rises above each priority that is taken, so an equal priority of a higher number does not oust it.
 fn search(waiting: u32, mode: &[u8; 32], least: u32) -> u32
     ensures { λ r. ⌜ Found waiting (now (mode .entry)) least 32 r ⌝ }
 {

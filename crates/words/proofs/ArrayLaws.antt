@@ -59,9 +59,9 @@ pub zeros-bitAt : (n h : ℕ) → bitAt (replicate n 0) h ≡ false
 unfolding bitAt
 zeros-bitAt n h = ap (λ (w : ℕ). bit w (h % 32)) (zeros-getD n (h / 32)) ∙ bit-none (h % 32)
 
--- ---- a rule for every place of an array
+-- ---- a rule for every word of an array
 
--- one place is put anew, and keeps the rule
+-- one word is put anew, and keeps the rule
 pub all-put : (p : ℕ → ℕ → Bool) (m : ℕ) (ws : List ℕ) (k x : ℕ) → allBelow m (λ i. p i (getD ws i 0)) ≡ true → (k < m → p k x ≡ true)
     → allBelow m (λ i. p i (getD (set ws k x) i 0)) ≡ true
 all-put p m ws k x all new = at-all m (λ i. p i (getD (set ws k x) i 0)) (λ i l. go i l (all-at m (λ j. p j (getD ws j 0)) all i l) (ℕ-discrete i k) (decLt k (length ws)))

@@ -1,4 +1,4 @@
--- A word that is shifted to the right, bit by bit: what is left after i places.
+-- A word that is shifted to the right, bit by bit: what is left after i bits.
 use mathlib.Core.Path.{_≡_, sym, ap, _∙_}
 use mathlib.Core.Bool.{Bool, false, _&&_, _||_, or-false}
 use Prim.Native.Nat.{ℕ, _+_, _-_, _/_, _%_, _^_, _≤_, _<_}
@@ -10,12 +10,12 @@ use Rattle.words.specs.Counting.{anyBelow}
 use Rattle.words.specs.Word.{bit}
 use Rattle.words.proofs.CountingLaws.{any-none, any-add}
 
--- nothing is left after i places: no bit from i on
+-- nothing is left after i bits: none is set from i on
 pub bit-gone : (w i j : ℕ) → w / 2 ^ i ≡ 0 → bit w (i + j) ≡ false
 unfolding bit
 bit-gone w i j e = ap (λ (n : ℕ). eqb (n % 2) 1) (sym (shr-shr w i j) ∙ ap (λ (n : ℕ). n / 2 ^ j) e ∙ zero-div (2 ^ j))
 
--- something is left: i is a place of the word
+-- something is left: i is below the width
 pub bit-left : (n w i : ℕ) → w < 2 ^ n → (w / 2 ^ i ≡ 0 → ⊥) → i < n
 bit-left n w i f l = lt-of-not-le (λ g. l (div-eq-of-lt (lt-of-lt-of-le f (pow-mono g))))
 
