@@ -1,5 +1,5 @@
 -- A record that is not sound: every step is refused by 12.
-use mathlib.Core.Path.{_≡_, refl}
+use mathlib.Core.Path.{_≡_}
 use mathlib.Core.Bool.{false}
 use Prim.Native.Nat.{ℕ}
 use Rattle.words.specs.Choice.{pick}

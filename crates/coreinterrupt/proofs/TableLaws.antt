@@ -16,7 +16,7 @@ use Rattle.coreinterrupt_side.specs.Side.{sideAccess, sideRead, setBits, clearB
 use Rattle.coreinterrupt_side.specs.Promises.{Rules}
 use Rattle.coreinterrupt_side.proofs.SideLaws.{clears-hidden, clears-shown, clear-writable, set-bit, clear-bit, set-word, clear-word, line-bit, line-word, line-only, sound-rules}
 use Rattle.coreinterrupt.specs.declared.Core.{Core}
-use Rattle.coreinterrupt.specs.Model.{coreOf, side, withSide, sound, answered, fiqOffset, register, access, valueAt, written, read, write, fiqLine, input, lineMoved, line}
+use Rattle.coreinterrupt.specs.Model.{coreOf, side, withSide, sound, answered, fiqOffset, register, access, valueAt, written, read, write, input, lineMoved, line}
 use Rattle.coreinterrupt.specs.Tables.{Sets, MapTable, Reads, Writes, Lines}
 use Rattle.coreinterrupt.proofs.AnswerLaws.{carried}
 use Rattle.coreinterrupt.proofs.ModelLaws.{registers, fiq-sound, irq-sound, fiq-line, irq-line}

@@ -31,13 +31,25 @@ pub record Promises : Type 0 where
   -- a start with all numbers within their limits has them in its record, the lines low and the registers 0 (01, CoreInterrupt; 004, table 3)
   pub startTaken : (f i fl il : ℕ) → f ≤ 8 → i ≤ 32 → fl ≤ 1 → il ≤ 1
       → start f i fl il
-      ≡ record { refusal = carriedOut; core = record { fiq = record { count = f; level = fl; inputs = 0; soft = 0; enable = 0 }; irq = record { count = i; level = il; inputs = 0; soft = 0; enable = 0 } } }
+      ≡ record {
+        refusal = carriedOut;
+        core = record {
+          fiq = record { count = f; level = fl; inputs = 0; soft = 0; enable = 0 };
+          irq = record { count = i; level = il; inputs = 0; soft = 0; enable = 0 };
+        };
+      }
   -- it is refused by 10 exactly if some number is beyond its limit (01, Numbers)
   pub startRefused : (f i fl il : ℕ) → (start f i fl il .refusal ≡ misconfigured) ↔ ((8 < f) ⊎ ((32 < i) ⊎ ((1 < fl) ⊎ (1 < il))))
   -- a refused start answers a record whose numbers are all 0 (01, Numbers)
   pub startZeros : (f i fl il : ℕ) → start f i fl il .refusal ≢ carriedOut
       → start f i fl il
-      ≡ record { refusal = misconfigured; core = record { fiq = record { count = 0; level = 0; inputs = 0; soft = 0; enable = 0 }; irq = record { count = 0; level = 0; inputs = 0; soft = 0; enable = 0 } } }
+      ≡ record {
+        refusal = misconfigured;
+        core = record {
+          fiq = record { count = 0; level = 0; inputs = 0; soft = 0; enable = 0 };
+          irq = record { count = 0; level = 0; inputs = 0; soft = 0; enable = 0 };
+        };
+      }
   -- every start answers a sound record, a refused one too (01, CoreInterrupt)
   pub startSound : (f i fl il : ℕ) → sound (start f i fl il .core) ≡ true
   -- ---- every step
@@ -88,7 +100,14 @@ pub record Promises : Type 0 where
   -- ---- outputs
   -- those of a sound record: of each side, as promised of a side (01, CoreInterrupt)
   pub outputsSound : (c : Core) → sound c ≡ true
-      → outputs c ≡ record { refusal = carriedOut; irq = active (c .irq); fiq = active (c .fiq); irqlevel = outputLevel (c .irq); fiqlevel = outputLevel (c .fiq) }
+      → outputs c
+      ≡ record {
+        refusal = carriedOut;
+        irq = active (c .irq);
+        fiq = active (c .fiq);
+        irqlevel = outputLevel (c .irq);
+        fiqlevel = outputLevel (c .fiq);
+      }
   -- of a record that is not sound the answer is refusal 12 and zeros (01, Numbers)
   pub outputsUnsound : (c : Core) → sound c ≡ false
       → outputs c ≡ record { refusal = unsound; irq = false; fiq = false; irqlevel = 0; fiqlevel = 0 }

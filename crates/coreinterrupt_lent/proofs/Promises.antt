@@ -54,7 +54,14 @@ start-number c d f i fl il r h =
 -- a start over a record, by its numbers
 over-taken : (c : Core) (f i fl il : ℕ) → f ≤ 8 → i ≤ 32 → fl ≤ 1 → il ≤ 1
     → startOver c f i fl il
-    ≡ record { refusal = 0; value = 0; core = record { fiq = record { count = f; level = fl; inputs = 0; soft = 0; enable = 0 }; irq = record { count = i; level = il; inputs = 0; soft = 0; enable = 0 } } }
+    ≡ record {
+      refusal = 0;
+      value = 0;
+      core = record {
+        fiq = record { count = f; level = fl; inputs = 0; soft = 0; enable = 0 };
+        irq = record { count = i; level = il; inputs = 0; soft = 0; enable = 0 };
+      };
+    }
 unfolding startOver
 over-taken c f i fl il p q u v =
     let e = start-taken f i fl il p q u v in

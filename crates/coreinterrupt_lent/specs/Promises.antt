@@ -23,7 +23,14 @@ pub record Promises : Type 0 where
   -- a start over a record, of numbers within their limits, answers 0 and the new record, its lines low and its registers 0 (01, CoreInterrupt)
   pub overTaken : (c : Core) (f i fl il : ℕ) → f ≤ 8 → i ≤ 32 → fl ≤ 1 → il ≤ 1
       → startOver c f i fl il
-      ≡ record { refusal = carriedOut; value = 0; core = record { fiq = record { count = f; level = fl; inputs = 0; soft = 0; enable = 0 }; irq = record { count = i; level = il; inputs = 0; soft = 0; enable = 0 } } }
+      ≡ record {
+        refusal = carriedOut;
+        value = 0;
+        core = record {
+          fiq = record { count = f; level = fl; inputs = 0; soft = 0; enable = 0 };
+          irq = record { count = i; level = il; inputs = 0; soft = 0; enable = 0 };
+        };
+      }
   -- where some number is beyond its limit it answers 10, the value 0 and the record as it was (01, Numbers)
   pub overRefused : (c : Core) (f i fl il : ℕ) → (8 < f) ⊎ ((32 < i) ⊎ ((1 < fl) ⊎ (1 < il)))
       → startOver c f i fl il ≡ record { refusal = misconfigured; value = 0; core = c }
