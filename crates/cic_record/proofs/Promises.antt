@@ -13,7 +13,7 @@ use Rattle.steps.specs.Refusals.{carriedOut, misconfigured}
 use Rattle.cic_record.specs.declared.Begun.{Begun}
 use Rattle.cic_record.specs.Promises.{Shaped, InRange, Promises}
 use Rattle.cic_record.specs.Record.{begun}
-use Rattle.cic_record.specs.Sound.{between, within, sound}
+use Rattle.cic_record.specs.Sound.{within, sound}
 use Rattle.cic_record.specs.Start.{fresh, configured, start}
 use Rattle.cic_record.proofs.PartsLaws.{fresh-sound}
 use Rattle.cic_record.proofs.RuleLaws.{sound-is, is-sound}
