@@ -43,7 +43,7 @@ unfolding coreStart allWithin coreWithin pick
 blank-core = refl
 
 pub blank-cic : cicStart 0 0 0 0 .cic ≡ fresh 0 0 0 0
-blank-cic = ap (λ (b : CicBegun). b .cic) (cic .zeros 0 0 0 0 (λ h. omega (arith, h .0 .0)))
+blank-cic = ap (λ (b : CicBegun). b .cic) (cic .startRefused 0 0 0 0 (λ h. omega (arith, h .0 .0)))
 
 -- ---- soundness by kind
 
@@ -108,7 +108,7 @@ cic-start-sound : (a b c d : ℕ) → cicWithin 0 a ≡ true → cicWithin 1 b �
 unfolding cicStart configured
 cic-start-sound a b c d e f g h =
     let z : cicStart a b c d .refusal ≡ carriedOut = ap (λ (r : CicBegun). r .refusal) (sym (pick-true _ (and-both e (and-both f (and-both g h))))) in
-    cic .startSound a b c d (cic .starts a b c d .0 z)
+    cic .startSound a b c d (cic .startTaken a b c d .0 z) .0
 
 cic-ready : (ns : List ℕ) → length ns ≡ 4 → Within cicKind 0 ns → Ready (startWith cicKind ns)
 unfolding withinOf byKind pick

@@ -68,5 +68,5 @@ module _ (m : Machine) where
       go (isCore k) = rw (core-shows k) (one-small (coreOutputs (m .core) .irq), one-small (coreOutputs (m .core) .fiq), omega arith)
       go (isCic k) =
           let e = sound-cic m k ∙ s in
-          rw (cic-shows k) (rw (hosts .counted (m .cic) e) (count-le 256 (λ h. asserted (m .cic) (hostNumber h))), hosts .lowestMost (m .cic) e, omega arith)
+          rw (cic-shows k) (rw (hosts .outputsSound (m .cic) e) (count-le 256 (λ h. asserted (m .cic) (hostNumber h))), hosts .lowestMost (m .cic) e, omega arith)
       go (isNone a b c) = rw (no-shows a b c) (omega arith, omega arith, omega arith)
