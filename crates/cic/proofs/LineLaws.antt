@@ -1,5 +1,5 @@
 -- Line steps: the line's level and its status, and that a clear works while the line is high.
-use mathlib.Core.Path.{_≡_, refl, sym, ap, ap₂, subst, _∙_}
+use mathlib.Core.Path.{_≡_, refl, sym, ap, subst, _∙_}
 use mathlib.Core.Bool.{Bool, true, false, not, _&&_, _||_}
 use mathlib.Core.List.{List}
 use Prim.Native.Nat.{ℕ, _+_, _*_, _/_, _%_, _<_, _≤_}
@@ -14,7 +14,6 @@ use Rattle.words.specs.Choice.{pick}
 use Rattle.words.specs.Word.{bit}
 use Rattle.words.proofs.ArrayLaws.{bitAt-word, bitAt-withBitAt, clean-withBitAt}
 use Rattle.words.proofs.ChoiceLaws.{pick-ap, pick-cases}
-use Rattle.steps.specs.Refusals.{carriedOut}
 use Rattle.cic_record.specs.declared.Answer.{Answer}
 use Rattle.cic_record.specs.declared.Cic.{Cic}
 use Rattle.cic_record.specs.Kinds.{system}

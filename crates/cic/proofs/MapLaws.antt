@@ -1,15 +1,15 @@
 -- The map by offsets, and which values are refused there.
 use mathlib.Core.Path.{_≡_, refl, sym, ap, subst, _∙_}
-use mathlib.Core.Logic.{_↔_, inl, inr}
+use mathlib.Core.Logic.{_↔_}
 use Prim.Native.Nat.{ℕ, _+_, _*_, _<_, _≤_}
 use lib.Dec.{ltb}
 use Rattle.words.specs.Array.{byteOf}
 use Rattle.steps.specs.declared.Access.{Access}
-use Rattle.steps.specs.declared.Access.the-variants.{NoRegister, ReadOnly, WriteOnly, ReadWrite}
+use Rattle.steps.specs.declared.Access.the-variants.{NoRegister, ReadWrite}
 use Rattle.cic_record.specs.declared.Cic.{Cic}
 use Rattle.cic_maps.specs.Maps.{mapTaken}
 use Rattle.cic_layout.specs.declared.Register.{Register}
-use Rattle.cic_layout.specs.Map.{registerAt, ifAny, accessOf, access}
+use Rattle.cic_layout.specs.Map.{registerAt, ifAny, accessOf}
 use Rattle.cic_layout.proofs.AccessLaws.{there-if}
 use Rattle.cic_layout.proofs.Promises as layout
 use Rattle.cic_registers.specs.Registers.{unless, valueRefusal}

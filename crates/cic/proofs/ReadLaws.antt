@@ -10,10 +10,9 @@ use borrow.Author.Tests.{eqb-true}
 use lib.Dec.{ltb}
 use lib.ListN.{getD, length, List·getD-eq-default}
 use Rattle.words.specs.Array.{bitAt, cleanBelow}
-use Rattle.words.specs.Word.{bit, clean}
+use Rattle.words.specs.Word.{clean}
 use Rattle.words.proofs.ArrayLaws.{clean-word}
 use Rattle.words.proofs.WordLaws.{bit-both, both-lt}
-use Rattle.steps.specs.Tables.{Readable}
 use Rattle.cic_record.specs.declared.Answer.{Answer}
 use Rattle.cic_record.specs.declared.Cic.{Cic}
 use Rattle.cic_record.specs.Promises.{Shaped, Rules}

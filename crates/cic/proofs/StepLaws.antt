@@ -10,7 +10,7 @@ use lib.ListN.{length}
 use Rattle.words.specs.Array.{bitAt, withBitAt}
 use Rattle.words.proofs.ArrayLaws.{withBitAt-past}
 use Rattle.words.proofs.ChoiceLaws.{pick-true, pick-false, pick-cases}
-use Rattle.steps.specs.Refusals.{carriedOut, readRefusal, writeRefusal, lineRefusal}
+use Rattle.steps.specs.Refusals.{carriedOut}
 use Rattle.steps.specs.Tables.{Readable, Writable}
 use Rattle.steps.proofs.Promises as checks
 use Rattle.cic_record.specs.declared.Answer.{Answer}

@@ -1,5 +1,5 @@
 -- What is promised of the CIC's steps. The start, sound records and the parts of a record are promised by crate cic_record, the outputs by cic_hosts.
-use mathlib.Core.Bool.{Bool, true, false, not, _&&_, _||_}
+use mathlib.Core.Bool.{true, false, not, _&&_, _||_}
 use mathlib.Core.Path.{_≡_}
 use mathlib.Core.Logic.{_≢_}
 use Prim.Native.Nat.{ℕ, _+_, _*_, _/_, _%_, _<_, _≤_}

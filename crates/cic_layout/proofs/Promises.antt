@@ -10,7 +10,7 @@ use Rattle.cic_layout.specs.declared.Register.the-variants.{Nothing, Raw
 use Rattle.cic_layout.specs.Map.{singleAt, registerAt}
 use Rattle.cic_layout.specs.Promises.{At, Promises}
 
--- ---- places
+-- ---- where the registers stand
 
 -- the offset of register k of a group, taken back to k
 quarter : (base k : ℕ) → (base + 4 * k - base) / 4 ≡ k
