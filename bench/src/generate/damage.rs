@@ -51,22 +51,25 @@ fn spoil_a_number(random: &mut Random, script: &mut Script) {
     }
 }
 
-/// Gives the number of a place in the script a defect. A missing or cut number takes all that follows with it; one with
-/// too many bytes or bits keeps its value below them, so that whoever overlooks them plays on.
+/// Gives the number of a place in the script a defect. A missing or cut number takes all that follows with it. What is
+/// there keeps the low bits of its value, so that whoever overlooks the defect plays on; where a number is cut, and which
+/// bit is beyond 32, goes by its place.
 pub fn spoil(script: &mut Script, place: usize, defect: Defect) {
     let at = script.numbers[place];
     match defect {
         Defect::Missing => script.bytes.truncate(at),
         Defect::Cut => {
+            let value = script.value(place);
             script.bytes.truncate(at);
-            script.bytes.extend([0x83, 0x80]);
+            encode(value, NUMBER_BYTES + 1, &mut script.bytes);
+            script.bytes.truncate(at + 1 + place % NUMBER_BYTES);
         }
         Defect::TooManyBytes => replace(script, place, |value, bytes| {
             encode(value, NUMBER_BYTES + 1, bytes);
         }),
         Defect::TooManyBits => replace(script, place, |value, bytes| {
             encode(value, NUMBER_BYTES, bytes);
-            bytes[NUMBER_BYTES - 1] |= 0x10;
+            bytes[NUMBER_BYTES - 1] |= 0x10 << (place % 3);
         }),
         Defect::TooManyOfBoth => replace(script, place, |value, bytes| {
             encode(value, NUMBER_BYTES + 1, bytes);
