@@ -67,21 +67,23 @@ static void endings(void)
     ends("limit 1 and a damaged second", BYTES("\0\0\0\1\0\xFF"), 1, 1, WISTERIA_STEP_LIMIT, 5);
     ends("cut short", BYTES("\0\x80"), 1, 0, WISTERIA_DAMAGED_NUMBER, 1);
     ends("two bytes", BYTES("\0\x80\1\0"), 1, 0, WISTERIA_ENDED, 4);
-    ends("not shortest", BYTES("\0\x80\0\0"), 1, 0, WISTERIA_DAMAGED_NUMBER, 1);
+    ends("0 in two bytes", BYTES("\0\x80\0\0"), 1, 0, WISTERIA_ENDED, 4);
+    ends("0 in five bytes", BYTES("\0\x80\x80\x80\x80\0\0"), 1, 0, WISTERIA_ENDED, 7);
     ends("32 bits", BYTES("\0\xFF\xFF\xFF\xFF\x0F\0"), 1, 0, WISTERIA_ENDED, 7);
     ends("33 bits", BYTES("\0\xFF\xFF\xFF\xFF\x10\0"), 1, 0, WISTERIA_DAMAGED_NUMBER, 1);
-    ends("six bytes", BYTES("\0\x80\x80\x80\x80\x80\1\0"), 1, 0, WISTERIA_DAMAGED_NUMBER, 1);
+    ends("six bytes worth 0", BYTES("\0\x80\x80\x80\x80\x80\0\0"), 1, 0, WISTERIA_DAMAGED_NUMBER, 1);
     ends("controller 2", BYTES("\2\1\1\1\0"), 1, 0, WISTERIA_ENDED, 5);
     ends("controller 3", BYTES("\3\1\1\1\0"), 1, 0, WISTERIA_UNKNOWN_KIND, 0);
-    ends("controller 3, not shortest", BYTES("\x83\0"), 1, 0, WISTERIA_DAMAGED_NUMBER, 0);
+    ends("controller 3 in two bytes", BYTES("\x83\0"), 1, 0, WISTERIA_UNKNOWN_KIND, 0);
     ends("controller 131", BYTES("\x83\1"), 1, 0, WISTERIA_UNKNOWN_KIND, 0);
     ends("step 0", BYTES("\0\0\0\0\0\0"), 1, 0, WISTERIA_UNKNOWN_KIND, 3);
     ends("step 3", BYTES("\0\0\0\3\0\0"), 1, 1, WISTERIA_ENDED, 6);
+    ends("step 3 in two bytes", BYTES("\0\0\0\x83\0\0\0"), 1, 1, WISTERIA_ENDED, 7);
     ends("step 4", BYTES("\0\0\0\4\0\0"), 1, 0, WISTERIA_UNKNOWN_KIND, 3);
     ends("8 and 32 sources", BYTES("\1\x08\x20\1\1"), 1, 0, WISTERIA_ENDED, 5);
     ends("9 FIQ sources", BYTES("\1\x09\x20\1\1"), 1, 0, WISTERIA_BEYOND_LIMIT, 1);
     ends("33 IRQ sources, and a number cut short behind", BYTES("\1\x08\x21\1\x80"), 1, 0, WISTERIA_BEYOND_LIMIT, 2);
-    ends("9 FIQ sources, not shortest", BYTES("\1\x89\0\x21\1"), 1, 0, WISTERIA_DAMAGED_NUMBER, 1);
+    ends("9 FIQ sources in two bytes", BYTES("\1\x89\0\x21\1"), 1, 0, WISTERIA_BEYOND_LIMIT, 1);
 }
 
 /* The longest trace and one byte more: all 0, so that the shorter one ends at its first step. */

@@ -32,7 +32,7 @@ extern "C" {
 enum {
     WISTERIA_ENDED = 0,            /* no byte was left where a step would begin */
     WISTERIA_STEP_LIMIT = 7,       /* the limit was reached, and bytes remain */
-    WISTERIA_DAMAGED_NUMBER = 8,   /* a number is cut short, over 32 bits, over 5 bytes or not in its shortest form */
+    WISTERIA_DAMAGED_NUMBER = 8,   /* a number is cut short, over 32 bits or over 5 bytes */
     WISTERIA_UNKNOWN_KIND = 9,     /* there is no such kind of controller or of step */
     WISTERIA_BEYOND_LIMIT = 10,    /* a number of the configuration is beyond its limit */
     WISTERIA_TRACE_TOO_LONG = 11   /* the trace has more than 65,536 bytes */

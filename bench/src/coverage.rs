@@ -9,7 +9,8 @@ use std::collections::HashMap;
 use crate::model::aic::Register as AicRegister;
 use crate::model::core::{Register as CoreRegister, Side};
 use crate::model::{Answer, Kind, Machine, Refusal, Step};
-use crate::trace::{Defect, Field, Observer, Report, LONGEST, PROGRAM_LIMIT};
+use crate::trace::{shortest, Defect, Field, Observer, Report};
+use crate::trace::{LONGEST, NUMBER_BYTES, PROGRAM_LIMIT};
 
 /// Something that a comparison should have reached.
 #[derive(Clone, Copy, Debug, PartialEq, Eq, PartialOrd, Ord, Hash)]
@@ -26,8 +27,14 @@ pub enum Item {
     Started(Kind, Size),
     /// A trace was ended early by a number of its own.
     Ended(Refusal, Field),
+    /// A trace was ended early by the value of a number with groups of 0 on top.
+    EndedPadded(Refusal, Field),
     /// A number of the trace had a defect.
     Defect(Field, Defect),
+    /// A number of an accepted configuration or of a step that was played had so many bytes, and needed them.
+    Shortest(Field, usize),
+    /// A number of an accepted configuration or of a step that was played had so many bytes, and needed fewer.
+    Padded(Field, usize),
     /// An AIC source of a type, external or not, was pending or idle when IPR was read.
     Pending(u8, bool, bool),
     /// A line of an AIC edge source of a type, external or not, changed: an edge for it, or not.
@@ -122,6 +129,8 @@ impl Way {
 pub struct Coverage {
     counts: HashMap<Item, u64>,
     steps: u64,
+    /// The forms of the numbers read since the start or the last step.
+    forms: Vec<Item>,
     /// The AIC before the present step; of a CIC only what its rules need.
     aic_before: Option<aic::Before>,
     cic_before: Option<cic::Before>,
@@ -164,6 +173,15 @@ impl Coverage {
         *self.counts.entry(item).or_insert(0) += 1;
     }
 
+    /// Counts the forms of the numbers of a configuration that was accepted, or of a step that was read whole.
+    fn reach_forms(&mut self) {
+        let mut forms = std::mem::take(&mut self.forms);
+        for item in forms.drain(..) {
+            self.reach(item);
+        }
+        self.forms = forms;
+    }
+
     /// Counts a situation if it is there.
     fn fact_if(&mut self, there: bool, fact: &'static str) {
         if there {
@@ -186,7 +204,15 @@ impl Coverage {
 }
 
 impl Observer for Coverage {
+    fn number(&mut self, field: Field, value: u32, bytes: usize) {
+        self.forms.push(match bytes == shortest(value) {
+            true => Item::Shortest(field, bytes),
+            false => Item::Padded(field, bytes),
+        });
+    }
+
     fn started(&mut self, machine: &Machine) {
+        self.reach_forms();
         match machine {
             Machine::Aic(_) => {}
             Machine::Core(core) => self.core_started(core),
@@ -195,6 +221,7 @@ impl Observer for Coverage {
     }
 
     fn before(&mut self, machine: &Machine, step: Step) {
+        self.reach_forms();
         match machine {
             Machine::Aic(aic) => self.aic_before = Some(aic::Before::new(aic)),
             Machine::Core(_) => {}
@@ -229,8 +256,12 @@ impl Observer for Coverage {
             Err(fault) => {
                 if let Some(field) = fault.field {
                     self.reach(Item::Ended(fault.refusal, field));
-                    if let Some(defect) = fault.defect {
-                        self.reach(Item::Defect(field, defect));
+                    match (fault.defect, self.forms.last()) {
+                        (Some(defect), _) => self.reach(Item::Defect(field, defect)),
+                        (None, Some(Item::Padded(..))) => {
+                            self.reach(Item::EndedPadded(fault.refusal, field));
+                        }
+                        _ => {}
                     }
                 }
                 let stopped = fault.refusal == Refusal::StepLimit;
@@ -239,6 +270,7 @@ impl Observer for Coverage {
                 self.fact_if(too_long, "ended by the length of the trace");
             }
         }
+        self.forms.clear();
     }
 }
 
@@ -265,12 +297,12 @@ fn traces() -> Vec<Item> {
     for field in fields() {
         items.push(Item::Ended(Refusal::BadNumber, field));
         items.extend(defects(field).map(|defect| Item::Defect(field, defect)));
-        if limited(field) {
-            items.push(Item::Ended(Refusal::BadConfiguration, field));
+        items.extend((1..=widest(field)).map(|bytes| Item::Shortest(field, bytes)));
+        items.extend((2..=NUMBER_BYTES).map(|bytes| Item::Padded(field, bytes)));
+        if let Some(refusal) = judged(field) {
+            items.push(Item::Ended(refusal, field));
+            items.push(Item::EndedPadded(refusal, field));
         }
-    }
-    for field in [Field::Kind, Field::StepKind] {
-        items.push(Item::Ended(Refusal::UnknownKind, field));
     }
     items.extend(
         [
@@ -307,21 +339,25 @@ fn fields() -> Vec<Field> {
 
 /// The defects that a number can have: a step that does not begin is no defect.
 fn defects(field: Field) -> impl Iterator<Item = Defect> {
-    let missing = (field != Field::StepKind).then_some(Defect::Missing);
-    let others = [
-        Defect::Cut,
-        Defect::TooManyBytes,
-        Defect::TooManyBits,
-        Defect::NotShortest,
-    ];
-    missing.into_iter().chain(others)
+    let can_be = move |defect: &Defect| (field, *defect) != (Field::StepKind, Defect::Missing);
+    Defect::ALL.into_iter().filter(can_be)
 }
 
-/// Whether a number has a limit (01: not the two words of the AIC, nor the revision of the CIC).
-fn limited(field: Field) -> bool {
+/// The refusal that a number can get for its value (01: not the two words of the AIC, nor the revision of the CIC).
+fn judged(field: Field) -> Option<Refusal> {
     match field {
-        Field::Configuration(Kind::Core, _) => true,
-        Field::Configuration(Kind::Cic, place) => place < 3,
-        _ => false,
+        Field::Kind | Field::StepKind => Some(Refusal::UnknownKind),
+        Field::Configuration(Kind::Core, _) => Some(Refusal::BadConfiguration),
+        Field::Configuration(Kind::Cic, 0..=2) => Some(Refusal::BadConfiguration),
+        _ => None,
+    }
+}
+
+/// How many bytes the largest value needs that a number can have without a refusal of its own.
+fn widest(field: Field) -> usize {
+    match (judged(field), field) {
+        (None, _) => NUMBER_BYTES,
+        (Some(_), Field::Configuration(Kind::Cic, _)) => 2,
+        (Some(_), _) => 1,
     }
 }

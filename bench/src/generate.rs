@@ -9,7 +9,7 @@ mod sweeps;
 
 use crate::model::Kind;
 use crate::random::Random;
-use crate::trace::{encode, PROGRAM_LIMIT};
+use crate::trace::{decode, encode, NUMBER_BYTES, PROGRAM_LIMIT};
 
 /// One thing to compare: a trace, the step limit, and how much room the listing gets (none said: ample).
 #[derive(Clone, Debug)]
@@ -80,9 +80,13 @@ const STYLES: [(u32, Style); 4] = [
 fn random_case(random: &mut Random) -> Case {
     let style = random.weighted(&STYLES);
     let (name, trace) = match style {
-        Style::Tour => ("tour", tour(random).bytes),
+        Style::Tour => {
+            let script = tour(random);
+            ("tour", in_any_form(random, script).bytes)
+        }
         Style::Damaged => {
             let script = tour(random);
+            let script = in_any_form(random, script);
             ("damaged", damage::damaged(random, script))
         }
         Style::Noise => ("noise", damage::noise(random)),
@@ -118,6 +122,25 @@ fn tour(random: &mut Random) -> Script {
     }
 }
 
+/// The same trace with each number in its shortest form, each in five bytes as the recorder of 02, 1/12 writes it, or
+/// each in any form.
+fn in_any_form(random: &mut Random, script: Script) -> Script {
+    match random.below(4) {
+        0 => script,
+        1 => script.rewritten(|| NUMBER_BYTES),
+        _ => script.rewritten(|| width(random)),
+    }
+}
+
+/// How many bytes a number is to have at least: one, as often as two to five together.
+fn width(random: &mut Random) -> usize {
+    if random.one_in(2) {
+        1
+    } else {
+        random.within(2, NUMBER_BYTES as u32) as usize
+    }
+}
+
 /// A trace as it is written down, with the places where its numbers begin.
 #[derive(Clone, Debug, Default)]
 pub struct Script {
@@ -136,9 +159,30 @@ impl Script {
         script
     }
 
+    /// Writes a number in its shortest form.
     pub fn number(&mut self, value: u32) {
+        self.number_in(value, 1);
+    }
+
+    /// Writes a number in so many bytes, or in as many as it needs.
+    fn number_in(&mut self, value: u32, width: usize) {
         self.numbers.push(self.bytes.len());
-        encode(value, &mut self.bytes);
+        encode(value, width, &mut self.bytes);
+    }
+
+    /// The same numbers, each in as many bytes as is said for it, or in as many as it needs.
+    fn rewritten(&self, mut width: impl FnMut() -> usize) -> Script {
+        let mut script = Script::default();
+        for nth in 0..self.numbers.len() {
+            script.number_in(self.value(nth), width());
+        }
+        script
+    }
+
+    /// The value of the nth number.
+    fn value(&self, nth: usize) -> u32 {
+        let number = decode(&self.bytes[self.numbers[nth]..]);
+        number.expect("a script writes good numbers").0
     }
 
     pub fn read(&mut self, offset: u32) {
@@ -193,6 +237,7 @@ fn bad_line(random: &mut Random, script: &mut Script, lines: u32) {
 #[cfg(test)]
 mod tests {
     use super::*;
+    use crate::listing::listing;
 
     #[test]
     fn a_case_depends_on_seed_and_number_alone() {
@@ -204,5 +249,21 @@ mod tests {
         assert_eq!(one.case(3).trace, other.case(3).trace);
         let differ = (first..first + 20).filter(|&n| one.case(n).trace != other.case(n).trace);
         assert!(differ.count() > 15);
+    }
+
+    #[test]
+    fn other_forms_play_the_same() {
+        let random = &mut Random::new(9);
+        for _ in 0..50 {
+            let script = tour(random);
+            let listed = listing(&script.bytes, PROGRAM_LIMIT);
+            for width in 1..=NUMBER_BYTES {
+                let other = script.rewritten(|| width);
+                assert!(other.bytes.len() >= width * script.numbers.len());
+                assert!(listing(&other.bytes, PROGRAM_LIMIT) == listed);
+            }
+            let other = in_any_form(random, script);
+            assert!(listing(&other.bytes, PROGRAM_LIMIT) == listed);
+        }
     }
 }

@@ -9,7 +9,7 @@ use crate::model::{Answer, Kind, Machine, Refusal, Step};
 pub const LONGEST: usize = 65_536;
 /// The step limit of the program (01, house trace).
 pub const PROGRAM_LIMIT: u32 = 20_000;
-/// A number has at most this many bytes.
+/// A number has at most this many bytes (02, 1/12).
 pub const NUMBER_BYTES: usize = 5;
 
 /// Which number of a trace is meant. A configuration number has its place in the configuration, from 0.
@@ -24,14 +24,30 @@ pub enum Field {
     Level,
 }
 
-/// What is wrong with a number; 01 gives one refusal for all of them.
+/// What is wrong with a number; 01 gives one refusal for all of them. Bytes and bits are told apart, so that a number
+/// of either sort is refused by that rule alone.
 #[derive(Clone, Copy, Debug, PartialEq, Eq, PartialOrd, Ord, Hash)]
 pub enum Defect {
+    /// The trace ends where the number would begin.
     Missing,
+    /// The trace ends before the number's last byte.
     Cut,
+    /// More than five bytes, of a value that fits 32 bits.
     TooManyBytes,
+    /// Worth 2^32 or more, in five bytes.
     TooManyBits,
-    NotShortest,
+    /// Worth 2^32 or more, in more than five bytes.
+    TooManyOfBoth,
+}
+
+impl Defect {
+    pub const ALL: [Defect; 5] = [
+        Defect::Missing,
+        Defect::Cut,
+        Defect::TooManyBytes,
+        Defect::TooManyBits,
+        Defect::TooManyOfBoth,
+    ];
 }
 
 /// Why a trace ends before its last byte: the number at fault, by name and by the place of its first byte.
@@ -44,15 +60,20 @@ pub struct Fault {
     pub defect: Option<Defect>,
 }
 
-/// The bytes of a trace and the place of the next one to read.
-pub struct Reader<'a> {
+/// The bytes of a trace, the place of the next one to read, and who watches.
+pub struct Reader<'a, O: Observer> {
     trace: &'a [u8],
     at: usize,
+    observer: &'a mut O,
 }
 
-impl<'a> Reader<'a> {
-    pub fn new(trace: &'a [u8]) -> Reader<'a> {
-        Reader { trace, at: 0 }
+impl<'a, O: Observer> Reader<'a, O> {
+    pub fn new(trace: &'a [u8], observer: &'a mut O) -> Reader<'a, O> {
+        Reader {
+            trace,
+            at: 0,
+            observer,
+        }
     }
 
     pub fn at_end(&self) -> bool {
@@ -65,6 +86,7 @@ impl<'a> Reader<'a> {
             defect: Some(defect),
             ..self.fault(Refusal::BadNumber, field)
         })?;
+        self.observer.number(field, value, length);
         self.at += length;
         Ok(value)
     }
@@ -150,7 +172,8 @@ impl<'a> Reader<'a> {
 
 /// A trace in pieces: its beginning with the configuration, each step, and what is left where no step can be read.
 pub fn pieces(trace: &[u8]) -> Vec<&[u8]> {
-    let mut reader = Reader::new(trace);
+    let watcher = &mut ();
+    let mut reader = Reader::new(trace, watcher);
     let mut pieces = Vec::new();
     if reader.machine().is_ok() {
         pieces.push(&trace[..reader.at]);
@@ -167,40 +190,59 @@ pub fn pieces(trace: &[u8]) -> Vec<&[u8]> {
     pieces
 }
 
-/// The number that the bytes begin with, and how many bytes it takes.
+/// The number that the bytes begin with, and how many bytes it takes: any form of up to five bytes whose value fits 32
+/// bits (02, 1/12).
 pub fn decode(bytes: &[u8]) -> Result<(u32, usize), Defect> {
-    if bytes.is_empty() {
-        return Err(Defect::Missing);
-    }
     let mut value = 0_u64;
     for (place, &byte) in bytes.iter().take(NUMBER_BYTES).enumerate() {
         value |= u64::from(byte & 0x7F) << (7 * place);
         if byte & 0x80 == 0 {
-            if byte == 0 && place > 0 {
-                return Err(Defect::NotShortest);
-            }
             let value = u32::try_from(value).map_err(|_| Defect::TooManyBits)?;
             return Ok((value, place + 1));
         }
     }
-    if bytes.len() < NUMBER_BYTES {
-        Err(Defect::Cut)
-    } else {
-        Err(Defect::TooManyBytes)
+    let fits = u32::try_from(value).is_ok();
+    Err(unended(bytes, fits))
+}
+
+/// What is wrong with a number whose last byte is not among the first five, the groups of which fit 32 bits or not.
+fn unended(bytes: &[u8], fits: bool) -> Defect {
+    let is_last = |byte: &u8| byte & 0x80 == 0;
+    match bytes.iter().position(is_last) {
+        None if bytes.is_empty() => Defect::Missing,
+        None => Defect::Cut,
+        Some(last) => {
+            let further = &bytes[NUMBER_BYTES..=last];
+            let nothing_on_top = further.iter().all(|byte| byte & 0x7F == 0);
+            match fits && nothing_on_top {
+                true => Defect::TooManyBytes,
+                false => Defect::TooManyOfBoth,
+            }
+        }
     }
 }
 
-/// Appends a number in its shortest form.
-pub fn encode(mut value: u32, bytes: &mut Vec<u8>) {
-    while value > 0x7F {
-        bytes.push((value & 0x7F) as u8 | 0x80);
-        value >>= 7;
+/// Appends a number in so many bytes, with groups of 0 on top, or in as many as it needs.
+pub fn encode(value: u32, width: usize, bytes: &mut Vec<u8>) {
+    let mut left = value;
+    for _ in 1..width.max(shortest(value)) {
+        bytes.push((left & 0x7F) as u8 | 0x80);
+        left >>= 7;
     }
-    bytes.push(value as u8);
+    bytes.push(left as u8);
+}
+
+/// How many bytes a number needs.
+pub fn shortest(value: u32) -> usize {
+    let needed = |&width: &usize| value >> (7 * width) == 0;
+    (1..NUMBER_BYTES).find(needed).unwrap_or(NUMBER_BYTES)
 }
 
 /// Somebody who watches a trace being played. Every method may be left out.
 pub trait Observer {
+    /// A number was read from so many bytes; it may yet be refused for its value.
+    fn number(&mut self, _field: Field, _value: u32, _bytes: usize) {}
+
     /// The configuration was accepted.
     fn started(&mut self, _machine: &Machine) {}
 
@@ -219,6 +261,11 @@ impl Observer for () {}
 
 /// Two watch, one after the other.
 impl<A: Observer, B: Observer> Observer for (&mut A, &mut B) {
+    fn number(&mut self, field: Field, value: u32, bytes: usize) {
+        self.0.number(field, value, bytes);
+        self.1.number(field, value, bytes);
+    }
+
     fn started(&mut self, machine: &Machine) {
         self.0.started(machine);
         self.1.started(machine);
@@ -271,18 +318,19 @@ fn play_into(
     if trace.len() > LONGEST {
         return Err(stopped(Refusal::TraceTooLong, LONGEST));
     }
-    let mut reader = Reader::new(trace);
+    let mut reader = Reader::new(trace, observer);
     let machine = report.machine.insert(reader.machine()?);
-    observer.started(machine);
+    reader.observer.started(machine);
     while !reader.at_end() {
         if report.steps == limit {
             return Err(stopped(Refusal::StepLimit, reader.at));
         }
         let step = reader.step()?;
-        observer.before(machine, step);
+        reader.observer.before(machine, step);
         let answer = machine.step(step);
         report.steps += 1;
-        observer.after(machine, report.steps, step, answer);
+        let number = report.steps;
+        reader.observer.after(machine, number, step, answer);
     }
     Ok(())
 }
@@ -317,11 +365,40 @@ mod tests {
             u32::MAX,
         ];
         for value in edges {
-            let mut bytes = Vec::new();
-            encode(value, &mut bytes);
-            assert_eq!(decode(&bytes), Ok((value, bytes.len())));
-            bytes.push(0x55);
-            assert_eq!(decode(&bytes), Ok((value, bytes.len() - 1)));
+            for width in 1..=NUMBER_BYTES {
+                let mut bytes = Vec::new();
+                encode(value, width, &mut bytes);
+                assert_eq!(bytes.len(), width.max(shortest(value)));
+                assert_eq!(decode(&bytes), Ok((value, bytes.len())));
+                bytes.push(0x55);
+                assert_eq!(decode(&bytes), Ok((value, bytes.len() - 1)));
+            }
+            for width in NUMBER_BYTES + 1..=12 {
+                let mut bytes = Vec::new();
+                encode(value, width, &mut bytes);
+                assert_eq!(bytes.len(), width);
+                assert_eq!(decode(&bytes), Err(Defect::TooManyBytes));
+                assert_eq!(decode(&bytes[..width - 1]), Err(Defect::Cut));
+            }
+        }
+    }
+
+    #[test]
+    fn the_shortest_form_is_where_a_byte_less_says_another_value() {
+        let needs = [
+            (0, 1),
+            (0x7F, 1),
+            (0x80, 2),
+            (0x3FFF, 2),
+            (0x4000, 3),
+            (0x1F_FFFF, 3),
+            (0x20_0000, 4),
+            (0x0FFF_FFFF, 4),
+            (0x1000_0000, 5),
+            (u32::MAX, 5),
+        ];
+        for (value, bytes) in needs {
+            assert_eq!(shortest(value), bytes, "{value:#x}");
         }
     }
 
@@ -339,18 +416,19 @@ mod tests {
         assert_eq!(decode(&[]), Err(Defect::Missing));
         assert_eq!(decode(&[0x80]), Err(Defect::Cut));
         assert_eq!(decode(&[0xFF; 4]), Err(Defect::Cut));
-        assert_eq!(decode(&[0x80, 0x00]), Err(Defect::NotShortest));
-        assert_eq!(
-            decode(&[0xFF, 0xFF, 0xFF, 0xFF, 0x00]),
-            Err(Defect::NotShortest)
-        );
+        assert_eq!(decode(&[0x80; 5]), Err(Defect::Cut));
+        assert_eq!(decode(&[0xFF; 9]), Err(Defect::Cut));
+        assert_eq!(decode(&[0xFF, 0xFF, 0xFF, 0xFF, 0x00]), Ok((0xFFF_FFFF, 5)));
         assert_eq!(decode(&[0xFF, 0xFF, 0xFF, 0xFF, 0x0F]), Ok((u32::MAX, 5)));
-        assert_eq!(
-            decode(&[0xFF, 0xFF, 0xFF, 0xFF, 0x10]),
-            Err(Defect::TooManyBits)
-        );
-        assert_eq!(decode(&[0x80; 5]), Err(Defect::TooManyBytes));
-        assert_eq!(decode(&[0xFF; 9]), Err(Defect::TooManyBytes));
+        for top in [0x10, 0x20, 0x40, 0x7F] {
+            let bytes = [0xFF, 0xFF, 0xFF, 0xFF, top];
+            assert_eq!(decode(&bytes), Err(Defect::TooManyBits));
+        }
+        let six = |fifth, sixth| decode(&[0x81, 0x80, 0x80, 0x80, fifth, sixth]);
+        assert_eq!(six(0x80, 0x00), Err(Defect::TooManyBytes));
+        assert_eq!(six(0x8F, 0x00), Err(Defect::TooManyBytes));
+        assert_eq!(six(0x90, 0x00), Err(Defect::TooManyOfBoth));
+        assert_eq!(six(0x80, 0x01), Err(Defect::TooManyOfBoth));
     }
 
     /// The number of the ending refusal and its offset, as 01 has the player report them.
@@ -363,12 +441,24 @@ mod tests {
 
     #[test]
     fn at_one_number_8_comes_before_9_and_10() {
-        assert_eq!(ending(&[0x83, 0x00], 9), (8, 0));
+        let kinds: [(&[u8], u8, (u32, usize)); 3] = [
+            (&[], 0x03, (9, 0)),
+            (&[0x00, 0x00, 0x00], 0x04, (9, 3)),
+            (&[0x01], 0x09, (10, 1)),
+        ];
+        for (before, value, judged) in kinds {
+            for width in 1..=NUMBER_BYTES + 1 {
+                let mut trace = before.to_vec();
+                encode(value.into(), width, &mut trace);
+                let expected = match width > NUMBER_BYTES {
+                    true => (8, judged.1),
+                    false => judged,
+                };
+                assert_eq!(ending(&trace, 9), expected, "{trace:X?}");
+            }
+        }
         assert_eq!(ending(&[0x83, 0x01], 9), (9, 0));
-        assert_eq!(ending(&[0x00, 0x00, 0x00, 0x84, 0x00], 9), (8, 3));
-        assert_eq!(ending(&[0x00, 0x00, 0x00, 0x04], 9), (9, 3));
-        assert_eq!(ending(&[0x01, 0x89, 0x00], 9), (8, 1));
-        assert_eq!(ending(&[0x01, 0x09], 9), (10, 1));
+        assert_eq!(ending(&[0x83], 9), (8, 0));
     }
 
     #[test]

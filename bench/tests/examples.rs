@@ -6,7 +6,7 @@ use std::path::PathBuf;
 
 use bench::hex;
 use bench::listing::listing;
-use bench::trace::PROGRAM_LIMIT;
+use bench::trace::{decode, encode, NUMBER_BYTES, PROGRAM_LIMIT};
 
 /// The contents of the examples' files, by name and then by ending.
 fn examples() -> BTreeMap<String, BTreeMap<String, Vec<u8>>> {
@@ -64,6 +64,20 @@ fn the_first_example_and_the_empty_one_are_the_papers() {
     assert_eq!(lines.lines().nth(5), Some("5 R 000000A0 0 0 1"));
     assert_eq!(examples["first"]["trace"].len(), 27);
     assert_eq!(examples["empty"]["listing"], b"E 8 0\n");
+}
+
+#[test]
+fn the_padded_example_is_the_first_in_five_bytes_each() {
+    let examples = examples();
+    let (mut left, mut padded) = (examples["first"]["trace"].as_slice(), Vec::new());
+    while !left.is_empty() {
+        let (value, bytes) = decode(left).expect("its numbers are good");
+        encode(value, NUMBER_BYTES, &mut padded);
+        left = &left[bytes..];
+    }
+    assert_eq!(examples["padded"]["trace"], padded);
+    assert_eq!(padded.len() % NUMBER_BYTES, 0);
+    assert_eq!(examples["padded"]["listing"], examples["first"]["listing"]);
 }
 
 #[test]

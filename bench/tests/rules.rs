@@ -1,10 +1,12 @@
 //! The model against the worked cases of document 01, and against the points that can be read in two ways.
 
+use bench::listing::listing;
 use bench::model::aic::Aic;
 use bench::model::cic::Cic;
 use bench::model::core::CoreInterrupt;
 use bench::model::Refusal::{self, *};
 use bench::model::{Answer, Controller, Step};
+use bench::trace::{LONGEST, PROGRAM_LIMIT};
 
 const IVR: u32 = 0x100;
 const FVR: u32 = 0x104;
@@ -630,5 +632,121 @@ mod cic_rules {
             };
             assert_eq!(refused(&mut cic, step), OutOfRange);
         }
+    }
+}
+
+mod number_rules {
+    use super::*;
+
+    /// What the program prints for a trace in pieces.
+    fn listed(pieces: &[&[u8]]) -> String {
+        let text = listing(&pieces.concat(), PROGRAM_LIMIT);
+        String::from_utf8(text).expect("a listing is plain text")
+    }
+
+    const AIC: &[u8] = &[0x00, 0x00, 0x00];
+    const WRITE_SPU: &[u8] = &[0x02, 0xB4, 0x02];
+    const READ_SPU: &[u8] = &[0x01, 0xB4, 0x02];
+
+    #[test]
+    fn any_form_of_up_to_five_bytes_is_read() {
+        let forms: [(&[u8], &str); 16] = [
+            (&[0x00], "00000000"),
+            (&[0x80, 0x00], "00000000"),
+            (&[0x80, 0x80, 0x00], "00000000"),
+            (&[0x80, 0x80, 0x80, 0x00], "00000000"),
+            (&[0x80, 0x80, 0x80, 0x80, 0x00], "00000000"),
+            (&[0x03], "00000003"),
+            (&[0x83, 0x00], "00000003"),
+            (&[0x83, 0x80, 0x80, 0x80, 0x00], "00000003"),
+            (&[0x80, 0x01], "00000080"),
+            (&[0x80, 0x81, 0x00], "00000080"),
+            (&[0xFF, 0x7F], "00003FFF"),
+            (&[0xFF, 0xFF, 0x00], "00003FFF"),
+            (&[0xFF, 0xFF, 0xFF, 0xFF, 0x00], "0FFFFFFF"),
+            (&[0x80, 0x80, 0x80, 0x80, 0x01], "10000000"),
+            (&[0x80, 0x80, 0x80, 0x80, 0x08], "80000000"),
+            (&[0xFF, 0xFF, 0xFF, 0xFF, 0x0F], "FFFFFFFF"),
+        ];
+        for (form, value) in forms {
+            let expected = format!("AIC\n1 W 00000000 0 0 0\n2 R {value} 0 0 0\n");
+            assert_eq!(listed(&[AIC, WRITE_SPU, form, READ_SPU]), expected);
+        }
+    }
+
+    #[test]
+    fn what_is_too_large_or_too_long_is_refused_by_8() {
+        let forms: [&[u8]; 9] = [
+            &[0x80, 0x80, 0x80, 0x80, 0x10],
+            &[0xFF, 0xFF, 0xFF, 0xFF, 0x1F],
+            &[0x80, 0x80, 0x80, 0x80, 0x20],
+            &[0x80, 0x80, 0x80, 0x80, 0x40],
+            &[0x80, 0x80, 0x80, 0x80, 0x80, 0x00],
+            &[0x83, 0x80, 0x80, 0x80, 0x80, 0x00],
+            &[0xFF, 0xFF, 0xFF, 0xFF, 0x8F, 0x00],
+            &[0x80, 0x80, 0x80, 0x80, 0x80, 0x80, 0x00],
+            &[0x80, 0x80, 0x80, 0x80, 0x80, 0x01],
+        ];
+        for form in forms {
+            assert_eq!(listed(&[AIC, WRITE_SPU, form, READ_SPU]), "AIC\nE 8 6\n");
+        }
+    }
+
+    #[test]
+    fn what_is_cut_short_is_refused_by_8() {
+        for bytes in 0..=6 {
+            let cut = vec![0x80; bytes];
+            assert_eq!(listed(&[AIC, WRITE_SPU, &cut]), "AIC\nE 8 6\n");
+        }
+        assert_eq!(listed(&[&[0x80]]), "E 8 0\n");
+        assert_eq!(listed(&[&[0x00, 0x80, 0x80]]), "E 8 1\n");
+    }
+
+    #[test]
+    fn kinds_and_limits_are_judged_by_the_value() {
+        assert_eq!(listed(&[&[0x83, 0x00]]), "E 9 0\n");
+        assert_eq!(listed(&[&[0x01, 0x89, 0x00, 0x21, 0x01]]), "E 10 1\n");
+        let line = "AIC\n1 L 00000000 0 0 0\n";
+        assert_eq!(listed(&[AIC, &[0x83, 0x00, 0x05, 0x01]]), line);
+        assert_eq!(listed(&[AIC, &[0x83, 0x00]]), "AIC\nE 8 5\n");
+        assert_eq!(listed(&[AIC, &[0x84, 0x80, 0x00]]), "AIC\nE 9 3\n");
+        assert_eq!(listed(&[AIC, &[0x80, 0x00]]), "AIC\nE 9 3\n");
+        let core: &[u8] = &[0x81, 0x00, 0x88, 0x00, 0xA0, 0x80, 0x00, 0x81, 0x00];
+        assert_eq!(listed(&[core, &[0x80, 0x00]]), "COREINTERRUPT\n");
+        assert_eq!(listed(&[core, &[0x82, 0x00]]), "E 10 9\n");
+        let cic: &[u8] = &[0x82, 0x00, 0x80, 0x88, 0x00, 0x80, 0x82, 0x00];
+        assert_eq!(listed(&[cic, &[0x80, 0x82, 0x00], &[0x80, 0x00]]), "CIC\n");
+        assert_eq!(listed(&[cic, &[0x81, 0x82, 0x00]]), "E 10 8\n");
+        assert_eq!(listed(&[cic, &[0x80, 0x00]]), "E 10 8\n");
+    }
+
+    #[test]
+    fn at_one_number_8_comes_first_and_in_the_trace_the_first_number() {
+        assert_eq!(listed(&[&[0x83, 0x80, 0x80, 0x80, 0x80, 0x00]]), "E 8 0\n");
+        let nine_in_six: &[u8] = &[0x89, 0x80, 0x80, 0x80, 0x80, 0x00];
+        assert_eq!(listed(&[&[0x01], nine_in_six]), "E 8 1\n");
+        assert_eq!(listed(&[&[0x01, 0x89, 0x00], nine_in_six]), "E 10 1\n");
+        assert_eq!(listed(&[AIC, nine_in_six]), "AIC\nE 8 3\n");
+    }
+
+    /// So many writes behind an AIC's configuration, every number in five bytes.
+    fn padded_writes(writes: usize) -> Vec<u8> {
+        let (zero, two) = (
+            [0x80, 0x80, 0x80, 0x80, 0x00],
+            [0x82, 0x80, 0x80, 0x80, 0x00],
+        );
+        let mut trace = zero.repeat(3);
+        trace.extend([two, zero, zero].concat().repeat(writes));
+        trace
+    }
+
+    #[test]
+    fn who_always_pads_meets_the_length_before_the_step_limit() {
+        let most = padded_writes(4_368);
+        assert_eq!(most.len(), LONGEST - 1);
+        assert!(listed(&[&most]).ends_with("\n4368 W 00000000 0 0 0\n"));
+        assert_eq!(listed(&[&padded_writes(4_369)]), "E 11 65536\n");
+        let begun = listed(&[&most, &[0x82]]);
+        assert!(begun.ends_with("\n4368 W 00000000 0 0 0\nE 8 65535\n"));
     }
 }

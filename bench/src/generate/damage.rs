@@ -1,6 +1,6 @@
 //! Damaged traces: bad numbers in good places, cuts, flipped bits, lost and doubled bytes, and plain noise.
 
-use super::Script;
+use super::{width, Script};
 use crate::random::Random;
 use crate::trace::{encode, Defect, NUMBER_BYTES};
 
@@ -37,59 +37,61 @@ const NEAR_LIMITS: [u32; 13] = [0, 1, 2, 3, 8, 9, 32, 33, 255, 256, 257, 1_024, 
 
 fn spoil_a_number(random: &mut Random, script: &mut Script) {
     let place = random.below(script.numbers.len() as u32) as usize;
-    let defects = [
-        Defect::Missing,
-        Defect::Cut,
-        Defect::TooManyBytes,
-        Defect::TooManyBits,
-        Defect::NotShortest,
-    ];
     match random.below(8) {
-        0 => exchange(script, place, random.word()),
+        0 => {
+            let any_width = random.within(1, 12) as usize;
+            exchange(script, place, random.word(), any_width);
+        }
         1 | 2 => {
             let among_first = random.below(5) as usize % script.numbers.len();
-            exchange(script, among_first, random.pick(&NEAR_LIMITS));
+            let value = random.pick(&NEAR_LIMITS);
+            exchange(script, among_first, value, width(random));
         }
-        _ => spoil(script, place, random.pick(&defects)),
+        _ => spoil(script, place, random.pick(&Defect::ALL)),
     }
 }
 
-/// Gives the number of a place in the script a defect. A missing or cut number takes all that follows with it.
+/// Gives the number of a place in the script a defect. A missing or cut number takes all that follows with it. What is
+/// there keeps the low bits of its value, so that whoever overlooks the defect plays on; where a number is cut, and which
+/// bit is beyond 32, goes by its place.
 pub fn spoil(script: &mut Script, place: usize, defect: Defect) {
     let at = script.numbers[place];
     match defect {
         Defect::Missing => script.bytes.truncate(at),
         Defect::Cut => {
+            let value = script.value(place);
             script.bytes.truncate(at);
-            script.bytes.extend([0x83, 0x80]);
+            encode(value, NUMBER_BYTES + 1, &mut script.bytes);
+            script.bytes.truncate(at + 1 + place % NUMBER_BYTES);
         }
-        Defect::TooManyBytes => replace(script, place, |bytes| {
-            bytes.extend([0x81; NUMBER_BYTES]);
-            bytes.push(0x01);
+        Defect::TooManyBytes => replace(script, place, |value, bytes| {
+            encode(value, NUMBER_BYTES + 1, bytes);
         }),
-        Defect::TooManyBits => replace(script, place, |bytes| {
-            bytes.extend([0x81, 0x80, 0x80, 0x80, 0x10]);
+        Defect::TooManyBits => replace(script, place, |value, bytes| {
+            encode(value, NUMBER_BYTES, bytes);
+            bytes[NUMBER_BYTES - 1] |= 0x10 << (place % 3);
         }),
-        Defect::NotShortest => replace(script, place, |bytes| {
-            bytes.extend([0x81, 0x80, 0x00]);
+        Defect::TooManyOfBoth => replace(script, place, |value, bytes| {
+            encode(value, NUMBER_BYTES + 1, bytes);
+            bytes[NUMBER_BYTES] |= 0x01;
         }),
     }
 }
 
-/// Puts another number, well written, in the place of one.
-fn exchange(script: &mut Script, place: usize, value: u32) {
-    replace(script, place, |bytes| encode(value, bytes));
+/// Puts another number in the place of one, in so many bytes or in as many as it needs.
+fn exchange(script: &mut Script, place: usize, value: u32, width: usize) {
+    replace(script, place, |_, bytes| encode(value, width, bytes));
 }
 
-/// Puts other bytes where a number stood.
-fn replace(script: &mut Script, place: usize, write: impl Fn(&mut Vec<u8>)) {
+/// Puts other bytes where a number stood, which may depend on its value.
+fn replace(script: &mut Script, place: usize, write: impl Fn(u32, &mut Vec<u8>)) {
     let at = script.numbers[place];
     let end = match script.numbers.get(place + 1) {
         Some(&next) => next,
         None => script.bytes.len(),
     };
     let mut number = Vec::new();
-    write(&mut number);
+    write(script.value(place), &mut number);
     script.bytes.splice(at..end, number);
 }
 

@@ -1,15 +1,16 @@
 //! Long traces: at the step limit, just over it, and at the longest length that is played, of every kind.
 
-use super::{aic, cic, core, Script};
+use super::{aic, cic, core, in_any_form, Script};
 use crate::model::Kind;
 use crate::random::Random;
-use crate::trace::{play, LONGEST, PROGRAM_LIMIT};
+use crate::trace::{play, LONGEST, NUMBER_BYTES, PROGRAM_LIMIT};
 
 /// A long trace of any kind and of any of the sorts below.
 pub fn long(random: &mut Random) -> Vec<u8> {
     let kind = random.pick(&Kind::ALL);
     let script = opening(random, kind);
-    match random.below(4) {
+    let script = in_any_form(random, script);
+    match random.below(5) {
         0 => {
             let steps = PROGRAM_LIMIT - 2 + random.below(5);
             of_steps(random, script, steps)
@@ -24,6 +25,7 @@ pub fn long(random: &mut Random) -> Vec<u8> {
             let length = LONGEST - 2 + random.below(4) as usize;
             of_length(random, script, length)
         }
+        3 => padded(random, kind),
         _ => wide(random, kind),
     }
 }
@@ -67,6 +69,15 @@ pub fn wide(random: &mut Random, kind: Kind) -> Vec<u8> {
         script.line(random.below(40), random.below(2));
     }
     finish(script, LONGEST)
+}
+
+/// The longest trace with every number in five bytes, but for the last few.
+pub fn padded(random: &mut Random, kind: Kind) -> Vec<u8> {
+    let mut script = opening(random, kind);
+    while NUMBER_BYTES * script.numbers.len() + 20 < LONGEST {
+        short_step(random, &mut script);
+    }
+    finish(script.rewritten(|| NUMBER_BYTES), LONGEST)
 }
 
 /// Ends on the length exactly, by reads of two or three bytes.

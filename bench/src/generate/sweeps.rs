@@ -4,7 +4,7 @@ use super::damage::spoil;
 use super::{long, Script};
 use crate::model::Kind;
 use crate::random::Random;
-use crate::trace::{Defect, LONGEST, PROGRAM_LIMIT};
+use crate::trace::{Defect, LONGEST, NUMBER_BYTES, PROGRAM_LIMIT};
 
 /// All sweeps, the same in every run.
 pub fn all() -> Vec<Script> {
@@ -13,6 +13,7 @@ pub fn all() -> Vec<Script> {
     sweeps.extend(aic_situations());
     sweeps.extend(core_situations());
     sweeps.extend(cic_situations());
+    sweeps.extend(forms());
     sweeps.extend(defects());
     sweeps.extend(unknown_and_beyond());
     sweeps.extend(limits());
@@ -448,18 +449,54 @@ fn short_traces() -> Vec<Script> {
     scripts
 }
 
+/// The least and the largest value that needs one byte, two bytes, up to five.
+const ENDS: [(u32, u32); NUMBER_BYTES] = [
+    (0, 0x7F),
+    (0x80, 0x3FFF),
+    (0x4000, 0x1F_FFFF),
+    (0x20_0000, 0x0FFF_FFFF),
+    (0x1000_0000, u32::MAX),
+];
+
+/// Every number in every form: for values that need so many bytes, the whole trace in so many and in more.
+fn forms() -> Vec<Script> {
+    let mut scripts = Vec::new();
+    for (needed, (least, most)) in (1..).zip(ENDS) {
+        for width in needed..=NUMBER_BYTES {
+            for script in of_values(least, most) {
+                scripts.push(script.rewritten(|| width));
+            }
+        }
+    }
+    scripts
+}
+
+/// A trace of each kind with two values wherever a number has no limit; what is kept of them is read back.
+fn of_values(least: u32, most: u32) -> [Script; 3] {
+    let kinds = [
+        (Script::new(0, &[least, most]), 0x134),
+        (Script::new(1, &[8, 32, 1, 0]), 0x20),
+        (Script::new(2, &[33, 2, 2, most]), 0x300),
+    ];
+    kinds.map(|(mut script, register)| {
+        for value in [least, most] {
+            script.write(register, value);
+            script.read(register);
+            script.read(value);
+            script.line(0, value);
+            script.line(value, 1);
+        }
+        script.read(0x000);
+        script
+    })
+}
+
 /// Every defect at every number.
 fn defects() -> Vec<Script> {
     let mut scripts = Vec::new();
     for script in short_traces() {
         for place in 0..script.numbers.len() {
-            for defect in [
-                Defect::Missing,
-                Defect::Cut,
-                Defect::TooManyBytes,
-                Defect::TooManyBits,
-                Defect::NotShortest,
-            ] {
+            for defect in Defect::ALL {
                 let mut spoiled = script.clone();
                 spoil(&mut spoiled, place, defect);
                 scripts.push(spoiled);
@@ -469,11 +506,19 @@ fn defects() -> Vec<Script> {
     scripts
 }
 
-/// Unknown kinds and steps, and configuration numbers just beyond their limits and far beyond.
+/// Unknown kinds and steps, and configuration numbers just beyond their limits and far beyond; in longer forms too.
 fn unknown_and_beyond() -> Vec<Script> {
     let mut scripts = Vec::new();
     for kind in [3, 0x83, u32::MAX] {
         scripts.push(Script::new(kind, &[0, 0, 0, 0]));
+    }
+    for width in 2..=NUMBER_BYTES {
+        scripts.push(Script::new(3, &[0, 0, 0, 0]).rewritten(|| width));
+        for step in [0, 4] {
+            let mut script = papers_example();
+            script.number(step);
+            scripts.push(script.rewritten(|| width));
+        }
     }
     for step in [0, 4, 0x81, u32::MAX] {
         for mut script in short_traces() {
@@ -490,6 +535,9 @@ fn unknown_and_beyond() -> Vec<Script> {
                 configuration[place] = number;
                 scripts.push(Script::new(kind, &configuration));
             }
+            let mut configuration = most;
+            configuration[place] = configuration[place].wrapping_add(1);
+            scripts.push(Script::new(kind, &configuration).rewritten(|| NUMBER_BYTES - place));
         }
     }
     scripts
@@ -512,6 +560,7 @@ fn limits() -> Vec<Script> {
     }
     for kind in Kind::ALL {
         traces.push(long::wide(random, kind));
+        traces.push(long::padded(random, kind));
     }
     traces.push(vec![0xFF; LONGEST]);
     traces.push(vec![0xFF; LONGEST + 1]);

@@ -17,14 +17,23 @@ pub three-groups : numberAt (7 ∷ 229 ∷ 142 ∷ 38 ∷ 1 ∷ []) 1 ≡ Value 
 unfolding pick anyBelow sumBelow lowestBelow sizeAt worthAt faulty numberAt
 three-groups = refl
 
--- 0 is one byte, and no other form of it is good
+-- 0 in one byte, in two and in five (02, 1/12)
 zero-one : numberAt (0 ∷ []) 0 ≡ Value 0 1
 unfolding pick anyBelow sumBelow lowestBelow sizeAt worthAt faulty numberAt
 zero-one = refl
 
-zero-two : numberAt (128 ∷ 0 ∷ []) 0 ≡ Refused damaged 0
+zero-two : numberAt (128 ∷ 0 ∷ []) 0 ≡ Value 0 2
 unfolding pick anyBelow sumBelow lowestBelow sizeAt worthAt faulty numberAt
 zero-two = refl
+
+zero-five : numberAt (128 ∷ 128 ∷ 128 ∷ 128 ∷ 0 ∷ []) 0 ≡ Value 0 5
+unfolding pick anyBelow sumBelow lowestBelow sizeAt worthAt faulty numberAt
+zero-five = refl
+
+-- 83 00 is 3
+three-two : numberAt (131 ∷ 0 ∷ []) 0 ≡ Value 3 2
+unfolding pick anyBelow sumBelow lowestBelow sizeAt worthAt faulty numberAt
+three-two = refl
 
 -- 32 bits are taken, 33 are not
 largest : numberAt (255 ∷ 255 ∷ 255 ∷ 255 ∷ 15 ∷ []) 0 ≡ Value (2 ^ 32 - 1) 5
@@ -35,8 +44,8 @@ too-large : numberAt (128 ∷ 128 ∷ 128 ∷ 128 ∷ 16 ∷ []) 0 ≡ Refused d
 unfolding pick anyBelow sumBelow lowestBelow sizeAt worthAt faulty numberAt
 too-large = refl
 
--- six bytes are too many
-too-long : numberAt (128 ∷ 128 ∷ 128 ∷ 128 ∷ 128 ∷ 1 ∷ []) 0 ≡ Refused damaged 0
+-- six bytes are too many, whatever they are worth: here 0 (02, 1/12)
+too-long : numberAt (128 ∷ 128 ∷ 128 ∷ 128 ∷ 128 ∷ 0 ∷ []) 0 ≡ Refused damaged 0
 unfolding pick anyBelow sumBelow lowestBelow sizeAt worthAt faulty numberAt
 too-long = refl
 

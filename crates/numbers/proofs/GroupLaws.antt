@@ -1,8 +1,8 @@
--- Sums of groups: what n digits to the base 128 are worth, and that they are worth no less and no more than their own.
+-- Sums of groups: what n digits to the base 128 are worth, which of them count, and that they are settled by what they are worth.
 use Prim.Native.Nat.{ℕ, zero, suc, _+_, _*_, _/_, _^_, _<_, _≤_}
-use mathlib.Core.Path.{_≡_, sym, ap, _∙_}
+use mathlib.Core.Path.{_≡_, refl, sym, ap, _∙_}
 use mathlib.Core.Logic.{⊎-elim}
-use native.Mathlib.Nat.{mul-le-mul-right, pow-le-pow-right, pow-succ', add-mul-div-right, div-eq-of-lt, zero-add, le-of-suc-le-suc, eq-or-lt-of-le}
+use native.Mathlib.Nat.{mul-le-mul-right, pow-le-pow-right, pow-succ', add-mul-div-right, div-eq-of-lt, zero-add, add-zero, le-of-suc-le-suc, eq-or-lt-of-le}
 use native.Mathlib.Numerals.{add-one}
 use native.Mathlib.Omega.{arith}
 use Rattle.words.specs.Counting.{sumBelow}
@@ -37,12 +37,20 @@ unfolding sumBelow
 worth-lt f h zero = omega arith
 worth-lt f h (suc n) = omega (arith, worth-lt f h n, part-le (f n) (128 ^ n) (h n), pow-succ' 128 n)
 
--- and at least a unit if the last is not 0
-pub worth-le : (f : ℕ → ℕ) (n : ℕ) → 0 < f n → 128 ^ n ≤ worth f (suc n)
+-- digits of 0 on top add nothing
+pub worth-padded : (f : ℕ → ℕ) (n d : ℕ) → ((k : ℕ) → n ≤ k → f k ≡ 0) → worth f n ≡ worth f (n + d)
 unfolding sumBelow
-worth-le f n l =
-    let h : 1 * 128 ^ n ≤ f n * 128 ^ n = mul-le-mul-right (128 ^ n) l in
-    omega arith
+worth-padded f n zero z = ap (worth f) (sym (add-zero n))
+worth-padded f n (suc d) z =
+    let e : suc (n + d) ≡ n + suc d = omega arith in
+    let more : worth f (n + d) ≡ worth f (suc (n + d)) = omega (arith, ap (λ (x : ℕ). x * 128 ^ (n + d)) (z (n + d) (omega arith))) in
+    worth-padded f n d z ∙ more ∙ ap (worth f) e
+
+-- the same digits are worth the same
+pub worth-same : (f g : ℕ → ℕ) (n : ℕ) → ((k : ℕ) → k < n → f k ≡ g k) → worth f n ≡ worth g n
+unfolding sumBelow
+worth-same f g zero e = refl
+worth-same f g (suc n) e = omega (arith, worth-same f g n (λ k l. e k (omega arith)), ap (λ (x : ℕ). x * 128 ^ n) (e n (omega arith)))
 
 -- the last digit is what a division by its unit gives
 top-digit : (a g u : ℕ) → a < u → (a + g * u) / u ≡ g

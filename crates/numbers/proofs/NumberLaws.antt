@@ -1,18 +1,17 @@
 -- How many bytes a number asks for, and what is known of a number that is refused or read.
-use Prim.Native.Nat.{ℕ, _+_, _-_, _*_, _^_, _<_, _≤_}
+use Prim.Native.Nat.{ℕ, _+_, _*_, _^_, _<_, _≤_}
 use mathlib.Core.Path.{_≡_, refl, ap, _∙_}
 use mathlib.Core.List.{List}
 use mathlib.Core.Bool.{Bool, true, false, _||_}
 use native.Mathlib.Nat.{mod-lt, eq-or-lt-of-le}
 use mathlib.Core.Logic.{_⊎_, inl, inr, ⊎-elim}
 use native.Mathlib.Omega.{arith}
-use borrow.Author.Tests.{lt-ltb, ltb-true, ltb-false, leb-true, leb-false, eq-eqb, eqb-true}
-use lib.Dec.{ltb, eqb}
+use borrow.Author.Tests.{lt-ltb, ltb-true, ltb-false, leb-true, leb-false}
 use lib.ListN.{length, getD}
 use Rattle.words.specs.Counting.{sumBelow, lowestBelow}
 use Rattle.words.proofs.CountingLaws.{Lowest, lowest-found, lowest-one}
-use Rattle.words.proofs.TruthLaws.{and-left, and-right, and-both, or-either, or-left, clash}
-use Rattle.numbers.specs.Number.{closes, group, sizeAt, worthAt, cutShort, tooLarge, tooLong, notShortest, faulty, answer, numberAt}
+use Rattle.words.proofs.TruthLaws.{or-either, or-left, told as told-apart}
+use Rattle.numbers.specs.Number.{closes, group, sizeAt, worthAt, cutShort, tooLarge, tooLong, faulty, answer, numberAt}
 use Rattle.steps.specs.Refusals.{damaged}
 use Rattle.words.proofs.ChoiceLaws.{pick-true, pick-false}
 use Rattle.numbers.specs.declared.Number.the-variants.{Value, Refused}
@@ -96,7 +95,6 @@ pub record Good (s : List ℕ) (at n v : ℕ) : Type 0 where
   pub within : at + n ≤ length s
   pub fits : v < 2 ^ 32
   pub short : n ≤ 5
-  pub shortest : 1 < n → group (getD s (at + (n - 1)) 0) ≡ 0 → ⊥
 
 -- so is the number at a place
 abbrev pub GoodAt : List ℕ → ℕ → Type 0
@@ -105,52 +103,42 @@ GoodAt s at = Good s at (sizeAt s at) (worthAt s at (sizeAt s at))
 pub faultless : (s : List ℕ) (at n v : ℕ) → faulty s at n v ≡ false → Good s at n v
 unfolding faulty
 faultless s at n v e =
-    let p = or-neither (cutShort s at n || tooLarge v || tooLong n) (notShortest s at n) e in
-    let q = or-neither (cutShort s at n || tooLarge v) (tooLong n) (p .0) in
+    let q = or-neither (cutShort s at n || tooLarge v) (tooLong n) e in
     let r = or-neither (cutShort s at n) (tooLarge v) (q .0) in
     record {
       within = ltb-false (length s) (at + n) (r .0);
       fits = leb-false (2 ^ 32) v (r .1);
       short = ltb-false 5 n (q .1);
-      shortest = λ l z. clash (and-both (lt-ltb 1 n l) (eq-eqb (group (getD s (at + (n - 1)) 0)) 0 z)) (p .1);
     }
 
--- at least one of the four faults
+-- at least one of the three faults
 abbrev pub Fault : List ℕ → ℕ → ℕ → ℕ → Type 0
-Fault s at n v = (length s < at + n) ⊎ ((2 ^ 32 ≤ v) ⊎ ((5 < n) ⊎ ((1 < n) × (group (getD s (at + (n - 1)) 0) ≡ 0))))
+Fault s at n v = (length s < at + n) ⊎ ((2 ^ 32 ≤ v) ⊎ (5 < n))
 
 pub fault : (s : List ℕ) (at n v : ℕ) → faulty s at n v ≡ true → Fault s at n v
 unfolding faulty
 fault s at n v e =
     ⊎-elim
-    (λ (p : (cutShort s at n || tooLarge v || tooLong n) ≡ true).
-    ⊎-elim
     (λ (q : (cutShort s at n || tooLarge v) ≡ true).
     ⊎-elim (λ (r : cutShort s at n ≡ true). inl (ltb-true (length s) (at + n) r)) (λ (r : tooLarge v ≡ true). inr (inl (leb-true (2 ^ 32) v r)))
     (or-either (cutShort s at n) (tooLarge v) q))
-    (λ (q : tooLong n ≡ true). inr (inr (inl (ltb-true 5 n q))))
-    (or-either (cutShort s at n || tooLarge v) (tooLong n) p))
-    (λ (p : notShortest s at n ≡ true).
-    inr (inr (inr (
-      ltb-true 1 n (and-left (ltb 1 n) (eqb (group (getD s (at + (n - 1)) 0)) 0) p),
-      eqb-true (group (getD s (at + (n - 1)) 0)) 0 (and-right (ltb 1 n) (eqb (group (getD s (at + (n - 1)) 0)) 0) p),
-    ))))
-    (or-either (cutShort s at n || tooLarge v || tooLong n) (notShortest s at n) e)
+    (λ (q : tooLong n ≡ true). inr (inr (ltb-true 5 n q)))
+    (or-either (cutShort s at n || tooLarge v) (tooLong n) e)
 
 -- a good number has no fault
 pub good-faultless : (s : List ℕ) (at n v : ℕ) → Good s at n v → Fault s at n v → ⊥
 good-faultless s at n v g (inl h) = omega (arith, g .within)
 good-faultless s at n v g (inr (inl h)) = omega (arith, g .fits)
-good-faultless s at n v g (inr (inr (inl h))) = omega (arith, g .short)
-good-faultless s at n v g (inr (inr (inr h))) = g .shortest (h .0) (h .1)
+good-faultless s at n v g (inr (inr h)) = omega (arith, g .short)
+
+pub not-faulty : (s : List ℕ) (at n v : ℕ) → Good s at n v → faulty s at n v ≡ false
+not-faulty s at n v g = ⊎-elim (λ e. absurd (good-faultless s at n v g (fault s at n v e))) (λ e. e) (told-apart (faulty s at n v))
 
 -- a number that does not begin is cut short
 pub never-begun : (s : List ℕ) (at v : ℕ) → length s ≤ at → faulty s at (sizeAt s at) v ≡ true
 unfolding faulty
 never-begun s at v h =
-    or-left (notShortest s at (sizeAt s at))
-    (or-left (tooLong (sizeAt s at))
-    (or-left (tooLarge v) (lt-ltb (length s) (at + sizeAt s at) (omega (arith, sized s at .some)))))
+    or-left (tooLong (sizeAt s at)) (or-left (tooLarge v) (lt-ltb (length s) (at + sizeAt s at) (omega (arith, sized s at .some))))
 
 -- ---- the number at a place
 

@@ -1,7 +1,7 @@
 -- The promises of the numbers, kept: a number has a fault and is refused, or it is good and is read.
 use Prim.Native.Nat.{ℕ, _+_, _-_, _^_, _<_, _≤_}
 use mathlib.Core.Path.{_≡_, refl, sym, ap, _∙_}
-use mathlib.Core.List.{List}
+use mathlib.Core.List.{List, _++_}
 use mathlib.Core.Logic.{_↔_, _≢_, _⊎_, inl, inr, ⊎-elim}
 use native.Mathlib.Omega.{arith}
 use lib.ListN.{length, getD}
@@ -10,10 +10,10 @@ use Rattle.words.proofs.TruthLaws.{told as told-apart}
 use Rattle.steps.specs.Refusals.{carriedOut, damaged}
 use Rattle.numbers.specs.declared.Number.the-variants.{Value, Refused}
 use Rattle.numbers.specs.Number.{sizeAt, worthAt, faulty, numberAt, Told, told}
-use Rattle.numbers.specs.Promises.{toldAt, Spans, Damaged, Promises}
-use Rattle.numbers.proofs.FormLaws.{one-form}
+use Rattle.numbers.specs.Promises.{toldAt, Spans, Form, Damaged, groupOf, padded, Promises}
+use Rattle.numbers.proofs.FormLaws.{same-value, padded-form, padded-worth}
 use Rattle.numbers.proofs.Examples.{three-groups}
-use Rattle.numbers.proofs.NumberLaws.{Sized, sized, size-found, size-none, worth-none, worth-turn, GoodAt, good-faultless, faultless, fault, missing, refused, read}
+use Rattle.numbers.proofs.NumberLaws.{Sized, sized, size-found, size-none, worth-none, worth-turn, Good, GoodAt, good-faultless, faultless, not-faulty, fault, missing, refused, read}
 
 -- what a refused number tells
 abbrev gone : ℕ → Told
@@ -79,6 +79,27 @@ next s at e =
     let h = taken s at e in
     rw (h .1) (omega (arith, sized s at .some), h .0 .within)
 
+-- ---- forms of a value
+
+any-form : (s : List ℕ) (at n : ℕ) → Form s at n → worthAt s at n < 2 ^ 32 → toldAt s at ≡ record { refusal = carriedOut; value = worthAt s at n; place = at + n }
+any-form s at n f l =
+    let g : Good s at n (worthAt s at n) = record { within = f .1 .1; fits = l; short = f .1 .0 } in
+    ap told (sym (read s at n (worthAt s at n) (sym (size s at n (f .1 .0) .1 (f .0)), refl) (not-faulty s at n (worthAt s at n) g)))
+
+same : (s t : List ℕ) (a b : ℕ) → toldAt s a .refusal ≡ carriedOut → toldAt t b .refusal ≡ carriedOut
+    → (toldAt s a .value ≡ toldAt t b .value) ↔ ((k : ℕ) → k < 5 → groupOf s a k ≡ groupOf t b k)
+same s t a b p q =
+    let x = taken s a p in
+    let y = taken t b q in
+    rw (x .1, y .1) (same-value s t a b (x .0 .short) (y .0 .short))
+
+recorded : (before rest : List ℕ) (v : ℕ) → v < 2 ^ 32
+    → toldAt (before ++ (padded v ++ rest)) (length before) ≡ record { refusal = carriedOut; value = v; place = length before + 5 }
+recorded before rest v l =
+    let e : worthAt (before ++ (padded v ++ rest)) (length before) 5 ≡ v = padded-worth before rest v l in
+    any-form (before ++ (padded v ++ rest)) (length before) 5 (padded-form before rest v l) (rw e l)
+    ∙ ap (λ (x : ℕ). record { refusal = carriedOut; value = x; place = length before + 5 }) e
+
 pub kept : Promises
 kept =
     record {
@@ -98,9 +119,7 @@ kept =
       fits = fits;
       next = next;
       threeBytes = ap told three-groups;
-      oneForm =
-          λ s t a b hs ht p q e.
-          let x = taken s a p in
-          let y = taken t b q in
-          one-form s t a b hs ht (x .0) (y .0) (sym (ap (λ (o : Told). o .value) (x .1)) ∙ e ∙ ap (λ (o : Told). o .value) (y .1));
+      anyForm = any-form;
+      sameValue = same;
+      recorded = recorded;
     }

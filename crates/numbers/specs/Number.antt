@@ -1,9 +1,9 @@
 -- A number of the house trace: groups of seven bits, the lowest first (01, "House trace").
-use Prim.Native.Nat.{ℕ, _+_, _-_, _*_, _%_, _^_}
+use Prim.Native.Nat.{ℕ, _+_, _*_, _%_, _^_}
 use mathlib.Core.List.{List}
-use mathlib.Core.Bool.{Bool, _&&_, _||_}
+use mathlib.Core.Bool.{Bool, _||_}
 use lib.ListN.{length, getD}
-use lib.Dec.{eqb, ltb, leb}
+use lib.Dec.{ltb, leb}
 use Rattle.words.specs.Choice.{pick}
 use Rattle.words.specs.Counting.{sumBelow, lowestBelow}
 use Rattle.steps.specs.Refusals.{carriedOut, damaged}
@@ -26,7 +26,7 @@ sizeAt s at = 1 + lowestBelow 5 (λ k. closes (getD s (at + k) 0))
 unfoldable pub worthAt : List ℕ → ℕ → ℕ → ℕ
 worthAt s at n = sumBelow n (λ k. group (getD s (at + k) 0) * 128 ^ k)
 
--- ---- what is wrong with a number of n bytes at a place (01, Numbers, 8)
+-- ---- what is wrong with a number of n bytes at a place (01, Numbers, 8; 02, 1/12)
 
 -- it does not end within the trace
 abbrev pub cutShort : List ℕ → ℕ → ℕ → Bool
@@ -40,13 +40,9 @@ tooLarge v = leb (2 ^ 32) v
 abbrev pub tooLong : ℕ → Bool
 tooLong n = ltb 5 n
 
--- it could do without its last byte, which brings no bit
-abbrev pub notShortest : List ℕ → ℕ → ℕ → Bool
-notShortest s at n = ltb 1 n && eqb (group (getD s (at + (n - 1)) 0)) 0
-
--- any of the four, for a number of n bytes worth v
+-- any of the three, for a number of n bytes worth v; groups of 0 on top are no fault (02, 1/12)
 unfoldable pub faulty : List ℕ → ℕ → ℕ → ℕ → Bool
-faulty s at n v = cutShort s at n || tooLarge v || tooLong n || notShortest s at n
+faulty s at n v = cutShort s at n || tooLarge v || tooLong n
 
 -- ---- the number at a place
 

@@ -1,9 +1,11 @@
 -- What is promised of the numbers of a trace, in the numbers of 01 that an answer tells. The byte at a place k of a trace s is `getD s k 0`, 0 past its end.
-use Prim.Native.Nat.{ℕ, _+_, _-_, _*_, _%_, _^_, _<_, _≤_}
+use Prim.Native.Nat.{ℕ, _+_, _-_, _*_, _/_, _%_, _^_, _<_, _≤_}
 use mathlib.Core.Path.{_≡_}
-use mathlib.Core.List.{List, [], _∷_}
+use mathlib.Core.List.{List, [], _∷_, _++_}
 use mathlib.Core.Logic.{_↔_, _≢_, _⊎_}
+use lib.Dec.{ltb}
 use lib.ListN.{length, getD}
+use Rattle.words.specs.Choice.{pick}
 use Rattle.numbers.specs.declared.Number.the-variants.{Value, Refused}
 use Rattle.numbers.specs.Number.{sizeAt, worthAt, numberAt, Told, told}
 
@@ -11,24 +13,25 @@ use Rattle.numbers.specs.Number.{sizeAt, worthAt, numberAt, Told, told}
 abbrev pub toldAt : List ℕ → ℕ → Told
 toldAt s at = told (numberAt s at)
 
--- a trace is made of bytes
-abbrev pub Bytes : List ℕ → Type 0
-Bytes s = (k : ℕ) → getD s k 0 < 256
-
 -- n bytes from a place on are one number: all but the last have the top bit set, the last has it clear (01, House trace)
 abbrev pub Spans : List ℕ → ℕ → ℕ → Type 0
 Spans s at n = (1 ≤ n) × (((k : ℕ) → k + 1 < n → 128 ≤ getD s (at + k) 0) × (getD s (at + (n - 1)) 0 < 128))
 
--- cut short, over 32 bits, over 5 bytes, or not shortest: the last of several bytes brings no bit (01, Numbers, 8)
-abbrev pub Damaged : List ℕ → ℕ → Type 0
-Damaged s at =
-    (length s < at + sizeAt s at) ⊎ ((2 ^ 32 ≤ worthAt s at (sizeAt s at)) ⊎ ((5 < sizeAt s at)
-    ⊎ ((1 < sizeAt s at) × (getD s (at + (sizeAt s at - 1)) 0 % 128 ≡ 0))))
+-- and they are a form of it: five of them at most, all within the trace (02, 1/12)
+abbrev pub Form : List ℕ → ℕ → ℕ → Type 0
+Form s at n = Spans s at n × ((n ≤ 5) × (at + n ≤ length s))
 
--- the same bytes stand from a on in s and from b on in t, as many as the number at each place takes
-pub record SameForm (s : List ℕ) (a : ℕ) (t : List ℕ) (b : ℕ) : Type 0 where
-  pub size : sizeAt s a ≡ sizeAt t b
-  pub bytes : (k : ℕ) → k < sizeAt s a → getD s (a + k) 0 ≡ getD t (b + k) 0
+-- cut short, over 32 bits, or over 5 bytes (01, Numbers, 8; 02, 1/12)
+abbrev pub Damaged : List ℕ → ℕ → Type 0
+Damaged s at = (length s < at + sizeAt s at) ⊎ ((2 ^ 32 ≤ worthAt s at (sizeAt s at)) ⊎ (5 < sizeAt s at))
+
+-- the seven bits that byte k of the number at a place brings, 0 beyond its last byte
+abbrev pub groupOf : List ℕ → ℕ → ℕ → ℕ
+groupOf s at k = pick (ltb k (sizeAt s at)) (getD s (at + k) 0 % 128) 0
+
+-- all five bytes of a word, as a recorder writes them that leaves room before it knows the number (02, 1/12)
+abbrev pub padded : ℕ → List ℕ
+padded v = (128 + v % 128) ∷ (128 + v / 128 % 128) ∷ (128 + v / 128 ^ 2 % 128) ∷ (128 + v / 128 ^ 3 % 128) ∷ (v / 128 ^ 4) ∷ []
 
 pub record Promises : Type 0 where
   -- ---- what an answer tells
@@ -66,8 +69,13 @@ pub record Promises : Type 0 where
   pub next : (s : List ℕ) (at : ℕ) → toldAt s at .refusal ≡ 0 → (at < toldAt s at .place) × (toldAt s at .place ≤ length s)
   -- so E5 8E 26 after another byte is 101 + 14 * 128 + 38 * 16384, and what follows is read from the byte after 26 on (01, House trace)
   pub threeBytes : toldAt (7 ∷ 229 ∷ 142 ∷ 38 ∷ 1 ∷ []) 1 ≡ record { refusal = 0; value = 624485; place = 4 }
-  -- ---- shortest form
+  -- ---- forms of a value
 
-  -- a value has one form: numbers that tell the same value are written with the same bytes (01, House trace, shortest form)
-  pub oneForm : (s t : List ℕ) (a b : ℕ) → Bytes s → Bytes t → toldAt s a .refusal ≡ 0 → toldAt t b .refusal ≡ 0
-      → toldAt s a .value ≡ toldAt t b .value → SameForm s a t b
+  -- any form of one to five bytes is read whose value fits 32 bits, with groups of 0 on top or without (the change requests, 02, 1/12)
+  pub anyForm : (s : List ℕ) (at n : ℕ) → Form s at n → worthAt s at n < 2 ^ 32 → toldAt s at ≡ record { refusal = 0; value = worthAt s at n; place = at + n }
+  -- two numbers that are read tell the same value exactly if they have the same groups, a group beyond the last byte counting 0 (02, 1/12)
+  pub sameValue : (s t : List ℕ) (a b : ℕ) → toldAt s a .refusal ≡ 0 → toldAt t b .refusal ≡ 0
+      → (toldAt s a .value ≡ toldAt t b .value) ↔ ((k : ℕ) → k < 5 → groupOf s a k ≡ groupOf t b k)
+  -- the five bytes of a word, whatever stands before and after them, are read as that word, and the next place is 5 further (02, 1/12)
+  pub recorded : (before rest : List ℕ) (v : ℕ) → v < 2 ^ 32
+      → toldAt (before ++ (padded v ++ rest)) (length before) ≡ record { refusal = 0; value = v; place = length before + 5 }

@@ -52,13 +52,12 @@ fn number_at(trace: &[u8], at: usize) -> Number
     Number::Value(v as u32, at + n)
 }
 
-// Whether a number of n bytes worth v is cut short, over 32 bits, over five bytes or not in its shortest form.
+// Whether a number of n bytes worth v is cut short, over 32 bits or over five bytes; groups of 0 on top are no fault.
 fn is_faulty(trace: &[u8], at: usize, n: usize, v: u64) -> bool
-    requires { ⌜ (at < length (now trace)) × ((1 ≤ n) × (n ≤ 6)) ⌝ }
+    requires { ⌜ (at < length (now trace)) × (n ≤ 6) ⌝ }
     ensures { λ r. ⌜ r ≡ faulty (now (trace .entry)) at n v ⌝ }
 {
-    let top = byte_at(trace, at + (n - 1));
-    (trace.len() < at + n) | (4294967296 <= v) | (5 < n) | ((1 < n) & (top % 128 == 0))
+    (trace.len() < at + n) | (4294967296 <= v) | (5 < n)
 }
 
 // How many bytes the number at a place asks for; 6 where five bytes do not end it.

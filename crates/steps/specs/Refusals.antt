@@ -38,7 +38,7 @@ beyond = 6
 abbrev pub limitReached : ℕ
 limitReached = 7
 
--- a number of the trace is cut short, too large, too long or not in its shortest form
+-- a number of the trace is cut short, too large or too long (01, Numbers; 02, 1/12)
 abbrev pub damaged : ℕ
 damaged = 8
 

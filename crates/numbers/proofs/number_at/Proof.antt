@@ -13,7 +13,7 @@ worth-at-requires : tie.Need-worth-at-requires
 worth-at-requires c κs = (search needs, rw (c .size-at .ensures) (sized _ _ .most))
 
 is-faulty-requires : tie.Need-is-faulty-requires
-is-faulty-requires c κs = (search needs, rw (c .before .size-at .ensures) (sized _ _ .some, sized _ _ .most))
+is-faulty-requires c κs = (search needs, rw (c .before .size-at .ensures) (sized _ _ .most))
 
 returns-2 : tie.Need-returns-2
 returns-2 c =
