@@ -24,6 +24,7 @@ fn open_word(s: Aintc, n: u32) -> u32
     words::drop_bits(raised, aintc_record::mask_word(s, n))
 }
 
+// The bit of a route that asks for an output: 1 for FIQ, 0 for IRQ.
 fn side_number(fast: bool) -> u8
     ensures { λ r. ⌜ r ≡ one fast ⌝ }
 {
@@ -33,6 +34,7 @@ fn side_number(fast: bool) -> u8
     0
 }
 
+// Whether a route asks for the output `side`.
 fn is_routed(route: u8, side: u8) -> bool
     ensures { λ r. ⌜ r ≡ eqb (route % 2) side ⌝ }
 {

@@ -1,4 +1,4 @@
-// The AINTC's record: its registers, its line levels and the two chosen inputs.
+// The AINTC's record: its registers, its line levels and the two chosen inputs (000, chapter 4).
 ghost use mathlib.Core.Path.{_≡_};
 ghost use mathlib.Core.Bool.{_&&_};
 ghost use lib.Dec.{eqb, leb};
@@ -16,7 +16,8 @@ pub struct Chosen {
     pub priority: u8,
 }
 
-// Input k is bit k % 32 of word k / 32, and byte k of the routes: 2 * priority + 1 for FIQ, 2 * priority for IRQ.
+// Input k is bit k % 32 of word k / 32, and byte k of the routes: 2 * priority + 1 for FIQ, 2 * priority for IRQ. A mask of 1 masks.
+// `guarded` is the protection bit; `autoidle`, `turbo` and `funcidle` only gate clocks and have no effect here.
 pub struct Aintc {
     pub lines: [u32; 4],
     pub soft: [u32; 4],
@@ -32,7 +33,7 @@ pub struct Aintc {
     pub fiq: Chosen,
 }
 
-// No input is chosen.
+// None is chosen.
 pub fn nobody() -> Chosen
     ensures { λ r. ⌜ r ≡ nobody ⌝ }
 {
@@ -265,6 +266,7 @@ pub fn route_byte(v: u32) -> u8
 
 // ---- the bounds of the two chosen ones
 
+// Whether the one chosen for an output is within its bounds.
 fn chosen_bounded(c: Chosen) -> bool
     ensures { λ r. ⌜ r ≡ chosenBounded c ⌝ }
 {
@@ -274,7 +276,7 @@ fn chosen_bounded(c: Chosen) -> bool
     (c.number == 0) & (c.priority == 0)
 }
 
-// Whether a chosen input and its priority are below 128, and both numbers are 0 where none is chosen.
+// Whether each chosen input and its priority are at most 127, and both numbers are 0 where none is chosen.
 pub fn is_bounded(s: Aintc) -> bool
     ensures { λ r. ⌜ r ≡ bounded s ⌝ }
 {
