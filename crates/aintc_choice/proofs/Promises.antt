@@ -17,11 +17,11 @@ use Rattle.aintc_record.specs.declared.Aintc.{Aintc}
 use Rattle.aintc_record.specs.declared.Chosen.{Chosen}
 use Rattle.aintc_record.specs.Bounds.{bounded}
 use Rattle.aintc_record.specs.Record.{side, withThreshold, chosenAt, reset, blank}
-use Rattle.aintc_record.specs.Route.{routeOf, routeAt, priority, routed}
+use Rattle.aintc_record.specs.Route.{routeAt, priority, routed}
 use Rattle.aintc_record.proofs.Promises as record-promises
 use Rattle.aintc_record.proofs.RecordLaws.{bounded-is, is-bounded, priority-fits}
 use Rattle.aintc_choice.specs.Inputs.{raised, unmasked, pending, passes, eligible, pendingWord}
-use Rattle.aintc_choice.specs.Order.{some, first}
+use Rattle.aintc_choice.specs.Order.{some}
 use Rattle.aintc_choice.specs.Promises.{SomeEligible, NoneEligible, First, Rules, Promises}
 use Rattle.aintc_choice.specs.Settle.{settledSide, settle, sideQuiet, sound}
 use Rattle.aintc_choice.proofs.OrderLaws.{before-is, is-before, before-irreflexive, before-transitive, before-total, first-one, first-none}

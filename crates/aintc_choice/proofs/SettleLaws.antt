@@ -2,28 +2,28 @@
 use Prim.Native.Nat.{ℕ, _-_, _≤_, _<_}
 use mathlib.Core.Path.{_≡_, refl, sym, ap, ap₂, _∙_}
 use mathlib.Core.Bool.{Bool, true, false, not, _&&_, _||_}
-use mathlib.Core.Logic.{_↔_, _⊎_, inl, inr, ⊎-elim}
+use mathlib.Core.Logic.{_⊎_, inl, inr, ⊎-elim}
 use native.Mathlib.Omega.{arith}
-use lib.Dec.{eqb, ltb}
-use borrow.Author.Tests.{lt-ltb, le-ltb, not-true, le-leb, eq-eqb, ne-eqb}
+use lib.Dec.{eqb}
+use borrow.Author.Tests.{not-true, eq-eqb, ne-eqb}
 use Rattle.words.specs.Choice.{pick}
 use Rattle.words.proofs.ChoiceLaws.{pick-true, pick-false, pick-cases}
 use Rattle.words.proofs.TruthLaws.{and-left, and-right, and-both, or-either, or-left, or-right, clash, not-holds, told}
 use Rattle.words.proofs.CountingLaws.{any-some, some-any, any-fails, any-none}
 use Rattle.aintc_record.specs.declared.Aintc.{Aintc}
 use Rattle.aintc_record.specs.declared.Chosen.{Chosen}
-use Rattle.aintc_record.specs.Bounds.{chosenBounded, bounded}
+use Rattle.aintc_record.specs.Bounds.{bounded}
 use Rattle.aintc_record.specs.Promises.{Bounds}
 use Rattle.aintc_record.specs.Record.{side, withSides, chosenAt}
-use Rattle.aintc_record.specs.Route.{priorityOf, routeAt, priority, routed}
-use Rattle.aintc_record.proofs.RecordLaws.{bounds-is, is-bounds, bounded-is, is-bounded, priority-fits}
+use Rattle.aintc_record.specs.Route.{priority, routed}
+use Rattle.aintc_record.proofs.RecordLaws.{bounded-is, is-bounded, priority-fits}
 use Rattle.aintc_choice.specs.declared.Best.{Best}
 use Rattle.aintc_choice.specs.Inputs.{raised, unmasked, pending, passes, eligible}
 use Rattle.aintc_choice.specs.Order.{some, first}
-use Rattle.aintc_choice.specs.Promises.{SomeEligible, NoneEligible, First, Rules}
+use Rattle.aintc_choice.specs.Promises.{SomeEligible, NoneEligible, First}
 use Rattle.aintc_choice.specs.Search.{searched}
 use Rattle.aintc_choice.specs.Settle.{settledSide, settle, sideQuiet, sound}
-use Rattle.aintc_choice.proofs.OrderLaws.{first-one, first-none}
+use Rattle.aintc_choice.proofs.OrderLaws.{first-none}
 use Rattle.aintc_choice.proofs.SearchLaws.{searched-first, searched-limit, first-cases}
 
 -- ---- some input is eligible

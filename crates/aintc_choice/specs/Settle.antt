@@ -1,5 +1,4 @@
 -- What the outputs take after a step, and the rules of a sound record (02, 2/12; 000, 4.3.1.2.3).
-use Prim.Native.Nat.{ℕ}
 use mathlib.Core.Bool.{Bool, true, false, not, _&&_, _||_}
 use Rattle.words.specs.Choice.{pick}
 use Rattle.aintc_record.specs.declared.Aintc.{Aintc}

@@ -1,12 +1,10 @@
 // The AINTC's inputs: which are raised, pending and eligible, which one is before all others, and what an output with none chosen takes.
 ghost use mathlib.Core.Path.{_≡_};
-ghost use mathlib.Core.Bool.{not, _&&_};
+ghost use mathlib.Core.Bool.{not};
 ghost use Prim.Native.Nat.{_-_, _%_, _≤_, _<_};
-ghost use lib.Dec.{eqb, leb};
-ghost use lib.ListN.{getD};
-ghost use Rattle.words.specs.Choice.{pick};
+ghost use lib.Dec.{eqb};
 ghost use Rattle.words.specs.Counting.{one};
-ghost use Rattle.words.specs.Word.{bit, wordOf};
+ghost use Rattle.words.specs.Word.{bit};
 ghost use Rattle.aintc_choice.specs.Inputs.{openWord, pendingWord};
 ghost use Rattle.aintc_choice.specs.Order.{first};
 ghost use Rattle.aintc_choice.specs.Search.{routeWord, turned, wordSearched, searched};

@@ -1,9 +1,7 @@
 -- The promises of the record, kept.
-use Prim.Native.Nat.{ℕ, _<_, _%_}
-use mathlib.Core.Path.{_≡_, refl}
-use mathlib.Core.Bool.{true, false}
+use Prim.Native.Nat.{ℕ}
+use mathlib.Core.Path.{refl}
 use mathlib.Core.List.{List}
-use mathlib.Core.Logic.{_↔_}
 use native.Mathlib.Omega.{arith}
 use borrow.Author.Tests.{eqb-true, eq-eqb}
 use Rattle.words.specs.Choice.{pick}

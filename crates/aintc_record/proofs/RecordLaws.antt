@@ -1,9 +1,7 @@
 -- The bounds of the chosen ones, what a reset leaves, and the bits of a route.
-use Prim.Native.Nat.{ℕ, zero, suc, _+_, _*_, _/_, _%_, _^_, _<_, _≤_}
+use Prim.Native.Nat.{ℕ, zero, suc, _+_, _/_, _%_, _^_, _<_, _≤_}
 use mathlib.Core.Path.{_≡_, refl, sym, ap, ap₂, _∙_}
-use mathlib.Core.Bool.{Bool, true, false, _&&_, _||_, and-true, and-false}
-use mathlib.Core.List.{List}
-use mathlib.Core.Logic.{_↔_, _⊎_, inl, inr, ⊎-elim}
+use mathlib.Core.Bool.{true, false, _&&_, _||_, and-true, and-false}
 use native.Mathlib.Omega.{arith}
 use lib.Dec.{eqb, ltb, leb}
 use lib.ListN.{getD, replicate}
@@ -11,18 +9,16 @@ use lib.Pow.{shr-shr}
 use native.Mathlib.Decide.{decLt}
 use borrow.Author.Tests.{eqb-true, eq-eqb, ne-eqb, leb-true, le-leb, lt-leb, lt-ltb, le-ltb}
 use Rattle.words.specs.Array.{bitAt}
-use Rattle.words.specs.Choice.{pick}
 use Rattle.words.specs.Counting.{allBelow}
 use Rattle.words.specs.Word.{bit, kept}
 use Rattle.words.proofs.ChoiceLaws.{pick-true, pick-false, pick-cases}
-use Rattle.words.proofs.TruthLaws.{and-left, and-right, and-both, clash, told}
+use Rattle.words.proofs.TruthLaws.{and-left, and-right, and-both}
 use Rattle.words.proofs.CountingLaws.{all-at}
-use Rattle.words.proofs.WordLaws.{bit-past, bit-kept, bit-mod}
+use Rattle.words.proofs.WordLaws.{bit-kept}
 use Rattle.aintc_record.specs.declared.Aintc.{Aintc}
 use Rattle.aintc_record.specs.declared.Chosen.{Chosen}
 use Rattle.aintc_record.specs.Bounds.{chosenBounded, bounded}
 use Rattle.aintc_record.specs.Promises.{Bounds}
-use Rattle.aintc_record.specs.Record.{reset}
 use Rattle.aintc_record.specs.Route.{priorityOf, routeOf, routeValue, routeByte, priority}
 
 -- ---- bounds

@@ -1,6 +1,5 @@
 -- The bounds of the two chosen inputs: the half of a sound record in which no input plays a part (02, 2/12).
-use Prim.Native.Nat.{ℕ}
-use mathlib.Core.Bool.{Bool, true, false, _&&_}
+use mathlib.Core.Bool.{Bool, _&&_}
 use lib.Dec.{eqb, leb}
 use Rattle.words.specs.Choice.{pick}
 use Rattle.aintc_record.specs.declared.Aintc.{Aintc}

@@ -1,10 +1,7 @@
 // The AINTC's record: its registers, its line levels and the two chosen inputs (000, chapter 4).
 ghost use mathlib.Core.Path.{_≡_};
-ghost use mathlib.Core.Bool.{_&&_};
-ghost use lib.Dec.{eqb, leb};
 ghost use lib.ListN.{getD, set};
-ghost use Rattle.words.specs.Choice.{pick};
-ghost use Rattle.aintc_record.specs.Route.{priorityOf, routeOf, routeValue, routeByte, routeAt};
+ghost use Rattle.aintc_record.specs.Route.{priorityOf, routeValue, routeByte, routeAt};
 ghost use Rattle.aintc_record.specs.Record.{withLines, withSoft, withMasks, withRoutes, withThreshold, withRevision, withGuarded, withAutoidle, withIdle, withSides};
 ghost use Rattle.aintc_record.specs.Record.{nobody, side, reset, blank};
 ghost use Rattle.aintc_record.specs.Bounds.{chosenBounded, bounded};
