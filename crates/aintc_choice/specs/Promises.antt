@@ -46,10 +46,10 @@ pub record Promises : Type 0 where
   -- it is pending for an output exactly if it is raised, not masked and routed there: 1 is FIQ (000, 4.3.1.2.1)
   pub pendingIs : (s : Aintc) (f : Bool) (k : ℕ)
       → (pending s f k ≡ true) ↔ ((raised s k ≡ true) × (bitAt (s .masks) k ≡ false) × (routeAt s k % 2 ≡ one f))
-  -- bit i of PENDING n says whether input 32 n + i is, and it has no other bit (000, 4.5.18 and 4.5.19)
+  -- bit i of PENDING n says whether input 32 n + i is pending, and it has no other bit (000, 4.5.18 and 4.5.19)
   pub pendingBit : (s : Aintc) (f : Bool) (n i : ℕ) → i < 32 → bit (pendingWord s f n) i ≡ pending s f (32 * n + i)
   pub pendingBelow : (s : Aintc) (f : Bool) (n : ℕ) → pendingWord s f n < 2 ^ 32
-  -- so whatever the threshold is (000, 4.3.1.2.1)
+  -- another threshold does not change what is pending (000, 4.3.1.2.1)
   pub pendingFree : (s : Aintc) (t : ℕ) (f : Bool) (k : ℕ) → pending (withThreshold s t) f k ≡ pending s f k
   -- a priority passes exactly if it is 0 or a lower number than the threshold (000, 4.3.1.2.2)
   pub passesIs : (s : Aintc) (p : ℕ) → (passes s p ≡ true) ↔ ((p ≡ 0) ⊎ (p < s .threshold))

@@ -28,25 +28,25 @@ pub record Bounds (c : Chosen) : Type 0 where
   -- with none chosen both numbers are 0
   pub none : c .active ≡ false → (c .number ≡ 0) × (c .priority ≡ 0)
 
--- what a reset leaves beside the lines (000, the values after reset in the figures of 4.5)
+-- what a reset leaves beside the lines (000, 4.5: the values after reset)
 pub record Fresh (s : Aintc) : Type 0 where
-  -- all 128 inputs are masked (figure 4-18)
+  -- all 128 inputs are masked (000, figure 4-18)
   pub maskWords : (n : ℕ) → n < 4 → getD (s .masks) n 0 ≡ 0xFFFFFFFF
   pub masks : (k : ℕ) → k < 128 → bitAt (s .masks) k ≡ true
-  -- no soft interrupt is set (figure 4-21)
+  -- no soft interrupt is set (000, figure 4-21)
   pub softWords : (n : ℕ) → getD (s .soft) n 0 ≡ 0
   pub soft : (k : ℕ) → bitAt (s .soft) k ≡ false
-  -- every input is of priority 0 and routed to IRQ (figure 4-25)
+  -- every input is of priority 0 and routed to IRQ (000, figure 4-25)
   pub routes : (k : ℕ) → routeAt s k ≡ 0
-  -- the threshold is disabled (figure 4-16; 4.3.1.2.2)
+  -- the threshold is disabled (000, figure 4-16; 4.3.1.2.2)
   pub threshold : s .threshold ≡ 0xFF
-  -- every other bit is 0 (figures 4-6, 4-7, 4-12 and 4-13)
+  -- every other bit is 0 (000, figures 4-6, 4-7, 4-12 and 4-13)
   pub revision : s .revision ≡ 0
   pub guarded : s .guarded ≡ false
   pub autoidle : s .autoidle ≡ false
   pub turbo : s .turbo ≡ false
   pub funcidle : s .funcidle ≡ false
-  -- no input is chosen (figures 4-9 and 4-10)
+  -- no input is chosen (000, figures 4-9 and 4-10)
   pub irq : s .irq ≡ nobody
   pub fiq : s .fiq ≡ nobody
 
@@ -77,9 +77,10 @@ pub record Promises : Type 0 where
   -- what a reset leaves, field by field; the lines are those given (000, 4.5)
   pub resetFresh : (ws : List ℕ) → Fresh (reset ws)
   pub resetLines : (ws : List ℕ) → reset ws .lines ≡ ws
+  -- its chosen ones are within their bounds, and its arrays have their lengths
   pub resetBounded : (ws : List ℕ) → bounded (reset ws) ≡ true
   pub resetShaped : (ws : List ℕ) → length ws ≡ 4 → Shaped (reset ws)
-  -- the record where none was started: all 0, nothing masked and nothing raised (01, House trace)
+  -- the record where none was started: all 0 (01, House trace)
   pub blankIs : blank
       ≡ record { lines = replicate 4 0; soft = replicate 4 0; masks = replicate 4 0; routes = replicate 128 0; threshold = 0; revision = 0; guarded = false; autoidle = false; turbo = false; funcidle = false; irq = nobody; fiq = nobody }
   pub blankBounded : bounded blank ≡ true
@@ -102,7 +103,7 @@ pub record Promises : Type 0 where
   pub routeTaken : (v : ℕ) → (priorityOf (routeByte v) ≡ v / 4 % 128) × (routeOf (routeByte v) ≡ v % 2)
   -- of the value that is written, the bits 8:2 and the bit 0 are shown again and no other (000, figure 4-25)
   pub routeKept : (v k : ℕ) → k < 32 → bit (routeValue (routeByte v)) k ≡ (bit v k && (eqb k 0 || (leb 2 k && leb k 8)))
-  -- every byte is a route, and every written value becomes one
+  -- every byte is the route of what its register shows, and every written value becomes a byte
   pub routeWhole : (b : ℕ) → b < 256 → routeByte (routeValue b) ≡ b
   pub routeFits : (v : ℕ) → routeByte v < 256
   -- a priority is at most 127 (000, 4.3.1.2.2)
