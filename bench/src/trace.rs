@@ -2,7 +2,6 @@
 //! and 2/12).
 
 use crate::model::aic::Aic;
-use crate::model::aintc::Aintc;
 use crate::model::cic::Cic;
 use crate::model::core::CoreInterrupt;
 use crate::model::{Answer, Kind, Machine, Recorded, Refusal, Step, PRIVILEGED};
@@ -122,7 +121,7 @@ impl<'a, O: Observer> Reader<'a, O> {
             0 => self.aic(),
             1 => self.core(),
             2 => self.cic(),
-            3 => Ok(Machine::Aintc(Box::new(Aintc::new()))),
+            3 => Ok(Machine::Aintc(Box::default())),
             _ => Err(unknown),
         }
     }
