@@ -455,7 +455,9 @@ impl Tour<'_> {
             4 | 5 => of_bank(PENDING[side as usize], input),
             6 => of_bank(self.random.pick(&[ITR, MIR, ISR_SET]), input),
             7 => ILR + 4 * input,
-            _ => self.random.pick(&[SYSCONFIG, 0x014, THRESHOLD, 0x050]),
+            _ => self
+                .random
+                .pick(&[0x000, SYSCONFIG, 0x014, 0x050, THRESHOLD]),
         };
         self.read(offset);
     }
