@@ -201,7 +201,7 @@ impl Coverage {
         );
     }
 
-    /// Bits that are dropped, masks both ways at once, and what the soft reset finds.
+    /// Bits that are dropped, masks both ways at once, both agreements, and what the soft reset finds.
     fn aintc_write(&mut self, change: &Change, value: u32) {
         let (before, after) = (change.before, change.after);
         let Some((register, _)) = change.written() else {
@@ -233,15 +233,17 @@ impl Coverage {
                     "both agreements in one write",
                 );
             }
-            Register::SysConfig if value & 2 != 0 => {
-                self.fact_if(value & 1 == 0, "a soft reset by 2");
-                self.fact_if(value & 1 == 1, "a soft reset by 3");
-                self.fact_if(before.levels() != 0, "a soft reset with a line high");
-                self.fact_if(before.soft() != 0, "a soft reset with a soft bit set");
-                self.fact_if(before.protected(), "a soft reset ends protection");
-            }
+            Register::SysConfig if value & 2 != 0 => self.soft_reset(before, value),
             _ => {}
         }
+    }
+
+    fn soft_reset(&mut self, before: &Aintc, value: u32) {
+        self.fact_if(value & 1 == 0, "a soft reset by 2");
+        self.fact_if(value & 1 == 1, "a soft reset by 3");
+        self.fact_if(before.levels() != 0, "a soft reset with a line high");
+        self.fact_if(before.soft() != 0, "a soft reset with a soft bit set");
+        self.fact_if(before.protected(), "a soft reset ends protection");
     }
 
     /// What an accepted step does to a side.
@@ -349,12 +351,12 @@ impl Coverage {
 
     /// The side keeps its chosen one over a step that might have moved it.
     fn held(&mut self, change: &Change, side: Side) {
-        let (before, after) = (change.before, change.after);
-        let chosen = after.chosen(side).expect("one is chosen");
-        let number = usize::from(chosen.number);
         if matches!(change.step, Step::Read { .. }) {
             return;
         }
+        let (before, after) = (change.before, change.after);
+        let chosen = after.chosen(side).expect("one is chosen");
+        let number = usize::from(chosen.number);
         let came = |&other: &usize| !before.eligible(side).any(|there| there == other);
         let newcomers = || after.eligible(side).filter(came);
         self.side_if(
@@ -369,7 +371,20 @@ impl Coverage {
             "held against an equal priority of a higher input",
         );
         self.held_though_gone(change, side, number);
-        let ilr = change.value_for(Register::Ilr(chosen.number)).is_some();
+        self.held_though_changed(change, side, number);
+        self.held_without_agreement(change, side);
+        let twice = |aintc: &Aintc| aintc.chosen(side.other()).map(|other| other.number);
+        self.side_if(
+            twice(after) == Some(chosen.number) && twice(before) != Some(chosen.number),
+            side,
+            "held while the other side chooses the same input",
+        );
+    }
+
+    /// Its ILR or the threshold is another, so that it would not be chosen now, or not so soon.
+    fn held_though_changed(&mut self, change: &Change, side: Side, number: usize) {
+        let (before, after) = (change.before, change.after);
+        let ilr = change.value_for(Register::Ilr(number as u8)).is_some();
         self.side_if(
             ilr && before.route(number) == side && after.route(number) != side,
             side,
@@ -385,13 +400,6 @@ impl Coverage {
             passes(before) && !passes(after) && !ilr,
             side,
             "held though the threshold falls to it",
-        );
-        self.held_without_agreement(change, side);
-        let twice = |aintc: &Aintc| aintc.chosen(side.other()).map(|other| other.number);
-        self.side_if(
-            twice(after) == Some(chosen.number) && twice(before) != Some(chosen.number),
-            side,
-            "held while the other side chooses the same input",
         );
     }
 
