@@ -14,6 +14,7 @@ use Rattle.words.specs.Counting.{one}
 use Rattle.words.proofs.ChoiceLaws.{pick-cases, pick-ap}
 use Rattle.words.proofs.TruthLaws.{clash, told}
 use Rattle.steps.specs.Refusals.{carriedOut}
+use Rattle.steps.specs.declared.Recorded.{Recorded}
 use Rattle.steps.specs.declared.Step.{Step}
 use Rattle.steps.specs.declared.Step.the-variants.{Read, Write, Line}
 use Rattle.text.specs.Text.{newline, hexDigit, hexOf, decimalOf, field}
@@ -84,15 +85,15 @@ line-ends n l v c h =
     simp endings-append
     (omega (arith, h, decimal-plain 20 n, plain 32 (λ z. omega arith), hex-plain 8 v, field-plain (c .first), field-plain (c .second), field-plain (c .third), newline-ends))
 
-pub lines-end : (n : ℕ) (m : Machine) (xs : List Step) → endings (joined (linesFrom n m xs)) ≡ length xs
+pub lines-end : (n : ℕ) (m : Machine) (xs : List Recorded) → endings (joined (linesFrom n m xs)) ≡ length xs
 unfolding linesFrom joined endings
 lines-end n m [] = refl
 lines-end n m (x ∷ xs) =
     let a = step m x in
-    endings-append (stepLine (n + 1) x a) (joined (linesFrom (n + 1) (a .machine) xs))
+    endings-append (stepLine (n + 1) (x .step) a) (joined (linesFrom (n + 1) (a .machine) xs))
     ∙ omega (
       arith,
-      line-ends (n + 1) (letter x (a .refusal)) (shownValue (a .refusal) (a .value)) (shown (a .machine)) (letter-plain x (a .refusal)),
+      line-ends (n + 1) (letter (x .step) (a .refusal)) (shownValue (a .refusal) (a .value)) (shown (a .machine)) (letter-plain (x .step) (a .refusal)),
       lines-end (n + 1) (a .machine) xs,
     )
 

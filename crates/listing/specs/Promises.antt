@@ -7,6 +7,7 @@ use lib.Dec.{eqb}
 use lib.ListN.{length, getD, take, drop}
 use Rattle.words.specs.Choice.{pick}
 use Rattle.words.specs.Counting.{one}
+use Rattle.steps.specs.declared.Recorded.{Recorded}
 use Rattle.steps.specs.declared.Step.{Step}
 use Rattle.steps.specs.declared.Step.the-variants.{Read, Write, Line}
 use Rattle.text.specs.Text.{hex, decimal, laid}
@@ -112,8 +113,8 @@ pub record Promises : Type 0 where
   pub lines : (s : List ℕ) (limit : ℕ) → length (linesOf s limit) ≡ playOf s limit .steps
   -- the line of a step record that comes after some others bears the number after theirs, from 1 on, and tells what the machine answers that
   -- these have made of the first one (01, House trace)
-  pub lineOfStep : (s : List ℕ) (limit : ℕ) (before : List Step) (x : Step) (after : List Step) → recordsOf s limit .steps ≡ before ++ (x ∷ after)
-      → getD (linesOf s limit) (length before) [] ≡ stepLine (length before + 1) x (step (runOf (beginOf s .machine) before) x)
+  pub lineOfStep : (s : List ℕ) (limit : ℕ) (before : List Recorded) (x : Recorded) (after : List Recorded) → recordsOf s limit .steps ≡ before ++ (x ∷ after)
+      → getD (linesOf s limit) (length before) [] ≡ stepLine (length before + 1) (x .step) (step (runOf (beginOf s .machine) before) x)
   -- a step that is carried out shows R, W or L and the value answered, a refused one X and its refusal; the three numbers are those of the machine
   -- after it (01, House trace)
   pub readLine : (n offset : ℕ) (a : Answer) → a .refusal ≡ 0 → stepLine n (Read offset) a ≡ lineBytes n 82 (a .value) (shown (a .machine))

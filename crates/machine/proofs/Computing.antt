@@ -6,7 +6,7 @@ use Rattle.words.specs.Choice.{pick}
 use Rattle.words.specs.Counting.{upto, anyBelow, allBelow, countBelow, lowestBelow, sumBelow}
 use Rattle.words.specs.Word.{bit, wordOf, either, both, without, withBit, kept, clean}
 use Rattle.words.proofs.ChoiceLaws.{pick-true}
-use Rattle.steps.specs.declared.Step.{Step}
+use Rattle.steps.specs.declared.Recorded.{Recorded}
 use Rattle.steps.specs.Refusals.{readRefusal, writeRefusal, lineRefusal}
 use Rattle.aic_record.specs.Record.{reset}
 use Rattle.aic_record.specs.Mode.{priority, kind, edge}
@@ -59,14 +59,14 @@ cic-computes = tt
 
 -- ---- a CIC that is known to be sound
 
-abbrev pub cicQuick : Machine → Step → Answer
-cicQuick m x = afterCic m (stepAs true (m .cic) x)
+abbrev pub cicQuick : Machine → Recorded → Answer
+cicQuick m x = afterCic m (stepAs true (m .cic) (x .step))
 
 abbrev pub cicSeen : Machine → Columns
 cicSeen m = cicColumns (cicShown (m .cic))
 
-pub cic-quick : (m : Machine) (x : Step) → m .kind ≡ cicKind → sound m ≡ true → step m x ≡ cicQuick m x
-cic-quick m x k s = cic-steps m x k ∙ ap (λ (ok : Bool). afterCic m (stepAs ok (m .cic) x)) (sound-cic m k ∙ s)
+pub cic-quick : (m : Machine) (x : Recorded) → m .kind ≡ cicKind → sound m ≡ true → step m x ≡ cicQuick m x
+cic-quick m x k s = cic-steps m x k ∙ ap (λ (ok : Bool). afterCic m (stepAs ok (m .cic) (x .step))) (sound-cic m k ∙ s)
 
 pub cic-seen : (m : Machine) → m .kind ≡ cicKind → sound m ≡ true → shown m ≡ cicSeen m
 unfolding cicOutputs

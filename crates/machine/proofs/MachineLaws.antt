@@ -21,13 +21,16 @@ use Rattle.cic_record.specs.declared.Begun.{Begun as CicBegun}
 use Rattle.cic_record.specs.Sound.{within as cicWithin, sound as cicSound}
 use Rattle.cic_record.specs.Start.{fresh, configured, start as cicStart}
 use Rattle.cic_record.proofs.Promises.{kept as cic}
+use Rattle.aintc_choice.specs.Settle.{sound as aintcSound}
+use Rattle.aintc.specs.Model.{start as aintcStart}
+use Rattle.aintc.proofs.Promises.{kept as aintc}
 use Rattle.kinds.specs.Configuration.{withNumber, filled}
-use Rattle.kinds.specs.Kinds.{aicKind, coreKind, cicKind, byKind, isKind, wanted, within}
+use Rattle.kinds.specs.Kinds.{aicKind, coreKind, cicKind, aintcKind, byKind, isKind, wanted, within}
 use Rattle.kinds.specs.Promises.{Within}
-use Rattle.kinds.proofs.KindLaws.{KindOf, isAic, isCore, isCic, isNone, kind-of, at-aic, at-core, at-cic, at-none, known}
+use Rattle.kinds.proofs.KindLaws.{KindOf, isAic, isCore, isCic, isAintc, isNone, kind-of, at-aic, at-core, at-cic, at-aintc, at-none, known}
 use Rattle.kinds.proofs.Promises.{kept as kinds}
 use Rattle.machine.specs.declared.Machine.{Machine}
-use Rattle.machine.specs.Machine.{ofAic, ofCore, ofCic, start, sound}
+use Rattle.machine.specs.Machine.{ofAic, ofCore, ofCic, ofAintc, start, sound}
 use Rattle.machine.specs.Promises.{startWith, Ready}
 
 -- ---- records of zeros
@@ -53,19 +56,24 @@ pub sound-cic : (m : Machine) → m .kind ≡ cicKind → cicSound (m .cic) ≡ 
 unfolding sound
 sound-cic m e = at-cic (m .kind) _ e
 
-pub sound-none : (m : Machine) → m .kind ≢ aicKind → m .kind ≢ coreKind → m .kind ≢ cicKind → false ≡ sound m
+pub sound-aintc : (m : Machine) → m .kind ≡ aintcKind → aintcSound (m .aintc) ≡ sound m
 unfolding sound
-sound-none m e f g = at-none (m .kind) _ e f g
+sound-aintc m e = at-aintc (m .kind) _ e
 
--- a sound machine that is neither of the first two kinds is of the third
-pub third-kind : (m : Machine) → sound m ≡ true → m .kind ≢ aicKind → m .kind ≢ coreKind → m .kind ≡ cicKind
-third-kind m s e f = go (kind-of (m .kind))
+pub sound-none : (m : Machine) → m .kind ≢ aicKind → m .kind ≢ coreKind → m .kind ≢ cicKind → m .kind ≢ aintcKind → false ≡ sound m
+unfolding sound
+sound-none m e f g h = at-none (m .kind) _ e f g h
+
+-- a sound machine that is none of the first three kinds is of the fourth
+pub fourth-kind : (m : Machine) → sound m ≡ true → m .kind ≢ aicKind → m .kind ≢ coreKind → m .kind ≢ cicKind → m .kind ≡ aintcKind
+fourth-kind m s e f g = go (kind-of (m .kind))
   where
-    go : KindOf (m .kind) → m .kind ≡ cicKind
+    go : KindOf (m .kind) → m .kind ≡ aintcKind
     go (isAic k) = absurd (e k)
     go (isCore k) = absurd (f k)
-    go (isCic k) = k
-    go (isNone a b c) = absurd (false≢true (sound-none m a b c ∙ s))
+    go (isCic k) = absurd (g k)
+    go (isAintc k) = k
+    go (isNone a b c d) = absurd (false≢true (sound-none m a b c d ∙ s))
 
 -- ---- starts
 
@@ -80,6 +88,10 @@ core-starts a b c d = refl
 pub cic-starts : (a b c d : ℕ) → startWith cicKind (a ∷ b ∷ c ∷ d ∷ []) ≡ ofCic (cicStart a b c d .cic)
 unfolding start filled withNumber byKind pick
 cic-starts a b c d = refl
+
+pub aintc-starts : startWith aintcKind [] ≡ ofAintc (aintcStart .aintc)
+unfolding start filled withNumber byKind pick
+aintc-starts = refl
 
 aic-ready : (ns : List ℕ) → length ns ≡ 2 → Ready (startWith aicKind ns)
 aic-ready [] l = absurd (omega arith)
@@ -117,6 +129,10 @@ cic-ready (a ∷ b ∷ c ∷ d ∷ []) l w =
     )
 cic-ready (a ∷ b ∷ c ∷ d ∷ e ∷ ns) l w = absurd (omega arith)
 
+aintc-ready : (ns : List ℕ) → length ns ≡ 0 → Ready (startWith aintcKind ns)
+aintc-ready [] l = rw aintc-starts (sym (sound-aintc (ofAintc (aintcStart .aintc)) refl) ∙ aintc .startSound .0, record-kept .resetShaped 0 0)
+aintc-ready (a ∷ ns) l = absurd (omega arith)
+
 -- the start of numbers within their limits is sound
 pub start-ready : (kind : ℕ) (ns : List ℕ) → isKind kind ≡ true → length ns ≡ wanted kind → Within kind 0 ns → Ready (startWith kind ns)
 start-ready kind ns i l w = go (kind-of kind)
@@ -125,4 +141,5 @@ start-ready kind ns i l w = go (kind-of kind)
     go (isAic k) = rw k (aic-ready ns (l ∙ ap wanted k ∙ kinds .aicNumbers))
     go (isCore k) = rw k (core-ready ns (l ∙ ap wanted k ∙ kinds .coreNumbers))
     go (isCic k) = rw k (cic-ready ns (l ∙ ap wanted k ∙ kinds .cicNumbers) (rw (sym k) w))
-    go (isNone a b c) = absurd (⊎-elim a (⊎-elim b c) (known kind .0 i))
+    go (isAintc k) = rw k (aintc-ready ns (l ∙ ap wanted k ∙ kinds .aintcNumbers))
+    go (isNone a b c d) = absurd (⊎-elim a (⊎-elim b (⊎-elim c d)) (known kind .0 i))

@@ -2,11 +2,12 @@
 use Prim.Native.Nat.{_≤_}
 use mathlib.Core.Path.{_≡_, sym, ap, _∙_}
 use mathlib.Core.Bool.{Bool, true, false}
-use mathlib.Core.Logic.{_≢_}
+use mathlib.Core.Logic.{_≢_, _⊎_, inl, inr}
 use native.Mathlib.Omega.{arith}
 use Rattle.words.specs.Counting.{one}
 use Rattle.words.proofs.ChoiceLaws.{pick-false}
 use Rattle.words.proofs.CountingLaws.{count-le}
+use Rattle.words.proofs.TruthLaws.{told}
 use Rattle.aic_record.proofs.Promises.{kept as record-kept}
 use Rattle.aic_sources.specs.Fast.{fiq}
 use Rattle.aic_sources.specs.Normal.{irq}
@@ -17,13 +18,18 @@ use Rattle.coreinterrupt.proofs.Promises.{kept as core}
 use Rattle.cic_record.specs.Kinds.{hostNumber}
 use Rattle.cic_hosts.specs.Hosts.{asserted, outputs as cicOutputs, shown as cicShown}
 use Rattle.cic_hosts.proofs.Promises.{kept as hosts}
+use Rattle.aintc_record.specs.declared.Chosen.{Chosen}
+use Rattle.aintc_record.specs.Promises.{Bounds}
+use Rattle.aintc_choice.proofs.Promises.{kept as choice}
+use Rattle.aintc.specs.Model.{outputs as aintcOutputs}
+use Rattle.aintc.proofs.Promises.{kept as aintc}
 use Rattle.machine.specs.declared.Machine.{Machine}
-use Rattle.kinds.specs.Kinds.{aicKind, coreKind, cicKind}
+use Rattle.kinds.specs.Kinds.{aicKind, coreKind, cicKind, aintcKind}
 use Rattle.machine.specs.Machine.{sound}
-use Rattle.machine.specs.Steps.{aicColumns, coreColumns, cicColumns, noColumns, shown}
+use Rattle.machine.specs.Steps.{aicColumns, coreColumns, cicColumns, aintcColumns, noColumns, shown}
 use Rattle.machine.specs.Promises.{Small}
-use Rattle.kinds.proofs.KindLaws.{KindOf, isAic, isCore, isCic, isNone, kind-of, at-aic, at-core, at-cic, at-none}
-use Rattle.machine.proofs.MachineLaws.{sound-aic, sound-core, sound-cic}
+use Rattle.kinds.proofs.KindLaws.{KindOf, isAic, isCore, isCic, isAintc, isNone, kind-of, at-aic, at-core, at-cic, at-aintc, at-none}
+use Rattle.machine.proofs.MachineLaws.{sound-aic, sound-core, sound-cic, sound-aintc}
 
 module _ (m : Machine) where
   pub aic-shows : m .kind ≡ aicKind → shown m ≡ aicColumns (aicOutputs (m .aic))
@@ -38,9 +44,13 @@ module _ (m : Machine) where
   unfolding shown
   cic-shows e = sym (at-cic (m .kind) _ e)
 
-  no-shows : m .kind ≢ aicKind → m .kind ≢ coreKind → m .kind ≢ cicKind → shown m ≡ noColumns
+  pub aintc-shows : m .kind ≡ aintcKind → shown m ≡ aintcColumns (aintcOutputs (m .aintc))
   unfolding shown
-  no-shows e f g = sym (at-none (m .kind) _ e f g)
+  aintc-shows e = sym (at-aintc (m .kind) _ e)
+
+  no-shows : m .kind ≢ aicKind → m .kind ≢ coreKind → m .kind ≢ cicKind → m .kind ≢ aintcKind → shown m ≡ noColumns
+  unfolding shown
+  no-shows e f g h = sym (at-none (m .kind) _ e f g h)
 
   -- a machine that is not sound shows nothing
   pub unsound-shown : sound m ≡ false → noColumns ≡ shown m
@@ -51,11 +61,20 @@ module _ (m : Machine) where
       go (isAic k) = aic-shows k ∙ ap aicColumns (aic .outputsUnsound (m .aic) (sound-aic m k ∙ s))
       go (isCore k) = core-shows k ∙ ap coreColumns (core .outputsUnsound (m .core) (sound-core m k ∙ s))
       go (isCic k) = cic-shows k ∙ ap cicColumns (sym (pick-false (cicShown (m .cic)) (sound-cic m k ∙ s)))
-      go (isNone a b c) = no-shows a b c
+      go (isAintc k) = aintc-shows k ∙ ap aintcColumns (aintc .outputsUnsound (m .aintc) (sound-aintc m k ∙ s))
+      go (isNone a b c d) = no-shows a b c d
 
   one-small : (t : Bool) → one t ≤ 256
   one-small true = omega arith
   one-small false = omega arith
+
+  -- the number of the chosen one, 0 with none
+  number-small : (c : Chosen) → Bounds c → c .number ≤ 256
+  number-small c b = go (told (c .active))
+    where
+      go : (c .active ≡ true) ⊎ (c .active ≡ false) → c .number ≤ 256
+      go (inl e) = omega (arith, b .number e)
+      go (inr e) = omega (arith, b .none e .0)
 
   -- a sound machine shows no number over 256
   pub small : sound m ≡ true → Small (shown m)
@@ -69,4 +88,9 @@ module _ (m : Machine) where
       go (isCic k) =
           let e = sound-cic m k ∙ s in
           rw (cic-shows k) (rw (hosts .outputsSound (m .cic) e) (count-le 256 (λ h. asserted (m .cic) (hostNumber h))), hosts .lowestMost (m .cic) e, omega arith)
-      go (isNone a b c) = rw (no-shows a b c) (omega arith, omega arith, omega arith)
+      go (isAintc k) =
+          let e = sound-aintc m k ∙ s in
+          rw (aintc-shows k)
+          (rw (aintc .outputsSound (m .aintc) e)
+          (one-small (m .aintc .irq .active), one-small (m .aintc .fiq .active), number-small (m .aintc .irq) (choice .soundIs (m .aintc) .0 e .irq)))
+      go (isNone a b c d) = rw (no-shows a b c d) (omega arith, omega arith, omega arith)

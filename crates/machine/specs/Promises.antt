@@ -5,7 +5,7 @@ use mathlib.Core.Bool.{Bool, true, false}
 use mathlib.Core.List.{List, [], _∷_}
 use mathlib.Core.Logic.{_↔_, _≢_}
 use lib.ListN.{length, getD, replicate}
-use Rattle.steps.specs.declared.Step.{Step}
+use Rattle.steps.specs.declared.Recorded.{Recorded}
 use Rattle.aic_record.specs.Promises.{Shaped as AicShaped}
 use Rattle.aic_record.specs.Sound.{sound as aicSound}
 use Rattle.aic.specs.Model.{start as aicStart, step as aicStep, outputs as aicOutputs}
@@ -14,6 +14,8 @@ use Rattle.cic_record.specs.Sound.{sound as cicSound}
 use Rattle.cic_record.specs.Start.{start as cicStart}
 use Rattle.cic_hosts.specs.Hosts.{outputs as cicOutputs}
 use Rattle.cic.specs.Model.{step as cicStep}
+use Rattle.aintc_choice.specs.Settle.{sound as aintcSound}
+use Rattle.aintc.specs.Model.{start as aintcStart, step as aintcStep, outputs as aintcOutputs}
 use Rattle.kinds.specs.declared.Configuration.{Configuration}
 use Rattle.kinds.specs.Configuration.{noNumbers, filled}
 use Rattle.kinds.specs.Kinds.{isKind, wanted}
@@ -54,24 +56,29 @@ pub record Promises : Type 0 where
   pub blankIrq : blank .core .irq ≡ record { count = 0; level = 0; inputs = 0; soft = 0; enable = 0 }
   pub blankCic : blank .cic
       ≡ record { systems = 0; channels = 0; hosts = 0; revision = 0; global = 0; lines = replicate 32 0; status = replicate 32 0; enable = replicate 32 0; channel = replicate 1024 0; host = replicate 256 0; allow = replicate 8 0 }
+  pub blankAintc : blank .aintc
+      ≡ record { lines = replicate 4 0; soft = replicate 4 0; masks = replicate 4 0; routes = replicate 128 0; threshold = 0; revision = 0; guarded = false; autoidle = false; turbo = false; funcidle = false; irq = record { active = false; number = 0; priority = 0 }; fiq = record { active = false; number = 0; priority = 0 } }
   -- ---- start
 
   -- a start is that of the model, with the numbers in their order; the records of the other kinds are all 0 (01, House trace)
   pub aicStarts : (c : Configuration)
-      → start 0 c ≡ record { kind = 0; aic = aicStart (getD (c .numbers) 0 0) (getD (c .numbers) 1 0) .aic; core = blank .core; cic = blank .cic }
+      → start 0 c ≡ record { kind = 0; aic = aicStart (getD (c .numbers) 0 0) (getD (c .numbers) 1 0) .aic; core = blank .core; cic = blank .cic; aintc = blank .aintc }
   pub coreStarts : (c : Configuration)
       → start 1 c
-      ≡ record { kind = 1; aic = blank .aic; core = coreStart (getD (c .numbers) 0 0) (getD (c .numbers) 1 0) (getD (c .numbers) 2 0) (getD (c .numbers) 3 0) .core; cic = blank .cic }
+      ≡ record { kind = 1; aic = blank .aic; core = coreStart (getD (c .numbers) 0 0) (getD (c .numbers) 1 0) (getD (c .numbers) 2 0) (getD (c .numbers) 3 0) .core; cic = blank .cic; aintc = blank .aintc }
   pub cicStarts : (c : Configuration)
       → start 2 c
-      ≡ record { kind = 2; aic = blank .aic; core = blank .core; cic = cicStart (getD (c .numbers) 0 0) (getD (c .numbers) 1 0) (getD (c .numbers) 2 0) (getD (c .numbers) 3 0) .cic }
+      ≡ record { kind = 2; aic = blank .aic; core = blank .core; cic = cicStart (getD (c .numbers) 0 0) (getD (c .numbers) 1 0) (getD (c .numbers) 2 0) (getD (c .numbers) 3 0) .cic; aintc = blank .aintc }
+  -- that of an AINTC asks for no number (02, 2/12)
+  pub aintcStarts : (c : Configuration) → start 3 c ≡ record { kind = 3; aic = blank .aic; core = blank .core; cic = blank .cic; aintc = aintcStart .aintc }
   pub noStarts : (kind : ℕ) (c : Configuration) → isKind kind ≡ false → start kind c ≡ blank
   -- the same of a list of numbers (01, House trace)
-  pub aicFrom : (a b : ℕ) → startWith 0 (a ∷ b ∷ []) ≡ record { kind = 0; aic = aicStart a b .aic; core = blank .core; cic = blank .cic }
+  pub aicFrom : (a b : ℕ) → startWith 0 (a ∷ b ∷ []) ≡ record { kind = 0; aic = aicStart a b .aic; core = blank .core; cic = blank .cic; aintc = blank .aintc }
   pub coreFrom : (a b c d : ℕ)
-      → startWith 1 (a ∷ b ∷ c ∷ d ∷ []) ≡ record { kind = 1; aic = blank .aic; core = coreStart a b c d .core; cic = blank .cic }
+      → startWith 1 (a ∷ b ∷ c ∷ d ∷ []) ≡ record { kind = 1; aic = blank .aic; core = coreStart a b c d .core; cic = blank .cic; aintc = blank .aintc }
   pub cicFrom : (a b c d : ℕ)
-      → startWith 2 (a ∷ b ∷ c ∷ d ∷ []) ≡ record { kind = 2; aic = blank .aic; core = blank .core; cic = cicStart a b c d .cic }
+      → startWith 2 (a ∷ b ∷ c ∷ d ∷ []) ≡ record { kind = 2; aic = blank .aic; core = blank .core; cic = cicStart a b c d .cic; aintc = blank .aintc }
+  pub aintcFrom : startWith 3 [] ≡ record { kind = 3; aic = blank .aic; core = blank .core; cic = blank .cic; aintc = aintcStart .aintc }
   -- the start of numbers within their limits is sound (01, Numbers, 12)
   pub startReady : (kind : ℕ) (ns : List ℕ) → isKind kind ≡ true → length ns ≡ wanted kind → Within kind 0 ns → Ready (startWith kind ns)
   -- ---- soundness
@@ -80,28 +87,33 @@ pub record Promises : Type 0 where
   pub aicSoundIs : (m : Machine) → m .kind ≡ 0 → sound m ≡ aicSound (m .aic)
   pub coreSoundIs : (m : Machine) → m .kind ≡ 1 → sound m ≡ coreSound (m .core)
   pub cicSoundIs : (m : Machine) → m .kind ≡ 2 → sound m ≡ cicSound (m .cic)
+  pub aintcSoundIs : (m : Machine) → m .kind ≡ 3 → sound m ≡ aintcSound (m .aintc)
   pub noneSound : (m : Machine) → isKind (m .kind) ≡ false → sound m ≡ false
   -- ---- steps
 
   -- a step answers what the model does, number, value and record, and leaves the rest of the machine alone (01, House trace)
-  pub aicSteps : (m : Machine) (x : Step) → m .kind ≡ 0
+  pub aicSteps : (m : Machine) (x : Recorded) → m .kind ≡ 0
       → step m x
-      ≡ record { refusal = aicStep (m .aic) x .refusal; value = aicStep (m .aic) x .value; machine = record { kind = m .kind; aic = aicStep (m .aic) x .aic; core = m .core; cic = m .cic } }
-  pub coreSteps : (m : Machine) (x : Step) → m .kind ≡ 1
+      ≡ record { refusal = aicStep (m .aic) (x .step) .refusal; value = aicStep (m .aic) (x .step) .value; machine = record { kind = m .kind; aic = aicStep (m .aic) (x .step) .aic; core = m .core; cic = m .cic; aintc = m .aintc } }
+  pub coreSteps : (m : Machine) (x : Recorded) → m .kind ≡ 1
       → step m x
-      ≡ record { refusal = coreStep (m .core) x .refusal; value = coreStep (m .core) x .value; machine = record { kind = m .kind; aic = m .aic; core = coreStep (m .core) x .core; cic = m .cic } }
-  pub cicSteps : (m : Machine) (x : Step) → m .kind ≡ 2
+      ≡ record { refusal = coreStep (m .core) (x .step) .refusal; value = coreStep (m .core) (x .step) .value; machine = record { kind = m .kind; aic = m .aic; core = coreStep (m .core) (x .step) .core; cic = m .cic; aintc = m .aintc } }
+  pub cicSteps : (m : Machine) (x : Recorded) → m .kind ≡ 2
       → step m x
-      ≡ record { refusal = cicStep (m .cic) x .refusal; value = cicStep (m .cic) x .value; machine = record { kind = m .kind; aic = m .aic; core = m .core; cic = cicStep (m .cic) x .cic } }
+      ≡ record { refusal = cicStep (m .cic) (x .step) .refusal; value = cicStep (m .cic) (x .step) .value; machine = record { kind = m .kind; aic = m .aic; core = m .core; cic = cicStep (m .cic) (x .step) .cic; aintc = m .aintc } }
+  -- that of an AINTC is made by the privilege that the trace tells (02, 2/12)
+  pub aintcSteps : (m : Machine) (x : Recorded) → m .kind ≡ 3
+      → step m x
+      ≡ record { refusal = aintcStep (m .aintc) (x .privilege) (x .step) .refusal; value = aintcStep (m .aintc) (x .privilege) (x .step) .value; machine = record { kind = m .kind; aic = m .aic; core = m .core; cic = m .cic; aintc = aintcStep (m .aintc) (x .privilege) (x .step) .aintc } }
   -- a machine of no kind has no step (01, Numbers, 12)
-  pub noSteps : (m : Machine) (x : Step) → isKind (m .kind) ≡ false → step m x ≡ record { refusal = 12; value = 0; machine = m }
+  pub noSteps : (m : Machine) (x : Recorded) → isKind (m .kind) ≡ false → step m x ≡ record { refusal = 12; value = 0; machine = m }
   -- every step keeps a sound machine sound, and the machine's kind (01, Numbers, 12)
-  pub stepReady : (m : Machine) (x : Step) → Ready m → Ready (step m x .machine)
-  pub stepKind : (m : Machine) (x : Step) → step m x .machine .kind ≡ m .kind
+  pub stepReady : (m : Machine) (x : Recorded) → Ready m → Ready (step m x .machine)
+  pub stepKind : (m : Machine) (x : Recorded) → step m x .machine .kind ≡ m .kind
   -- a refused step answers its number, the value 0 and the same machine (01, Numbers)
-  pub refusedSame : (m : Machine) (x : Step) → step m x .refusal ≢ 0 → step m x ≡ record { refusal = step m x .refusal; value = 0; machine = m }
+  pub refusedSame : (m : Machine) (x : Recorded) → step m x .refusal ≢ 0 → step m x ≡ record { refusal = step m x .refusal; value = 0; machine = m }
   -- 12 is given exactly when a machine is not sound (01, Numbers, 12)
-  pub twelve : (m : Machine) (x : Step) → (step m x .refusal ≡ 12) ↔ (sound m ≡ false)
+  pub twelve : (m : Machine) (x : Recorded) → (step m x .refusal ≡ 12) ↔ (sound m ≡ false)
   -- ---- what is shown
 
   -- an AIC: IRQ active, FIQ active, handlers open (01, House trace)
@@ -113,6 +125,9 @@ pub record Promises : Type 0 where
   -- a CIC: asserted hosts, the lowest of them or 256, 0 (01, House trace)
   pub cicShows : (m : Machine) → m .kind ≡ 2
       → (shown m .first ≡ cicOutputs (m .cic) .hosts) × (shown m .second ≡ cicOutputs (m .cic) .lowest) × (shown m .third ≡ 0)
+  -- an AINTC: IRQ active, FIQ active, the number of the input that is active for IRQ, 0 with none (02, 2/12)
+  pub aintcShows : (m : Machine) → m .kind ≡ 3
+      → Tells (shown m .first) (aintcOutputs (m .aintc) .irq) × Tells (shown m .second) (aintcOutputs (m .aintc) .fiq) × (shown m .third ≡ aintcOutputs (m .aintc) .number)
   -- a machine that is not sound, so one of no kind too: three zeros (01, Numbers, 12)
   pub shownUnsound : (m : Machine) → sound m ≡ false → shown m ≡ record { first = 0; second = 0; third = 0 }
   -- of a sound machine none of them is over 256, the number that stands for no asserted host (01, House trace)

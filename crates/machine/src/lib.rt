@@ -1,5 +1,5 @@
 // One controller of any kind: how it starts, how it steps and the three numbers that it shows. What a new kind does comes here, its number, name
-// and configuration to `kinds`; the crates above know of no kind (01, "House trace").
+// and configuration to `kinds`; the crates above know of no kind (01, "House trace"; 02, 2/12).
 ghost use mathlib.Core.Path.{_≡_};
 ghost use mathlib.Core.Bool.{true};
 ghost use Rattle.words.specs.Counting.{one};
@@ -8,13 +8,16 @@ ghost use Rattle.aic.specs.Model.{step as aicStep};
 ghost use Rattle.coreinterrupt.specs.Model.{sound as coreSound, step as coreStep};
 ghost use Rattle.cic_record.specs.Sound.{sound as cicSound};
 ghost use Rattle.cic.specs.Model.{step as cicStep};
-ghost use Rattle.machine.specs.Machine.{blank, ofAic, ofCore, ofCic, start, sound};
-ghost use Rattle.machine.specs.Steps.{afterAic, afterCore, afterCic, step, aicColumns, coreColumns, cicColumns, shown};
+ghost use Rattle.aintc_choice.specs.Settle.{sound as aintcSound};
+ghost use Rattle.aintc.specs.Model.{step as aintcStep};
+ghost use Rattle.machine.specs.Machine.{blank, ofAic, ofCore, ofCic, ofAintc, start, sound};
+ghost use Rattle.machine.specs.Steps.{afterAic, afterCore, afterCic, afterAintc, step, aicColumns, coreColumns, cicColumns, aintcColumns, shown};
 use aic_record::Aic;
+use aintc_record::Aintc;
 use cic_record::Cic;
 use coreinterrupt::Core;
 use kinds::Configuration;
-use steps::Step;
+use steps::Recorded;
 
 // The record of each kind; only that of the machine's own kind is ever used.
 pub struct Machine {
@@ -22,6 +25,7 @@ pub struct Machine {
     pub aic: Aic,
     pub core: Core,
     pub cic: Cic,
+    pub aintc: Aintc,
 }
 
 // The refusal, 0 for none, the value read, and the machine after the step.
@@ -49,11 +53,13 @@ pub fn empty() -> Machine
     let c = cic::start(0, 0, 0, 0);
     let core = b.core;
     let cic = c.cic;
+    let d = aintc_record::blank();
     Machine {
         kind: kinds::AIC,
         aic: a,
         core,
         cic,
+        aintc: d,
     }
 }
 
@@ -84,6 +90,15 @@ fn of_cic(c: Cic) -> Machine
     m
 }
 
+fn of_aintc(a: Aintc) -> Machine
+    ensures { λ r. ⌜ r ≡ ofAintc a ⌝ }
+{
+    let mut m = empty();
+    m.kind = kinds::AINTC;
+    m.aintc = a;
+    m
+}
+
 // The machine of a kind with these numbers; one that starts from a number beyond its limit is not sound or has a record of zeros.
 pub fn start(kind: u32, c: Configuration) -> Machine
     ensures { λ r. ⌜ r ≡ start kind c ⌝ }
@@ -105,18 +120,23 @@ pub fn start(kind: u32, c: Configuration) -> Machine
         let b = cic::start(first, second, third, fourth);
         return of_cic(b.cic);
     }
+    if kind == kinds::AINTC {
+        let b = aintc::start();
+        return of_aintc(b.aintc);
+    }
     empty()
 }
 
 // ---- steps
 
 // The step of each model, its record put back into the machine.
-fn aic_step(m: Machine, x: Step) -> Answer
+fn aic_step(m: Machine, x: Recorded) -> Answer
     requires { ⌜ aicSound (m .aic) ≡ true ⌝ }
-    ensures { λ r. ⌜ r ≡ afterAic m (aicStep (m .aic) x) ⌝ }
+    ensures { λ r. ⌜ r ≡ afterAic m (aicStep (m .aic) (x .step)) ⌝ }
 {
     let s = m.aic;
-    let a = aic::step_sound(s, x);
+    let y = x.step;
+    let a = aic::step_sound(s, y);
     let t = a.aic;
     let mut n = m;
     n.aic = t;
@@ -127,12 +147,13 @@ fn aic_step(m: Machine, x: Step) -> Answer
     }
 }
 
-fn core_step(m: Machine, x: Step) -> Answer
+fn core_step(m: Machine, x: Recorded) -> Answer
     requires { ⌜ coreSound (m .core) ≡ true ⌝ }
-    ensures { λ r. ⌜ r ≡ afterCore m (coreStep (m .core) x) ⌝ }
+    ensures { λ r. ⌜ r ≡ afterCore m (coreStep (m .core) (x .step)) ⌝ }
 {
     let s = m.core;
-    let a = coreinterrupt::step_sound(s, x);
+    let y = x.step;
+    let a = coreinterrupt::step_sound(s, y);
     let t = a.core;
     let mut n = m;
     n.core = t;
@@ -143,12 +164,13 @@ fn core_step(m: Machine, x: Step) -> Answer
     }
 }
 
-fn cic_step(m: Machine, x: Step) -> Answer
+fn cic_step(m: Machine, x: Recorded) -> Answer
     requires { ⌜ cicSound (m .cic) ≡ true ⌝ }
-    ensures { λ r. ⌜ r ≡ afterCic m (cicStep (m .cic) x) ⌝ }
+    ensures { λ r. ⌜ r ≡ afterCic m (cicStep (m .cic) (x .step)) ⌝ }
 {
     let s = m.cic;
-    let a = cic::step_sound(s, x);
+    let y = x.step;
+    let a = cic::step_sound(s, y);
     let t = a.cic;
     let mut n = m;
     n.cic = t;
@@ -159,8 +181,25 @@ fn cic_step(m: Machine, x: Step) -> Answer
     }
 }
 
+fn aintc_step(m: Machine, x: Recorded) -> Answer
+    requires { ⌜ aintcSound (m .aintc) ≡ true ⌝ }
+    ensures { λ r. ⌜ r ≡ afterAintc m (aintcStep (m .aintc) (x .privilege) (x .step)) ⌝ }
+{
+    let s = m.aintc;
+    let y = x.step;
+    let a = aintc::step_sound(s, x.privilege, y);
+    let t = a.aintc;
+    let mut n = m;
+    n.aintc = t;
+    Answer {
+        refusal: a.refusal,
+        value: a.value,
+        machine: n,
+    }
+}
+
 // A step of a machine that is known to be sound, as after a start and after every step: it is not looked at again.
-pub fn step_sound(m: Machine, x: Step) -> Answer
+pub fn step_sound(m: Machine, x: Recorded) -> Answer
     requires { ⌜ sound m ≡ true ⌝ }
     ensures { λ r. ⌜ r ≡ step m x ⌝ }
 {
@@ -170,11 +209,14 @@ pub fn step_sound(m: Machine, x: Step) -> Answer
     if m.kind == kinds::CORE {
         return core_step(m, x);
     }
-    cic_step(m, x)
+    if m.kind == kinds::CIC {
+        return cic_step(m, x);
+    }
+    aintc_step(m, x)
 }
 
 // A step of any machine; one that is not sound is refused by 12.
-pub fn step(m: Machine, x: Step) -> Answer
+pub fn step(m: Machine, x: Recorded) -> Answer
     ensures { λ r. ⌜ r ≡ step m x ⌝ }
 {
     if is_sound(m) {
@@ -202,6 +244,10 @@ pub fn is_sound(m: Machine) -> bool
     if m.kind == kinds::CIC {
         let s = m.cic;
         return cic_record::is_sound(s);
+    }
+    if m.kind == kinds::AINTC {
+        let s = m.aintc;
+        return aintc_choice::is_sound(s);
     }
     false
 }
@@ -250,6 +296,17 @@ fn cic_columns(o: cic_record::Signals) -> Columns
     }
 }
 
+// IRQ active, FIQ active, the number of the input that is active for IRQ.
+fn aintc_columns(o: aintc::Signals) -> Columns
+    ensures { λ r. ⌜ r ≡ aintcColumns o ⌝ }
+{
+    Columns {
+        first: one_if(o.irq),
+        second: one_if(o.fiq),
+        third: o.number,
+    }
+}
+
 // The three numbers of a machine that is known to be sound.
 pub fn shown_sound(m: Machine) -> Columns
     requires { ⌜ sound m ≡ true ⌝ }
@@ -263,8 +320,12 @@ pub fn shown_sound(m: Machine) -> Columns
         let s = m.core;
         return core_columns(coreinterrupt::outputs_sound(s));
     }
-    let s = m.cic;
-    cic_columns(cic::outputs_sound(s))
+    if m.kind == kinds::CIC {
+        let s = m.cic;
+        return cic_columns(cic::outputs_sound(s));
+    }
+    let s = m.aintc;
+    aintc_columns(aintc::outputs_sound(s))
 }
 
 // The three numbers of any machine, all 0 where it is not sound.

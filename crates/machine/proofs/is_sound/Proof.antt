@@ -1,6 +1,6 @@
 -- That `is_sound` of src/lib.rt keeps its contract.
 use mathlib.Core.Path.{_∙_}
-use Rattle.machine.proofs.MachineLaws.{sound-aic, sound-core, sound-cic, sound-none}
+use Rattle.machine.proofs.MachineLaws.{sound-aic, sound-core, sound-cic, sound-aintc, sound-none}
 use Rattle.cic_record.proofs.is_sound.Reads as is-sound-reads′
 use borrow.Author.Needs.{needs}
 use Rattle.machine.proofs.is_sound.Statement.{statement}
@@ -16,7 +16,12 @@ returns-3 : tie.Need-returns-3
 returns-3 c = c .is-sound3 .ensures ∙ sound-cic _ (c .before .before .if3 .taken)
 
 returns-4 : tie.Need-returns-4
-returns-4 c = sound-none _ (c .before .before .before .before .if1 .left) (c .before .before .if2 .left) (c .if3 .left)
+returns-4 c = c .is-sound4 .ensures ∙ sound-aintc _ (c .before .before .if4 .taken)
+
+returns-5 : tie.Need-returns-5
+returns-5 c =
+    let p = c .before .before in
+    sound-none _ (p .before .before .before .before .if1 .left) (p .before .before .if2 .left) (p .if3 .left) (c .if4 .left)
 
 pub is-sound-spec : {M : Type 1} → statement M
 is-sound-spec =
@@ -28,4 +33,6 @@ is-sound-spec =
     returns-2
     (λ c κs. search needs)
     returns-3
-    returns-4)
+    (λ c κs. search needs)
+    returns-4
+    returns-5)

@@ -1,8 +1,8 @@
 -- That `shown_sound` of src/lib.rt keeps its contract.
 use mathlib.Core.Path.{ap, sym, _∙_}
-use Rattle.machine.specs.Steps.{aicColumns, coreColumns, cicColumns}
-use Rattle.machine.proofs.MachineLaws.{sound-aic, sound-core, sound-cic, third-kind}
-use Rattle.machine.proofs.ShownLaws.{aic-shows, core-shows, cic-shows}
+use Rattle.machine.specs.Steps.{aicColumns, coreColumns, cicColumns, aintcColumns}
+use Rattle.machine.proofs.MachineLaws.{sound-aic, sound-core, sound-cic, sound-aintc, fourth-kind}
+use Rattle.machine.proofs.ShownLaws.{aic-shows, core-shows, cic-shows, aintc-shows}
 use Rattle.coreinterrupt.proofs.outputs_sound.Reads as outputs-sound-reads′′
 use Rattle.cic.proofs.outputs_sound.Reads as outputs-sound-reads′
 use borrow.Author.Needs.{needs}
@@ -22,13 +22,22 @@ returns-2 : tie.Need-returns-2
 returns-2 c = c .core-columns .ensures ∙ ap coreColumns (c .before .outputs-sound2 .ensures) ∙ sym (core-shows _ (c .before .before .before .if2 .taken))
 
 outputs-sound-requires-3 : tie.Need-outputs-sound-requires-3
-outputs-sound-requires-3 c κs = let k = third-kind _ (c .before .before .before .before .before .pre) (c .before .before .before .if1 .left) (c .before .if2 .left) in
-    sound-cic _ k ∙ c .before .before .before .before .before .pre
+outputs-sound-requires-3 c κs = sound-cic _ (c .before .if3 .taken) ∙ c .before .before .before .before .before .before .before .pre
 
 returns-3 : tie.Need-returns-3
-returns-3 c = let p = c .before .before .before in
-    let k = third-kind _ (p .before .before .before .before .pre) (p .before .before .if1 .left) (p .if2 .left) in
-    c .cic-columns .ensures ∙ ap cicColumns (c .before .outputs-sound3 .ensures) ∙ sym (cic-shows _ k)
+returns-3 c = c .cic-columns .ensures ∙ ap cicColumns (c .before .outputs-sound3 .ensures) ∙ sym (cic-shows _ (c .before .before .before .if3 .taken))
+
+outputs-sound-requires-4 : tie.Need-outputs-sound-requires-4
+outputs-sound-requires-4 c κs = let b = c .before in
+    let p = b .before .before in
+    let q = p .before .before .before .before in
+    sound-aintc _ (fourth-kind _ (q .pre) (p .before .before .if1 .left) (p .if2 .left) (b .if3 .left)) ∙ q .pre
+
+returns-4 : tie.Need-returns-4
+returns-4 c = let b = c .before .before .before in
+    let p = b .before .before in
+    let k = fourth-kind _ (p .before .before .before .before .pre) (p .before .before .if1 .left) (p .if2 .left) (b .if3 .left) in
+    c .aintc-columns .ensures ∙ ap aintcColumns (c .before .outputs-sound4 .ensures) ∙ sym (aintc-shows _ k)
 
 pub shown-sound-spec : {M : Type 1} → statement M
 shown-sound-spec =
@@ -42,4 +51,7 @@ shown-sound-spec =
     returns-2
     outputs-sound-requires-3
     (λ c κs. search needs)
-    returns-3)
+    returns-3
+    outputs-sound-requires-4
+    (λ c κs. search needs)
+    returns-4)

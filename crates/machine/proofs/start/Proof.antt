@@ -3,8 +3,9 @@ use mathlib.Core.Path.{ap, _∙_}
 use Rattle.aic.specs.declared.Begun.{Begun}
 use Rattle.coreinterrupt.specs.declared.Begun.{Begun as CoreBegun}
 use Rattle.cic_record.specs.declared.Begun.{Begun as CicBegun}
-use Rattle.kinds.proofs.KindLaws.{at-aic, at-core, at-cic, at-none}
-use Rattle.machine.specs.Machine.{start, ofAic, ofCore, ofCic}
+use Rattle.aintc.specs.declared.Begun.{Begun as AintcBegun}
+use Rattle.kinds.proofs.KindLaws.{at-aic, at-core, at-cic, at-aintc, at-none}
+use Rattle.machine.specs.Machine.{start, ofAic, ofCore, ofCic, ofAintc}
 use borrow.Author.Needs.{needs}
 use Rattle.machine.proofs.start.Statement.{statement}
 use Rattle.machine.proofs.start.Tie as tie
@@ -23,8 +24,12 @@ returns-3 c = c .of-cic .ensures ∙ ap (λ (b : CicBegun). ofCic (b .cic)) (c .
 
 returns-4 : tie.Need-returns-4
 unfolding start
-returns-4 c = let p = c .before in
-    c .empty .ensures ∙ at-none _ _ (p .before .before .if1 .left) (p .before .if2 .left) (p .if3 .left)
+returns-4 c = c .of-aintc .ensures ∙ ap (λ (b : AintcBegun). ofAintc (b .aintc)) (c .before .start4 .ensures) ∙ at-aintc _ _ (c .before .before .if4 .taken)
+
+returns-5 : tie.Need-returns-5
+unfolding start
+returns-5 c = let p = c .before in
+    c .empty .ensures ∙ at-none _ _ (p .before .before .before .if1 .left) (p .before .before .if2 .left) (p .before .if3 .left) (p .if4 .left)
 
 pub start-spec : {M : Type 1} → statement M
 start-spec =
@@ -44,4 +49,7 @@ start-spec =
     (λ c κs. search needs)
     returns-3
     (λ c κs. search needs)
-    returns-4)
+    (λ c κs. search needs)
+    returns-4
+    (λ c κs. search needs)
+    returns-5)
