@@ -26,8 +26,8 @@ use Rattle.aintc_registers.specs.Registers.{answered, refused}
 use Rattle.aintc.specs.Model.{within, start, read, write, line, step, outputs}
 use Rattle.aintc.specs.Tables.{ReadTable, WriteTable, MapTable, Reads, Writes}
 
--- the step ends what an output holds: a write that is carried out, of its agreement bit, bit 0 of CONTROL for IRQ and bit 1 for FIQ, or of
--- the soft reset, bit 1 of SYSCONFIG
+-- the step ends what an output holds, FIQ where f, else IRQ: a write that is carried out, of its agreement bit, which is bit 1 of CONTROL for
+-- FIQ and bit 0 for IRQ, or of the soft reset, bit 1 of SYSCONFIG
 abbrev pub Ends : Aintc → Bool → ℕ → Step → Type 0
 Ends s f p (Read o) = ⊥
 Ends s f p (Write o v) = (write s p o v .refusal ≡ 0) × (((o ≡ 0x48) × (bit v (one f) ≡ true)) ⊎ ((o ≡ 0x10) × (bit v 1 ≡ true)))
