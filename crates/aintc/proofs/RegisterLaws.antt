@@ -1,24 +1,20 @@
 -- The map, and what each privileged read and write does to a sound record, register by register.
-use Prim.Native.Nat.{ℕ, zero, suc, _+_, _-_, _*_, _/_, _%_, _<_, _≤_}
+use Prim.Native.Nat.{ℕ, zero, suc, _+_, _*_, _/_, _%_, _<_, _≤_}
 use mathlib.Core.Path.{_≡_, refl, sym, ap, _∙_}
 use mathlib.Core.Bool.{Bool, true, false, not, _&&_, _||_}
 use mathlib.Core.List.{List}
-use mathlib.Core.Logic.{_↔_, _≢_, _⊎_, inl, inr}
+use mathlib.Core.Logic.{_≢_, inl, inr}
 use native.Mathlib.Omega.{arith}
-use lib.Dec.{eqb, ltb, leb}
 use lib.ListN.{getD, set}
 use borrow.Author.Tests.{eq-eqb, ne-eqb, lt-ltb, le-ltb}
 use Rattle.words.specs.Choice.{pick}
-use Rattle.words.specs.Counting.{one}
 use Rattle.words.specs.Word.{bit, either, without}
-use Rattle.words.proofs.ChoiceLaws.{pick-true, pick-false, pick-cases}
+use Rattle.words.proofs.ChoiceLaws.{pick-true, pick-false}
 use Rattle.words.proofs.WordLaws.{wordOf-lt, bit-either, bit-without, either-lt, without-lt}
-use Rattle.steps.specs.declared.Access.{Access}
 use Rattle.steps.specs.declared.Access.the-variants.{NoRegister, ReadOnly, WriteOnly, ReadWrite}
-use Rattle.steps.specs.Refusals.{carriedOut, readRefusal, writeRefusal}
 use Rattle.steps.specs.Tables.{Readable, Writable}
 use Rattle.aintc_record.specs.declared.Aintc.{Aintc}
-use Rattle.aintc_record.specs.Record.{withSoft, withMasks, withRoutes, withSides, nobody, reset}
+use Rattle.aintc_record.specs.Record.{withSoft, withMasks, withRoutes, reset}
 use Rattle.aintc_record.specs.Route.{routeValue, routeByte, routeAt}
 use Rattle.aintc_choice.specs.Inputs.{pending, pendingWord}
 use Rattle.aintc_choice.specs.Settle.{settle, sound}
@@ -27,7 +23,7 @@ use Rattle.aintc_registers.specs.Effects.{released, agreed, configured, singleW
 use Rattle.aintc_registers.specs.Map.{revision, sysconfig, sysstatus, sirIrq, sirFiq, control, protection, idle, irqPriority, fiqPriority, threshold, itr, mir, mirClear, mirSet, isrSet, isrClear, pendingIrq, pendingFiq, ilr, past, rowOf, rowAccess, access, inputOf}
 use Rattle.aintc_registers.specs.declared.Answer.{Answer}
 use Rattle.aintc_registers.specs.Registers.{answered, shown, idleBits, singleRead, bankRead, readAt}
-use Rattle.aintc.specs.Model.{barred, accessNumber, readNumber, writeNumber, read, write}
+use Rattle.aintc.specs.Model.{readNumber, writeNumber, read, write}
 use Rattle.aintc.specs.Tables.{MapTable, Shows, Reads, Sets, Writes}
 use Rattle.aintc.proofs.NumberLaws.{access-read, access-write}
 

@@ -3,14 +3,14 @@ use Prim.Native.Nat.{ℕ}
 use mathlib.Core.Path.{_≡_, refl, sym, ap, ap₂, _∙_}
 use mathlib.Core.Bool.{Bool, true, false, _&&_}
 use mathlib.Core.List.{List}
-use mathlib.Core.Logic.{_↔_, _≢_, _⊎_, inl, inr, ⊎-elim}
+use mathlib.Core.Logic.{_↔_, _⊎_, inl, inr, ⊎-elim}
 use native.Mathlib.Omega.{arith}
 use lib.Dec.{eqb}
 use borrow.Author.Tests.{eqb-false}
 use Rattle.words.specs.Choice.{pick}
 use Rattle.words.specs.Counting.{one}
 use Rattle.words.specs.Word.{bit}
-use Rattle.words.proofs.ChoiceLaws.{pick-true, pick-false, pick-cases}
+use Rattle.words.proofs.ChoiceLaws.{pick-cases}
 use Rattle.words.proofs.TruthLaws.{clash, not-holds, told}
 use Rattle.steps.specs.declared.Step.{Step}
 use Rattle.steps.specs.declared.Step.the-variants.{Read, Write, Line}
@@ -19,18 +19,17 @@ use Rattle.aintc_record.specs.declared.Aintc.{Aintc}
 use Rattle.aintc_record.specs.declared.Chosen.{Chosen}
 use Rattle.aintc_record.specs.Bounds.{chosenBounded, bounded}
 use Rattle.aintc_record.specs.Promises.{Shaped, Bounds, Fresh}
-use Rattle.aintc_record.specs.Record.{side, withSides, nobody, chosenAt, reset}
+use Rattle.aintc_record.specs.Record.{side, nobody, chosenAt, reset}
 use Rattle.aintc_record.specs.Route.{priority, routed}
 use Rattle.aintc_record.proofs.RecordLaws.{bounded-is, is-bounded}
 use Rattle.aintc_record.proofs.Promises as record-promises
 use Rattle.aintc_choice.specs.Inputs.{raised, unmasked, pending, passes, eligible}
 use Rattle.aintc_choice.specs.Order.{before}
 use Rattle.aintc_choice.specs.Promises.{SomeEligible, NoneEligible, First}
-use Rattle.aintc_choice.specs.Settle.{settledSide, settle, sound}
+use Rattle.aintc_choice.specs.Settle.{settle, sound}
 use Rattle.aintc_choice.proofs.Promises as choice-promises
 use Rattle.aintc_registers.specs.declared.Answer.{Answer}
 use Rattle.aintc_registers.specs.Effects.{released, agreed, configured, singleWritten, writtenAt, moved}
-use Rattle.aintc_registers.specs.Registers.{answered, refused, readAt}
 use Rattle.aintc.specs.Model.{readNumber, writeNumber, lineNumber, read, write, line, step}
 use Rattle.aintc.specs.Promises.{Ends, Free}
 use Rattle.aintc.proofs.WriteLaws.{Plain, moved-plain, written}

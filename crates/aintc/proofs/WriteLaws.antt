@@ -2,17 +2,16 @@
 -- agreement bits and for the soft reset.
 use Prim.Native.Nat.{ℕ, _/_, _%_}
 use mathlib.Core.Path.{_≡_, refl, _∙_}
-use mathlib.Core.Bool.{Bool, true, false}
+use mathlib.Core.Bool.{Bool, true}
 use lib.Dec.{eqb, ltb}
 use lib.ListN.{getD, set, length-set}
 use borrow.Author.Tests.{eqb-true}
 use Rattle.words.specs.Array.{withBitAt}
-use Rattle.words.specs.Choice.{pick}
 use Rattle.words.specs.Word.{bit, either, without, withBit}
 use Rattle.words.proofs.ChoiceLaws.{pick-cases}
 use Rattle.aintc_record.specs.declared.Aintc.{Aintc}
 use Rattle.aintc_record.specs.Promises.{Shaped}
-use Rattle.aintc_record.specs.Record.{withLines, withSoft, withMasks, withRoutes, reset}
+use Rattle.aintc_record.specs.Record.{withSoft, withMasks, reset}
 use Rattle.aintc_record.specs.Route.{routeByte}
 use Rattle.aintc_registers.specs.Effects.{agreed, configured, singleWritten, bankWritten, writtenAt, moved}
 use Rattle.aintc_registers.specs.Map.{revision, sysconfig, control, protection, idle, threshold, itr, mir, mirClear, mirSet, isrSet, isrClear, ilr, rowOf, bankOf, inputOf}

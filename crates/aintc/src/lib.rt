@@ -1,6 +1,6 @@
 // The AINTC: its registers, its line steps and its outputs.
 ghost use mathlib.Core.Path.{_≡_};
-ghost use mathlib.Core.Bool.{true, _&&_};
+ghost use mathlib.Core.Bool.{true};
 ghost use Rattle.aintc_choice.specs.Settle.{sound};
 ghost use Rattle.aintc.specs.Model.{isRegister, barred, accessNumber, within, start, read, write, line, step, outputs};
 use aintc_record::Aintc;

@@ -1,6 +1,5 @@
 // The register map: offsets under the maker's names, and what each register allows.
 ghost use mathlib.Core.Path.{_≡_};
-ghost use Rattle.words.specs.Choice.{pick};
 ghost use Rattle.aintc_registers.specs.Map.{rowOf, rowAccess, access};
 use steps::Access;
 

@@ -1,9 +1,8 @@
 // What a read of each register answers, where nothing refuses it.
 ghost use mathlib.Core.Path.{_≡_};
-ghost use Prim.Native.Nat.{_<_, _≤_};
-ghost use Rattle.words.specs.Choice.{pick};
+ghost use Prim.Native.Nat.{_<_};
 ghost use Rattle.words.specs.Counting.{one};
-ghost use Rattle.aintc_registers.specs.Registers.{spurious, shown, idleBits, singleRead, bankRead, readAt};
+ghost use Rattle.aintc_registers.specs.Registers.{shown, idleBits, singleRead, bankRead, readAt};
 use super::map;
 use aintc_record::Aintc;
 

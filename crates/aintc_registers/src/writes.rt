@@ -1,6 +1,5 @@
 // What a write of each register and a line step do, where nothing refuses them. The outputs have not yet taken anything anew.
 ghost use mathlib.Core.Path.{_≡_};
-ghost use Rattle.words.specs.Choice.{pick};
 ghost use Rattle.aintc_registers.specs.Effects.{released, agreed, configured, singleWritten, bankWritten, writtenAt, moved};
 use super::map;
 use aintc_record::Aintc;

@@ -1,7 +1,7 @@
 -- That `row_access` of src/map.rt keeps its contract.
 use Rattle.words.specs.Choice.{pick}
 use Rattle.aintc_registers.specs.Map.{rowAccess}
-use Rattle.words.proofs.ChoiceLaws.{pick-true, pick-false}
+use Rattle.words.proofs.ChoiceLaws.{pick-false}
 use borrow.Author.Tests.{ne-eqb}
 use mathlib.Core.Path.{sym, ap, _∙_}
 use Rattle.aintc_registers.proofs.map.row_access.Statement.{statement}

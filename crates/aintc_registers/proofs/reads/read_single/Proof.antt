@@ -1,6 +1,6 @@
 -- That `read_single` of src/reads.rt keeps its contract.
 use Rattle.words.specs.Choice.{pick}
-use Rattle.words.proofs.ChoiceLaws.{pick-true, pick-false}
+use Rattle.words.proofs.ChoiceLaws.{pick-false}
 use borrow.Author.Tests.{ne-eqb}
 use mathlib.Core.Path.{sym, ap, _∙_}
 use Rattle.aintc_registers.specs.Registers.{singleRead}
