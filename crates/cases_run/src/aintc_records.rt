@@ -3,142 +3,158 @@ use super::say;
 use aintc_record::Aintc;
 use aintc_record::Chosen;
 
+// Every case begins with what a reset leaves.
+fn fresh() -> Aintc {
+    let b = aintc::start();
+    b.aintc
+}
+
 // A record is looked at by a privileged read of SYSSTATUS.
 fn look(s: Aintc) -> u32 {
     let a = aintc::read(s, 1, 0x14);
     a.refusal
 }
 
-// With this one chosen for IRQ, and then for FIQ.
-fn chosen(s: Aintc, active: bool, number: u8, priority: u8) {
+// With this one chosen for IRQ, or for FIQ.
+fn chosen(active: bool, number: u8, priority: u8, fast: bool) {
     let c = Chosen {
         active: active,
         number: number,
         priority: priority,
     };
-    let mut irq = s;
-    irq.irq = c;
-    let mut fiq = s;
-    fiq.fiq = c;
-    say::four(active as u32, number as u32, priority as u32, 0, look(irq));
-    say::four(active as u32, number as u32, priority as u32, 1, look(fiq));
+    let mut s = fresh();
+    if fast {
+        s.fiq = c;
+    } else {
+        s.irq = c;
+    }
+    say::four(
+        active as u32,
+        number as u32,
+        priority as u32,
+        fast as u32,
+        look(s),
+    );
+}
+
+fn both(active: bool, number: u8, priority: u8) {
+    chosen(active, number, priority, false);
+    chosen(active, number, priority, true);
 }
 
 // The bounds of a chosen one, and both numbers 0 where there is none.
-fn bounds(s: Aintc) {
-    chosen(s, true, 127, 127);
-    chosen(s, true, 128, 127);
-    chosen(s, true, 127, 128);
-    chosen(s, false, 0, 0);
-    chosen(s, false, 1, 0);
-    chosen(s, false, 0, 1);
+fn bounds() {
+    both(true, 127, 127);
+    both(true, 128, 127);
+    both(true, 127, 128);
+    both(false, 0, 0);
+    both(false, 1, 0);
+    both(false, 0, 1);
 }
 
 // Input 5 is raised by its line, and no output has one chosen.
-fn raised(s: Aintc, mask: u32, route: u8, threshold: u8) {
-    let mut t = s;
-    t.lines[0] = 0x20;
-    t.masks[0] = mask;
-    t.routes[5] = route;
-    t.threshold = threshold;
-    say::four(mask, route as u32, threshold as u32, 0, look(t));
+fn raised(mask: u32, route: u8, threshold: u8) {
+    let mut s = fresh();
+    s.lines[0] = 0x20;
+    s.masks[0] = mask;
+    s.routes[5] = route;
+    s.threshold = threshold;
+    say::four(mask, route as u32, threshold as u32, 0, look(s));
 }
 
 // An output with none chosen has none that is eligible: masked, or kept away by the threshold, and just not.
-fn quiet(s: Aintc) {
-    raised(s, 0x20, 0, 255);
-    raised(s, 0xFFFFFFDF, 0, 255);
-    raised(s, 0xFFFFFFDF, 1, 255);
-    raised(s, 0xFFFFFFDF, 6, 3);
-    raised(s, 0xFFFFFFDF, 6, 4);
-    raised(s, 0xFFFFFFDF, 2, 1);
-    raised(s, 0xFFFFFFDF, 2, 0);
-    raised(s, 0xFFFFFFDF, 0, 0);
+fn quiet() {
+    raised(0x20, 0, 255);
+    raised(0xFFFFFFDF, 0, 255);
+    raised(0xFFFFFFDF, 1, 255);
+    raised(0xFFFFFFDF, 6, 3);
+    raised(0xFFFFFFDF, 6, 4);
+    raised(0xFFFFFFDF, 2, 1);
+    raised(0xFFFFFFDF, 2, 0);
+    raised(0xFFFFFFDF, 0, 0);
 }
 
-// Input 5 is raised by its soft bit and routed as this byte says; IRQ has one chosen or not, FIQ the other way round.
-fn held(s: Aintc, route: u8, irq: bool) {
-    let mut t = s;
-    t.soft[0] = 0x20;
-    t.masks[0] = 0;
-    t.routes[5] = route;
+// Input 5 is raised by its soft bit and routed as this byte says; FIQ has one chosen, where `fast`, or IRQ, and the other none.
+fn held(route: u8, fast: bool) {
     let c = Chosen {
         active: true,
         number: 9,
         priority: 4,
     };
-    if irq {
-        t.irq = c;
+    let mut s = fresh();
+    s.soft[0] = 0x20;
+    s.masks[0] = 0;
+    s.routes[5] = route;
+    if fast {
+        s.fiq = c;
     } else {
-        t.fiq = c;
+        s.irq = c;
     }
-    say::four(route as u32, irq as u32, 0, 0, look(t));
+    say::four(route as u32, fast as u32, 0, 0, look(s));
 }
 
 // A chosen one keeps its own output quiet and not the other.
-fn sides(s: Aintc) {
-    held(s, 0, true);
-    held(s, 0, false);
-    held(s, 1, true);
-    held(s, 1, false);
+fn sides() {
+    held(0, false);
+    held(0, true);
+    held(1, false);
+    held(1, true);
 }
 
 // A read and a write of an offset at a privilege, protected or not.
-fn access(s: Aintc, guarded: bool, privilege: u32, offset: u32) {
-    let mut t = s;
-    t.guarded = guarded;
-    let r = aintc::read(t, privilege, offset);
+fn access(guarded: bool, privilege: u32, offset: u32) {
+    let mut s = fresh();
+    s.guarded = guarded;
+    let r = aintc::read(s, privilege, offset);
     say::four(guarded as u32, privilege, offset, 0, r.refusal);
-    let w = aintc::write(t, privilege, offset, 0);
+    let w = aintc::write(s, privilege, offset, 0);
     say::four(guarded as u32, privilege, offset, 1, w.refusal);
 }
 
 // 6 before 1, 1 and 2 before 13, 13 before 3 and 4.
-fn accesses(s: Aintc) {
-    access(s, true, 2, 0x15);
-    access(s, true, 0, 0x15);
-    access(s, true, 0, 0x18);
-    access(s, true, 0, 0x14);
-    access(s, true, 1, 0x14);
-    access(s, true, 0, 0x48);
-    access(s, true, 1, 0x48);
-    access(s, false, 0, 0x48);
-    access(s, false, 0, 0x4C);
-    access(s, false, 1, 0x4C);
-    access(s, false, 0, 0x2FC);
-    access(s, false, 0, 0x300);
+fn accesses() {
+    access(true, 2, 0x15);
+    access(true, 0, 0x15);
+    access(true, 0, 0x18);
+    access(true, 0, 0x14);
+    access(true, 1, 0x14);
+    access(true, 0, 0x48);
+    access(true, 1, 0x48);
+    access(false, 0, 0x48);
+    access(false, 0, 0x4C);
+    access(false, 1, 0x4C);
+    access(false, 0, 0x2FC);
+    access(false, 0, 0x300);
 }
 
-fn line(s: Aintc, k: u32, level: u32) {
-    let a = aintc::line(s, k, level);
+fn line(k: u32, level: u32) {
+    let a = aintc::line(fresh(), k, level);
     say::four(k, level, 0, 0, a.refusal);
 }
 
 // Of an unsound record 12 stands before every other number, and its outputs are refused too.
-fn first_of_all(s: Aintc) {
-    let mut t = s;
-    t.masks[0] = 0;
-    t.lines[0] = 1;
-    access(t, true, 2, 0x15);
-    line(t, 128, 2);
-    let o = aintc::outputs(t);
+fn first_of_all() {
+    let mut s = fresh();
+    s.masks[0] = 0;
+    s.lines[0] = 1;
+    let r = aintc::read(s, 2, 0x15);
+    say::one(0x15, r.refusal);
+    let o = aintc::outputs(s);
     say::one(0, o.refusal);
 }
 
 pub(crate) fn all() {
-    let b = aintc::start();
-    let s = b.aintc;
-    say::heading(b"AINTC chosen, number, priority, side\n");
-    bounds(s);
+    say::heading(b"AINTC chosen, number, priority, FIQ\n");
+    bounds();
     say::heading(b"mask, route, threshold\n");
-    quiet(s);
-    say::heading(b"route, IRQ held\n");
-    sides(s);
+    quiet();
+    say::heading(b"route, FIQ held\n");
+    sides();
     say::heading(b"guarded, privilege, offset, write\n");
-    accesses(s);
+    accesses();
     say::heading(b"line, level\n");
-    line(s, 127, 1);
-    line(s, 128, 1);
-    line(s, 127, 2);
-    first_of_all(s);
+    line(127, 1);
+    line(128, 1);
+    line(127, 2);
+    first_of_all();
 }
