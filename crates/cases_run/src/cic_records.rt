@@ -18,6 +18,12 @@ fn starts() {
     start(1024, 256, 257, 0);
 }
 
+// Every record is made from the one that 33 systems, 2 channels and 3 hosts configure.
+fn fresh() -> Cic {
+    let b = cic::start(33, 2, 3, 0);
+    b.cic
+}
+
 // A record is looked at by a read of its revision.
 fn look(c: Cic) -> u32 {
     let a = cic::read(c, 0x000);
@@ -25,74 +31,76 @@ fn look(c: Cic) -> u32 {
 }
 
 // With these counts and this global enable.
-fn numbers(c: Cic, systems: u32, channels: u32, hosts: u32, global: u32) -> Cic {
-    let mut d = c;
-    d.systems = systems;
-    d.channels = channels;
-    d.hosts = hosts;
-    d.global = global;
-    say::four(systems, channels, hosts, global, look(d));
-    d
+fn numbers(systems: u32, channels: u32, hosts: u32, global: u32) {
+    let mut c = fresh();
+    c.systems = systems;
+    c.channels = channels;
+    c.hosts = hosts;
+    c.global = global;
+    say::four(systems, channels, hosts, global, look(c));
 }
 
 // With these words for systems 32 to 63 in lines, status and enables, and this word of host enables.
-fn words(c: Cic, lines: u32, status: u32, enable: u32, allow: u32) {
-    let mut d = c;
-    d.lines[1] = lines;
-    d.status[1] = status;
-    d.enable[1] = enable;
-    d.allow[0] = allow;
-    say::four(lines, status, enable, allow, look(d));
+fn words(lines: u32, status: u32, enable: u32, allow: u32) {
+    let mut c = fresh();
+    c.lines[1] = lines;
+    c.status[1] = status;
+    c.enable[1] = enable;
+    c.allow[0] = allow;
+    say::four(lines, status, enable, allow, look(c));
 }
 
 // With these channels for systems 32 and 33, and these hosts for channels 1 and 2.
-fn maps(c: Cic, last: u8, spare: u8, lasthost: u8, sparehost: u8) {
-    let mut d = c;
-    d.channel[32] = last;
-    d.channel[33] = spare;
-    d.host[1] = lasthost;
-    d.host[2] = sparehost;
+fn maps(last: u8, spare: u8, lasthost: u8, sparehost: u8) {
+    let mut c = fresh();
+    c.channel[32] = last;
+    c.channel[33] = spare;
+    c.host[1] = lasthost;
+    c.host[2] = sparehost;
     say::four(
         last as u32,
         spare as u32,
         lasthost as u32,
         sparehost as u32,
-        look(d),
+        look(c),
     );
 }
 
 // The counts and global enable at their limits.
-fn counts(c: Cic) {
-    numbers(c, 33, 2, 3, 1);
-    numbers(c, 0, 2, 3, 0);
-    numbers(c, 1024, 2, 3, 0);
-    numbers(c, 1025, 2, 3, 0);
-    numbers(c, 33, 0, 3, 0);
-    numbers(c, 33, 256, 3, 0);
-    numbers(c, 33, 257, 3, 0);
-    numbers(c, 33, 2, 0, 0);
-    numbers(c, 33, 2, 256, 0);
-    numbers(c, 33, 2, 257, 0);
+fn counts() {
+    numbers(33, 2, 3, 1);
+    numbers(0, 2, 3, 0);
+    numbers(1024, 2, 3, 0);
+    numbers(1025, 2, 3, 0);
+    numbers(33, 0, 3, 0);
+    numbers(33, 256, 3, 0);
+    numbers(33, 257, 3, 0);
+    numbers(33, 2, 0, 0);
+    numbers(33, 2, 256, 0);
+    numbers(33, 2, 257, 0);
+    numbers(33, 2, 3, 2);
 }
 
 // Of 33 systems, 2 channels and 3 hosts, the last bit and byte, and the one after it.
-fn beyond(c: Cic) {
+fn beyond() {
     say::heading(b"lines, status, enable, host enable\n");
-    words(c, 1, 1, 1, 4);
-    words(c, 2, 0, 0, 0);
-    words(c, 0, 2, 0, 0);
-    words(c, 0, 0, 2, 0);
-    words(c, 0, 0, 0, 8);
+    words(1, 1, 1, 4);
+    words(2, 0, 0, 0);
+    words(0, 2, 0, 0);
+    words(0, 0, 2, 0);
+    words(0, 0, 0, 8);
     say::heading(b"channels, hosts\n");
-    maps(c, 1, 0, 2, 0);
-    maps(c, 2, 0, 0, 0);
-    maps(c, 0, 1, 0, 0);
-    maps(c, 0, 0, 3, 0);
-    maps(c, 0, 0, 0, 1);
+    maps(1, 0, 2, 0);
+    maps(2, 0, 0, 0);
+    maps(0, 1, 0, 0);
+    maps(0, 0, 3, 0);
+    maps(0, 0, 0, 1);
 }
 
 // Of an unsound record 12 stands before every other number, and its outputs are refused too.
-fn first_of_all(c: Cic) {
+fn first_of_all() {
+    let mut c = fresh();
+    c.global = 2;
     let r = cic::read(c, 0x201);
     say::one(0x201, r.refusal);
     let o = cic::outputs(c);
@@ -102,10 +110,8 @@ fn first_of_all(c: Cic) {
 pub(crate) fn all() {
     say::heading(b"CIC starts\n");
     starts();
-    let b = cic::start(33, 2, 3, 0);
-    let c = b.cic;
-    beyond(c);
+    beyond();
     say::heading(b"systems, channels, hosts, global\n");
-    counts(c);
-    first_of_all(numbers(c, 33, 2, 3, 2));
+    counts();
+    first_of_all();
 }
