@@ -1,4 +1,4 @@
-// AINTC: which records are refused by 12, and by which number an access or a line step of a sound one is (02, 2/12).
+// AINTC: which records are refused by 12 (02, 2/12).
 use super::say;
 use aintc_record::Aintc;
 use aintc_record::Chosen;
@@ -101,37 +101,6 @@ fn sides() {
     held(1, true);
 }
 
-// A read and a write of an offset at a privilege, protected or not.
-fn access(guarded: bool, privilege: u32, offset: u32) {
-    let mut s = fresh();
-    s.guarded = guarded;
-    let r = aintc::read(s, privilege, offset);
-    say::four(guarded as u32, privilege, offset, 0, r.refusal);
-    let w = aintc::write(s, privilege, offset, 0);
-    say::four(guarded as u32, privilege, offset, 1, w.refusal);
-}
-
-// 6 before 1, 1 and 2 before 13, 13 before 3 and 4.
-fn accesses() {
-    access(true, 2, 0x15);
-    access(true, 0, 0x15);
-    access(true, 0, 0x18);
-    access(true, 0, 0x14);
-    access(true, 1, 0x14);
-    access(true, 0, 0x48);
-    access(true, 1, 0x48);
-    access(false, 0, 0x48);
-    access(false, 0, 0x4C);
-    access(false, 1, 0x4C);
-    access(false, 0, 0x2FC);
-    access(false, 0, 0x300);
-}
-
-fn line(k: u32, level: u32) {
-    let a = aintc::line(fresh(), k, level);
-    say::four(k, level, 0, 0, a.refusal);
-}
-
 // Of an unsound record 12 stands before every other number, and its outputs are refused too.
 fn first_of_all() {
     let mut s = fresh();
@@ -150,11 +119,5 @@ pub(crate) fn all() {
     quiet();
     say::heading(b"route, FIQ held\n");
     sides();
-    say::heading(b"guarded, privilege, offset, write\n");
-    accesses();
-    say::heading(b"line, level\n");
-    line(127, 1);
-    line(128, 1);
-    line(127, 2);
     first_of_all();
 }
