@@ -23,11 +23,7 @@ fn requests_at(aic: &Aic, priority: u8) -> bool {
 
 /// Whether a normal request is kept out by the eight entries alone.
 fn wants_room(aic: &Aic) -> bool {
-    let above = |n: usize| match aic.last_level() {
-        Some(level) => aic.sources()[n].priority > level,
-        None => true,
-    };
-    aic.is_full() && (0..SOURCES).any(|n| aic.normal_request(n) && above(n))
+    aic.is_full() && (0..SOURCES).any(|n| aic.normal_request(n) && aic.is_above(n))
 }
 
 /// A word with a bit for each entry that is a mark.
@@ -255,8 +251,8 @@ impl Coverage {
         );
     }
 
-    /// The level of the last entry, and the priority that a source has now, would not let the same sources in: for a
-    /// handler its own source, for a mark the source of the handler below, or source 0 if ISR's answer is taken for one.
+    /// The level of the last entry and the priority that a source has now would not let the same sources in: the source
+    /// of a handler; for a mark that of the handler below, or source 0 where ISR's answer is taken for a source.
     fn remembered_level(&mut self, before: &Aic) {
         let Some(level) = before.last_level() else {
             return;

@@ -289,23 +289,33 @@ impl Tour<'_> {
             self.unwind();
             return;
         }
-        let source = 1 + self.random.below(31);
-        self.script.write(4 * source, HIGH_LEVEL | self.next_level);
-        self.script.write(FFDR, 1 << source);
-        self.script.write(ENABLE, 1 << source);
-        self.set_level(source, 1);
+        self.raise(self.next_level);
         self.script.read(IVR);
         self.next_level += 1;
     }
 
-    /// Some entries one above the other, marks and handlers as it happens, and most of them closed again.
+    /// Makes some source a normal one of a priority that is pending and enabled.
+    fn raise(&mut self, priority: u32) {
+        let source = 1 + self.random.below(31);
+        self.script.write(4 * source, HIGH_LEVEL | priority);
+        self.script.write(FFDR, 1 << source);
+        self.script.write(ENABLE, 1 << source);
+        self.set_level(source, 1);
+    }
+
+    /// Some entries one above the other, few or many of them marks, at times with priority 7 waiting above them; most
+    /// are closed again.
     fn tower(&mut self) {
+        let marks = self.random.below(5);
         for _ in 0..self.random.within(1, 9) {
-            if self.random.one_in(2) {
+            if self.random.below(4) < marks {
                 self.script.read(IVR);
             } else {
                 self.nest();
             }
+        }
+        if self.random.one_in(3) {
+            self.raise(7);
         }
         self.unwind();
     }

@@ -255,13 +255,17 @@ impl Aic {
         self.entries.len() == ENTRIES
     }
 
-    /// A normal request that has room and is above the level of the last entry (01, AIC, normal side; 02, 3/12).
-    pub fn candidate(&self, source: usize) -> bool {
-        let above = match self.last_level() {
+    /// The priority of a source is strictly above the level of the last entry, if that has one.
+    pub fn is_above(&self, source: usize) -> bool {
+        match self.last_level() {
             Some(level) => self.sources[source].priority > level,
             None => true,
-        };
-        !self.is_full() && above && self.normal_request(source)
+        }
+    }
+
+    /// A normal request that finds room and is above the last entry (01, AIC, normal side; 02, 3/12).
+    pub fn candidate(&self, source: usize) -> bool {
+        !self.is_full() && self.is_above(source) && self.normal_request(source)
     }
 
     /// The candidate ahead of all others: the highest priority, and of equal ones the lowest number.
