@@ -35,7 +35,7 @@ use Rattle.player.proofs.Promises.{kept as player}
 use Rattle.player.proofs.BeginningLaws.{begin-ready}
 use Rattle.listing.specs.Listing.{letterOf, letter, shownValue, lineOf, stepLine, linesFrom, joined, endLine, endOf, textFrom, listingOf}
 use Rattle.listing.specs.Promises.{linesOf, lineBytes, Promises}
-use Rattle.listing.proofs.Examples.{aic-listed, nothing-listed, core-listed, cic-listed}
+use Rattle.listing.proofs.Examples.{aic-listed, nothing-listed, core-listed, cic-listed, aintc-listed, aintc-alone}
 use Rattle.listing.proofs.EndingLaws.{endings-append, lines-end, end-ends, name-ends}
 use Rattle.listing.proofs.LineLaws.{listing-begun, listing-refused}
 use Rattle.listing.proofs.SizeLaws.{length-listing}
@@ -147,4 +147,6 @@ kept =
       nothing = nothing-listed;
       coreListed = core-listed;
       cicListed = cic-listed;
+      aintcListed = aintc-listed;
+      aintcAlone = aintc-alone;
     }

@@ -203,13 +203,14 @@ pub fn step_sound(m: Machine, x: Recorded) -> Answer
     requires { ⌜ sound m ≡ true ⌝ }
     ensures { λ r. ⌜ r ≡ step m x ⌝ }
 {
-    if m.kind == kinds::AIC {
+    let kind = m.kind;
+    if kind == kinds::AIC {
         return aic_step(m, x);
     }
-    if m.kind == kinds::CORE {
+    if kind == kinds::CORE {
         return core_step(m, x);
     }
-    if m.kind == kinds::CIC {
+    if kind == kinds::CIC {
         return cic_step(m, x);
     }
     aintc_step(m, x)
@@ -233,19 +234,20 @@ pub fn step(m: Machine, x: Recorded) -> Answer
 pub fn is_sound(m: Machine) -> bool
     ensures { λ r. ⌜ r ≡ sound m ⌝ }
 {
-    if m.kind == kinds::AIC {
+    let kind = m.kind;
+    if kind == kinds::AIC {
         let s = m.aic;
         return aic_record::is_sound(s);
     }
-    if m.kind == kinds::CORE {
+    if kind == kinds::CORE {
         let s = m.core;
         return coreinterrupt::is_sound(s);
     }
-    if m.kind == kinds::CIC {
+    if kind == kinds::CIC {
         let s = m.cic;
         return cic_record::is_sound(s);
     }
-    if m.kind == kinds::AINTC {
+    if kind == kinds::AINTC {
         let s = m.aintc;
         return aintc_choice::is_sound(s);
     }
@@ -312,15 +314,16 @@ pub fn shown_sound(m: Machine) -> Columns
     requires { ⌜ sound m ≡ true ⌝ }
     ensures { λ r. ⌜ r ≡ shown m ⌝ }
 {
-    if m.kind == kinds::AIC {
+    let kind = m.kind;
+    if kind == kinds::AIC {
         let s = m.aic;
         return aic_columns(aic::outputs_sound(s));
     }
-    if m.kind == kinds::CORE {
+    if kind == kinds::CORE {
         let s = m.core;
         return core_columns(coreinterrupt::outputs_sound(s));
     }
-    if m.kind == kinds::CIC {
+    if kind == kinds::CIC {
         let s = m.cic;
         return cic_columns(cic::outputs_sound(s));
     }

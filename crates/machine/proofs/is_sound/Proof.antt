@@ -19,9 +19,8 @@ returns-4 : tie.Need-returns-4
 returns-4 c = c .is-sound4 .ensures ∙ sound-aintc _ (c .before .before .if4 .taken)
 
 returns-5 : tie.Need-returns-5
-returns-5 c =
-    let p = c .before .before in
-    sound-none _ (p .before .before .before .before .if1 .left) (p .before .before .if2 .left) (p .if3 .left) (c .if4 .left)
+returns-5 c = let p = c .before in
+    sound-none _ (p .before .before .if1 .left) (p .before .if2 .left) (p .if3 .left) (c .if4 .left)
 
 pub is-sound-spec : {M : Type 1} → statement M
 is-sound-spec =
