@@ -8,9 +8,9 @@ use Rattle.text.specs.Text.{hexDigit, hexOf, decimalOf, field}
 use Rattle.trace.specs.Steps.{operandsOf, twoNumbers, stepAt}
 use Rattle.trace.specs.Trace.{turnAt, stepsFrom}
 use Rattle.machine.specs.declared.Answer.{Answer}
-use Rattle.machine.specs.declared.Columns.{Columns}
-use Rattle.machine.specs.declared.Machine.{Machine}
-use Rattle.machine.specs.Promises.{Ready}
+use Rattle.machine_record.specs.declared.Columns.{Columns}
+use Rattle.machine_record.specs.declared.Machine.{Machine}
+use Rattle.machine_record.specs.Promises.{Ready}
 use Rattle.machine.proofs.Computing.{aic-computes, core-computes, cic-computes, aintc-computes, cicQuick, cicSeen, cic-quick, cic-seen}
 use Rattle.machine.proofs.StepLaws.{step-ready}
 use Rattle.player.specs.Begin.{setupFrom, setupOf, bySetup, beginOf}

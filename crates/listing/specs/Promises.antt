@@ -14,8 +14,9 @@ use Rattle.text.specs.Text.{hex, decimal, laid}
 use Rattle.kinds.specs.Kinds.{name}
 use Rattle.kinds.specs.Promises.{endings}
 use Rattle.machine.specs.declared.Answer.{Answer}
-use Rattle.machine.specs.declared.Columns.{Columns}
-use Rattle.machine.specs.Steps.{step, shown}
+use Rattle.machine_record.specs.declared.Columns.{Columns}
+use Rattle.machine_record.specs.Shown.{shown}
+use Rattle.machine.specs.Steps.{step}
 use Rattle.player.specs.Begin.{beginOf}
 use Rattle.player.specs.Play.{recordsOf, runOf, playOf}
 use Rattle.listing.specs.Listing.{stepLine, linesFrom, joined, endOf, listingOf}

@@ -42,12 +42,13 @@ use Rattle.aintc.specs.Model.{start as aintcStart, barred, accessNumber, readNu
 use Rattle.kinds.specs.Configuration.{withNumber}
 use Rattle.kinds.specs.Kinds.{cicKind, byKind, isKind, wanted, within, name}
 use Rattle.machine.specs.declared.Answer.{Answer}
-use Rattle.machine.specs.declared.Columns.{Columns}
-use Rattle.machine.specs.declared.Machine.{Machine}
-use Rattle.machine.specs.Machine.{start, sound}
-use Rattle.machine.specs.Steps.{afterCic, step, cicColumns, shown}
-use Rattle.machine.proofs.MachineLaws.{sound-cic}
-use Rattle.machine.proofs.ShownLaws.{cic-shows}
+use Rattle.machine_record.specs.declared.Columns.{Columns}
+use Rattle.machine_record.specs.declared.Machine.{Machine}
+use Rattle.machine_record.specs.Machine.{start, sound}
+use Rattle.machine_record.specs.Shown.{cicColumns, shown}
+use Rattle.machine.specs.Steps.{afterCic, step}
+use Rattle.machine_record.proofs.MachineLaws.{sound-cic}
+use Rattle.machine_record.proofs.ShownLaws.{cic-shows}
 use Rattle.machine.proofs.StepLaws.{cic-steps}
 
 -- what all kinds share

@@ -1,6 +1,6 @@
 -- That `step_sound` of src/lib.rt keeps its contract.
 use mathlib.Core.Path.{sym, _∙_}
-use Rattle.machine.proofs.MachineLaws.{sound-aic, sound-core, sound-cic, sound-aintc, fourth-kind}
+use Rattle.machine_record.proofs.MachineLaws.{sound-aic, sound-core, sound-cic, sound-aintc, fourth-kind}
 use Rattle.machine.proofs.StepLaws.{aic-steps, core-steps, cic-steps, aintc-steps}
 use borrow.Author.Needs.{needs}
 use Rattle.machine.proofs.step_sound.Statement.{statement}
