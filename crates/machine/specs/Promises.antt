@@ -1,5 +1,4 @@
 -- What is promised of the steps of a machine: they are those of the model of its kind.
-use Prim.Native.Nat.{ℕ}
 use mathlib.Core.Path.{_≡_}
 use mathlib.Core.Bool.{false}
 use mathlib.Core.Logic.{_↔_, _≢_}

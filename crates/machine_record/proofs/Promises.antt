@@ -1,5 +1,4 @@
 -- The promises of a machine before its steps, kept.
-use Prim.Native.Nat.{ℕ}
 use mathlib.Core.Path.{refl, sym}
 use mathlib.Core.Bool.{Bool, true, false, false≢true, true≢false}
 use native.Mathlib.Omega.{arith}

@@ -1,5 +1,4 @@
 -- The three numbers that a listing shows of a machine (01, "House trace"; 02, 2/12).
-use Prim.Native.Nat.{ℕ}
 use Rattle.words.specs.Counting.{one}
 use Rattle.aic.specs.declared.Signals.{Signals as AicSignals}
 use Rattle.aic.specs.Model.{outputs as aicOutputs}

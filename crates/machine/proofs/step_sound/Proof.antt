@@ -2,7 +2,6 @@
 use mathlib.Core.Path.{sym, _∙_}
 use Rattle.machine_record.proofs.MachineLaws.{sound-aic, sound-core, sound-cic, sound-aintc, fourth-kind}
 use Rattle.machine.proofs.StepLaws.{aic-steps, core-steps, cic-steps, aintc-steps}
-use borrow.Author.Needs.{needs}
 use Rattle.machine.proofs.step_sound.Statement.{statement}
 use Rattle.machine.proofs.step_sound.Tie as tie
 
