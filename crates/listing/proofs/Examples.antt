@@ -8,16 +8,16 @@ use Rattle.text.specs.Text.{hexDigit, hexOf, decimalOf, field}
 use Rattle.trace.specs.Steps.{operandsOf, twoNumbers, stepAt}
 use Rattle.trace.specs.Trace.{turnAt, stepsFrom}
 use Rattle.machine.specs.declared.Answer.{Answer}
-use Rattle.machine.specs.declared.Columns.{Columns}
-use Rattle.machine.specs.declared.Machine.{Machine}
-use Rattle.machine.specs.Promises.{Ready}
-use Rattle.machine.proofs.Computing.{aic-computes, core-computes, cic-computes, cicQuick, cicSeen, cic-quick, cic-seen}
+use Rattle.machine_record.specs.declared.Columns.{Columns}
+use Rattle.machine_record.specs.declared.Machine.{Machine}
+use Rattle.machine_record.specs.Promises.{Ready}
+use Rattle.machine.proofs.Computing.{aic-computes, core-computes, cic-computes, aintc-computes, cicQuick, cicSeen, cic-quick, cic-seen}
 use Rattle.machine.proofs.StepLaws.{step-ready}
 use Rattle.player.specs.Begin.{setupFrom, setupOf, bySetup, beginOf}
 use Rattle.player.specs.Play.{recordsFrom, recordsOf}
 use Rattle.player.proofs.BeginningLaws.{begin-ready}
 use Rattle.listing.specs.Listing.{letter, shownValue, lineOf, stepLine, linesFrom, joined, endLine, endOf, textFrom, nameLine, listingOf}
-use Rattle.listing.specs.Promises.{aicTrace, aicText, coreTrace, coreText, cicTrace, cicText}
+use Rattle.listing.specs.Promises.{aicTrace, aicText, coreTrace, coreText, cicTrace, cicText, aintcTrace, aintcText}
 
 -- what is read of a trace, and how a line is written
 unfoldable reading : Unit {0}
@@ -39,6 +39,14 @@ nothing-listed = refl
 pub core-listed : listingOf coreTrace 20000 ≡ coreText
 unfolding core-computes reading writing linesFrom textFrom listingOf
 core-listed = refl
+
+pub aintc-listed : listingOf aintcTrace 20000 ≡ aintcText
+unfolding aintc-computes reading writing linesFrom textFrom listingOf
+aintc-listed = refl
+
+pub aintc-alone : listingOf (3 ∷ []) 20000 ≡ 65 ∷ 73 ∷ 78 ∷ 84 ∷ 67 ∷ 10 ∷ []
+unfolding aintc-computes reading writing linesFrom textFrom listingOf
+aintc-alone = refl
 
 -- ---- the lines of a CIC that is known to be sound
 

@@ -21,11 +21,12 @@ use Rattle.text.proofs.Promises.{kept as text}
 use Rattle.text.proofs.WriteLaws.{write-laid}
 use Rattle.trace.specs.Trace.{Trace}
 use Rattle.machine.specs.declared.Answer.{Answer}
-use Rattle.machine.specs.declared.Columns.{Columns}
-use Rattle.machine.specs.declared.Machine.{Machine}
+use Rattle.machine_record.specs.declared.Columns.{Columns}
+use Rattle.machine_record.specs.declared.Machine.{Machine}
 use Rattle.kinds.specs.Kinds.{name}
 use Rattle.kinds.specs.Promises.{endings}
-use Rattle.machine.specs.Steps.{step, shown}
+use Rattle.machine_record.specs.Shown.{shown}
+use Rattle.machine.specs.Steps.{step}
 use Rattle.player.specs.declared.Begun.{Begun}
 use Rattle.player.specs.declared.Played.{Played}
 use Rattle.player.specs.Begin.{beginOf}
@@ -35,7 +36,7 @@ use Rattle.player.proofs.Promises.{kept as player}
 use Rattle.player.proofs.BeginningLaws.{begin-ready}
 use Rattle.listing.specs.Listing.{letterOf, letter, shownValue, lineOf, stepLine, linesFrom, joined, endLine, endOf, textFrom, listingOf}
 use Rattle.listing.specs.Promises.{linesOf, lineBytes, Promises}
-use Rattle.listing.proofs.Examples.{aic-listed, nothing-listed, core-listed, cic-listed}
+use Rattle.listing.proofs.Examples.{aic-listed, nothing-listed, core-listed, cic-listed, aintc-listed, aintc-alone}
 use Rattle.listing.proofs.EndingLaws.{endings-append, lines-end, end-ends, name-ends}
 use Rattle.listing.proofs.LineLaws.{listing-begun, listing-refused}
 use Rattle.listing.proofs.SizeLaws.{length-listing}
@@ -147,4 +148,6 @@ kept =
       nothing = nothing-listed;
       coreListed = core-listed;
       cicListed = cic-listed;
+      aintcListed = aintc-listed;
+      aintcAlone = aintc-alone;
     }

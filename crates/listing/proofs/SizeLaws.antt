@@ -13,12 +13,13 @@ use Rattle.steps.specs.declared.Recorded.{Recorded}
 use Rattle.text.specs.Text.{field}
 use Rattle.text.proofs.DigitLaws.{length-hex, length-below, length-field}
 use Rattle.trace.specs.Trace.{Trace}
-use Rattle.machine.specs.declared.Columns.{Columns}
-use Rattle.machine.specs.declared.Machine.{Machine}
+use Rattle.machine_record.specs.declared.Columns.{Columns}
+use Rattle.machine_record.specs.declared.Machine.{Machine}
 use Rattle.kinds.proofs.Promises.{kept as kinds}
-use Rattle.machine.specs.Promises.{Ready, Small}
-use Rattle.machine.specs.Steps.{step, shown}
-use Rattle.machine.proofs.ShownLaws.{small}
+use Rattle.machine_record.specs.Promises.{Ready, Small}
+use Rattle.machine_record.specs.Shown.{shown}
+use Rattle.machine.specs.Steps.{step}
+use Rattle.machine_record.proofs.ShownLaws.{small}
 use Rattle.machine.proofs.StepLaws.{step-ready}
 use Rattle.player.specs.declared.Begun.{Begun}
 use Rattle.player.specs.Begin.{beginOf}

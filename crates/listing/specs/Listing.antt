@@ -10,10 +10,11 @@ use Rattle.steps.specs.declared.Step.the-variants.{Read, Write, Line}
 use Rattle.text.specs.Text.{space, newline, hex, decimal, field}
 use Rattle.trace.specs.Trace.{Trace}
 use Rattle.machine.specs.declared.Answer.{Answer}
-use Rattle.machine.specs.declared.Columns.{Columns}
-use Rattle.machine.specs.declared.Machine.{Machine}
+use Rattle.machine_record.specs.declared.Columns.{Columns}
+use Rattle.machine_record.specs.declared.Machine.{Machine}
 use Rattle.kinds.specs.Kinds.{name}
-use Rattle.machine.specs.Steps.{step, shown}
+use Rattle.machine_record.specs.Shown.{shown}
+use Rattle.machine.specs.Steps.{step}
 use Rattle.player.specs.declared.Begun.{Begun}
 use Rattle.player.specs.Begin.{beginOf}
 use Rattle.player.specs.Play.{recordsOf}

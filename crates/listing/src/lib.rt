@@ -4,10 +4,10 @@ ghost use mathlib.Core.List.{_++_};
 ghost use Rattle.text.specs.Text.{write, laid};
 ghost use Rattle.trace.specs.Trace.{stepsFrom};
 ghost use Rattle.kinds.specs.Kinds.{name, tellsPrivilege};
-ghost use Rattle.machine.specs.Promises.{Ready};
+ghost use Rattle.machine_record.specs.Promises.{Ready};
 ghost use Rattle.listing.specs.Listing.{letterOf, letter, shownValue, lineOf, endLine, endOf, textFrom, listingOf};
-use machine::Columns;
-use machine::Machine;
+use machine_record::Columns;
+use machine_record::Machine;
 use player::Begun;
 use steps::Step;
 use text::NEWLINE;
@@ -76,7 +76,14 @@ fn list_steps(
                 let step = x.step;
                 let letter = letter_of(step, a.refusal);
                 let value = shown_value(a.refusal, a.value);
-                to = put_line(out, to, count, letter, value, machine::shown_sound(m));
+                to = put_line(
+                    out,
+                    to,
+                    count,
+                    letter,
+                    value,
+                    machine_record::shown_sound(m),
+                );
             }
         }
     }

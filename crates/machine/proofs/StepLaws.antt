@@ -20,13 +20,13 @@ use Rattle.aintc_choice.specs.Settle.{sound as aintcSound}
 use Rattle.aintc.specs.Model.{step as aintcStep}
 use Rattle.aintc.proofs.Promises.{kept as aintc}
 use Rattle.machine.specs.declared.Answer.{Answer}
-use Rattle.machine.specs.declared.Machine.{Machine}
+use Rattle.machine_record.specs.declared.Machine.{Machine}
 use Rattle.kinds.specs.Kinds.{aicKind, coreKind, cicKind, aintcKind}
-use Rattle.machine.specs.Machine.{sound}
+use Rattle.machine_record.specs.Machine.{sound}
 use Rattle.machine.specs.Steps.{afterAic, afterCore, afterCic, afterAintc, refused, step}
-use Rattle.machine.specs.Promises.{Ready}
+use Rattle.machine_record.specs.Promises.{Ready}
 use Rattle.kinds.proofs.KindLaws.{KindOf, isAic, isCore, isCic, isAintc, isNone, kind-of, at-aic, at-core, at-cic, at-aintc, at-none}
-use Rattle.machine.proofs.MachineLaws.{sound-aic, sound-core, sound-cic, sound-aintc, sound-none}
+use Rattle.machine_record.proofs.MachineLaws.{sound-aic, sound-core, sound-cic, sound-aintc, sound-none}
 
 -- ---- the step of each kind
 

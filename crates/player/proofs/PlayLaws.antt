@@ -15,8 +15,8 @@ use Rattle.trace.specs.declared.Turn.the-variants.{Found, Ended}
 use Rattle.trace.specs.Trace.{Trace, ends, after, turnAt, stepsFrom}
 use Rattle.trace.proofs.TraceLaws.{trace-ended, trace-found, steps-limited}
 use Rattle.kinds.specs.Kinds.{tellsPrivilege}
-use Rattle.machine.specs.declared.Machine.{Machine}
-use Rattle.machine.specs.Promises.{Ready}
+use Rattle.machine_record.specs.declared.Machine.{Machine}
+use Rattle.machine_record.specs.Promises.{Ready}
 use Rattle.machine.specs.Steps.{step}
 use Rattle.machine.proofs.StepLaws.{step-ready}
 use Rattle.player.specs.declared.Begun.{Begun}

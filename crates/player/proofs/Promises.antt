@@ -18,10 +18,10 @@ use Rattle.trace.specs.Steps.{tell}
 use Rattle.trace.specs.Trace.{Trace}
 use Rattle.trace.proofs.Promises.{kept as trace-kept}
 use Rattle.trace.proofs.StepLaws.{Outcome, noKind as Outcome·noKind, unknownKind, noFirst, oneNumber, noSecond, twoNumbered, noThird, threeNumbered, outcome}
-use Rattle.machine.specs.declared.Machine.{Machine}
+use Rattle.machine_record.specs.declared.Machine.{Machine}
 use Rattle.kinds.specs.Kinds.{isKind, within}
-use Rattle.machine.specs.Machine.{blank, sound}
-use Rattle.machine.specs.Promises.{startWith}
+use Rattle.machine_record.specs.Machine.{blank, sound}
+use Rattle.machine_record.specs.Promises.{startWith}
 use Rattle.machine.specs.Steps.{step}
 use Rattle.player.specs.declared.Begun.{Begun}
 use Rattle.player.specs.declared.Played.{Played}

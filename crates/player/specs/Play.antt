@@ -8,7 +8,7 @@ use Rattle.steps.specs.Refusals.{carriedOut}
 use Rattle.steps.specs.declared.Recorded.{Recorded}
 use Rattle.trace.specs.Trace.{Trace, ends, stepsFrom}
 use Rattle.kinds.specs.Kinds.{tellsPrivilege}
-use Rattle.machine.specs.declared.Machine.{Machine}
+use Rattle.machine_record.specs.declared.Machine.{Machine}
 use Rattle.machine.specs.Steps.{step}
 use Rattle.player.specs.declared.Begun.{Begun}
 use Rattle.player.specs.declared.Played.{Played}

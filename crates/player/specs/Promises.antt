@@ -8,12 +8,12 @@ use lib.ListN.{length}
 use Rattle.steps.specs.declared.Recorded.{Recorded}
 use Rattle.numbers.specs.Promises.{toldAt}
 use Rattle.trace.specs.Promises.{Reads, Along, Ends}
-use Rattle.machine.specs.declared.Machine.{Machine}
+use Rattle.machine_record.specs.declared.Machine.{Machine}
 use Rattle.kinds.specs.Kinds.{isKind, wanted, within, tellsPrivilege}
-use Rattle.machine.specs.Machine.{blank, sound}
+use Rattle.machine_record.specs.Machine.{blank, sound}
 use Rattle.machine.specs.Steps.{step}
 use Rattle.kinds.specs.Promises.{Within}
-use Rattle.machine.specs.Promises.{startWith}
+use Rattle.machine_record.specs.Promises.{startWith}
 use Rattle.player.specs.Begin.{beginOf}
 use Rattle.player.specs.Play.{recordsOf, runOf, playOf}
 

@@ -1,11 +1,11 @@
 // Plays a recorded trace on the machine that it names (01, "House trace"; 02, 2/12).
 ghost use mathlib.Core.Path.{_≡_};
-ghost use Rattle.machine.specs.Promises.{Ready};
+ghost use Rattle.machine_record.specs.Promises.{Ready};
 ghost use Rattle.player.specs.Begin.{refusedSetup, setupOf, notBegun, bySetup, byController, beginOf};
 ghost use Rattle.trace.specs.Trace.{ends, stepsFrom};
 ghost use Rattle.player.specs.Play.{report, playOf};
 use kinds::Configuration;
-use machine::Machine;
+use machine_record::Machine;
 use numbers::Number;
 use numbers::read_number;
 use trace::Turn;
@@ -103,7 +103,7 @@ pub fn begin(trace: &[u8]) -> Begun
 fn not_begun(refusal: u32, offset: usize) -> Begun
     ensures { λ r. ⌜ r ≡ notBegun refusal offset ⌝ }
 {
-    let m = machine::empty();
+    let m = machine_record::empty();
     Begun {
         refusal,
         place: offset,
@@ -133,7 +133,7 @@ fn by_setup(kind: u32, t: Setup) -> Begun
     if t.refusal != steps::CARRIED_OUT {
         return not_begun(t.refusal, t.place);
     }
-    let m = machine::start(kind, t.configuration);
+    let m = machine_record::start(kind, t.configuration);
     Begun {
         refusal: steps::CARRIED_OUT,
         place: t.place,

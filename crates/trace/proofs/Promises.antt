@@ -19,7 +19,7 @@ use Rattle.numbers.specs.Promises.{toldAt}
 use Rattle.numbers.proofs.ReadLaws.{told-read, told-damaged, next-place}
 use Rattle.trace.specs.declared.Turn.{Turn}
 use Rattle.trace.specs.declared.Turn.the-variants.{Found, Ended}
-use Rattle.trace.specs.Steps.{operandsOf, plain, twoNumbers, numbersOf, numbersFor, stepAt, tell}
+use Rattle.trace.specs.Steps.{operandsOf, plain, twoNumbers, numbersFor, stepAt, tell}
 use Rattle.trace.specs.Trace.{Trace, ends, after, goOn, turnAt, stepsFrom}
 use Rattle.trace.specs.Promises.{made, Reads, Wanting, Unwritten, Along, Ends, Promises}
 use Rattle.trace.proofs.Examples.{three-bytes, privileges}

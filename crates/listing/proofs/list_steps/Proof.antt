@@ -6,7 +6,7 @@ use lib.ListN.{length}
 use Rattle.text.specs.Text.{write}
 use Rattle.trace.specs.Trace.{stepsFrom}
 use Rattle.trace.proofs.TraceLaws.{turn-found}
-use Rattle.machine.specs.Promises.{Ready}
+use Rattle.machine_record.specs.Promises.{Ready}
 use Rattle.machine.proofs.StepLaws.{step-ready}
 use Rattle.listing.specs.Listing.{textFrom}
 use Rattle.listing.proofs.LineLaws.{text-ended, listed}

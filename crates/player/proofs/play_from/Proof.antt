@@ -4,7 +4,7 @@ use mathlib.Core.Path.{_≡_, sym, _∙_}
 use native.Mathlib.Omega.{arith}
 use Rattle.trace.specs.Trace.{stepsFrom}
 use Rattle.trace.proofs.TraceLaws.{turn-found}
-use Rattle.machine.specs.Promises.{Ready}
+use Rattle.machine_record.specs.Promises.{Ready}
 use Rattle.machine.proofs.StepLaws.{step-ready}
 use Rattle.player.specs.Play.{report}
 use Rattle.player.proofs.PlayLaws.{report-ended, report-found}
