@@ -215,6 +215,7 @@ the-numbers =
       nine = refl;
       ten = refl;
       eleven = refl;
+      fourteen = refl;
     }
 
 pub kept : Promises

@@ -58,6 +58,10 @@ tooLong = 11
 abbrev pub unsound : ℕ
 unsound = 12
 
+-- a number of a stack table is beyond its limit (02, 4/12)
+abbrev pub oversized : ℕ
+oversized = 14
+
 -- what an aligned read is refused with
 abbrev pub readAccess : Access → ℕ
 readAccess NoRegister = absent
