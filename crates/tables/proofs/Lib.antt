@@ -1,0 +1,6 @@
+-- Laws and theorems about typed tables.
+pub mod BareLaws
+pub mod FillLaws
+pub mod NumberLaws
+pub mod ReadLaws
+pub mod SeekLaws

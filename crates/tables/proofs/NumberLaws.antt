@@ -1,0 +1,110 @@
+-- What digits are worth, as the code adds them up.
+use Prim.Native.Nat.{ℕ, suc, _+_, _-_, _*_, _^_, _≤_, _<_, min}
+use mathlib.Core.Path.{_≡_, refl, sym, ap, _∙_}
+use mathlib.Core.Bool.{Bool, true, false, not, _&&_, true≢false}
+use mathlib.Core.List.{List, [], _∷_}
+use native.Mathlib.Nat.{mul-le-mul-right}
+use native.Mathlib.Numerals.{add-one}
+use native.Mathlib.Omega.{arith}
+use native.Mathlib.Decide.{decLt}
+use lib.Dec.{eqb, ltb, leb}
+use lib.ListN.{length, getD, take, drop, length-drop, drop-of-length-le, List·getD-eq-default}
+use lib.Seq.{drop-cons, take-all}
+use borrow.Author.Tests.{leb-true, ltb-true, lt-ltb}
+use Rattle.words.specs.Choice.{pick}
+use Rattle.words.specs.Counting.{allBelow}
+use Rattle.words.proofs.ChoiceLaws.{pick-cases}
+use Rattle.words.proofs.TruthLaws.{and-left, and-right, same-test}
+use Rattle.tables.specs.Number.{digit, worthFrom, digitsFit, isHex, isNumber, worth}
+use Rattle.tables.specs.Passes.{readDigits, readWord}
+
+pub digit-small : (b : ℕ) → digit b ≤ 16
+unfolding digit
+digit-small b =
+    pick-cases (λ n. n ≤ 16) (leb 48 b && leb b 57) (λ e. omega (arith, leb-true b 57 (and-right (leb 48 b) _ e)))
+    (λ n. pick-cases (λ n. n ≤ 16) (leb 65 b && leb b 70) (λ e. omega (arith, leb-true b 70 (and-right (leb 65 b) _ e)))
+    (λ n. pick-cases (λ n. n ≤ 16) (leb 97 b && leb b 102) (λ e. omega (arith, leb-true b 102 (and-right (leb 97 b) _ e))) (λ n. omega arith)))
+
+-- ---- a sum that stops at 2^32
+
+times-le : (b v : ℕ) → 1 ≤ b → v ≤ b * v
+times-le b v l = omega (arith, mul-le-mul-right v l)
+
+pub times-small : (b v : ℕ) → b ≤ 16 → v ≤ 2 ^ 32 → b * v ≤ 2 ^ 36
+times-small b v l m = omega (arith, mul-le-mul-right v l)
+
+worth-le : (b v : ℕ) (ds : List ℕ) → 1 ≤ b → v ≤ worthFrom b v ds
+unfolding worthFrom
+worth-le b v [] l = omega arith
+worth-le b v (d ∷ ds) l = omega (arith, times-le b v l, worth-le b (b * v + digit d) ds l)
+
+worth-capped : (b x : ℕ) (ds : List ℕ) → 1 ≤ b → min (worthFrom b (min x (2 ^ 32)) ds) (2 ^ 32) ≡ min (worthFrom b x ds) (2 ^ 32)
+worth-capped b x ds l = go (decLt x (2 ^ 32))
+  where
+    go : Dec (x < 2 ^ 32) → min (worthFrom b (min x (2 ^ 32)) ds) (2 ^ 32) ≡ min (worthFrom b x ds) (2 ^ 32)
+    go (yes h) = let e : min x (2 ^ 32) ≡ x = omega arith in rw e
+    go (no h) =
+        let e : min x (2 ^ 32) ≡ 2 ^ 32 = omega arith in
+        rw e (omega (arith, worth-le b (2 ^ 32) ds l, worth-le b x ds l))
+
+-- a turn: w is what the digit at k makes of v
+pub worth-turn : (b v w d k : ℕ) (ds : List ℕ) (o : ℕ) → 1 ≤ b → k < length ds → d ≡ digit (getD ds k 0) → w ≡ min (b * v + d) (2 ^ 32)
+    → min (worthFrom b v (drop k ds)) (2 ^ 32) ≡ o → min (worthFrom b w (drop (k + 1) ds)) (2 ^ 32) ≡ o
+worth-turn b v w d k ds o l h q e f =
+    ap (λ (x : ℕ). min (worthFrom b x (drop (k + 1) ds)) (2 ^ 32)) (e ∙ ap (λ (x : ℕ). min (b * v + x) (2 ^ 32)) q) ∙ worth-capped b (b * v + digit (getD ds k 0)) (drop (k + 1) ds) l
+    ∙ ap (λ (x : ℕ). min x (2 ^ 32)) (sym whole) ∙ f
+  where
+    whole : worthFrom b v (drop k ds) ≡ worthFrom b (b * v + digit (getD ds k 0)) (drop (k + 1) ds)
+    whole = rw (drop-cons ds k 0 h, add-one k) (unfold worthFrom in refl)
+
+pub worth-done : (b v k : ℕ) (ds : List ℕ) (o : ℕ) → length ds ≤ k → v ≤ 2 ^ 32 → min (worthFrom b v (drop k ds)) (2 ^ 32) ≡ o → v ≡ o
+unfolding worthFrom
+worth-done b v k ds o h l e =
+    let q : min v (2 ^ 32) ≡ v = omega arith in
+    sym q ∙ (rw (drop-of-length-le ds h) at e)
+
+-- ---- 0x
+
+pub hex-short : (w : List ℕ) → length w < 2 → false ≡ isHex w
+unfolding isHex
+hex-short w l = rw (List·getD-eq-default w 0 {n = 1} (omega arith)) (none (eqb (getD w 0 0) 48))
+  where
+    none : (b : Bool) → false ≡ (b && false)
+    none true = refl
+    none false = refl
+
+pub hex-long : (w : List ℕ) → isHex w ≡ true → 2 ≤ length w
+hex-long w e = go (decLt (length w) 2)
+  where
+    go : Dec (length w < 2) → 2 ≤ length w
+    go (yes l) = absurd (true≢false (sym e ∙ sym (hex-short w l)))
+    go (no l) = omega arith
+
+-- ---- one number
+
+-- the code's test is the definition's, and where it holds nothing was cut off
+pub digits-fit : (b w : ℕ) (ds : List ℕ) (t : Bool) → w ≡ min (worthFrom b 0 ds) (2 ^ 32) → t ≡ allBelow (length ds) (λ k. ltb (digit (getD ds k 0)) b)
+    → ((not (eqb (length ds) 0) && t) && ltb w (2 ^ 32)) ≡ digitsFit b ds
+unfolding digitsFit
+digits-fit b w ds t e f = rw (e, f, below (worthFrom b 0 ds))
+  where
+    below : (x : ℕ) → ltb (min x (2 ^ 32)) (2 ^ 32) ≡ ltb x (2 ^ 32)
+    below x = same-test (ltb (min x (2 ^ 32)) (2 ^ 32)) (ltb x (2 ^ 32)) (λ h. lt-ltb x (2 ^ 32) (omega (arith, ltb-true (min x (2 ^ 32)) (2 ^ 32) h)))
+        (λ h. lt-ltb (min x (2 ^ 32)) (2 ^ 32) (omega (arith, ltb-true x (2 ^ 32) h)))
+
+pub digits-small : (w : ℕ) (ds : List ℕ) (t : Bool) → ((not (eqb (length ds) 0) && t) && ltb w (2 ^ 32)) ≡ true → w < 2 ^ 32
+digits-small w ds t h = ltb-true w (2 ^ 32) (and-right (not (eqb (length ds) 0) && t) (ltb w (2 ^ 32)) h)
+
+pub digits-worth : (b w : ℕ) (ds : List ℕ) → w ≡ min (worthFrom b 0 ds) (2 ^ 32) → w < 2 ^ 32 → w ≡ worthFrom b 0 ds
+digits-worth b w ds e l = omega arith
+
+pub word-hex : (w : List ℕ) → isHex w ≡ true → readDigits 16 (drop 2 w) ≡ readWord w
+unfolding readWord readDigits isNumber worth pick
+word-hex w h = rw h
+
+pub rest-all : (w : List ℕ) → take (length w - 2) (drop 2 w) ≡ drop 2 w
+rest-all w = take-all (length w - 2) (drop 2 w) (omega (arith, length-drop 2 w))
+
+pub word-plain : (w : List ℕ) → isHex w ≡ false → readDigits 10 w ≡ readWord w
+unfolding readWord readDigits isNumber worth pick
+word-plain w h = rw h

@@ -1,0 +1,5 @@
+-- Typed tables: the text, its numbers, what is read of it, and what is promised of that.
+pub mod Number
+pub mod Passes
+pub mod Reading
+pub mod Typed
