@@ -1,22 +1,25 @@
 -- What digits are worth, as the code adds them up.
-use Prim.Native.Nat.{ℕ, suc, _+_, _-_, _*_, _^_, _≤_, _<_, min}
-use mathlib.Core.Path.{_≡_, refl, sym, ap, _∙_}
+use Prim.Native.Nat.{ℕ, zero, suc, _+_, _-_, _*_, _^_, _≤_, _<_, min}
+use mathlib.Core.Path.{_≡_, refl, sym, ap, _∙_, subst}
 use mathlib.Core.Bool.{Bool, true, false, not, _&&_, true≢false}
 use mathlib.Core.List.{List, [], _∷_}
+use mathlib.Core.Logic.{_≢_, _⊎_, inl, inr}
 use native.Mathlib.Nat.{mul-le-mul-right}
 use native.Mathlib.Numerals.{add-one}
 use native.Mathlib.Omega.{arith}
 use native.Mathlib.Decide.{decLt}
 use lib.Dec.{eqb, ltb, leb}
 use lib.ListN.{length, getD, take, drop, length-drop, drop-of-length-le, List·getD-eq-default}
-use lib.Seq.{drop-cons, take-all}
-use borrow.Author.Tests.{leb-true, ltb-true, lt-ltb}
+use lib.Seq.{drop-cons, take-all, getD-drop}
+use borrow.Author.Tests.{eqb-true, eqb-false, ne-eqb, leb-true, lt-leb, ltb-true, lt-ltb, not-true}
 use Rattle.words.specs.Choice.{pick}
 use Rattle.words.specs.Counting.{allBelow}
 use Rattle.words.proofs.ChoiceLaws.{pick-cases}
-use Rattle.words.proofs.TruthLaws.{and-left, and-right, same-test}
+use Rattle.words.proofs.CountingLaws.{all-at, at-all}
+use Rattle.words.proofs.TruthLaws.{and-left, and-right, and-both, same-test, told}
 use Rattle.tables.specs.Number.{digit, worthFrom, digitsFit, isHex, isNumber, worth}
 use Rattle.tables.specs.Passes.{readDigits, readWord}
+use Rattle.tables.specs.Promises.{Digits}
 
 pub digit-small : (b : ℕ) → digit b ≤ 16
 unfolding digit
@@ -108,3 +111,70 @@ rest-all w = take-all (length w - 2) (drop 2 w) (omega (arith, length-drop 2 w))
 pub word-plain : (w : List ℕ) → isHex w ≡ false → readDigits 10 w ≡ readWord w
 unfolding readWord readDigits isNumber worth pick
 word-plain w h = rw h
+
+-- ---- what a number is
+
+-- the definition's test, taken apart and put together again
+pub digits-are : (b : ℕ) (ds : List ℕ) → digitsFit b ds ≡ true → Digits b ds
+unfolding digitsFit
+digits-are b ds h =
+    let some : length ds ≢ 0 = eqb-false (length ds) 0 (not-true (eqb (length ds) 0) (search (and-left, and-right))) in
+    record {
+      some = omega arith;
+      each = λ k l. ltb-true (digit (getD ds k 0)) b (all-at (length ds) (λ k. ltb (digit (getD ds k 0)) b) (search (and-left, and-right)) k l);
+      small = ltb-true (worthFrom b 0 ds) (2 ^ 32) (search (and-left, and-right));
+    }
+
+pub are-digits : (b : ℕ) (ds : List ℕ) → Digits b ds → digitsFit b ds ≡ true
+unfolding digitsFit
+are-digits b ds d =
+    and-both (and-both (ap not (ne-eqb (length ds) 0 (λ e. omega (arith, d .some)))) (at-all (length ds) _ (λ k l. lt-ltb (digit (getD ds k 0)) b (d .each k l))))
+    (lt-ltb (worthFrom b 0 ds) (2 ^ 32) (d .small))
+
+pub number-hex : (w : List ℕ) → isHex w ≡ true → (isNumber w ≡ digitsFit 16 (drop 2 w)) × (worth w ≡ worthFrom 16 0 (drop 2 w))
+unfolding isNumber worth pick
+number-hex w h = rw h (refl, refl)
+
+pub number-plain : (w : List ℕ) → isHex w ≡ false → (isNumber w ≡ digitsFit 10 w) × (worth w ≡ worthFrom 10 0 w)
+unfolding isNumber worth pick
+number-plain w h = rw h (refl, refl)
+
+pub digit-low : (b : ℕ) → b < 48 → digit b ≡ 16
+unfolding digit pick
+digit-low b l = rw (lt-leb 48 b l, lt-leb 65 b (omega arith), lt-leb 97 b (omega arith))
+
+digit-high : (b : ℕ) → digit b < 16 → 48 ≤ b
+digit-high b h = go (decLt b 48)
+  where
+    go : Dec (b < 48) → 48 ≤ b
+    go (yes l) = absurd (omega (arith, digit-low b l))
+    go (no l) = omega arith
+
+pub hex-first : (w : List ℕ) → isHex w ≡ true → (getD w 0 0 ≡ 48) × (getD w 1 0 ≡ 120)
+unfolding isHex
+hex-first w h = (eqb-true (getD w 0 0) 48 (and-left (eqb (getD w 0 0) 48) _ h), eqb-true (getD w 1 0) 120 (and-right (eqb (getD w 0 0) 48) _ h))
+
+-- no character of a number is white, or begins a comment
+pub number-high : (w : List ℕ) → isNumber w ≡ true → (k : ℕ) → k < length w → 48 ≤ getD w k 0
+number-high w n k l = go (told (isHex w))
+  where
+    hexed : isHex w ≡ true → (j : ℕ) → j < length w → 48 ≤ getD w j 0
+    hexed h zero m = omega (arith, hex-first w h .0)
+    hexed h (suc zero) m = omega (arith, hex-first w h .1)
+    hexed h (suc (suc j)) m =
+        let d = digits-are 16 (drop 2 w) (sym (number-hex w h .0) ∙ n) in
+        let z : 2 + j ≡ suc (suc j) = omega arith in
+        digit-high (getD w (suc (suc j)) 0) (subst (λ (x : ℕ). digit x < 16) (getD-drop 2 w j 0 ∙ ap (λ (i : ℕ). getD w i 0) z) (d .each j (omega (arith, length-drop 2 w))))
+
+    go : (isHex w ≡ true) ⊎ (isHex w ≡ false) → 48 ≤ getD w k 0
+    go (inl h) = hexed h k l
+    go (inr h) =
+        let d = digits-are 10 w (sym (number-plain w h .0) ∙ n) in
+        digit-high (getD w k 0) (omega (arith, d .each k l))
+
+pub number-some : (w : List ℕ) → isNumber w ≡ true → 0 < length w
+number-some w n = go (told (isHex w))
+  where
+    go : (isHex w ≡ true) ⊎ (isHex w ≡ false) → 0 < length w
+    go (inl h) = omega (arith, hex-long w h)
+    go (inr h) = digits-are 10 w (sym (number-plain w h .0) ∙ n) .some

@@ -28,6 +28,7 @@ use Rattle.tables.specs.Typed.{bare, startFrom, endFrom, pastNth, nthSta
 use Rattle.tables.specs.Number.{isNumber, worth}
 use Rattle.tables.specs.Reading.{listOf, tableOf, taken, refusedAt, firstFault, readBare, readTable, refusedLine, answerTo}
 use Rattle.tables.specs.Passes.{readWord, readNext, room, valuesOf}
+use Rattle.tables.specs.Promises.{Numbers}
 use Rattle.tables.proofs.FillLaws.{room-full}
 
 -- ---- the next number
@@ -74,9 +75,6 @@ next-is s past n x e f =
     })
 
 -- ---- the first fault
-
-abbrev pub Numbers : List ℕ → ℕ → Type 0
-Numbers s n = (k : ℕ) → k < n → isNumber (nthTyped s k) ≡ true
 
 pub numbers-more : (s : List ℕ) (n : ℕ) → Numbers s n → isNumber (nthTyped s n) ≡ true → Numbers s (n + 1)
 numbers-more s n h e k l = go (ℕ-discrete k n)

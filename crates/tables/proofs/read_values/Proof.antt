@@ -1,8 +1,9 @@
 -- That `read_values` of src/lib.rt keeps its contract.
-use Rattle.tables.proofs.ReadLaws.{next-is, Numbers, numbers-more, fault-is, valueOf, values-are}
+use Rattle.tables.proofs.ReadLaws.{next-is, numbers-more, fault-is, valueOf, values-are}
 use Rattle.tables.proofs.SeekLaws.{past-within}
 use Rattle.tables.proofs.FillLaws.{room-none, room-more}
 use Rattle.tables.specs.Passes.{room}
+use Rattle.tables.specs.Promises.{Numbers}
 use Rattle.tables.specs.Typed.{pastNth, nthStart}
 use borrow.Author.Tests.{not-true, not-false}
 use mathlib.Core.Bool.{true}
