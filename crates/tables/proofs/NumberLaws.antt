@@ -1,22 +1,23 @@
 -- What digits are worth, as the code adds them up.
-use Prim.Native.Nat.{ℕ, zero, suc, _+_, _-_, _*_, _^_, _≤_, _<_, min}
+use Prim.Native.Nat.{ℕ, zero, suc, _+_, _-_, _*_, _^_, _≤_, _<_}
 use mathlib.Core.Path.{_≡_, refl, sym, ap, _∙_, subst}
-use mathlib.Core.Bool.{Bool, true, false, not, _&&_, true≢false}
+use mathlib.Core.Bool.{Bool, true, false, not, _&&_, _||_, true≢false}
 use mathlib.Core.List.{List, [], _∷_}
 use mathlib.Core.Logic.{_≢_, _⊎_, inl, inr}
 use native.Mathlib.Nat.{mul-le-mul-right}
 use native.Mathlib.Numerals.{add-one}
 use native.Mathlib.Omega.{arith}
-use native.Mathlib.Decide.{decLt}
+use native.Mathlib.Decide.{decLt, ℕ-discrete}
 use lib.Dec.{eqb, ltb, leb}
 use lib.ListN.{length, getD, take, drop, length-drop, drop-of-length-le, List·getD-eq-default}
 use lib.Seq.{drop-cons, take-all, getD-drop}
-use borrow.Author.Tests.{eqb-true, eqb-false, ne-eqb, leb-true, lt-leb, ltb-true, lt-ltb, not-true}
+use borrow.Author.Tests.{eqb-true, eqb-false, eq-eqb, ne-eqb, leb-true, leb-false, lt-leb, ltb-true, lt-ltb, not-true}
 use Rattle.words.specs.Choice.{pick}
 use Rattle.words.specs.Counting.{allBelow}
-use Rattle.words.proofs.ChoiceLaws.{pick-cases}
+use Rattle.words.proofs.ChoiceLaws.{pick-true, pick-false, pick-cases}
 use Rattle.words.proofs.CountingLaws.{all-at, at-all}
-use Rattle.words.proofs.TruthLaws.{and-left, and-right, and-both, same-test, told}
+use Rattle.words.proofs.TruthLaws.{and-left, and-right, and-both, or-either, or-neither, not-holds, told}
+use Rattle.tables.specs.declared.Typed.{Typed}
 use Rattle.tables.specs.Number.{digit, worthFrom, digitsFit, isHex, isNumber, worth}
 use Rattle.tables.specs.Passes.{readDigits, readWord}
 use Rattle.tables.specs.Promises.{Digits}
@@ -28,12 +29,12 @@ digit-small b =
     (λ n. pick-cases (λ n. n ≤ 16) (leb 65 b && leb b 70) (λ e. omega (arith, leb-true b 70 (and-right (leb 65 b) _ e)))
     (λ n. pick-cases (λ n. n ≤ 16) (leb 97 b && leb b 102) (λ e. omega (arith, leb-true b 102 (and-right (leb 97 b) _ e))) (λ n. omega arith)))
 
--- ---- a sum that stops at 2^32
+-- ---- a sum that stops before it wraps
 
 times-le : (b v : ℕ) → 1 ≤ b → v ≤ b * v
 times-le b v l = omega (arith, mul-le-mul-right v l)
 
-pub times-small : (b v : ℕ) → b ≤ 16 → v ≤ 2 ^ 32 → b * v ≤ 2 ^ 36
+pub times-small : (b v : ℕ) → b ≤ 16 → v < 2 ^ 32 → b * v ≤ 2 ^ 36
 times-small b v l m = omega (arith, mul-le-mul-right v l)
 
 worth-le : (b v : ℕ) (ds : List ℕ) → 1 ≤ b → v ≤ worthFrom b v ds
@@ -41,30 +42,13 @@ unfolding worthFrom
 worth-le b v [] l = omega arith
 worth-le b v (d ∷ ds) l = omega (arith, times-le b v l, worth-le b (b * v + digit d) ds l)
 
-worth-capped : (b x : ℕ) (ds : List ℕ) → 1 ≤ b → min (worthFrom b (min x (2 ^ 32)) ds) (2 ^ 32) ≡ min (worthFrom b x ds) (2 ^ 32)
-worth-capped b x ds l = go (decLt x (2 ^ 32))
-  where
-    go : Dec (x < 2 ^ 32) → min (worthFrom b (min x (2 ^ 32)) ds) (2 ^ 32) ≡ min (worthFrom b x ds) (2 ^ 32)
-    go (yes h) = let e : min x (2 ^ 32) ≡ x = omega arith in rw e
-    go (no h) =
-        let e : min x (2 ^ 32) ≡ 2 ^ 32 = omega arith in
-        rw e (omega (arith, worth-le b (2 ^ 32) ds l, worth-le b x ds l))
-
--- a turn: w is what the digit at k makes of v
-pub worth-turn : (b v w d k : ℕ) (ds : List ℕ) (o : ℕ) → 1 ≤ b → k < length ds → d ≡ digit (getD ds k 0) → w ≡ min (b * v + d) (2 ^ 32)
-    → min (worthFrom b v (drop k ds)) (2 ^ 32) ≡ o → min (worthFrom b w (drop (k + 1) ds)) (2 ^ 32) ≡ o
-worth-turn b v w d k ds o l h q e f =
-    ap (λ (x : ℕ). min (worthFrom b x (drop (k + 1) ds)) (2 ^ 32)) (e ∙ ap (λ (x : ℕ). min (b * v + x) (2 ^ 32)) q) ∙ worth-capped b (b * v + digit (getD ds k 0)) (drop (k + 1) ds) l
-    ∙ ap (λ (x : ℕ). min x (2 ^ 32)) (sym whole) ∙ f
+-- a turn: the digit at k makes b * v + d of v
+pub worth-turn : (b v d k : ℕ) (ds : List ℕ) (o : ℕ) → k < length ds → d ≡ digit (getD ds k 0) → worthFrom b v (drop k ds) ≡ o
+    → worthFrom b (b * v + d) (drop (k + 1) ds) ≡ o
+worth-turn b v d k ds o h q f = ap (λ (x : ℕ). worthFrom b (b * v + x) (drop (k + 1) ds)) q ∙ sym whole ∙ f
   where
     whole : worthFrom b v (drop k ds) ≡ worthFrom b (b * v + digit (getD ds k 0)) (drop (k + 1) ds)
     whole = rw (drop-cons ds k 0 h, add-one k) (unfold worthFrom in refl)
-
-pub worth-done : (b v k : ℕ) (ds : List ℕ) (o : ℕ) → length ds ≤ k → v ≤ 2 ^ 32 → min (worthFrom b v (drop k ds)) (2 ^ 32) ≡ o → v ≡ o
-unfolding worthFrom
-worth-done b v k ds o h l e =
-    let q : min v (2 ^ 32) ≡ v = omega arith in
-    sym q ∙ (rw (drop-of-length-le ds h) at e)
 
 -- ---- 0x
 
@@ -84,22 +68,6 @@ hex-long w e = go (decLt (length w) 2)
     go (no l) = omega arith
 
 -- ---- one number
-
--- the code's test is the definition's, and where it holds nothing was cut off
-pub digits-fit : (b w : ℕ) (ds : List ℕ) (t : Bool) → w ≡ min (worthFrom b 0 ds) (2 ^ 32) → t ≡ allBelow (length ds) (λ k. ltb (digit (getD ds k 0)) b)
-    → ((not (eqb (length ds) 0) && t) && ltb w (2 ^ 32)) ≡ digitsFit b ds
-unfolding digitsFit
-digits-fit b w ds t e f = rw (e, f, below (worthFrom b 0 ds))
-  where
-    below : (x : ℕ) → ltb (min x (2 ^ 32)) (2 ^ 32) ≡ ltb x (2 ^ 32)
-    below x = same-test (ltb (min x (2 ^ 32)) (2 ^ 32)) (ltb x (2 ^ 32)) (λ h. lt-ltb x (2 ^ 32) (omega (arith, ltb-true (min x (2 ^ 32)) (2 ^ 32) h)))
-        (λ h. lt-ltb (min x (2 ^ 32)) (2 ^ 32) (omega (arith, ltb-true x (2 ^ 32) h)))
-
-pub digits-small : (w : ℕ) (ds : List ℕ) (t : Bool) → ((not (eqb (length ds) 0) && t) && ltb w (2 ^ 32)) ≡ true → w < 2 ^ 32
-digits-small w ds t h = ltb-true w (2 ^ 32) (and-right (not (eqb (length ds) 0) && t) (ltb w (2 ^ 32)) h)
-
-pub digits-worth : (b w : ℕ) (ds : List ℕ) → w ≡ min (worthFrom b 0 ds) (2 ^ 32) → w < 2 ^ 32 → w ≡ worthFrom b 0 ds
-digits-worth b w ds e l = omega arith
 
 pub word-hex : (w : List ℕ) → isHex w ≡ true → readDigits 16 (drop 2 w) ≡ readWord w
 unfolding readWord readDigits isNumber worth pick
@@ -130,6 +98,44 @@ unfolding digitsFit
 are-digits b ds d =
     and-both (and-both (ap not (ne-eqb (length ds) 0 (λ e. omega (arith, d .some)))) (at-all (length ds) _ (λ k l. lt-ltb (digit (getD ds k 0)) b (d .each k l))))
     (lt-ltb (worthFrom b 0 ds) (2 ^ 32) (d .small))
+
+-- the digit at k is none, or too much comes together with it
+pub digits-fault : (b v d k : ℕ) (ds : List ℕ) → 1 ≤ b → k < length ds → d ≡ digit (getD ds k 0) → worthFrom b v (drop k ds) ≡ worthFrom b 0 ds
+    → (leb b d || leb (2 ^ 32) (b * v + d)) ≡ true → record { taken = false; value = 0 } ≡ readDigits b ds
+unfolding readDigits
+digits-fault b v d k ds l h q f t = pick-false _ (not-holds (digitsFit b ds) (λ e. go (digits-are b ds e) (or-either (leb b d) _ t)))
+  where
+    go : Digits b ds → (leb b d ≡ true) ⊎ (leb (2 ^ 32) (b * v + d) ≡ true) → ⊥
+    go g (inl e) = omega (arith, g .each k h, leb-true b d e)
+    go g (inr e) = omega (arith, g .small, leb-true (2 ^ 32) (b * v + d) e, worth-turn b v d k ds _ h q f, worth-le b (b * v + d) (drop (k + 1) ds) l)
+
+-- it is one, and the sum still fits
+pub digits-more : (b d w k : ℕ) (ds : List ℕ) → d ≡ digit (getD ds k 0) → (leb b d || leb (2 ^ 32) w) ≡ false → ((j : ℕ) → j < k → digit (getD ds j 0) < b)
+    → (w < 2 ^ 32) × ((j : ℕ) → j < k + 1 → digit (getD ds j 0) < b)
+digits-more b d w k ds q t h = (leb-false (2 ^ 32) w (or-neither (leb b d) _ t .1), λ j l. go j l (ℕ-discrete j k))
+  where
+    go : (j : ℕ) → j < k + 1 → Dec (j ≡ k) → digit (getD ds j 0) < b
+    go j l (yes e) = rw e (omega (arith, q, leb-false b d (or-neither (leb b d) _ t .0)))
+    go j l (no n) = h j (omega arith)
+
+-- all of them are digits, and the sum is what they are worth
+pub digits-done : (b v k : ℕ) (ds : List ℕ) → k ≤ length ds → length ds ≤ k → v < 2 ^ 32 → worthFrom b v (drop k ds) ≡ worthFrom b 0 ds
+    → ((j : ℕ) → j < k → digit (getD ds j 0) < b) → record { taken = not (eqb k 0); value = v } ≡ readDigits b ds
+unfolding readDigits
+digits-done b v k ds l m small f h = go (ℕ-discrete k 0)
+  where
+    empty : (l : List ℕ) → length l ≡ 0 → worthFrom b 0 l ≡ 0
+    empty [] z = unfold worthFrom in refl
+    empty (x ∷ l) z = absurd (omega arith)
+
+    sum : v ≡ worthFrom b 0 ds
+    sum = sym (rw (drop-of-length-le ds m) (unfold worthFrom in refl)) ∙ f
+
+    go : Dec (k ≡ 0) → _≡_ {A = Typed} (record { taken = not (eqb k 0); value = v }) (pick (digitsFit b ds) (record { taken = true; value = worthFrom b 0 ds }) (record { taken = false; value = 0 }))
+    go (yes e) = rw (eq-eqb k 0 e, sum ∙ empty ds (omega arith)) (pick-false _ (not-holds (digitsFit b ds) (λ g. omega (arith, digits-are b ds g .some))))
+    go (no d) =
+        rw (ne-eqb k 0 d, sum)
+        (pick-true _ (are-digits b ds (record { some = omega arith; each = λ j n. h j (omega arith); small = omega (arith, sum) })))
 
 pub number-hex : (w : List ℕ) → isHex w ≡ true → (isNumber w ≡ digitsFit 16 (drop 2 w)) × (worth w ≡ worthFrom 16 0 (drop 2 w))
 unfolding isNumber worth pick

@@ -122,11 +122,11 @@ bare-values s v e h =
     let q : firstFault s ≡ 98 = sym (ap (λ (x : Values). x .count) e) ∙ h in
     ap (λ (x : Values). x .values) e ∙ ap (λ (n : ℕ). room 98 n (valueOf s)) q ∙ room-full 98 98 (valueOf s) (omega arith) (omega arith)
 
-pub bare-taken : (s : List ℕ) (v : Values) (t : Table) (r : Reading) → v ≡ valuesOf s → (eqb (v .count) 98 && eqb (v .start) (length s)) ≡ true
-    → t ≡ tableOf (v .values) → r ≡ taken t → r ≡ readBare s
+pub bare-taken : (s : List ℕ) (v : Values) (t : Table) → v ≡ valuesOf s → (eqb (v .count) 98 && eqb (v .start) (length s)) ≡ true
+    → t ≡ tableOf (v .values) → taken t ≡ readBare s
 unfolding readBare
-bare-taken s v t r e h f g =
-    g ∙ ap taken (f ∙ ap tableOf (bare-values s v e (eqb-true (v .count) 98 (and-left (eqb (v .count) 98) _ h)))) ∙ pick-true _ (sym (bare-tests s v e) ∙ h)
+bare-taken s v t e h f =
+    ap taken (f ∙ ap tableOf (bare-values s v e (eqb-true (v .count) 98 (and-left (eqb (v .count) 98) _ h)))) ∙ pick-true _ (sym (bare-tests s v e) ∙ h)
 
 pub bare-refused : (s : List ℕ) (v : Values) (r : Reading) → v ≡ valuesOf s → (eqb (v .count) 98 && eqb (v .start) (length s)) ≡ false
     → r ≡ refusedAt damaged (v .start) → r ≡ readBare s

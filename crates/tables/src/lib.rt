@@ -1,15 +1,12 @@
 // A table as a person types it, and the line that answers it. A slip of the typing is refused where it stands, and nothing is guessed (docs/STACK.md).
 ghost use mathlib.Core.Path.{_≡_};
-ghost use mathlib.Core.Bool.{true};
-ghost use Prim.Native.Nat.{_≤_, _<_, _^_, min};
-ghost use lib.Dec.{ltb};
-ghost use lib.ListN.{length, getD};
+ghost use Prim.Native.Nat.{_≤_, _<_};
+ghost use lib.ListN.{length};
 ghost use Rattle.words.specs.Choice.{pick};
-ghost use Rattle.words.specs.Counting.{allBelow};
 ghost use Rattle.text.specs.Text.{write, laid};
 ghost use Rattle.tables.specs.Typed.{white, bare, startFrom, endFrom};
-ghost use Rattle.tables.specs.Number.{digit, worthFrom, isHex};
-ghost use Rattle.tables.specs.Reading.{everyThird, tableOf, taken, refusedAt, readBare, readTable, refusedLine, answerTo};
+ghost use Rattle.tables.specs.Number.{digit, isHex};
+ghost use Rattle.tables.specs.Reading.{everyThird, tableOf, refusedAt, readBare, readTable, refusedLine, answerTo};
 ghost use Rattle.tables.specs.Passes.{readDigits, readWord, readNext, valuesOf};
 use stack::Table;
 
@@ -77,19 +74,14 @@ fn read_bare(bare: &[u8]) -> Reading
     let start = v.start;
     if (v.count == 98) & (start == bare.len()) {
         let values = v.values;
-        return taken_from(table_of(values));
+        let t = table_of(values);
+        return Reading {
+            refusal: steps::CARRIED_OUT,
+            offset: 0,
+            table: t,
+        };
     }
     refused_at(steps::DAMAGED, start)
-}
-
-fn taken_from(t: Table) -> Reading
-    ensures { λ r. ⌜ r ≡ taken t ⌝ }
-{
-    Reading {
-        refusal: steps::CARRIED_OUT,
-        offset: 0,
-        table: t,
-    }
 }
 
 fn refused_at(refusal: u32, offset: usize) -> Reading
@@ -243,58 +235,28 @@ fn is_hex(word: &[u8]) -> bool
     (word[0] == b'0') & (word[1] == b'x')
 }
 
-// Digits to a base: one at least, no other character, and no more than 32 bits.
+// Digits to a base: one at least, no other character, and no more than 32 bits. It stops at the first that breaks this, so no sum wraps.
 fn read_digits(digits: &[u8], base: u32) -> Typed
     requires { ⌜ (1 ≤ base) × (base ≤ 16) ⌝ }
     ensures { λ r. ⌜ r ≡ readDigits base (now (digits .entry)) ⌝ }
 {
-    let worth = worth_of(digits, base);
-    if (digits.len() != 0) & all_digits(digits, base) & (worth < 4294967296) {
-        return Typed {
-            taken: true,
-            value: worth as u32,
-        };
-    }
-    Typed {
-        taken: false,
-        value: 0,
-    }
-}
-
-// Whether all are digits to the base.
-fn all_digits(digits: &[u8], base: u32) -> bool
-    ensures { λ r. ⌜ r ≡ allBelow (length (now (digits .entry))) (λ k. ltb (digit (getD (now (digits .entry)) k 0)) base) ⌝ }
-{
-    let mut ok = true;
-    let mut k: usize = 0;
-    while k < digits.len() {
-        ok = ok & (digit_of(digits[k]) < base);
-        k = k + 1;
-    }
-    ok
-}
-
-// What they are worth; 2^32 stands for all that is over 32 bits, so that no sum wraps however many there are.
-fn worth_of(digits: &[u8], base: u32) -> u64
-    requires { ⌜ (1 ≤ base) × (base ≤ 16) ⌝ }
-    ensures { λ r. ⌜ r ≡ min (worthFrom base 0 (now (digits .entry))) (2 ^ 32) ⌝ }
-{
     let mut worth: u64 = 0;
     let mut k: usize = 0;
     while k < digits.len() {
-        worth = capped(base as u64 * worth + digit_of(digits[k]) as u64);
+        let d = digit_of(digits[k]);
+        worth = base as u64 * worth + d as u64;
+        if (base <= d) | (4294967296 <= worth) {
+            return Typed {
+                taken: false,
+                value: 0,
+            };
+        }
         k = k + 1;
     }
-    worth
-}
-
-fn capped(v: u64) -> u64
-    ensures { λ r. ⌜ r ≡ min v (2 ^ 32) ⌝ }
-{
-    if v < 4294967296 {
-        return v;
+    Typed {
+        taken: k != 0,
+        value: worth as u32,
     }
-    4294967296
 }
 
 // What a character is worth as a digit; 16 says that it is none.

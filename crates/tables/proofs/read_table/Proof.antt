@@ -17,7 +17,7 @@ returns : tie.Need-returns
 returns c = too-long _ _ (c .before .if1 .taken) (c .refused-at .ensures)
 
 slice-aggregate-strip : tie.Need-slice-aggregate-strip
-slice-aggregate-strip c = search needs
+slice-aggregate-strip c = sym (length-replicate {0} {A = ℕ} 65536 0)
 
 strip-requires : tie.Need-strip-requires
 strip-requires c κs = search needs
