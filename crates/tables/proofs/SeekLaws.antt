@@ -1,14 +1,16 @@
 -- Where the first byte stands that passes a test, and the starts and ends of numbers by it.
 use Prim.Native.Nat.{ℕ, zero, suc, _+_, _-_, _≤_, _<_, max}
 use mathlib.Core.Path.{_≡_, refl, sym, ap, _∙_}
-use mathlib.Core.Bool.{Bool, true, false, not}
+use mathlib.Core.Bool.{Bool, true, false, not, Bool·beq}
 use mathlib.Core.List.{List}
 use mathlib.Core.Logic.{_≢_}
 use native.Mathlib.Omega.{arith}
 use native.Mathlib.Decide.{ℕ-discrete}
 use lib.ListN.{length, getD}
+use Rattle.words.specs.Choice.{pick}
 use Rattle.words.specs.Counting.{lowestBelow}
 use Rattle.words.proofs.CountingLaws.{Lowest, lowest-found, lowest-one}
+use Rattle.words.proofs.TruthLaws.{clash}
 use Rattle.tables.specs.Typed.{white, startFrom, endFrom, pastNth, nthStart}
 
 -- from `at` on, i is the first byte that passes, or the end of the text where none does
@@ -86,3 +88,37 @@ past-within s (suc n) = end-within s (startFrom s (pastNth s n)) (start-within s
 pub nth-within : (s : List ℕ) (n : ℕ) → nthStart s n ≤ length s
 unfolding nthStart
 nth-within s n = start-within s (pastNth s n) (past-within s n)
+
+-- ---- as the code seeks them
+
+-- a byte that is white, or that is not
+abbrev pub turned : Bool → ℕ → Bool
+turned wanted b = pick wanted (white b) (not (white b))
+
+pub seek-is : (wanted : Bool) (s : List ℕ) (at i : ℕ) → Sought (turned wanted) s at i → i ≡ pick wanted (endFrom s at) (startFrom s at)
+unfolding pick
+seek-is true s at i h = end-is s at i (record { from = h .from; within = h .within; before = h .before; found = h .found })
+seek-is false s at i h = start-is s at i (record { from = h .from; within = h .within; before = h .before; found = h .found })
+
+pub is-turned : (wanted x : Bool) (b : ℕ) → x ≡ white b → Bool·beq x wanted ≡ true → turned wanted b ≡ true
+unfolding pick
+is-turned true true b e h = sym e
+is-turned true false b e h = clash h refl
+is-turned false true b e h = clash h refl
+is-turned false false b e h = ap not (sym e)
+
+pub not-turned : (wanted x : Bool) (b : ℕ) → x ≡ white b → Bool·beq x wanted ≡ false → turned wanted b ≡ false
+unfolding pick
+not-turned true true b e h = clash refl h
+not-turned true false b e h = sym e
+not-turned false true b e h = ap not (sym e)
+not-turned false false b e h = clash refl h
+
+-- what was sought
+pub started-at : (s : List ℕ) (at : ℕ) {x : ℕ} → x ≡ pick false (endFrom s at) (startFrom s at) → x ≡ startFrom s at
+unfolding pick
+started-at s at e = e
+
+pub ended-at : (s : List ℕ) (at : ℕ) {x : ℕ} → x ≡ pick true (endFrom s at) (startFrom s at) → x ≡ endFrom s at
+unfolding pick
+ended-at s at e = e

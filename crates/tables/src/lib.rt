@@ -165,7 +165,7 @@ fn read_values(text: &[u8]) -> Values
     }
     Values {
         count: 98,
-        start: start_from(text, past),
+        start: seek(text, past, false),
         values: values,
     }
 }
@@ -175,8 +175,8 @@ fn read_next(text: &[u8], past: usize) -> Next
     requires { ⌜ past ≤ length (now text) ⌝ }
     ensures { λ r. ⌜ r ≡ readNext (now (text .entry)) past ⌝ }
 {
-    let start = start_from(text, past);
-    let end = end_from(text, start);
+    let start = seek(text, past, false);
+    let end = seek(text, start, true);
     let typed = read_word(&text[start..end]);
     Next {
         taken: typed.taken,
@@ -186,27 +186,13 @@ fn read_next(text: &[u8], past: usize) -> Next
     }
 }
 
-// The first byte from an offset on that is not white.
-fn start_from(text: &[u8], at: usize) -> usize
-    ensures { λ r. ⌜ r ≡ startFrom (now (text .entry)) at ⌝ }
+// The first byte from an offset on that is white, or that is not, as `wanted` says.
+fn seek(text: &[u8], at: usize, wanted: bool) -> usize
+    ensures { λ r. ⌜ r ≡ pick wanted (endFrom (now (text .entry)) at) (startFrom (now (text .entry)) at) ⌝ }
 {
     let mut i = at;
     while i < text.len() {
-        if !is_white(text[i]) {
-            return i;
-        }
-        i = i + 1;
-    }
-    i
-}
-
-// The first byte from an offset on that is white.
-fn end_from(text: &[u8], at: usize) -> usize
-    ensures { λ r. ⌜ r ≡ endFrom (now (text .entry)) at ⌝ }
-{
-    let mut i = at;
-    while i < text.len() {
-        if is_white(text[i]) {
+        if is_white(text[i]) == wanted {
             return i;
         }
         i = i + 1;

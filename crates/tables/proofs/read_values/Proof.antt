@@ -1,15 +1,15 @@
 -- That `read_values` of src/lib.rt keeps its contract.
 use Rattle.tables.proofs.ReadLaws.{next-is, numbers-more, fault-is, valueOf, values-are}
-use Rattle.tables.proofs.SeekLaws.{past-within}
+use Rattle.tables.proofs.SeekLaws.{past-within, started-at}
 use Rattle.tables.proofs.FillLaws.{room-none, room-more}
 use Rattle.tables.specs.Passes.{room}
-use Rattle.tables.specs.Promises.{Numbers}
 use Rattle.tables.specs.Typed.{pastNth, nthStart}
 use borrow.Author.Tests.{not-true, not-false}
-use mathlib.Core.Bool.{true}
 use native.Mathlib.Omega.{arith}
 use mathlib.Core.Path.{_≡_, refl, sym, ap, _∙_}
 use Prim.Native.Nat.{ℕ, _≤_, _-_}
+use Rattle.tables.specs.Promises.{Numbers}
+use mathlib.Core.Bool.{true}
 use borrow.Author.Needs.{needs}
 use Rattle.tables.proofs.read_values.Statement.{statement}
 use Rattle.tables.proofs.read_values.Tie as tie
@@ -53,15 +53,15 @@ loop-again c =
     let t : c .before .before .read-next .result .taken ≡ true = not-false _ (c .if1 .left) in
     (search needs, x .past, room-more 98 (l .n) (valueOf s) (l .values) _ (search needs) (l .inv .2) (x .value t), numbers-more s (l .n) (l .inv .3) (sym (x .taken) ∙ t))
 
-start-from-requires : tie.Need-start-from-requires Inv-loop μ-loop
-start-from-requires c κs = search needs
+seek-requires : tie.Need-seek-requires Inv-loop μ-loop
+seek-requires c κs = search needs
 
 returns-2 : tie.Need-returns-2 Inv-loop μ-loop
 returns-2 c =
     let l = c .before .before .loop in
     let s = c .before .before .before .before .args .text .now in
     let e : l .n ≡ 98 = omega (arith, l .inv .0, c .before .loop-test .left) in
-    values-are s 98 _ (l .values) (fault-is s 98 (omega arith) (rw (← e) (l .inv .3)) (λ m. absurd (omega arith))) (c .start-from .ensures ∙ rw (l .inv .1, e) (unfold nthStart in refl)) (l .inv .2 ∙ ap (λ (n : ℕ). room 98 n (valueOf s)) e)
+    values-are s 98 _ (l .values) (fault-is s 98 (omega arith) (rw (← e) (l .inv .3)) (λ m. absurd (omega arith))) (started-at s _ (c .seek .ensures) ∙ rw (l .inv .1, e) (unfold nthStart in refl)) (l .inv .2 ∙ ap (λ (n : ℕ). room 98 n (valueOf s)) e)
 
 pub read-values-spec : {M : Type 1} → statement M
 read-values-spec =
@@ -77,5 +77,5 @@ read-values-spec =
     add-n
     loop-less
     loop-again
-    start-from-requires
+    seek-requires
     returns-2)
