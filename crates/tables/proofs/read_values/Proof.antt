@@ -1,0 +1,81 @@
+-- That `read_values` of src/lib.rt keeps its contract.
+use Rattle.tables.proofs.ReadLaws.{next-is, numbers-more, fault-is, valueOf, values-are}
+use Rattle.tables.proofs.SeekLaws.{past-within, started-at}
+use Rattle.tables.proofs.FillLaws.{room-none, room-more}
+use Rattle.tables.specs.Passes.{room}
+use Rattle.tables.specs.Typed.{pastNth, nthStart}
+use borrow.Author.Tests.{not-true, not-false}
+use native.Mathlib.Omega.{arith}
+use mathlib.Core.Path.{_≡_, refl, sym, ap, _∙_}
+use Prim.Native.Nat.{ℕ, _≤_, _-_}
+use Rattle.tables.specs.Promises.{Numbers}
+use mathlib.Core.Bool.{true}
+use borrow.Author.Needs.{needs}
+use Rattle.tables.proofs.read_values.Statement.{statement}
+use Rattle.tables.proofs.read_values.Tie as tie
+
+abbrev Inv-loop : tie.InvT-loop
+Inv-loop text values₀ past₀ n₀ values past n = (n ≤ 98) × (past ≡ pastNth text n) × (values ≡ room 98 n (valueOf text)) × Numbers text n
+
+abbrev μ-loop : tie.MeasureT-loop
+μ-loop text values₀ past₀ n₀ values past n = 98 - n
+
+loop-holds : tie.Need-loop-holds Inv-loop μ-loop
+loop-holds c = (search needs, unfold pastNth in refl, room-none 98 _, λ k l. absurd (search needs))
+
+read-next-requires : tie.Need-read-next-requires Inv-loop μ-loop
+read-next-requires c κs = rw (c .before .loop .inv .1) (past-within _ _)
+
+returns : tie.Need-returns Inv-loop μ-loop
+returns c =
+    let l = c .before .before .before .before .loop in
+    let s = c .before .before .before .before .before .before .args .text .now in
+    let x = next-is s (l .past) (l .n) _ (l .inv .1) (c .before .before .read-next .ensures) in
+    values-are s (l .n) _ (l .values) (fault-is s (l .n) (l .inv .0) (l .inv .3) (λ m. sym (x .taken) ∙ not-true _ (c .if1 .taken))) (x .start) (l .inv .2)
+
+mul-values : tie.Need-mul-values Inv-loop μ-loop
+mul-values c = search needs
+
+array-write-values : tie.Need-array-write-values Inv-loop μ-loop
+array-write-values c = search needs
+
+add-n : tie.Need-add-n Inv-loop μ-loop
+add-n c = search needs
+
+loop-less : tie.Need-loop-less Inv-loop μ-loop
+loop-less c = search needs
+
+loop-again : tie.Need-loop-again Inv-loop μ-loop
+loop-again c =
+    let l = c .before .before .before .before .loop in
+    let s = c .before .before .before .before .before .before .args .text .now in
+    let x = next-is s (l .past) (l .n) _ (l .inv .1) (c .before .before .read-next .ensures) in
+    let t : c .before .before .read-next .result .taken ≡ true = not-false _ (c .if1 .left) in
+    (search needs, x .past, room-more 98 (l .n) (valueOf s) (l .values) _ (search needs) (l .inv .2) (x .value t), numbers-more s (l .n) (l .inv .3) (sym (x .taken) ∙ t))
+
+seek-requires : tie.Need-seek-requires Inv-loop μ-loop
+seek-requires c κs = search needs
+
+returns-2 : tie.Need-returns-2 Inv-loop μ-loop
+returns-2 c =
+    let l = c .before .before .loop in
+    let s = c .before .before .before .before .args .text .now in
+    let e : l .n ≡ 98 = omega (arith, l .inv .0, c .before .loop-test .left) in
+    values-are s 98 _ (l .values) (fault-is s 98 (omega arith) (rw (← e) (l .inv .3)) (λ m. absurd (omega arith))) (started-at s _ (c .seek .ensures) ∙ rw (l .inv .1, e) (unfold nthStart in refl)) (l .inv .2 ∙ ap (λ (n : ℕ). room 98 n (valueOf s)) e)
+
+pub read-values-spec : {M : Type 1} → statement M
+read-values-spec =
+    tie.close
+    (tie.spec
+    Inv-loop
+    μ-loop
+    loop-holds
+    read-next-requires
+    returns
+    mul-values
+    array-write-values
+    add-n
+    loop-less
+    loop-again
+    seek-requires
+    returns-2)
