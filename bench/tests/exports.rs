@@ -57,7 +57,10 @@ fn the_library_says_the_stack_of_a_table_as_the_model_does() {
     let tables = (0..typist.sweeps() + 2_000).map(|number| (number, typist.typed(number)));
     let summary = compare(tables, bench::exports::stack);
     if let Some((number, typed)) = summary.first {
-        panic!("table {number} differs: {}", expected(&typed).escape_ascii());
+        panic!(
+            "table {number} differs: {}",
+            expected(&typed).escape_ascii()
+        );
     }
 }
 

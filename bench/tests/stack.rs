@@ -46,18 +46,15 @@ fn what_is_counted_is_listed_and_listed_once() {
     assert_eq!(listed.len(), all);
 }
 
-/// The line of a table by a figure that is a little wrong.
+/// The line of a table by another figure; what is refused stays refused.
 fn by(figure: impl Fn(&Table) -> u32) -> impl Fn(&Typed) -> Outcome {
-    move |typed| {
-        let line = match text::table(&typed.text) {
-            Ok(table) if table.within_limits() => format!("{} bytes\n", figure(&table)),
-            _ => return Ok(expected(typed)),
-        };
-        Ok(line.into_bytes()[..]
-            .iter()
-            .copied()
-            .take(typed.ample_room())
-            .collect())
+    move |typed| match text::table(&typed.text) {
+        Ok(table) if table.within_limits() => {
+            let mut line = format!("{} bytes\n", figure(&table)).into_bytes();
+            line.truncate(typed.ample_room());
+            Ok(line)
+        }
+        _ => Ok(expected(typed)),
     }
 }
 
@@ -67,52 +64,42 @@ fn largest(table: &Table, level: u32) -> u32 {
     frames.into_iter().fold(table.mark, u32::max)
 }
 
+fn over_levels(levels: u32, frame: impl Fn(u32) -> u32) -> u32 {
+    (0..levels).map(frame).sum()
+}
+
 #[test]
 fn a_wrong_figure_differs() {
     type Figure = fn(&Table) -> u32;
+    let right: Figure = |table| over_levels(8, |level| largest(table, level));
     let wrong: [(&str, Figure); 6] = [
         ("seven levels", |table| {
-            (0..7).map(|level| largest(table, level)).sum()
+            over_levels(7, |level| largest(table, level))
         }),
         ("nine levels", |table| {
-            (0..9).map(|level| largest(table, level)).sum()
+            over_levels(9, |level| largest(table, level))
         }),
         ("the mark's frame left out", |table| {
-            let frames = (0..8).map(|level| table.frames_at(level));
-            frames
-                .map(|frames| frames.last().copied().unwrap_or(0))
-                .sum()
+            over_levels(8, |level| table.frames_at(level).pop().unwrap_or(0))
         }),
         ("the sum of a level's frames", |table| {
-            let frames = (0..8).map(|level| table.frames_at(level));
-            frames
-                .map(|frames| frames.iter().sum::<u32>().max(table.mark))
-                .sum()
+            let sum = |level| table.frames_at(level).iter().sum::<u32>();
+            over_levels(8, |level| sum(level).max(table.mark))
         }),
         ("forced sources", |table| {
-            let table = Table {
-                forced: 0,
-                ..table.clone()
-            };
-            (0..8).map(|level| largest(&table, level)).sum()
+            let mut table = table.clone();
+            table.forced = 0;
+            over_levels(8, |level| largest(&table, level))
         }),
         ("source 0", |table| {
-            let nought = table.rows[0];
-            let with = |level| match nought.priority == level {
-                true => largest(table, level).max(nought.frame),
-                false => largest(table, level),
+            let frame = |level| match table.rows[0].priority == level {
+                true => table.rows[0].frame,
+                false => 0,
             };
-            (0..8).map(with).sum()
+            over_levels(8, |level| largest(table, level).max(frame(level)))
         }),
     ];
-    assert_eq!(
-        compare_some(
-            300,
-            by(|table| (0..8).map(|level| largest(table, level)).sum())
-        )
-        .differ,
-        0
-    );
+    assert_eq!(compare_some(300, by(right)).differ, 0);
     for (name, figure) in wrong {
         let summary = compare_some(300, by(figure));
         assert!(summary.differ > 10, "{name} was not found");

@@ -10,7 +10,7 @@ use bench::model::aic::{Aic, ENTRIES, SOURCES};
 use bench::model::{Controller, Step};
 use bench::random::Random;
 use bench::stack::generate::any_table;
-use bench::stack::{Row, Table, LEVELS};
+use bench::stack::{text, Row, Table, LEVELS};
 
 const IVR: Step = Step::Read { offset: 0x100 };
 const FVR: Step = Step::Read { offset: 0x104 };
@@ -248,22 +248,38 @@ fn best_of(table: &Table, level: u32) -> Option<usize> {
 }
 
 /// Level by level upwards: a source that beats the mark is made pending alone and started, else a mark is opened.
+fn reach(table: &Table, external: u32) -> Aic {
+    let mut aic = set_up(table, external);
+    for level in 0..LEVELS {
+        match best_of(table, level) {
+            Some(source) => start(&mut aic, source),
+            None => put(&mut aic, IVR),
+        }
+    }
+    aic
+}
+
 #[test]
 fn a_run_for_any_table_ends_with_its_figure() {
     let random = &mut Random::new(8);
     for _ in 0..2_000 {
         let table = any_table(random);
-        let mut aic = set_up(&table, random.word());
-        for level in 0..LEVELS {
-            if let Some(source) = best_of(&table, level) {
-                start(&mut aic, source);
-            } else {
-                put(&mut aic, IVR);
-            }
-        }
+        let aic = reach(&table, random.word());
         assert_eq!(aic.entries().len(), ENTRIES);
         assert_eq!(Ok(open_bytes(&table, &aic)), table.bytes());
     }
+}
+
+/// The board of the examples: eight handlers and no mark, 2,256 bytes.
+#[test]
+fn the_board_has_eight_handlers_open_at_once() {
+    let text = include_bytes!("../../examples/stack-board.table");
+    let table = text::table(text).expect("it is a table");
+    let aic = reach(&table, 0xC000_0000);
+    let sources = aic.entries().iter().map(|entry| entry.source);
+    let expected = [10, 2, 4, 5, 8, 7, 11, 1].map(Some);
+    assert!(sources.eq(expected), "{:?}", aic.entries());
+    assert_eq!(open_bytes(&table, &aic), 2_256);
 }
 
 /// Makes a source pending, by command or, where it goes by level, by its line; reads IVR, and disables it again.
