@@ -30,13 +30,13 @@ use Rattle.aic_registers.specs.Effects.{setBy}
 use Rattle.aic.specs.Model.{step}
 use Rattle.aic.proofs.HandlerLaws.{started-is, moved-is}
 use Rattle.aic.proofs.StepKindLaws.{kinds}
-use Rattle.aic.proofs.Promises as Controller
 use Rattle.aic_runs.specs.Counted.{rewrites, steady}
 use Rattle.aic_runs.specs.Runs.{run, always}
 use Rattle.aic_runs.proofs.CountedLaws.{mode-rewrite, forcing-rewrite}
 use Rattle.aic_runs.proofs.StepLaws.{modes-law}
 use Rattle.stack.specs.declared.Table.{Table}
 use Rattle.stack.specs.Bytes.{normal, isOf, taller, largest, levelBytes, stackBytes, frameOf}
+use Rattle.aic.proofs.Promises as Controller
 
 -- ---- the largest of a level
 

@@ -21,7 +21,7 @@ use Rattle.steps.specs.declared.Step.the-variants.{Read, Line}
 use Rattle.aic_record.specs.declared.Aic.{Aic}
 use Rattle.aic_record.specs.Record.{withLines, withMemory, withHandlers}
 use Rattle.aic_record.specs.Mode.{priority, edge}
-use Rattle.aic_record.specs.Sound.{levelBelow, over, sound}
+use Rattle.aic_record.specs.Sound.{levelBelow, sound}
 use Rattle.aic_record.specs.Passes.{floorOver}
 use Rattle.aic_record.specs.Promises.{Shaped, Over}
 use Rattle.aic_record.proofs.PassLaws.{floor-rule}
@@ -32,20 +32,20 @@ use Rattle.aic_sources.specs.Fast.{fast}
 use Rattle.aic_sources.specs.Normal.{waiting, candidate}
 use Rattle.aic_sources.specs.Promises.{AheadOfOthers}
 use Rattle.aic_sources.proofs.HandlerLaws.{candidate-waits, candidate-over, waiting-is, is-candidate}
-use Rattle.aic_sources.proofs.Promises as Sources
 use Rattle.aic_registers.specs.declared.Answer.{Answer}
 use Rattle.aic_registers.specs.Map.{ivr}
 use Rattle.aic_registers.specs.Effects.{turns}
 use Rattle.aic_registers.specs.Handlers.{vectorAt}
 use Rattle.aic.specs.Model.{step, read, line}
 use Rattle.aic.specs.Tables.{Sets}
-use Rattle.aic.proofs.Promises as Controller
 use Rattle.aic_runs.specs.Counted.{rewrites, steady}
 use Rattle.aic_runs.specs.Runs.{run, always}
 use Rattle.aic_runs.proofs.StepLaws.{edge-modes, fast-forcing}
 use Rattle.stack.specs.declared.Table.{Table}
 use Rattle.stack.specs.Bytes.{normal, isOf, taller, largest, levelBytes, stackBytes, frameOf, openBytes}
 use Rattle.stack.proofs.BoundLaws.{Agrees, agrees-law}
+use Rattle.aic_sources.proofs.Promises as Sources
+use Rattle.aic.proofs.Promises as Controller
 
 -- ---- who has the largest frame of a level, if not the mark
 

@@ -48,8 +48,8 @@ not-beyond : (t : Table) → withinLimits t ≡ false → Beyond t
 unfolding withinLimits sourceWithin
 not-beyond t h = go (told (leb (t .mark) 65535))
   where
-    place : (i : ℕ) → i < 32 → sourceWithin t i ≡ false → Beyond t
-    place i l z = by (told (leb (getD (t .priority) i 0) 7)) (told (leb (getD (t .kind) i 0) 3)) (told (leb (getD (t .frame) i 0) 65535))
+    row : (i : ℕ) → i < 32 → sourceWithin t i ≡ false → Beyond t
+    row i l z = by (told (leb (getD (t .priority) i 0) 7)) (told (leb (getD (t .kind) i 0) 3)) (told (leb (getD (t .frame) i 0) 65535))
       where
         by : (leb (getD (t .priority) i 0) 7 ≡ true) ⊎ (leb (getD (t .priority) i 0) 7 ≡ false) → (leb (getD (t .kind) i 0) 3 ≡ true) ⊎ (leb (getD (t .kind) i 0) 3 ≡ false)
             → (leb (getD (t .frame) i 0) 65535 ≡ true) ⊎ (leb (getD (t .frame) i 0) 65535 ≡ false) → Beyond t
@@ -64,7 +64,7 @@ not-beyond t h = go (told (leb (t .mark) 65535))
       where
         all : (allBelow 32 (sourceWithin t) ≡ true) ⊎ (allBelow 32 (sourceWithin t) ≡ false) → Beyond t
         all (inl a) = clash (unfold withinLimits in (and-both m a)) h
-        all (inr a) = let (i, l, z) = some-fails 32 (sourceWithin t) a in place i l z
+        all (inr a) = let (i, l, z) = some-fails 32 (sourceWithin t) a in row i l z
 
 pub beyond-or : (t : Table) → Beyond t ⊎ (Beyond t → ⊥)
 beyond-or t = go (told (withinLimits t))

@@ -19,7 +19,6 @@ use Rattle.aic_record.specs.Promises.{Shaped}
 use Rattle.aic_record.proofs.SoundLaws.{sound-is}
 use Rattle.aic_registers.specs.declared.Answer.{Answer}
 use Rattle.aic.specs.Model.{step}
-use Rattle.aic.proofs.Promises as Controller
 use Rattle.aic_runs.specs.Counted.{steady}
 use Rattle.aic_runs.specs.Runs.{run, always}
 use Rattle.aic_runs.proofs.SoundRuns.{run-sound}
@@ -31,6 +30,7 @@ use Rattle.stack.proofs.SetupLaws.{reached}
 use Rattle.stack.proofs.FigureLaws.{refused-is, refused-none, within-not, answered-is, summed, most, level-mark, level-frame, level-met, bit-nought}
 use Rattle.stack.proofs.PrintedLaws.{figure-text, number-text, printed, printed-refused, printed-most}
 use Rattle.stack.proofs.Worked.{eight-levels, line, plain, forced, refused}
+use Rattle.aic.proofs.Promises as Controller
 
 -- of an unsound record nothing is carried out
 twelve : (s : Aic) (x : Step) → sound s ≡ false → step s x .refusal ≡ unsound

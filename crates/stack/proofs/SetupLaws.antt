@@ -23,15 +23,12 @@ use Rattle.aic_record.specs.Sound.{noLevel, levelBelow, sound}
 use Rattle.aic_record.specs.Promises.{Shaped}
 use Rattle.aic_record.proofs.PassLaws.{floor-free}
 use Rattle.aic_record.proofs.SoundLaws.{below-none}
-use Rattle.aic_record.proofs.Promises as Record
 use Rattle.aic_sources.specs.Pending.{pending}
 use Rattle.aic_sources.proofs.HandlerLaws.{waiting-is}
-use Rattle.aic_sources.proofs.Promises as Sources
 use Rattle.aic_registers.specs.declared.Answer.{Answer}
 use Rattle.aic_registers.specs.Map.{ffer, iecr}
 use Rattle.aic.specs.Model.{step, write}
 use Rattle.aic.specs.Tables.{Sets}
-use Rattle.aic.proofs.Promises as Controller
 use Rattle.aic_runs.specs.Runs.{run}
 use Rattle.stack.specs.declared.Table.{Table}
 use Rattle.stack.specs.Bytes.{openBytes, withinLimits, Set}
@@ -39,6 +36,9 @@ use Rattle.stack.specs.Promises.{Reached}
 use Rattle.stack.proofs.SumLaws.{level-small, kind-small}
 use Rattle.stack.proofs.BoundLaws.{set-fast}
 use Rattle.stack.proofs.ClimbLaws.{rank, Tower, Climbed, climb}
+use Rattle.aic_record.proofs.Promises as Record
+use Rattle.aic_sources.proofs.Promises as Sources
+use Rattle.aic.proofs.Promises as Controller
 
 -- no entry is open, all lines are low, nothing is remembered, all sources are enabled; the forcing is the table's, and so are the modes below n
 pub record Ready (t : Table) (n : ℕ) (u : Aic) : Type 0 where

@@ -1,6 +1,6 @@
 -- Two tables, worked through.
 use Prim.Native.Nat.{ℕ}
-use mathlib.Core.List.{List, [], _∷_, _++_}
+use mathlib.Core.List.{_∷_}
 use lib.ListN.{set, replicate}
 use Rattle.stack.specs.declared.Table.{Table}
 

@@ -59,7 +59,7 @@ fn read_once(room: &mut [u8]) -> Came
 // Writes the line that answers the table to standard output.
 fn print(text: &[u8]) {
     let mut out = room();
-    let k = tables::put_answer(text, &mut out);
+    let k = tables::put_answer(&mut out, text);
     if !io::write_all(1, &out[..k]) {
         tell(b"stacksize: the line could not be written\n");
     }

@@ -1,7 +1,7 @@
 -- Comments made into spaces, byte by byte and part by part.
 use Prim.Native.Nat.{ℕ, zero, suc, _+_, _≤_, _<_}
 use mathlib.Core.Path.{_≡_, refl, sym, ap, _∙_}
-use mathlib.Core.Bool.{Bool, true, false, not, _&&_, _||_}
+use mathlib.Core.Bool.{Bool, true, false, not, _&&_}
 use mathlib.Core.List.{List, [], _∷_, _++_, append-nil}
 use native.Mathlib.Numerals.{add-one}
 use native.Mathlib.Omega.{arith}
@@ -12,9 +12,9 @@ use borrow.Author.Tests.{ne-eqb}
 use Rattle.words.specs.Choice.{pick}
 use Rattle.text.specs.Text.{write}
 use Rattle.text.proofs.WriteLaws.{rest-of, nothing, write-laid, laid-fits}
-use Rattle.text.proofs.Promises as Text
 use Rattle.tables.specs.Typed.{covered, bareFrom, bare}
 use Rattle.tables.specs.Layout.{Without}
+use Rattle.text.proofs.Promises as Text
 
 pub length-bare : (inside : Bool) (s : List ℕ) → length (bareFrom inside s) ≡ length s
 unfolding bareFrom

@@ -1,23 +1,20 @@
 -- Numbers with white space and comments between them are found where they stand, and read as they are.
 use Prim.Native.Nat.{ℕ, zero, suc, _+_, _-_, _≤_, _<_}
 use mathlib.Core.Path.{_≡_, refl, sym, ap, _∙_, subst}
-use mathlib.Core.Bool.{Bool, true, false, not, _&&_, _||_}
+use mathlib.Core.Bool.{true, false, not}
 use mathlib.Core.List.{List, [], _∷_, _++_, append-assoc, append-nil}
-use mathlib.Core.Logic.{_≢_, _⊎_, inl, inr}
-use native.Mathlib.Nat.{add-zero, add-suc}
+use mathlib.Core.Logic.{_≢_, inl, inr}
+use native.Mathlib.Nat.{add-zero}
 use native.Mathlib.Omega.{arith}
-use native.Mathlib.Decide.{decLt}
-use lib.Dec.{eqb}
 use lib.ListN.{length, getD, take, drop, replicate, length-append, List·getD-append}
 use lib.Seq.{getD-append-add, take-append-seam, drop-append-seam}
-use borrow.Author.Tests.{eq-eqb, ne-eqb}
+use borrow.Author.Tests.{ne-eqb}
 use Rattle.words.specs.Choice.{pick}
-use Rattle.words.proofs.TruthLaws.{or-left, or-right, not-holds}
 use Rattle.tables.specs.Typed.{white, bareFrom, bare, startFrom, endFrom, pastNth, nthStart, nthTyped}
 use Rattle.tables.specs.Number.{isNumber}
 use Rattle.tables.specs.Layout.{White, Without, Gap, nothing, space, comment, Parted, Spread, done, leftOpen, more}
 use Rattle.tables.proofs.BareLaws.{length-bare, bare-plain, bare-comment, bare-open}
-use Rattle.tables.proofs.SeekLaws.{dark, start-is, end-is}
+use Rattle.tables.proofs.SeekLaws.{start-is, end-is}
 use Rattle.tables.proofs.NumberLaws.{number-high, number-some}
 
 -- ---- bytes

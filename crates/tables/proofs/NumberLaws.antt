@@ -13,7 +13,6 @@ use lib.ListN.{length, getD, take, drop, length-drop, drop-of-length-le, List·g
 use lib.Seq.{drop-cons, take-all, getD-drop}
 use borrow.Author.Tests.{eqb-true, eqb-false, eq-eqb, ne-eqb, leb-true, leb-false, lt-leb, ltb-true, lt-ltb, not-true}
 use Rattle.words.specs.Choice.{pick}
-use Rattle.words.specs.Counting.{allBelow}
 use Rattle.words.proofs.ChoiceLaws.{pick-true, pick-false, pick-cases}
 use Rattle.words.proofs.CountingLaws.{all-at, at-all}
 use Rattle.words.proofs.TruthLaws.{and-left, and-right, and-both, or-either, or-neither, not-holds, told}

@@ -1,13 +1,12 @@
 -- A table that is written out in the plain way is read back as it is.
 use Prim.Native.Nat.{ℕ, zero, suc, _+_, _-_, _*_, _^_, _≤_, _<_}
 use mathlib.Core.Path.{_≡_, refl, sym, ap, _∙_}
-use mathlib.Core.Bool.{Bool, true, false, _&&_}
+use mathlib.Core.Bool.{true, false}
 use mathlib.Core.List.{List, [], _∷_, _++_, map}
-use mathlib.Core.Logic.{_≢_, _⊎_, inl, inr}
+use mathlib.Core.Logic.{inl, inr}
 use native.Mathlib.Nat.{add-zero, zero-add}
 use native.Mathlib.Omega.{arith}
 use native.Mathlib.Decide.{decLt, ℕ-discrete}
-use lib.Dec.{leb}
 use lib.ListN.{length, getD, length-append, length-map, List·getD-map, List·getD-eq-default}
 use lib.Seq.{ext-getD}
 use borrow.Author.Tests.{le-leb}
@@ -16,18 +15,18 @@ use Rattle.words.proofs.TruthLaws.{not-holds}
 use Rattle.text.specs.Text.{decimal}
 use Rattle.text.specs.Promises.{worthAfter}
 use Rattle.text.proofs.DigitLaws.{length-below}
-use Rattle.text.proofs.Promises as Text
 use Rattle.stack.specs.declared.Table.{Table}
 use Rattle.tables.specs.Typed.{bare, nthStart}
 use Rattle.tables.specs.Number.{digit, worthFrom, isHex, isNumber, worth}
 use Rattle.tables.specs.Reading.{everyThird, tableOf, taken, readTable}
-use Rattle.tables.specs.Layout.{White, Gap, nothing, space, Parted, Spread, done, more, linesFrom, plain}
+use Rattle.tables.specs.Layout.{Gap, nothing, space, Parted, Spread, done, more, linesFrom, plain}
 use Rattle.tables.specs.Promises.{Words}
 use Rattle.tables.proofs.BareLaws.{length-bare}
 use Rattle.tables.proofs.FillLaws.{length-listOf, getD-listOf}
 use Rattle.tables.proofs.LayoutLaws.{found-words}
 use Rattle.tables.proofs.NumberLaws.{are-digits, number-plain, hex-first}
 use Rattle.tables.proofs.RefusalLaws.{read, read-values}
+use Rattle.text.proofs.Promises as Text
 
 -- ---- a decimal is a number, and worth what it says
 

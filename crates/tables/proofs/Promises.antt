@@ -1,16 +1,15 @@
 -- The promises of typed tables, kept.
 use Prim.Native.Nat.{ℕ, suc, _+_, _-_, _*_, _≤_, _<_}
 use mathlib.Core.Path.{_≡_, refl, sym, ap, _∙_, subst}
-use mathlib.Core.Bool.{true, false, not, _&&_, _||_}
-use mathlib.Core.List.{List, [], _∷_, _++_, append-nil}
+use mathlib.Core.Bool.{true, false, not, _||_}
+use mathlib.Core.List.{List, [], _∷_, _++_}
 use mathlib.Core.Logic.{_↔_, _≢_, _⊎_, inl, inr}
 use native.Mathlib.Omega.{arith}
-use native.Mathlib.Decide.{decLt}
-use lib.Dec.{eqb, leb}
+use lib.Dec.{eqb}
 use lib.ListN.{length, getD, take, drop}
-use borrow.Author.Tests.{eqb-true, ne-eqb, leb-true, le-leb, lt-leb, not-true, not-false}
+use borrow.Author.Tests.{eqb-true, le-leb, lt-leb, not-true, not-false}
 use Rattle.words.specs.Choice.{pick}
-use Rattle.words.proofs.TruthLaws.{or-either, clash, not-holds, told}
+use Rattle.words.proofs.TruthLaws.{or-either, clash, not-holds}
 use Rattle.text.specs.Text.{decimal}
 use Rattle.stack.specs.declared.Table.{Table}
 use Rattle.tables.specs.Typed.{white, startFrom, endFrom, pastNth, nthStart, nthTyped}
@@ -19,7 +18,7 @@ use Rattle.tables.specs.Reading.{taken}
 use Rattle.tables.specs.Layout.{White, linesFrom}
 use Rattle.tables.specs.Promises.{Starts, Ends, Digits, Promises}
 use Rattle.tables.proofs.BareLaws.{length-bare, bare-none, bare-ended, bare-left}
-use Rattle.tables.proofs.SeekLaws.{Sought, start-is, start-sought, end-is, end-sought, end-within, past-within, nth-within}
+use Rattle.tables.proofs.SeekLaws.{Sought, start-is, start-sought, end-is, end-sought, past-within}
 use Rattle.tables.proofs.NumberLaws.{digits-are, are-digits, number-hex, number-plain, number-some, hex-first}
 use Rattle.tables.proofs.LayoutLaws.{white-is}
 use Rattle.tables.proofs.PlainLaws.{digit-plain, spread, read-back}

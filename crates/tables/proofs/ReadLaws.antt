@@ -1,5 +1,5 @@
 -- The numbers of a text one after the other, as the code reads them.
-use Prim.Native.Nat.{ℕ, suc, _+_, _-_, _≤_, _<_}
+use Prim.Native.Nat.{ℕ, _+_, _-_, _≤_, _<_}
 use mathlib.Core.Path.{_≡_, refl, sym, ap, _∙_}
 use mathlib.Core.Bool.{Bool, true, false, not, _&&_}
 use mathlib.Core.List.{List}
@@ -11,9 +11,8 @@ use lib.Dec.{eqb}
 use lib.ListN.{length, take, drop}
 use borrow.Author.Tests.{eqb-true, eq-eqb, ne-eqb, lt-ltb, le-ltb}
 use Rattle.words.specs.Choice.{pick}
-use Rattle.words.specs.Counting.{lowestBelow}
 use Rattle.words.proofs.ChoiceLaws.{pick-true, pick-false}
-use Rattle.words.proofs.CountingLaws.{Lowest, lowest-found, lowest-one}
+use Rattle.words.proofs.CountingLaws.{lowest-found, lowest-one}
 use Rattle.words.proofs.TruthLaws.{and-left}
 use Rattle.steps.specs.Refusals.{carriedOut, damaged, tooLong}
 use Rattle.stack.specs.declared.Table.{Table}

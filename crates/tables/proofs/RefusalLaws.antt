@@ -1,13 +1,12 @@
 -- Which of the three a text is, too long, slipped or whole, and what is answered and printed of each.
-use Prim.Native.Nat.{ℕ, _+_, _*_, _^_, _≤_, _<_}
+use Prim.Native.Nat.{ℕ, _+_, _*_, _≤_, _<_}
 use mathlib.Core.Path.{_≡_, refl, sym, ap, _∙_, subst}
-use mathlib.Core.Bool.{true, false, not, _&&_}
+use mathlib.Core.Bool.{false, not}
 use mathlib.Core.List.{List, [], _∷_, _++_, append-assoc}
 use mathlib.Core.Logic.{_↔_, _≢_, _⊎_, inl, inr}
 use native.Mathlib.Nat.{add-zero}
 use native.Mathlib.Omega.{arith}
 use native.Mathlib.Decide.{decLt, ℕ-discrete}
-use lib.Dec.{eqb}
 use lib.ListN.{length, getD, replicate, length-append}
 use borrow.Author.Tests.{eq-eqb, ne-eqb, not-true, not-false}
 use Rattle.words.proofs.ChoiceLaws.{pick-true, pick-false}
@@ -19,7 +18,6 @@ use Rattle.text.proofs.DigitLaws.{length-below}
 use Rattle.stack.specs.declared.Table.{Table}
 use Rattle.stack.specs.Bytes.{needed}
 use Rattle.stack.specs.Printed.{textOf}
-use Rattle.stack.proofs.Promises as Stack
 use Rattle.tables.specs.declared.Reading.{Reading}
 use Rattle.tables.specs.Typed.{bare, nthStart, nthTyped}
 use Rattle.tables.specs.Number.{isNumber, worth}
@@ -29,6 +27,7 @@ use Rattle.tables.proofs.BareLaws.{length-bare}
 use Rattle.tables.proofs.FillLaws.{length-listOf, getD-listOf, listOf-same}
 use Rattle.tables.proofs.SeekLaws.{nth-within}
 use Rattle.tables.proofs.ReadLaws.{fault-is, valueOf, too-long, not-long, answer-taken, answer-refused}
+use Rattle.stack.proofs.Promises as Stack
 
 -- ---- a text without comments
 

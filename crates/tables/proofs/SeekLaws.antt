@@ -1,15 +1,14 @@
 -- Where the first byte stands that passes a test, and the starts and ends of numbers by it.
 use Prim.Native.Nat.{ℕ, zero, suc, _+_, _-_, _≤_, _<_, max}
-use mathlib.Core.Path.{_≡_, refl, sym, ap, _∙_}
+use mathlib.Core.Path.{_≡_, refl, sym, ap}
 use mathlib.Core.Bool.{Bool, true, false, not, Bool·beq}
 use mathlib.Core.List.{List}
-use mathlib.Core.Logic.{_≢_}
 use native.Mathlib.Omega.{arith}
 use native.Mathlib.Decide.{ℕ-discrete}
 use lib.ListN.{length, getD}
 use Rattle.words.specs.Choice.{pick}
 use Rattle.words.specs.Counting.{lowestBelow}
-use Rattle.words.proofs.CountingLaws.{Lowest, lowest-found, lowest-one}
+use Rattle.words.proofs.CountingLaws.{lowest-found, lowest-one}
 use Rattle.words.proofs.TruthLaws.{clash}
 use Rattle.tables.specs.Typed.{white, startFrom, endFrom, pastNth, nthStart}
 

@@ -43,7 +43,7 @@ const MOST: usize = 65536;
 // ---- what is read
 
 // The line that answers a typed table, from the start of the buffer on; answers how many bytes were written. What finds no room is dropped.
-pub fn put_answer(text: &[u8], out: &mut [u8]) -> usize
+pub fn put_answer(out: &mut [u8], text: &[u8]) -> usize
     ensures { λ r. ⌜ (now (out .exit), r) ≡ laid (now (out .entry)) (answerTo (now (text .entry))) ⌝ }
 {
     let r = read_table(text);

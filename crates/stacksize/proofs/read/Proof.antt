@@ -4,8 +4,8 @@ use mathlib.Core.List.{List}
 use mathlib.Core.Path.{_≡_, _∙_}
 use native.Mathlib.Omega.{arith}
 use lib.ListN.{length}
-use borrow.Author.Needs.{needs}
 use borrow.Rule.Slice.PartMut.{midOf, mid-len}
+use borrow.Author.Needs.{needs}
 use Rattle.stacksize.proofs.read.Statement.{statement}
 use Rattle.stacksize.proofs.read.Tie as tie
 

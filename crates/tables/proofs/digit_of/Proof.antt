@@ -1,12 +1,11 @@
 -- That `digit_of` of src/lib.rt keeps its contract.
-use Rattle.words.proofs.TruthLaws.{and-left}
-use Rattle.words.proofs.ChoiceLaws.{pick-true, pick-false}
+use mathlib.Core.Path.{_∙_}
 use native.Mathlib.Omega.{arith}
 use lib.Dec.{leb}
 use borrow.Author.Tests.{leb-true}
-use mathlib.Core.Path.{_∙_}
+use Rattle.words.proofs.TruthLaws.{and-left}
+use Rattle.words.proofs.ChoiceLaws.{pick-true, pick-false}
 use Rattle.tables.specs.Number.{digit}
-use borrow.Author.Needs.{needs}
 use Rattle.tables.proofs.digit_of.Statement.{statement}
 use Rattle.tables.proofs.digit_of.Tie as tie
 

@@ -8,16 +8,10 @@ use Rattle.tables.proofs.is_hex.Tie as tie
 returns : tie.Need-returns
 returns c = hex-short _ (c .if1 .taken)
 
-shared-slice-read-result : tie.Need-shared-slice-read-result
-shared-slice-read-result c = search needs
-
-shared-slice-read-result-2 : tie.Need-shared-slice-read-result-2
-shared-slice-read-result-2 c = search needs
-
 returns-2 : tie.Need-returns-2
 unfolding isHex
 returns-2 c = search needs
 
 pub is-hex-spec : {M : Type 1} → statement M
 is-hex-spec =
-    tie.close (tie.spec returns shared-slice-read-result shared-slice-read-result-2 returns-2)
+    tie.close (tie.spec returns (λ c. search needs) (λ c. search needs) returns-2)

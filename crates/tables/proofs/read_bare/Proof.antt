@@ -5,20 +5,11 @@ use borrow.Author.Needs.{needs}
 use Rattle.tables.proofs.read_bare.Statement.{statement}
 use Rattle.tables.proofs.read_bare.Tie as tie
 
-read-values-requires : tie.Need-read-values-requires
-read-values-requires c κs = search needs
-
-table-of-requires : tie.Need-table-of-requires
-table-of-requires c κs = search needs
-
 returns : tie.Need-returns
 unfolding taken
 returns c =
     let v = c .before .before .before .before in
     bare-taken (v .before .before .args .bare .now) (v .read-values .result) _ (v .read-values .ensures) (c .before .before .if1 .taken) (c .table-of .ensures)
-
-refused-at-requires : tie.Need-refused-at-requires
-refused-at-requires c κs = search needs
 
 returns-2 : tie.Need-returns-2
 returns-2 c =
@@ -28,4 +19,4 @@ returns-2 c =
 pub read-bare-spec : {M : Type 1} → statement M
 read-bare-spec =
     tie.close
-    (tie.spec read-values-requires table-of-requires returns refused-at-requires returns-2)
+    (tie.spec (λ c κs. search needs) (λ c κs. search needs) returns (λ c κs. search needs) returns-2)

@@ -1,10 +1,10 @@
 -- That `read_digits` of src/lib.rt keeps its contract.
+use Prim.Native.Nat.{ℕ, _+_, _*_, _≤_, _<_, _-_, _^_}
+use mathlib.Core.Path.{_≡_, refl}
+use native.Mathlib.Omega.{arith}
+use lib.ListN.{length, getD, drop}
 use Rattle.tables.proofs.NumberLaws.{digit-small, times-small, worth-turn, digits-fault, digits-more, digits-done}
 use Rattle.tables.specs.Number.{digit, worthFrom}
-use lib.ListN.{length, getD, drop}
-use native.Mathlib.Omega.{arith}
-use mathlib.Core.Path.{_≡_, refl}
-use Prim.Native.Nat.{ℕ, _≤_, _<_, _-_, _^_}
 use borrow.Author.Needs.{needs}
 use Rattle.tables.proofs.read_digits.Statement.{statement}
 use Rattle.tables.proofs.read_digits.Tie as tie
@@ -18,17 +18,8 @@ abbrev μ-loop : tie.MeasureT-loop
 loop-holds : tie.Need-loop-holds Inv-loop μ-loop
 loop-holds c = (search needs, search needs, refl, λ j l. absurd (search needs))
 
-shared-slice-read-digit-of : tie.Need-shared-slice-read-digit-of Inv-loop μ-loop
-shared-slice-read-digit-of c = search needs
-
-digit-of-requires : tie.Need-digit-of-requires Inv-loop μ-loop
-digit-of-requires c κs = search needs
-
 mul-worth : tie.Need-mul-worth Inv-loop μ-loop
 mul-worth c = omega (arith, times-small _ _ (c .before .before .before .before .before .pre .1) (c .before .before .before .loop .inv .1))
-
-cast-worth : tie.Need-cast-worth Inv-loop μ-loop
-cast-worth c = search needs
 
 add-worth : tie.Need-add-worth Inv-loop μ-loop
 add-worth c =
@@ -41,17 +32,11 @@ returns c =
     let a = l .before .before in
     digits-fault (a .args .base) (l .loop .worth) _ (l .loop .k) (a .args .digits .now) (a .pre .0) (search needs) (c .before .digit-of .ensures) (l .loop .inv .2) (c .if1 .taken)
 
-add-k : tie.Need-add-k Inv-loop μ-loop
-add-k c = search needs
-
-loop-less : tie.Need-loop-less Inv-loop μ-loop
-loop-less c = search needs
-
 loop-again : tie.Need-loop-again Inv-loop μ-loop
 loop-again c =
     let l = c .before .before .before .before in
     let a = l .before .before in
-    let m = digits-more (a .args .base) _ _ (l .loop .k) (a .args .digits .now) (c .before .digit-of .ensures) (c .if1 .left) (l .loop .inv .3) in
+    let m = digits-more (a .args .base) (c .before .digit-of .result) (a .args .base * l .loop .worth + c .before .digit-of .result) (l .loop .k) (a .args .digits .now) (c .before .digit-of .ensures) (c .if1 .left) (l .loop .inv .3) in
     (search needs, m .0, worth-turn (a .args .base) (l .loop .worth) _ (l .loop .k) (a .args .digits .now) _ (search needs) (c .before .digit-of .ensures) (l .loop .inv .2), m .1)
 
 cast-t16 : tie.Need-cast-t16 Inv-loop μ-loop
@@ -70,14 +55,14 @@ read-digits-spec =
     Inv-loop
     μ-loop
     loop-holds
-    shared-slice-read-digit-of
-    digit-of-requires
+    (λ c. search needs)
+    (λ c κs. search needs)
     mul-worth
-    cast-worth
+    (λ c. search needs)
     add-worth
     returns
-    add-k
-    loop-less
+    (λ c. search needs)
+    (λ c. search needs)
     loop-again
     cast-t16
     returns-2)

@@ -1,18 +1,12 @@
 -- That `read_next` of src/lib.rt keeps its contract.
+use Prim.Native.Nat.{_≤_}
+use native.Mathlib.Omega.{arith}
+use lib.ListN.{length}
 use Rattle.tables.proofs.SeekLaws.{end-sought, start-within, end-within, started-at, ended-at}
 use Rattle.tables.proofs.ReadLaws.{next-read}
-use lib.ListN.{length}
-use native.Mathlib.Omega.{arith}
-use Prim.Native.Nat.{_≤_}
 use borrow.Author.Needs.{needs}
 use Rattle.tables.proofs.read_next.Statement.{statement}
 use Rattle.tables.proofs.read_next.Tie as tie
-
-seek-requires : tie.Need-seek-requires
-seek-requires c κs = search needs
-
-seek-requires-2 : tie.Need-seek-requires-2
-seek-requires-2 c κs = search needs
 
 sub-read-word : tie.Need-sub-read-word
 sub-read-word c =
@@ -30,9 +24,6 @@ part-read-word-end c =
     let s : c .before .seek .result ≤ length (a .args .text .now) = omega (arith, start-within (a .args .text .now) (a .args .past) (a .pre), started-at (a .args .text .now) (a .args .past) (c .before .seek .ensures)) in
     omega (arith, end-within (a .args .text .now) (c .before .seek .result) s, ended-at (a .args .text .now) (c .before .seek .result) (c .seek2 .ensures))
 
-read-word-requires : tie.Need-read-word-requires
-read-word-requires c κs = search needs
-
 returns : tie.Need-returns
 returns c =
     let a = c .before .before .before .before .before .args in
@@ -42,10 +33,10 @@ pub read-next-spec : {M : Type 1} → statement M
 read-next-spec =
     tie.close
     (tie.spec
-    seek-requires
-    seek-requires-2
+    (λ c κs. search needs)
+    (λ c κs. search needs)
     sub-read-word
     part-read-word-start
     part-read-word-end
-    read-word-requires
+    (λ c κs. search needs)
     returns)

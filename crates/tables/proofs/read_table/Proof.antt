@@ -1,17 +1,14 @@
 -- That `read_table` of src/lib.rt keeps its contract.
+use Prim.Native.Nat.{ℕ}
+use mathlib.Core.Path.{sym, ap, _∙_}
+use lib.Seq.{length-take-le}
+use lib.ListN.{replicate, length-replicate}
 use Rattle.tables.proofs.ReadLaws.{too-long, not-long}
 use Rattle.tables.proofs.BareLaws.{bare-whole, bare-fits}
 use Rattle.tables.specs.Reading.{readBare}
-use lib.Seq.{length-take-le}
-use lib.ListN.{replicate, length-replicate}
-use mathlib.Core.Path.{sym, ap, _∙_}
-use Prim.Native.Nat.{ℕ}
 use borrow.Author.Needs.{needs}
 use Rattle.tables.proofs.read_table.Statement.{statement}
 use Rattle.tables.proofs.read_table.Tie as tie
-
-refused-at-requires : tie.Need-refused-at-requires
-refused-at-requires c κs = search needs
 
 returns : tie.Need-returns
 returns c = too-long _ _ (c .before .if1 .taken) (c .refused-at .ensures)
@@ -19,17 +16,11 @@ returns c = too-long _ _ (c .before .if1 .taken) (c .refused-at .ensures)
 slice-aggregate-strip : tie.Need-slice-aggregate-strip
 slice-aggregate-strip c = sym (length-replicate {0} {A = ℕ} 65536 0)
 
-strip-requires : tie.Need-strip-requires
-strip-requires c κs = search needs
-
 array-share-prefix-room : tie.Need-array-share-prefix-room
 array-share-prefix-room c = bare-fits _ _ _ (c .before .strip .ensures)
 
 slice-aggregate-read-bare : tie.Need-slice-aggregate-read-bare
 slice-aggregate-read-bare c = sym (length-take-le _ _ (bare-fits _ _ _ (c .before .before .strip .ensures)))
-
-read-bare-requires : tie.Need-read-bare-requires
-read-bare-requires c κs = search needs
 
 returns-2 : tie.Need-returns-2
 returns-2 c =
@@ -41,11 +32,11 @@ pub read-table-spec : {M : Type 1} → statement M
 read-table-spec =
     tie.close
     (tie.spec
-    refused-at-requires
+    (λ c κs. search needs)
     returns
     slice-aggregate-strip
-    strip-requires
+    (λ c κs. search needs)
     array-share-prefix-room
     slice-aggregate-read-bare
-    read-bare-requires
+    (λ c κs. search needs)
     returns-2)

@@ -1,15 +1,15 @@
 -- That `read_values` of src/lib.rt keeps its contract.
+use Prim.Native.Nat.{ℕ, _≤_, _-_}
+use mathlib.Core.Path.{_≡_, refl, sym, ap, _∙_}
+use mathlib.Core.Bool.{true}
+use native.Mathlib.Omega.{arith}
+use borrow.Author.Tests.{not-true, not-false}
 use Rattle.tables.proofs.ReadLaws.{next-is, numbers-more, fault-is, valueOf, values-are}
 use Rattle.tables.proofs.SeekLaws.{past-within, started-at}
 use Rattle.tables.proofs.FillLaws.{room-none, room-more}
 use Rattle.tables.specs.Passes.{room}
 use Rattle.tables.specs.Typed.{pastNth, nthStart}
-use borrow.Author.Tests.{not-true, not-false}
-use native.Mathlib.Omega.{arith}
-use mathlib.Core.Path.{_≡_, refl, sym, ap, _∙_}
-use Prim.Native.Nat.{ℕ, _≤_, _-_}
 use Rattle.tables.specs.Promises.{Numbers}
-use mathlib.Core.Bool.{true}
 use borrow.Author.Needs.{needs}
 use Rattle.tables.proofs.read_values.Statement.{statement}
 use Rattle.tables.proofs.read_values.Tie as tie
@@ -33,18 +33,6 @@ returns c =
     let x = next-is s (l .past) (l .n) _ (l .inv .1) (c .before .before .read-next .ensures) in
     values-are s (l .n) _ (l .values) (fault-is s (l .n) (l .inv .0) (l .inv .3) (λ m. sym (x .taken) ∙ not-true _ (c .if1 .taken))) (x .start) (l .inv .2)
 
-mul-values : tie.Need-mul-values Inv-loop μ-loop
-mul-values c = search needs
-
-array-write-values : tie.Need-array-write-values Inv-loop μ-loop
-array-write-values c = search needs
-
-add-n : tie.Need-add-n Inv-loop μ-loop
-add-n c = search needs
-
-loop-less : tie.Need-loop-less Inv-loop μ-loop
-loop-less c = search needs
-
 loop-again : tie.Need-loop-again Inv-loop μ-loop
 loop-again c =
     let l = c .before .before .before .before .loop in
@@ -52,9 +40,6 @@ loop-again c =
     let x = next-is s (l .past) (l .n) _ (l .inv .1) (c .before .before .read-next .ensures) in
     let t : c .before .before .read-next .result .taken ≡ true = not-false _ (c .if1 .left) in
     (search needs, x .past, room-more 98 (l .n) (valueOf s) (l .values) _ (search needs) (l .inv .2) (x .value t), numbers-more s (l .n) (l .inv .3) (sym (x .taken) ∙ t))
-
-seek-requires : tie.Need-seek-requires Inv-loop μ-loop
-seek-requires c κs = search needs
 
 returns-2 : tie.Need-returns-2 Inv-loop μ-loop
 returns-2 c =
@@ -72,10 +57,10 @@ read-values-spec =
     loop-holds
     read-next-requires
     returns
-    mul-values
-    array-write-values
-    add-n
-    loop-less
+    (λ c. search needs)
+    (λ c. search needs)
+    (λ c. search needs)
+    (λ c. search needs)
     loop-again
-    seek-requires
+    (λ c κs. search needs)
     returns-2)

@@ -1,9 +1,9 @@
 -- That `seek` of src/lib.rt keeps its contract.
-use Rattle.tables.proofs.SeekLaws.{before-more, turned, seek-is, is-turned, not-turned}
-use lib.ListN.{length, getD}
+use Prim.Native.Nat.{ℕ, _≤_, _<_, _-_, max}
 use mathlib.Core.Bool.{false}
 use mathlib.Core.Path.{_≡_}
-use Prim.Native.Nat.{ℕ, _≤_, _<_, _-_, max}
+use lib.ListN.{length, getD}
+use Rattle.tables.proofs.SeekLaws.{before-more, turned, seek-is, is-turned, not-turned}
 use borrow.Author.Needs.{needs}
 use Rattle.tables.proofs.seek.Statement.{statement}
 use Rattle.tables.proofs.seek.Tie as tie
@@ -17,23 +17,11 @@ abbrev μ-loop : tie.MeasureT-loop
 loop-holds : tie.Need-loop-holds Inv-loop μ-loop
 loop-holds c = (search needs, search needs, λ j l m. absurd (search needs))
 
-shared-slice-read-is-white : tie.Need-shared-slice-read-is-white Inv-loop μ-loop
-shared-slice-read-is-white c = search needs
-
-is-white-requires : tie.Need-is-white-requires Inv-loop μ-loop
-is-white-requires c κs = search needs
-
 returns : tie.Need-returns Inv-loop μ-loop
 returns c =
     let l = c .before .before .before .before .loop in
     let a = c .before .before .before .before .before .before .args in
     seek-is (a .wanted) (a .text .now) (a .at) (l .i) (record { from = l .inv .0; within = l .inv .1; before = l .inv .2; found = λ m. is-turned (a .wanted) (c .before .is-white .result) (getD (a .text .now) (l .i) 0) (c .before .is-white .ensures) (c .if1 .taken) })
-
-add-i : tie.Need-add-i Inv-loop μ-loop
-add-i c = search needs
-
-loop-less : tie.Need-loop-less Inv-loop μ-loop
-loop-less c = search needs
 
 loop-again : tie.Need-loop-again Inv-loop μ-loop
 loop-again c =
@@ -54,10 +42,10 @@ seek-spec =
     Inv-loop
     μ-loop
     loop-holds
-    shared-slice-read-is-white
-    is-white-requires
+    (λ c. search needs)
+    (λ c κs. search needs)
     returns
-    add-i
-    loop-less
+    (λ c. search needs)
+    (λ c. search needs)
     loop-again
     returns-2)

@@ -20,29 +20,11 @@ abbrev μ-loop : tie.MeasureT-loop
 loop-holds : tie.Need-loop-holds Inv-loop μ-loop
 loop-holds c = (refl, refl)
 
-shared-slice-read-b : tie.Need-shared-slice-read-b Inv-loop μ-loop
-shared-slice-read-b c = search needs
-
-shown-requires : tie.Need-shown-requires Inv-loop μ-loop
-shown-requires c κs = search needs
-
-put-requires : tie.Need-put-requires Inv-loop μ-loop
-put-requires c κs = search needs
-
-add-k : tie.Need-add-k Inv-loop μ-loop
-add-k c = search needs
-
-loop-less : tie.Need-loop-less Inv-loop μ-loop
-loop-less c = search needs
-
 loop-again : tie.Need-loop-again Inv-loop μ-loop
 loop-again c =
     let p = c .before .before in
     let l = p .before .before .before .before .before in
     (bare-turn (l .before .before .before .args .text .now) (l .loop .k) (l .loop .inside) _ _ _ _ (search needs) (p .before .shown .ensures) (p .put .ensures) (l .loop .inv .0), same-length-of _ _ _ (p .put .ensures) ∙ l .loop .inv .1)
-
-same-length : tie.Need-same-length Inv-loop μ-loop
-same-length c = search needs
 
 returns : tie.Need-returns Inv-loop μ-loop
 returns c = bare-done (c .before .before .before .before .args .text .now) (c .before .loop .k) (c .before .loop .inside) _ _ (search needs) (c .before .loop .inv .0)
@@ -54,11 +36,11 @@ strip-spec =
     Inv-loop
     μ-loop
     loop-holds
-    shared-slice-read-b
-    shown-requires
-    put-requires
-    add-k
-    loop-less
+    (λ c. search needs)
+    (λ c κs. search needs)
+    (λ c κs. search needs)
+    (λ c. search needs)
+    (λ c. search needs)
     loop-again
-    same-length
+    (λ c. search needs)
     returns)
