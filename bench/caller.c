@@ -73,8 +73,14 @@ static void endings(void)
     ends("33 bits", BYTES("\0\xFF\xFF\xFF\xFF\x10\0"), 1, 0, WISTERIA_DAMAGED_NUMBER, 1);
     ends("six bytes worth 0", BYTES("\0\x80\x80\x80\x80\x80\0\0"), 1, 0, WISTERIA_DAMAGED_NUMBER, 1);
     ends("controller 2", BYTES("\2\1\1\1\0"), 1, 0, WISTERIA_ENDED, 5);
-    ends("controller 3", BYTES("\3\1\1\1\0"), 1, 0, WISTERIA_UNKNOWN_KIND, 0);
-    ends("controller 3 in two bytes", BYTES("\x83\0"), 1, 0, WISTERIA_UNKNOWN_KIND, 0);
+    ends("controller 3", BYTES("\3"), 1, 0, WISTERIA_ENDED, 1);
+    ends("controller 3 in two bytes", BYTES("\x83\0"), 1, 0, WISTERIA_ENDED, 2);
+    ends("a read with its privilege", BYTES("\3\1\0\1"), 1, 1, WISTERIA_ENDED, 4);
+    ends("a read without its privilege", BYTES("\3\1\0"), 1, 0, WISTERIA_DAMAGED_NUMBER, 3);
+    ends("a write with its privilege", BYTES("\3\2\0\1\0"), 1, 1, WISTERIA_ENDED, 5);
+    ends("a line, which has no privilege", BYTES("\3\3\0\1"), 1, 1, WISTERIA_ENDED, 4);
+    ends("controller 4", BYTES("\4\1\1\1\0"), 1, 0, WISTERIA_UNKNOWN_KIND, 0);
+    ends("controller 4 in two bytes", BYTES("\x84\0"), 1, 0, WISTERIA_UNKNOWN_KIND, 0);
     ends("controller 131", BYTES("\x83\1"), 1, 0, WISTERIA_UNKNOWN_KIND, 0);
     ends("step 0", BYTES("\0\0\0\0\0\0"), 1, 0, WISTERIA_UNKNOWN_KIND, 3);
     ends("step 3", BYTES("\0\0\0\3\0\0"), 1, 1, WISTERIA_ENDED, 6);

@@ -46,7 +46,8 @@ size_t wisteria_list(const uint8_t *trace, size_t trace_len, uint32_t limit, uin
 /* The number of steps played, refused ones among them: at most `limit`, and 0 where the trace has no accepted configuration. */
 uint32_t wisteria_steps(const uint8_t *trace, size_t trace_len, uint32_t limit);
 
-/* How the trace ended: 0, or the refusal's number, 7 to 11. A step that is refused by 1 to 6 ends nothing, and the listing shows it. */
+/* How the trace ended: 0, or the refusal's number, 7 to 11. A step that is refused by 1 to 6 or 13 ends nothing, and the
+ * listing shows it. */
 uint32_t wisteria_refusal(const uint8_t *trace, size_t trace_len, uint32_t limit);
 
 /* Where it ended, in bytes from the start of the trace: for 8, 9 and 10 the first byte of the number at fault, for 7 that of the next step,

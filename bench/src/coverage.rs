@@ -1,14 +1,16 @@
 //! What the compared traces have reached, counted from the model's own run; a listed item not reached is a gap.
 
 mod aic;
+mod aintc;
 mod cic;
 mod core;
 
 use std::collections::HashMap;
 
 use crate::model::aic::Register as AicRegister;
+use crate::model::aintc::{Aintc, Register as AintcRegister, Side as Request};
 use crate::model::core::{Register as CoreRegister, Side};
-use crate::model::{Answer, Kind, Machine, Refusal, Step};
+use crate::model::{Answer, Kind, Machine, Recorded, Refusal, Step};
 use crate::trace::{shortest, Defect, Field, Observer, Report};
 use crate::trace::{LONGEST, NUMBER_BYTES, PROGRAM_LIMIT};
 
@@ -21,6 +23,16 @@ pub enum Item {
     Core(CoreRegister, Size, Outcome),
     /// A register of the CIC, named by its group and its place in the group, answered so.
     Cic(&'static str, Spot, Outcome),
+    /// A register of the AINTC, read or written by a privilege, under protection or not, answered so.
+    Aintc(AintcRegister, Way, By, bool, Outcome),
+    /// The ILR of an input was read or written.
+    Ilr(u8, Way),
+    /// An input of the AINTC was chosen for a request.
+    Chosen(Request, u8),
+    /// For a request of the AINTC a pending input of a priority met a threshold, given first.
+    Judged(Request, u8, u8),
+    /// A situation of a request of the AINTC in plain words.
+    Side(Request, &'static str),
     /// A step of a controller was refused, whatever it was aimed at.
     Refused(Kind, Way, Refusal),
     /// A controller was started, and then played so many steps (none, or some).
@@ -73,6 +85,24 @@ pub enum Way {
     Read,
     Write,
     Line,
+}
+
+/// Who made an access, by its privilege number.
+#[derive(Clone, Copy, Debug, PartialEq, Eq, PartialOrd, Ord, Hash)]
+pub enum By {
+    Unprivileged,
+    Privileged,
+    TooLarge,
+}
+
+impl By {
+    fn of(privilege: u32) -> By {
+        match privilege {
+            0 => By::Unprivileged,
+            1 => By::Privileged,
+            _ => By::TooLarge,
+        }
+    }
 }
 
 /// Nothing, or something.
@@ -131,8 +161,9 @@ pub struct Coverage {
     steps: u64,
     /// The forms of the numbers read since the start or the last step.
     forms: Vec<Item>,
-    /// The AIC before the present step; of a CIC only what its rules need.
+    /// The AIC or the AINTC before the present step; of a CIC only what its rules need.
     aic_before: Option<aic::Before>,
+    aintc_before: Option<Aintc>,
     cic_before: Option<cic::Before>,
 }
 
@@ -140,6 +171,12 @@ impl Coverage {
     /// How many steps were played in all.
     pub fn steps(&self) -> u64 {
         self.steps
+    }
+
+    /// How many traces started a controller of a kind.
+    pub fn started(&self, kind: Kind) -> u64 {
+        let of = |size| self.count(Item::Started(kind, size));
+        of(Size::None) + of(Size::Some)
     }
 
     /// How often an item was reached.
@@ -214,22 +251,24 @@ impl Observer for Coverage {
     fn started(&mut self, machine: &Machine) {
         self.reach_forms();
         match machine {
-            Machine::Aic(_) => {}
+            Machine::Aic(_) | Machine::Aintc(_) => {}
             Machine::Core(core) => self.core_started(core),
             Machine::Cic(cic) => self.cic_started(cic),
         }
     }
 
-    fn before(&mut self, machine: &Machine, step: Step) {
+    fn before(&mut self, machine: &Machine, recorded: Recorded) {
         self.reach_forms();
         match machine {
             Machine::Aic(aic) => self.aic_before = Some(aic::Before::new(aic)),
             Machine::Core(_) => {}
-            Machine::Cic(cic) => self.cic_before = Some(cic::Before::new(cic, step)),
+            Machine::Cic(cic) => self.cic_before = Some(cic::Before::new(cic, recorded.step)),
+            Machine::Aintc(aintc) => self.aintc_before = Some(Aintc::clone(aintc)),
         }
     }
 
-    fn after(&mut self, machine: &Machine, _number: u32, step: Step, answer: Answer) {
+    fn after(&mut self, machine: &Machine, _number: u32, recorded: Recorded, answer: Answer) {
+        let step = recorded.step;
         self.steps += 1;
         self.misaligned(step, answer);
         if let Err(refusal) = answer {
@@ -239,6 +278,7 @@ impl Observer for Coverage {
             Machine::Aic(aic) => self.aic_step(aic, step, answer),
             Machine::Core(core) => self.core_step(core, step, answer),
             Machine::Cic(cic) => self.cic_step(cic, step, answer),
+            Machine::Aintc(aintc) => self.aintc_step(aintc, recorded, answer),
         }
     }
 
@@ -280,6 +320,7 @@ pub fn wanted() -> Vec<Item> {
     items.extend(aic::wanted());
     items.extend(core::wanted());
     items.extend(cic::wanted());
+    items.extend(aintc::wanted());
     items
 }
 
@@ -327,6 +368,7 @@ fn fields() -> Vec<Field> {
         Field::Kind,
         Field::StepKind,
         Field::Offset,
+        Field::Privilege,
         Field::Value,
         Field::Line,
         Field::Level,

@@ -1,6 +1,6 @@
 //! The listing once more, with its digits made by hand: for the clock only, where standard formatting weighs most.
 
-use crate::model::{Answer, Machine, Step};
+use crate::model::{Answer, Machine, Recorded, Step};
 use crate::trace::{Observer, Report};
 
 /// The text of a listing as far as it has come.
@@ -16,8 +16,8 @@ impl Observer for Digits {
         self.bytes.push(b'\n');
     }
 
-    fn after(&mut self, machine: &Machine, number: u32, step: Step, answer: Answer) {
-        let (letter, value) = match (answer, step) {
+    fn after(&mut self, machine: &Machine, number: u32, recorded: Recorded, answer: Answer) {
+        let (letter, value) = match (answer, recorded.step) {
             (Err(refusal), _) => (b'X', refusal.number()),
             (Ok(value), Step::Read { .. }) => (b'R', value),
             (Ok(value), Step::Write { .. }) => (b'W', value),

@@ -1,13 +1,14 @@
 //! Traces made from a seed: sweeps that visit everything once, then tours, damaged ones, noise and long ones.
 
 mod aic;
+mod aintc;
 mod cic;
 mod core;
 mod damage;
 mod long;
 mod sweeps;
 
-use crate::model::Kind;
+use crate::model::{Kind, PRIVILEGED};
 use crate::random::Random;
 use crate::trace::{decode, encode, NUMBER_BYTES, PROGRAM_LIMIT};
 
@@ -107,6 +108,15 @@ fn random_case(random: &mut Random) -> Case {
     }
 }
 
+/// How often each kind is toured. Of all that is made the AINTC's share has to be a fifth or more, so that it is in
+/// 20,000 of 100,000 traces; a test counts it.
+const KINDS: [(u32, Kind); 4] = [
+    (5, Kind::Aic),
+    (2, Kind::Core),
+    (3, Kind::Cic),
+    (4, Kind::Aintc),
+];
+
 /// A sound trace of any kind.
 fn tour(random: &mut Random) -> Script {
     let steps = match random.below(20) {
@@ -115,10 +125,17 @@ fn tour(random: &mut Random) -> Script {
         10..=17 => random.within(20, 80),
         _ => random.within(80, 300),
     };
-    match random.weighted(&[(5, Kind::Aic), (2, Kind::Core), (3, Kind::Cic)]) {
+    let kind = random.weighted(&KINDS);
+    tour_of(random, kind, steps)
+}
+
+/// A sound trace of a kind, of about so many steps.
+fn tour_of(random: &mut Random, kind: Kind, steps: u32) -> Script {
+    match kind {
         Kind::Aic => aic::tour(random, steps),
         Kind::Core => core::tour(random, steps),
         Kind::Cic => cic::tour(random, steps),
+        Kind::Aintc => aintc::tour(random, steps),
     }
 }
 
@@ -141,17 +158,25 @@ fn width(random: &mut Random) -> usize {
     }
 }
 
+/// The number that names the AINTC in a trace (02, 2/12).
+const AINTC: u32 = 3;
+
 /// A trace as it is written down, with the places where its numbers begin.
 #[derive(Clone, Debug, Default)]
 pub struct Script {
     pub bytes: Vec<u8>,
     pub numbers: Vec<usize>,
+    /// Whether a privilege number is written behind each offset.
+    tells_privilege: bool,
 }
 
 impl Script {
     /// A trace that begins with a kind and its configuration numbers.
     pub fn new(kind: u32, configuration: &[u32]) -> Script {
-        let mut script = Script::default();
+        let mut script = Script {
+            tells_privilege: kind == AINTC,
+            ..Script::default()
+        };
         script.number(kind);
         for &number in configuration {
             script.number(number);
@@ -172,7 +197,10 @@ impl Script {
 
     /// The same numbers, each in as many bytes as is said for it, or in as many as it needs.
     fn rewritten(&self, mut width: impl FnMut() -> usize) -> Script {
-        let mut script = Script::default();
+        let mut script = Script {
+            tells_privilege: self.tells_privilege,
+            ..Script::default()
+        };
         for nth in 0..self.numbers.len() {
             script.number_in(self.value(nth), width());
         }
@@ -185,15 +213,32 @@ impl Script {
         number.expect("a script writes good numbers").0
     }
 
+    /// A read, privileged where the trace says it.
     pub fn read(&mut self, offset: u32) {
-        self.number(1);
-        self.number(offset);
+        self.read_by(PRIVILEGED, offset);
     }
 
+    /// A write, privileged where the trace says it.
     pub fn write(&mut self, offset: u32, value: u32) {
+        self.write_by(PRIVILEGED, offset, value);
+    }
+
+    fn read_by(&mut self, privilege: u32, offset: u32) {
+        self.number(1);
+        self.offset(offset, privilege);
+    }
+
+    fn write_by(&mut self, privilege: u32, offset: u32, value: u32) {
         self.number(2);
-        self.number(offset);
+        self.offset(offset, privilege);
         self.number(value);
+    }
+
+    fn offset(&mut self, offset: u32, privilege: u32) {
+        self.number(offset);
+        if self.tells_privilege {
+            self.number(privilege);
+        }
     }
 
     pub fn line(&mut self, line: u32, level: u32) {
@@ -203,15 +248,20 @@ impl Script {
     }
 }
 
-/// An access that is likely to be refused: a misaligned offset, one just beside the map, or any offset at all.
-fn odd_access(random: &mut Random, script: &mut Script, end_of_map: u32) {
-    let offset = match random.below(6) {
+/// An offset that is likely to be refused: a misaligned one, one just beside the map, or any at all.
+fn odd_offset(random: &mut Random, end_of_map: u32) -> u32 {
+    match random.below(6) {
         0 | 1 => random.below(end_of_map),
         2 => random.below(end_of_map + 64) / 4 * 4,
         3 => end_of_map + 4 * random.below(4),
         4 => 0xFFFF_F000 | (4 * random.below(end_of_map / 4)),
         _ => random.word(),
-    };
+    }
+}
+
+/// A read or a write of such an offset.
+fn odd_access(random: &mut Random, script: &mut Script, end_of_map: u32) {
+    let offset = odd_offset(random, end_of_map);
     if random.one_in(2) {
         script.read(offset);
     } else {
@@ -238,6 +288,7 @@ fn bad_line(random: &mut Random, script: &mut Script, lines: u32) {
 mod tests {
     use super::*;
     use crate::listing::listing;
+    use crate::trace::play;
 
     #[test]
     fn a_case_depends_on_seed_and_number_alone() {
@@ -249,6 +300,23 @@ mod tests {
         assert_eq!(one.case(3).trace, other.case(3).trace);
         let differ = (first..first + 20).filter(|&n| one.case(n).trace != other.case(n).trace);
         assert!(differ.count() > 15);
+    }
+
+    #[test]
+    fn every_kind_has_its_share() {
+        let generator = Generator::new(1);
+        let (mut started, cases) = ([0; 4], 10_000);
+        for number in 0..cases {
+            let trace = generator.case(number).trace;
+            if let Some(machine) = play(&trace, 0, &mut ()).machine {
+                started[machine.kind() as usize] += 1;
+            }
+        }
+        assert!(started[Kind::Aintc as usize] >= cases / 5, "{started:?}");
+        assert!(
+            started.iter().all(|&share| share >= cases / 10),
+            "{started:?}"
+        );
     }
 
     #[test]

@@ -1,4 +1,4 @@
-//! An independent model of document 01 in plain Rust, and what compares the proved program with it.
+//! An independent model of documents 01 and 02 in plain Rust, and what compares the proved program with it.
 
 pub mod batch;
 pub mod compare;

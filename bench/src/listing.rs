@@ -2,7 +2,7 @@
 
 use std::io::Write;
 
-use crate::model::{Answer, Machine, Step};
+use crate::model::{Answer, Machine, Recorded, Step};
 use crate::trace::{play, Observer, Report};
 
 /// The listing of a trace that is played up to a number of steps.
@@ -23,9 +23,9 @@ impl Observer for Text {
         self.line(format_args!("{}", machine.kind().name()));
     }
 
-    fn after(&mut self, machine: &Machine, number: u32, step: Step, answer: Answer) {
+    fn after(&mut self, machine: &Machine, number: u32, recorded: Recorded, answer: Answer) {
         let (letter, value) = match answer {
-            Ok(value) => (letter(step), value),
+            Ok(value) => (letter(recorded.step), value),
             Err(refusal) => ('X', refusal.number()),
         };
         let [first, second, third] = machine.shown();
@@ -95,7 +95,9 @@ mod tests {
         assert_eq!(text(&[2, 1, 1, 1, 0], 9), "CIC\n");
         assert_eq!(text(&[2, 1, 1, 1, 0, 0], 9), "CIC\nE 9 5\n");
         assert_eq!(text(&[2, 1, 1, 1, 0x80], 9), "E 8 4\n");
-        assert_eq!(text(&[3], 9), "E 9 0\n");
+        assert_eq!(text(&[3], 9), "AINTC\n");
+        assert_eq!(text(&[3, 1, 0], 9), "AINTC\nE 8 3\n");
+        assert_eq!(text(&[4], 9), "E 9 0\n");
     }
 
     #[test]

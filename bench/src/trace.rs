@@ -1,9 +1,10 @@
-//! The house trace: numbers, configurations and steps read from bytes, and their player (01, house trace).
+//! The house trace: numbers, configurations and steps read from bytes, and their player (01, house trace; 02, 1/12
+//! and 2/12).
 
 use crate::model::aic::Aic;
 use crate::model::cic::Cic;
 use crate::model::core::CoreInterrupt;
-use crate::model::{Answer, Kind, Machine, Refusal, Step};
+use crate::model::{Answer, Kind, Machine, Recorded, Refusal, Step, PRIVILEGED};
 
 /// The longest trace that is played (01, refusal 11).
 pub const LONGEST: usize = 65_536;
@@ -19,6 +20,7 @@ pub enum Field {
     Configuration(Kind, u8),
     StepKind,
     Offset,
+    Privilege,
     Value,
     Line,
     Level,
@@ -119,6 +121,7 @@ impl<'a, O: Observer> Reader<'a, O> {
             0 => self.aic(),
             1 => self.core(),
             2 => self.cic(),
+            3 => Ok(Machine::Aintc(Box::default())),
             _ => Err(unknown),
         }
     }
@@ -150,23 +153,39 @@ impl<'a, O: Observer> Reader<'a, O> {
         Ok(Machine::Cic(Box::new(cic)))
     }
 
-    /// The next step; an unknown step kind is refused before anything after it is read.
-    fn step(&mut self) -> Result<Step, Fault> {
+    /// The next step of a controller; an unknown step kind is refused before anything after it is read.
+    fn step(&mut self, kind: Kind) -> Result<Recorded, Fault> {
         let unknown = self.fault(Refusal::UnknownKind, Field::StepKind);
-        Ok(match self.number(Field::StepKind)? {
-            1 => Step::Read {
-                offset: self.number(Field::Offset)?,
-            },
-            2 => Step::Write {
-                offset: self.number(Field::Offset)?,
-                value: self.number(Field::Value)?,
-            },
-            3 => Step::Line {
-                line: self.number(Field::Line)?,
-                level: self.number(Field::Level)?,
-            },
-            _ => return Err(unknown),
-        })
+        match self.number(Field::StepKind)? {
+            1 => {
+                let (offset, privilege) = self.offset(kind)?;
+                let step = Step::Read { offset };
+                Ok(Recorded { step, privilege })
+            }
+            2 => {
+                let (offset, privilege) = self.offset(kind)?;
+                let value = self.number(Field::Value)?;
+                let step = Step::Write { offset, value };
+                Ok(Recorded { step, privilege })
+            }
+            3 => {
+                let line = self.number(Field::Line)?;
+                let level = self.number(Field::Level)?;
+                let (step, privilege) = (Step::Line { line, level }, PRIVILEGED);
+                Ok(Recorded { step, privilege })
+            }
+            _ => Err(unknown),
+        }
+    }
+
+    /// An offset, and behind it the privilege number where the kind of controller has one (02, 2/12).
+    fn offset(&mut self, kind: Kind) -> Result<(u32, u32), Fault> {
+        let offset = self.number(Field::Offset)?;
+        let privilege = match kind.tells_privilege() {
+            true => self.number(Field::Privilege)?,
+            false => PRIVILEGED,
+        };
+        Ok((offset, privilege))
     }
 }
 
@@ -175,10 +194,10 @@ pub fn pieces(trace: &[u8]) -> Vec<&[u8]> {
     let watcher = &mut ();
     let mut reader = Reader::new(trace, watcher);
     let mut pieces = Vec::new();
-    if reader.machine().is_ok() {
+    if let Ok(machine) = reader.machine() {
         pieces.push(&trace[..reader.at]);
         let mut begin = reader.at;
-        while !reader.at_end() && reader.step().is_ok() {
+        while !reader.at_end() && reader.step(machine.kind()).is_ok() {
             pieces.push(&trace[begin..reader.at]);
             begin = reader.at;
         }
@@ -247,10 +266,10 @@ pub trait Observer {
     fn started(&mut self, _machine: &Machine) {}
 
     /// A step was read and is about to be carried out.
-    fn before(&mut self, _machine: &Machine, _step: Step) {}
+    fn before(&mut self, _machine: &Machine, _recorded: Recorded) {}
 
     /// A step, counted from 1, was carried out or refused.
-    fn after(&mut self, _machine: &Machine, _number: u32, _step: Step, _answer: Answer) {}
+    fn after(&mut self, _machine: &Machine, _number: u32, _recorded: Recorded, _answer: Answer) {}
 
     /// The trace is over.
     fn ended(&mut self, _report: &Report) {}
@@ -271,14 +290,14 @@ impl<A: Observer, B: Observer> Observer for (&mut A, &mut B) {
         self.1.started(machine);
     }
 
-    fn before(&mut self, machine: &Machine, step: Step) {
-        self.0.before(machine, step);
-        self.1.before(machine, step);
+    fn before(&mut self, machine: &Machine, recorded: Recorded) {
+        self.0.before(machine, recorded);
+        self.1.before(machine, recorded);
     }
 
-    fn after(&mut self, machine: &Machine, number: u32, step: Step, answer: Answer) {
-        self.0.after(machine, number, step, answer);
-        self.1.after(machine, number, step, answer);
+    fn after(&mut self, machine: &Machine, number: u32, recorded: Recorded, answer: Answer) {
+        self.0.after(machine, number, recorded, answer);
+        self.1.after(machine, number, recorded, answer);
     }
 
     fn ended(&mut self, report: &Report) {
@@ -325,12 +344,12 @@ fn play_into(
         if report.steps == limit {
             return Err(stopped(Refusal::StepLimit, reader.at));
         }
-        let step = reader.step()?;
-        reader.observer.before(machine, step);
-        let answer = machine.step(step);
+        let recorded = reader.step(machine.kind())?;
+        reader.observer.before(machine, recorded);
+        let answer = machine.step(recorded);
         report.steps += 1;
         let number = report.steps;
-        reader.observer.after(machine, number, step, answer);
+        reader.observer.after(machine, number, recorded, answer);
     }
     Ok(())
 }
@@ -407,6 +426,9 @@ mod tests {
         let trace = [0, 0, 0, 1, 4, 2, 4, 7, 3, 9, 1, 0x81];
         let parts: [&[u8]; 5] = [&[0, 0, 0], &[1, 4], &[2, 4, 7], &[3, 9, 1], &[0x81]];
         assert_eq!(pieces(&trace), parts);
+        let trace = [3, 1, 4, 0, 2, 4, 0x82, 0, 7, 3, 9, 1, 1, 4];
+        let parts: [&[u8]; 5] = [&[3], &[1, 4, 0], &[2, 4, 0x82, 0, 7], &[3, 9, 1], &[1, 4]];
+        assert_eq!(pieces(&trace), parts);
         assert_eq!(pieces(&[9, 9]), [&[9, 9]]);
         assert_eq!(pieces(&[0, 0, 0, 3, 9]).concat(), [0, 0, 0, 3, 9]);
     }
@@ -441,9 +463,10 @@ mod tests {
 
     #[test]
     fn at_one_number_8_comes_before_9_and_10() {
-        let kinds: [(&[u8], u8, (u32, usize)); 3] = [
-            (&[], 0x03, (9, 0)),
+        let kinds: [(&[u8], u8, (u32, usize)); 4] = [
+            (&[], 0x04, (9, 0)),
             (&[0x00, 0x00, 0x00], 0x04, (9, 3)),
+            (&[0x03], 0x04, (9, 1)),
             (&[0x01], 0x09, (10, 1)),
         ];
         for (before, value, judged) in kinds {
@@ -482,6 +505,30 @@ mod tests {
         assert_eq!(ending(&trace[..7], 9), (8, 7));
         assert_eq!(ending(&trace[..6], 9), (8, 6));
         assert_eq!(ending(&trace[..5], 9), (0, 5));
+    }
+
+    #[test]
+    fn a_privilege_number_has_its_place() {
+        let trace = [
+            0x03, 0x01, 0x00, 0x01, 0x02, 0x00, 0x00, 0x05, 0x03, 0x7F, 0x01,
+        ];
+        let ends = [
+            (0, 1),
+            (8, 2),
+            (8, 3),
+            (0, 4),
+            (8, 5),
+            (8, 6),
+            (8, 7),
+            (0, 8),
+            (8, 9),
+            (8, 10),
+            (0, 11),
+        ];
+        for (length, end) in (1..).zip(ends) {
+            assert_eq!(ending(&trace[..length], 9), end, "{length} bytes");
+        }
+        assert_eq!(play(&trace, 9, &mut ()).steps, 3);
     }
 
     #[test]

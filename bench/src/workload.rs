@@ -19,7 +19,7 @@ struct Plan {
     step: fn(&mut Random, &mut Script, u32),
 }
 
-const PLANS: [Plan; 6] = [
+const PLANS: [Plan; 8] = [
     Plan {
         controller: "AIC",
         size: "1 source",
@@ -55,6 +55,18 @@ const PLANS: [Plan; 6] = [
         size: "1,024 systems, 256 channels, 256 hosts",
         opening: || cic(1_024, 256, 256),
         step: |random, script, at| cic_step(random, script, at, 1_024),
+    },
+    Plan {
+        controller: "AINTC",
+        size: "4 inputs",
+        opening: || aintc(4),
+        step: |random, script, at| aintc_step(random, script, at, 4),
+    },
+    Plan {
+        controller: "AINTC",
+        size: "128 inputs",
+        opening: || aintc(128),
+        step: |random, script, at| aintc_step(random, script, at, 128),
     },
 ];
 
@@ -157,17 +169,47 @@ fn cic_step(random: &mut Random, script: &mut Script, at: u32, systems: u32) {
     }
 }
 
+/// Inputs of eight priorities, those of odd number routed to FIQ, unmasked; every other line is high, so that steps
+/// cost the same from the first to the last.
+fn aintc(inputs: u32) -> (Script, u32) {
+    let mut script = Script::new(3, &[]);
+    let banks = inputs.div_ceil(32);
+    for input in 0..inputs {
+        script.write(0x100 + 4 * input, (input / 2 % 8) << 2 | (input % 2));
+    }
+    for input in (0..inputs).filter(|input| input / 2 % 2 == 0) {
+        script.line(input, 1);
+    }
+    for bank in 0..banks {
+        script.write(0x88 + 0x20 * bank, u32::MAX);
+    }
+    (script, inputs + inputs / 2 + banks)
+}
+
+/// Lines move, both sides are asked for their numbers and agreed to, and priorities and what is pending are read. Few
+/// steps are longer than three bytes, so that 20,000 fit.
+fn aintc_step(random: &mut Random, script: &mut Script, at: u32, inputs: u32) {
+    match at % 10 {
+        0 | 2 | 4 | 6 | 8 => script.line(random.below(inputs), random.below(2)),
+        1 => script.read(0x40),
+        3 => script.read(0x44),
+        5 => script.read(0x60),
+        7 => script.write(0x48, 3),
+        _ => script.read(0x98),
+    }
+}
+
 #[cfg(test)]
 mod tests {
     use super::*;
-    use crate::model::{Answer, Machine, Step};
+    use crate::model::{Answer, Machine, Recorded};
     use crate::trace::{play, Observer, LONGEST, PROGRAM_LIMIT};
 
     struct NoneRefused;
 
     impl Observer for NoneRefused {
-        fn after(&mut self, _: &Machine, number: u32, step: Step, answer: Answer) {
-            assert!(answer.is_ok(), "step {number}, {step:?}: {answer:?}");
+        fn after(&mut self, _: &Machine, number: u32, recorded: Recorded, answer: Answer) {
+            assert!(answer.is_ok(), "step {number}, {recorded:?}: {answer:?}");
         }
     }
 

@@ -22,7 +22,15 @@ fn every_situation_that_is_counted_is_listed() {
     for item in summary.coverage.reached() {
         if matches!(
             item,
-            Item::Fact(_) | Item::Aic(..) | Item::Core(..) | Item::Cic(..)
+            Item::Fact(_)
+                | Item::Aic(..)
+                | Item::Core(..)
+                | Item::Cic(..)
+                | Item::Aintc(..)
+                | Item::Ilr(..)
+                | Item::Chosen(..)
+                | Item::Judged(..)
+                | Item::Side(..)
         ) {
             assert!(listed.contains(&item), "{item:?} is counted and not listed");
         }

@@ -5,7 +5,11 @@ use std::process::Command;
 use bench::batch::Batch;
 use bench::compare::{compare, expected, Outcome, Summary, MOST_FAILURES};
 use bench::generate::{Case, Generator};
+use bench::model::Kind;
 use bench::program::Program;
+
+/// How many traces .ci/checks/differential sends through the program.
+const THROUGH_THE_PROGRAM: usize = 600;
 
 /// Some sweeps and some random cases.
 fn compare_some(other: impl FnMut(&Case) -> Outcome) -> Summary {
@@ -104,6 +108,17 @@ fn a_batch_is_fed_and_heard() {
     assert_eq!(summary.differ, summary.compared);
 }
 
+#[test]
+fn generated_traces_of_every_kind_go_through_the_program() {
+    let generator = Generator::new(1);
+    let numbers = generator.sweeps()..THROUGH_THE_PROGRAM;
+    let cases = numbers.map(|number| (number, generator.case(number)));
+    let coverage = compare(cases, |case| Ok(expected(case))).coverage;
+    for kind in Kind::ALL {
+        assert!(coverage.started(kind) >= 5, "{}", kind.name());
+    }
+}
+
 /// The exit status of the differential test run against a program.
 fn status(program: &str, count: &str) -> Option<i32> {
     let run = Command::new(env!("CARGO_BIN_EXE_differential"))
@@ -115,8 +130,9 @@ fn status(program: &str, count: &str) -> Option<i32> {
 #[test]
 fn the_exit_status_tells() {
     let reference = env!("CARGO_BIN_EXE_reference");
-    assert_eq!(status(reference, "400"), Some(0));
+    let count = &THROUGH_THE_PROGRAM.to_string();
+    assert_eq!(status(reference, count), Some(0));
     assert_eq!(status(reference, "3"), Some(1), "a gap in coverage");
-    assert_eq!(status(env!("CARGO_BIN_EXE_assemble"), "400"), Some(1));
+    assert_eq!(status(env!("CARGO_BIN_EXE_assemble"), count), Some(1));
     assert_eq!(status(reference, "many"), Some(2));
 }

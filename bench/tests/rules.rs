@@ -1,4 +1,5 @@
-//! The model against the worked cases of document 01, and against the points that can be read in two ways.
+//! The model against the worked cases of document 01, and against the points that can be read in two ways; the AINTC's
+//! rules are in aintc.rs.
 
 use bench::listing::listing;
 use bench::model::aic::Aic;
@@ -704,7 +705,8 @@ mod number_rules {
 
     #[test]
     fn kinds_and_limits_are_judged_by_the_value() {
-        assert_eq!(listed(&[&[0x83, 0x00]]), "E 9 0\n");
+        assert_eq!(listed(&[&[0x83, 0x00]]), "AINTC\n");
+        assert_eq!(listed(&[&[0x84, 0x00]]), "E 9 0\n");
         assert_eq!(listed(&[&[0x01, 0x89, 0x00, 0x21, 0x01]]), "E 10 1\n");
         let line = "AIC\n1 L 00000000 0 0 0\n";
         assert_eq!(listed(&[AIC, &[0x83, 0x00, 0x05, 0x01]]), line);

@@ -11,6 +11,7 @@ use bench::compare::{
 use bench::coverage::Coverage;
 use bench::generate::{Case, Generator};
 use bench::hex;
+use bench::model::Kind;
 use bench::program::Program;
 use bench::trace::PROGRAM_LIMIT;
 
@@ -25,7 +26,7 @@ differential --trace N [--seed N]
   --exports       in this process, if it is built with the feature `exports`; step limits and room vary too
   --trace N       writes the trace of case N to standard output
   --seed N        other traces for another seed (1)
-  --count N       how many (500 for --program, else 100000)
+  --count N       how many (600 for --program, else 100000)
   --first N       the number of the first one (0); coverage is judged only from 0 on
   --table         prints how often each listed item was reached
   -- ARGUMENTS    what the program is called with
@@ -66,7 +67,7 @@ impl Way {
 
     fn usual_count(self) -> usize {
         match self {
-            Way::Program => 500,
+            Way::Program => 600,
             Way::Batch | Way::Exports => 100_000,
         }
     }
@@ -200,6 +201,7 @@ fn differential(generator: &Generator, way: Way, options: &Options) -> ExitCode 
         summary.coverage.steps(),
         summary.listing_bytes,
     );
+    say!("started: {}", started(&summary));
     if summary.failed == MOST_FAILURES {
         say!("stopped after {MOST_FAILURES} failures");
     }
@@ -211,6 +213,12 @@ fn differential(generator: &Generator, way: Way, options: &Options) -> ExitCode 
     } else {
         ExitCode::SUCCESS
     }
+}
+
+/// How many traces started a controller of each kind.
+fn started(summary: &Summary) -> String {
+    let share = |kind: Kind| format!("{} {}", kind.name(), summary.coverage.started(kind));
+    Kind::ALL.map(share).join(", ")
 }
 
 /// The first case that differs, and a smaller one if there is one.

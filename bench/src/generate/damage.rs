@@ -19,11 +19,12 @@ pub fn damaged(random: &mut Random, mut script: Script) -> Vec<u8> {
 
 /// Any bytes, of which the first few often look like the beginning of a trace.
 pub fn noise(random: &mut Random) -> Vec<u8> {
-    let mut bytes = match random.below(4) {
+    let mut bytes = match random.below(5) {
         0 => vec![],
         1 => vec![0, 0, 0],
         2 => vec![1, 8, 32, 0, 1],
-        _ => vec![2, 33, 4, 4, 0],
+        3 => vec![2, 33, 4, 4, 0],
+        _ => vec![3],
     };
     let most = random.pick(&[0x100, 0x80, 0x08, 0x04]);
     for _ in 0..random.below(60) {
@@ -32,8 +33,10 @@ pub fn noise(random: &mut Random) -> Vec<u8> {
     bytes
 }
 
-/// Numbers at and just beyond the limits of kinds and configurations.
-const NEAR_LIMITS: [u32; 13] = [0, 1, 2, 3, 8, 9, 32, 33, 255, 256, 257, 1_024, 1_025];
+/// Numbers at and just beyond the limits of kinds, configurations, privileges and lines.
+const NEAR_LIMITS: [u32; 16] = [
+    0, 1, 2, 3, 4, 8, 9, 32, 33, 127, 128, 255, 256, 257, 1_024, 1_025,
+];
 
 fn spoil_a_number(random: &mut Random, script: &mut Script) {
     let place = random.below(script.numbers.len() as u32) as usize;

@@ -1,6 +1,6 @@
 //! Long traces: at the step limit, just over it, and at the longest length that is played, of every kind.
 
-use super::{aic, cic, core, in_any_form, Script};
+use super::{aintc, in_any_form, tour_of, Script};
 use crate::model::Kind;
 use crate::random::Random;
 use crate::trace::{play, LONGEST, NUMBER_BYTES, PROGRAM_LIMIT};
@@ -30,16 +30,16 @@ pub fn long(random: &mut Random) -> Vec<u8> {
     }
 }
 
-/// Some steps of a tour, so that the rest has something to work on.
+/// Some steps of a tour, so that the rest has something to work on; few enough that 20,000 steps fit in all.
 fn opening(random: &mut Random, kind: Kind) -> Script {
-    match kind {
-        Kind::Aic => aic::tour(random, 200),
-        Kind::Core => core::tour(random, 200),
-        Kind::Cic => cic::tour(random, 200),
-    }
+    let steps = match kind {
+        Kind::Aintc => 60,
+        _ => 200,
+    };
+    tour_of(random, kind, steps)
 }
 
-/// Fills up to a number of steps with steps of two or three bytes; those that are there are counted by playing them.
+/// Fills up to a number of steps with steps of two to four bytes; those that are there are counted by playing them.
 pub fn of_steps(random: &mut Random, mut script: Script, steps: u32) -> Vec<u8> {
     let there = play(&script.bytes, steps, &mut ()).steps;
     for _ in there..steps {
@@ -50,7 +50,7 @@ pub fn of_steps(random: &mut Random, mut script: Script, steps: u32) -> Vec<u8> 
 
 /// Fills up to a length with short steps, so that the step limit comes first.
 pub fn of_length(random: &mut Random, mut script: Script, length: usize) -> Vec<u8> {
-    while script.bytes.len() + 4 < length {
+    while script.bytes.len() + 8 < length {
         short_step(random, &mut script);
     }
     finish(script, length)
@@ -74,26 +74,34 @@ pub fn wide(random: &mut Random, kind: Kind) -> Vec<u8> {
 /// The longest trace with every number in five bytes, but for the last few.
 pub fn padded(random: &mut Random, kind: Kind) -> Vec<u8> {
     let mut script = opening(random, kind);
-    while NUMBER_BYTES * script.numbers.len() + 20 < LONGEST {
+    while NUMBER_BYTES * script.numbers.len() + 30 < LONGEST {
         short_step(random, &mut script);
     }
     finish(script.rewritten(|| NUMBER_BYTES), LONGEST)
 }
 
-/// Ends on the length exactly, by reads of two or three bytes.
+/// Ends on the length exactly, by reads of two or three bytes, and of up to five where they tell a privilege.
 fn finish(mut script: Script, length: usize) -> Vec<u8> {
-    while script.bytes.len() + 3 < length {
+    let least = match script.tells_privilege {
+        true => 3,
+        false => 2,
+    };
+    while script.bytes.len() + 2 * least <= length {
         script.read(0);
     }
-    if script.bytes.len() + 3 == length {
-        script.read(0x80);
-    } else if script.bytes.len() + 2 == length {
-        script.read(0);
+    match length - script.bytes.len() - least {
+        0 => script.read(0),
+        1 => script.read(0x80),
+        _ => script.read(0x4000),
     }
     script.bytes
 }
 
 fn short_step(random: &mut Random, script: &mut Script) {
+    if script.tells_privilege {
+        aintc::short_step(random, script);
+        return;
+    }
     match random.below(4) {
         0 => script.line(random.below(40), random.below(2)),
         1 => script.read(4 * random.below(0x140 / 4)),

@@ -1,7 +1,9 @@
 //! Traces that visit everything once and on purpose: every register, every defect of every number, every limit.
 
+mod aintc;
+
 use super::damage::spoil;
-use super::{long, Script};
+use super::{long, Script, AINTC};
 use crate::model::Kind;
 use crate::random::Random;
 use crate::trace::{Defect, LONGEST, NUMBER_BYTES, PROGRAM_LIMIT};
@@ -13,6 +15,8 @@ pub fn all() -> Vec<Script> {
     sweeps.extend(aic_situations());
     sweeps.extend(core_situations());
     sweeps.extend(cic_situations());
+    sweeps.push(line_limits(AINTC, &[], 128));
+    sweeps.extend(aintc::situations());
     sweeps.extend(forms());
     sweeps.extend(defects());
     sweeps.extend(unknown_and_beyond());
@@ -54,6 +58,7 @@ fn registers() -> Vec<Script> {
         Script::new(0, &aic[0]),
         Script::new(1, &core[0]),
         Script::new(2, &cic[0]),
+        Script::new(AINTC, &[]),
     ];
     scripts.extend(sizes.map(far_offsets));
     for configuration in cic {
@@ -440,6 +445,7 @@ fn short_traces() -> Vec<Script> {
         Script::new(0, &[0x8000_0001, 0x4000_0002]),
         Script::new(1, &[8, 32, 1, 0]),
         Script::new(2, &[33, 2, 2, 0x4E82_0000]),
+        Script::new(AINTC, &[]),
     ];
     for script in &mut scripts {
         script.read(0x10);
@@ -472,17 +478,20 @@ fn forms() -> Vec<Script> {
 }
 
 /// A trace of each kind with two values wherever a number has no limit; what is kept of them is read back.
-fn of_values(least: u32, most: u32) -> [Script; 3] {
+fn of_values(least: u32, most: u32) -> [Script; 4] {
     let kinds = [
         (Script::new(0, &[least, most]), 0x134),
         (Script::new(1, &[8, 32, 1, 0]), 0x20),
         (Script::new(2, &[33, 2, 2, most]), 0x300),
+        (Script::new(AINTC, &[]), 0x84),
     ];
     kinds.map(|(mut script, register)| {
         for value in [least, most] {
             script.write(register, value);
             script.read(register);
             script.read(value);
+            script.read_by(value, register);
+            script.write_by(value, register, value);
             script.line(0, value);
             script.line(value, 1);
         }
@@ -509,11 +518,11 @@ fn defects() -> Vec<Script> {
 /// Unknown kinds and steps, and configuration numbers just beyond their limits and far beyond; in longer forms too.
 fn unknown_and_beyond() -> Vec<Script> {
     let mut scripts = Vec::new();
-    for kind in [3, 0x83, u32::MAX] {
+    for kind in [4, 0x83, 0x84, u32::MAX] {
         scripts.push(Script::new(kind, &[0, 0, 0, 0]));
     }
     for width in 2..=NUMBER_BYTES {
-        scripts.push(Script::new(3, &[0, 0, 0, 0]).rewritten(|| width));
+        scripts.push(Script::new(4, &[0, 0, 0, 0]).rewritten(|| width));
         for step in [0, 4] {
             let mut script = papers_example();
             script.number(step);
@@ -572,6 +581,6 @@ fn limits() -> Vec<Script> {
 fn raw(bytes: Vec<u8>) -> Script {
     Script {
         bytes,
-        numbers: Vec::new(),
+        ..Script::default()
     }
 }

@@ -1,10 +1,12 @@
-//! The three controllers of document 01 as plain state, and what they share: steps, refusals, the order of checks.
+//! The controllers of documents 01 and 02 as plain state, and what they share: steps, refusals, the order of checks.
 
 pub mod aic;
+pub mod aintc;
 pub mod cic;
 pub mod core;
 
 use self::aic::Aic;
+use self::aintc::Aintc;
 use self::cic::Cic;
 use self::core::CoreInterrupt;
 
@@ -16,7 +18,17 @@ pub enum Step {
     Line { line: u32, level: u32 },
 }
 
-/// Why a step or a trace is not carried out, with the number that 01's table gives it.
+/// The privilege of a step where the trace says none, or of an access that says it is privileged (02, 2/12).
+pub const PRIVILEGED: u32 = 1;
+
+/// A step as a trace records it: what is done, and by which privilege. Only the AINTC asks for the privilege.
+#[derive(Clone, Copy, Debug, PartialEq, Eq)]
+pub struct Recorded {
+    pub step: Step,
+    pub privilege: u32,
+}
+
+/// Why a step or a trace is not carried out, with the number that 01's table or 02's request gives it.
 ///
 /// Number 12 is missing: it is about a record that somebody hands in, and these models keep their state to themselves.
 #[derive(Clone, Copy, Debug, PartialEq, Eq, PartialOrd, Ord, Hash)]
@@ -32,10 +44,11 @@ pub enum Refusal {
     UnknownKind = 9,
     BadConfiguration = 10,
     TraceTooLong = 11,
+    Unprivileged = 13,
 }
 
 impl Refusal {
-    /// The number of 01's table.
+    /// The number that is printed.
     pub fn number(self) -> u32 {
         self as u32
     }
@@ -105,16 +118,17 @@ pub trait Controller {
     }
 }
 
-/// The kinds of controller that a trace can name (01, house trace).
+/// The kinds of controller that a trace can name (01, house trace; 02, 2/12).
 #[derive(Clone, Copy, Debug, PartialEq, Eq, PartialOrd, Ord, Hash)]
 pub enum Kind {
     Aic,
     Core,
     Cic,
+    Aintc,
 }
 
 impl Kind {
-    pub const ALL: [Kind; 3] = [Kind::Aic, Kind::Core, Kind::Cic];
+    pub const ALL: [Kind; 4] = [Kind::Aic, Kind::Core, Kind::Cic, Kind::Aintc];
 
     /// The name that opens the listing.
     pub fn name(self) -> &'static str {
@@ -122,7 +136,13 @@ impl Kind {
             Kind::Aic => "AIC",
             Kind::Core => "COREINTERRUPT",
             Kind::Cic => "CIC",
+            Kind::Aintc => "AINTC",
         }
+    }
+
+    /// Whether each offset of a trace is followed by a privilege number (02, 2/12).
+    pub fn tells_privilege(self) -> bool {
+        self == Kind::Aintc
     }
 }
 
@@ -132,6 +152,7 @@ pub enum Machine {
     Aic(Box<Aic>),
     Core(CoreInterrupt),
     Cic(Box<Cic>),
+    Aintc(Box<Aintc>),
 }
 
 impl Machine {
@@ -140,14 +161,16 @@ impl Machine {
             Machine::Aic(_) => Kind::Aic,
             Machine::Core(_) => Kind::Core,
             Machine::Cic(_) => Kind::Cic,
+            Machine::Aintc(_) => Kind::Aintc,
         }
     }
 
-    pub fn step(&mut self, step: Step) -> Answer {
+    pub fn step(&mut self, recorded: Recorded) -> Answer {
         match self {
-            Machine::Aic(aic) => aic.step(step),
-            Machine::Core(core) => core.step(step),
-            Machine::Cic(cic) => cic.step(step),
+            Machine::Aic(aic) => aic.step(recorded.step),
+            Machine::Core(core) => core.step(recorded.step),
+            Machine::Cic(cic) => cic.step(recorded.step),
+            Machine::Aintc(aintc) => aintc.recorded(recorded),
         }
     }
 
@@ -156,6 +179,7 @@ impl Machine {
             Machine::Aic(aic) => aic.shown(),
             Machine::Core(core) => core.shown(),
             Machine::Cic(cic) => cic.shown(),
+            Machine::Aintc(aintc) => aintc.shown(),
         }
     }
 }

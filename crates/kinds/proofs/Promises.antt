@@ -6,7 +6,7 @@ use mathlib.Core.Logic.{_↔_, ⊎-elim}
 use native.Mathlib.Omega.{arith}
 use lib.Dec.{ltb, leb}
 use lib.ListN.{length}
-use borrow.Author.Tests.{ne-eqb, le-ltb, le-leb, leb-true}
+use borrow.Author.Tests.{eq-eqb, ne-eqb, eqb-true, le-ltb, le-leb, leb-true}
 use Rattle.words.specs.Choice.{pick}
 use Rattle.words.proofs.ChoiceLaws.{pick-false}
 use Rattle.words.proofs.TruthLaws.{and-left, and-right, and-both}
@@ -14,10 +14,10 @@ use Rattle.aic.specs.Model.{within as aicWithin}
 use Rattle.coreinterrupt.specs.Model.{within as coreWithin}
 use Rattle.coreinterrupt.proofs.StartLaws.{four-numbers}
 use Rattle.cic_record.specs.Sound.{within as cicWithin}
-use Rattle.kinds.specs.Kinds.{byKind, isKind, wanted, within, name}
+use Rattle.kinds.specs.Kinds.{aintcKind, byKind, isKind, wanted, within, name}
 use Rattle.kinds.specs.Configuration.{withNumber, filled}
 use Rattle.kinds.specs.Promises.{endings, Promises}
-use Rattle.kinds.proofs.KindLaws.{KindOf, isAic, isCore, isCic, isNone, kind-of, at-aic, at-core, at-cic, at-none, at-unknown, known}
+use Rattle.kinds.proofs.KindLaws.{KindOf, isAic, isCore, isCic, isAintc, isNone, kind-of, at-aic, at-core, at-cic, at-aintc, at-none, at-unknown, known}
 
 -- ---- limits
 
@@ -42,11 +42,12 @@ no-number : (kind nth value : ℕ) → wanted kind ≤ nth → within kind nth v
 unfolding wanted within aicWithin
 no-number kind nth value l = go (kind-of kind)
   where
-    go : KindOf kind → byKind kind (record { aic = ltb nth 2; core = coreWithin nth value; cic = cicWithin nth value; none = false }) ≡ false
-    go (isAic k) = sym (at-aic kind _ k) ∙ le-ltb nth 2 (omega (arith, at-aic {A = ℕ} kind (record { aic = 2; core = 4; cic = 4; none = 0 }) k))
-    go (isCore k) = sym (at-core kind _ k) ∙ four-numbers nth value (omega (arith, at-core {A = ℕ} kind (record { aic = 2; core = 4; cic = 4; none = 0 }) k))
-    go (isCic k) = sym (at-cic kind _ k) ∙ cic-four nth value (omega (arith, at-cic {A = ℕ} kind (record { aic = 2; core = 4; cic = 4; none = 0 }) k))
-    go (isNone a b c) = sym (at-none kind _ a b c)
+    go : KindOf kind → byKind kind (record { aic = ltb nth 2; core = coreWithin nth value; cic = cicWithin nth value; aintc = false; none = false }) ≡ false
+    go (isAic k) = sym (at-aic kind _ k) ∙ le-ltb nth 2 (omega (arith, at-aic {A = ℕ} kind (record { aic = 2; core = 4; cic = 4; aintc = 0; none = 0 }) k))
+    go (isCore k) = sym (at-core kind _ k) ∙ four-numbers nth value (omega (arith, at-core {A = ℕ} kind (record { aic = 2; core = 4; cic = 4; aintc = 0; none = 0 }) k))
+    go (isCic k) = sym (at-cic kind _ k) ∙ cic-four nth value (omega (arith, at-cic {A = ℕ} kind (record { aic = 2; core = 4; cic = 4; aintc = 0; none = 0 }) k))
+    go (isAintc k) = sym (at-aintc kind _ k)
+    go (isNone a b c d) = sym (at-none kind _ a b c d)
 
 -- ---- names
 
@@ -58,7 +59,8 @@ name-line kind h = go (kind-of kind)
     go (isAic k) = sym (ap endings (at-aic kind _ k))
     go (isCore k) = sym (ap endings (at-core kind _ k))
     go (isCic k) = sym (ap endings (at-cic kind _ k))
-    go (isNone a b c) = absurd (⊎-elim a (⊎-elim b c) (known kind .0 h))
+    go (isAintc k) = sym (ap endings (at-aintc kind _ k))
+    go (isNone a b c d) = absurd (⊎-elim a (⊎-elim b (⊎-elim c d)) (known kind .0 h))
 
 name-length : (kind : ℕ) → length (name kind) ≤ 14
 unfolding name
@@ -68,24 +70,29 @@ name-length kind = go (kind-of kind)
     go (isAic k) = let e : length (name kind) ≡ 4 = sym (ap length (at-aic kind _ k)) in omega arith
     go (isCore k) = let e : length (name kind) ≡ 14 = sym (ap length (at-core kind _ k)) in omega arith
     go (isCic k) = let e : length (name kind) ≡ 4 = sym (ap length (at-cic kind _ k)) in omega arith
-    go (isNone a b c) = let e : length (name kind) ≡ 0 = sym (ap length (at-none kind _ a b c)) in omega arith
+    go (isAintc k) = let e : length (name kind) ≡ 6 = sym (ap length (at-aintc kind _ k)) in omega arith
+    go (isNone a b c d) = let e : length (name kind) ≡ 0 = sym (ap length (at-none kind _ a b c d)) in omega arith
 
 pub kept : Promises
 unfolding wanted within name withNumber filled byKind pick aicWithin coreWithin cicWithin
 kept =
     record {
       kinds = known;
+      tells = λ kind. (eqb-true kind aintcKind, eq-eqb kind aintcKind);
       aicNumbers = refl;
       aicLimits = λ v. (refl, refl);
       coreNumbers = refl;
       coreLimits = λ v. (at-most v 8, at-most v 32, at-most v 1, at-most v 1);
       cicNumbers = refl;
       cicLimits = λ v. (between v 1024, between v 256, between v 256, refl);
+      aintcNumbers = refl;
+      aintcLimits = λ nth v. refl;
       noneWanted = λ kind h. sym (at-unknown kind _ h);
       noNumber = no-number;
       aicName = refl;
       coreName = refl;
       cicName = refl;
+      aintcName = refl;
       noName = λ kind h. sym (at-unknown kind _ h);
       nameLine = name-line;
       nameLength = name-length;

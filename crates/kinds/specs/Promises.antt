@@ -1,4 +1,4 @@
--- What is promised of the kinds: which numbers they have, how each is configured, and the line with its name.
+-- What is promised of the kinds: which numbers they have, how each is configured, whose steps tell a privilege, and the line with each name.
 use Prim.Native.Nat.{ℕ, _+_, _≤_}
 use mathlib.Core.Path.{_≡_}
 use mathlib.Core.Bool.{true, false}
@@ -8,7 +8,7 @@ use lib.Dec.{eqb}
 use lib.ListN.{length, set}
 use Rattle.words.specs.Counting.{one}
 use Rattle.kinds.specs.declared.Configuration.{Configuration}
-use Rattle.kinds.specs.Kinds.{isKind, wanted, within, name}
+use Rattle.kinds.specs.Kinds.{isKind, wanted, within, tellsPrivilege, name}
 use Rattle.kinds.specs.Configuration.{noNumbers, withNumber, filled}
 
 -- each of these numbers is within its limit, the first being the nth
@@ -22,8 +22,10 @@ endings [] = 0
 endings (b ∷ bs) = one (eqb b 10) + endings bs
 
 pub record Promises : Type 0 where
-  -- there are three kinds: 0, 1 and 2 (01, House trace)
-  pub kinds : (kind : ℕ) → (isKind kind ≡ true) ↔ ((kind ≡ 0) ⊎ ((kind ≡ 1) ⊎ (kind ≡ 2)))
+  -- there are four kinds: 0, 1, 2 and 3 (01, House trace; 02, 2/12)
+  pub kinds : (kind : ℕ) → (isKind kind ≡ true) ↔ ((kind ≡ 0) ⊎ ((kind ≡ 1) ⊎ ((kind ≡ 2) ⊎ (kind ≡ 3))))
+  -- the steps of kind 3, and of no other, tell by which privilege they are made (02, 2/12)
+  pub tells : (kind : ℕ) → (tellsPrivilege kind ≡ true) ↔ (kind ≡ 3)
   -- an AIC has two configuration numbers, each any word (01, AIC, Configuration)
   pub aicNumbers : wanted 0 ≡ 2
   pub aicLimits : (v : ℕ) → (within 0 0 v ≡ true) × (within 0 1 v ≡ true)
@@ -36,13 +38,17 @@ pub record Promises : Type 0 where
   pub cicLimits : (v : ℕ)
       → ((within 2 0 v ≡ true) ↔ ((1 ≤ v) × (v ≤ 1024))) × ((within 2 1 v ≡ true) ↔ ((1 ≤ v) × (v ≤ 256)))
       × ((within 2 2 v ≡ true) ↔ ((1 ≤ v) × (v ≤ 256))) × (within 2 3 v ≡ true)
+  -- an AINTC has none: no number configures it (02, 2/12)
+  pub aintcNumbers : wanted 3 ≡ 0
+  pub aintcLimits : (nth v : ℕ) → within 3 nth v ≡ false
   -- no number configures any other kind, and no kind has a number past its last one (01, House trace)
   pub noneWanted : (kind : ℕ) → isKind kind ≡ false → wanted kind ≡ 0
   pub noNumber : (kind nth value : ℕ) → wanted kind ≤ nth → within kind nth value ≡ false
-  -- the line of a name: AIC, COREINTERRUPT or CIC and the end of the line, letter by letter; nothing of any other kind (01, House trace)
+  -- the line of a name: AIC, COREINTERRUPT, CIC or AINTC and the end of the line, letter by letter; nothing of any other kind (01, House trace; 02, 2/12)
   pub aicName : name 0 ≡ 65 ∷ 73 ∷ 67 ∷ 10 ∷ []
   pub coreName : name 1 ≡ 67 ∷ 79 ∷ 82 ∷ 69 ∷ 73 ∷ 78 ∷ 84 ∷ 69 ∷ 82 ∷ 82 ∷ 85 ∷ 80 ∷ 84 ∷ 10 ∷ []
   pub cicName : name 2 ≡ 67 ∷ 73 ∷ 67 ∷ 10 ∷ []
+  pub aintcName : name 3 ≡ 65 ∷ 73 ∷ 78 ∷ 84 ∷ 67 ∷ 10 ∷ []
   pub noName : (kind : ℕ) → isKind kind ≡ false → name kind ≡ []
   -- each is one line, of at most 14 bytes (01, House trace)
   pub nameLine : (kind : ℕ) → isKind kind ≡ true → endings (name kind) ≡ 1

@@ -1,8 +1,8 @@
-// The kinds of controller: the number and the name of each, and the numbers that configure it. What a kind does is `machine`'s; no other
-// crate tells one kind from another (01, "House trace").
+// The kinds of controller: the number and the name of each, the numbers that configure it, and whether its steps tell a privilege. What a kind does is
+// `machine`'s; no other crate tells one kind from another (01, "House trace"; 02, 2/12).
 ghost use mathlib.Core.Path.{_≡_};
 ghost use Rattle.text.specs.Text.{write};
-ghost use Rattle.kinds.specs.Kinds.{isKind, wanted, within, name};
+ghost use Rattle.kinds.specs.Kinds.{isKind, wanted, within, tellsPrivilege, name};
 ghost use Rattle.kinds.specs.Configuration.{noNumbers, withNumber};
 
 // The numbers of a configuration in their order; one that was not put yet is 0.
@@ -16,16 +16,18 @@ pub const CORE: u32 = 1;
 
 pub const CIC: u32 = 2;
 
+pub const AINTC: u32 = 3;
+
 // ---- kinds
 
 // Whether there is a controller of this kind.
 pub fn is_kind(kind: u32) -> bool
     ensures { λ r. ⌜ r ≡ isKind kind ⌝ }
 {
-    (kind == AIC) | (kind == CORE) | (kind == CIC)
+    (kind == AIC) | (kind == CORE) | (kind == CIC) | (kind == AINTC)
 }
 
-// How many numbers configure a kind.
+// How many numbers configure a kind; an AINTC has none.
 pub fn wanted(kind: u32) -> u32
     ensures { λ r. ⌜ r ≡ wanted kind ⌝ }
 {
@@ -57,6 +59,13 @@ pub fn within(kind: u32, nth: u32, value: u32) -> bool
     false
 }
 
+// Whether a privilege number follows each offset in the steps of a kind.
+pub fn tells_privilege(kind: u32) -> bool
+    ensures { λ r. ⌜ r ≡ tellsPrivilege kind ⌝ }
+{
+    kind == AINTC
+}
+
 // The line with the name of a kind; nothing for any other number.
 pub fn put_name(out: &mut [u8], at: usize, kind: u32) -> usize
     ensures { λ r. ⌜ (now (out .exit), r) ≡ write (now (out .entry), at) (name kind) ⌝ }
@@ -69,6 +78,9 @@ pub fn put_name(out: &mut [u8], at: usize, kind: u32) -> usize
     }
     if kind == CIC {
         return text::put_all(out, at, b"CIC\n");
+    }
+    if kind == AINTC {
+        return text::put_all(out, at, b"AINTC\n");
     }
     at
 }

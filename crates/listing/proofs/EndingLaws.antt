@@ -14,17 +14,19 @@ use Rattle.words.specs.Counting.{one}
 use Rattle.words.proofs.ChoiceLaws.{pick-cases, pick-ap}
 use Rattle.words.proofs.TruthLaws.{clash, told}
 use Rattle.steps.specs.Refusals.{carriedOut}
+use Rattle.steps.specs.declared.Recorded.{Recorded}
 use Rattle.steps.specs.declared.Step.{Step}
 use Rattle.steps.specs.declared.Step.the-variants.{Read, Write, Line}
 use Rattle.text.specs.Text.{newline, hexDigit, hexOf, decimalOf, field}
-use Rattle.machine.specs.declared.Columns.{Columns}
-use Rattle.machine.specs.declared.Machine.{Machine}
+use Rattle.machine_record.specs.declared.Columns.{Columns}
+use Rattle.machine_record.specs.declared.Machine.{Machine}
 use Rattle.kinds.specs.Kinds.{isKind, name}
 use Rattle.kinds.specs.Promises.{endings}
 use Rattle.kinds.proofs.Promises.{kept as kinds}
-use Rattle.machine.specs.Machine.{sound}
-use Rattle.machine.specs.Steps.{step, shown}
-use Rattle.machine.proofs.Promises.{kept as machine}
+use Rattle.machine_record.specs.Machine.{sound}
+use Rattle.machine_record.specs.Shown.{shown}
+use Rattle.machine.specs.Steps.{step}
+use Rattle.machine_record.proofs.Promises.{kept as machine}
 use Rattle.listing.specs.Listing.{letterOf, letter, shownValue, lineOf, stepLine, linesFrom, joined, endLine, endOf}
 
 -- ---- bytes
@@ -84,15 +86,15 @@ line-ends n l v c h =
     simp endings-append
     (omega (arith, h, decimal-plain 20 n, plain 32 (λ z. omega arith), hex-plain 8 v, field-plain (c .first), field-plain (c .second), field-plain (c .third), newline-ends))
 
-pub lines-end : (n : ℕ) (m : Machine) (xs : List Step) → endings (joined (linesFrom n m xs)) ≡ length xs
+pub lines-end : (n : ℕ) (m : Machine) (xs : List Recorded) → endings (joined (linesFrom n m xs)) ≡ length xs
 unfolding linesFrom joined endings
 lines-end n m [] = refl
 lines-end n m (x ∷ xs) =
     let a = step m x in
-    endings-append (stepLine (n + 1) x a) (joined (linesFrom (n + 1) (a .machine) xs))
+    endings-append (stepLine (n + 1) (x .step) a) (joined (linesFrom (n + 1) (a .machine) xs))
     ∙ omega (
       arith,
-      line-ends (n + 1) (letter x (a .refusal)) (shownValue (a .refusal) (a .value)) (shown (a .machine)) (letter-plain x (a .refusal)),
+      line-ends (n + 1) (letter (x .step) (a .refusal)) (shownValue (a .refusal) (a .value)) (shown (a .machine)) (letter-plain (x .step) (a .refusal)),
       lines-end (n + 1) (a .machine) xs,
     )
 

@@ -13,6 +13,7 @@ use Rattle.words.specs.Choice.{pick}
 use Rattle.words.specs.Counting.{one}
 use Rattle.words.proofs.ChoiceLaws.{pick-true, pick-false}
 use Rattle.steps.specs.Refusals.{carriedOut}
+use Rattle.steps.specs.declared.Recorded.{Recorded}
 use Rattle.steps.specs.declared.Step.{Step}
 use Rattle.steps.specs.declared.Step.the-variants.{Read, Write, Line}
 use Rattle.text.specs.Text.{decimal, field, laid}
@@ -20,11 +21,12 @@ use Rattle.text.proofs.Promises.{kept as text}
 use Rattle.text.proofs.WriteLaws.{write-laid}
 use Rattle.trace.specs.Trace.{Trace}
 use Rattle.machine.specs.declared.Answer.{Answer}
-use Rattle.machine.specs.declared.Columns.{Columns}
-use Rattle.machine.specs.declared.Machine.{Machine}
+use Rattle.machine_record.specs.declared.Columns.{Columns}
+use Rattle.machine_record.specs.declared.Machine.{Machine}
 use Rattle.kinds.specs.Kinds.{name}
 use Rattle.kinds.specs.Promises.{endings}
-use Rattle.machine.specs.Steps.{step, shown}
+use Rattle.machine_record.specs.Shown.{shown}
+use Rattle.machine.specs.Steps.{step}
 use Rattle.player.specs.declared.Begun.{Begun}
 use Rattle.player.specs.declared.Played.{Played}
 use Rattle.player.specs.Begin.{beginOf}
@@ -34,7 +36,7 @@ use Rattle.player.proofs.Promises.{kept as player}
 use Rattle.player.proofs.BeginningLaws.{begin-ready}
 use Rattle.listing.specs.Listing.{letterOf, letter, shownValue, lineOf, stepLine, linesFrom, joined, endLine, endOf, textFrom, listingOf}
 use Rattle.listing.specs.Promises.{linesOf, lineBytes, Promises}
-use Rattle.listing.proofs.Examples.{aic-listed, nothing-listed, core-listed, cic-listed}
+use Rattle.listing.proofs.Examples.{aic-listed, nothing-listed, core-listed, cic-listed, aintc-listed, aintc-alone}
 use Rattle.listing.proofs.EndingLaws.{endings-append, lines-end, end-ends, name-ends}
 use Rattle.listing.proofs.LineLaws.{listing-begun, listing-refused}
 use Rattle.listing.proofs.SizeLaws.{length-listing}
@@ -56,7 +58,7 @@ not-begun : (s : List ℕ) (limit : ℕ) → beginOf s .refusal ≢ carriedOut �
 not-begun s limit e =
     sym (listing-refused s limit (beginOf s) refl e) ∙ ap (λ (r : Played). endOf (r .refusal) (r .offset)) (sym (player .nothing s limit e))
 
-lines-from : (n : ℕ) (m : Machine) (xs : List Step) → length (linesFrom n m xs) ≡ length xs
+lines-from : (n : ℕ) (m : Machine) (xs : List Recorded) → length (linesFrom n m xs) ≡ length xs
 unfolding linesFrom
 lines-from n m [] = refl
 lines-from n m (x ∷ xs) = let h = lines-from (n + 1) (step m x .machine) xs in omega arith
@@ -86,19 +88,19 @@ ended s limit = go (ℕ-discrete (beginOf s .refusal) carriedOut)
 -- ---- lines
 
 -- the line after those of some steps
-line-after : (n : ℕ) (m : Machine) (before : List Step) (x : Step) (after : List Step)
-    → getD (linesFrom n m (before ++ (x ∷ after))) (length before) [] ≡ stepLine (n + length before + 1) x (step (runOf m before) x)
+line-after : (n : ℕ) (m : Machine) (before : List Recorded) (x : Recorded) (after : List Recorded)
+    → getD (linesFrom n m (before ++ (x ∷ after))) (length before) [] ≡ stepLine (n + length before + 1) (x .step) (step (runOf m before) x)
 unfolding linesFrom runOf
-line-after n m [] x after = ap (λ (k : ℕ). stepLine (k + 1) x (step m x)) (sym (add-zero n))
+line-after n m [] x after = ap (λ (k : ℕ). stepLine (k + 1) (x .step) (step m x)) (sym (add-zero n))
 line-after n m (y ∷ before) x after =
     let e : n + 1 + length before + 1 ≡ n + suc (length before) + 1 = omega arith in
-    line-after (n + 1) (step m y .machine) before x after ∙ ap (λ (k : ℕ). stepLine k x (step (runOf (step m y .machine) before) x)) e
+    line-after (n + 1) (step m y .machine) before x after ∙ ap (λ (k : ℕ). stepLine k (x .step) (step (runOf (step m y .machine) before) x)) e
 
-line-of-step : (s : List ℕ) (limit : ℕ) (before : List Step) (x : Step) (after : List Step) → recordsOf s limit .steps ≡ before ++ (x ∷ after)
-    → getD (linesOf s limit) (length before) [] ≡ stepLine (length before + 1) x (step (runOf (beginOf s .machine) before) x)
+line-of-step : (s : List ℕ) (limit : ℕ) (before : List Recorded) (x : Recorded) (after : List Recorded) → recordsOf s limit .steps ≡ before ++ (x ∷ after)
+    → getD (linesOf s limit) (length before) [] ≡ stepLine (length before + 1) (x .step) (step (runOf (beginOf s .machine) before) x)
 line-of-step s limit before x after e =
-    ap (λ (xs : List Step). getD (linesFrom 0 (beginOf s .machine) xs) (length before) []) e ∙ line-after 0 (beginOf s .machine) before x after
-    ∙ ap (λ (k : ℕ). stepLine (k + 1) x (step (runOf (beginOf s .machine) before) x)) (zero-add (length before))
+    ap (λ (xs : List Recorded). getD (linesFrom 0 (beginOf s .machine) xs) (length before) []) e ∙ line-after 0 (beginOf s .machine) before x after
+    ∙ ap (λ (k : ℕ). stepLine (k + 1) (x .step) (step (runOf (beginOf s .machine) before) x)) (zero-add (length before))
 
 line-bytes : (n l v : ℕ) (c : Columns) → lineOf n l v c ≡ lineBytes n l v c
 unfolding lineOf field
@@ -146,4 +148,6 @@ kept =
       nothing = nothing-listed;
       coreListed = core-listed;
       cicListed = cic-listed;
+      aintcListed = aintc-listed;
+      aintcAlone = aintc-alone;
     }

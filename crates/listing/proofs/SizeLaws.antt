@@ -9,16 +9,17 @@ use lib.ListN.{length, length-append}
 use lib.Dec.{eqb}
 use Rattle.words.proofs.ChoiceLaws.{pick-cases}
 use Rattle.steps.specs.Refusals.{carriedOut}
-use Rattle.steps.specs.declared.Step.{Step}
+use Rattle.steps.specs.declared.Recorded.{Recorded}
 use Rattle.text.specs.Text.{field}
 use Rattle.text.proofs.DigitLaws.{length-hex, length-below, length-field}
 use Rattle.trace.specs.Trace.{Trace}
-use Rattle.machine.specs.declared.Columns.{Columns}
-use Rattle.machine.specs.declared.Machine.{Machine}
+use Rattle.machine_record.specs.declared.Columns.{Columns}
+use Rattle.machine_record.specs.declared.Machine.{Machine}
 use Rattle.kinds.proofs.Promises.{kept as kinds}
-use Rattle.machine.specs.Promises.{Ready, Small}
-use Rattle.machine.specs.Steps.{step, shown}
-use Rattle.machine.proofs.ShownLaws.{small}
+use Rattle.machine_record.specs.Promises.{Ready, Small}
+use Rattle.machine_record.specs.Shown.{shown}
+use Rattle.machine.specs.Steps.{step}
+use Rattle.machine_record.proofs.ShownLaws.{small}
 use Rattle.machine.proofs.StepLaws.{step-ready}
 use Rattle.player.specs.declared.Begun.{Begun}
 use Rattle.player.specs.Begin.{beginOf}
@@ -41,13 +42,13 @@ length-line d n l v c p h s =
     (omega (arith, length-below 20 d n p h, length-hex 8 v, field-small (c .first) (s .0), field-small (c .second) (s .1), field-small (c .third) (s .2)))
 
 -- the lines of steps whose last number has at most d digits
-length-lines : (d n : ℕ) (m : Machine) (xs : List Step) → 0 < d → n + length xs < 10 ^ d → Ready m → length (joined (linesFrom n m xs)) ≤ (d + 24) * length xs
+length-lines : (d n : ℕ) (m : Machine) (xs : List Recorded) → 0 < d → n + length xs < 10 ^ d → Ready m → length (joined (linesFrom n m xs)) ≤ (d + 24) * length xs
 unfolding linesFrom joined
 length-lines d n m [] p h r = omega arith
 length-lines d n m (x ∷ xs) p h r =
     let a = step m x in
     let q = step-ready m x r in
-    let one : length (stepLine (n + 1) x a) ≤ d + 24 = length-line d (n + 1) (letter x (a .refusal)) (shownValue (a .refusal) (a .value)) (shown (a .machine)) p (omega arith) (small (a .machine) (q .0)) in
+    let one : length (stepLine (n + 1) (x .step) a) ≤ d + 24 = length-line d (n + 1) (letter (x .step) (a .refusal)) (shownValue (a .refusal) (a .value)) (shown (a .machine)) p (omega arith) (small (a .machine) (q .0)) in
     let rest : length (joined (linesFrom (n + 1) (a .machine) xs)) ≤ (d + 24) * length xs = length-lines d (n + 1) (a .machine) xs p (omega arith) q in
     simp (length-append, mul-suc) (omega arith)
 

@@ -4,15 +4,17 @@ use mathlib.Core.List.{List, [], _∷_, _++_}
 use lib.Dec.{eqb}
 use Rattle.words.specs.Choice.{pick}
 use Rattle.steps.specs.Refusals.{carriedOut}
+use Rattle.steps.specs.declared.Recorded.{Recorded}
 use Rattle.steps.specs.declared.Step.{Step}
 use Rattle.steps.specs.declared.Step.the-variants.{Read, Write, Line}
 use Rattle.text.specs.Text.{space, newline, hex, decimal, field}
 use Rattle.trace.specs.Trace.{Trace}
 use Rattle.machine.specs.declared.Answer.{Answer}
-use Rattle.machine.specs.declared.Columns.{Columns}
-use Rattle.machine.specs.declared.Machine.{Machine}
+use Rattle.machine_record.specs.declared.Columns.{Columns}
+use Rattle.machine_record.specs.declared.Machine.{Machine}
 use Rattle.kinds.specs.Kinds.{name}
-use Rattle.machine.specs.Steps.{step, shown}
+use Rattle.machine_record.specs.Shown.{shown}
+use Rattle.machine.specs.Steps.{step}
 use Rattle.player.specs.declared.Begun.{Begun}
 use Rattle.player.specs.Begin.{beginOf}
 use Rattle.player.specs.Play.{recordsOf}
@@ -45,9 +47,9 @@ stepLine n x a = lineOf n (letter x (a .refusal)) (shownValue (a .refusal) (a .v
 -- ---- the lines of a trace
 
 -- those of steps of which n others come before; they are numbered from 1
-unfoldable pub linesFrom : ℕ → Machine → List Step → List (List ℕ)
+unfoldable pub linesFrom : ℕ → Machine → List Recorded → List (List ℕ)
 linesFrom n m [] = []
-linesFrom n m (x ∷ xs) = stepLine (n + 1) x (step m x) ∷ linesFrom (n + 1) (step m x .machine) xs
+linesFrom n m (x ∷ xs) = stepLine (n + 1) (x .step) (step m x) ∷ linesFrom (n + 1) (step m x .machine) xs
 
 -- one line after the other
 unfoldable pub joined : List (List ℕ) → List ℕ

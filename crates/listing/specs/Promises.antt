@@ -1,4 +1,4 @@
--- What is promised of a listing: its name, its lines byte by byte, how it ends, how long it is, what it leaves in the buffer, and four listings worked out.
+-- What is promised of a listing: its name, its lines byte by byte, how it ends, how long it is, what it leaves in the buffer, and six listings worked out.
 use Prim.Native.Nat.{ℕ, _+_, _*_, _^_, _<_, _≤_, min}
 use mathlib.Core.Path.{_≡_}
 use mathlib.Core.List.{List, [], _∷_, _++_}
@@ -7,14 +7,16 @@ use lib.Dec.{eqb}
 use lib.ListN.{length, getD, take, drop}
 use Rattle.words.specs.Choice.{pick}
 use Rattle.words.specs.Counting.{one}
+use Rattle.steps.specs.declared.Recorded.{Recorded}
 use Rattle.steps.specs.declared.Step.{Step}
 use Rattle.steps.specs.declared.Step.the-variants.{Read, Write, Line}
 use Rattle.text.specs.Text.{hex, decimal, laid}
 use Rattle.kinds.specs.Kinds.{name}
 use Rattle.kinds.specs.Promises.{endings}
 use Rattle.machine.specs.declared.Answer.{Answer}
-use Rattle.machine.specs.declared.Columns.{Columns}
-use Rattle.machine.specs.Steps.{step, shown}
+use Rattle.machine_record.specs.declared.Columns.{Columns}
+use Rattle.machine_record.specs.Shown.{shown}
+use Rattle.machine.specs.Steps.{step}
 use Rattle.player.specs.Begin.{beginOf}
 use Rattle.player.specs.Play.{recordsOf, runOf, playOf}
 use Rattle.listing.specs.Listing.{stepLine, linesFrom, joined, endOf, listingOf}
@@ -95,6 +97,25 @@ cicText =
     ∷ 49 ∷ 50 ∷ 32 ∷ 82 ∷ 32 ∷ 48 ∷ 48 ∷ 48 ∷ 48 ∷ 48 ∷ 52 ∷ 48 ∷ 48 ∷ 32 ∷ 49 ∷ 32 ∷ 48 ∷ 32 ∷ 48 ∷ 10
     ∷ 69 ∷ 32 ∷ 56 ∷ 32 ∷ 53 ∷ 48 ∷ 10 ∷ []
 
+-- an AINTC: an input is unmasked, its line rises, its number is read without privilege, so is the protection register, the line falls and the input is
+-- held, it is released, a read by privilege 2, a read with none active; then a read whose privilege is missing (000, 4.3 to 4.5; 02, 2/12)
+abbrev pub aintcTrace : List ℕ
+aintcTrace = 3 ∷ 2 ∷ 136 ∷ 1 ∷ 1 ∷ 32 ∷ 3 ∷ 5 ∷ 1 ∷ 1 ∷ 64 ∷ 0 ∷ 1 ∷ 76 ∷ 0 ∷ 3 ∷ 5 ∷ 0 ∷ 2 ∷ 72 ∷ 1 ∷ 1 ∷ 1 ∷ 64 ∷ 2 ∷ 1 ∷ 64 ∷ 1 ∷ 1 ∷ 64 ∷ []
+
+-- AINTC, eight lines of steps, and E 8 30
+abbrev pub aintcText : List ℕ
+aintcText =
+    65 ∷ 73 ∷ 78 ∷ 84 ∷ 67 ∷ 10
+    ∷ 49 ∷ 32 ∷ 87 ∷ 32 ∷ 48 ∷ 48 ∷ 48 ∷ 48 ∷ 48 ∷ 48 ∷ 48 ∷ 48 ∷ 32 ∷ 48 ∷ 32 ∷ 48 ∷ 32 ∷ 48 ∷ 10
+    ∷ 50 ∷ 32 ∷ 76 ∷ 32 ∷ 48 ∷ 48 ∷ 48 ∷ 48 ∷ 48 ∷ 48 ∷ 48 ∷ 48 ∷ 32 ∷ 49 ∷ 32 ∷ 48 ∷ 32 ∷ 53 ∷ 10
+    ∷ 51 ∷ 32 ∷ 82 ∷ 32 ∷ 48 ∷ 48 ∷ 48 ∷ 48 ∷ 48 ∷ 48 ∷ 48 ∷ 53 ∷ 32 ∷ 49 ∷ 32 ∷ 48 ∷ 32 ∷ 53 ∷ 10
+    ∷ 52 ∷ 32 ∷ 88 ∷ 32 ∷ 48 ∷ 48 ∷ 48 ∷ 48 ∷ 48 ∷ 48 ∷ 48 ∷ 68 ∷ 32 ∷ 49 ∷ 32 ∷ 48 ∷ 32 ∷ 53 ∷ 10
+    ∷ 53 ∷ 32 ∷ 76 ∷ 32 ∷ 48 ∷ 48 ∷ 48 ∷ 48 ∷ 48 ∷ 48 ∷ 48 ∷ 48 ∷ 32 ∷ 49 ∷ 32 ∷ 48 ∷ 32 ∷ 53 ∷ 10
+    ∷ 54 ∷ 32 ∷ 87 ∷ 32 ∷ 48 ∷ 48 ∷ 48 ∷ 48 ∷ 48 ∷ 48 ∷ 48 ∷ 48 ∷ 32 ∷ 48 ∷ 32 ∷ 48 ∷ 32 ∷ 48 ∷ 10
+    ∷ 55 ∷ 32 ∷ 88 ∷ 32 ∷ 48 ∷ 48 ∷ 48 ∷ 48 ∷ 48 ∷ 48 ∷ 48 ∷ 54 ∷ 32 ∷ 48 ∷ 32 ∷ 48 ∷ 32 ∷ 48 ∷ 10
+    ∷ 56 ∷ 32 ∷ 82 ∷ 32 ∷ 70 ∷ 70 ∷ 70 ∷ 70 ∷ 70 ∷ 70 ∷ 56 ∷ 48 ∷ 32 ∷ 48 ∷ 32 ∷ 48 ∷ 32 ∷ 48 ∷ 10
+    ∷ 69 ∷ 32 ∷ 56 ∷ 32 ∷ 51 ∷ 48 ∷ 10 ∷ []
+
 pub record Promises : Type 0 where
   -- ---- the whole
 
@@ -112,8 +133,8 @@ pub record Promises : Type 0 where
   pub lines : (s : List ℕ) (limit : ℕ) → length (linesOf s limit) ≡ playOf s limit .steps
   -- the line of a step record that comes after some others bears the number after theirs, from 1 on, and tells what the machine answers that
   -- these have made of the first one (01, House trace)
-  pub lineOfStep : (s : List ℕ) (limit : ℕ) (before : List Step) (x : Step) (after : List Step) → recordsOf s limit .steps ≡ before ++ (x ∷ after)
-      → getD (linesOf s limit) (length before) [] ≡ stepLine (length before + 1) x (step (runOf (beginOf s .machine) before) x)
+  pub lineOfStep : (s : List ℕ) (limit : ℕ) (before : List Recorded) (x : Recorded) (after : List Recorded) → recordsOf s limit .steps ≡ before ++ (x ∷ after)
+      → getD (linesOf s limit) (length before) [] ≡ stepLine (length before + 1) (x .step) (step (runOf (beginOf s .machine) before) x)
   -- a step that is carried out shows R, W or L and the value answered, a refused one X and its refusal; the three numbers are those of the machine
   -- after it (01, House trace)
   pub readLine : (n offset : ℕ) (a : Answer) → a .refusal ≡ 0 → stepLine n (Read offset) a ≡ lineBytes n 82 (a .value) (shown (a .machine))
@@ -145,3 +166,6 @@ pub record Promises : Type 0 where
   -- a CoreInterrupt and a CIC, with step numbers of two digits, a number of three bytes and a last line
   pub coreListed : listingOf coreTrace 20000 ≡ coreText
   pub cicListed : listingOf cicTrace 20000 ≡ cicText
+  -- an AINTC, with refusals 13 and 6; and its kind alone, which needs no configuration (02, 2/12)
+  pub aintcListed : listingOf aintcTrace 20000 ≡ aintcText
+  pub aintcAlone : listingOf (3 ∷ []) 20000 ≡ 65 ∷ 73 ∷ 78 ∷ 84 ∷ 67 ∷ 10 ∷ []

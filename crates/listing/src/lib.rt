@@ -1,13 +1,13 @@
-// The listing of a recorded trace, as text in a buffer that the caller lends (01, "House trace").
+// The listing of a recorded trace, as text in a buffer that the caller lends (01, "House trace"; 02, 2/12).
 ghost use mathlib.Core.Path.{_≡_};
 ghost use mathlib.Core.List.{_++_};
 ghost use Rattle.text.specs.Text.{write, laid};
 ghost use Rattle.trace.specs.Trace.{stepsFrom};
-ghost use Rattle.kinds.specs.Kinds.{name};
-ghost use Rattle.machine.specs.Promises.{Ready};
+ghost use Rattle.kinds.specs.Kinds.{name, tellsPrivilege};
+ghost use Rattle.machine_record.specs.Promises.{Ready};
 ghost use Rattle.listing.specs.Listing.{letterOf, letter, shownValue, lineOf, endLine, endOf, textFrom, listingOf};
-use machine::Columns;
-use machine::Machine;
+use machine_record::Columns;
+use machine_record::Machine;
 use player::Begun;
 use steps::Step;
 use text::NEWLINE;
@@ -29,24 +29,33 @@ pub fn list(trace: &[u8], limit: u32, out: &mut [u8]) -> usize
 // The name of the controller, then the steps.
 fn list_begun(trace: &[u8], limit: u32, b: Begun, out: &mut [u8]) -> usize
     requires { ⌜ Ready (b .machine) ⌝ }
-    ensures { λ r. ⌜ (now (out .exit), r) ≡ write (now (out .entry), 0) (name (b .machine .kind) ++ textFrom 0 (b .machine) (stepsFrom limit (now (trace .entry)) (b .place))) ⌝ }
+    ensures { λ r. ⌜ (now (out .exit), r) ≡ write (now (out .entry), 0) (name (b .machine .kind) ++ textFrom 0 (b .machine) (stepsFrom (tellsPrivilege (b .machine .kind)) limit (now (trace .entry)) (b .place))) ⌝ }
 {
     let m = b.machine;
     let at = kinds::put_name(out, 0, m.kind);
-    list_steps(trace, limit, b.place, m, out, at)
+    list_steps(
+        trace,
+        limit,
+        kinds::tells_privilege(m.kind),
+        b.place,
+        m,
+        out,
+        at,
+    )
 }
 
-// The lines of the steps from a place on, and how they end. The limit falls by one with each step.
+// The lines of the steps from a place on, and how they end; where `told`, they tell their privilege. The limit falls by one with each step.
 fn list_steps(
     trace: &[u8],
     limit: u32,
+    told: bool,
     start: usize,
     first: Machine,
     out: &mut [u8],
     from: usize,
 ) -> usize
     requires { ⌜ Ready first ⌝ }
-    ensures { λ r. ⌜ (now (out .exit), r) ≡ write (now (out .entry), from) (textFrom 0 first (stepsFrom limit (now (trace .entry)) start)) ⌝ }
+    ensures { λ r. ⌜ (now (out .exit), r) ≡ write (now (out .entry), from) (textFrom 0 first (stepsFrom told limit (now (trace .entry)) start)) ⌝ }
 {
     let mut at = start;
     let mut m = first;
@@ -54,7 +63,7 @@ fn list_steps(
     let mut count: u32 = 0;
     let mut to = from;
     loop {
-        match trace::turn_at(trace, at, left) {
+        match trace::turn_at(trace, at, left, told) {
             Turn::Ended(refusal, offset) => {
                 return put_end(out, to, refusal, offset);
             }
@@ -64,9 +73,17 @@ fn list_steps(
                 at = next;
                 left = left - 1;
                 count = count + 1;
-                let letter = letter_of(x, a.refusal);
+                let step = x.step;
+                let letter = letter_of(step, a.refusal);
                 let value = shown_value(a.refusal, a.value);
-                to = put_line(out, to, count, letter, value, machine::shown_sound(m));
+                to = put_line(
+                    out,
+                    to,
+                    count,
+                    letter,
+                    value,
+                    machine_record::shown_sound(m),
+                );
             }
         }
     }

@@ -6,7 +6,7 @@ use Rattle.words.specs.Choice.{pick}
 use Rattle.words.specs.Counting.{upto, anyBelow, allBelow, countBelow, lowestBelow, sumBelow}
 use Rattle.words.specs.Word.{bit, wordOf, either, both, without, withBit, kept, clean}
 use Rattle.words.proofs.ChoiceLaws.{pick-true}
-use Rattle.steps.specs.declared.Step.{Step}
+use Rattle.steps.specs.declared.Recorded.{Recorded}
 use Rattle.steps.specs.Refusals.{readRefusal, writeRefusal, lineRefusal}
 use Rattle.aic_record.specs.Record.{reset}
 use Rattle.aic_record.specs.Mode.{priority, kind, edge}
@@ -29,15 +29,26 @@ use Rattle.cic_maps.specs.Maps.{byteRead, mapRead, byteTaken, mapTaken, bytePut
 use Rattle.cic_registers.specs.Registers.{valueOf, valueRefusal as cicValueRefusal, writtenTo}
 use Rattle.cic_words.specs.Bits.{wordRead, bitsSet, bitsCleared, wordReplaced}
 use Rattle.cic.specs.Model.{readAs, writeAs, moved as cicMoved, lineAs, stepAs}
+use Rattle.aintc_record.specs.Bounds.{chosenBounded, bounded}
+use Rattle.aintc_record.specs.Record.{side as aintcSide, reset as aintcReset, blank as aintcBlank}
+use Rattle.aintc_record.specs.Route.{priority as aintcPriority, routed}
+use Rattle.aintc_choice.specs.Inputs.{raised, unmasked, pending as aintcPending, passes, eligible}
+use Rattle.aintc_choice.specs.Order.{before, foremost as aintcForemost, some, first}
+use Rattle.aintc_choice.specs.Settle.{settledSide, settle, sideQuiet, sound as aintcSound}
+use Rattle.aintc_registers.specs.Effects.{released, agreed, configured as aintcConfigured, singleWritten, bankWritten, writtenAt as aintcWrittenAt, moved as aintcMoved}
+use Rattle.aintc_registers.specs.Map.{rowOf, rowAccess, access as aintcAccess}
+use Rattle.aintc_registers.specs.Registers.{shown as aintcShown, singleRead, bankRead, readAt as aintcReadAt}
+use Rattle.aintc.specs.Model.{start as aintcStart, barred, accessNumber, readNumber as aintcReadNumber, writeNumber as aintcWriteNumber, lineNumber as aintcLineNumber, read as aintcRead, write as aintcWrite, line as aintcLine, outputs as aintcOutputs}
 use Rattle.kinds.specs.Configuration.{withNumber}
 use Rattle.kinds.specs.Kinds.{cicKind, byKind, isKind, wanted, within, name}
 use Rattle.machine.specs.declared.Answer.{Answer}
-use Rattle.machine.specs.declared.Columns.{Columns}
-use Rattle.machine.specs.declared.Machine.{Machine}
-use Rattle.machine.specs.Machine.{start, sound}
-use Rattle.machine.specs.Steps.{afterCic, step, cicColumns, shown}
-use Rattle.machine.proofs.MachineLaws.{sound-cic}
-use Rattle.machine.proofs.ShownLaws.{cic-shows}
+use Rattle.machine_record.specs.declared.Columns.{Columns}
+use Rattle.machine_record.specs.declared.Machine.{Machine}
+use Rattle.machine_record.specs.Machine.{start, sound}
+use Rattle.machine_record.specs.Shown.{cicColumns, shown}
+use Rattle.machine.specs.Steps.{afterCic, step}
+use Rattle.machine_record.proofs.MachineLaws.{sound-cic}
+use Rattle.machine_record.proofs.ShownLaws.{cic-shows}
 use Rattle.machine.proofs.StepLaws.{cic-steps}
 
 -- what all kinds share
@@ -57,16 +68,20 @@ unfoldable pub cic-computes : Unit {0}
 unfolding machine-computes bitAt withBitAt byteOf cicWithin fresh configured cicStart raises asserted cicShown singleAt registerAt accessOf byteRead mapRead byteTaken mapTaken bytePut mapPut valueOf cicValueRefusal writtenTo wordRead bitsSet bitsCleared wordReplaced readAs writeAs cicMoved lineAs stepAs
 cic-computes = tt
 
+unfoldable pub aintc-computes : Unit {0}
+unfolding machine-computes bitAt withBitAt chosenBounded bounded aintcSide aintcReset aintcBlank aintcPriority routed raised unmasked aintcPending passes eligible before aintcForemost some first settledSide settle sideQuiet aintcSound released agreed aintcConfigured singleWritten bankWritten aintcWrittenAt aintcMoved rowOf rowAccess aintcAccess aintcShown singleRead bankRead aintcReadAt aintcStart barred accessNumber aintcReadNumber aintcWriteNumber aintcLineNumber aintcRead aintcWrite aintcLine aintcOutputs
+aintc-computes = tt
+
 -- ---- a CIC that is known to be sound
 
-abbrev pub cicQuick : Machine → Step → Answer
-cicQuick m x = afterCic m (stepAs true (m .cic) x)
+abbrev pub cicQuick : Machine → Recorded → Answer
+cicQuick m x = afterCic m (stepAs true (m .cic) (x .step))
 
 abbrev pub cicSeen : Machine → Columns
 cicSeen m = cicColumns (cicShown (m .cic))
 
-pub cic-quick : (m : Machine) (x : Step) → m .kind ≡ cicKind → sound m ≡ true → step m x ≡ cicQuick m x
-cic-quick m x k s = cic-steps m x k ∙ ap (λ (ok : Bool). afterCic m (stepAs ok (m .cic) x)) (sound-cic m k ∙ s)
+pub cic-quick : (m : Machine) (x : Recorded) → m .kind ≡ cicKind → sound m ≡ true → step m x ≡ cicQuick m x
+cic-quick m x k s = cic-steps m x k ∙ ap (λ (ok : Bool). afterCic m (stepAs ok (m .cic) (x .step))) (sound-cic m k ∙ s)
 
 pub cic-seen : (m : Machine) → m .kind ≡ cicKind → sound m ≡ true → shown m ≡ cicSeen m
 unfolding cicOutputs

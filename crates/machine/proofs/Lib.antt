@@ -1,6 +1,4 @@
--- The laws of machines, and the proof of what is promised.
+-- The laws of the steps of a machine, and the proof of what is promised.
 pub mod Computing
-pub mod MachineLaws
 pub mod Promises
-pub mod ShownLaws
 pub mod StepLaws

@@ -1,59 +1,21 @@
--- The promises of a machine, kept.
-use Prim.Native.Nat.{ℕ}
-use mathlib.Core.Path.{_≡_, refl, sym, ap, _∙_}
-use mathlib.Core.Bool.{Bool, true, false, false≢true, true≢false}
-use native.Mathlib.Omega.{arith}
-use Rattle.words.specs.Choice.{pick}
-use Rattle.words.specs.Counting.{one}
-use Rattle.aic_record.specs.Record.{reset}
-use Rattle.cic_record.specs.Start.{fresh}
-use Rattle.kinds.specs.Kinds.{byKind}
+-- The promises of the steps of a machine, kept.
+use mathlib.Core.Path.{sym}
 use Rattle.kinds.proofs.KindLaws.{at-unknown}
-use Rattle.machine.specs.declared.Columns.{Columns}
-use Rattle.machine.specs.Machine.{start, sound}
-use Rattle.machine.specs.Steps.{step, shown}
-use Rattle.machine.specs.Promises.{Tells, Promises}
-use Rattle.machine.proofs.MachineLaws.{sound-aic, sound-core, sound-cic, aic-starts, core-starts, cic-starts, start-ready}
-use Rattle.machine.proofs.ShownLaws.{aic-shows, core-shows, cic-shows, unsound-shown, small}
-use Rattle.machine.proofs.StepLaws.{aic-steps, core-steps, cic-steps, step-ready, step-kind, refused-same, twelve}
-
--- the number of an output tells whether it is active
-tells : (t : Bool) → Tells (one t) t
-tells true = ((λ z. refl, λ z. refl), (λ z. absurd (omega arith), λ z. absurd (true≢false z)))
-tells false = ((λ z. absurd (omega arith), λ z. absurd (false≢true z)), (λ z. refl, λ z. refl))
+use Rattle.machine.specs.Steps.{step}
+use Rattle.machine.specs.Promises.{Promises}
+use Rattle.machine.proofs.StepLaws.{aic-steps, core-steps, cic-steps, aintc-steps, step-ready, step-kind, refused-same, twelve}
 
 pub kept : Promises
-unfolding reset fresh start sound step byKind pick
+unfolding step
 kept =
     record {
-      blankKind = refl;
-      blankAic = refl;
-      blankFiq = refl;
-      blankIrq = refl;
-      blankCic = refl;
-      aicStarts = λ c. refl;
-      coreStarts = λ c. refl;
-      cicStarts = λ c. refl;
-      noStarts = λ kind c h. sym (at-unknown kind _ h);
-      aicFrom = aic-starts;
-      coreFrom = core-starts;
-      cicFrom = cic-starts;
-      startReady = start-ready;
-      aicSoundIs = λ m k. sym (sound-aic m k);
-      coreSoundIs = λ m k. sym (sound-core m k);
-      cicSoundIs = λ m k. sym (sound-cic m k);
-      noneSound = λ m h. sym (at-unknown (m .kind) _ h);
       aicSteps = aic-steps;
       coreSteps = core-steps;
       cicSteps = cic-steps;
+      aintcSteps = aintc-steps;
       noSteps = λ m x h. sym (at-unknown (m .kind) _ h);
       stepReady = step-ready;
       stepKind = step-kind;
       refusedSame = refused-same;
       twelve = twelve;
-      aicShows = λ m k. rw (aic-shows m k) (tells _, tells _, refl);
-      coreShows = λ m k. rw (core-shows m k) (tells _, tells _, refl);
-      cicShows = λ m k. rw (cic-shows m k) (refl, refl, refl);
-      shownUnsound = λ m h. sym (unsound-shown m h);
-      shownSmall = small;
     }

@@ -1,8 +1,10 @@
 -- Steps of a machine by its kind: what they are, that they keep it sound, and what a refused one answers.
+use Prim.Native.Nat.{ℕ}
 use mathlib.Core.Path.{_≡_, refl, sym, ap, _∙_}
 use mathlib.Core.Bool.{false}
 use mathlib.Core.Logic.{_↔_, _≢_}
 use native.Mathlib.Omega.{arith}
+use Rattle.steps.specs.declared.Recorded.{Recorded}
 use Rattle.steps.specs.declared.Step.{Step}
 use Rattle.steps.specs.declared.Step.the-variants.{Read, Write, Line}
 use Rattle.steps.specs.Refusals.{carriedOut, unsound}
@@ -14,33 +16,40 @@ use Rattle.coreinterrupt.proofs.Promises.{kept as core}
 use Rattle.cic_record.specs.Sound.{sound as cicSound}
 use Rattle.cic.specs.Model.{step as cicStep, stepAs}
 use Rattle.cic.proofs.Promises.{kept as cic}
+use Rattle.aintc_choice.specs.Settle.{sound as aintcSound}
+use Rattle.aintc.specs.Model.{step as aintcStep}
+use Rattle.aintc.proofs.Promises.{kept as aintc}
 use Rattle.machine.specs.declared.Answer.{Answer}
-use Rattle.machine.specs.declared.Machine.{Machine}
-use Rattle.kinds.specs.Kinds.{aicKind, coreKind, cicKind}
-use Rattle.machine.specs.Machine.{sound}
-use Rattle.machine.specs.Steps.{afterAic, afterCore, afterCic, refused, step}
-use Rattle.machine.specs.Promises.{Ready}
-use Rattle.kinds.proofs.KindLaws.{KindOf, isAic, isCore, isCic, isNone, kind-of, at-aic, at-core, at-cic, at-none}
-use Rattle.machine.proofs.MachineLaws.{sound-aic, sound-core, sound-cic, sound-none}
+use Rattle.machine_record.specs.declared.Machine.{Machine}
+use Rattle.kinds.specs.Kinds.{aicKind, coreKind, cicKind, aintcKind}
+use Rattle.machine_record.specs.Machine.{sound}
+use Rattle.machine.specs.Steps.{afterAic, afterCore, afterCic, afterAintc, refused, step}
+use Rattle.machine_record.specs.Promises.{Ready}
+use Rattle.kinds.proofs.KindLaws.{KindOf, isAic, isCore, isCic, isAintc, isNone, kind-of, at-aic, at-core, at-cic, at-aintc, at-none}
+use Rattle.machine_record.proofs.MachineLaws.{sound-aic, sound-core, sound-cic, sound-aintc, sound-none}
 
 -- ---- the step of each kind
 
-module _ (m : Machine) (x : Step) where
-  pub aic-steps : m .kind ≡ aicKind → step m x ≡ afterAic m (aicStep (m .aic) x)
+module _ (m : Machine) (x : Recorded) where
+  pub aic-steps : m .kind ≡ aicKind → step m x ≡ afterAic m (aicStep (m .aic) (x .step))
   unfolding step
   aic-steps e = sym (at-aic (m .kind) _ e)
 
-  pub core-steps : m .kind ≡ coreKind → step m x ≡ afterCore m (coreStep (m .core) x)
+  pub core-steps : m .kind ≡ coreKind → step m x ≡ afterCore m (coreStep (m .core) (x .step))
   unfolding step
   core-steps e = sym (at-core (m .kind) _ e)
 
-  pub cic-steps : m .kind ≡ cicKind → step m x ≡ afterCic m (cicStep (m .cic) x)
+  pub cic-steps : m .kind ≡ cicKind → step m x ≡ afterCic m (cicStep (m .cic) (x .step))
   unfolding step
   cic-steps e = sym (at-cic (m .kind) _ e)
 
-  pub no-steps : m .kind ≢ aicKind → m .kind ≢ coreKind → m .kind ≢ cicKind → step m x ≡ refused m unsound
+  pub aintc-steps : m .kind ≡ aintcKind → step m x ≡ afterAintc m (aintcStep (m .aintc) (x .privilege) (x .step))
   unfolding step
-  no-steps e f g = sym (at-none (m .kind) _ e f g)
+  aintc-steps e = sym (at-aintc (m .kind) _ e)
+
+  pub no-steps : m .kind ≢ aicKind → m .kind ≢ coreKind → m .kind ≢ cicKind → m .kind ≢ aintcKind → step m x ≡ refused m unsound
+  unfolding step
+  no-steps e f g h = sym (at-none (m .kind) _ e f g h)
 
   -- ---- soundness
 
@@ -50,12 +59,13 @@ module _ (m : Machine) (x : Step) where
       go : KindOf (m .kind) → Ready (step m x .machine)
       go (isAic k) =
           rw (aic-steps k) (
-            sym (sound-aic _ k) ∙ aic .stepSound (m .aic) x (r .1) (sound-aic m k ∙ r .0),
-            aic .stepShaped (m .aic) x (r .1),
+            sym (sound-aic _ k) ∙ aic .stepSound (m .aic) (x .step) (r .1) (sound-aic m k ∙ r .0),
+            aic .stepShaped (m .aic) (x .step) (r .1),
           )
-      go (isCore k) = rw (core-steps k) (sym (sound-core _ k) ∙ core .stepSound (m .core) x (sound-core m k ∙ r .0), r .1)
-      go (isCic k) = rw (cic-steps k) (sym (sound-cic _ k) ∙ cic .stepSound (m .cic) x (sound-cic m k ∙ r .0), r .1)
-      go (isNone a b c) = rw (no-steps a b c) r
+      go (isCore k) = rw (core-steps k) (sym (sound-core _ k) ∙ core .stepSound (m .core) (x .step) (sound-core m k ∙ r .0), r .1)
+      go (isCic k) = rw (cic-steps k) (sym (sound-cic _ k) ∙ cic .stepSound (m .cic) (x .step) (sound-cic m k ∙ r .0), r .1)
+      go (isAintc k) = rw (aintc-steps k) (sym (sound-aintc _ k) ∙ aintc .stepSound (m .aintc) (x .privilege) (x .step) (sound-aintc m k ∙ r .0), r .1)
+      go (isNone a b c d) = rw (no-steps a b c d) r
 
   pub step-kind : step m x .machine .kind ≡ m .kind
   step-kind = go (kind-of (m .kind))
@@ -64,7 +74,8 @@ module _ (m : Machine) (x : Step) where
       go (isAic k) = ap (λ (a : Answer). a .machine .kind) (aic-steps k)
       go (isCore k) = ap (λ (a : Answer). a .machine .kind) (core-steps k)
       go (isCic k) = ap (λ (a : Answer). a .machine .kind) (cic-steps k)
-      go (isNone a b c) = ap (λ (r : Answer). r .machine .kind) (no-steps a b c)
+      go (isAintc k) = ap (λ (a : Answer). a .machine .kind) (aintc-steps k)
+      go (isNone a b c d) = ap (λ (r : Answer). r .machine .kind) (no-steps a b c d)
 
   -- ---- refusals
 
@@ -75,10 +86,11 @@ module _ (m : Machine) (x : Step) where
   refused-same = go (kind-of (m .kind))
     where
       go : KindOf (m .kind) → Same (step m x)
-      go (isAic k) = rw (aic-steps k) (λ z. ap (afterAic m) (aic .refusedSame (m .aic) x z))
-      go (isCore k) = rw (core-steps k) (λ z. ap (afterCore m) (core .refusedSame (m .core) x z))
-      go (isCic k) = rw (cic-steps k) (λ z. ap (afterCic m) (cic .refusedSame (m .cic) x z))
-      go (isNone a b c) = rw (no-steps a b c) (λ z. refl)
+      go (isAic k) = rw (aic-steps k) (λ z. ap (afterAic m) (aic .refusedSame (m .aic) (x .step) z))
+      go (isCore k) = rw (core-steps k) (λ z. ap (afterCore m) (core .refusedSame (m .core) (x .step) z))
+      go (isCic k) = rw (cic-steps k) (λ z. ap (afterCic m) (cic .refusedSame (m .cic) (x .step) z))
+      go (isAintc k) = rw (aintc-steps k) (λ z. ap (afterAintc m) (aintc .refusedSame (m .aintc) (x .privilege) (x .step) z))
+      go (isNone a b c d) = rw (no-steps a b c d) (λ z. refl)
 
 -- ---- 12
 
@@ -98,17 +110,23 @@ cic-twelve m (Read o) = cic .readNumbers (m .cic) o .twelve
 cic-twelve m (Write o v) = cic .writeNumbers (m .cic) o v .twelve
 cic-twelve m (Line k l) = cic .lineNumbers (m .cic) k l .twelve
 
-pub twelve : (m : Machine) (x : Step) → (step m x .refusal ≡ unsound) ↔ (sound m ≡ false)
+aintc-twelve : (m : Machine) (p : ℕ) (x : Step) → (aintcStep (m .aintc) p x .refusal ≡ unsound) ↔ (aintcSound (m .aintc) ≡ false)
+aintc-twelve m p (Read o) = aintc .readNumbers (m .aintc) p o .twelve
+aintc-twelve m p (Write o v) = aintc .writeNumbers (m .aintc) p o v .twelve
+aintc-twelve m p (Line k l) = aintc .lineNumbers (m .aintc) k l .twelve
+
+pub twelve : (m : Machine) (x : Recorded) → (step m x .refusal ≡ unsound) ↔ (sound m ≡ false)
 twelve m x = go (kind-of (m .kind))
   where
     go : KindOf (m .kind) → (step m x .refusal ≡ unsound) ↔ (sound m ≡ false)
-    go (isAic k) = rw (aic-steps m x k) (rw (sym (sound-aic m k)) (aic-twelve m x))
-    go (isCore k) = rw (core-steps m x k) (rw (sym (sound-core m k)) (core-twelve m x))
-    go (isCic k) = rw (cic-steps m x k) (rw (sym (sound-cic m k)) (cic-twelve m x))
-    go (isNone a b c) = rw (no-steps m x a b c) (λ z. sym (sound-none m a b c), λ z. refl)
+    go (isAic k) = rw (aic-steps m x k) (rw (sym (sound-aic m k)) (aic-twelve m (x .step)))
+    go (isCore k) = rw (core-steps m x k) (rw (sym (sound-core m k)) (core-twelve m (x .step)))
+    go (isCic k) = rw (cic-steps m x k) (rw (sym (sound-cic m k)) (cic-twelve m (x .step)))
+    go (isAintc k) = rw (aintc-steps m x k) (rw (sym (sound-aintc m k)) (aintc-twelve m (x .privilege) (x .step)))
+    go (isNone a b c d) = rw (no-steps m x a b c d) (λ z. sym (sound-none m a b c d), λ z. refl)
 
 -- a machine that is not sound refuses every step by 12
-pub unsound-step : (m : Machine) (x : Step) → sound m ≡ false → refused m unsound ≡ step m x
+pub unsound-step : (m : Machine) (x : Recorded) → sound m ≡ false → refused m unsound ≡ step m x
 unsound-step m x e =
     let n : step m x .refusal ≡ unsound = twelve m x .1 e in
     sym (refused-same m x (λ z. omega arith) ∙ ap (refused m) n)

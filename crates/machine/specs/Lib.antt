@@ -1,4 +1,3 @@
--- One controller of any kind: its start, its steps, what it shows, and what is promised of it.
-pub mod Machine
+-- The steps of a controller of any kind, and what is promised of them.
 pub mod Promises
 pub mod Steps

@@ -1,119 +1,39 @@
--- What is promised of a machine: it starts, steps and shows as the model of its kind does.
-use Prim.Native.Nat.{ℕ, _≤_}
+-- What is promised of the steps of a machine: they are those of the model of its kind.
 use mathlib.Core.Path.{_≡_}
-use mathlib.Core.Bool.{Bool, true, false}
-use mathlib.Core.List.{List, [], _∷_}
+use mathlib.Core.Bool.{false}
 use mathlib.Core.Logic.{_↔_, _≢_}
-use lib.ListN.{length, getD, replicate}
-use Rattle.steps.specs.declared.Step.{Step}
-use Rattle.aic_record.specs.Promises.{Shaped as AicShaped}
-use Rattle.aic_record.specs.Sound.{sound as aicSound}
-use Rattle.aic.specs.Model.{start as aicStart, step as aicStep, outputs as aicOutputs}
-use Rattle.coreinterrupt.specs.Model.{start as coreStart, sound as coreSound, step as coreStep, outputs as coreOutputs}
-use Rattle.cic_record.specs.Sound.{sound as cicSound}
-use Rattle.cic_record.specs.Start.{start as cicStart}
-use Rattle.cic_hosts.specs.Hosts.{outputs as cicOutputs}
+use Rattle.steps.specs.declared.Recorded.{Recorded}
+use Rattle.aic.specs.Model.{step as aicStep}
+use Rattle.coreinterrupt.specs.Model.{step as coreStep}
 use Rattle.cic.specs.Model.{step as cicStep}
-use Rattle.kinds.specs.declared.Configuration.{Configuration}
-use Rattle.kinds.specs.Configuration.{noNumbers, filled}
-use Rattle.kinds.specs.Kinds.{isKind, wanted}
-use Rattle.kinds.specs.Promises.{Within}
-use Rattle.machine.specs.declared.Columns.{Columns}
-use Rattle.machine.specs.declared.Machine.{Machine}
-use Rattle.machine.specs.Machine.{blank, start, sound}
-use Rattle.machine.specs.Steps.{step, shown}
-
--- the machine that starts from these numbers
-abbrev pub startWith : ℕ → List ℕ → Machine
-startWith kind ns = start kind (filled noNumbers 0 ns)
-
--- the arrays of a machine have their lengths, as those of every machine in the code do
-abbrev pub Shaped : Machine → Type 0
-Shaped m = AicShaped (m .aic)
-
--- a machine whose steps are all carried out or refused as its model says, never by 12
-abbrev pub Ready : Machine → Type 0
-Ready m = (sound m ≡ true) × Shaped m
-
--- a number is 1 exactly if an output is active, and 0 exactly if it is not
-abbrev pub Tells : ℕ → Bool → Type 0
-Tells n active = ((n ≡ 1) ↔ (active ≡ true)) × ((n ≡ 0) ↔ (active ≡ false))
-
--- none of the three numbers is over 256
-abbrev pub Small : Columns → Type 0
-Small c = (c .first ≤ 256) × (c .second ≤ 256) × (c .third ≤ 256)
+use Rattle.aintc.specs.Model.{step as aintcStep}
+use Rattle.kinds.specs.Kinds.{isKind}
+use Rattle.machine_record.specs.declared.Machine.{Machine}
+use Rattle.machine_record.specs.Machine.{sound}
+use Rattle.machine_record.specs.Promises.{Ready}
+use Rattle.machine.specs.Steps.{step}
 
 pub record Promises : Type 0 where
-  -- ---- before a start
-
-  -- every number of the machine is 0 (01, House trace; Numbers)
-  pub blankKind : blank .kind ≡ 0
-  pub blankAic : blank .aic
-      ≡ record { external = 0; lines = 0; enabled = 0; memory = 0; forced = 0; spurious = 0; mask = 0; mode = replicate 32 0; vector = replicate 32 0; source = replicate 8 0; level = replicate 8 0; depth = 0 }
-  pub blankFiq : blank .core .fiq ≡ record { count = 0; level = 0; inputs = 0; soft = 0; enable = 0 }
-  pub blankIrq : blank .core .irq ≡ record { count = 0; level = 0; inputs = 0; soft = 0; enable = 0 }
-  pub blankCic : blank .cic
-      ≡ record { systems = 0; channels = 0; hosts = 0; revision = 0; global = 0; lines = replicate 32 0; status = replicate 32 0; enable = replicate 32 0; channel = replicate 1024 0; host = replicate 256 0; allow = replicate 8 0 }
-  -- ---- start
-
-  -- a start is that of the model, with the numbers in their order; the records of the other kinds are all 0 (01, House trace)
-  pub aicStarts : (c : Configuration)
-      → start 0 c ≡ record { kind = 0; aic = aicStart (getD (c .numbers) 0 0) (getD (c .numbers) 1 0) .aic; core = blank .core; cic = blank .cic }
-  pub coreStarts : (c : Configuration)
-      → start 1 c
-      ≡ record { kind = 1; aic = blank .aic; core = coreStart (getD (c .numbers) 0 0) (getD (c .numbers) 1 0) (getD (c .numbers) 2 0) (getD (c .numbers) 3 0) .core; cic = blank .cic }
-  pub cicStarts : (c : Configuration)
-      → start 2 c
-      ≡ record { kind = 2; aic = blank .aic; core = blank .core; cic = cicStart (getD (c .numbers) 0 0) (getD (c .numbers) 1 0) (getD (c .numbers) 2 0) (getD (c .numbers) 3 0) .cic }
-  pub noStarts : (kind : ℕ) (c : Configuration) → isKind kind ≡ false → start kind c ≡ blank
-  -- the same of a list of numbers (01, House trace)
-  pub aicFrom : (a b : ℕ) → startWith 0 (a ∷ b ∷ []) ≡ record { kind = 0; aic = aicStart a b .aic; core = blank .core; cic = blank .cic }
-  pub coreFrom : (a b c d : ℕ)
-      → startWith 1 (a ∷ b ∷ c ∷ d ∷ []) ≡ record { kind = 1; aic = blank .aic; core = coreStart a b c d .core; cic = blank .cic }
-  pub cicFrom : (a b c d : ℕ)
-      → startWith 2 (a ∷ b ∷ c ∷ d ∷ []) ≡ record { kind = 2; aic = blank .aic; core = blank .core; cic = cicStart a b c d .cic }
-  -- the start of numbers within their limits is sound (01, Numbers, 12)
-  pub startReady : (kind : ℕ) (ns : List ℕ) → isKind kind ≡ true → length ns ≡ wanted kind → Within kind 0 ns → Ready (startWith kind ns)
-  -- ---- soundness
-
-  -- a machine is sound exactly if the record of its kind is; one of no kind is not (01, Numbers, 12)
-  pub aicSoundIs : (m : Machine) → m .kind ≡ 0 → sound m ≡ aicSound (m .aic)
-  pub coreSoundIs : (m : Machine) → m .kind ≡ 1 → sound m ≡ coreSound (m .core)
-  pub cicSoundIs : (m : Machine) → m .kind ≡ 2 → sound m ≡ cicSound (m .cic)
-  pub noneSound : (m : Machine) → isKind (m .kind) ≡ false → sound m ≡ false
-  -- ---- steps
-
   -- a step answers what the model does, number, value and record, and leaves the rest of the machine alone (01, House trace)
-  pub aicSteps : (m : Machine) (x : Step) → m .kind ≡ 0
+  pub aicSteps : (m : Machine) (x : Recorded) → m .kind ≡ 0
       → step m x
-      ≡ record { refusal = aicStep (m .aic) x .refusal; value = aicStep (m .aic) x .value; machine = record { kind = m .kind; aic = aicStep (m .aic) x .aic; core = m .core; cic = m .cic } }
-  pub coreSteps : (m : Machine) (x : Step) → m .kind ≡ 1
+      ≡ record { refusal = aicStep (m .aic) (x .step) .refusal; value = aicStep (m .aic) (x .step) .value; machine = record { kind = m .kind; aic = aicStep (m .aic) (x .step) .aic; core = m .core; cic = m .cic; aintc = m .aintc } }
+  pub coreSteps : (m : Machine) (x : Recorded) → m .kind ≡ 1
       → step m x
-      ≡ record { refusal = coreStep (m .core) x .refusal; value = coreStep (m .core) x .value; machine = record { kind = m .kind; aic = m .aic; core = coreStep (m .core) x .core; cic = m .cic } }
-  pub cicSteps : (m : Machine) (x : Step) → m .kind ≡ 2
+      ≡ record { refusal = coreStep (m .core) (x .step) .refusal; value = coreStep (m .core) (x .step) .value; machine = record { kind = m .kind; aic = m .aic; core = coreStep (m .core) (x .step) .core; cic = m .cic; aintc = m .aintc } }
+  pub cicSteps : (m : Machine) (x : Recorded) → m .kind ≡ 2
       → step m x
-      ≡ record { refusal = cicStep (m .cic) x .refusal; value = cicStep (m .cic) x .value; machine = record { kind = m .kind; aic = m .aic; core = m .core; cic = cicStep (m .cic) x .cic } }
+      ≡ record { refusal = cicStep (m .cic) (x .step) .refusal; value = cicStep (m .cic) (x .step) .value; machine = record { kind = m .kind; aic = m .aic; core = m .core; cic = cicStep (m .cic) (x .step) .cic; aintc = m .aintc } }
+  -- that of an AINTC is made by the privilege that the trace tells (02, 2/12)
+  pub aintcSteps : (m : Machine) (x : Recorded) → m .kind ≡ 3
+      → step m x
+      ≡ record { refusal = aintcStep (m .aintc) (x .privilege) (x .step) .refusal; value = aintcStep (m .aintc) (x .privilege) (x .step) .value; machine = record { kind = m .kind; aic = m .aic; core = m .core; cic = m .cic; aintc = aintcStep (m .aintc) (x .privilege) (x .step) .aintc } }
   -- a machine of no kind has no step (01, Numbers, 12)
-  pub noSteps : (m : Machine) (x : Step) → isKind (m .kind) ≡ false → step m x ≡ record { refusal = 12; value = 0; machine = m }
+  pub noSteps : (m : Machine) (x : Recorded) → isKind (m .kind) ≡ false → step m x ≡ record { refusal = 12; value = 0; machine = m }
   -- every step keeps a sound machine sound, and the machine's kind (01, Numbers, 12)
-  pub stepReady : (m : Machine) (x : Step) → Ready m → Ready (step m x .machine)
-  pub stepKind : (m : Machine) (x : Step) → step m x .machine .kind ≡ m .kind
+  pub stepReady : (m : Machine) (x : Recorded) → Ready m → Ready (step m x .machine)
+  pub stepKind : (m : Machine) (x : Recorded) → step m x .machine .kind ≡ m .kind
   -- a refused step answers its number, the value 0 and the same machine (01, Numbers)
-  pub refusedSame : (m : Machine) (x : Step) → step m x .refusal ≢ 0 → step m x ≡ record { refusal = step m x .refusal; value = 0; machine = m }
+  pub refusedSame : (m : Machine) (x : Recorded) → step m x .refusal ≢ 0 → step m x ≡ record { refusal = step m x .refusal; value = 0; machine = m }
   -- 12 is given exactly when a machine is not sound (01, Numbers, 12)
-  pub twelve : (m : Machine) (x : Step) → (step m x .refusal ≡ 12) ↔ (sound m ≡ false)
-  -- ---- what is shown
-
-  -- an AIC: IRQ active, FIQ active, handlers open (01, House trace)
-  pub aicShows : (m : Machine) → m .kind ≡ 0
-      → Tells (shown m .first) (aicOutputs (m .aic) .irq) × Tells (shown m .second) (aicOutputs (m .aic) .fiq) × (shown m .third ≡ aicOutputs (m .aic) .handlers)
-  -- a CoreInterrupt: IRQ active, FIQ active, 0 (01, House trace)
-  pub coreShows : (m : Machine) → m .kind ≡ 1
-      → Tells (shown m .first) (coreOutputs (m .core) .irq) × Tells (shown m .second) (coreOutputs (m .core) .fiq) × (shown m .third ≡ 0)
-  -- a CIC: asserted hosts, the lowest of them or 256, 0 (01, House trace)
-  pub cicShows : (m : Machine) → m .kind ≡ 2
-      → (shown m .first ≡ cicOutputs (m .cic) .hosts) × (shown m .second ≡ cicOutputs (m .cic) .lowest) × (shown m .third ≡ 0)
-  -- a machine that is not sound, so one of no kind too: three zeros (01, Numbers, 12)
-  pub shownUnsound : (m : Machine) → sound m ≡ false → shown m ≡ record { first = 0; second = 0; third = 0 }
-  -- of a sound machine none of them is over 256, the number that stands for no asserted host (01, House trace)
-  pub shownSmall : (m : Machine) → sound m ≡ true → Small (shown m)
+  pub twelve : (m : Machine) (x : Recorded) → (step m x .refusal ≡ 12) ↔ (sound m ≡ false)

@@ -1,28 +1,18 @@
-// One controller of any kind: how it starts, how it steps and the three numbers that it shows. What a new kind does comes here, its number, name
-// and configuration to `kinds`; the crates above know of no kind (01, "House trace").
+// The steps of one controller of any kind. What a new kind does comes here, its record, start and columns to `machine_record`, its number, name and
+// configuration to `kinds`; the crates above know of no kind (01, "House trace"; 02, 2/12).
 ghost use mathlib.Core.Path.{_≡_};
 ghost use mathlib.Core.Bool.{true};
-ghost use Rattle.words.specs.Counting.{one};
 ghost use Rattle.aic_record.specs.Sound.{sound as aicSound};
 ghost use Rattle.aic.specs.Model.{step as aicStep};
 ghost use Rattle.coreinterrupt.specs.Model.{sound as coreSound, step as coreStep};
 ghost use Rattle.cic_record.specs.Sound.{sound as cicSound};
 ghost use Rattle.cic.specs.Model.{step as cicStep};
-ghost use Rattle.machine.specs.Machine.{blank, ofAic, ofCore, ofCic, start, sound};
-ghost use Rattle.machine.specs.Steps.{afterAic, afterCore, afterCic, step, aicColumns, coreColumns, cicColumns, shown};
-use aic_record::Aic;
-use cic_record::Cic;
-use coreinterrupt::Core;
-use kinds::Configuration;
-use steps::Step;
-
-// The record of each kind; only that of the machine's own kind is ever used.
-pub struct Machine {
-    pub kind: u32,
-    pub aic: Aic,
-    pub core: Core,
-    pub cic: Cic,
-}
+ghost use Rattle.aintc_choice.specs.Settle.{sound as aintcSound};
+ghost use Rattle.aintc.specs.Model.{step as aintcStep};
+ghost use Rattle.machine_record.specs.Machine.{sound};
+ghost use Rattle.machine.specs.Steps.{afterAic, afterCore, afterCic, afterAintc, step};
+use machine_record::Machine;
+use steps::Recorded;
 
 // The refusal, 0 for none, the value read, and the machine after the step.
 pub struct Answer {
@@ -31,92 +21,14 @@ pub struct Answer {
     pub machine: Machine,
 }
 
-// The three numbers of a listing's line.
-pub struct Columns {
-    pub first: u32,
-    pub second: u32,
-    pub third: u32,
-}
-
-// ---- the start
-
-// The machine before a start: all its numbers are 0.
-pub fn empty() -> Machine
-    ensures { λ r. ⌜ r ≡ blank ⌝ }
-{
-    let a = aic_record::reset_to(0, 0);
-    let b = coreinterrupt::start(0, 0, 0, 0);
-    let c = cic::start(0, 0, 0, 0);
-    let core = b.core;
-    let cic = c.cic;
-    Machine {
-        kind: kinds::AIC,
-        aic: a,
-        core,
-        cic,
-    }
-}
-
-fn of_aic(a: Aic) -> Machine
-    ensures { λ r. ⌜ r ≡ ofAic a ⌝ }
-{
-    let mut m = empty();
-    m.kind = kinds::AIC;
-    m.aic = a;
-    m
-}
-
-fn of_core(c: Core) -> Machine
-    ensures { λ r. ⌜ r ≡ ofCore c ⌝ }
-{
-    let mut m = empty();
-    m.kind = kinds::CORE;
-    m.core = c;
-    m
-}
-
-fn of_cic(c: Cic) -> Machine
-    ensures { λ r. ⌜ r ≡ ofCic c ⌝ }
-{
-    let mut m = empty();
-    m.kind = kinds::CIC;
-    m.cic = c;
-    m
-}
-
-// The machine of a kind with these numbers; one that starts from a number beyond its limit is not sound or has a record of zeros.
-pub fn start(kind: u32, c: Configuration) -> Machine
-    ensures { λ r. ⌜ r ≡ start kind c ⌝ }
-{
-    let n = c.numbers;
-    let first = n[0];
-    let second = n[1];
-    if kind == kinds::AIC {
-        let b = aic::start(first, second);
-        return of_aic(b.aic);
-    }
-    let third = n[2];
-    let fourth = n[3];
-    if kind == kinds::CORE {
-        let b = coreinterrupt::start(first, second, third, fourth);
-        return of_core(b.core);
-    }
-    if kind == kinds::CIC {
-        let b = cic::start(first, second, third, fourth);
-        return of_cic(b.cic);
-    }
-    empty()
-}
-
-// ---- steps
-
 // The step of each model, its record put back into the machine.
-fn aic_step(m: Machine, x: Step) -> Answer
+fn aic_step(m: Machine, x: Recorded) -> Answer
     requires { ⌜ aicSound (m .aic) ≡ true ⌝ }
-    ensures { λ r. ⌜ r ≡ afterAic m (aicStep (m .aic) x) ⌝ }
+    ensures { λ r. ⌜ r ≡ afterAic m (aicStep (m .aic) (x .step)) ⌝ }
 {
     let s = m.aic;
-    let a = aic::step_sound(s, x);
+    let y = x.step;
+    let a = aic::step_sound(s, y);
     let t = a.aic;
     let mut n = m;
     n.aic = t;
@@ -127,12 +39,13 @@ fn aic_step(m: Machine, x: Step) -> Answer
     }
 }
 
-fn core_step(m: Machine, x: Step) -> Answer
+fn core_step(m: Machine, x: Recorded) -> Answer
     requires { ⌜ coreSound (m .core) ≡ true ⌝ }
-    ensures { λ r. ⌜ r ≡ afterCore m (coreStep (m .core) x) ⌝ }
+    ensures { λ r. ⌜ r ≡ afterCore m (coreStep (m .core) (x .step)) ⌝ }
 {
     let s = m.core;
-    let a = coreinterrupt::step_sound(s, x);
+    let y = x.step;
+    let a = coreinterrupt::step_sound(s, y);
     let t = a.core;
     let mut n = m;
     n.core = t;
@@ -143,12 +56,13 @@ fn core_step(m: Machine, x: Step) -> Answer
     }
 }
 
-fn cic_step(m: Machine, x: Step) -> Answer
+fn cic_step(m: Machine, x: Recorded) -> Answer
     requires { ⌜ cicSound (m .cic) ≡ true ⌝ }
-    ensures { λ r. ⌜ r ≡ afterCic m (cicStep (m .cic) x) ⌝ }
+    ensures { λ r. ⌜ r ≡ afterCic m (cicStep (m .cic) (x .step)) ⌝ }
 {
     let s = m.cic;
-    let a = cic::step_sound(s, x);
+    let y = x.step;
+    let a = cic::step_sound(s, y);
     let t = a.cic;
     let mut n = m;
     n.cic = t;
@@ -159,124 +73,51 @@ fn cic_step(m: Machine, x: Step) -> Answer
     }
 }
 
+fn aintc_step(m: Machine, x: Recorded) -> Answer
+    requires { ⌜ aintcSound (m .aintc) ≡ true ⌝ }
+    ensures { λ r. ⌜ r ≡ afterAintc m (aintcStep (m .aintc) (x .privilege) (x .step)) ⌝ }
+{
+    let s = m.aintc;
+    let y = x.step;
+    let a = aintc::step_sound(s, x.privilege, y);
+    let t = a.aintc;
+    let mut n = m;
+    n.aintc = t;
+    Answer {
+        refusal: a.refusal,
+        value: a.value,
+        machine: n,
+    }
+}
+
 // A step of a machine that is known to be sound, as after a start and after every step: it is not looked at again.
-pub fn step_sound(m: Machine, x: Step) -> Answer
+pub fn step_sound(m: Machine, x: Recorded) -> Answer
     requires { ⌜ sound m ≡ true ⌝ }
     ensures { λ r. ⌜ r ≡ step m x ⌝ }
 {
-    if m.kind == kinds::AIC {
+    let kind = m.kind;
+    if kind == kinds::AIC {
         return aic_step(m, x);
     }
-    if m.kind == kinds::CORE {
+    if kind == kinds::CORE {
         return core_step(m, x);
     }
-    cic_step(m, x)
+    if kind == kinds::CIC {
+        return cic_step(m, x);
+    }
+    aintc_step(m, x)
 }
 
 // A step of any machine; one that is not sound is refused by 12.
-pub fn step(m: Machine, x: Step) -> Answer
+pub fn step(m: Machine, x: Recorded) -> Answer
     ensures { λ r. ⌜ r ≡ step m x ⌝ }
 {
-    if is_sound(m) {
+    if machine_record::is_sound(m) {
         return step_sound(m, x);
     }
     Answer {
         refusal: steps::UNSOUND,
         value: 0,
         machine: m,
-    }
-}
-
-// Whether the machine is of a known kind and its record keeps the rules of its model.
-pub fn is_sound(m: Machine) -> bool
-    ensures { λ r. ⌜ r ≡ sound m ⌝ }
-{
-    if m.kind == kinds::AIC {
-        let s = m.aic;
-        return aic_record::is_sound(s);
-    }
-    if m.kind == kinds::CORE {
-        let s = m.core;
-        return coreinterrupt::is_sound(s);
-    }
-    if m.kind == kinds::CIC {
-        let s = m.cic;
-        return cic_record::is_sound(s);
-    }
-    false
-}
-
-// ---- what a listing shows
-
-fn one_if(t: bool) -> u32
-    ensures { λ r. ⌜ r ≡ one t ⌝ }
-{
-    if t {
-        return 1;
-    }
-    0
-}
-
-// IRQ active, FIQ active, handlers open.
-fn aic_columns(o: aic::Signals) -> Columns
-    ensures { λ r. ⌜ r ≡ aicColumns o ⌝ }
-{
-    Columns {
-        first: one_if(o.irq),
-        second: one_if(o.fiq),
-        third: o.handlers,
-    }
-}
-
-// IRQ active, FIQ active, 0.
-fn core_columns(o: coreinterrupt::Signals) -> Columns
-    ensures { λ r. ⌜ r ≡ coreColumns o ⌝ }
-{
-    Columns {
-        first: one_if(o.irq),
-        second: one_if(o.fiq),
-        third: 0,
-    }
-}
-
-// Asserted hosts, the lowest of them, 0.
-fn cic_columns(o: cic_record::Signals) -> Columns
-    ensures { λ r. ⌜ r ≡ cicColumns o ⌝ }
-{
-    Columns {
-        first: o.hosts,
-        second: o.lowest,
-        third: 0,
-    }
-}
-
-// The three numbers of a machine that is known to be sound.
-pub fn shown_sound(m: Machine) -> Columns
-    requires { ⌜ sound m ≡ true ⌝ }
-    ensures { λ r. ⌜ r ≡ shown m ⌝ }
-{
-    if m.kind == kinds::AIC {
-        let s = m.aic;
-        return aic_columns(aic::outputs_sound(s));
-    }
-    if m.kind == kinds::CORE {
-        let s = m.core;
-        return core_columns(coreinterrupt::outputs_sound(s));
-    }
-    let s = m.cic;
-    cic_columns(cic::outputs_sound(s))
-}
-
-// The three numbers of any machine, all 0 where it is not sound.
-pub fn shown(m: Machine) -> Columns
-    ensures { λ r. ⌜ r ≡ shown m ⌝ }
-{
-    if is_sound(m) {
-        return shown_sound(m);
-    }
-    Columns {
-        first: 0,
-        second: 0,
-        third: 0,
     }
 }

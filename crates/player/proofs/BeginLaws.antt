@@ -1,7 +1,7 @@
 -- What a configuration and a beginning are in each of the ways that the code goes.
 use Prim.Native.Nat.{ℕ, zero, suc, _+_, _-_}
 use mathlib.Core.Path.{_≡_, refl, sym, ap, _∙_}
-use mathlib.Core.Bool.{true, false}
+use mathlib.Core.Bool.{Bool, true, false}
 use mathlib.Core.List.{List}
 use native.Mathlib.Numerals.{sub-one}
 use borrow.Author.Tests.{eq-eqb, ne-eqb}
@@ -11,7 +11,7 @@ use Rattle.numbers.specs.Number.{numberAt}
 use Rattle.numbers.specs.declared.Number.the-variants.{Value, Refused}
 use Rattle.trace.specs.Trace.{ends, stepsFrom}
 use Rattle.kinds.specs.declared.Configuration.{Configuration}
-use Rattle.kinds.specs.Kinds.{within}
+use Rattle.kinds.specs.Kinds.{within, tellsPrivilege}
 use Rattle.kinds.specs.Configuration.{withNumber}
 use Rattle.player.specs.declared.Begun.{Begun}
 use Rattle.player.specs.Begin.{refusedSetup, acceptedSetup, byValue, setupFrom, beginOf}
@@ -44,10 +44,11 @@ module _ (kind left k : ℕ) (s : List ℕ) (c : Configuration) (at : ℕ) where
 
 -- ---- what is played after a beginning, and what without one
 
-pub play-begun : (s : List ℕ) (limit : ℕ) (b : Begun) → b ≡ beginOf s → b .refusal ≡ carriedOut → report 0 (b .machine) (stepsFrom limit s (b .place)) ≡ playOf s limit
+pub play-begun : (s : List ℕ) (limit : ℕ) (told : Bool) (b : Begun) → b ≡ beginOf s → b .refusal ≡ carriedOut → told ≡ tellsPrivilege (b .machine .kind)
+    → report 0 (b .machine) (stepsFrom told limit s (b .place)) ≡ playOf s limit
 unfolding playOf recordsFrom
-play-begun s limit b e r =
-    ap (report 0 (b .machine)) (pick-true _ (eq-eqb (b .refusal) carriedOut r)) ∙ ap (λ (x : Begun). report 0 (x .machine) (recordsFrom limit s x)) e
+play-begun s limit told b e r t =
+    ap (λ (z : Bool). report 0 (b .machine) (stepsFrom z limit s (b .place))) t ∙ ap (report 0 (b .machine)) (pick-true _ (eq-eqb (b .refusal) carriedOut r)) ∙ ap (λ (x : Begun). report 0 (x .machine) (recordsFrom limit s x)) e
 
 pub play-refused : (s : List ℕ) (limit : ℕ) (b : Begun) → b ≡ beginOf s → (b .refusal ≡ carriedOut → ⊥)
     → report 0 (b .machine) (ends (b .refusal) (b .place)) ≡ playOf s limit

@@ -1,6 +1,7 @@
 -- What a report is in each of the ways that a turn of the player goes, and what holds of all its steps.
 use Prim.Native.Nat.{ℕ, suc, _+_, _-_, _≤_}
 use mathlib.Core.Path.{_≡_, sym, ap, _∙_}
+use mathlib.Core.Bool.{Bool}
 use mathlib.Core.List.{List, [], _∷_}
 use native.Mathlib.Nat.{add-zero}
 use native.Mathlib.Omega.{arith}
@@ -9,12 +10,13 @@ use lib.Dec.{eqb}
 use borrow.Author.Tests.{eq-eqb, ne-eqb}
 use Rattle.words.proofs.ChoiceLaws.{pick-true, pick-false, pick-cases}
 use Rattle.steps.specs.Refusals.{carriedOut}
-use Rattle.steps.specs.declared.Step.{Step}
+use Rattle.steps.specs.declared.Recorded.{Recorded}
 use Rattle.trace.specs.declared.Turn.the-variants.{Found, Ended}
 use Rattle.trace.specs.Trace.{Trace, ends, after, turnAt, stepsFrom}
 use Rattle.trace.proofs.TraceLaws.{trace-ended, trace-found, steps-limited}
-use Rattle.machine.specs.declared.Machine.{Machine}
-use Rattle.machine.specs.Promises.{Ready}
+use Rattle.kinds.specs.Kinds.{tellsPrivilege}
+use Rattle.machine_record.specs.declared.Machine.{Machine}
+use Rattle.machine_record.specs.Promises.{Ready}
 use Rattle.machine.specs.Steps.{step}
 use Rattle.machine.proofs.StepLaws.{step-ready}
 use Rattle.player.specs.declared.Begun.{Begun}
@@ -26,24 +28,24 @@ unfolding report runOf
 report-ends n m refusal offset = rw (add-zero n)
 
 -- a step, and the rest
-report-after : (n : ℕ) (m : Machine) (x : Step) (t : Trace) → report (n + 1) (step m x .machine) t ≡ report n m (after x t)
+report-after : (n : ℕ) (m : Machine) (x : Recorded) (t : Trace) → report (n + 1) (step m x .machine) t ≡ report n m (after x t)
 unfolding report runOf
 report-after n m x t = let e : n + suc (length (t .steps)) ≡ n + 1 + length (t .steps) = omega arith in rw e
 
 -- the two ways of a turn: the end; a step
-module _ (n : ℕ) (m : Machine) (left : ℕ) (s : List ℕ) (at : ℕ) where
-  pub report-ended : (refusal p : ℕ) → turnAt s at left ≡ Ended refusal p
-      → record { steps = n; machine = m; refusal = refusal; offset = p } ≡ report n m (stepsFrom left s at)
-  report-ended refusal p e = report-ends n m refusal p ∙ ap (report n m) (sym (trace-ended left s at refusal p e))
+module _ (n : ℕ) (m : Machine) (told : Bool) (left : ℕ) (s : List ℕ) (at : ℕ) where
+  pub report-ended : (refusal p : ℕ) → turnAt told s at left ≡ Ended refusal p
+      → record { steps = n; machine = m; refusal = refusal; offset = p } ≡ report n m (stepsFrom told left s at)
+  report-ended refusal p e = report-ends n m refusal p ∙ ap (report n m) (sym (trace-ended told left s at refusal p e))
 
-  pub report-found : (x : Step) (p : ℕ) → turnAt s at left ≡ Found x p
-      → report (n + 1) (step m x .machine) (stepsFrom (left - 1) s p) ≡ report n m (stepsFrom left s at)
-  report-found x p e = report-after n m x (stepsFrom (left - 1) s p) ∙ ap (report n m) (sym (trace-found left s at x p e))
+  pub report-found : (x : Recorded) (p : ℕ) → turnAt told s at left ≡ Found x p
+      → report (n + 1) (step m x .machine) (stepsFrom told (left - 1) s p) ≡ report n m (stepsFrom told left s at)
+  report-found x p e = report-after n m x (stepsFrom told (left - 1) s p) ∙ ap (report n m) (sym (trace-found told left s at x p e))
 
 -- ---- the records of a trace
 
 -- those after a beginning
-pub records-begun : (limit : ℕ) (s : List ℕ) (b : Begun) → b .refusal ≡ carriedOut → recordsFrom limit s b ≡ stepsFrom limit s (b .place)
+pub records-begun : (limit : ℕ) (s : List ℕ) (b : Begun) → b .refusal ≡ carriedOut → recordsFrom limit s b ≡ stepsFrom (tellsPrivilege (b .machine .kind)) limit s (b .place)
 unfolding recordsFrom
 records-begun limit s b e = sym (pick-true _ (eq-eqb (b .refusal) carriedOut e))
 
@@ -56,11 +58,11 @@ records-refused limit s b e = sym (pick-false _ (ne-eqb (b .refusal) carriedOut 
 pub records-limited : (limit : ℕ) (s : List ℕ) (b : Begun) → length (recordsFrom limit s b .steps) ≤ limit
 unfolding recordsFrom
 records-limited limit s b =
-    pick-cases (λ (t : Trace). length (t .steps) ≤ limit) (eqb (b .refusal) carriedOut) (λ e. steps-limited limit s (b .place)) (λ e. omega arith)
+    pick-cases (λ (t : Trace). length (t .steps) ≤ limit) (eqb (b .refusal) carriedOut) (λ e. steps-limited (tellsPrivilege (b .machine .kind)) limit s (b .place)) (λ e. omega arith)
 
 -- ---- the machine after some steps
 
-pub run-ready : (m : Machine) (xs : List Step) → Ready m → Ready (runOf m xs)
+pub run-ready : (m : Machine) (xs : List Recorded) → Ready m → Ready (runOf m xs)
 unfolding runOf
 run-ready m [] e = e
 run-ready m (x ∷ xs) e = run-ready (step m x .machine) xs (step-ready m x e)

@@ -1,7 +1,7 @@
 -- The promises of a player, kept.
 use Prim.Native.Nat.{ℕ, _<_, _≤_}
 use mathlib.Core.Path.{_≡_, refl, sym, ap, _∙_}
-use mathlib.Core.Bool.{true, false}
+use mathlib.Core.Bool.{Bool, true, false}
 use mathlib.Core.List.{List, [], _∷_}
 use mathlib.Core.Logic.{_↔_, _≢_, inl, inr}
 use native.Mathlib.Nat.{zero-add}
@@ -9,25 +9,25 @@ use native.Mathlib.Decide.{ℕ-discrete}
 use native.Mathlib.Omega.{arith}
 use lib.ListN.{length}
 use Rattle.steps.specs.Refusals.{carriedOut, limitReached, damaged, unknown, misconfigured, tooLong}
-use Rattle.steps.specs.declared.Step.{Step}
+use Rattle.steps.specs.declared.Recorded.{Recorded}
 use Rattle.numbers.specs.Promises.{toldAt}
 use Rattle.trace.specs.declared.Turn.{Turn}
 use Rattle.trace.specs.declared.Turn.the-variants.{Ended}
 use Rattle.trace.specs.Promises.{Reads, Along, Ends}
-use Rattle.trace.specs.Steps.{told}
+use Rattle.trace.specs.Steps.{tell}
 use Rattle.trace.specs.Trace.{Trace}
 use Rattle.trace.proofs.Promises.{kept as trace-kept}
-use Rattle.trace.proofs.StepLaws.{Outcome, noKind as Outcome·noKind, unknownKind, noFirst, oneNumber, noSecond, twoNumbered, outcome}
-use Rattle.machine.specs.declared.Machine.{Machine}
+use Rattle.trace.proofs.StepLaws.{Outcome, noKind as Outcome·noKind, unknownKind, noFirst, oneNumber, noSecond, twoNumbered, noThird, threeNumbered, outcome}
+use Rattle.machine_record.specs.declared.Machine.{Machine}
 use Rattle.kinds.specs.Kinds.{isKind, within}
-use Rattle.machine.specs.Machine.{blank, sound}
-use Rattle.machine.specs.Promises.{startWith}
+use Rattle.machine_record.specs.Machine.{blank, sound}
+use Rattle.machine_record.specs.Promises.{startWith}
 use Rattle.machine.specs.Steps.{step}
 use Rattle.player.specs.declared.Begun.{Begun}
 use Rattle.player.specs.declared.Played.{Played}
 use Rattle.player.specs.Begin.{longest, notBegun, beginOf}
 use Rattle.player.specs.Play.{recordsOf, runOf, report, playOf}
-use Rattle.player.specs.Promises.{Wanting, Configures, Begins, Promises}
+use Rattle.player.specs.Promises.{Wanting, Configures, Begins, told, Promises}
 use Rattle.player.proofs.BeginLaws.{play-refused}
 use Rattle.player.proofs.PlayLaws.{report-ends, records-begun, records-limited, run-ready}
 use Rattle.player.proofs.KnownLaws.{overlong-so, damaged-so, no-kind-so, beyond-so, configured-so}
@@ -165,30 +165,32 @@ module _ (s : List ℕ) (limit : ℕ) (z : beginOf s .refusal ≡ carriedOut) wh
   at = beginOf s .place
 
   abbrev Whole : Trace → Type 0
-  Whole t = (p : ℕ) × Along s at (t .steps) p × Ends limit s (length (t .steps)) p (t .refusal) (t .offset)
+  Whole t = (p : ℕ) × Along (told s) s at (t .steps) p × Ends (told s) limit s (length (t .steps)) p (t .refusal) (t .offset)
 
   whole : Whole (recordsOf s limit)
-  whole = rw (records-begun limit s (beginOf s) z) (trace-kept .trace limit s at)
+  whole = rw (records-begun limit s (beginOf s) z) (trace-kept .trace (told s) limit s at)
 
-  ends : (p : ℕ) × Along s at (recordsOf s limit .steps) p × Ends limit s (playOf s limit .steps) p (playOf s limit .refusal) (playOf s limit .offset)
+  ends : (p : ℕ) × Along (told s) s at (recordsOf s limit .steps) p × Ends (told s) limit s (playOf s limit .steps) p (playOf s limit .refusal) (playOf s limit .offset)
   unfolding playOf report
   ends = let w = whole in (w .0, w .1, rw (zero-add (length (recordsOf s limit .steps))) (w .2))
 
 -- steps that stand one after the other lead to one place
-along-one : (s : List ℕ) (at p q : ℕ) (xs : List Step) → Along s at xs p → Along s at xs q → p ≡ q
-along-one s at p q [] a b = sym a ∙ b
-along-one s at p q (x ∷ xs) a b =
-    let e : a .0 ≡ b .0 = ap (λ (n : Turn). told n .place) (sym (a .1) ∙ b .1) in
-    along-one s (a .0) p q xs (a .2) (rw e (b .2))
+along-one : (t : Bool) (s : List ℕ) (at p q : ℕ) (xs : List Recorded) → Along t s at xs p → Along t s at xs q → p ≡ q
+along-one t s at p q [] a b = sym a ∙ b
+along-one t s at p q (x ∷ xs) a b =
+    let e : a .0 ≡ b .0 = ap (λ (n : Turn). tell t n .place) (sym (a .1) ∙ b .1) in
+    along-one t s (a .0) p q xs (a .2) (rw e (b .2))
 
 -- no step is refused by 7
-not-seven : (s : List ℕ) (at : ℕ) (n : Turn) → Outcome s at n → told n .refusal ≢ limitReached
-not-seven s at n (Outcome·noKind e) z = omega arith
-not-seven s at n (unknownKind kind q e o) z = omega arith
-not-seven s at n (noFirst kind q e l f) z = omega arith
-not-seven s at n (oneNumber q x next e f) z = omega arith
-not-seven s at n (noSecond kind q x r e o f g) z = omega arith
-not-seven s at n (twoNumbered step kind q x r y next v e f g) z = omega arith
+not-seven : (t : Bool) (s : List ℕ) (at : ℕ) (n : Turn) → Outcome t s at n → tell t n .refusal ≢ limitReached
+not-seven t s at n (Outcome·noKind e) z = omega arith
+not-seven t s at n (unknownKind kind q e o) z = omega arith
+not-seven t s at n (noFirst kind q e l f) z = omega arith
+not-seven t s at n (oneNumber step kind q x next v e f) z = omega arith
+not-seven t s at n (noSecond kind q x r e o f g) z = omega arith
+not-seven t s at n (twoNumbered step kind q x r y next v e f g) z = omega arith
+not-seven t s at n (noThird kind q x r y w e o f g h) z = omega arith
+not-seven t s at n (threeNumbered step kind q x r y w v next u e f g h) z = omega arith
 
 -- a beginning is not refused by 7
 begins-seven : (s : List ℕ) (b : Begun) → Beginning s b → b .refusal ≢ limitReached
@@ -201,20 +203,20 @@ begins-seven s b (configured kind ns q l r w) z = omega arith
 module _ (s : List ℕ) (limit p : ℕ) where
   abbrev Seven : Type 0
   Seven =
-      (beginOf s .refusal ≡ carriedOut) × Along s (beginOf s .place) (recordsOf s limit .steps) p × (playOf s limit .steps ≡ limit) × (p < length s)
+      (beginOf s .refusal ≡ carriedOut) × Along (told s) s (beginOf s .place) (recordsOf s limit .steps) p × (playOf s limit .steps ≡ limit) × (p < length s)
 
   abbrev TellsSeven : Type 0
   TellsSeven = (playOf s limit .refusal ≡ limitReached) × (playOf s limit .offset ≡ p)
 
   -- after a beginning: 7 ends it only where the limit is reached
   by-limit : (z : beginOf s .refusal ≡ carriedOut) (q n refusal offset : ℕ) → n ≡ playOf s limit .steps → refusal ≡ limitReached → offset ≡ p
-      → Along s (beginOf s .place) (recordsOf s limit .steps) q → Ends limit s n q refusal offset → Seven
+      → Along (told s) s (beginOf s .place) (recordsOf s limit .steps) q → Ends (told s) limit s n q refusal offset → Seven
   by-limit z q n refusal offset c e f a (inl h) = absurd (omega (arith, h .1 .1 .0))
   by-limit z q n refusal offset c e f a (inr (inl h)) = (z, rw (sym f ∙ h .1 .1 .1) a, sym c ∙ h .1 .0, omega (arith, h .0, h .1 .1 .1))
-  by-limit z q n refusal offset c e f a (inr (inr h)) = absurd (not-seven s q (Ended refusal offset) (rw (sym (h .1 .1)) (outcome s q)) e)
+  by-limit z q n refusal offset c e f a (inr (inr h)) = absurd (not-seven (told s) s q (Ended refusal offset) (rw (sym (h .1 .1)) (outcome (told s) s q)) e)
 
   -- and it does so there
-  at-limit : (q n refusal offset : ℕ) → n ≡ limit → p ≡ q → p < length s → Ends limit s n q refusal offset → (refusal ≡ limitReached) × (offset ≡ p)
+  at-limit : (q n refusal offset : ℕ) → n ≡ limit → p ≡ q → p < length s → Ends (told s) limit s n q refusal offset → (refusal ≡ limitReached) × (offset ≡ p)
   at-limit q n refusal offset c e l (inl h) = absurd (omega (arith, h .0))
   at-limit q n refusal offset c e l (inr (inl h)) = (h .1 .1 .0, h .1 .1 .1 ∙ sym e)
   at-limit q n refusal offset c e l (inr (inr h)) = absurd (omega (arith, h .1 .0))
@@ -229,9 +231,9 @@ module _ (s : List ℕ) (limit p : ℕ) where
   seven-so : Seven → TellsSeven
   seven-so h =
       let w = ends s limit (h .0) in
-      at-limit (w .0) _ _ _ (h .2) (along-one s (beginOf s .place) p (w .0) (recordsOf s limit .steps) (h .1) (w .1)) (h .3) (w .2)
+      at-limit (w .0) _ _ _ (h .2) (along-one (told s) s (beginOf s .place) p (w .0) (recordsOf s limit .steps) (h .1) (w .1)) (h .3) (w .2)
 
-played-one : (m : Machine) (x : Step) (xs : List Step) → runOf m (x ∷ xs) ≡ runOf (step m x .machine) xs
+played-one : (m : Machine) (x : Recorded) (xs : List Recorded) → runOf m (x ∷ xs) ≡ runOf (step m x .machine) xs
 unfolding runOf
 played-one m x xs = refl
 

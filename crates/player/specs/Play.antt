@@ -5,24 +5,27 @@ use lib.ListN.{length}
 use lib.Dec.{eqb}
 use Rattle.words.specs.Choice.{pick}
 use Rattle.steps.specs.Refusals.{carriedOut}
-use Rattle.steps.specs.declared.Step.{Step}
+use Rattle.steps.specs.declared.Recorded.{Recorded}
 use Rattle.trace.specs.Trace.{Trace, ends, stepsFrom}
-use Rattle.machine.specs.declared.Machine.{Machine}
+use Rattle.kinds.specs.Kinds.{tellsPrivilege}
+use Rattle.machine_record.specs.declared.Machine.{Machine}
 use Rattle.machine.specs.Steps.{step}
 use Rattle.player.specs.declared.Begun.{Begun}
 use Rattle.player.specs.declared.Played.{Played}
 use Rattle.player.specs.Begin.{beginOf}
 
--- the step records of a trace after its beginning, at most so many, and how it ends; none where it has no beginning
+-- the step records of a trace after its beginning, at most so many, and how it ends; none where it has no beginning. They tell their privilege where the
+-- steps of the machine's kind do (02, 2/12)
 unfoldable pub recordsFrom : ℕ → List ℕ → Begun → Trace
-recordsFrom limit s b = pick (eqb (b .refusal) carriedOut) (stepsFrom limit s (b .place)) (ends (b .refusal) (b .place))
+recordsFrom limit s b =
+    pick (eqb (b .refusal) carriedOut) (stepsFrom (tellsPrivilege (b .machine .kind)) limit s (b .place)) (ends (b .refusal) (b .place))
 
 -- those of a whole trace (01, House trace)
 abbrev pub recordsOf : List ℕ → ℕ → Trace
 recordsOf s limit = recordsFrom limit s (beginOf s)
 
 -- the machine after some steps, refused ones among them
-unfoldable pub runOf : Machine → List Step → Machine
+unfoldable pub runOf : Machine → List Recorded → Machine
 runOf m [] = m
 runOf m (x ∷ xs) = runOf (step m x .machine) xs
 

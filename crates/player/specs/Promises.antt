@@ -1,19 +1,19 @@
 -- What is promised of a player, in the numbers of 01 that its report tells.
 use Prim.Native.Nat.{ℕ, _<_, _≤_}
 use mathlib.Core.Path.{_≡_}
-use mathlib.Core.Bool.{true, false}
+use mathlib.Core.Bool.{Bool, true, false}
 use mathlib.Core.List.{List, [], _∷_}
 use mathlib.Core.Logic.{_↔_, _≢_}
 use lib.ListN.{length}
-use Rattle.steps.specs.declared.Step.{Step}
+use Rattle.steps.specs.declared.Recorded.{Recorded}
 use Rattle.numbers.specs.Promises.{toldAt}
 use Rattle.trace.specs.Promises.{Reads, Along, Ends}
-use Rattle.machine.specs.declared.Machine.{Machine}
-use Rattle.kinds.specs.Kinds.{isKind, wanted, within}
-use Rattle.machine.specs.Machine.{blank, sound}
+use Rattle.machine_record.specs.declared.Machine.{Machine}
+use Rattle.kinds.specs.Kinds.{isKind, wanted, within, tellsPrivilege}
+use Rattle.machine_record.specs.Machine.{blank, sound}
 use Rattle.machine.specs.Steps.{step}
 use Rattle.kinds.specs.Promises.{Within}
-use Rattle.machine.specs.Promises.{startWith}
+use Rattle.machine_record.specs.Promises.{startWith}
 use Rattle.player.specs.Begin.{beginOf}
 use Rattle.player.specs.Play.{recordsOf, runOf, playOf}
 
@@ -29,6 +29,10 @@ Configures kind ns = (isKind kind ≡ true) × (Within kind 0 ns × (length ns �
 -- a trace begins with a refusal, 0 for none, at a place
 abbrev pub Begins : List ℕ → ℕ → ℕ → Type 0
 Begins s refusal p = (beginOf s .refusal ≡ refusal) × (beginOf s .place ≡ p)
+
+-- the steps of a trace tell their privilege, by the kind that it begins with (02, 2/12)
+abbrev pub told : List ℕ → Bool
+told s = tellsPrivilege (beginOf s .machine .kind)
 
 pub record Promises : Type 0 where
   -- ---- the beginning
@@ -66,14 +70,15 @@ pub record Promises : Type 0 where
   -- the machine after them is what they make of the first one, step by step (01, House trace)
   pub played : (s : List ℕ) (limit : ℕ) → playOf s limit .machine ≡ runOf (beginOf s .machine) (recordsOf s limit .steps)
   pub playedNone : (m : Machine) → runOf m [] ≡ m
-  pub playedOne : (m : Machine) (x : Step) (xs : List Step) → runOf m (x ∷ xs) ≡ runOf (step m x .machine) xs
+  pub playedOne : (m : Machine) (x : Recorded) (xs : List Recorded) → runOf m (x ∷ xs) ≡ runOf (step m x .machine) xs
   -- after an accepted configuration it is sound (01, a sound record)
   pub soundly : (s : List ℕ) (limit : ℕ) → beginOf s .refusal ≡ 0 → sound (playOf s limit .machine) ≡ true
   -- the step records stand one after the other behind the configuration, and the play ends as 01 says where the next would begin: 0 at the
   -- length, 7 at a byte that remains when the limit is reached, or what refuses the next step, at the number at fault (01, House trace)
   pub ends : (s : List ℕ) (limit : ℕ) → beginOf s .refusal ≡ 0
-      → (p : ℕ) × Along s (beginOf s .place) (recordsOf s limit .steps) p × Ends limit s (playOf s limit .steps) p (playOf s limit .refusal) (playOf s limit .offset)
+      → (p : ℕ) × Along (told s) s (beginOf s .place) (recordsOf s limit .steps) p
+      × Ends (told s) limit s (playOf s limit .steps) p (playOf s limit .refusal) (playOf s limit .offset)
   -- 7 is given exactly when the limit is reached and bytes remain, at the first of them (01, Numbers, 7)
   pub seven : (s : List ℕ) (limit p : ℕ)
       → ((playOf s limit .refusal ≡ 7) × (playOf s limit .offset ≡ p))
-      ↔ ((beginOf s .refusal ≡ 0) × Along s (beginOf s .place) (recordsOf s limit .steps) p × (playOf s limit .steps ≡ limit) × (p < length s))
+      ↔ ((beginOf s .refusal ≡ 0) × Along (told s) s (beginOf s .place) (recordsOf s limit .steps) p × (playOf s limit .steps ≡ limit) × (p < length s))

@@ -1,11 +1,11 @@
-// Plays a recorded trace on the machine that it names (01, "House trace").
+// Plays a recorded trace on the machine that it names (01, "House trace"; 02, 2/12).
 ghost use mathlib.Core.Path.{_≡_};
-ghost use Rattle.machine.specs.Promises.{Ready};
+ghost use Rattle.machine_record.specs.Promises.{Ready};
 ghost use Rattle.player.specs.Begin.{refusedSetup, setupOf, notBegun, bySetup, byController, beginOf};
 ghost use Rattle.trace.specs.Trace.{ends, stepsFrom};
 ghost use Rattle.player.specs.Play.{report, playOf};
 use kinds::Configuration;
-use machine::Machine;
+use machine_record::Machine;
 use numbers::Number;
 use numbers::read_number;
 use trace::Turn;
@@ -42,7 +42,8 @@ pub fn play(trace: &[u8], limit: u32) -> Played
     if b.refusal != steps::CARRIED_OUT {
         return not_played(b);
     }
-    play_from(trace, limit, b)
+    let kind = b.machine.kind;
+    play_from(trace, limit, kinds::tells_privilege(kind), b)
 }
 
 // The report on a trace that has no beginning.
@@ -58,17 +59,17 @@ fn not_played(b: Begun) -> Played
     }
 }
 
-// Plays the steps of a trace that has begun. The limit falls by one with each step.
-fn play_from(trace: &[u8], limit: u32, b: Begun) -> Played
+// Plays the steps of a trace that has begun; where `told`, they tell their privilege. The limit falls by one with each step.
+fn play_from(trace: &[u8], limit: u32, told: bool, b: Begun) -> Played
     requires { ⌜ Ready (b .machine) ⌝ }
-    ensures { λ r. ⌜ r ≡ report 0 (b .machine) (stepsFrom limit (now (trace .entry)) (b .place)) ⌝ }
+    ensures { λ r. ⌜ r ≡ report 0 (b .machine) (stepsFrom told limit (now (trace .entry)) (b .place)) ⌝ }
 {
     let mut at = b.place;
     let mut m = b.machine;
     let mut left = limit;
     let mut count: u32 = 0;
     loop {
-        match trace::turn_at(trace, at, left) {
+        match trace::turn_at(trace, at, left, told) {
             Turn::Ended(refusal, offset) => {
                 return Played {
                     steps: count,
@@ -102,7 +103,7 @@ pub fn begin(trace: &[u8]) -> Begun
 fn not_begun(refusal: u32, offset: usize) -> Begun
     ensures { λ r. ⌜ r ≡ notBegun refusal offset ⌝ }
 {
-    let m = machine::empty();
+    let m = machine_record::empty();
     Begun {
         refusal,
         place: offset,
@@ -132,7 +133,7 @@ fn by_setup(kind: u32, t: Setup) -> Begun
     if t.refusal != steps::CARRIED_OUT {
         return not_begun(t.refusal, t.place);
     }
-    let m = machine::start(kind, t.configuration);
+    let m = machine_record::start(kind, t.configuration);
     Begun {
         refusal: steps::CARRIED_OUT,
         place: t.place,

@@ -215,7 +215,8 @@ the-numbers =
       nine = refl;
       ten = refl;
       eleven = refl;
+      thirteen = refl;
     }
 
 pub kept : Promises
-kept = record { numbers = the-numbers; reads = read-table; writes = λ s o a value known. write-table value known s o a; lines = line-table }
+kept = record { numbers = the-numbers; plain = refl; reads = read-table; writes = λ s o a value known. write-table value known s o a; lines = line-table }

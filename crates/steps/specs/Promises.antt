@@ -5,7 +5,7 @@ use mathlib.Core.Bool.{Bool}
 use mathlib.Core.Logic.{_⊎_}
 use Rattle.steps.specs.declared.Access.{Access}
 use Rattle.steps.specs.Refusals.{carriedOut, misaligned, absent, unreadable, unwritable, protecting, beyond, limitReached, damaged, unknown}
-use Rattle.steps.specs.Refusals.{misconfigured, tooLong, unsound, readRefusal, writeRefusal, lineRefusal}
+use Rattle.steps.specs.Refusals.{misconfigured, tooLong, unsound, unprivileged, privileged, readRefusal, writeRefusal, lineRefusal}
 use Rattle.steps.specs.Tables.{ReadTable, WriteTable, LineTable}
 
 -- a value is refused by 5, by 6 or not at all
@@ -27,10 +27,13 @@ pub record Numbers : Type 0 where
   pub nine : unknown ≡ 9
   pub ten : misconfigured ≡ 10
   pub eleven : tooLong ≡ 11
+  pub thirteen : unprivileged ≡ 13
 
 pub record Promises : Type 0 where
   -- each name is the number that the table gives (01, Numbers)
   pub numbers : Numbers
+  -- where a trace tells no privilege, it is 1 (02, 2/12)
+  pub plain : privileged ≡ 1
   -- a read is refused by 12, 1, 2 and 3 exactly when the table says (01, Numbers)
   pub reads : (sound : Bool) (offset : ℕ) (access : Access) → ReadTable sound offset access (readRefusal sound offset access)
   -- a write is refused by 12, 1, 2, 4, 5 and 6 exactly when the table says (01, Numbers)

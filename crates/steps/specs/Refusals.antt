@@ -58,6 +58,18 @@ tooLong = 11
 abbrev pub unsound : ℕ
 unsound = 12
 
+-- an access without the privilege that it needs (02, 2/12)
+abbrev pub unprivileged : ℕ
+unprivileged = 13
+
+-- ---- privilege
+
+-- the privilege of a step where the trace does not tell one: it bars nothing (02, 2/12)
+abbrev pub privileged : ℕ
+privileged = 1
+
+-- ---- the order of the checks
+
 -- what an aligned read is refused with
 abbrev pub readAccess : Access → ℕ
 readAccess NoRegister = absent

@@ -1,4 +1,4 @@
-// What a recorded step is, and the numbers given when one is not carried out (01, "Numbers given when a step is not carried out").
+// What a recorded step is, and the numbers given when one is not carried out (01, "Numbers given when a step is not carried out"; 02, 2/12).
 ghost use mathlib.Core.Path.{_≡_};
 ghost use Rattle.steps.specs.Refusals.{readAccess, writeAccess, readRefusal, writeRefusal, lineRefusal};
 
@@ -8,6 +8,14 @@ pub enum Step {
     Write(u32, u32),
     Line(u32, u32),
 }
+
+// A step as a trace records it: what is done, and by which privilege, 1 where the trace does not say.
+pub struct Recorded {
+    pub step: Step,
+    pub privilege: u32,
+}
+
+pub const PRIVILEGED: u32 = 1;
 
 // What the register at an offset may be used for.
 pub enum Access {
@@ -42,6 +50,8 @@ pub const MISCONFIGURED: u32 = 10;
 pub const TOO_LONG: u32 = 11;
 
 pub const UNSOUND: u32 = 12;
+
+pub const UNPRIVILEGED: u32 = 13;
 
 // The refusal of a read that is aligned, 0 where it may be read.
 fn read_access(access: Access) -> u32

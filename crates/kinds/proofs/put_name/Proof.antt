@@ -3,7 +3,7 @@ use mathlib.Core.Path.{ap, _∙_}
 use Rattle.text.proofs.WriteLaws.{nothing}
 use Rattle.text.specs.Text.{write}
 use Rattle.kinds.specs.Kinds.{name}
-use Rattle.kinds.proofs.KindLaws.{at-aic, at-core, at-cic, at-none}
+use Rattle.kinds.proofs.KindLaws.{at-aic, at-core, at-cic, at-aintc, at-none}
 use borrow.Author.Needs.{needs}
 use Rattle.kinds.proofs.put_name.Statement.{statement}
 use Rattle.kinds.proofs.put_name.Tie as tie
@@ -22,7 +22,13 @@ returns-3 c = c .before .before .put-all3 .ensures ∙ ap (write _) (at-cic _ _ 
 
 returns-4 : tie.Need-returns-4
 unfolding name
-returns-4 c = nothing _ ∙ ap (write _) (at-none _ _ (c .before .before .if1 .left) (c .before .if2 .left) (c .if3 .left))
+returns-4 c = c .before .before .put-all4 .ensures ∙ ap (write _) (at-aintc _ _ (c .before .before .before .before .before .if4 .taken))
+
+returns-5 : tie.Need-returns-5
+unfolding name
+returns-5 c =
+    let p = c .before in
+    nothing _ ∙ ap (write _) (at-none _ _ (p .before .before .if1 .left) (p .before .if2 .left) (p .if3 .left) (c .if4 .left))
 
 pub put-name-spec : {M : Type 1} → statement M
 put-name-spec =
@@ -40,4 +46,8 @@ put-name-spec =
     (λ c κs. search needs)
     (λ c. search needs)
     returns-3
-    returns-4)
+    (λ c. search needs)
+    (λ c κs. search needs)
+    (λ c. search needs)
+    returns-4
+    returns-5)

@@ -1,7 +1,8 @@
 -- That `within` of src/lib.rt keeps its contract.
-use mathlib.Core.Path.{_∙_}
+use mathlib.Core.Path.{refl, _∙_}
+use mathlib.Core.Bool.{false}
 use Rattle.kinds.specs.Kinds.{within}
-use Rattle.kinds.proofs.KindLaws.{at-aic, at-core, at-cic, at-none}
+use Rattle.kinds.proofs.KindLaws.{at-aic, at-core, at-cic, at-rest}
 use Rattle.coreinterrupt.proofs.within.Reads as within-reads′′
 use Rattle.cic.proofs.within.Reads as within-reads′
 use borrow.Author.Needs.{needs}
@@ -22,7 +23,7 @@ returns-3 c = c .within3 .ensures ∙ at-cic _ _ (c .before .if3 .taken)
 
 returns-4 : tie.Need-returns-4
 unfolding within
-returns-4 c = at-none _ _ (c .before .before .if1 .left) (c .before .if2 .left) (c .if3 .left)
+returns-4 c = at-rest _ _ false refl refl (c .before .before .if1 .left) (c .before .if2 .left) (c .if3 .left)
 
 pub within-spec : {M : Type 1} → statement M
 within-spec =

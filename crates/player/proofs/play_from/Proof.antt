@@ -4,7 +4,7 @@ use mathlib.Core.Path.{_≡_, sym, _∙_}
 use native.Mathlib.Omega.{arith}
 use Rattle.trace.specs.Trace.{stepsFrom}
 use Rattle.trace.proofs.TraceLaws.{turn-found}
-use Rattle.machine.specs.Promises.{Ready}
+use Rattle.machine_record.specs.Promises.{Ready}
 use Rattle.machine.proofs.StepLaws.{step-ready}
 use Rattle.player.specs.Play.{report}
 use Rattle.player.proofs.PlayLaws.{report-ended, report-found}
@@ -13,35 +13,35 @@ use Rattle.player.proofs.play_from.Statement.{statement}
 use Rattle.player.proofs.play_from.Tie as tie
 
 abbrev Inv-loop : tie.InvT-loop
-Inv-loop trace limit at₀ m₀ left₀ count₀ at m left count =
-    (report count m (stepsFrom left trace at) ≡ report 0 m₀ (stepsFrom limit trace at₀)) × (count + left ≡ limit) × Ready m
+Inv-loop trace limit told at₀ m₀ left₀ count₀ at m left count =
+    (report count m (stepsFrom told left trace at) ≡ report 0 m₀ (stepsFrom told limit trace at₀)) × (count + left ≡ limit) × Ready m
 
 abbrev μ-loop : tie.MeasureT-loop
-μ-loop trace limit at₀ m₀ left₀ count₀ at m left count = left
+μ-loop trace limit told at₀ m₀ left₀ count₀ at m left count = left
 
 returns : tie.Need-returns Inv-loop μ-loop
 returns c = let m = c .before .before .before in
-    report-ended _ _ _ _ _ _ _ (sym (m .turn-at .ensures) ∙ c .before .refusal .given .1) ∙ m .before .loop .inv .0
+    report-ended _ _ _ _ _ _ _ _ (sym (m .turn-at .ensures) ∙ c .before .refusal .given .1) ∙ m .before .loop .inv .0
 
 -- a step is found only while something is left of the limit
 sub-left : tie.Need-sub-left Inv-loop μ-loop
 sub-left c = let m = c .before .before .before .before .before in
-    omega (arith, turn-found _ _ _ _ _ (sym (m .turn-at .ensures) ∙ c .before .before .before .x .given .1) .1 .0)
+    omega (arith, turn-found _ _ _ _ _ _ (sym (m .turn-at .ensures) ∙ c .before .before .before .x .given .1) .1 .0)
 
 add-count : tie.Need-add-count Inv-loop μ-loop
 add-count c = let m = c .before .before .before .before .before in
-    omega (arith, turn-found _ _ _ _ _ (sym (m .turn-at .ensures) ∙ c .before .before .before .x .given .1) .1 .0)
+    omega (arith, turn-found _ _ _ _ _ _ (sym (m .turn-at .ensures) ∙ c .before .before .before .x .given .1) .1 .0)
 
 loop-less : tie.Need-loop-less Inv-loop μ-loop
 loop-less c = let m = c .before .before .before .before .before in
-    omega (arith, turn-found _ _ _ _ _ (sym (m .turn-at .ensures) ∙ c .before .before .before .x .given .1) .1 .0)
+    omega (arith, turn-found _ _ _ _ _ _ (sym (m .turn-at .ensures) ∙ c .before .before .before .x .given .1) .1 .0)
 
 loop-again : tie.Need-loop-again Inv-loop μ-loop
 loop-again c = let m = c .before .before .before .before .before in
     let e = sym (m .turn-at .ensures) ∙ c .before .before .before .x .given .1 in
     let l = m .before .loop in (
-      rw (c .before .step-sound .ensures) (report-found _ _ _ _ _ _ _ e ∙ l .inv .0),
-      omega (arith, turn-found _ _ _ _ _ e .1 .0),
+      rw (c .before .step-sound .ensures) (report-found _ _ _ _ _ _ _ _ e ∙ l .inv .0),
+      omega (arith, turn-found _ _ _ _ _ _ e .1 .0),
       rw (c .before .step-sound .ensures) (step-ready _ _ (l .inv .2)),
     )
 

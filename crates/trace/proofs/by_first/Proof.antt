@@ -10,8 +10,8 @@ use Rattle.trace.proofs.by_first.Tie as tie
 
 returns : tie.Need-returns
 returns c =
-    let o = c .before in
-    rw (o .before .before .n2 .given .1) (by-true _ (ap (λ (k : ℕ). eqb k 1) (o .operands .ensures)) (eq-eqb _ _ (c .if1 .taken)))
+    let o = c .before .before in
+    rw (o .before .before .n2 .given .1, c .plain .ensures) (by-true _ (ap (λ (k : ℕ). eqb k 1) (o .operands .ensures)) (eq-eqb _ _ (c .before .if1 .taken)))
 
 returns-2 : tie.Need-returns-2
 returns-2 c = rw (c .before .n .given .1)
@@ -29,6 +29,7 @@ by-first-spec =
     (tie.spec
     (λ c. search needs)
     (λ c. search needs)
+    (λ c κs. search needs)
     (λ c κs. search needs)
     returns
     (λ c κs. search needs)

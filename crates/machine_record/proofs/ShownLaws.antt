@@ -1,0 +1,96 @@
+-- What a machine shows, by its kind, and that no number of it is over 256.
+use Prim.Native.Nat.{_≤_}
+use mathlib.Core.Path.{_≡_, sym, ap, _∙_}
+use mathlib.Core.Bool.{Bool, true, false}
+use mathlib.Core.Logic.{_≢_, _⊎_, inl, inr}
+use native.Mathlib.Omega.{arith}
+use Rattle.words.specs.Counting.{one}
+use Rattle.words.proofs.ChoiceLaws.{pick-false}
+use Rattle.words.proofs.CountingLaws.{count-le}
+use Rattle.words.proofs.TruthLaws.{told}
+use Rattle.aic_record.proofs.Promises.{kept as record-kept}
+use Rattle.aic_sources.specs.Fast.{fiq}
+use Rattle.aic_sources.specs.Normal.{irq}
+use Rattle.aic.specs.Model.{outputs as aicOutputs}
+use Rattle.aic.proofs.Promises.{kept as aic}
+use Rattle.coreinterrupt.specs.Model.{outputs as coreOutputs}
+use Rattle.coreinterrupt.proofs.Promises.{kept as core}
+use Rattle.cic_record.specs.Kinds.{hostNumber}
+use Rattle.cic_hosts.specs.Hosts.{asserted, outputs as cicOutputs, shown as cicShown}
+use Rattle.cic_hosts.proofs.Promises.{kept as hosts}
+use Rattle.aintc_record.specs.declared.Chosen.{Chosen}
+use Rattle.aintc_record.specs.Promises.{Bounds}
+use Rattle.aintc_choice.proofs.Promises.{kept as choice}
+use Rattle.aintc.specs.Model.{outputs as aintcOutputs}
+use Rattle.aintc.proofs.Promises.{kept as aintc}
+use Rattle.machine_record.specs.declared.Machine.{Machine}
+use Rattle.kinds.specs.Kinds.{aicKind, coreKind, cicKind, aintcKind}
+use Rattle.machine_record.specs.Machine.{sound}
+use Rattle.machine_record.specs.Shown.{aicColumns, coreColumns, cicColumns, aintcColumns, noColumns, shown}
+use Rattle.machine_record.specs.Promises.{Small}
+use Rattle.kinds.proofs.KindLaws.{KindOf, isAic, isCore, isCic, isAintc, isNone, kind-of, at-aic, at-core, at-cic, at-aintc, at-none}
+use Rattle.machine_record.proofs.MachineLaws.{sound-aic, sound-core, sound-cic, sound-aintc}
+
+module _ (m : Machine) where
+  pub aic-shows : m .kind ≡ aicKind → shown m ≡ aicColumns (aicOutputs (m .aic))
+  unfolding shown
+  aic-shows e = sym (at-aic (m .kind) _ e)
+
+  pub core-shows : m .kind ≡ coreKind → shown m ≡ coreColumns (coreOutputs (m .core))
+  unfolding shown
+  core-shows e = sym (at-core (m .kind) _ e)
+
+  pub cic-shows : m .kind ≡ cicKind → shown m ≡ cicColumns (cicOutputs (m .cic))
+  unfolding shown
+  cic-shows e = sym (at-cic (m .kind) _ e)
+
+  pub aintc-shows : m .kind ≡ aintcKind → shown m ≡ aintcColumns (aintcOutputs (m .aintc))
+  unfolding shown
+  aintc-shows e = sym (at-aintc (m .kind) _ e)
+
+  no-shows : m .kind ≢ aicKind → m .kind ≢ coreKind → m .kind ≢ cicKind → m .kind ≢ aintcKind → shown m ≡ noColumns
+  unfolding shown
+  no-shows e f g h = sym (at-none (m .kind) _ e f g h)
+
+  -- a machine that is not sound shows nothing
+  pub unsound-shown : sound m ≡ false → noColumns ≡ shown m
+  unfolding cicOutputs
+  unsound-shown s = sym (go (kind-of (m .kind)))
+    where
+      go : KindOf (m .kind) → shown m ≡ noColumns
+      go (isAic k) = aic-shows k ∙ ap aicColumns (aic .outputsUnsound (m .aic) (sound-aic m k ∙ s))
+      go (isCore k) = core-shows k ∙ ap coreColumns (core .outputsUnsound (m .core) (sound-core m k ∙ s))
+      go (isCic k) = cic-shows k ∙ ap cicColumns (sym (pick-false (cicShown (m .cic)) (sound-cic m k ∙ s)))
+      go (isAintc k) = aintc-shows k ∙ ap aintcColumns (aintc .outputsUnsound (m .aintc) (sound-aintc m k ∙ s))
+      go (isNone a b c d) = no-shows a b c d
+
+  one-small : (t : Bool) → one t ≤ 256
+  one-small true = omega arith
+  one-small false = omega arith
+
+  -- the number of the chosen one, 0 with none
+  number-small : (c : Chosen) → Bounds c → c .number ≤ 256
+  number-small c b = go (told (c .active))
+    where
+      go : (c .active ≡ true) ⊎ (c .active ≡ false) → c .number ≤ 256
+      go (inl e) = omega (arith, b .number e)
+      go (inr e) = omega (arith, b .none e .0)
+
+  -- a sound machine shows no number over 256
+  pub small : sound m ≡ true → Small (shown m)
+  small s = go (kind-of (m .kind))
+    where
+      go : KindOf (m .kind) → Small (shown m)
+      go (isAic k) =
+          let e = sound-aic m k ∙ s in
+          rw (aic-shows k) (rw (aic .outputsSound (m .aic) e) (one-small (irq (m .aic)), one-small (fiq (m .aic)), omega (arith, record-kept .soundIs (m .aic) .0 e .handlers)))
+      go (isCore k) = rw (core-shows k) (one-small (coreOutputs (m .core) .irq), one-small (coreOutputs (m .core) .fiq), omega arith)
+      go (isCic k) =
+          let e = sound-cic m k ∙ s in
+          rw (cic-shows k) (rw (hosts .outputsSound (m .cic) e) (count-le 256 (λ h. asserted (m .cic) (hostNumber h))), hosts .lowestMost (m .cic) e, omega arith)
+      go (isAintc k) =
+          let e = sound-aintc m k ∙ s in
+          rw (aintc-shows k)
+          (rw (aintc .outputsSound (m .aintc) e)
+          (one-small (m .aintc .irq .active), one-small (m .aintc .fiq .active), number-small (m .aintc .irq) (choice .soundIs (m .aintc) .0 e .irq)))
+      go (isNone a b c d) = rw (no-shows a b c d) (omega arith, omega arith, omega arith)
