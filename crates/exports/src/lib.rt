@@ -48,5 +48,5 @@ pub extern "C" fn wisteria_offset(trace: &[u8], limit: u32) -> usize
 pub extern "C" fn wisteria_stack(text: &[u8], out: &mut [u8]) -> usize
     ensures { λ r. ⌜ (now (out .exit), r) ≡ laid (now (out .entry)) (answerTo (now (text .entry))) ⌝ }
 {
-    tables::put_answer(text, out)
+    tables::put_answer(out, text)
 }
