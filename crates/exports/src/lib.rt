@@ -1,5 +1,5 @@
-// The player, the listing and the stack size of a typed table for callers in Rust and C. A slice goes as a pointer and a length, in this order; a length and an offset are of the
-// width of a pointer. include/wisteria.h declares the functions for C, and says what a caller answers for.
+// The player, the listing and the stack size of a typed table for callers in Rust and C. A slice goes as a pointer and a length, in this order; a length
+// and an offset are of the width of a pointer. include/wisteria.h declares the functions for C, and says what a caller answers for.
 ghost use mathlib.Core.Path.{_≡_};
 ghost use Rattle.text.specs.Text.{laid};
 ghost use Rattle.player.specs.Play.{playOf};
