@@ -51,10 +51,10 @@ pub enum Item {
     Pending(u8, bool, bool),
     /// A line of an AIC edge source of a type, external or not, changed: an edge for it, or not.
     Edge(u8, bool, bool),
-    /// An IVR read left so many handlers open.
-    Opened(usize),
-    /// An EOICR write found so many handlers open.
-    Closed(usize),
+    /// An IVR read opened an entry and left so many, the marks among them given by a word whose bit 0 is the first.
+    Mix(usize, u8),
+    /// An EOICR write found so many entries open, and this one last.
+    Closed(usize, Option<Entered>),
     /// CISR answered this.
     Cisr(u32),
     /// A CoreInterrupt side was configured with so many sources.
@@ -69,6 +69,13 @@ pub enum Item {
     Lowest(usize),
     /// A situation in plain words.
     Fact(&'static str),
+}
+
+/// What an entry of the AIC is.
+#[derive(Clone, Copy, Debug, PartialEq, Eq, PartialOrd, Ord, Hash)]
+pub enum Entered {
+    Handler,
+    Mark,
 }
 
 /// What came of an access to a register.

@@ -101,7 +101,7 @@ fn aic(sources: u32) -> (Script, u32) {
     (script, 2 * sources + 1)
 }
 
-/// Lines move, handlers are started and closed, and status is read.
+/// Lines move, entries are opened and closed, and status is read.
 fn aic_step(random: &mut Random, script: &mut Script, at: u32, sources: u32) {
     match at % 6 {
         0 | 3 => script.line(random.below(sources), random.below(2)),

@@ -24,6 +24,8 @@ fn every_situation_that_is_counted_is_listed() {
             item,
             Item::Fact(_)
                 | Item::Aic(..)
+                | Item::Mix(..)
+                | Item::Closed(..)
                 | Item::Core(..)
                 | Item::Cic(..)
                 | Item::Aintc(..)

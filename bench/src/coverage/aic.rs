@@ -1,7 +1,7 @@
 //! What is to be reached on the AIC: every register in every permitted and refused way, and what its rules tell apart.
 
-use super::{Coverage, Item, Outcome, Way};
-use crate::model::aic::{Aic, Register, Source, SOURCES};
+use super::{Coverage, Entered, Item, Outcome, Way};
+use crate::model::aic::{Aic, Entry, Register, Source, ENTRIES, SOURCES};
 use crate::model::{Access, Answer, Refusal, Step};
 
 /// The controller as it was before a step.
@@ -13,6 +13,32 @@ impl Before {
     pub fn new(aic: &Aic) -> Before {
         Before { aic: aic.clone() }
     }
+}
+
+/// Whether a normal source of a priority is pending and enabled.
+fn requests_at(aic: &Aic, priority: u8) -> bool {
+    let at = |n| aic.normal_request(n) && aic.sources()[n].priority == priority;
+    (0..SOURCES).any(at)
+}
+
+/// Whether a normal request is kept out by the eight entries alone.
+fn wants_room(aic: &Aic) -> bool {
+    aic.is_full() && (0..SOURCES).any(|n| aic.normal_request(n) && aic.is_above(n))
+}
+
+/// A word with a bit for each entry that is a mark.
+fn marks(entries: &[Entry]) -> u8 {
+    let mark = |word, entry: &Entry| word << 1 | u8::from(entry.is_mark());
+    entries.iter().rev().fold(0, mark)
+}
+
+/// What the last entry is, and what lies below it.
+fn top(aic: &Aic) -> (Option<Entered>, Option<Entered>) {
+    let mut entries = aic.entries().iter().rev().map(|entry| match entry.source {
+        Some(_) => Entered::Handler,
+        None => Entered::Mark,
+    });
+    (entries.next(), entries.next())
 }
 
 impl Coverage {
@@ -56,6 +82,7 @@ impl Coverage {
                 self.reach(Item::Cisr(value));
                 let hidden = after.masked() && (after.best().is_some() || after.fast_request());
                 self.fact_if(hidden, "CISR while the mask hides a request");
+                self.fact_if(wants_room(after), "CISR while eight entries keep one out");
             }
             _ => {}
         }
@@ -65,14 +92,24 @@ impl Coverage {
         self.remembered_level(before);
         match before.best() {
             Some(best) => {
-                self.reach(Item::Opened(after.handlers().len()));
                 self.ivr_starts(before, best);
+                self.ivr_starts_over_a_mark(before, best);
                 self.fact_if(value != 0, "IVR answers a vector that is not 0");
             }
             None => {
                 self.ivr_spurious(before);
+                if before.is_full() {
+                    self.ivr_opens_nothing(before);
+                } else {
+                    self.ivr_opens_a_mark(before);
+                    self.nothing_but(before);
+                }
                 self.fact_if(value != 0, "IVR answers a SPU that is not 0");
             }
+        }
+        if !before.is_full() {
+            let entries = after.entries();
+            self.reach(Item::Mix(entries.len(), marks(entries)));
         }
     }
 
@@ -100,51 +137,146 @@ impl Coverage {
         );
     }
 
+    fn ivr_starts_over_a_mark(&mut self, before: &Aic, best: usize) {
+        if top(before).0 != Some(Entered::Mark) {
+            return;
+        }
+        let priority = before.sources()[best].priority;
+        match before.last_level() {
+            Some(level) => {
+                self.fact_if(true, "IVR starts over a mark with a level");
+                self.fact_if(
+                    priority == level + 1,
+                    "IVR starts the next priority over a mark with a level",
+                );
+            }
+            None => {
+                self.fact_if(true, "IVR starts over a mark without a level");
+                self.fact_if(
+                    priority == 0,
+                    "IVR starts priority 0 over a mark without a level",
+                );
+            }
+        }
+    }
+
     fn ivr_spurious(&mut self, before: &Aic) {
-        let Some(last) = before.handlers().last() else {
-            self.fact_if(true, "IVR answers SPU with no handler open");
+        let (Some(level), (Some(last), _)) = (before.last_level(), top(before)) else {
             return;
         };
-        let waits = |priority: u8| {
-            let waiting = |n: usize| {
-                let source = &before.sources()[n];
-                source.requests() && !before.fast(n) && source.priority == priority
-            };
-            (0..SOURCES).any(waiting)
-        };
-        self.fact_if(true, "IVR answers SPU with handlers open");
+        let equal = requests_at(before, level);
         self.fact_if(
-            waits(last.level),
-            "IVR answers SPU while an equal priority waits",
+            equal && last == Entered::Handler,
+            "IVR answers SPU while an equal priority waits for a handler",
         );
         self.fact_if(
-            (0..last.level).any(waits),
+            equal && last == Entered::Mark,
+            "IVR answers SPU while an equal priority waits for a mark",
+        );
+        self.fact_if(
+            (0..level).any(|priority| requests_at(before, priority)),
             "IVR answers SPU while a lower priority waits",
         );
         self.fact_if(
-            last.level == 0 && waits(0),
+            level == 0 && equal,
             "IVR answers SPU with level 0 open and priority 0 waiting",
-        );
-        self.fact_if(
-            before.handlers().len() == 8 && waits(7),
-            "IVR answers SPU with eight open and priority 7 waiting",
         );
     }
 
-    /// A handler's level and its source's priority now would not let the same sources in.
+    fn ivr_opens_nothing(&mut self, before: &Aic) {
+        let (last, seven) = (top(before).0, requests_at(before, 7));
+        self.fact_if(
+            last == Some(Entered::Handler),
+            "IVR opens nothing with eight entries, the last a handler",
+        );
+        self.fact_if(
+            last == Some(Entered::Mark),
+            "IVR opens nothing with eight entries, the last a mark",
+        );
+        self.fact_if(
+            seven && marks(before.entries()) == 0,
+            "IVR opens nothing with eight handlers and priority 7 waiting",
+        );
+        self.fact_if(
+            seven && marks(before.entries()) == u8::MAX,
+            "IVR opens nothing with eight marks and priority 7 waiting",
+        );
+        self.fact_if(
+            wants_room(before),
+            "IVR opens nothing while eight entries keep one out",
+        );
+        self.fact_if(before.masked(), "IVR opens nothing while masked");
+    }
+
+    /// What lies below a mark that opens; the level follows from it.
+    fn ivr_opens_a_mark(&mut self, before: &Aic) {
+        let fact = match (top(before).0, before.last_level()) {
+            (None, _) => "IVR opens a mark with nothing open",
+            (Some(Entered::Handler), _) => "IVR opens a mark on a handler",
+            (Some(Entered::Mark), Some(_)) => "IVR opens a mark on a mark with a level",
+            (Some(Entered::Mark), None) => "IVR opens a mark on a mark without a level",
+        };
+        self.fact_if(true, fact);
+        self.fact_if(before.masked(), "IVR opens a mark while masked");
+    }
+
+    /// Of what is pending while a mark opens, each thing alone that keeps a source from being a candidate.
+    fn nothing_but(&mut self, before: &Aic) {
+        let source = |n: usize| &before.sources()[n];
+        let pending: Vec<usize> = (0..SOURCES).filter(|&n| source(n).pending()).collect();
+        if pending.is_empty() {
+            self.fact_if(true, "IVR opens a mark with nothing pending");
+            return;
+        }
+        let fast = |&n: &usize| before.fast(n) && source(n).enabled;
+        let disabled = |&n: &usize| !before.fast(n) && !source(n).enabled;
+        let at = |n: usize| before.normal_request(n).then_some(source(n).priority);
+        let equal = |&n: &usize| at(n).is_some() && at(n) == before.last_level();
+        let lower = |&n: &usize| at(n).is_some() && at(n) < before.last_level();
+        self.fact_if(
+            pending.iter().all(fast),
+            "IVR opens a mark with nothing but fast sources pending",
+        );
+        self.fact_if(
+            pending.iter().all(disabled),
+            "IVR opens a mark with nothing but disabled sources pending",
+        );
+        self.fact_if(
+            pending.iter().all(equal),
+            "IVR opens a mark with nothing but equal priorities pending",
+        );
+        self.fact_if(
+            pending.iter().all(lower),
+            "IVR opens a mark with nothing but lower priorities pending",
+        );
+    }
+
+    /// The level of the last entry and the priority that a source has now would not let the same sources in: the source
+    /// of a handler; for a mark that of the handler below, or source 0 where ISR's answer is taken for a source.
     fn remembered_level(&mut self, before: &Aic) {
-        let Some(last) = before.handlers().last() else {
+        let Some(level) = before.last_level() else {
             return;
         };
-        let now = before.sources()[usize::from(last.source)].priority;
-        let matters = (1..SOURCES).any(|n| {
-            let source = &before.sources()[n];
-            let differs = (source.priority > last.level) != (source.priority > now);
-            source.requests() && !before.fast(n) && differs
-        });
+        let misleads = |source: u8| {
+            let now = before.sources()[usize::from(source)].priority;
+            let differs = |priority: u8| (priority > level) != (priority > now);
+            let matters = |n| before.normal_request(n) && differs(before.sources()[n].priority);
+            !before.is_full() && (1..SOURCES).any(matters)
+        };
+        let on_a_mark = top(before).0 == Some(Entered::Mark);
+        let source = before.entries().iter().rev().find_map(|entry| entry.source);
+        let open = source.is_some_and(misleads);
         self.fact_if(
-            matters,
+            open && !on_a_mark,
             "IVR where today's mode of the open source would mislead",
+        );
+        self.fact_if(
+            open && on_a_mark,
+            "IVR on a mark where today's mode of the source below would mislead",
+        );
+        self.fact_if(
+            on_a_mark && misleads(0),
+            "IVR on a mark where the mode of source 0 would mislead",
         );
     }
 
@@ -204,12 +336,19 @@ impl Coverage {
     }
 
     fn isr(&mut self, after: &Aic) {
-        let Some(last) = after.handlers().last() else {
-            self.fact_if(true, "ISR with no handler open");
+        let fact = match top(after) {
+            (None, _) => "ISR with nothing open",
+            (Some(Entered::Handler), Some(Entered::Mark)) => "ISR on a handler over a mark",
+            (Some(Entered::Handler), _) => "ISR on a handler",
+            (Some(Entered::Mark), Some(Entered::Handler)) => "ISR on a mark over a handler",
+            (Some(Entered::Mark), Some(Entered::Mark)) => "ISR on a mark over a mark",
+            (Some(Entered::Mark), None) => "ISR on a mark alone",
+        };
+        self.fact_if(true, fact);
+        let Some(number) = after.entries().last().and_then(|entry| entry.source) else {
             return;
         };
-        let source = &after.sources()[usize::from(last.source)];
-        self.fact_if(true, "ISR with handlers open");
+        let source = &after.sources()[usize::from(number)];
         self.fact_if(!source.enabled, "ISR of a source that is now disabled");
         self.fact_if(source.forced, "ISR of a source that is now forced");
     }
@@ -223,12 +362,9 @@ impl Coverage {
             Some(Register::Ivr) => {
                 let waiting = before.best().is_some();
                 self.fact_if(waiting, "IVR written while a candidate waits");
+                self.fact_if(!waiting, "IVR written with no candidate");
             }
-            Some(Register::Eoicr) => {
-                self.reach(Item::Closed(before.handlers().len()));
-                let lets_in = !before.irq() && after.irq();
-                self.fact_if(lets_in, "EOICR lets a waiting source in");
-            }
+            Some(Register::Eoicr) => self.eoicr(before, after),
             Some(Register::Dcr) => {
                 let masked = after.masked();
                 self.fact_if(masked && before.irq(), "the mask hides IRQ");
@@ -245,6 +381,29 @@ impl Coverage {
             Some(Register::Clear) => self.clear_command(before, value),
             _ => {}
         }
+    }
+
+    fn eoicr(&mut self, before: &Aic, after: &Aic) {
+        let (last, below) = top(before);
+        self.reach(Item::Closed(before.entries().len(), last));
+        let lets_in = !before.irq() && after.irq();
+        self.fact_if(lets_in, "EOICR lets a waiting source in");
+        self.fact_if(
+            lets_in && before.is_full() && last == Some(Entered::Mark),
+            "EOICR of the eighth entry, a mark, lets a waiting source in",
+        );
+        let equal = before
+            .last_level()
+            .is_some_and(|level| requests_at(before, level));
+        let (mark, handler) = (Some(Entered::Mark), Some(Entered::Handler));
+        self.fact_if(
+            equal && (last, below) == (mark, handler),
+            "EOICR closes a mark on a handler while an equal priority waits",
+        );
+        self.fact_if(
+            equal && (last, below) == (mark, mark),
+            "EOICR closes a mark on a mark while an equal priority waits",
+        );
     }
 
     fn mode_write(&mut self, before: &Source, after: &Source, value: u32) {
@@ -275,7 +434,8 @@ impl Coverage {
 
     fn forcing(&mut self, before: &Aic, value: u32) {
         self.fact_if(value & 1 == 1, "FFER with bit 0");
-        let opened = before.handlers().iter().any(|h| value >> h.source & 1 == 1);
+        let named = |entry: &Entry| entry.source.is_some_and(|n| value >> n & 1 == 1);
+        let opened = before.entries().iter().any(named);
         self.fact_if(opened, "FFER on a source whose handler is open");
     }
 
@@ -350,8 +510,13 @@ fn registers() -> Vec<Item> {
 
 pub(super) fn wanted() -> Vec<Item> {
     let mut items = registers();
-    items.extend((1..=8).map(Item::Opened));
-    items.extend((0..=8).map(Item::Closed));
+    for entries in 1..=ENTRIES {
+        let mixes = 0..=u8::MAX >> (ENTRIES - entries);
+        items.extend(mixes.map(|marks| Item::Mix(entries, marks)));
+        let last = [Entered::Handler, Entered::Mark];
+        items.extend(last.map(|last| Item::Closed(entries, Some(last))));
+    }
+    items.push(Item::Closed(0, None));
     items.extend((0..=3).map(Item::Cisr));
     for external in [false, true] {
         for now in [false, true] {
@@ -369,6 +534,7 @@ const FACTS: &[&str] = &[
     "AIC level 2",
     "AIC line and level both wrong",
     "CISR while the mask hides a request",
+    "CISR while eight entries keep one out",
     "IVR answers a vector that is not 0",
     "IVR answers a SPU that is not 0",
     "IVR starts an edge source",
@@ -377,14 +543,35 @@ const FACTS: &[&str] = &[
     "IVR breaks a tie by the number",
     "IVR passes over a lower number of lower priority",
     "IVR passes over a forced source of higher priority",
-    "IVR answers SPU with no handler open",
-    "IVR answers SPU with handlers open",
-    "IVR answers SPU while an equal priority waits",
+    "IVR starts over a mark with a level",
+    "IVR starts the next priority over a mark with a level",
+    "IVR starts over a mark without a level",
+    "IVR starts priority 0 over a mark without a level",
+    "IVR answers SPU while an equal priority waits for a handler",
+    "IVR answers SPU while an equal priority waits for a mark",
     "IVR answers SPU while a lower priority waits",
     "IVR answers SPU with level 0 open and priority 0 waiting",
-    "IVR answers SPU with eight open and priority 7 waiting",
+    "IVR opens nothing with eight entries, the last a handler",
+    "IVR opens nothing with eight entries, the last a mark",
+    "IVR opens nothing with eight handlers and priority 7 waiting",
+    "IVR opens nothing with eight marks and priority 7 waiting",
+    "IVR opens nothing while eight entries keep one out",
+    "IVR opens nothing while masked",
+    "IVR opens a mark with nothing open",
+    "IVR opens a mark on a handler",
+    "IVR opens a mark on a mark with a level",
+    "IVR opens a mark on a mark without a level",
+    "IVR opens a mark while masked",
+    "IVR opens a mark with nothing pending",
+    "IVR opens a mark with nothing but fast sources pending",
+    "IVR opens a mark with nothing but disabled sources pending",
+    "IVR opens a mark with nothing but equal priorities pending",
+    "IVR opens a mark with nothing but lower priorities pending",
     "IVR where today's mode of the open source would mislead",
+    "IVR on a mark where today's mode of the source below would mislead",
+    "IVR on a mark where the mode of source 0 would mislead",
     "IVR written while a candidate waits",
+    "IVR written with no candidate",
     "FVR answers SPU",
     "FVR answers a SPU that is not 0",
     "FVR answers SPU while source 0 is disabled",
@@ -398,11 +585,18 @@ const FACTS: &[&str] = &[
     "FVR leaves source 0 while an idle source is forced",
     "FVR leaves a forced edge source",
     "IPR shows a disabled source",
-    "ISR with no handler open",
-    "ISR with handlers open",
+    "ISR with nothing open",
+    "ISR on a handler",
+    "ISR on a handler over a mark",
+    "ISR on a mark over a handler",
+    "ISR on a mark over a mark",
+    "ISR on a mark alone",
     "ISR of a source that is now disabled",
     "ISR of a source that is now forced",
     "EOICR lets a waiting source in",
+    "EOICR of the eighth entry, a mark, lets a waiting source in",
+    "EOICR closes a mark on a handler while an equal priority waits",
+    "EOICR closes a mark on a mark while an equal priority waits",
     "the mask hides IRQ",
     "the mask hides FIQ",
     "the mask is lifted",

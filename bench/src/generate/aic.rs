@@ -1,22 +1,29 @@
-//! Tours of an AIC, in several moods: a bit of everything, deep nesting, the fast side, single edges.
+//! Tours of an AIC, in several moods: a bit of everything, deep nesting, marks, the fast side, single edges. Every IVR
+//! read opens an entry while there is room, so that a mood with such reads needs closes as often.
 
 use super::{bad_line, odd_access, Script};
 use crate::random::Random;
 
-const VECTORS: u32 = 0x80;
-const IVR: u32 = 0x100;
-const FVR: u32 = 0x104;
-const STATUS: [u32; 6] = [0x108, 0x10C, 0x10C, 0x110, 0x114, 0x148];
-const ENABLE: u32 = 0x120;
-const DISABLE: u32 = 0x124;
+pub const VECTORS: u32 = 0x80;
+pub const IVR: u32 = 0x100;
+pub const FVR: u32 = 0x104;
+pub const ISR: u32 = 0x108;
+pub const CISR: u32 = 0x114;
+const STATUS: [u32; 7] = [ISR, ISR, 0x10C, 0x10C, 0x110, CISR, 0x148];
+pub const ENABLE: u32 = 0x120;
+pub const DISABLE: u32 = 0x124;
 const CLEAR: u32 = 0x128;
-const SET: u32 = 0x12C;
-const EOICR: u32 = 0x130;
-const SPU: u32 = 0x134;
-const DCR: u32 = 0x138;
-const FFER: u32 = 0x140;
+pub const SET: u32 = 0x12C;
+pub const EOICR: u32 = 0x130;
+pub const SPU: u32 = 0x134;
+pub const DCR: u32 = 0x138;
+pub const FFER: u32 = 0x140;
 const FFDR: u32 = 0x144;
 const END: u32 = 0x14C;
+
+/// Types as they stand in a mode.
+pub const HIGH_LEVEL: u32 = 2 << 5;
+pub const RISING_EDGE: u32 = 3 << 5;
 
 /// What a tour does next.
 #[derive(Clone, Copy)]
@@ -31,6 +38,7 @@ enum Act {
     ReadStatus,
     Close,
     Nest,
+    Tower,
     Mask,
     Spurious,
     AnyRegister,
@@ -52,7 +60,7 @@ const MIXED: [(u32, Act); 19] = [
     (1, Act::WriteIvr),
     (4, Act::ReadFvr),
     (10, Act::ReadStatus),
-    (7, Act::Close),
+    (11, Act::Close),
     (2, Act::Mask),
     (2, Act::Spurious),
     (3, Act::AnyRegister),
@@ -64,8 +72,8 @@ const NESTING: [(u32, Act); 10] = [
     (30, Act::Nest),
     (4, Act::Line),
     (4, Act::Mode),
-    (8, Act::ReadIvr),
-    (6, Act::Close),
+    (4, Act::ReadIvr),
+    (10, Act::Close),
     (6, Act::ReadStatus),
     (1, Act::Command(FFER)),
     (1, Act::Command(FFDR)),
@@ -73,7 +81,22 @@ const NESTING: [(u32, Act); 10] = [
     (1, Act::Mask),
 ];
 
-const FAST: [(u32, Act); 11] = [
+const MARKS: [(u32, Act); 12] = [
+    (6, Act::Tower),
+    (8, Act::ReadIvr),
+    (10, Act::Close),
+    (8, Act::Line),
+    (4, Act::Mode),
+    (8, Act::ReadStatus),
+    (1, Act::WriteIvr),
+    (1, Act::ReadFvr),
+    (1, Act::Command(FFER)),
+    (2, Act::Command(FFDR)),
+    (2, Act::Command(ENABLE)),
+    (1, Act::Mask),
+];
+
+const FAST: [(u32, Act); 12] = [
     (20, Act::Line),
     (14, Act::ReadFvr),
     (6, Act::Command(FFER)),
@@ -84,10 +107,11 @@ const FAST: [(u32, Act); 11] = [
     (8, Act::Mode),
     (8, Act::ReadStatus),
     (4, Act::ReadIvr),
+    (4, Act::Close),
     (1, Act::Mask),
 ];
 
-const EDGES: [(u32, Act); 8] = [
+const EDGES: [(u32, Act); 9] = [
     (30, Act::Line),
     (15, Act::Mode),
     (20, Act::ReadStatus),
@@ -96,6 +120,7 @@ const EDGES: [(u32, Act); 8] = [
     (2, Act::Command(ENABLE)),
     (2, Act::Command(DISABLE)),
     (4, Act::ReadIvr),
+    (4, Act::Close),
 ];
 
 /// What a tour is mostly about.
@@ -103,15 +128,25 @@ const EDGES: [(u32, Act); 8] = [
 enum Mood {
     Mixed,
     Nesting,
+    Marks,
     Fast,
     Edges,
 }
 
 impl Mood {
+    const ALL: [Mood; 5] = [
+        Mood::Mixed,
+        Mood::Nesting,
+        Mood::Marks,
+        Mood::Fast,
+        Mood::Edges,
+    ];
+
     fn acts(self) -> &'static [(u32, Act)] {
         match self {
             Mood::Mixed => &MIXED,
             Mood::Nesting => &NESTING,
+            Mood::Marks => &MARKS,
             Mood::Fast => &FAST,
             Mood::Edges => &EDGES,
         }
@@ -129,8 +164,12 @@ struct Tour<'a> {
 
 /// A sound AIC trace of about so many steps.
 pub fn tour(random: &mut Random, steps: u32) -> Script {
-    let (external, levels) = (random.word(), random.word());
-    let mood = random.pick(&[Mood::Mixed, Mood::Nesting, Mood::Fast, Mood::Edges]);
+    let mood = random.pick(&Mood::ALL);
+    // Marks alone stand only where nothing has been pending.
+    let (external, levels) = match mood {
+        Mood::Marks if random.one_in(2) => (0, 0),
+        _ => (random.word(), random.word()),
+    };
     let mut tour = Tour {
         script: Script::new(0, &[external, levels]),
         levels,
@@ -194,6 +233,7 @@ impl Tour<'_> {
             Act::ReadStatus => self.script.read(self.random.pick(&STATUS)),
             Act::Close => self.script.write(EOICR, self.random.below(2)),
             Act::Nest => self.nest(),
+            Act::Tower => self.tower(),
             Act::Mask => self.mask(),
             Act::Spurious => self.script.write(SPU, self.random.word()),
             Act::AnyRegister => self.any_register(),
@@ -249,14 +289,35 @@ impl Tour<'_> {
             self.unwind();
             return;
         }
+        self.raise(self.next_level);
+        self.script.read(IVR);
+        self.next_level += 1;
+    }
+
+    /// Makes some source a normal one of a priority that is pending and enabled.
+    fn raise(&mut self, priority: u32) {
         let source = 1 + self.random.below(31);
-        let high_level = 0x40;
-        self.script.write(4 * source, high_level | self.next_level);
+        self.script.write(4 * source, HIGH_LEVEL | priority);
         self.script.write(FFDR, 1 << source);
         self.script.write(ENABLE, 1 << source);
         self.set_level(source, 1);
-        self.script.read(IVR);
-        self.next_level += 1;
+    }
+
+    /// Some entries one above the other, few or many of them marks, at times with priority 7 waiting above them; most
+    /// are closed again.
+    fn tower(&mut self) {
+        let marks = self.random.below(5);
+        for _ in 0..self.random.within(1, 9) {
+            if self.random.below(4) < marks {
+                self.script.read(IVR);
+            } else {
+                self.nest();
+            }
+        }
+        if self.random.one_in(3) {
+            self.raise(7);
+        }
+        self.unwind();
     }
 
     fn unwind(&mut self) {

@@ -1,6 +1,7 @@
 //! Traces that visit everything once and on purpose: every register, every defect of every number, every limit.
 
 mod aintc;
+mod marks;
 
 use super::damage::spoil;
 use super::{long, Script, AINTC};
@@ -13,6 +14,7 @@ pub fn all() -> Vec<Script> {
     let mut sweeps = vec![Script::default(), papers_example()];
     sweeps.extend(registers());
     sweeps.extend(aic_situations());
+    sweeps.extend(marks::situations());
     sweeps.extend(core_situations());
     sweeps.extend(cic_situations());
     sweeps.push(line_limits(AINTC, &[], 128));
@@ -119,7 +121,7 @@ fn aic_situations() -> Vec<Script> {
     scripts
 }
 
-/// Eight handlers one above the other, priority 7 waiting on top, then one close more than there are handlers.
+/// Eight handlers one above the other, priority 7 waiting on top, then one close more than there are entries.
 fn nesting_to_eight() -> Script {
     let mut script = Script::new(0, &[0, 0]);
     script.write(0x134, 0x5555_AAAA);

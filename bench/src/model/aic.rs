@@ -1,9 +1,12 @@
-//! The AIC: 32 sources, eight levels and a fast side (01, AIC; 003, sections 27.7 and 27.8).
+//! The AIC: 32 sources, eight levels, a fast side and spurious marks (01, AIC; 02, 3/12; 003, sections 27.7 and 27.8).
 
 use super::{Access, Controller, Refusal};
 
 /// The number of sources, and of input lines (003, 27.1).
 pub const SOURCES: usize = 32;
+
+/// The most entries that are open at once (02, 3/12).
+pub const ENTRIES: usize = 8;
 
 /// The registers in the order of 003, table 27-2.
 #[derive(Clone, Copy, Debug, PartialEq, Eq, PartialOrd, Ord, Hash)]
@@ -170,19 +173,27 @@ impl Source {
     }
 }
 
-/// A handler that was started and not closed, with the priority its source had then.
+/// What an IVR read opened and no EOICR write has closed: a handler or a spurious mark (02, 3/12).
 #[derive(Clone, Copy, Debug, PartialEq, Eq)]
-pub struct Handler {
-    pub source: u8,
-    pub level: u8,
+pub struct Entry {
+    /// The source of a handler; a mark has none.
+    pub source: Option<u8>,
+    /// The priority that a handler's source had at its start; for a mark the level of the entry below it, if any.
+    pub level: Option<u8>,
+}
+
+impl Entry {
+    pub fn is_mark(&self) -> bool {
+        self.source.is_none()
+    }
 }
 
 /// The whole controller.
 #[derive(Clone, Debug, PartialEq, Eq)]
 pub struct Aic {
     sources: [Source; SOURCES],
-    /// The open handlers, the last started one at the end.
-    handlers: Vec<Handler>,
+    /// What is open, the last one at the end.
+    entries: Vec<Entry>,
     spurious: u32,
     masked: bool,
 }
@@ -197,7 +208,7 @@ impl Aic {
         });
         Aic {
             sources,
-            handlers: Vec::with_capacity(8),
+            entries: Vec::with_capacity(ENTRIES),
             spurious: 0,
             masked: false,
         }
@@ -207,8 +218,8 @@ impl Aic {
         &self.sources
     }
 
-    pub fn handlers(&self) -> &[Handler] {
-        &self.handlers
+    pub fn entries(&self) -> &[Entry] {
+        &self.entries
     }
 
     pub fn masked(&self) -> bool {
@@ -229,13 +240,32 @@ impl Aic {
         (0..SOURCES).any(|n| self.sources[n].requests() && self.fast(n))
     }
 
-    /// A normal source that is pending, enabled and above the last open handler (01, AIC, normal side).
-    pub fn candidate(&self, source: usize) -> bool {
-        let above = match self.handlers.last() {
-            Some(handler) => self.sources[source].priority > handler.level,
+    /// A normal source that is pending and enabled, be it a candidate or kept waiting.
+    pub fn normal_request(&self, source: usize) -> bool {
+        self.sources[source].requests() && !self.fast(source)
+    }
+
+    /// The level that a source has to pass and that a mark takes over: that of the last entry, if it has one.
+    pub fn last_level(&self) -> Option<u8> {
+        self.entries.last().and_then(|entry| entry.level)
+    }
+
+    /// With eight entries open there is no candidate and nothing more opens (02, 3/12).
+    pub fn is_full(&self) -> bool {
+        self.entries.len() == ENTRIES
+    }
+
+    /// The priority of a source is strictly above the level of the last entry, if that has one.
+    pub fn is_above(&self, source: usize) -> bool {
+        match self.last_level() {
+            Some(level) => self.sources[source].priority > level,
             None => true,
-        };
-        above && self.sources[source].requests() && !self.fast(source)
+        }
+    }
+
+    /// A normal request that finds room and is above the last entry (01, AIC, normal side; 02, 3/12).
+    pub fn candidate(&self, source: usize) -> bool {
+        !self.is_full() && self.is_above(source) && self.normal_request(source)
     }
 
     /// The candidate ahead of all others: the highest priority, and of equal ones the lowest number.
@@ -263,18 +293,43 @@ impl Aic {
         !self.masked && self.fast_request()
     }
 
-    /// Starts the best candidate, or answers SPU and changes nothing; the mask plays no part (01, AIC, normal side).
+    /// Starts the best candidate and answers its vector, or opens a mark and answers SPU; the mask plays no part (01,
+    /// AIC, normal side; 02, 3/12).
     fn read_ivr(&mut self) -> u32 {
-        let Some(number) = self.best() else {
-            return self.spurious;
-        };
+        match self.best() {
+            Some(number) => self.start(number),
+            None => {
+                self.open_mark();
+                self.spurious
+            }
+        }
+    }
+
+    /// Opens a handler of a source at the priority it has now, and answers its vector.
+    fn start(&mut self, number: usize) -> u32 {
         let source = &mut self.sources[number];
         source.forget();
-        self.handlers.push(Handler {
-            source: number as u8,
-            level: source.priority,
+        self.entries.push(Entry {
+            source: Some(number as u8),
+            level: Some(source.priority),
         });
         source.vector
+    }
+
+    /// Opens a mark at the level of the entry below it, if there is room (02, 3/12).
+    fn open_mark(&mut self) {
+        if !self.is_full() {
+            self.entries.push(Entry {
+                source: None,
+                level: self.last_level(),
+            });
+        }
+    }
+
+    /// The source whose handler is the last entry, 0 on a mark and with nothing open (01, AIC; 02, 3/12).
+    fn read_isr(&self) -> u32 {
+        let source = self.entries.last().and_then(|entry| entry.source);
+        source.map_or(0, u32::from)
     }
 
     /// Answers vector 0 for any fast request. Source 0's edge is forgotten only while nothing is forced, be the
@@ -333,7 +388,7 @@ impl Controller for Aic {
             Register::Vector(n) => self.sources[usize::from(n)].vector,
             Register::Ivr => self.read_ivr(),
             Register::Fvr => self.read_fvr(),
-            Register::Isr => self.handlers.last().map_or(0, |h| u32::from(h.source)),
+            Register::Isr => self.read_isr(),
             Register::Ipr => self.word(Source::pending),
             Register::Imr => self.word(|source| source.enabled),
             Register::Cisr => u32::from(self.irq()) << 1 | u32::from(self.fiq()),
@@ -359,8 +414,8 @@ impl Controller for Aic {
             Register::Disable => self.command(value, |source| source.enabled = false),
             Register::Clear => self.command(value, Source::forget),
             Register::Set => self.command(value, Source::remember),
-            // One write closes one handler whatever its value, and none is fine too (003, 27.8.15).
-            Register::Eoicr => drop(self.handlers.pop()),
+            // One write closes the last entry whatever its value, and none is fine too (02, 3/12; 003, 27.8.15).
+            Register::Eoicr => drop(self.entries.pop()),
             Register::Spu => self.spurious = value,
             Register::Dcr => self.write_dcr(value)?,
             // Source 0 cannot be forced: its bit is dropped (01, AIC, fast side).
@@ -384,7 +439,7 @@ impl Controller for Aic {
         [
             u32::from(self.irq()),
             u32::from(self.fiq()),
-            self.handlers.len() as u32,
+            self.entries.len() as u32,
         ]
     }
 }

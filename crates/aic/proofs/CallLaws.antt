@@ -52,11 +52,11 @@ two-bits false true = (refl, refl)
 two-bits false false = (refl, refl)
 
 pub outputs-by : (s : Aic) (w : ℕ) (i f : Bool) → sound s ≡ true → w ≡ one (fiq s) + 2 * one (irq s) → i ≡ bit w 1 → f ≡ bit w 0
-    → record { refusal = carriedOut; irq = i; fiq = f; handlers = s .depth } ≡ outputs s
+    → record { refusal = carriedOut; irq = i; fiq = f; entries = s .depth } ≡ outputs s
 unfolding outputs
 outputs-by s w i f ok e g h =
     let b = two-bits (fiq s) (irq s) in
-    ap₂ (λ (x y : Bool). record { refusal = carriedOut; irq = x; fiq = y; handlers = s .depth })
+    ap₂ (λ (x y : Bool). record { refusal = carriedOut; irq = x; fiq = y; entries = s .depth })
     (g ∙ ap (λ (n : ℕ). bit n 1) e ∙ b .0) (h ∙ ap (λ (n : ℕ). bit n 0) e ∙ b .1)
     ∙ pick-true _ ok
 

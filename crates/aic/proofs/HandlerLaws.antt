@@ -3,7 +3,8 @@ use Prim.Native.Nat.{ℕ, _+_, _^_, _<_, _≤_}
 use mathlib.Core.Path.{_≡_, refl, sym, ap, _∙_}
 use mathlib.Core.Bool.{Bool, true, false, not, _&&_, _||_, and-true, and-false}
 use mathlib.Core.Logic.{_≢_, _⊎_, inl, inr}
-use lib.Dec.{eqb}
+use native.Mathlib.Omega.{arith}
+use lib.Dec.{eqb, ltb}
 use lib.ListN.{set}
 use borrow.Author.Tests.{ne-eqb, lt-ltb, le-ltb, le-leb}
 use Rattle.words.specs.Choice.{pick}
@@ -15,17 +16,17 @@ use Rattle.steps.specs.Refusals.{readRefusal, lineRefusal}
 use Rattle.aic_record.specs.declared.Aic.{Aic}
 use Rattle.aic_record.specs.Record.{withLines, withMemory, withMode, withHandlers}
 use Rattle.aic_record.specs.Mode.{typeOf, keptMode, priority, kind, edge}
-use Rattle.aic_record.specs.Sound.{sound}
+use Rattle.aic_record.specs.Sound.{levelBelow, sound}
 use Rattle.aic_sources.specs.Pending.{pending, activeLow, activeAt, active}
 use Rattle.aic_sources.specs.Fast.{fast, fastAsks}
 use Rattle.aic_sources.specs.Normal.{candidate, candidates, chosen}
 use Rattle.aic_sources.specs.Promises.{AheadOfOthers}
 use Rattle.aic_sources.proofs.FastLaws.{fast-some, some-fast}
-use Rattle.aic_sources.proofs.HandlerLaws.{candidate-waits, waiting-is}
+use Rattle.aic_sources.proofs.HandlerLaws.{candidate-waits, waiting-is, candidate-room}
 use Rattle.aic_sources.proofs.OrderLaws.{chosen-is, chosen-one}
 use Rattle.aic_registers.specs.declared.Answer.{Answer}
 use Rattle.aic_registers.specs.Map.{ivr, fvr, access}
-use Rattle.aic_registers.specs.Handlers.{answered, forgotten, spent, opened, startedAt, vectorAt, ivrRead, fastSpent, fvrRead}
+use Rattle.aic_registers.specs.Handlers.{answered, forgotten, spent, opened, startedAt, marked, vectorAt, ivrRead, fastSpent, fvrRead}
 use Rattle.aic_registers.specs.Effects.{moded, turns, moved}
 use Rattle.aic_registers.specs.Registers.{readAt}
 use Rattle.aic.specs.Model.{readNumber, lineNumber, read, line}
@@ -107,9 +108,16 @@ module _ (s : Aic) (ok : sound s ≡ true) where
         below = put-below (s .memory) k false (edge s k);
       }
 
-  pub vector-spurious : ((k : ℕ) → k < 32 → candidate s k ≡ false) → read s ivr ≡ answered s (s .spurious)
-  unfolding ivrRead candidates pick
-  vector-spurious h = ivr-done ∙ rw (any-none 32 (candidate s) h)
+  pub vector-spurious : s .depth < 8 → ((k : ℕ) → k < 32 → candidate s k ≡ false)
+      → read s ivr ≡ answered (withHandlers s (set (s .source) (s .depth) 0) (set (s .level) (s .depth) (levelBelow (s .level) (s .depth))) (s .depth + 1)) (s .spurious)
+  unfolding ivrRead candidates marked opened pick
+  vector-spurious l h = ivr-done ∙ rw (any-none 32 (candidate s) h, lt-ltb (s .depth) 8 l)
+
+  pub vector-full : 8 ≤ s .depth → read s ivr ≡ answered s (s .spurious)
+  unfolding ivrRead candidates marked pick
+  vector-full l =
+      ivr-done
+      ∙ rw (any-none 32 (candidate s) (λ k m. not-holds (candidate s k) (λ c. omega (arith, candidate-room s k c))), le-ltb (s .depth) 8 l)
 
   pub fast-read : (k : ℕ) → k < 32 → fast s k ≡ true → pending s k ≡ true → bit (s .enabled) k ≡ true
       → Sets (read s fvr) (vectorAt s 0) (s .memory) (withMemory s) (λ j. bit (s .memory) j && not (eqb j 0 && (edge s 0 && eqb (s .forced) 0)))
@@ -155,9 +163,11 @@ started-forced s j l b c =
     other e = clash (or-right (eqb (chosen s) 0) (ap (bit (s .forced)) (sym e) ∙ b)) normal
 
 pub vector-forced : (s : Aic) (j : ℕ) → j < 32 → bit (s .forced) j ≡ true → bit (read s ivr .aic .memory) j ≡ bit (s .memory) j
-unfolding read readAt ivrRead pick
+unfolding read readAt ivrRead marked opened pick
 vector-forced s j l b =
-    pick-cases A (eqb (readNumber s ivr) 0) (λ _. pick-cases A (candidates s) (started-forced s j l b) (λ _. refl)) (λ _. refl)
+    pick-cases A (eqb (readNumber s ivr) 0)
+    (λ _. pick-cases A (candidates s) (started-forced s j l b) (λ _. pick-cases (λ (t : Aic). bit (t .memory) j ≡ bit (s .memory) j) (ltb (s .depth) 8) (λ _. refl) (λ _. refl)))
+    (λ _. refl)
   where
     A : Answer → Type 0
     A a = bit (a .aic .memory) j ≡ bit (s .memory) j

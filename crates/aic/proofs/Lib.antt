@@ -2,6 +2,7 @@
 pub mod CallLaws
 pub mod EffectLaws
 pub mod HandlerLaws
+pub mod MarkLaws
 pub mod MaskLaws
 pub mod Promises
 pub mod SoundLaws

@@ -19,7 +19,7 @@ use Rattle.aic_sources.specs.Fast.{fast, fastAsks}
 use Rattle.aic_sources.specs.Normal.{waiting, above, candidate, ahead, foremost, candidates, chosen}
 use Rattle.aic_registers.specs.declared.Answer.{Answer}
 use Rattle.aic_registers.specs.Map.{svr, ivr, fvr, cisr, iecr, idcr, iccr, iscr, eoicr, spu, dcr, ffer, ffdr}
-use Rattle.aic_registers.specs.Handlers.{answered, startedAt, closedLast, ended, vectorAt, ivrRead, fvrRead, current}
+use Rattle.aic_registers.specs.Handlers.{answered, opened, startedAt, marked, closedLast, ended, vectorAt, ivrRead, fvrRead, current}
 use Rattle.aic_registers.specs.Effects.{moded, vectored, enabledBy, disabledBy, setBy, clearedBy, forcedBy, unforcedBy, turns, moved}
 use Rattle.aic_registers.specs.Registers.{stored, readAt, writtenAt}
 use Rattle.aic.specs.Model.{readNumber, writeNumber, lineNumber, read, write, line, step}
@@ -56,11 +56,16 @@ module _ (s : Aic) (m : ℕ) where
   unfolding edge priority
   same-start = rw (started-is (withMask s m) (chosen s) (priority (withMask s m) (chosen s)), started-is s (chosen s) (priority s (chosen s)))
 
+  same-mark : marked (withMask s m) ≡ remask m (marked s)
+  unfolding marked opened
+  same-mark = pick-through (remask m) (ltb (s .depth) 8) (unfold remask in refl) (unfold remask in refl)
+
   same-ivr : ivrRead (withMask s m) ≡ remasked m (ivrRead s)
   unfolding ivrRead
   same-ivr =
       rw (same-candidates, same-chosen)
-      (pick-through (remasked m) (candidates s) (ap (λ (t : Aic). answered t (vectorAt s (chosen s))) same-start) refl)
+      (pick-through (remasked m) (candidates s) (ap (λ (t : Aic). answered t (vectorAt s (chosen s))) same-start)
+      (unfold remask in (ap (λ (t : Aic). answered t (s .spurious)) same-mark)))
 
   same-fvr : fvrRead (withMask s m) ≡ remasked m (fvrRead s)
   unfolding fvrRead edge

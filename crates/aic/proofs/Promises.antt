@@ -30,7 +30,8 @@ use Rattle.aic.specs.Promises.{Promises}
 use Rattle.aic.proofs.StepKindLaws.{value-number}
 use Rattle.aic.proofs.SoundLaws.{step-sound, step-shaped}
 use Rattle.aic.proofs.EffectLaws.{the-map, reads-of, writes-of}
-use Rattle.aic.proofs.HandlerLaws.{vector-read, vector-spurious, vector-forced, fast-read, fast-spurious, fast-forced, line-moves, line-repeated, edge-falls, edge-rises}
+use Rattle.aic.proofs.HandlerLaws.{vector-read, vector-spurious, vector-full, vector-forced, fast-read, fast-spurious, fast-forced, line-moves, line-repeated, edge-falls, edge-rises}
+use Rattle.aic.proofs.MarkLaws.{isr-mark, close-last, spurious-ended}
 use Rattle.aic.proofs.MaskLaws.{mask-idle}
 
 -- ---- refusals
@@ -118,7 +119,11 @@ kept =
       writes = λ s v ok. writes-of s ok v;
       vectorRead = λ s k ok. vector-read s ok k;
       vectorSpurious = vector-spurious;
+      vectorFull = vector-full;
       vectorForced = vector-forced;
+      isrMark = isr-mark;
+      closeLast = λ s v ok. close-last s ok v;
+      spuriousEnded = λ s v h ok. spurious-ended s ok v h;
       fastRead = λ s k ok. fast-read s ok k;
       fastSpurious = fast-spurious;
       fastForced = fast-forced;

@@ -15,7 +15,7 @@ use Rattle.steps.specs.declared.Step.{Step}
 use Rattle.aic_record.specs.declared.Aic.{Aic}
 use Rattle.aic_record.specs.Record.{withMemory}
 use Rattle.aic_record.specs.Mode.{typeOf, keptMode, edgeOf, priority, kind, edge}
-use Rattle.aic_record.specs.Sound.{sound}
+use Rattle.aic_record.specs.Sound.{levelBelow, sound}
 use Rattle.aic_record.specs.Promises.{Shaped, Rules}
 use Rattle.aic_record.proofs.SoundLaws.{sound-is, is-sound}
 use Rattle.aic_record.proofs.RuleLaws.{words-rules, memory-rules, mode-rules, push-rules, pop-rules}
@@ -23,7 +23,7 @@ use Rattle.aic_sources.specs.Pending.{edgeWord}
 use Rattle.aic_sources.specs.Normal.{candidates, chosen}
 use Rattle.aic_sources.proofs.OrderLaws.{Foremost, chosen-is}
 use Rattle.aic_sources.proofs.HandlerLaws.{priority-small, candidate-source, candidate-over, candidate-room}
-use Rattle.aic_registers.specs.Handlers.{startedAt, closedLast}
+use Rattle.aic_registers.specs.Handlers.{opened, startedAt, closedLast}
 use Rattle.aic_registers.specs.Effects.{moded, setBy, turns, moved}
 use Rattle.aic.specs.Model.{step}
 use Rattle.words.proofs.WordLaws.{bit-cleared, bit-cleared-if, bit-put-if}
@@ -33,7 +33,7 @@ use Rattle.aic.proofs.StepKindLaws.{kinds}
 -- ---- the lengths of the arrays
 
 pub step-shaped : (s : Aic) (x : Step) → Shaped s → Shaped (step s x .aic)
-unfolding closedLast setBy
+unfolding opened closedLast setBy
 step-shaped s =
     kinds s (λ x t. Shaped s → Shaped t)
     (record {
@@ -45,6 +45,7 @@ step-shaped s =
       take = λ ok c h.
           rw (started-is s (chosen s) (priority s (chosen s)))
           (h .0, h .1, length-set (s .source) (s .depth) (chosen s) ∙ h .2, length-set (s .level) (s .depth) (priority s (chosen s)) ∙ h .3);
+      mark = λ ok n l h. (h .0, h .1, length-set (s .source) (s .depth) 0 ∙ h .2, length-set (s .level) (s .depth) (levelBelow (s .level) (s .depth)) ∙ h .3);
       close = λ v ok d h. (h .0, h .1, length-set (s .source) (s .depth - 1) 0 ∙ h .2, length-set (s .level) (s .depth - 1) 0 ∙ h .3);
       command = λ v ok h. h;
       move = λ k l ok m n h. rw (moved-is s k (eqb l 1)) h;
@@ -98,14 +99,15 @@ module _ (s : Aic) (r : Rules s) where
   started-rules : Shaped s → candidates s ≡ true → Rules (startedAt s (chosen s) (priority s (chosen s)))
   started-rules h c =
       rw (started-is s (chosen s) (priority s (chosen s)))
-      (push-rules (withMemory s _) (cleared-rules (chosen s) (edge s (chosen s))) (chosen s) (priority s (chosen s)) h (candidate-source s (chosen s) (f .fit))
-      (omega (arith, f .below)) (priority-small s (chosen s)) (candidate-room s (chosen s) r (f .fit)) (candidate-over s (chosen s) r (f .fit)))
+      (push-rules (withMemory s _) (cleared-rules (chosen s) (edge s (chosen s))) (chosen s) (priority s (chosen s)) h
+      (omega (arith, f .below)) (candidate-room s (chosen s) (f .fit)) (λ z. omega (arith, candidate-source s (chosen s) (f .fit)))
+      (λ _. (priority-small s (chosen s), candidate-over s (chosen s) (f .fit))))
     where
       f : Foremost s 32 (chosen s)
       f = chosen-is s c
 
 rules-law : (s : Aic) (x : Step) → Shaped s → Rules s → Rules (step s x .aic)
-unfolding closedLast
+unfolding opened closedLast
 rules-law s =
     kinds s (λ x t. Shaped s → Rules s → Rules t)
     (record {
@@ -115,6 +117,7 @@ rules-law s =
       remode = λ o k v ok e l h r. moded-rules s r k v h l;
       reforce = λ o v f ok e z h r. words-rules s r (s .lines) (s .enabled) (s .memory) f (s .spurious) (s .mask) (s .vector) (r .memory) (r .mask) z;
       take = λ ok c h r. started-rules s r h c;
+      mark = λ ok n l h r. push-rules s r 0 (levelBelow (s .level) (s .depth)) h (omega arith) l (λ _. refl) (λ d. absurd (d refl));
       close = λ v ok d h r. pop-rules s r h d;
       command = λ v ok h r. set-rules s r v;
       move = λ k l ok m n h r. moved-rules s r k (eqb l 1);

@@ -1,4 +1,4 @@
--- The kinds of step. The register map is walked here once: a law of every step is a record of nine lemmas, one for each kind.
+-- The kinds of step. The register map is walked here once: a law of every step is a record of ten lemmas, one for each kind.
 use Prim.Native.Nat.{ℕ, _-_, _*_, _/_, _%_, _≤_, _<_}
 use mathlib.Core.Path.{_≡_, refl, sym, _∙_}
 use mathlib.Core.Bool.{true, false, _&&_, and-false}
@@ -8,7 +8,7 @@ use native.Mathlib.Omega.{arith}
 use native.Mathlib.Decide.{ℕ-discrete}
 use lib.Dec.{eqb, ltb, leb}
 use lib.ListN.{length, set, length-set}
-use borrow.Author.Tests.{eqb-true, eqb-false, ltb-true}
+use borrow.Author.Tests.{eqb-true, eqb-false, ltb-true, ltb-false}
 use Rattle.words.specs.Choice.{pick}
 use Rattle.words.specs.Word.{bit, either, both, without, withBit}
 use Rattle.words.proofs.ChoiceLaws.{pick-cases}
@@ -22,14 +22,14 @@ use Rattle.steps.proofs.Promises.{read-table, write-table, line-table}
 use Rattle.aic_record.specs.declared.Aic.{Aic}
 use Rattle.aic_record.specs.Record.{withEnabled, withMemory, withForced, withSpurious, withMask, withVector}
 use Rattle.aic_record.specs.Mode.{priority, edge}
-use Rattle.aic_record.specs.Sound.{sound}
+use Rattle.aic_record.specs.Sound.{levelBelow, sound}
 use Rattle.aic_record.proofs.SoundLaws.{mask-sound, forced-sound}
 use Rattle.aic_sources.specs.Pending.{edgeWord}
 use Rattle.aic_sources.specs.Fast.{fastAsks}
 use Rattle.aic_sources.specs.Normal.{candidates, chosen}
 use Rattle.aic_registers.specs.declared.Answer.{Answer}
 use Rattle.aic_registers.specs.Map.{ivr, fvr, svr, iecr, idcr, iccr, iscr, eoicr, spu, dcr, ffer, ffdr, access, valueRefusal}
-use Rattle.aic_registers.specs.Handlers.{startedAt, closedLast, ended, ivrRead, fvrRead}
+use Rattle.aic_registers.specs.Handlers.{opened, startedAt, marked, closedLast, ended, ivrRead, fvrRead}
 use Rattle.aic_registers.specs.Effects.{moded, vectored, enabledBy, disabledBy, setBy, clearedBy, maskedBy, forcedBy, unforcedBy, moved}
 use Rattle.aic_registers.specs.Registers.{readAt, writtenAt}
 use Rattle.aic.specs.Model.{readNumber, writeNumber, lineNumber, read, write, line, step}
@@ -38,7 +38,7 @@ use Rattle.aic.proofs.HandlerLaws.{fast-spent-is}
 
 -- why a step starts nothing, closes nothing, is no set command and moves no line
 abbrev pub Plain : Aic → Step → Type 0
-Plain s (Read o) = (sound s ≡ false) ⊎ ((o ≢ ivr) ⊎ (candidates s ≡ false))
+Plain s (Read o) = (sound s ≡ false) ⊎ ((o ≢ ivr) ⊎ (8 ≤ s .depth))
 Plain s (Write o v) = (sound s ≡ false) ⊎ (((o ≢ eoicr) × (o ≢ iscr)) ⊎ ((o ≡ eoicr) × (s .depth ≡ 0)))
 Plain s (Line k l) = (sound s ≡ false) ⊎ ((ltb k 32 && leb l 1) ≡ false)
 
@@ -47,7 +47,7 @@ abbrev pub withStore : Aic → ℕ → ℕ → ℕ → List ℕ → Aic
 withStore s e u m vs = withVector (withMask (withSpurious (withEnabled s e) u) m) vs
 
 pub record Kinds (s : Aic) (P : Step → Aic → Type 0) : Type 0 where
-  -- nothing changes: a refused step, a plain read, a vector read that answers SPU, a write of IVR, a close with none open
+  -- nothing changes: a refused step, a plain read, a vector read with eight entries open, a write of IVR, a close with none open
   pub still : (x : Step) → Plain s x → P x s
   -- a write of an enable, of SPU, of DCR or of a vector
   pub store : (o v e u m : ℕ) (vs : List ℕ) → sound s ≡ true → Plain s (Write o v) → (m ≡ 0) ⊎ (m ≡ 2) → length vs ≡ length (s .vector)
@@ -61,7 +61,9 @@ pub record Kinds (s : Aic) (P : Step → Aic → Type 0) : Type 0 where
   pub reforce : (o v f : ℕ) → sound s ≡ true → (o ≡ ffer) ⊎ (o ≡ ffdr) → bit f 0 ≡ false → P (Write o v) (withForced s f)
   -- a read of IVR that starts a source
   pub take : sound s ≡ true → candidates s ≡ true → P (Read ivr) (startedAt s (chosen s) (priority s (chosen s)))
-  -- a write of EOICR that closes a handler
+  -- a read of IVR that opens a mark
+  pub mark : sound s ≡ true → candidates s ≡ false → s .depth < 8 → P (Read ivr) (opened s 0 (levelBelow (s .level) (s .depth)))
+  -- a write of EOICR that closes an entry
   pub close : (v : ℕ) → sound s ≡ true → s .depth ≢ 0 → P (Write eoicr v) (closedLast s)
   -- a set command
   pub command : (v : ℕ) → sound s ≡ true → P (Write iscr v) (setBy s v)
@@ -95,12 +97,13 @@ value-number o v = pick-cases ValueNumber (eqb o dcr && bit v 0) (λ _. inr (inl
 
 module _ (s : Aic) (P : Step → Aic → Type 0) (k : Kinds s P) where
   reads : sound s ≡ true → (o : ℕ) → P (Read o) (readAt s o .aic)
-  unfolding readAt ivrRead fvrRead
+  unfolding readAt ivrRead fvrRead marked
   reads ok o =
       pick-cases A (eqb o ivr)
       (λ e.
       rw (eqb-true o ivr e)
-      (pick-cases (λ (a : Answer). P (Read ivr) (a .aic)) (candidates s) (k .take ok) (λ n. k .still (Read ivr) (inr (inr n)))))
+      (pick-cases (λ (a : Answer). P (Read ivr) (a .aic)) (candidates s) (k .take ok)
+      (λ n. pick-cases (λ t. P (Read ivr) t) (ltb (s .depth) 8) (λ l. k .mark ok n (ltb-true (s .depth) 8 l)) (λ m. k .still (Read ivr) (inr (inr (ltb-false (s .depth) 8 m)))))))
       (λ n.
       let p : Plain s (Read o) = inr (inl (eqb-false o ivr n)) in
       pick-cases A (eqb o fvr)

@@ -52,9 +52,9 @@ step s (Read o) = read s o
 step s (Write o v) = write s o v
 step s (Line k l) = line s k l
 
--- the outputs, active or not, and the handlers open; of a record that breaks a rule 12 and nothing else
+-- the outputs, active or not, and the entries open; of a record that breaks a rule 12 and nothing else
 unfoldable pub outputs : Aic → Signals
 outputs s =
     pick (sound s)
-    (record { refusal = carriedOut; irq = irq s; fiq = fiq s; handlers = s .depth })
-    (record { refusal = unsound; irq = false; fiq = false; handlers = 0 })
+    (record { refusal = carriedOut; irq = irq s; fiq = fiq s; entries = s .depth })
+    (record { refusal = unsound; irq = false; fiq = false; entries = 0 })

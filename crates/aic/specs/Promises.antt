@@ -1,5 +1,5 @@
 -- What is promised of the controller: how it starts, when it refuses, what each step does, and that it stays sound.
-use Prim.Native.Nat.{ℕ, _+_, _<_, _≤_}
+use Prim.Native.Nat.{ℕ, _+_, _-_, _<_, _≤_}
 use mathlib.Core.Path.{_≡_}
 use mathlib.Core.Bool.{Bool, true, false, not, _&&_, _||_}
 use mathlib.Core.Logic.{_↔_, _≢_, _⊎_}
@@ -12,7 +12,7 @@ use Rattle.steps.specs.Tables.{ReadTable, WriteTable, LineTable}
 use Rattle.aic_record.specs.declared.Aic.{Aic}
 use Rattle.aic_record.specs.Record.{withLines, withMemory, withMask, withHandlers}
 use Rattle.aic_record.specs.Mode.{priority, kind, edge}
-use Rattle.aic_record.specs.Sound.{sound}
+use Rattle.aic_record.specs.Sound.{sourceAt, levelAt, levelBelow, sound}
 use Rattle.aic_record.specs.Promises.{Shaped, Fresh}
 use Rattle.aic_sources.specs.Pending.{pending}
 use Rattle.aic_sources.specs.Fast.{fast, fiq}
@@ -69,10 +69,23 @@ pub record Promises : Type 0 where
       → Sets (read s 0x100) (vectorAt s k) (s .memory)
       (λ w. withHandlers (withMemory s w) (set (s .source) (s .depth) k) (set (s .level) (s .depth) (priority s k)) (s .depth + 1))
       (λ j. bit (s .memory) j && not (eqb j k && edge s k))
-  -- without a candidate it answers SPU and changes nothing (01, AIC, Normal side; 003, 27.7.6)
-  pub vectorSpurious : (s : Aic) → sound s ≡ true → ((k : ℕ) → k < 32 → candidate s k ≡ false) → read s 0x100 ≡ answered s (s .spurious)
+  -- without a candidate, and with fewer than eight entries open, it answers SPU and opens a mark: one entry more, of source 0, with the level of
+  -- the last entry, or no level if there is none; all else is as it was (02, 3/12; 003, 27.7.6)
+  pub vectorSpurious : (s : Aic) → sound s ≡ true → s .depth < 8 → ((k : ℕ) → k < 32 → candidate s k ≡ false)
+      → read s 0x100
+      ≡ answered (withHandlers s (set (s .source) (s .depth) 0) (set (s .level) (s .depth) (levelBelow (s .level) (s .depth))) (s .depth + 1)) (s .spurious)
+  -- with eight entries open it answers SPU and changes nothing, whatever is pending (02, 3/12)
+  pub vectorFull : (s : Aic) → sound s ≡ true → 8 ≤ s .depth → read s 0x100 ≡ answered s (s .spurious)
   -- it never clears the memory of a forced source (01, Slips; 003, 27.7.4.5)
   pub vectorForced : (s : Aic) (j : ℕ) → j < 32 → bit (s .forced) j ≡ true → bit (read s 0x100 .aic .memory) j ≡ bit (s .memory) j
+  -- ISR reads 0 on a mark, whatever lies below it (02, 3/12)
+  pub isrMark : (s : Aic) → sound s ≡ true → s .depth ≢ 0 → sourceAt s (s .depth - 1) ≡ 0 → read s 0x108 ≡ answered s 0
+  -- EOICR closes the last entry, mark or handler: one fewer is open, and each below it is as it was (02, 3/12)
+  pub closeLast : (s : Aic) (v : ℕ) → sound s ≡ true → s .depth ≢ 0 → (write s 0x130 v .aic .depth ≡ s .depth - 1)
+      × ((i : ℕ) → i < s .depth - 1 → (sourceAt (write s 0x130 v .aic) i ≡ sourceAt s i) × (levelAt (write s 0x130 v .aic) i ≡ levelAt s i))
+  -- so a spurious vector read and the EOICR that ends its handler leave the record as it was (02, 3/12; 003, 27.7.6)
+  pub spuriousEnded : (s : Aic) (v : ℕ) → Shaped s → sound s ≡ true → s .depth < 8 → ((k : ℕ) → k < 32 → candidate s k ≡ false)
+      → write (read s 0x100 .aic) 0x130 v ≡ answered s 0
   -- a read of FVR with a fast source pending and enabled answers vector 0, whichever source that is; it clears the memory of source 0
   -- alone, and that only if it is edge-triggered and no source is forced (01, AIC, Fast side; 003, 27.7.4.3 and 27.7.4.5)
   pub fastRead : (s : Aic) (k : ℕ) → sound s ≡ true → k < 32 → fast s k ≡ true → pending s k ≡ true → bit (s .enabled) k ≡ true
@@ -96,5 +109,5 @@ pub record Promises : Type 0 where
   pub maskIdle : (s : Aic) (m : ℕ) (x : Step) → sound s ≡ true → (m ≡ 0) ⊎ (m ≡ 2) → MaskFree x
       → step (withMask s m) x ≡ record { refusal = step s x .refusal; value = step s x .value; aic = withMask (step s x .aic) m }
   -- the outputs of a sound record, and 12 and nothing else exactly if it is not sound (01, Numbers; AIC)
-  pub outputsSound : (s : Aic) → sound s ≡ true → outputs s ≡ record { refusal = 0; irq = irq s; fiq = fiq s; handlers = s .depth }
-  pub outputsUnsound : (s : Aic) → sound s ≡ false → outputs s ≡ record { refusal = 12; irq = false; fiq = false; handlers = 0 }
+  pub outputsSound : (s : Aic) → sound s ≡ true → outputs s ≡ record { refusal = 0; irq = irq s; fiq = fiq s; entries = s .depth }
+  pub outputsUnsound : (s : Aic) → sound s ≡ false → outputs s ≡ record { refusal = 12; irq = false; fiq = false; entries = 0 }

@@ -49,7 +49,7 @@ pub record MapTable : Type 0 where
 pub record Reads (s : Aic) : Type 0 where
   pub modes : (k : ℕ) → k < 32 → read s (k * 4) ≡ answered s (modeAt s k)
   pub vectors : (k : ℕ) → k < 32 → read s (0x80 + k * 4) ≡ answered s (vectorAt s k)
-  -- ISR: the source of the last handler still open, 0 if none is (003, 27.8.7)
+  -- ISR: the source of the last entry, which of a mark is 0; 0 if none is open (02, 3/12; 003, 27.8.7)
   pub noneOpen : s .depth ≡ 0 → read s 0x108 ≡ answered s 0
   pub someOpen : s .depth ≢ 0 → read s 0x108 ≡ answered s (sourceAt s (s .depth - 1))
   -- IPR: the pending sources, enabled or not (003, 27.8.8)
@@ -80,7 +80,7 @@ pub record Writes (s : Aic) (v : ℕ) : Type 0 where
   -- each bit written as 1 sets, or clears, the memory of its source if that is edge-triggered (003, 27.7.1.3)
   pub sets : Sets (write s 0x12C v) 0 (s .memory) (withMemory s) (λ k. bit (s .memory) k || (bit v k && edge s k))
   pub clears : Sets (write s 0x128 v) 0 (s .memory) (withMemory s) (λ k. bit (s .memory) k && not (bit v k && edge s k))
-  -- EOICR closes the last handler; with none open it does nothing (003, 27.7.3.4)
+  -- EOICR closes the last entry, mark or handler; with none open it does nothing (02, 3/12; 003, 27.7.3.4)
   pub closes : s .depth ≢ 0
       → write s 0x130 v ≡ answered (withHandlers s (set (s .source) (s .depth - 1) 0) (set (s .level) (s .depth - 1) 0) (s .depth - 1)) 0
   pub closesNone : s .depth ≡ 0 → write s 0x130 v ≡ answered s 0

@@ -20,12 +20,12 @@ pub struct Begun {
     pub aic: Aic,
 }
 
-// The two outputs, active or not, and how many handlers are open.
+// The two outputs, active or not, and how many entries are open, handlers and marks.
 pub struct Signals {
     pub refusal: u32,
     pub irq: bool,
     pub fiq: bool,
-    pub handlers: u32,
+    pub entries: u32,
 }
 
 // Whether the nth configuration number may have this value: each of the two may have any.
@@ -98,18 +98,18 @@ pub fn step_sound(s: Aic, x: Step) -> Answer
     }
 }
 
-// The two outputs and how many handlers are open, for callers that know the record to be sound.
+// The two outputs and how many entries are open, for callers that know the record to be sound.
 pub fn outputs_sound(s: Aic) -> Signals
     requires { ⌜ sound s ≡ true ⌝ }
     ensures { λ r. ⌜ r ≡ outputs s ⌝ }
 {
     let bits = aic_sources::output_bits(s);
-    let handlers = s.depth;
+    let entries = s.depth;
     Signals {
         refusal: steps::CARRIED_OUT,
         irq: words::has(bits, 1),
         fiq: words::has(bits, 0),
-        handlers: handlers,
+        entries: entries,
     }
 }
 
@@ -155,7 +155,7 @@ pub fn step(s: Aic, x: Step) -> Answer
     refusal_of(s, steps::UNSOUND)
 }
 
-// The two outputs and how many handlers are open.
+// The two outputs and how many entries are open.
 pub fn outputs(s: Aic) -> Signals
     ensures { λ r. ⌜ r ≡ outputs s ⌝ }
 {
@@ -166,6 +166,6 @@ pub fn outputs(s: Aic) -> Signals
         refusal: steps::UNSOUND,
         irq: false,
         fiq: false,
-        handlers: 0,
+        entries: 0,
     }
 }

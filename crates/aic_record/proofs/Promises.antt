@@ -16,7 +16,7 @@ use Rattle.aic_record.specs.declared.Aic.{Aic}
 use Rattle.aic_record.specs.Record.{reset}
 use Rattle.aic_record.specs.Mode.{typeOf, keptMode, modeAt, priority, kind, edge}
 use Rattle.aic_record.specs.Promises.{Rules, Fresh, Setters, Promises}
-use Rattle.aic_record.proofs.SoundLaws.{sound-is, is-sound}
+use Rattle.aic_record.proofs.SoundLaws.{below-none, below-next, sound-is, is-sound, rising}
 
 zeros : (n i : ℕ) → _≡_ {A = ℕ} (getD (replicate n 0) i 0) 0
 zeros zero i = refl
@@ -67,10 +67,11 @@ reset-rules : (external lines : ℕ) → Rules (reset external lines)
 unfolding reset
 reset-rules external lines =
     record {
-      handlers = omega arith;
+      entries = omega arith;
       sources = λ i l. absurd (omega arith);
+      marks = λ i l. absurd (omega arith);
       levels = λ i l. absurd (omega arith);
-      rising = λ i j l m. absurd (omega arith);
+      above = λ i l. absurd (omega arith);
       unused = λ i l m. (zeros 8 i, zeros 8 i);
       memory = λ k l n. bit-none k;
       modes = λ k l. rw (zeros 32 k);
@@ -112,6 +113,7 @@ kept =
       setters = setters;
       modeIs = λ s k. refl;
       slotIs = λ s i. (refl, refl);
+      belowIs = λ level. (below-none level, below-next level);
       fieldsAre = λ v. (refl, refl);
       priorityIs = λ s k. refl;
       kindIs = λ s k. refl;
@@ -119,6 +121,7 @@ kept =
       edgeIs = edge-is;
       keptFields = λ v. (omega arith, omega arith);
       soundIs = λ s. (sound-is s, is-sound s);
+      rising = λ s ok. rising s (sound-is s ok);
       resetSound = λ external lines. is-sound (reset external lines) (reset-rules external lines);
       resetShaped = λ external lines. (refl, refl, refl, refl);
     }

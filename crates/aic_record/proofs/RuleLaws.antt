@@ -1,4 +1,4 @@
--- What keeps the rules of a sound record: other words, a mode stored, a handler opened, the last one closed.
+-- What keeps the rules of a sound record: other words, a mode stored, an entry opened, the last one closed.
 use Prim.Native.Nat.{ℕ, _+_, _-_, _≤_, _<_}
 use mathlib.Core.Path.{_≡_}
 use mathlib.Core.Bool.{false}
@@ -6,19 +6,31 @@ use mathlib.Core.List.{List}
 use mathlib.Core.Logic.{_≢_, _⊎_}
 use native.Mathlib.Omega.{arith}
 use native.Mathlib.Decide.{ℕ-discrete}
+use lib.Dec.{eqb}
 use lib.ListN.{getD, set}
 use lib.Seq.{getD-set-same, getD-set-other}
+use borrow.Author.Tests.{eq-eqb, ne-eqb}
+use Rattle.words.specs.Choice.{pick}
 use Rattle.words.specs.Word.{bit}
 use Rattle.aic_record.specs.declared.Aic.{Aic}
 use Rattle.aic_record.specs.Record.{withLines, withEnabled, withMemory, withForced, withSpurious, withMask, withMode, withVector, withHandlers}
 use Rattle.aic_record.specs.Mode.{keptMode, edgeOf, edge}
-use Rattle.aic_record.specs.Sound.{sourceAt, levelAt}
-use Rattle.aic_record.specs.Promises.{Shaped, Rules}
+use Rattle.aic_record.specs.Sound.{sourceAt, levelAt, noLevel, levelBelow}
+use Rattle.aic_record.specs.Promises.{Shaped, Over, Rules}
 
--- the record with all but its modes and its handlers anew
+-- the record with all but its modes and its entries anew
 abbrev pub withWords : Aic → ℕ → ℕ → ℕ → ℕ → ℕ → ℕ → List ℕ → Aic
 withWords s lines enabled memory forced spurious mask vector =
     withVector (withMask (withSpurious (withForced (withMemory (withEnabled (withLines s lines) enabled) memory) forced) spurious) mask) vector
+
+-- a level put in a slot is below no slot up to it
+below-set : (level : List ℕ) (d p i : ℕ) → i ≤ d → levelBelow (set level d p) i ≡ levelBelow level i
+unfolding levelBelow pick
+below-set level d p i l = go (ℕ-discrete i 0)
+  where
+    go : Dec (i ≡ 0) → pick (eqb i 0) noLevel (getD (set level d p) (i - 1) 0) ≡ pick (eqb i 0) noLevel (getD level (i - 1) 0)
+    go (yes e) = rw (eq-eqb i 0 e)
+    go (no z) = rw (ne-eqb i 0 z) (getD-set-other level d (i - 1) p 0 (omega arith))
 
 module _ (s : Aic) (r : Rules s) where
   pub words-rules : (lines enabled memory forced spurious mask : ℕ) (vector : List ℕ) → ((k : ℕ) → k < 32 → edge s k ≡ false → bit memory k ≡ false)
@@ -26,10 +38,11 @@ module _ (s : Aic) (r : Rules s) where
   unfolding edge
   words-rules lines enabled memory forced spurious mask vector quiet kept unforced =
       record {
-        handlers = r .handlers;
+        entries = r .entries;
         sources = r .sources;
+        marks = r .marks;
         levels = r .levels;
-        rising = r .rising;
+        above = r .above;
         unused = r .unused;
         memory = quiet;
         modes = r .modes;
@@ -45,10 +58,11 @@ module _ (s : Aic) (r : Rules s) where
   unfolding edge
   mode-rules k m h small kept quiet =
       record {
-        handlers = r .handlers;
+        entries = r .entries;
         sources = r .sources;
+        marks = r .marks;
         levels = r .levels;
-        rising = r .rising;
+        above = r .above;
         unused = r .unused;
         memory = λ j l. quiets j l (ℕ-discrete j k);
         modes = λ j l. keeps j l (ℕ-discrete j k);
@@ -67,8 +81,9 @@ module _ (s : Aic) (r : Rules s) where
       keeps j l (yes e) = rw (e, new) kept
       keeps j l (no d) = rw (getD-set-other (s .mode) k j m 0 d) (r .modes j l)
 
-  -- a handler opened above all those open
-  module _ (k p : ℕ) (h : Shaped s) (low : 1 ≤ k) (high : k ≤ 31) (seven : p ≤ 7) (room : s .depth < 8) (top : (i : ℕ) → i < s .depth → levelAt s i < p) where
+  -- an entry opened: a mark at the level of the last one, or a handler above it
+  module _ (k p : ℕ) (h : Shaped s) (high : k ≤ 31) (room : s .depth < 8) (mark : k ≡ 0 → p ≡ levelBelow (s .level) (s .depth))
+      (real : k ≢ 0 → (p ≤ 7) × Over (levelBelow (s .level) (s .depth)) p) where
     abbrev pushed : Aic
     pushed = withHandlers s (set (s .source) (s .depth) k) (set (s .level) (s .depth) p) (s .depth + 1)
 
@@ -76,10 +91,11 @@ module _ (s : Aic) (r : Rules s) where
     unfolding edge
     push-rules =
         record {
-          handlers = omega arith;
+          entries = omega arith;
           sources = λ i l. seats i l (ℕ-discrete i (s .depth));
+          marks = λ i l. marks i l (ℕ-discrete i (s .depth));
           levels = λ i l. small i l (ℕ-discrete i (s .depth));
-          rising = λ i j l m. rise i j l m (ℕ-discrete j (s .depth));
+          above = λ i l. rise i l (ℕ-discrete i (s .depth));
           unused = λ i l m. rw (old-source i (omega arith), old-level i (omega arith)) (r .unused i (omega arith) m);
           memory = r .memory;
           modes = r .modes;
@@ -99,19 +115,26 @@ module _ (s : Aic) (r : Rules s) where
         old-level : (i : ℕ) → i ≢ s .depth → levelAt pushed i ≡ levelAt s i
         old-level i d = getD-set-other (s .level) (s .depth) i p 0 d
 
-        seats : (i : ℕ) → i < s .depth + 1 → Dec (i ≡ s .depth) → (1 ≤ sourceAt pushed i) × (sourceAt pushed i ≤ 31)
-        seats i l (yes e) = rw (e, new-source) (low, high)
+        old-below : (i : ℕ) → i ≤ s .depth → levelBelow (pushed .level) i ≡ levelBelow (s .level) i
+        old-below i l = below-set (s .level) (s .depth) p i l
+
+        seats : (i : ℕ) → i < s .depth + 1 → Dec (i ≡ s .depth) → sourceAt pushed i ≤ 31
+        seats i l (yes e) = rw (e, new-source) high
         seats i l (no d) = rw (old-source i d) (r .sources i (omega arith))
 
-        small : (i : ℕ) → i < s .depth + 1 → Dec (i ≡ s .depth) → levelAt pushed i ≤ 7
-        small i l (yes e) = rw (e, new-level) seven
-        small i l (no d) = rw (old-level i d) (r .levels i (omega arith))
+        marks : (i : ℕ) → i < s .depth + 1 → Dec (i ≡ s .depth) → sourceAt pushed i ≡ 0 → levelAt pushed i ≡ levelBelow (pushed .level) i
+        marks i l (yes e) = rw (e, new-source, new-level, old-below (s .depth) (omega arith)) mark
+        marks i l (no d) = rw (old-source i d, old-level i d, old-below i (omega arith)) (r .marks i (omega arith))
 
-        rise : (i j : ℕ) → i < j → j < s .depth + 1 → Dec (j ≡ s .depth) → levelAt pushed i < levelAt pushed j
-        rise i j l m (yes e) = rw (e, new-level, old-level i (omega arith)) (top i (omega arith))
-        rise i j l m (no d) = rw (old-level i (omega arith), old-level j d) (r .rising i j l (omega arith))
+        small : (i : ℕ) → i < s .depth + 1 → Dec (i ≡ s .depth) → sourceAt pushed i ≢ 0 → levelAt pushed i ≤ 7
+        small i l (yes e) = rw (e, new-source, new-level) (λ n. real n .0)
+        small i l (no d) = rw (old-source i d, old-level i d) (r .levels i (omega arith))
 
-  -- the last handler closed
+        rise : (i : ℕ) → i < s .depth + 1 → Dec (i ≡ s .depth) → sourceAt pushed i ≢ 0 → Over (levelBelow (pushed .level) i) (levelAt pushed i)
+        rise i l (yes e) = rw (e, new-source, new-level, old-below (s .depth) (omega arith)) (λ n. real n .1)
+        rise i l (no d) = rw (old-source i d, old-level i d, old-below i (omega arith)) (r .above i (omega arith))
+
+  -- the last entry closed
   module _ (h : Shaped s) (some : s .depth ≢ 0) where
     abbrev popped : Aic
     popped = withHandlers s (set (s .source) (s .depth - 1) 0) (set (s .level) (s .depth - 1) 0) (s .depth - 1)
@@ -120,10 +143,11 @@ module _ (s : Aic) (r : Rules s) where
     unfolding edge
     pop-rules =
         record {
-          handlers = omega (arith, r .handlers);
+          entries = omega (arith, r .entries);
           sources = λ i l. rw (old-source i (omega arith)) (r .sources i (omega arith));
-          levels = λ i l. rw (old-level i (omega arith)) (r .levels i (omega arith));
-          rising = λ i j l m. rw (old-level i (omega arith), old-level j (omega arith)) (r .rising i j l (omega arith));
+          marks = λ i l. rw (old-source i (omega arith), old-level i (omega arith), old-below i (omega arith)) (r .marks i (omega arith));
+          levels = λ i l. rw (old-source i (omega arith), old-level i (omega arith)) (r .levels i (omega arith));
+          above = λ i l. rw (old-source i (omega arith), old-level i (omega arith), old-below i (omega arith)) (r .above i (omega arith));
           unused = λ i l m. empty i l m (ℕ-discrete i (s .depth - 1));
           memory = r .memory;
           modes = r .modes;
@@ -137,9 +161,12 @@ module _ (s : Aic) (r : Rules s) where
         old-level : (i : ℕ) → i ≢ s .depth - 1 → levelAt popped i ≡ levelAt s i
         old-level i d = getD-set-other (s .level) (s .depth - 1) i 0 0 d
 
+        old-below : (i : ℕ) → i ≤ s .depth - 1 → levelBelow (popped .level) i ≡ levelBelow (s .level) i
+        old-below i l = below-set (s .level) (s .depth - 1) 0 i l
+
         empty : (i : ℕ) → s .depth - 1 ≤ i → i < 8 → Dec (i ≡ s .depth - 1) → (sourceAt popped i ≡ 0) × (levelAt popped i ≡ 0)
         empty i l m (yes e) = rw e (
-          getD-set-same (s .source) (s .depth - 1) 0 0 (omega (arith, h .2, r .handlers)),
-          getD-set-same (s .level) (s .depth - 1) 0 0 (omega (arith, h .3, r .handlers)),
+          getD-set-same (s .source) (s .depth - 1) 0 0 (omega (arith, h .2, r .entries)),
+          getD-set-same (s .level) (s .depth - 1) 0 0 (omega (arith, h .3, r .entries)),
         )
         empty i l m (no d) = rw (old-source i d, old-level i d) (r .unused i (omega arith) m)

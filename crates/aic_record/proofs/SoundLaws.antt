@@ -1,12 +1,14 @@
--- The rules of a sound record, taken apart and put together again, and how many handlers fit.
-use Prim.Native.Nat.{ℕ, zero, suc, _-_, _≤_, _<_}
-use mathlib.Core.Path.{_≡_, refl, ap, _∙_}
-use mathlib.Core.Bool.{true, false, not, _||_}
-use mathlib.Core.Logic.{_⊎_, inl, inr, ⊎-elim}
+-- The rules of a sound record, taken apart and put together again, and the levels of the handlers.
+use Prim.Native.Nat.{ℕ, zero, suc, _+_, _-_, _≤_, _<_}
+use mathlib.Core.Path.{_≡_, refl, sym, ap, _∙_}
+use mathlib.Core.Bool.{true, false, not, _&&_, _||_}
+use mathlib.Core.List.{List}
+use mathlib.Core.Logic.{_≢_, _⊎_, inl, inr, ⊎-elim}
 use native.Mathlib.Omega.{arith}
-use native.Mathlib.Decide.{ℕ-discrete, decLt}
-use lib.Dec.{eqb, ltb}
-use borrow.Author.Tests.{eqb-true, eq-eqb, ltb-true, ltb-false, lt-ltb, le-ltb, leb-true, le-leb, not-true}
+use native.Mathlib.Decide.{ℕ-discrete}
+use lib.Dec.{eqb, ltb, leb}
+use lib.ListN.{getD}
+use borrow.Author.Tests.{eqb-true, eqb-false, eq-eqb, ne-eqb, ltb-true, ltb-false, lt-ltb, le-ltb, leb-true, le-leb, not-true}
 use Rattle.words.specs.Choice.{pick}
 use Rattle.words.specs.Word.{bit}
 use Rattle.words.proofs.ChoiceLaws.{pick-true, pick-false, pick-cases}
@@ -14,54 +16,73 @@ use Rattle.words.proofs.TruthLaws.{and-left, and-right, and-both, or-either, or
 use Rattle.words.proofs.CountingLaws.{all-at, at-all}
 use Rattle.aic_record.specs.declared.Aic.{Aic}
 use Rattle.aic_record.specs.Mode.{modeAt, keptMode, edge}
-use Rattle.aic_record.specs.Sound.{sourceAt, levelAt, handlerSound, freeSound, handlersSound, memorySound, storedSound, sound}
-use Rattle.aic_record.specs.Promises.{Rules}
+use Rattle.aic_record.specs.Sound.{sourceAt, levelAt, noLevel, levelBelow, over, entryFits, entrySound, freeSound, entriesSound, memorySound, storedSound, sound}
+use Rattle.aic_record.specs.Promises.{Over, Rules}
+
+-- ---- levels
+
+-- below the first slot there is no level
+pub below-none : (level : List ℕ) → levelBelow level 0 ≡ noLevel
+unfolding levelBelow
+below-none level = sym (pick-true _ refl)
+
+-- below the next slot there is the level of this one
+pub below-next : (level : List ℕ) (i : ℕ) → levelBelow level (i + 1) ≡ getD level i 0
+unfolding levelBelow
+below-next level i =
+    let e : i ≡ i + 1 - 1 = omega arith in
+    sym (ap (λ (j : ℕ). getD level j 0) e ∙ pick-false noLevel (ne-eqb (i + 1) 0 (omega arith)))
+
+-- above a level, if that is one
+pub over-is : (l p : ℕ) → over l p ≡ true → Over l p
+unfolding over
+over-is l p e =
+    ⊎-elim (λ (z : eqb l noLevel ≡ true). inl (eqb-true l noLevel z)) (λ (g : ltb l p ≡ true). inr (ltb-true l p g)) (or-either (eqb l noLevel) (ltb l p) e)
+
+pub is-over : (l p : ℕ) → Over l p → over l p ≡ true
+unfolding over
+is-over l p (inl z) = or-left (ltb l p) (eq-eqb l noLevel z)
+is-over l p (inr g) = or-right (eqb l noLevel) (lt-ltb l p g)
 
 -- ---- apart
 
 module _ (s : Aic) (ok : sound s ≡ true) where
-  slot : (i : ℕ) → i < 8 → pick (ltb i (s .depth)) (handlerSound s i) (freeSound s i) ≡ true
-  unfolding sound handlersSound
-  slot = all-at 8 (λ i. pick (ltb i (s .depth)) (handlerSound s i) (freeSound s i)) (search (and-left, and-right))
+  slot : (i : ℕ) → i < 8 → pick (ltb i (s .depth)) (entrySound s i) (freeSound s i) ≡ true
+  unfolding sound entriesSound
+  slot = all-at 8 (λ i. pick (ltb i (s .depth)) (entrySound s i) (freeSound s i)) (search (and-left, and-right))
 
   eight : s .depth ≤ 8
-  unfolding sound handlersSound
+  unfolding sound entriesSound
   eight = leb-true (s .depth) 8 (search (and-left, and-right))
 
-  used : (i : ℕ) → i < s .depth → handlerSound s i ≡ true
+  used : (i : ℕ) → i < s .depth → entrySound s i ≡ true
   used i l = pick-true (freeSound s i) (lt-ltb i (s .depth) l) ∙ slot i (omega (arith, eight))
 
-  used-source : (i : ℕ) → i < s .depth → (1 ≤ sourceAt s i) × (sourceAt s i ≤ 31)
-  unfolding handlerSound
-  used-source i l =
-      let h = used i l in
-      (leb-true 1 (sourceAt s i) (search (and-left, and-right)), leb-true (sourceAt s i) 31 (search (and-left, and-right)))
+  used-mark : (i : ℕ) → i < s .depth → sourceAt s i ≡ 0 → levelAt s i ≡ levelBelow (s .level) i
+  unfolding entrySound entryFits
+  used-mark i l z = eqb-true (levelAt s i) (levelBelow (s .level) i) (pick-true _ (eq-eqb (sourceAt s i) 0 z) ∙ used i l)
 
-  used-level : (i : ℕ) → i < s .depth → levelAt s i ≤ 7
-  unfolding handlerSound
-  used-level i l = let h = used i l in leb-true (levelAt s i) 7 (search (and-left, and-right))
+  used-handler : (i : ℕ) → i < s .depth → sourceAt s i ≢ 0 → (leb (sourceAt s i) 31 && leb (levelAt s i) 7 && over (levelBelow (s .level) i) (levelAt s i)) ≡ true
+  unfolding entrySound entryFits
+  used-handler i l d = pick-false _ (ne-eqb (sourceAt s i) 0 d) ∙ used i l
 
-  next-level : (i : ℕ) → suc i < s .depth → levelAt s i < levelAt s (suc i)
-  unfolding handlerSound
-  next-level i l =
-      let h = used (suc i) l in
-      let r : (eqb (suc i) 0 || ltb (levelAt s (suc i - 1)) (levelAt s (suc i))) ≡ true = search (and-left, and-right) in
-      let e : suc i - 1 ≡ i = omega arith in
-      ⊎-elim (λ (z : eqb (suc i) 0 ≡ true). absurd (omega (arith, eqb-true (suc i) 0 z))) (ltb-true (levelAt s i) (levelAt s (suc i)))
-      (or-either (eqb (suc i) 0) (ltb (levelAt s i) (levelAt s (suc i))) (rw e at r))
-
-  rise : (i j : ℕ) → i < j → j < s .depth → levelAt s i < levelAt s j
-  rise i zero l m = absurd (omega arith)
-  rise i (suc j) l m = go (ℕ-discrete i j) (rise i j)
+  used-source : (i : ℕ) → i < s .depth → sourceAt s i ≤ 31
+  used-source i l = go (ℕ-discrete (sourceAt s i) 0)
     where
-      go : Dec (i ≡ j) → (i < j → j < s .depth → levelAt s i < levelAt s j) → levelAt s i < levelAt s (suc j)
-      go (yes e) ih = rw e (next-level j m)
-      go (no d) ih = omega (arith, ih (omega arith) (omega arith), next-level j m)
+      go : Dec (sourceAt s i ≡ 0) → sourceAt s i ≤ 31
+      go (yes z) = omega arith
+      go (no d) = let h = used-handler i l d in leb-true (sourceAt s i) 31 (search (and-left, and-right))
+
+  used-level : (i : ℕ) → i < s .depth → sourceAt s i ≢ 0 → levelAt s i ≤ 7
+  used-level i l d = let h = used-handler i l d in leb-true (levelAt s i) 7 (search (and-left, and-right))
+
+  used-above : (i : ℕ) → i < s .depth → sourceAt s i ≢ 0 → Over (levelBelow (s .level) i) (levelAt s i)
+  used-above i l d = let h = used-handler i l d in over-is (levelBelow (s .level) i) (levelAt s i) (search (and-left, and-right))
 
   free : (i : ℕ) → s .depth ≤ i → i < 8 → (sourceAt s i ≡ 0) × (levelAt s i ≡ 0)
   unfolding freeSound
   free i l m =
-      let h : freeSound s i ≡ true = pick-false (handlerSound s i) (le-ltb i (s .depth) l) ∙ slot i m in
+      let h : freeSound s i ≡ true = pick-false (entrySound s i) (le-ltb i (s .depth) l) ∙ slot i m in
       (eqb-true (sourceAt s i) 0 (search and-left), eqb-true (levelAt s i) 0 (search and-right))
 
   quiet : (k : ℕ) → k < 32 → edge s k ≡ false → bit (s .memory) k ≡ false
@@ -87,10 +108,11 @@ module _ (s : Aic) (ok : sound s ≡ true) where
 pub sound-is : (s : Aic) → sound s ≡ true → Rules s
 sound-is s ok =
     record {
-      handlers = eight s ok;
+      entries = eight s ok;
       sources = used-source s ok;
+      marks = used-mark s ok;
       levels = used-level s ok;
-      rising = rise s ok;
+      above = used-above s ok;
       unused = free s ok;
       memory = quiet s ok;
       modes = modes-kept s ok;
@@ -101,18 +123,15 @@ sound-is s ok =
 -- ---- together
 
 module _ (s : Aic) (r : Rules s) where
-  above-last : (i : ℕ) → i < s .depth → Dec (i ≡ 0) → (eqb i 0 || ltb (levelAt s (i - 1)) (levelAt s i)) ≡ true
-  above-last i l (yes e) = or-left (ltb (levelAt s (i - 1)) (levelAt s i)) (eq-eqb i 0 e)
-  above-last i l (no d) = or-right (eqb i 0) (lt-ltb (levelAt s (i - 1)) (levelAt s i) (r .rising (i - 1) i (omega arith) l))
-
-  holds : (i : ℕ) → i < s .depth → handlerSound s i ≡ true
-  unfolding handlerSound
+  holds : (i : ℕ) → i < s .depth → entrySound s i ≡ true
+  unfolding entrySound entryFits
   holds i l =
-      and-both
-      (and-both (and-both (le-leb 1 (sourceAt s i) (r .sources i l .0)) (le-leb (sourceAt s i) 31 (r .sources i l .1))) (le-leb (levelAt s i) 7 (r .levels i l)))
-      (above-last i l (ℕ-discrete i 0))
+      pick-cases (λ t. t ≡ true) (eqb (sourceAt s i) 0) (λ e. eq-eqb (levelAt s i) (levelBelow (s .level) i) (r .marks i l (eqb-true (sourceAt s i) 0 e)))
+      (λ n.
+      let d = eqb-false (sourceAt s i) 0 n in
+      and-both (and-both (le-leb (sourceAt s i) 31 (r .sources i l)) (le-leb (levelAt s i) 7 (r .levels i l d))) (is-over _ _ (r .above i l d)))
 
-  slots : (i : ℕ) → i < 8 → pick (ltb i (s .depth)) (handlerSound s i) (freeSound s i) ≡ true
+  slots : (i : ℕ) → i < 8 → pick (ltb i (s .depth)) (entrySound s i) (freeSound s i) ≡ true
   unfolding freeSound
   slots i l =
       pick-cases (λ t. t ≡ true) (ltb i (s .depth)) (λ e. holds i (ltb-true i (s .depth) e))
@@ -125,36 +144,37 @@ module _ (s : Aic) (r : Rules s) where
   masks = ⊎-elim (λ (e : s .mask ≡ 0). or-left (eqb (s .mask) 2) (eq-eqb (s .mask) 0 e)) (λ (e : s .mask ≡ 2). or-right (eqb (s .mask) 0) (eq-eqb (s .mask) 2 e)) (r .mask)
 
 pub is-sound : (s : Aic) → Rules s → sound s ≡ true
-unfolding sound handlersSound memorySound storedSound
+unfolding sound entriesSound memorySound storedSound
 is-sound s r =
     and-both
     (and-both
     (and-both
-    (and-both (le-leb (s .depth) 8 (r .handlers)) (at-all 8 (λ i. pick (ltb i (s .depth)) (handlerSound s i) (freeSound s i)) (slots s r)))
+    (and-both (le-leb (s .depth) 8 (r .entries)) (at-all 8 (λ i. pick (ltb i (s .depth)) (entrySound s i) (freeSound s i)) (slots s r)))
     (at-all 32 (λ k. edge s k || not (bit (s .memory) k)) (quiets s r)))
     (and-both (at-all 32 (λ k. eqb (keptMode (modeAt s k)) (modeAt s k)) (λ k l. eq-eqb (keptMode (modeAt s k)) (modeAt s k) (r .modes k l))) (masks s r)))
     (ap not (r .forced))
 
--- ---- how many handlers fit
+-- ---- the levels of the handlers rise
 
 module _ (s : Aic) (r : Rules s) where
-  -- each level is at least as high as its slot
-  climbs : (i : ℕ) → i < s .depth → i ≤ levelAt s i
-  climbs zero l = omega arith
-  climbs (suc i) l = omega (arith, climbs i (omega arith), r .rising i (suc i) (omega arith) l)
-
-  -- what is above the last open handler is above all
-  pub over-all : (p : ℕ) → levelAt s (s .depth - 1) < p → (i : ℕ) → i < s .depth → levelAt s i < p
-  over-all p g i l = go (decLt i (s .depth - 1))
+  -- where a handler is among the entries below slot i, there is a level below i, and it is no lower
+  pub under : (i j : ℕ) → i ≤ s .depth → j < i → sourceAt s j ≢ 0 → (levelBelow (s .level) i ≢ noLevel) × (levelAt s j ≤ levelBelow (s .level) i)
+  under zero j l m d = absurd (omega arith)
+  under (suc i) j l m d =
+      let e : suc i ≡ i + 1 = omega arith in
+      rw (e, below-next (s .level) i) (go (ℕ-discrete (sourceAt s i) 0) (ℕ-discrete j i) (under i j (omega arith)))
     where
-      go : Dec (i < s .depth - 1) → levelAt s i < p
-      go (yes m) = omega (arith, r .rising i (s .depth - 1) m (omega arith))
-      go (no m) = let e : s .depth - 1 ≡ i = omega arith in rw e at g
+      go : Dec (sourceAt s i ≡ 0) → Dec (j ≡ i) → (j < i → sourceAt s j ≢ 0 → (levelBelow (s .level) i ≢ noLevel) × (levelAt s j ≤ levelBelow (s .level) i))
+          → (levelAt s i ≢ noLevel) × (levelAt s j ≤ levelAt s i)
+      go (yes z) (yes e) ih = absurd (d (ap (sourceAt s) e ∙ z))
+      go (yes z) (no e) ih = rw (r .marks i (omega arith) z) (ih (omega arith) d)
+      go (no n) (yes e) ih = (λ q. omega (arith, r .levels i (omega arith) n), rw e (omega arith))
+      go (no n) (no e) ih =
+          let h = ih (omega arith) d in
+          let g : levelBelow (s .level) i < levelAt s i = ⊎-elim (λ (q : levelBelow (s .level) i ≡ noLevel). absurd (h .0 q)) (λ (q : levelBelow (s .level) i < levelAt s i). q) (r .above i (omega arith) n) in
+          (λ q. omega (arith, r .levels i (omega arith) n), omega (arith, h .1))
 
-  -- a level of at most 7 that is above all those open finds room
-  pub room-for : (p : ℕ) → p ≤ 7 → ((i : ℕ) → i < s .depth → levelAt s i < p) → s .depth < 8
-  room-for p seven top = go (s .depth) refl
-    where
-      go : (d : ℕ) → s .depth ≡ d → d < 8
-      go zero e = omega arith
-      go (suc d) e = omega (arith, climbs d (omega arith), top d (omega arith))
+  pub rising : (i j : ℕ) → i < j → j < s .depth → sourceAt s i ≢ 0 → sourceAt s j ≢ 0 → levelAt s i < levelAt s j
+  rising i j l m a b =
+      let h = under j i (omega arith) l a in
+      ⊎-elim (λ (q : levelBelow (s .level) j ≡ noLevel). absurd (h .0 q)) (λ (q : levelBelow (s .level) j < levelAt s j). omega (arith, h .1)) (r .above j m b)

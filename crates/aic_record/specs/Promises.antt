@@ -1,30 +1,36 @@
 -- What is promised of the record: the record after reset, the fields of a mode, each part put anew, and the rules one by one.
-use Prim.Native.Nat.{ℕ, _/_, _%_, _≤_, _<_}
+use Prim.Native.Nat.{ℕ, _+_, _/_, _%_, _≤_, _<_}
 use mathlib.Core.Path.{_≡_}
 use mathlib.Core.Bool.{true, false}
 use mathlib.Core.List.{List}
-use mathlib.Core.Logic.{_↔_, _⊎_}
+use mathlib.Core.Logic.{_↔_, _≢_, _⊎_}
 use lib.ListN.{length, getD}
 use Rattle.words.specs.Word.{bit, both}
 use Rattle.aic_record.specs.declared.Aic.{Aic}
 use Rattle.aic_record.specs.Record.{withLines, withEnabled, withMemory, withForced, withSpurious, withMask, withMode, withVector, withHandlers, reset}
 use Rattle.aic_record.specs.Mode.{priorityOf, typeOf, keptMode, modeAt, priority, kind, edge}
-use Rattle.aic_record.specs.Sound.{sourceAt, levelAt, sound}
+use Rattle.aic_record.specs.Sound.{sourceAt, levelAt, levelBelow, sound}
 
 -- the arrays of a record have the lengths that the language gives them; a list in a definition has any length
 abbrev pub Shaped : Aic → Type 0
 Shaped s = (length (s .mode) ≡ 32) × (length (s .vector) ≡ 32) × (length (s .source) ≡ 8) × (length (s .level) ≡ 8)
 
--- the rules of a sound record, one by one (01, AIC, A sound record)
+-- p is strictly above level l, if that is one: 255 stands for no level (02, 3/12)
+abbrev pub Over : ℕ → ℕ → Type 0
+Over l p = (l ≡ 255) ⊎ (l < p)
+
+-- the rules of a sound record, one by one (01, AIC, A sound record; 02, 3/12)
 pub record Rules (s : Aic) : Type 0 where
-  -- at most eight handlers are open
-  pub handlers : s .depth ≤ 8
-  -- each is of one of the sources 1 to 31
-  pub sources : (i : ℕ) → i < s .depth → (1 ≤ sourceAt s i) × (sourceAt s i ≤ 31)
-  -- each is at a level of at most 7
-  pub levels : (i : ℕ) → i < s .depth → levelAt s i ≤ 7
-  -- of any two, the one opened later is at the higher level
-  pub rising : (i j : ℕ) → i < j → j < s .depth → levelAt s i < levelAt s j
+  -- at most eight entries are open
+  pub entries : s .depth ≤ 8
+  -- each is a mark, of source 0, or a handler of one of the sources 1 to 31
+  pub sources : (i : ℕ) → i < s .depth → sourceAt s i ≤ 31
+  -- a mark has the level of the entry below it, or no level if there is none
+  pub marks : (i : ℕ) → i < s .depth → sourceAt s i ≡ 0 → levelAt s i ≡ levelBelow (s .level) i
+  -- a handler is at a level of at most 7
+  pub levels : (i : ℕ) → i < s .depth → sourceAt s i ≢ 0 → levelAt s i ≤ 7
+  -- and that is strictly above the level of the entry below it, if that has one
+  pub above : (i : ℕ) → i < s .depth → sourceAt s i ≢ 0 → Over (levelBelow (s .level) i) (levelAt s i)
   -- an unused slot holds 0
   pub unused : (i : ℕ) → s .depth ≤ i → i < 8 → (sourceAt s i ≡ 0) × (levelAt s i ≡ 0)
   -- a level source remembers nothing
@@ -36,7 +42,7 @@ pub record Rules (s : Aic) : Type 0 where
   -- source 0 is not forced
   pub forced : bit (s .forced) 0 ≡ false
 
--- the two words of the configuration each in its field, all registers 0, no edge remembered, no handler open (01, AIC, Configuration)
+-- the two words of the configuration each in its field, all registers 0, no edge remembered, no entry open (01, AIC, Configuration)
 pub record Fresh (external lines : ℕ) (s : Aic) : Type 0 where
   pub configured : (s .external ≡ external) × (s .lines ≡ lines)
   pub words : (s .enabled ≡ 0) × (s .memory ≡ 0) × (s .forced ≡ 0) × (s .spurious ≡ 0) × (s .mask ≡ 0)
@@ -71,9 +77,11 @@ pub record Promises : Type 0 where
   pub resetIs : (external lines : ℕ) → Fresh external lines (reset external lines)
   -- each part put anew, field by field
   pub setters : (s : Aic) → Setters s
-  -- the mode of source k, and the source and the level in slot i of the handlers; past the end of an array 0
+  -- the mode of source k, and the source and the level in slot i of the entries; past the end of an array 0
   pub modeIs : (s : Aic) (k : ℕ) → modeAt s k ≡ getD (s .mode) k 0
   pub slotIs : (s : Aic) (i : ℕ) → (sourceAt s i ≡ getD (s .source) i 0) × (levelAt s i ≡ getD (s .level) i 0)
+  -- the level below slot 0 is none, and that below slot i + 1 is the level in slot i (02, 3/12)
+  pub belowIs : (level : List ℕ) → (levelBelow level 0 ≡ 255) × ((i : ℕ) → levelBelow level (i + 1) ≡ getD level i 0)
   -- of a mode bits 2:0 are the priority and bits 6:5 the type (01, AIC, Mode; 003, 27.8.3)
   pub fieldsAre : (v : ℕ) → (priorityOf v ≡ v % 8) × (typeOf v ≡ v / 32 % 4)
   -- a source has those of its stored mode
@@ -87,6 +95,8 @@ pub record Promises : Type 0 where
   pub keptFields : (v : ℕ) → (priorityOf (keptMode v) ≡ priorityOf v) × (typeOf (keptMode v) ≡ typeOf v)
   -- a record is sound exactly if it keeps each rule (01, AIC, A sound record)
   pub soundIs : (s : Aic) → (sound s ≡ true) ↔ Rules s
+  -- so of any two handlers, whatever marks are between, the one opened later is at the higher level (02, 3/12)
+  pub rising : (s : Aic) → sound s ≡ true → (i j : ℕ) → i < j → j < s .depth → sourceAt s i ≢ 0 → sourceAt s j ≢ 0 → levelAt s i < levelAt s j
   -- reset is sound, whichever sources are external and wherever the lines stand (01, AIC, Configuration)
   pub resetSound : (external lines : ℕ) → sound (reset external lines) ≡ true
   -- its arrays have their lengths

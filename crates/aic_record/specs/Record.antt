@@ -36,10 +36,10 @@ withMode s ms = record { external = s .external; lines = s .lines; enabled = s .
 abbrev pub withVector : Aic → List ℕ → Aic
 withVector s vs = record { external = s .external; lines = s .lines; enabled = s .enabled; memory = s .memory; forced = s .forced; spurious = s .spurious; mask = s .mask; mode = s .mode; vector = vs; source = s .source; level = s .level; depth = s .depth }
 
--- other open handlers: their sources, their levels and how many there are
+-- other open entries, handlers and marks: their sources, their levels and how many there are
 abbrev pub withHandlers : Aic → List ℕ → List ℕ → ℕ → Aic
 withHandlers s ks ls n = record { external = s .external; lines = s .lines; enabled = s .enabled; memory = s .memory; forced = s .forced; spurious = s .spurious; mask = s .mask; mode = s .mode; vector = s .vector; source = ks; level = ls; depth = n }
 
--- all registers 0, no edge remembered, no handler open; the lines at their first levels (01, AIC, Configuration)
+-- all registers 0, no edge remembered, no entry open; the lines at their first levels (01, AIC, Configuration)
 unfoldable pub reset : ℕ → ℕ → Aic
 reset external lines = record { external = external; lines = lines; enabled = 0; memory = 0; forced = 0; spurious = 0; mask = 0; mode = replicate 32 0; vector = replicate 32 0; source = replicate 8 0; level = replicate 8 0; depth = 0 }

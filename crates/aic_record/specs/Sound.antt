@@ -1,6 +1,7 @@
--- The rules of a sound record, in the order of 01 (AIC, A sound record).
+-- The rules of a sound record, in the order of 01 (AIC, A sound record); those of the entries are 02's (3/12).
 use Prim.Native.Nat.{ℕ, _-_}
 use mathlib.Core.Bool.{Bool, not, _&&_, _||_}
+use mathlib.Core.List.{List}
 use lib.Dec.{eqb, ltb, leb}
 use lib.ListN.{getD}
 use Rattle.words.specs.Choice.{pick}
@@ -9,25 +10,41 @@ use Rattle.words.specs.Word.{bit}
 use Rattle.aic_record.specs.declared.Aic.{Aic}
 use Rattle.aic_record.specs.Mode.{modeAt, keptMode, edge}
 
--- the source and the level of the handler in slot i
+-- the source and the level of the entry in slot i
 abbrev pub sourceAt : Aic → ℕ → ℕ
 sourceAt s i = getD (s .source) i 0
 
 abbrev pub levelAt : Aic → ℕ → ℕ
 levelAt s i = getD (s .level) i 0
 
--- an open handler: a source from 1 to 31, a level of at most 7, and above the level of the handler before it
-unfoldable pub handlerSound : Aic → ℕ → Bool
-handlerSound s i =
-    leb 1 (sourceAt s i) && leb (sourceAt s i) 31 && leb (levelAt s i) 7 && (eqb i 0 || ltb (levelAt s (i - 1)) (levelAt s i))
+-- what stands for no level (02, 3/12)
+abbrev pub noLevel : ℕ
+noLevel = 255
+
+-- the level of the entry below slot i, or no level if there is none (02, 3/12)
+unfoldable pub levelBelow : List ℕ → ℕ → ℕ
+levelBelow level i = pick (eqb i 0) noLevel (getD level (i - 1) 0)
+
+-- p is strictly above level l, if that is one
+unfoldable pub over : ℕ → ℕ → Bool
+over l p = eqb l noLevel || ltb l p
+
+-- an entry over one of the level `below`: a mark, of source 0, has that level; a handler is of a source from 1 to 31, at a level of at most 7 that
+-- is above that one (02, 3/12; 01, AIC, A sound record)
+unfoldable pub entryFits : ℕ → ℕ → ℕ → Bool
+entryFits below source level = pick (eqb source 0) (eqb level below) (leb source 31 && leb level 7 && over below level)
+
+-- the entry in slot i
+unfoldable pub entrySound : Aic → ℕ → Bool
+entrySound s i = entryFits (levelBelow (s .level) i) (sourceAt s i) (levelAt s i)
 
 -- an unused slot: 0
 unfoldable pub freeSound : Aic → ℕ → Bool
 freeSound s i = eqb (sourceAt s i) 0 && eqb (levelAt s i) 0
 
--- at most eight handlers, each slot used or unused as it should be
-unfoldable pub handlersSound : Aic → Bool
-handlersSound s = leb (s .depth) 8 && allBelow 8 (λ i. pick (ltb i (s .depth)) (handlerSound s i) (freeSound s i))
+-- at most eight entries, each slot used or unused as it should be
+unfoldable pub entriesSound : Aic → Bool
+entriesSound s = leb (s .depth) 8 && allBelow 8 (λ i. pick (ltb i (s .depth)) (entrySound s i) (freeSound s i))
 
 -- no memory on a level source
 unfoldable pub memorySound : Aic → Bool
@@ -39,4 +56,4 @@ storedSound s = allBelow 32 (λ k. eqb (keptMode (modeAt s k)) (modeAt s k)) && 
 
 -- the whole: with source 0 not forced
 unfoldable pub sound : Aic → Bool
-sound s = handlersSound s && memorySound s && storedSound s && not (bit (s .forced) 0)
+sound s = entriesSound s && memorySound s && storedSound s && not (bit (s .forced) 0)

@@ -1,17 +1,18 @@
-// The AT91 controller's record: its registers, its line levels, its edge memories and its open handlers.
+// The AT91 controller's record: its registers, its line levels, its edge memories and its open entries.
 ghost use mathlib.Core.Path.{_≡_};
 ghost use mathlib.Core.Bool.{not, _&&_, _||_};
-ghost use lib.Dec.{eqb, leb};
+ghost use lib.Dec.{eqb};
 ghost use lib.ListN.{getD, set};
 ghost use Rattle.words.specs.Choice.{pick};
 ghost use Rattle.words.specs.Counting.{allBelow};
 ghost use Rattle.aic_record.specs.Mode.{priorityOf, typeOf, keptMode, edgeOf, modeAt};
 ghost use Rattle.aic_record.specs.Record.{withLines, withEnabled, withMemory, withForced, withSpurious, withMask, withMode, withVector, withHandlers};
 ghost use Rattle.aic_record.specs.Record.{reset};
-ghost use Rattle.aic_record.specs.Sound.{sourceAt, levelAt, sound};
-ghost use Rattle.aic_record.specs.Passes.{floorAt, slotSound, modeSound};
+ghost use Rattle.aic_record.specs.Sound.{sourceAt, levelAt, levelBelow, over, entryFits, sound};
+ghost use Rattle.aic_record.specs.Passes.{floorOver, slotSound, modeSound};
 
-// One word has a bit for each of the 32 sources. `source` and `level` hold the open handlers, the last one at `depth - 1`.
+// One word has a bit for each of the 32 sources. `source` and `level` hold the open entries, the last one at `depth - 1`: handlers, and
+// spurious marks, whose source is 0.
 pub struct Aic {
     pub external: u32,
     pub lines: u32,
@@ -26,6 +27,9 @@ pub struct Aic {
     pub level: [u8; 8],
     pub depth: u32,
 }
+
+// What stands for no level.
+pub const NO_LEVEL: u8 = 255;
 
 // The record after reset, its lines at their first levels.
 pub fn reset_to(external: u32, lines: u32) -> Aic
@@ -123,7 +127,7 @@ pub fn put_vector(s: Aic, k: u32, v: u32) -> Aic
     t
 }
 
-// Slot i of the open handlers put anew, and how many are open. Past the last slot nothing is stored.
+// Slot i of the open entries put anew, a handler or a mark, and how many are open. Past the last slot nothing is stored.
 pub fn put_handler(s: Aic, i: u32, source: u8, level: u8, depth: u32) -> Aic
     ensures { λ r. ⌜ r ≡ withHandlers s (set (s .source) i source) (set (s .level) i level) depth ⌝ }
 {
@@ -180,15 +184,26 @@ pub fn level_at(s: Aic, i: u32) -> u8
     s.level[at]
 }
 
-// The least priority that may start a handler: 0, or one above the level of the last open one.
-pub fn floor_of(s: Aic) -> u32
-    ensures { λ r. ⌜ r ≡ floorAt (s .level) (s .depth) ⌝ }
+// The level of the last entry, or no level if there is none.
+pub fn last_level(s: Aic) -> u8
+    ensures { λ r. ⌜ r ≡ levelBelow (s .level) (s .depth) ⌝ }
 {
     let depth = s.depth;
     if depth == 0 {
+        return NO_LEVEL;
+    }
+    level_at(s, depth - 1)
+}
+
+// The least priority above the level of the last entry.
+pub fn floor_of(s: Aic) -> u32
+    ensures { λ r. ⌜ r ≡ floorOver (levelBelow (s .level) (s .depth)) ⌝ }
+{
+    let level = last_level(s);
+    if level == NO_LEVEL {
         return 0;
     }
-    level_at(s, depth - 1) as u32 + 1
+    level as u32 + 1
 }
 
 // ---- the fields of a mode
@@ -223,12 +238,29 @@ pub fn edge_of(mode: u8) -> bool
 
 // ---- the rules of a sound record
 
-// Whether a slot of the handlers is as it should be: used at a level of at least `floor`, or not used.
-fn slot_sound(used: bool, floor: u32, source: u8, level: u8) -> bool
-    ensures { λ r. ⌜ r ≡ pick used (leb 1 source && leb source 31 && leb level 7 && leb floor level) (eqb source 0 && eqb level 0) ⌝ }
+// Whether a level is strictly above another, if that is one.
+fn is_over(below: u8, level: u8) -> bool
+    ensures { λ r. ⌜ r ≡ over below level ⌝ }
+{
+    (below == NO_LEVEL) | (below < level)
+}
+
+// Whether an entry may stand over one of the level `below`: a mark at that level, a handler above it.
+fn entry_fits(below: u8, source: u8, level: u8) -> bool
+    ensures { λ r. ⌜ r ≡ entryFits below source level ⌝ }
+{
+    if source == 0 {
+        return level == below;
+    }
+    (source <= 31) & (level <= 7) & is_over(below, level)
+}
+
+// Whether a slot of the entries is as it should be: used over an entry of the level `below`, or not used.
+fn slot_sound(used: bool, below: u8, source: u8, level: u8) -> bool
+    ensures { λ r. ⌜ r ≡ pick used (entryFits below source level) (eqb source 0 && eqb level 0) ⌝ }
 {
     if used {
-        return (1 <= source) & (source <= 31) & (level <= 7) & (floor <= level as u32);
+        return entry_fits(below, source, level);
     }
     (source == 0) & (level == 0)
 }
@@ -238,12 +270,12 @@ fn slots_sound(source: [u8; 8], level: [u8; 8], depth: u32) -> bool
     ensures { λ r. ⌜ r ≡ allBelow 8 (slotSound source level depth) ⌝ }
 {
     let mut ok = true;
-    let mut floor: u32 = 0;
+    let mut below = NO_LEVEL;
     let mut i: u32 = 0;
     while i < 8 {
         let at = i as usize;
-        ok = ok & slot_sound(i < depth, floor, source[at], level[at]);
-        floor = level[at] as u32 + 1;
+        ok = ok & slot_sound(i < depth, below, source[at], level[at]);
+        below = level[at];
         i = i + 1;
     }
     ok

@@ -12,19 +12,20 @@ use Rattle.words.proofs.ChoiceLaws.{pick-true, pick-false}
 use Rattle.aic_record.specs.declared.Aic.{Aic}
 use Rattle.aic_record.specs.Record.{withLines, withMemory, withForced, withMode, withHandlers}
 use Rattle.aic_record.specs.Mode.{priorityOf, typeOf, keptMode, edgeOf, modeAt, priority, kind, edge}
+use Rattle.aic_record.specs.Sound.{levelBelow}
 use Rattle.aic_sources.specs.Pending.{activeAt, active, edgeWord}
 use Rattle.aic_sources.specs.Normal.{chosen}
 use Rattle.aic_sources.proofs.SearchLaws.{chosen-some}
-use Rattle.aic_registers.specs.Handlers.{answered, forgotten, spent, opened, startedAt, vectorAt, ivrRead}
+use Rattle.aic_registers.specs.Handlers.{answered, forgotten, spent, opened, startedAt, marked, vectorAt, ivrRead}
 use Rattle.aic_registers.specs.Effects.{moded, setBy, clearedBy, forcedBy, turns, moved}
 
--- ---- handlers
+-- ---- entries
 
 pub edge-from : (s : Aic) (k m : ℕ) (b : Bool) → m ≡ modeAt s k → b ≡ edgeOf m → b ≡ edge s k
 unfolding edge
 edge-from s k m b e f = f ∙ ap edgeOf e
 
--- clearing a memory opens and closes no handler
+-- clearing a memory opens and closes no entry
 spent-depth : (s : Aic) (k : ℕ) → spent s k .depth ≡ s .depth
 unfolding spent pick
 spent-depth s k = go (edge s k)
@@ -45,17 +46,25 @@ pub now-by : (s t : Aic) (k m p v : ℕ) → m ≡ modeAt s k → p ≡ priority
 unfolding priority
 now-by s t k m p v e f g h = ap₂ answered (g ∙ ap (startedAt s k) (f ∙ ap priorityOf e)) h
 
+pub marked-by : (s : Aic) (l : ℕ) → s .depth < 8 → l ≡ levelBelow (s .level) (s .depth)
+    → withHandlers s (set (s .source) (s .depth) 0) (set (s .level) (s .depth) l) (s .depth + 1) ≡ marked s
+unfolding marked opened
+marked-by s l m e =
+    ap (λ (p : ℕ). withHandlers s (set (s .source) (s .depth) 0) (set (s .level) (s .depth) p) (s .depth + 1)) e
+    ∙ pick-true s (lt-ltb (s .depth) 8 m)
+
 -- a vector read that finds a source, and one that finds none
 pub ivr-some : (s : Aic) (k : ℕ) → k ≡ chosen s → k < 32 → answered (startedAt s k (priority s k)) (vectorAt s k) ≡ ivrRead s
 unfolding ivrRead
 ivr-some s k e l =
     ap (λ (j : ℕ). answered (startedAt s j (priority s j)) (vectorAt s j)) e
-    ∙ pick-true (answered s (s .spurious)) (sym (chosen-some s) ∙ ap (λ (j : ℕ). ltb j 32) (sym e) ∙ lt-ltb k 32 l)
+    ∙ pick-true (answered (marked s) (s .spurious)) (sym (chosen-some s) ∙ ap (λ (j : ℕ). ltb j 32) (sym e) ∙ lt-ltb k 32 l)
 
-pub ivr-none : (s : Aic) (k : ℕ) → k ≡ chosen s → 32 ≤ k → answered s (s .spurious) ≡ ivrRead s
+pub ivr-none : (s t : Aic) (k : ℕ) → k ≡ chosen s → 32 ≤ k → t ≡ marked s → answered t (s .spurious) ≡ ivrRead s
 unfolding ivrRead
-ivr-none s k e l =
-    pick-false (answered (startedAt s (chosen s) (priority s (chosen s))) (vectorAt s (chosen s)))
+ivr-none s t k e l m =
+    ap (λ (u : Aic). answered u (s .spurious)) m
+    ∙ pick-false (answered (startedAt s (chosen s) (priority s (chosen s))) (vectorAt s (chosen s)))
     (sym (chosen-some s) ∙ ap (λ (j : ℕ). ltb j 32) (sym e) ∙ le-ltb k 32 l)
 
 -- ---- effects

@@ -1,7 +1,7 @@
--- Starting and closing handlers, and the two vector reads (01, AIC, Fast side and Normal side; 003, 27.7.3.4, 27.7.4.3 and 27.7.4.5).
+-- Opening and closing entries, and the two vector reads (01, AIC, Fast side and Normal side; 02, 3/12; 003, 27.7.3.4, 27.7.4.3 and 27.7.4.5).
 use Prim.Native.Nat.{ℕ, _+_, _-_}
 use mathlib.Core.Bool.{false}
-use lib.Dec.{eqb}
+use lib.Dec.{eqb, ltb}
 use lib.ListN.{getD, set}
 use Rattle.words.specs.Choice.{pick}
 use Rattle.words.specs.Word.{withBit}
@@ -9,7 +9,7 @@ use Rattle.steps.specs.Refusals.{carriedOut}
 use Rattle.aic_record.specs.declared.Aic.{Aic}
 use Rattle.aic_record.specs.Record.{withMemory, withHandlers}
 use Rattle.aic_record.specs.Mode.{priority, edge}
-use Rattle.aic_record.specs.Sound.{sourceAt}
+use Rattle.aic_record.specs.Sound.{sourceAt, levelBelow}
 use Rattle.aic_sources.specs.Fast.{fastAsks}
 use Rattle.aic_sources.specs.Normal.{candidates, chosen}
 use Rattle.aic_registers.specs.declared.Answer.{Answer}
@@ -30,7 +30,7 @@ forgotten s k = withMemory s (withBit (s .memory) k false)
 unfoldable pub spent : Aic → ℕ → Aic
 spent s k = pick (edge s k) (forgotten s k) s
 
--- a handler of source k is opened at a level, after those already open
+-- an entry of source k is opened at a level, after those already open
 unfoldable pub opened : Aic → ℕ → ℕ → Aic
 opened s k l = withHandlers s (set (s .source) (s .depth) k) (set (s .level) (s .depth) l) (s .depth + 1)
 
@@ -38,11 +38,15 @@ opened s k l = withHandlers s (set (s .source) (s .depth) k) (set (s .level) (s 
 unfoldable pub startedAt : Aic → ℕ → ℕ → Aic
 startedAt s k l = opened (spent s k) k l
 
--- the last open handler is closed
+-- a spurious mark is opened, with the level of the entry below it, or no level if there is none; with eight entries open nothing is (02, 3/12)
+unfoldable pub marked : Aic → Aic
+marked s = pick (ltb (s .depth) 8) (opened s 0 (levelBelow (s .level) (s .depth))) s
+
+-- the last entry is closed, mark or handler (02, 3/12)
 unfoldable pub closedLast : Aic → Aic
 closedLast s = withHandlers s (set (s .source) (s .depth - 1) 0) (set (s .level) (s .depth - 1) 0) (s .depth - 1)
 
--- a write of EOICR, of any value: with no handler open it does nothing
+-- a write of EOICR, of any value: with no entry open it does nothing
 unfoldable pub ended : Aic → Aic
 ended s = pick (eqb (s .depth) 0) s (closedLast s)
 
@@ -50,12 +54,12 @@ ended s = pick (eqb (s .depth) 0) s (closedLast s)
 abbrev pub vectorAt : Aic → ℕ → ℕ
 vectorAt s k = getD (s .vector) k 0
 
--- a read of IVR: the candidate ahead of all others starts, at the priority that it has now; without one SPU, and nothing changes
+-- a read of IVR: the candidate ahead of all others starts, at the priority that it has now; without one SPU, and a mark is opened (02, 3/12)
 unfoldable pub ivrRead : Aic → Answer
 ivrRead s =
     pick (candidates s)
     (answered (startedAt s (chosen s) (priority s (chosen s))) (vectorAt s (chosen s)))
-    (answered s (s .spurious))
+    (answered (marked s) (s .spurious))
 
 -- the fast vector read clears the memory of source 0 if that is edge-triggered and no source is forced
 unfoldable pub fastSpent : Aic → Aic
@@ -65,6 +69,6 @@ fastSpent s = pick (eqb (s .forced) 0) (spent s 0) s
 unfoldable pub fvrRead : Aic → Answer
 fvrRead s = pick (fastAsks s) (answered (fastSpent s) (vectorAt s 0)) (answered s (s .spurious))
 
--- ISR: the source of the last handler still open, 0 if none is (003, 27.8.7)
+-- ISR: the source of the last entry, 0 if that is a mark or none is open (02, 3/12; 003, 27.8.7)
 unfoldable pub current : Aic → ℕ
 current s = pick (eqb (s .depth) 0) 0 (sourceAt s (s .depth - 1))

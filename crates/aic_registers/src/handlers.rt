@@ -1,8 +1,8 @@
-// Starting and closing handlers, and the two vector reads.
+// Opening and closing entries, and the two vector reads.
 ghost use mathlib.Core.Path.{_≡_};
 ghost use Prim.Native.Nat.{_≤_, _<_};
 ghost use Rattle.aic_record.specs.Mode.{priority};
-ghost use Rattle.aic_registers.specs.Handlers.{answered, forgotten, spent, startedAt, ended, vectorAt, ivrRead, fastSpent, fvrRead, current};
+ghost use Rattle.aic_registers.specs.Handlers.{answered, forgotten, spent, startedAt, marked, ended, vectorAt, ivrRead, fastSpent, fvrRead, current};
 use super::Answer;
 use super::answer_of;
 use aic_record::Aic;
@@ -33,15 +33,15 @@ fn start_at(s: Aic, k: u32, level: u32) -> Aic
     aic_record::put_handler(spend(s, k), depth, k as u8, level as u8, depth + 1)
 }
 
-// The last open handler is closed. With none open nothing changes.
+// The last entry is closed, mark or handler. With none open nothing changes.
 pub(crate) fn end_last(s: Aic) -> Aic
     ensures { λ r. ⌜ r ≡ ended s ⌝ }
 {
-    let handlers = s.depth;
-    if handlers == 0 {
+    let entries = s.depth;
+    if entries == 0 {
         return s;
     }
-    aic_record::put_handler(s, handlers - 1, 0, 0, handlers - 1)
+    aic_record::put_handler(s, entries - 1, 0, 0, entries - 1)
 }
 
 // Source k starts at the priority that it has now, and its vector is answered.
@@ -53,6 +53,18 @@ fn start_now(s: Aic, k: u32) -> Answer
     answer_of(start_at(s, k, now), aic_record::vector_at(s, k))
 }
 
+// A spurious mark is opened, with the level of the last entry. With eight entries open nothing changes.
+fn open_mark(s: Aic) -> Aic
+    ensures { λ r. ⌜ r ≡ marked s ⌝ }
+{
+    let depth = s.depth;
+    if 8 <= depth {
+        return s;
+    }
+    let level = aic_record::last_level(s);
+    aic_record::put_handler(s, depth, 0, level, depth + 1)
+}
+
 // A read of IVR. Debug control's mask plays no part in it.
 pub(crate) fn read_ivr(s: Aic) -> Answer
     requires { ⌜ s .depth ≤ 8 ⌝ }
@@ -62,7 +74,8 @@ pub(crate) fn read_ivr(s: Aic) -> Answer
     if k < 32 {
         return start_now(s, k);
     }
-    answer_of(s, s.spurious)
+    let spurious = s.spurious;
+    answer_of(open_mark(s), spurious)
 }
 
 // The memory of source 0 is cleared if that is edge-triggered and no source is forced.
@@ -85,7 +98,7 @@ pub(crate) fn read_fvr(s: Aic) -> Answer
     answer_of(s, s.spurious)
 }
 
-// The source of the last handler still open, 0 if none is.
+// The source of the last entry, 0 if that is a mark or none is open.
 pub(crate) fn current_source(s: Aic) -> u32
     ensures { λ r. ⌜ r ≡ current s ⌝ }
 {

@@ -5,10 +5,10 @@ use mathlib.Core.Bool.{Bool, true, false, not, _&&_, and-false}
 use mathlib.Core.Logic.{_≢_, _⊎_, inl, inr}
 use native.Mathlib.Omega.{arith}
 use lib.Dec.{eqb, ltb}
-use borrow.Author.Tests.{eq-eqb, ne-eqb, lt-ltb, le-leb}
+use borrow.Author.Tests.{eq-eqb, ne-eqb, lt-ltb, le-ltb, le-leb}
 use Rattle.words.specs.Choice.{pick}
 use Rattle.words.proofs.ChoiceLaws.{pick-true}
-use Rattle.words.proofs.TruthLaws.{and-left, and-right, and-both, or-left, clash, told}
+use Rattle.words.proofs.TruthLaws.{and-both, or-left, clash}
 use Rattle.words.specs.Word.{bit}
 use Rattle.steps.specs.declared.Step.{Step}
 use Rattle.steps.specs.declared.Step.the-variants.{Read, Write, Line}
@@ -16,7 +16,9 @@ use Rattle.steps.specs.Tables.{Writable}
 use Rattle.aic_record.specs.declared.Aic.{Aic}
 use Rattle.aic_record.specs.Sound.{sound}
 use Rattle.aic_sources.specs.Normal.{candidates, chosen}
+use Rattle.aic_sources.proofs.HandlerLaws.{candidate-room}
 use Rattle.aic_sources.proofs.OrderLaws.{chosen-none, chosen-is}
+use Rattle.aic_sources.proofs.SearchLaws.{chosen-some}
 use Rattle.aic_registers.specs.Map.{svr, ivr, iscr, eoicr, dcr, ffer, ffdr, access, valueRefusal}
 use Rattle.aic_registers.specs.Effects.{turns}
 use Rattle.aic.proofs.StepKindLaws.{Plain}
@@ -47,24 +49,25 @@ carried-line s k l ok m n = rw (Controller.kept .lineNumbers s k l .none .1 (ok,
 
 -- ---- starts
 
--- the two observers of a start agree
-pub started-some : (s : Aic) (x : Step) → starts s x ≡ ltb (startedBy s x) 32
-unfolding starts startedBy pick
-started-some s x = go (vectorRead s x) (told (candidates s))
-  where
-    go : (b : Bool) → (candidates s ≡ true) ⊎ (candidates s ≡ false) → (b && candidates s) ≡ ltb (pick b (chosen s) 32) 32
-    go true (inl c) = c ∙ sym (lt-ltb (chosen s) 32 (chosen-is s c .below))
-    go true (inr n) = n ∙ sym (ap (λ (j : ℕ). ltb j 32) (chosen-none s n))
-    go false c = refl
-
 -- what is started is the chosen source, and there is a candidate
-pub started-chosen : (s : Aic) (x : Step) → startedBy s x < 32 → (candidates s ≡ true) × (startedBy s x ≡ chosen s)
-unfolding startedBy starts
-started-chosen s x l =
-    let h : (vectorRead s x && candidates s) ≡ true = started-some s x ∙ lt-ltb (startedBy s x) 32 l in
-    (and-right (vectorRead s x) (candidates s) h, sym (pick-true 32 (and-left (vectorRead s x) (candidates s) h)))
+pub started-chosen : (s : Aic) (x : Step) → startedBy s x < 32 → (candidates s ≡ true) × (startedBy s x ≡ chosen s) × (vectorRead s x ≡ true)
+unfolding startedBy pick
+started-chosen s x l = go (vectorRead s x) refl l
+  where
+    go : (b : Bool) → vectorRead s x ≡ b → pick b (chosen s) 32 < 32 → (candidates s ≡ true) × (pick b (chosen s) 32 ≡ chosen s) × (b ≡ true)
+    go true e m = (sym (chosen-some s) ∙ lt-ltb (chosen s) 32 m, refl, refl)
+    go false e m = absurd (omega arith)
 
--- a step that opens no handler
+-- a candidate finds room
+pub chosen-room : (s : Aic) → candidates s ≡ true → s .depth < 8
+chosen-room s c = candidate-room s (chosen s) (chosen-is s c .fit)
+
+-- so the start of a handler is a start
+pub started-room : (s : Aic) (x : Step) → startedBy s x < 32 → starts s x ≡ true
+unfolding starts
+started-room s x l = let h = started-chosen s x l in and-both (h .2) (lt-ltb (s .depth) 8 (chosen-room s (h .0)))
+
+-- a step that opens no entry
 pub write-start : (s : Aic) (o v : ℕ) → starts s (Write o v) ≡ false
 unfolding starts vectorRead
 write-start s o v = refl
@@ -75,24 +78,32 @@ line-start s k l = refl
 
 pub plain-start : (s : Aic) (x : Step) → Plain s x → starts s x ≡ false
 unfolding starts vectorRead
-plain-start s (Read o) (inl e) = ap (λ (t : Bool). t && eqb o ivr && candidates s) (carried-unsound s (Read o) e)
+plain-start s (Read o) (inl e) = ap (λ (t : Bool). t && eqb o ivr && ltb (s .depth) 8) (carried-unsound s (Read o) e)
 plain-start s (Read o) (inr (inl d)) = rw (ne-eqb o ivr d, and-false (carried s (Read o)))
-plain-start s (Read o) (inr (inr n)) = rw (n, and-false (carried s (Read o) && eqb o ivr))
+plain-start s (Read o) (inr (inr n)) = rw (le-ltb (s .depth) 8 n, and-false (carried s (Read o) && eqb o ivr))
 plain-start s (Write o v) p = write-start s o v
 plain-start s (Line k l) p = line-start s k l
 
 pub no-start : (s : Aic) (x : Step) → starts s x ≡ false → (i : ℕ) → i < 32 → startsOf i s x ≡ false
 unfolding startsOf
-no-start s x n i l = ne-eqb i (startedBy s x) (λ e. clash (started-some s x ∙ lt-ltb (startedBy s x) 32 (rw e at l)) n)
+no-start s x n i l = ne-eqb i (startedBy s x) (λ e. clash (started-room s x (rw e at l)) n)
 
--- a read of IVR with a candidate
-pub take-start : (s : Aic) → sound s ≡ true → candidates s ≡ true → starts s (Read ivr) ≡ true
+-- a read of IVR that finds room
+pub take-start : (s : Aic) → sound s ≡ true → s .depth < 8 → starts s (Read ivr) ≡ true
 unfolding starts vectorRead
-take-start s ok c = rw (carried-ivr s ok, c)
+take-start s ok l = rw (carried-ivr s ok, lt-ltb (s .depth) 8 l)
 
 pub take-chosen : (s : Aic) → sound s ≡ true → startedBy s (Read ivr) ≡ chosen s
 unfolding startedBy vectorRead
 take-chosen s ok = sym (pick-true 32 (and-both (carried-ivr s ok) refl))
+
+-- without a candidate it starts no handler
+pub mark-chosen : (s : Aic) → sound s ≡ true → candidates s ≡ false → startedBy s (Read ivr) ≡ 32
+mark-chosen s ok n = take-chosen s ok ∙ chosen-none s n
+
+pub mark-other : (s : Aic) → sound s ≡ true → candidates s ≡ false → (i : ℕ) → i < 32 → startsOf i s (Read ivr) ≡ false
+unfolding startsOf
+mark-other s ok n i l = ne-eqb i (startedBy s (Read ivr)) (λ e. omega (arith, mark-chosen s ok n))
 
 -- ---- closes
 

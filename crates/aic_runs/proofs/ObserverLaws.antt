@@ -1,29 +1,28 @@
 -- What each count says of a step, and what makes a step count: both ways, by offset.
 use Prim.Native.Nat.{ℕ, _<_}
-use mathlib.Core.Path.{_≡_, refl, sym, ap, _∙_}
+use mathlib.Core.Path.{_≡_, refl, sym, ap}
 use mathlib.Core.Bool.{Bool, true, false, not, _&&_, _||_}
 use mathlib.Core.Logic.{_≢_, _⊎_, inl, inr, ⊎-elim}
 use lib.Dec.{eqb, ltb}
 use borrow.Author.Tests.{eqb-true, eqb-false, eq-eqb, ne-eqb, ltb-true, lt-ltb, not-true, not-false}
 use Rattle.words.specs.Word.{bit}
 use Rattle.words.specs.Choice.{pick}
+use Rattle.words.proofs.ChoiceLaws.{pick-true}
 use Rattle.words.proofs.TruthLaws.{and-left, and-right, and-both, or-left, or-right, or-either, clash, told}
-use Rattle.words.proofs.CountingLaws.{any-some, some-any}
 use Rattle.steps.specs.declared.Step.{Step}
 use Rattle.steps.specs.declared.Step.the-variants.{Read, Write, Line}
 use Rattle.aic_record.specs.declared.Aic.{Aic}
 use Rattle.aic_record.specs.Mode.{edge}
 use Rattle.aic_sources.specs.Pending.{pending, asking}
 use Rattle.aic_sources.specs.Fast.{fast}
-use Rattle.aic_sources.specs.Normal.{waiting, candidate, candidates, chosen}
-use Rattle.aic_sources.specs.Promises.{SomeCandidate}
+use Rattle.aic_sources.specs.Normal.{waiting, candidates, chosen}
 use Rattle.aic_sources.proofs.HandlerLaws.{waiting-is}
 use Rattle.aic_sources.proofs.OrderLaws.{chosen-none}
 use Rattle.aic_registers.specs.Effects.{turns}
 use Rattle.aic.specs.Model.{step}
 use Rattle.aic_runs.specs.Counted.{carried, vectorRead, starts, startedBy, startsOf, startsOther, closes, rises, edges, commands, rewrites, steady, waits}
 use Rattle.aic_runs.specs.Promises.{Counts}
-use Rattle.aic_runs.proofs.CountedLaws.{started-some, started-chosen, write-start, line-start, read-close, line-close}
+use Rattle.aic_runs.proofs.CountedLaws.{chosen-room, write-start, line-start, read-close, line-close}
 
 done : (s : Aic) (x : Step) → carried s x ≡ true → step s x .refusal ≡ 0
 unfolding carried
@@ -35,28 +34,31 @@ carries s x h = eq-eqb (step s x .refusal) 0 h
 
 -- ---- starts
 
-start-says : (s : Aic) (x : Step) → starts s x ≡ true → (x ≡ Read 0x100) × (step s x .refusal ≡ 0) × SomeCandidate s
-unfolding starts vectorRead candidates
+start-says : (s : Aic) (x : Step) → starts s x ≡ true → (x ≡ Read 0x100) × (step s x .refusal ≡ 0) × (s .depth < 8)
+unfolding starts vectorRead
 start-says s (Read o) h =
-    let v = and-left (carried s (Read o) && eqb o 0x100) (candidates s) h in (
+    let v = and-left (carried s (Read o) && eqb o 0x100) (ltb (s .depth) 8) h in (
       ap Read (eqb-true o 0x100 (and-right (carried s (Read o)) (eqb o 0x100) v)),
       done s (Read o) (and-left (carried s (Read o)) (eqb o 0x100) v),
-      any-some 32 (candidate s) (and-right (carried s (Read o) && eqb o 0x100) (candidates s) h),
+      ltb-true (s .depth) 8 (and-right (carried s (Read o) && eqb o 0x100) (ltb (s .depth) 8) h),
     )
 start-says s (Write o v) h = clash h (write-start s o v)
 start-says s (Line k l) h = clash h (line-start s k l)
 
-starts-if : (s : Aic) (x : Step) → x ≡ Read 0x100 → step s x .refusal ≡ 0 → SomeCandidate s → starts s x ≡ true
-unfolding starts vectorRead candidates
-starts-if s x e r (k, l, c) =
-    rw e (and-both (and-both (carries s (Read 0x100) (rw e at r)) refl) (some-any 32 (candidate s) k l c))
+starts-if : (s : Aic) (x : Step) → x ≡ Read 0x100 → step s x .refusal ≡ 0 → s .depth < 8 → starts s x ≡ true
+unfolding starts vectorRead
+starts-if s x e r l = rw e (and-both (and-both (carries s (Read 0x100) (rw e at r)) refl) (lt-ltb (s .depth) 8 l))
+
+start-chosen : (s : Aic) (x : Step) → starts s x ≡ true → startedBy s x ≡ chosen s
+unfolding starts startedBy
+start-chosen s x h = sym (pick-true 32 (and-left (vectorRead s x) (ltb (s .depth) 8) h))
 
 start-none : (s : Aic) (x : Step) → starts s x ≡ false → startedBy s x ≡ 32
 unfolding starts startedBy pick
 start-none s x = go (vectorRead s x) (told (candidates s))
   where
-    go : (b : Bool) → (candidates s ≡ true) ⊎ (candidates s ≡ false) → (b && candidates s) ≡ false → pick b (chosen s) 32 ≡ 32
-    go true (inl c) h = clash c h
+    go : (b : Bool) → (candidates s ≡ true) ⊎ (candidates s ≡ false) → (b && ltb (s .depth) 8) ≡ false → pick b (chosen s) 32 ≡ 32
+    go true (inl c) h = clash (lt-ltb (s .depth) 8 (chosen-room s c)) h
     go true (inr n) h = chosen-none s n
     go false c h = refl
 
@@ -168,7 +170,7 @@ unfolding startsOf startsOther steady
 counts-of s x =
     record {
       start = (start-says s x, λ h. starts-if s x (h .0) (h .1) (h .2));
-      startChosen = λ h. started-chosen s x (ltb-true (startedBy s x) 32 (sym (started-some s x) ∙ h)) .1;
+      startChosen = start-chosen s x;
       startNone = start-none s x;
       startOf = λ i. (eqb-true i (startedBy s x), eq-eqb i (startedBy s x));
       startOther = λ k. (

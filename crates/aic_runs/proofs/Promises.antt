@@ -15,7 +15,7 @@ use Rattle.aic_record.specs.Record.{withHandlers, reset}
 use Rattle.aic_record.specs.Mode.{edge}
 use Rattle.aic_record.specs.Sound.{sound}
 use Rattle.aic_record.specs.Promises.{Shaped}
-use Rattle.aic_record.proofs.SoundLaws.{sound-is}
+use Rattle.aic_record.proofs.SoundLaws.{sound-is, rising}
 use Rattle.aic_record.proofs.Promises as Record
 use Rattle.aic_sources.specs.Fast.{fast}
 use Rattle.aic_sources.specs.Normal.{ahead}
@@ -23,10 +23,10 @@ use Rattle.aic_registers.specs.Handlers.{closedLast}
 use Rattle.aic.proofs.HandlerLaws.{started-is}
 use Rattle.aic_runs.specs.Counted.{starts, closes, waits}
 use Rattle.aic_runs.specs.Runs.{run, count, always, EachStart, owed, received, sumOver}
-use Rattle.aic_runs.specs.Worked.{ready, tower, outset, wait}
+use Rattle.aic_runs.specs.Worked.{ready, tower, crowded, outset, wait}
 use Rattle.aic_runs.specs.Promises.{Promises, Nested, Gathers, Steps, EdgeTriggered, aheadOf, rivalOf}
 use Rattle.aic_runs.proofs.ObserverLaws.{counts-of}
-use Rattle.aic_runs.proofs.CountedLaws.{started-some}
+use Rattle.aic_runs.proofs.CountedLaws.{started-room}
 use Rattle.aic_runs.proofs.StepLaws.{start-law, close-law, other-law}
 use Rattle.aic_runs.proofs.RunLaws.{balance, source-law, bound-over, rivals, each-start, waits-steady}
 use Rattle.aic_runs.proofs.SoundRuns.{run-sound, never-twelve}
@@ -53,7 +53,7 @@ edge-triggered i l a =
 nested-on : (s : Aic) → Shaped s → sound s ≡ true → (xs : List Step) → Nested (run s xs)
 nested-on s h ok xs =
     let r = sound-is (run s xs) (run-sound s xs h ok) in
-    record { rising = r .rising; small = r .levels; eight = r .handlers }
+    record { rising = rising (run s xs) r; small = r .levels; eight = r .entries }
 
 reached-sound : (external lines : ℕ) (xs : List Step) → sound (run (reset external lines) xs) ≡ true
 reached-sound external lines xs = run-sound (reset external lines) xs (Record.kept .resetShaped external lines) (Record.kept .resetSound external lines)
@@ -75,8 +75,8 @@ gathered =
     }
 
 steps-worked : Steps
-unfolding ready tower outset wait
-steps-worked = record { towerNone = refl; towerMore = λ n. refl; outsetIs = refl; waitIs = refl }
+unfolding ready tower crowded outset wait
+steps-worked = record { towerNone = refl; towerMore = λ n. refl; crowdedIs = refl; outsetIs = refl; waitIs = refl }
 
 closed-is : (s : Aic) → closedLast s ≡ withHandlers s (set (s .source) (s .depth - 1) 0) (set (s .level) (s .depth - 1) 0) (s .depth - 1)
 unfolding closedLast
@@ -90,13 +90,25 @@ kept =
       worked = steps-worked;
       startedIs = started-is;
       closedIs = closed-is;
-      handlers = from-reset;
+      entries = from-reset;
       balance = balance;
       nested = λ external lines xs. nested-on (reset external lines) (Record.kept .resetShaped external lines) (Record.kept .resetSound external lines) xs;
       nestedOn = nested-on;
       eightOpen = (worked .eight, worked .levels);
-      startedSome = started-some;
-      startIs = start-law;
+      eightMarks = (
+        worked .depth,
+        worked .marks,
+        worked .none,
+        worked .behind,
+        worked .highest,
+        worked .quiet,
+        worked .stopped,
+        worked .same,
+        worked .loud,
+        worked .next,
+      );
+      startIs = λ s x l. let h = started-room s x l in (h, start-law s x h .0 l);
+      markIs = λ s x h l. start-law s x h .1 l;
       closeIs = close-law;
       otherIs = other-law;
       order = order;

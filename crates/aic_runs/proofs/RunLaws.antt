@@ -26,7 +26,7 @@ use Rattle.aic_runs.specs.Promises.{EdgeTriggered, rivalOf}
 use Rattle.aic_runs.proofs.CountedLaws.{started-chosen}
 use Rattle.aic_runs.proofs.StepLaws.{modes-law, depth-law, owed-law, edge-modes, ahead-modes, fast-forcing}
 
--- ---- the open handlers
+-- ---- the open entries
 
 pub balance : (s : Aic) (xs : List Step) → run s xs .depth + count closes s xs ≡ s .depth + count starts s xs
 unfolding run count

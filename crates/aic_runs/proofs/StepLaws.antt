@@ -1,10 +1,11 @@
--- What one step does to the modes, to the number of open handlers, and to what a source is owed: a lemma for each kind of step.
+-- What one step does to the modes, to the number of open entries, and to what a source is owed: a lemma for each kind of step.
 use Prim.Native.Nat.{ℕ, _+_, _≤_, _<_}
 use mathlib.Core.Path.{_≡_, refl, sym, ap, _∙_}
 use mathlib.Core.Bool.{Bool, true, false, not, _&&_, _||_, and-true}
 use mathlib.Core.Logic.{_≢_, _⊎_, inl, inr}
 use native.Mathlib.Omega.{arith}
 use lib.Dec.{eqb}
+use lib.ListN.{set}
 use borrow.Author.Tests.{eqb-true}
 use Rattle.words.specs.Counting.{one}
 use Rattle.words.specs.Word.{bit}
@@ -15,15 +16,16 @@ use Rattle.words.proofs.WordLaws.{bit-either, bit-both}
 use Rattle.steps.specs.declared.Step.{Step}
 use Rattle.steps.specs.declared.Step.the-variants.{Read, Write, Line}
 use Rattle.aic_record.specs.declared.Aic.{Aic}
+use Rattle.aic_record.specs.Record.{withHandlers}
 use Rattle.aic_record.specs.Mode.{priority, edge}
-use Rattle.aic_record.specs.Sound.{sound}
+use Rattle.aic_record.specs.Sound.{levelBelow, sound}
 use Rattle.aic_sources.specs.Pending.{active, pending, edgeWord}
 use Rattle.aic_sources.specs.Fast.{fast}
 use Rattle.aic_sources.specs.Normal.{ahead, candidate, candidates, chosen}
 use Rattle.aic_sources.proofs.HandlerLaws.{candidate-waits, waiting-is}
 use Rattle.aic_sources.proofs.OrderLaws.{chosen-is}
 use Rattle.aic_registers.specs.Map.{ivr, iscr, eoicr, ffer, ffdr}
-use Rattle.aic_registers.specs.Handlers.{startedAt, closedLast}
+use Rattle.aic_registers.specs.Handlers.{opened, startedAt, closedLast}
 use Rattle.aic_registers.specs.Effects.{moded, setBy, turns, moved}
 use Rattle.aic.specs.Model.{step}
 use Rattle.words.proofs.WordLaws.{bit-cleared-if, bit-put-if}
@@ -31,12 +33,12 @@ use Rattle.aic.proofs.HandlerLaws.{started-is, moved-is}
 use Rattle.aic.proofs.StepKindLaws.{kinds}
 use Rattle.aic_runs.specs.Counted.{starts, startedBy, startsOf, closes, edges, commands, rewrites}
 use Rattle.aic_runs.specs.Runs.{owed}
-use Rattle.aic_runs.proofs.CountedLaws.{plain-start, write-start, line-start, no-start, take-start, take-chosen, plain-close, read-close, line-close, other-close, close-close, set-command, line-rise, mode-rewrite, forcing-rewrite}
+use Rattle.aic_runs.proofs.CountedLaws.{plain-start, write-start, line-start, no-start, take-start, take-chosen, chosen-room, mark-chosen, mark-other, plain-close, read-close, line-close, other-close, close-close, set-command, line-rise, mode-rewrite, forcing-rewrite}
 
 -- ---- the modes and the forcing
 
 pub modes-law : (s : Aic) (x : Step) → rewrites s x ≡ false → (step s x .aic .mode ≡ s .mode) × (step s x .aic .forced ≡ s .forced)
-unfolding closedLast setBy
+unfolding opened closedLast setBy
 modes-law s =
     kinds s (λ x t. rewrites s x ≡ false → (t .mode ≡ s .mode) × (t .forced ≡ s .forced))
     (record {
@@ -46,19 +48,20 @@ modes-law s =
       remode = λ o k v ok e l r. clash (mode-rewrite s o k v ok e l) r;
       reforce = λ o v f ok e z r. clash (forcing-rewrite s o v ok e) r;
       take = λ ok c r. rw (started-is s (chosen s) (priority s (chosen s))) (refl, refl);
+      mark = λ ok n l r. (refl, refl);
       close = λ v ok d r. (refl, refl);
       command = λ v ok r. (refl, refl);
       move = λ k l ok m n r. rw (moved-is s k (eqb l 1)) (refl, refl);
     })
 
--- ---- the open handlers
+-- ---- the open entries
 
 not-eoicr : (o : ℕ) → (o ≡ ffer) ⊎ (o ≡ ffdr) → o ≢ eoicr
 not-eoicr o (inl e) = omega arith
 not-eoicr o (inr e) = omega arith
 
 pub depth-law : (s : Aic) (x : Step) → step s x .aic .depth + one (closes s x) ≡ s .depth + one (starts s x)
-unfolding closedLast setBy moded
+unfolding opened closedLast setBy moded
 depth-law s =
     kinds s (λ x t. t .depth + one (closes s x) ≡ s .depth + one (starts s x))
     (record {
@@ -67,28 +70,37 @@ depth-law s =
       fall = λ x w ok p f. rw (plain-start s x p, plain-close s x p);
       remode = λ o k v ok e l. rw (write-start s o v, other-close s o v (omega arith)) (pick-cases (λ (t : Aic). t .depth + 0 ≡ s .depth + 0) _ (λ _. refl) (λ _. refl));
       reforce = λ o v f ok e z. rw (write-start s o v, other-close s o v (not-eoicr o e));
-      take = λ ok c. rw (started-is s (chosen s) (priority s (chosen s)), take-start s ok c, read-close s ivr) (omega arith);
+      take = λ ok c. rw (started-is s (chosen s) (priority s (chosen s)), take-start s ok (chosen-room s c), read-close s ivr) (omega arith);
+      mark = λ ok n l. rw (take-start s ok l, read-close s ivr) (omega arith);
       close = λ v ok d. rw (write-start s eoicr v, close-close s v ok d) (omega arith);
       command = λ v ok. rw (write-start s iscr v, other-close s iscr v (omega arith));
       move = λ k l ok m n. rw (moved-is s k (eqb l 1), line-start s k l, line-close s k l);
     })
 
--- a start, a close, and any other step
-pub start-law : (s : Aic) (x : Step) → starts s x ≡ true → step s x .aic ≡ startedAt s (startedBy s x) (priority s (startedBy s x))
+-- a start, of the handler of a source or of a mark
+abbrev Opens : Aic → Step → Aic → Type 0
+Opens s x t =
+    (startedBy s x < 32 → t ≡ startedAt s (startedBy s x) (priority s (startedBy s x)))
+    × (32 ≤ startedBy s x → t ≡ withHandlers s (set (s .source) (s .depth) 0) (set (s .level) (s .depth) (levelBelow (s .level) (s .depth))) (s .depth + 1))
+
+pub start-law : (s : Aic) (x : Step) → starts s x ≡ true → Opens s x (step s x .aic)
+unfolding opened
 start-law s =
-    kinds s (λ x t. starts s x ≡ true → t ≡ startedAt s (startedBy s x) (priority s (startedBy s x)))
+    kinds s (λ x t. starts s x ≡ true → Opens s x t)
     (record {
       still = λ x p h. clash h (plain-start s x p);
       store = λ o v e u m vs ok p q l h. clash h (write-start s o v);
       fall = λ x w ok p f h. clash h (plain-start s x p);
       remode = λ o k v ok e l h. clash h (write-start s o v);
       reforce = λ o v f ok e z h. clash h (write-start s o v);
-      take = λ ok c h. rw (take-chosen s ok);
+      take = λ ok c h. (λ _. rw (take-chosen s ok), λ l. absurd (omega (arith, take-chosen s ok, chosen-is s c .below)));
+      mark = λ ok n l h. (λ m. absurd (omega (arith, mark-chosen s ok n)), λ _. refl);
       close = λ v ok d h. clash h (write-start s eoicr v);
       command = λ v ok h. clash h (write-start s iscr v);
       move = λ k l ok m n h. clash h (line-start s k l);
     })
 
+-- a close, and any other step
 pub close-law : (s : Aic) (x : Step) → closes s x ≡ true → step s x .aic ≡ closedLast s
 close-law s =
     kinds s (λ x t. closes s x ≡ true → t ≡ closedLast s)
@@ -99,6 +111,7 @@ close-law s =
       remode = λ o k v ok e l h. clash h (other-close s o v (omega arith));
       reforce = λ o v f ok e z h. clash h (other-close s o v (not-eoicr o e));
       take = λ ok c h. clash h (read-close s ivr);
+      mark = λ ok n l h. clash h (read-close s ivr);
       close = λ v ok d h. refl;
       command = λ v ok h. clash h (other-close s iscr v (omega arith));
       move = λ k l ok m n h. clash h (line-close s k l);
@@ -115,7 +128,8 @@ other-law s =
       fall = λ x w ok p f a c. (refl, refl, refl);
       remode = λ o k v ok e l a c. pick-cases (λ (t : Aic). (t .source ≡ s .source) × (t .level ≡ s .level) × (t .depth ≡ s .depth)) _ (λ _. (refl, refl, refl)) (λ _. (refl, refl, refl));
       reforce = λ o v f ok e z a c. (refl, refl, refl);
-      take = λ ok d a c. clash (take-start s ok d) a;
+      take = λ ok d a c. clash (take-start s ok (chosen-room s d)) a;
+      mark = λ ok n l a c. clash (take-start s ok l) a;
       close = λ v ok d a c. clash (close-close s v ok d) c;
       command = λ v ok a c. (refl, refl, refl);
       move = λ k l ok m n a c. rw (moved-is s k (eqb l 1)) (refl, refl, refl);
@@ -186,7 +200,7 @@ module _ (s : Aic) (i : ℕ) (small : i < 32) (edgy : edge s i ≡ true) where
       (omega (arith, one-turned (bit (s .memory) i) (eqb i k) (edge s k) (turns s k (eqb l 1))))
 
   memory-law : (x : Step) → rewrites s x ≡ false → Paid x (step s x .aic)
-  unfolding closedLast
+  unfolding opened closedLast
   memory-law =
       kinds s (λ x t. rewrites s x ≡ false → Paid x t)
       (record {
@@ -196,6 +210,7 @@ module _ (s : Aic) (i : ℕ) (small : i < 32) (edgy : edge s i ≡ true) where
         remode = λ o k v ok e l r. clash (mode-rewrite s o k v ok e l) r;
         reforce = λ o v f ok e z r. clash (forcing-rewrite s o v ok e) r;
         take = λ ok c r. taken ok c;
+        mark = λ ok n l r. rw (mark-other s ok n i small) (omega arith);
         close = λ v ok d r. no-gain (Write eoicr v) (s .memory) (write-start s eoicr v) (λ h. h);
         command = λ v ok r. commanded v ok;
         move = λ k l ok m n r. turned k l ok m n;

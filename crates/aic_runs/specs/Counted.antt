@@ -9,7 +9,7 @@ use Rattle.steps.specs.declared.Step.the-variants.{Read, Write, Line}
 use Rattle.steps.specs.Refusals.{carriedOut}
 use Rattle.aic_record.specs.declared.Aic.{Aic}
 use Rattle.aic_record.specs.Mode.{edge}
-use Rattle.aic_sources.specs.Normal.{waiting, candidates, chosen}
+use Rattle.aic_sources.specs.Normal.{waiting, chosen}
 use Rattle.aic_registers.specs.Map.{svr, ivr, iscr, eoicr, ffer, ffdr}
 use Rattle.aic_registers.specs.Effects.{turns}
 use Rattle.aic.specs.Model.{step}
@@ -24,11 +24,11 @@ vectorRead s (Read o) = carried s (Read o) && eqb o ivr
 vectorRead s (Write o v) = false
 vectorRead s (Line k l) = false
 
--- a start: a vector read with a candidate opens a handler (01, AIC, Normal side; 003, 27.7.3.1)
+-- a start: a vector read that finds fewer than eight entries open opens one, a handler or a mark (01, AIC, Normal side; 02, 3/12; 003, 27.7.3.1)
 unfoldable pub starts : Aic → Step → Bool
-starts s x = vectorRead s x && candidates s
+starts s x = vectorRead s x && ltb (s .depth) 8
 
--- the source whose handler the step starts, 32 where it starts none: a vector read starts the candidate ahead of all others
+-- the source whose handler the step starts, 32 where it opens a mark or nothing: a vector read starts the candidate ahead of all others
 -- (01, AIC, Normal side; 003, 27.7.3.1)
 unfoldable pub startedBy : Aic → Step → ℕ
 startedBy s x = pick (vectorRead s x) (chosen s) 32
@@ -41,7 +41,7 @@ startsOf i s x = eqb i (startedBy s x)
 unfoldable pub startsOther : ℕ → Aic → Step → Bool
 startsOther k s x = ltb (startedBy s x) 32 && not (startsOf k s x)
 
--- a close that finds a handler open: a write of EOICR, of any value (01, AIC, Normal side; 003, 27.8.15)
+-- a close that finds an entry open, mark or handler: a write of EOICR, of any value (01, AIC, Normal side; 02, 3/12; 003, 27.8.15)
 unfoldable pub closes : Aic → Step → Bool
 closes s (Read o) = false
 closes s (Write o v) = carried s (Write o v) && eqb o eoicr && not (eqb (s .depth) 0)

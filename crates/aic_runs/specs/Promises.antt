@@ -4,7 +4,7 @@ use mathlib.Core.Path.{_≡_}
 use mathlib.Core.Bool.{Bool, true, false, not, _&&_}
 use mathlib.Core.List.{List, [], _∷_, _++_}
 use mathlib.Core.Logic.{_↔_, _≢_, _⊎_}
-use lib.Dec.{eqb, ltb}
+use lib.Dec.{eqb}
 use lib.ListN.{set}
 use Rattle.words.specs.Choice.{pick}
 use Rattle.words.specs.Counting.{one, sumBelow}
@@ -14,23 +14,22 @@ use Rattle.steps.specs.declared.Step.the-variants.{Read, Write, Line}
 use Rattle.aic_record.specs.declared.Aic.{Aic}
 use Rattle.aic_record.specs.Record.{withMemory, withHandlers, reset}
 use Rattle.aic_record.specs.Mode.{priority, edge}
-use Rattle.aic_record.specs.Sound.{levelAt, sound}
+use Rattle.aic_record.specs.Sound.{sourceAt, levelAt, levelBelow, sound}
 use Rattle.aic_record.specs.Promises.{Shaped}
 use Rattle.aic_sources.specs.Pending.{pending}
 use Rattle.aic_sources.specs.Fast.{fast}
-use Rattle.aic_sources.specs.Normal.{ahead, chosen}
-use Rattle.aic_sources.specs.Promises.{SomeCandidate}
+use Rattle.aic_sources.specs.Normal.{ahead, chosen, irq}
 use Rattle.aic_registers.specs.Handlers.{startedAt, closedLast}
 use Rattle.aic_registers.specs.Effects.{turns}
 use Rattle.aic.specs.Model.{step}
 use Rattle.aic_runs.specs.Counted.{starts, startedBy, startsOf, startsOther, closes, edges, commands, steady, waits}
 use Rattle.aic_runs.specs.Runs.{run, count, always, EachStart, owed, received, sumOver}
-use Rattle.aic_runs.specs.Worked.{tower, outset, wait}
+use Rattle.aic_runs.specs.Worked.{tower, crowded, outset, wait}
 
--- the levels of the open handlers rise strictly and are at most 7, and at most eight are open
+-- the levels of the open handlers rise strictly and are at most 7, and at most eight entries are open, marks among them (02, 3/12)
 pub record Nested (s : Aic) : Type 0 where
-  pub rising : (i j : ℕ) → i < j → j < s .depth → levelAt s i < levelAt s j
-  pub small : (i : ℕ) → i < s .depth → levelAt s i ≤ 7
+  pub rising : (i j : ℕ) → i < j → j < s .depth → sourceAt s i ≢ 0 → sourceAt s j ≢ 0 → levelAt s i < levelAt s j
+  pub small : (i : ℕ) → i < s .depth → sourceAt s i ≢ 0 → levelAt s i ≤ 7
   pub eight : s .depth ≤ 8
 
 -- every source that passes the test is edge-triggered
@@ -47,15 +46,15 @@ rivalOf s k i = ahead s i k && not (fast s i)
 
 -- what a step x counts as in the record s that it meets; refused, it counts as nothing (demand 3; AIC, Pending and Normal side)
 pub record Counts (s : Aic) (x : Step) : Type 0 where
-  -- a start: a read of IVR with a candidate (003, 27.7.3.1)
-  pub start : (starts s x ≡ true) ↔ ((x ≡ Read 0x100) × (step s x .refusal ≡ 0) × SomeCandidate s)
-  -- it is of the candidate ahead of all others; where nothing is started the source is 32, which is none
+  -- a start: a read of IVR that finds fewer than eight entries open (02, 3/12; 003, 27.7.3.1)
+  pub start : (starts s x ≡ true) ↔ ((x ≡ Read 0x100) × (step s x .refusal ≡ 0) × (s .depth < 8))
+  -- it is of the candidate ahead of all others; where a mark is opened, or nothing, the source is 32, which is none
   pub startChosen : starts s x ≡ true → startedBy s x ≡ chosen s
   pub startNone : starts s x ≡ false → startedBy s x ≡ 32
   -- a start of source i, and of another than source k
   pub startOf : (i : ℕ) → (startsOf i s x ≡ true) ↔ (i ≡ startedBy s x)
   pub startOther : (k : ℕ) → (startsOther k s x ≡ true) ↔ ((startedBy s x < 32) × (k ≢ startedBy s x))
-  -- a close: a write of EOICR, of any value, that finds a handler open (003, 27.8.15)
+  -- a close: a write of EOICR, of any value, that finds an entry open, mark or handler (02, 3/12; 003, 27.8.15)
   pub close : (closes s x ≡ true) ↔ ((v : ℕ) × (x ≡ Write 0x130 v) × (step s x .refusal ≡ 0) × (s .depth ≢ 0))
   -- an edge of source i: its line turns active, and it is edge-triggered
   pub edgeIn : (i : ℕ) → (edges i s x ≡ true)
@@ -87,50 +86,64 @@ pub record Gathers : Type 1 where
   -- a sum over those of the 32 sources that pass a test
   pub sumIs : (t : ℕ → Bool) (f : ℕ → ℕ) → sumOver t f ≡ sumBelow 32 (λ i. pick (t i) (f i) 0)
 
--- the two worked runs, step by step
+-- the three worked runs, step by step
 pub record Steps : Type 0 where
   -- source n + 1 is made edge-triggered at priority n (0x60 is type 3), enabled, has an edge and is started
   pub towerNone : tower 0 ≡ []
   pub towerMore : (n : ℕ) → tower (suc n)
       ≡ tower n ++ (Write ((n + 1) * 4) (0x60 + n) ∷ Write 0x120 (2 ^ (n + 1)) ∷ Line (n + 1) 1 ∷ Read 0x100 ∷ [])
+  -- eight reads of IVR; then source 1 is made edge-triggered at priority 7, enabled, and has an edge
+  pub crowdedIs : crowded
+      ≡ run (reset 0 0)
+      (Read 0x100 ∷ Read 0x100 ∷ Read 0x100 ∷ Read 0x100 ∷ Read 0x100 ∷ Read 0x100 ∷ Read 0x100 ∷ Read 0x100 ∷ Write 0x04 0x67 ∷ Write 0x120 0x002 ∷ Line 1 1 ∷ [])
   -- sources 4, 6 and 9 are made edge-triggered at priorities 5, 4 and 3, and enabled; 4 and 9 have an edge
   pub outsetIs : outset
       ≡ run (reset 0 0)
       (Write 0x10 0x65 ∷ Write 0x120 0x010 ∷ Write 0x18 0x64 ∷ Write 0x120 0x040 ∷ Write 0x24 0x63 ∷ Write 0x120 0x200 ∷ Line 4 1 ∷ Line 9 1 ∷ [])
   pub waitIs : wait
-      ≡ Read 0x100 ∷ Line 6 1 ∷ Line 6 1 ∷ Read 0x100 ∷ Write 0x130 0 ∷ Read 0x100 ∷ Write 0x130 0 ∷ Write 0x130 0 ∷ Write 0x12C 0x50 ∷ Read 0x101
+      ≡ Read 0x100 ∷ Line 6 1 ∷ Line 6 1 ∷ Read 0x100 ∷ Write 0x130 0 ∷ Write 0x130 0 ∷ Read 0x100 ∷ Write 0x130 0 ∷ Write 0x130 0 ∷ Write 0x12C 0x50 ∷ Read 0x101
       ∷ Read 0x100 ∷ Write 0x130 0 ∷ Read 0x100 ∷ []
 
 pub record Promises : Type 1 where
   -- what is counted, step by step and over a run
   pub counts : (s : Aic) (x : Step) → Counts s x
   pub gathers : Gathers
-  -- after any run from reset the open handlers are the starts less the closes that found one open, and the closes are no more than the starts
-  -- (demand 3, first sentence)
-  pub handlers : (external lines : ℕ) (xs : List Step)
+  -- after any run from reset the open entries are the starts less the closes that found one open, marks counted with handlers, and the closes
+  -- are no more than the starts (demand 3, first sentence; 02, 3/12)
+  pub entries : (external lines : ℕ) (xs : List Step)
       → (run (reset external lines) xs .depth ≡ count starts (reset external lines) xs - count closes (reset external lines) xs)
       × (count closes (reset external lines) xs ≤ count starts (reset external lines) xs)
-  -- from any record, sound or not: the handlers open after a run and its closes are the handlers open before it and its starts
+  -- from any record, sound or not: the entries open after a run and its closes are the entries open before it and its starts
   pub balance : (s : Aic) (xs : List Step) → run s xs .depth + count closes s xs ≡ s .depth + count starts s xs
-  -- after any run from reset the levels rise strictly and are at most 7, so never more than eight handlers are open (demand 3, first sentence)
+  -- after any run from reset the levels of the handlers rise strictly and are at most 7, and never more than eight entries are open
+  -- (demand 3, first sentence; 02, 3/12)
   pub nested : (external lines : ℕ) (xs : List Step) → Nested (run (reset external lines) xs)
   -- and so it is after any run from a sound record, whose arrays have their lengths
   pub nestedOn : (s : Aic) → Shaped s → sound s ≡ true → (xs : List Step) → Nested (run s xs)
   -- eight is reached: a run from reset opens the levels 0 to 7
   pub worked : Steps
   pub eightOpen : (run (reset 0 0) (tower 8) .depth ≡ 8) × (run (reset 0 0) (tower 8) .level ≡ 0 ∷ 1 ∷ 2 ∷ 3 ∷ 4 ∷ 5 ∷ 6 ∷ 7 ∷ [])
-  -- what is counted is what happens: a step is a start exactly if it starts the handler of some source (01, AIC, Normal side)
-  pub startedSome : (s : Aic) (x : Step) → starts s x ≡ ltb (startedBy s x) 32
-  -- after it that source is started, at the priority that it has then
-  pub startIs : (s : Aic) (x : Step) → starts s x ≡ true → step s x .aic ≡ startedAt s (startedBy s x) (priority s (startedBy s x))
+  -- and by marks, none of which has a level: while priority 7 waits over them IRQ is inactive, and a vector read starts nothing and leaves the
+  -- record as it is; after one close IRQ is active, and it starts that source (02, 3/12)
+  pub eightMarks : (crowded .depth ≡ 8) × (crowded .source ≡ 0 ∷ 0 ∷ 0 ∷ 0 ∷ 0 ∷ 0 ∷ 0 ∷ 0 ∷ [])
+      × (crowded .level ≡ 255 ∷ 255 ∷ 255 ∷ 255 ∷ 255 ∷ 255 ∷ 255 ∷ 255 ∷ []) × (waits 1 crowded (Read 0x100) ≡ true) × (priority crowded 1 ≡ 7)
+      × (irq crowded ≡ false) × (starts crowded (Read 0x100) ≡ false) × (step crowded (Read 0x100) .aic ≡ crowded)
+      × (irq (run crowded (Write 0x130 0 ∷ [])) ≡ true) × (startedBy (run crowded (Write 0x130 0 ∷ [])) (Read 0x100) ≡ 1)
+  -- what is counted is what happens: a step that starts the handler of a source is a start, and after it that source is started, at the priority
+  -- that it has then (01, AIC, Normal side)
+  pub startIs : (s : Aic) (x : Step) → startedBy s x < 32
+      → (starts s x ≡ true) × (step s x .aic ≡ startedAt s (startedBy s x) (priority s (startedBy s x)))
   -- a start opens a handler of the source at that priority, and clears its memory, and no other, if it is edge-triggered
   pub startedIs : (s : Aic) (k p : ℕ) → startedAt s k p
       ≡ withHandlers (withMemory s (pick (edge s k) (withBit (s .memory) k false) (s .memory)))
       (set (s .source) (s .depth) k) (set (s .level) (s .depth) p) (s .depth + 1)
-  -- after a close the last open handler is closed
+  -- any other start opens a mark: an entry of source 0 with the level of the last entry, or no level if there is none (02, 3/12)
+  pub markIs : (s : Aic) (x : Step) → starts s x ≡ true → 32 ≤ startedBy s x
+      → step s x .aic ≡ withHandlers s (set (s .source) (s .depth) 0) (set (s .level) (s .depth) (levelBelow (s .level) (s .depth))) (s .depth + 1)
+  -- after a close the last entry is closed, mark or handler (02, 3/12)
   pub closeIs : (s : Aic) (x : Step) → closes s x ≡ true → step s x .aic ≡ closedLast s
   pub closedIs : (s : Aic) → closedLast s ≡ withHandlers s (set (s .source) (s .depth - 1) 0) (set (s .level) (s .depth - 1) 0) (s .depth - 1)
-  -- any other step leaves the open handlers as they are
+  -- any other step leaves the open entries as they are
   pub otherIs : (s : Aic) (x : Step) → starts s x ≡ false → closes s x ≡ false
       → (step s x .aic .source ≡ s .source) × (step s x .aic .level ≡ s .level) × (step s x .aic .depth ≡ s .depth)
   -- while source k stays pending, enabled and not fast (so it is not source 0), and no step rewrites a mode or the forcing, every handler
@@ -149,9 +162,10 @@ pub record Promises : Type 1 where
   -- the bound is met: a run on which all that it asks holds, and four handlers are started before source 9, as many as it allows
   pub boundMet : (always (waits 9) outset wait ≡ true) × EdgeTriggered outset (aheadOf outset 9)
       × (count (startsOther 9) outset wait ≡ 4) × (sumOver (aheadOf outset 9) (λ i. owed outset i + received i outset wait) ≡ 4)
-  -- one pending at the outset, one edge, and two set commands by one write; three closes find a handler open, and one is open in the end
+  -- one pending at the outset, one edge, and two set commands by one write; four closes find an entry open, a mark among them,
+  -- and one is open in the end
   pub boundParts : (sumOver (aheadOf outset 9) (owed outset) ≡ 1) × (sumOver (aheadOf outset 9) (λ i. count (edges i) outset wait) ≡ 1)
-      × (sumOver (aheadOf outset 9) (λ i. count (commands i) outset wait) ≡ 2) × (count closes outset wait ≡ 3) × (run outset wait .depth ≡ 1)
+      × (sumOver (aheadOf outset 9) (λ i. count (commands i) outset wait) ≡ 2) × (count closes outset wait ≡ 4) × (run outset wait .depth ≡ 1)
   -- every record that a run from reset reaches is sound (01, AIC, A sound record)
   pub reachedSound : (external lines : ℕ) (xs : List Step) → sound (run (reset external lines) xs) ≡ true
   -- so no step of such a run is refused by 12, and none is hidden by it (01, Numbers)

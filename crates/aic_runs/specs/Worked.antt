@@ -1,4 +1,4 @@
--- Two runs from reset, worked through: eight handlers open at once, and a source that waits as long as the bound allows.
+-- Three runs from reset, worked through: eight handlers open at once, eight marks, and a source that waits as long as the bound allows.
 use Prim.Native.Nat.{ℕ, zero, suc, _+_, _*_, _^_}
 use mathlib.Core.List.{List, [], _∷_, _++_}
 use Rattle.steps.specs.declared.Step.{Step}
@@ -17,6 +17,12 @@ unfoldable pub tower : ℕ → List Step
 tower zero = []
 tower (suc n) = tower n ++ (ready (n + 1) n ++ (Line (n + 1) 1 ∷ Read ivr ∷ []))
 
+-- eight vector reads with nothing pending open eight marks; then source 1 at priority 7 has an edge
+unfoldable pub crowded : Aic
+crowded =
+    run (reset 0 0)
+    (Read ivr ∷ Read ivr ∷ Read ivr ∷ Read ivr ∷ Read ivr ∷ Read ivr ∷ Read ivr ∷ Read ivr ∷ (ready 1 7 ++ (Line 1 1 ∷ [])))
+
 -- source 4 at priority 5 and source 9 at priority 3 are pending, source 6 at priority 4 is not yet
 unfoldable pub outset : Aic
 outset = run (reset 0 0) (ready 4 5 ++ (ready 6 4 ++ (ready 9 3 ++ (Line 4 1 ∷ Line 9 1 ∷ []))))
@@ -24,9 +30,9 @@ outset = run (reset 0 0) (ready 4 5 ++ (ready 6 4 ++ (ready 9 3 ++ (Line 4 1 ∷
 -- source 9 waits all the while, and four handlers are started; steps that count for nothing stand among the others
 unfoldable pub wait : List Step
 wait =
-    -- 4 is started; 6 has an edge, and its line put high once more is no second one; 6 is not above 4, so a vector read starts nothing
-    Read ivr ∷ Line 6 1 ∷ Line 6 1 ∷ Read ivr
-    -- 4 is closed and 6 is started, then closed; a close with none open counts for nothing
+    -- 4 is started; 6 has an edge, and its line put high once more is no second one; 6 is not above 4, so a vector read opens a mark
+    Read ivr ∷ Line 6 1 ∷ Line 6 1 ∷ Read ivr ∷ Write eoicr 0
+    -- the mark is closed; 4 is closed and 6 is started, then closed; a close with none open counts for nothing
     ∷ Write eoicr 0 ∷ Read ivr ∷ Write eoicr 0 ∷ Write eoicr 0
     -- one write commands 4 and 6; a read that is refused; 4 is started once more, and after its close 6
     ∷ Write iscr (2 ^ 4 + 2 ^ 6) ∷ Read (ivr + 1) ∷ Read ivr ∷ Write eoicr 0 ∷ Read ivr ∷ []

@@ -1,5 +1,5 @@
 -- Which source is ahead of which, and the one that is ahead of all other candidates.
-use Prim.Native.Nat.{ℕ, zero, suc, _+_, _-_, _*_, _<_}
+use Prim.Native.Nat.{ℕ, zero, suc, _+_, _*_, _<_}
 use mathlib.Core.Path.{_≡_, refl, sym, _∙_, subst}
 use mathlib.Core.Bool.{Bool, true, false, not, _&&_, _||_}
 use mathlib.Core.Logic.{_≢_, _⊎_, inl, inr, ⊎-elim}
@@ -12,7 +12,7 @@ use Rattle.words.proofs.TruthLaws.{and-left, and-right, and-both, or-either, or
 use Rattle.words.proofs.CountingLaws.{any-some, some-any, any-fails, all-at, at-all, Lowest, lowest-found}
 use Rattle.aic_record.specs.declared.Aic.{Aic}
 use Rattle.aic_record.specs.Mode.{priority}
-use Rattle.aic_record.specs.Sound.{levelAt}
+use Rattle.aic_record.specs.Sound.{noLevel, levelBelow, over}
 use Rattle.aic_sources.specs.Normal.{waiting, above, candidate, ahead, foremost, candidates, chosen}
 
 -- ---- "ahead" between numbers
@@ -196,12 +196,13 @@ chosen-none s h = go (decLt (lowestBelow 32 (foremost s)) 32)
 -- ---- a source that waits, candidate or not, is chosen or the chosen one is ahead of it
 
 above-lt : (s : Aic) (p q : ℕ) → above s p ≡ true → above s q ≡ false → q < p
-unfolding above
-above-lt s p q = go (eqb (s .depth) 0)
+unfolding above over
+above-lt s p q = go (ltb (s .depth) 8) (eqb (levelBelow (s .level) (s .depth)) noLevel)
   where
-    go : (t : Bool) → (t || ltb (levelAt s (s .depth - 1)) p) ≡ true → (t || ltb (levelAt s (s .depth - 1)) q) ≡ false → q < p
-    go true h k = clash refl k
-    go false h k = omega (arith, ltb-true, ltb-false)
+    go : (r t : Bool) → (r && (t || ltb (levelBelow (s .level) (s .depth)) p)) ≡ true → (r && (t || ltb (levelBelow (s .level) (s .depth)) q)) ≡ false → q < p
+    go true true h k = clash refl k
+    go true false h k = omega (arith, ltb-true, ltb-false)
+    go false t h k = clash h refl
 
 pub chosen-ahead : (s : Aic) (k : ℕ) → k < 32 → waiting s k ≡ true → candidates s ≡ true → chosen s ≢ k → ahead s (chosen s) k ≡ true
 unfolding candidate

@@ -3,23 +3,23 @@ use Prim.Native.Nat.{ℕ, _<_, _≤_}
 use mathlib.Core.Path.{_≡_, ap}
 use mathlib.Core.Bool.{true, false, not, and-false}
 use mathlib.Core.Logic.{_↔_, _⊎_, inl, inr, ⊎-elim}
+use native.Mathlib.Omega.{arith}
 use lib.Dec.{eqb}
 use borrow.Author.Tests.{lt-ltb, le-ltb, not-true, eqb-true, eq-eqb}
 use Rattle.words.specs.Choice.{pick}
 use Rattle.words.specs.Word.{bit}
-use Rattle.words.proofs.TruthLaws.{and-left, and-right, and-both, or-left, or-right, or-either}
+use Rattle.words.proofs.TruthLaws.{and-left, and-right, and-both, or-left, or-right, or-either, not-holds}
 use Rattle.words.proofs.CountingLaws.{any-some, some-any, any-none}
 use Rattle.words.proofs.WordLaws.{wordOf-lt, bit-wordOf}
 use Rattle.aic_record.specs.declared.Aic.{Aic}
 use Rattle.aic_record.specs.Mode.{kind}
-use Rattle.aic_record.proofs.SoundLaws.{sound-is}
 use Rattle.aic_sources.specs.Pending.{activeLow, activeAt, active, pending, pendingWord}
 use Rattle.aic_sources.specs.Fast.{fast, fastAsks, masked, fiq}
 use Rattle.aic_sources.specs.Normal.{candidate, candidates, irq}
 use Rattle.aic_sources.specs.Promises.{SomeCandidate, Promises}
 use Rattle.aic_sources.proofs.FastLaws.{fast-some, some-fast}
 use Rattle.aic_sources.proofs.OrderLaws.{ahead-is, is-ahead, ahead-irreflexive, ahead-transitive, ahead-total, chosen-is, chosen-one, chosen-none}
-use Rattle.aic_sources.proofs.HandlerLaws.{candidate-above, candidate-waits, waiting-is, is-candidate, candidate-room}
+use Rattle.aic_sources.proofs.HandlerLaws.{candidate-over, candidate-waits, waiting-is, is-candidate, candidate-room}
 
 some : (s : Aic) → SomeCandidate s → candidates s ≡ true
 unfolding candidates
@@ -68,8 +68,8 @@ kept =
       fiqIs = fiq-is;
       fastIs = fast-is;
       candidateIs = λ s k. (
-        λ c. let w = waiting-is s k (candidate-waits s k c) in (w .0, w .1, w .2, candidate-above s k c),
-        λ (p, e, f, o). is-candidate s k p e f o,
+        λ c. let w = waiting-is s k (candidate-waits s k c) in (w .0, w .1, w .2, candidate-room s k c, candidate-over s k c),
+        λ (p, e, f, l, o). is-candidate s k p e f l o,
       );
       chosenIs = λ s h. let f = chosen-is s (some s h) in (f .below, f .fit, f .first);
       chosenOne = λ s k l c h. chosen-one s k (record { below = l; fit = c; first = h });
@@ -78,7 +78,7 @@ kept =
       aheadNever = ahead-irreflexive;
       aheadThrough = ahead-transitive;
       aheadEither = ahead-total;
-      room = λ s ok (k, l, c). candidate-room s k (sound-is s ok) c;
+      room = λ s h k. not-holds (candidate s k) (λ c. omega (arith, candidate-room s k c));
       iprBit = λ s k l. bit-wordOf 32 (pending s) k l;
       iprBelow = λ s. wordOf-lt 32 (pending s);
     }

@@ -6,7 +6,7 @@ use mathlib.Core.Logic.{_⊎_, inl, inr, ⊎-elim}
 use Prim.Native.Nat.{ℕ, _+_, _*_, _≤_, _<_}
 use native.Mathlib.Nat.{eq-or-lt-of-le}
 use native.Mathlib.Omega.{arith}
-use borrow.Author.Tests.{lt-ltb, le-ltb, le-leb, leb-true, leb-false}
+use borrow.Author.Tests.{lt-ltb, le-ltb, le-leb, lt-leb, leb-true, leb-false}
 use lib.Dec.{ltb, leb}
 use Rattle.words.specs.Choice.{pick}
 use Rattle.words.specs.Word.{bit}
@@ -15,10 +15,12 @@ use Rattle.words.proofs.TruthLaws.{and-left, and-right, and-both, clash, not-ho
 use Rattle.words.proofs.CountingLaws.{any-none}
 use Rattle.aic_record.specs.declared.Aic.{Aic}
 use Rattle.aic_record.specs.Mode.{priorityOf, priority, modeAt}
-use Rattle.aic_record.specs.Passes.{floorAt}
+use Rattle.aic_record.specs.Sound.{levelBelow, over}
+use Rattle.aic_record.specs.Passes.{floorOver}
 use Rattle.aic_record.proofs.PassLaws.{floor-rule}
 use Rattle.aic_sources.specs.Normal.{waiting, above, candidate, candidates, chosen}
-use Rattle.aic_sources.specs.Search.{rank, mayStart, Leader, Found}
+use Rattle.aic_sources.specs.Search.{rank, mayStart, leastOf, Leader, Found}
+use Rattle.aic_sources.proofs.HandlerLaws.{priority-small}
 use Rattle.aic_sources.proofs.OrderLaws.{Foremost, lt-ahead, chosen-is, chosen-one, chosen-none}
 
 -- a number below n + 1 is n or below it
@@ -124,11 +126,20 @@ module _ (waits : ℕ) (mode : List ℕ) (least : ℕ) where
 unfoldable pub Sees : Aic → ℕ → Type 0
 Sees s w = (k : ℕ) → k < 32 → bit w k ≡ waiting s k
 
-may-is : (s : Aic) (w k : ℕ) → Sees s w → k < 32 → mayStart w (s .mode) (floorAt (s .level) (s .depth)) k ≡ candidate s k
-unfolding Sees mayStart candidate above priority
-may-is s w k v l = ap₂ _&&_ (v k l) (floor-rule (s .level) (s .depth) (priorityOf (modeAt s k)))
+-- at least the least priority that may start: there is room, and it is above the level of the last entry
+least-rule : (s : Aic) (p : ℕ) → p ≤ 7 → leb (leastOf s) p ≡ above s p
+unfolding leastOf above
+least-rule s p l = go (ltb (s .depth) 8)
+  where
+    go : (t : Bool) → leb (pick t (floorOver (levelBelow (s .level) (s .depth))) 8) p ≡ (t && over (levelBelow (s .level) (s .depth)) p)
+    go true = unfold pick in (floor-rule (levelBelow (s .level) (s .depth)) p)
+    go false = unfold pick in (lt-leb 8 p (omega arith))
 
-leader-is : (s : Aic) (w r : ℕ) → Sees s w → Leader w (s .mode) (floorAt (s .level) (s .depth)) 32 r → Foremost s 32 r
+may-is : (s : Aic) (w k : ℕ) → Sees s w → k < 32 → mayStart w (s .mode) (leastOf s) k ≡ candidate s k
+unfolding Sees mayStart candidate priority
+may-is s w k v l = ap₂ _&&_ (v k l) (least-rule s (priorityOf (modeAt s k)) (priority-small s k))
+
+leader-is : (s : Aic) (w r : ℕ) → Sees s w → Leader w (s .mode) (leastOf s) 32 r → Foremost s 32 r
 unfolding priority
 leader-is s w r v x =
     record {
@@ -138,7 +149,7 @@ leader-is s w r v x =
     }
 
 -- the search answers the chosen source
-pub chosen-by : (s : Aic) (w r : ℕ) → Sees s w → Found w (s .mode) (floorAt (s .level) (s .depth)) 32 r → r ≡ chosen s
+pub chosen-by : (s : Aic) (w r : ℕ) → Sees s w → Found w (s .mode) (leastOf s) 32 r → r ≡ chosen s
 unfolding candidates
 chosen-by s w r v (inl x) = x .none ∙ sym (chosen-none s (any-none 32 (candidate s) (λ k l. sym (may-is s w k v l) ∙ x .each k l)))
 chosen-by s w r v (inr x) = sym (chosen-one s r (leader-is s w r v x))

@@ -6,11 +6,10 @@ use lib.Dec.{eqb, ltb}
 use Rattle.words.specs.Counting.{one}
 use Rattle.words.specs.Word.{bit, wordOf, both, without}
 use Rattle.aic_record.specs.declared.Aic.{Aic}
-use Rattle.aic_record.specs.Passes.{floorAt}
 use Rattle.aic_sources.specs.Pending.{asking, pendingWord}
 use Rattle.aic_sources.specs.Fast.{fast, fastAsks, masked, fiq}
 use Rattle.aic_sources.specs.Normal.{chosen, irq}
-use Rattle.aic_sources.specs.Search.{Found}
+use Rattle.aic_sources.specs.Search.{leastOf, Found}
 use Rattle.aic_sources.proofs.PendingLaws.{asking-by, fast-asks-by, waits-are}
 use Rattle.aic_sources.proofs.SearchLaws.{Sees, chosen-by, chosen-some}
 
@@ -20,7 +19,7 @@ asks-from s p r e f = f ∙ ap (λ (w : ℕ). both w (s .enabled)) e ∙ asking-
 pub fast-from : (s : Aic) (f a m : ℕ) → f ≡ wordOf 32 (fast s) → a ≡ wordOf 32 (asking s) → m ≡ both f a → not (eqb m 0) ≡ fastAsks s
 fast-from s f a m e g h = ap (λ (w : ℕ). not (eqb w 0)) (h ∙ ap₂ both e g) ∙ fast-asks-by s
 
-pub chosen-from : (s : Aic) (f a w l r : ℕ) → f ≡ wordOf 32 (fast s) → a ≡ wordOf 32 (asking s) → w ≡ without a f → l ≡ floorAt (s .level) (s .depth)
+pub chosen-from : (s : Aic) (f a w l r : ℕ) → f ≡ wordOf 32 (fast s) → a ≡ wordOf 32 (asking s) → w ≡ without a f → l ≡ leastOf s
     → Found w (s .mode) l 32 r → r ≡ chosen s
 unfolding Sees
 chosen-from s f a w l r e g h i found =

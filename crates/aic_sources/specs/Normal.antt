@@ -1,11 +1,11 @@
 -- The normal side and its output (01, AIC, Normal side; 003, 27.7.3).
-use Prim.Native.Nat.{ℕ, _-_}
+use Prim.Native.Nat.{ℕ}
 use mathlib.Core.Bool.{Bool, not, _&&_, _||_}
 use lib.Dec.{eqb, ltb}
 use Rattle.words.specs.Counting.{anyBelow, allBelow, lowestBelow}
 use Rattle.aic_record.specs.declared.Aic.{Aic}
 use Rattle.aic_record.specs.Mode.{priority}
-use Rattle.aic_record.specs.Sound.{levelAt}
+use Rattle.aic_record.specs.Sound.{levelBelow, over}
 use Rattle.aic_sources.specs.Pending.{asking}
 use Rattle.aic_sources.specs.Fast.{fast, masked}
 
@@ -13,11 +13,11 @@ use Rattle.aic_sources.specs.Fast.{fast, masked}
 unfoldable pub waiting : Aic → ℕ → Bool
 waiting s k = asking s k && not (fast s k)
 
--- a priority strictly above the level of the last open handler, if one is open (003, 27.7.3.1)
+-- fewer than eight entries are open, and a priority is strictly above the level of the last one, if it has one (02, 3/12; 003, 27.7.3.1)
 unfoldable pub above : Aic → ℕ → Bool
-above s p = eqb (s .depth) 0 || ltb (levelAt s (s .depth - 1)) p
+above s p = ltb (s .depth) 8 && over (levelBelow (s .level) (s .depth)) p
 
--- a candidate waits, and its priority is above the level of the last open handler
+-- a candidate waits, and its priority may start over the open entries
 unfoldable pub candidate : Aic → ℕ → Bool
 candidate s k = waiting s k && above s (priority s k)
 

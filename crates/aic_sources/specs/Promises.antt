@@ -1,12 +1,13 @@
--- What is promised of the sources: when the outputs are active, which source is ahead, and that a start finds room.
-use Prim.Native.Nat.{ℕ, _-_, _^_, _<_, _≤_}
+-- What is promised of the sources: when the outputs are active, which source is ahead, and that none may start over eight entries.
+use Prim.Native.Nat.{ℕ, _^_, _<_, _≤_}
 use mathlib.Core.Path.{_≡_}
 use mathlib.Core.Bool.{true, false, not}
 use mathlib.Core.Logic.{_↔_, _≢_, _⊎_}
 use Rattle.words.specs.Word.{bit}
 use Rattle.aic_record.specs.declared.Aic.{Aic}
 use Rattle.aic_record.specs.Mode.{priority, kind, edge}
-use Rattle.aic_record.specs.Sound.{levelAt, sound}
+use Rattle.aic_record.specs.Sound.{levelBelow}
+use Rattle.aic_record.specs.Promises.{Over}
 use Rattle.aic_sources.specs.Pending.{active, pending, pendingWord}
 use Rattle.aic_sources.specs.Fast.{fast, fiq}
 use Rattle.aic_sources.specs.Normal.{candidate, ahead, chosen, irq}
@@ -33,11 +34,11 @@ pub record Promises : Type 0 where
       ↔ ((bit (s .mask) 1 ≡ false) × ((k : ℕ) × (k < 32) × (fast s k ≡ true) × (pending s k ≡ true) × (bit (s .enabled) k ≡ true)))
   -- a source is fast exactly if it is source 0 or forced (01, AIC, Fast side; 003, 27.7.4.1 and 27.7.4.5)
   pub fastIs : (s : Aic) (k : ℕ) → (fast s k ≡ true) ↔ ((k ≡ 0) ⊎ (bit (s .forced) k ≡ true))
-  -- a candidate is pending, enabled, not fast, and of a priority strictly above the level of the last open handler, if one is open
-  -- (01, AIC, Normal side; 003, 27.7.3.1)
+  -- a source is a candidate exactly if it is pending, enabled and not fast, fewer than eight entries are open, and its priority is strictly above
+  -- the level of the last one, if that has a level (01, AIC, Normal side; 02, 3/12; 003, 27.7.3.1)
   pub candidateIs : (s : Aic) (k : ℕ) → (candidate s k ≡ true)
       ↔ ((pending s k ≡ true) × (bit (s .enabled) k ≡ true) × (fast s k ≡ false)
-      × ((s .depth ≡ 0) ⊎ (levelAt s (s .depth - 1) < priority s k)))
+      × (s .depth < 8) × Over (levelBelow (s .level) (s .depth)) (priority s k))
   -- where there is a candidate the chosen source is one, and is ahead of every other (01, AIC, Normal side; 003, 27.7.3.1)
   pub chosenIs : (s : Aic) → SomeCandidate s → (chosen s < 32) × (candidate s (chosen s) ≡ true) × AheadOfOthers s (chosen s)
   -- it is the only one
@@ -51,8 +52,8 @@ pub record Promises : Type 0 where
   pub aheadThrough : (s : Aic) (a b c : ℕ) → ahead s a b ≡ true → ahead s b c ≡ true → ahead s a c ≡ true
   -- it compares any two different sources
   pub aheadEither : (s : Aic) (a b : ℕ) → a ≢ b → (ahead s a b ≡ true) ⊎ (ahead s b a ≡ true)
-  -- with a candidate, fewer than eight handlers of a sound record are open: a start finds room (01, AIC, A sound record; 003, 27.7.3.2)
-  pub room : (s : Aic) → sound s ≡ true → SomeCandidate s → s .depth < 8
+  -- with eight entries open no source is a candidate, whatever else the record holds (02, 3/12)
+  pub room : (s : Aic) → 8 ≤ s .depth → (k : ℕ) → candidate s k ≡ false
   -- each bit of IPR says whether its source is pending, enabled or not, and it has no other bit (01, AIC, Pending; 003, 27.8.8)
   pub iprBit : (s : Aic) (k : ℕ) → k < 32 → bit (pendingWord s) k ≡ pending s k
   pub iprBelow : (s : Aic) → pendingWord s < 2 ^ 32

@@ -4,9 +4,13 @@ use mathlib.Core.Path.{_≡_}
 use mathlib.Core.Bool.{Bool, true, false, _&&_}
 use mathlib.Core.List.{List}
 use mathlib.Core.Logic.{_⊎_}
-use lib.Dec.{leb}
+use lib.Dec.{ltb, leb}
 use lib.ListN.{getD}
+use Rattle.words.specs.Choice.{pick}
 use Rattle.words.specs.Word.{bit, wordOf}
+use Rattle.aic_record.specs.declared.Aic.{Aic}
+use Rattle.aic_record.specs.Sound.{levelBelow}
+use Rattle.aic_record.specs.Passes.{floorOver}
 use Rattle.aic_record.specs.Mode.{priorityOf}
 
 -- bit j of each of the 32 modes
@@ -20,6 +24,10 @@ rank mode k = priorityOf (getD mode k 0)
 -- source k waits, and its priority is no lower than the least that may start
 unfoldable pub mayStart : ℕ → List ℕ → ℕ → ℕ → Bool
 mayStart waiting mode floor k = bit waiting k && leb floor (rank mode k)
+
+-- the least priority that may start: with eight entries open 8, which no source has
+unfoldable pub leastOf : Aic → ℕ
+leastOf s = pick (ltb (s .depth) 8) (floorOver (levelBelow (s .level) (s .depth))) 8
 
 -- none of the sources below n may start, and best is 32
 pub record Nobody (waiting : ℕ) (mode : List ℕ) (floor n best : ℕ) : Type 0 where

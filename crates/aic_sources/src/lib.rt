@@ -8,7 +8,7 @@ ghost use Rattle.words.specs.Word.{bit, wordOf};
 ghost use Rattle.aic_sources.specs.Pending.{activeAt, asking, pendingWord, edgeWord};
 ghost use Rattle.aic_sources.specs.Fast.{fast, fastAsks, fiq};
 ghost use Rattle.aic_sources.specs.Normal.{chosen, irq};
-ghost use Rattle.aic_sources.specs.Search.{modeWord, Found};
+ghost use Rattle.aic_sources.specs.Search.{modeWord, leastOf, Found};
 use aic_record::Aic;
 
 // ---- pending sources, as words
@@ -130,12 +130,22 @@ fn fast_among(s: Aic, asks: u32) -> bool
     words::meet(fast_word(s), asks) != 0
 }
 
+// The least priority that may start: with eight entries open 8, which no source has.
+fn least_of(s: Aic) -> u32
+    ensures { λ r. ⌜ r ≡ leastOf s ⌝ }
+{
+    if 8 <= s.depth {
+        return 8;
+    }
+    aic_record::floor_of(s)
+}
+
 // The candidate that is ahead of all others, 32 if there is none.
 fn chosen_among(s: Aic, asks: u32) -> u32
     requires { ⌜ asks ≡ wordOf 32 (asking s) ⌝ }
     ensures { λ r. ⌜ r ≡ chosen s ⌝ }
 {
-    let least = aic_record::floor_of(s);
+    let least = least_of(s);
     let waits = words::drop_bits(asks, fast_word(s));
     search(waits, &s.mode, least)
 }

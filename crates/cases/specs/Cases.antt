@@ -37,15 +37,21 @@ raise k p = Write (svr + 4 * k) (vectorFor k) ∷ (ready k p ++ (Line k 1 ∷ []
 unfoldable pub answers : Aic → ℕ → ℕ → Bool
 answers s o v = eqb (step s (Read o) .refusal) carriedOut && eqb (step s (Read o) .value) v
 
--- a read of IVR starts source k: it answers k's vector, one handler more is open, and ISR names k
+-- a read of IVR starts source k: it answers k's vector, one entry more is open, and ISR names k
 unfoldable pub starts : Aic → ℕ → Bool
 starts s k =
-    answers s ivr (vectorFor k) && eqb (outputs (step s (Read ivr) .aic) .handlers) (outputs s .handlers + 1)
+    answers s ivr (vectorFor k) && eqb (outputs (step s (Read ivr) .aic) .entries) (outputs s .entries + 1)
     && answers (step s (Read ivr) .aic) isr k
 
--- a read of IVR answers SPU, and no handler more is open
+-- a read of IVR answers SPU and opens a mark: one entry more is open, and ISR answers 0 (02, 3/12)
+unfoldable pub marks : Aic → Bool
+marks s =
+    answers s ivr 0xEE && eqb (outputs (step s (Read ivr) .aic) .entries) (outputs s .entries + 1)
+    && answers (step s (Read ivr) .aic) isr 0
+
+-- a read of IVR answers SPU, and no entry more is open
 unfoldable pub startsNone : Aic → Bool
-startsNone s = answers s ivr 0xEE && eqb (outputs (step s (Read ivr) .aic) .handlers) (outputs s .handlers)
+startsNone s = answers s ivr 0xEE && eqb (outputs (step s (Read ivr) .aic) .entries) (outputs s .entries)
 
 -- bit k of IPR
 unfoldable pub pendingBit : Aic → ℕ → Bool
@@ -79,9 +85,18 @@ lowerNumberStarts = starts (ran (raise 6 4 ++ raise 7 4)) 6 && starts (ran (rais
 unfoldable pub atLevelThree : ℕ → Aic
 atLevelThree p = ran (raise 9 3 ++ (Read ivr ∷ raise 10 p))
 
--- level 3 is open and priority 3 waits: IRQ is inactive, and IVR answers SPU
+-- there source 10 waits at priority 3, IVR is read, and then these steps are taken
+unfoldable pub spuriousThen : List Step → Aic
+spuriousThen xs = run (atLevelThree 3) (Read ivr ∷ xs)
+
+-- level 3 is open and priority 3 waits: IRQ is inactive; IVR answers SPU and opens a mark, so that two entries are open, ISR answers 0 and IRQ is
+-- inactive; after one close ISR answers 9 and IRQ is inactive still; after the second IRQ is active (02, 3/12)
 unfoldable pub equalPriorityWaits : Bool
-equalPriorityWaits = not (outputs (atLevelThree 3) .irq) && startsNone (atLevelThree 3)
+equalPriorityWaits =
+    not (outputs (atLevelThree 3) .irq) && marks (atLevelThree 3)
+    && eqb (outputs (spuriousThen []) .entries) 2 && not (outputs (spuriousThen []) .irq)
+    && answers (spuriousThen (Write eoicr 0 ∷ [])) isr 9 && not (outputs (spuriousThen (Write eoicr 0 ∷ [])) .irq)
+    && outputs (spuriousThen (Write eoicr 0 ∷ Write eoicr 0 ∷ [])) .irq
 
 -- priority 4 waits instead: IRQ is active, and source 10 starts
 unfoldable pub nextPriorityNests : Bool
@@ -113,11 +128,11 @@ forcedIsFast =
 unfoldable pub allLevels : Aic
 allLevels = ran (tower 8 ++ raise 9 7)
 
--- all levels open: IVR answers SPU, and eight handlers are open
+-- all levels open: IVR answers SPU, and eight entries are open
 unfoldable pub eightAtMost : Bool
-eightAtMost = startsNone allLevels && eqb (outputs allLevels .handlers) 8
+eightAtMost = startsNone allLevels && eqb (outputs allLevels .entries) 8
 
--- EOICR is written with no handler open, while source 9 waits: the record is the same
+-- EOICR is written with no entry open, while source 9 waits: the record is the same
 unfoldable pub noneToClose : Bool
 noneToClose = same (step (ran (raise 9 3)) (Write eoicr 0) .aic) (ran (raise 9 3))
 

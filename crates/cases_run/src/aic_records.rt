@@ -1,4 +1,4 @@
-// AIC: no start is refused; which records are, by 12 (01, AIC, Configuration; A sound record).
+// AIC: no start is refused; which records are, by 12 (01, AIC, Configuration; A sound record; 02, 3/12).
 use super::say;
 use aic_record::Aic;
 
@@ -14,39 +14,82 @@ fn look(s: Aic) -> u32 {
     a.refusal
 }
 
-// With a source and a level in a slot of the handlers, of which so many are open.
-fn handler(s: Aic, slot: u32, source: u8, level: u8, depth: u32) -> Aic {
+// With a source and a level in a slot of the entries, of which so many are open.
+fn entry(s: Aic, slot: u32, source: u8, level: u8, depth: u32) -> Aic {
     let t = aic_record::put_handler(s, slot, source, level, depth);
     say::four(slot, source as u32, level as u32, depth, look(t));
     t
 }
 
-// Eight at the levels 0 to 7, and a ninth.
+// Eight handlers at the levels 0 to 7, and a ninth.
 fn tower(s: Aic) {
-    let a = handler(s, 0, 1, 0, 1);
-    let b = handler(a, 1, 2, 1, 2);
-    let c = handler(b, 2, 3, 2, 3);
-    let d = handler(c, 3, 4, 3, 4);
-    let e = handler(d, 4, 5, 4, 5);
-    let f = handler(e, 5, 6, 5, 6);
-    let g = handler(f, 6, 7, 6, 7);
-    let h = handler(g, 7, 8, 7, 8);
-    handler(h, 8, 9, 7, 9);
+    let a = entry(s, 0, 1, 0, 1);
+    let b = entry(a, 1, 2, 1, 2);
+    let c = entry(b, 2, 3, 2, 3);
+    let d = entry(c, 3, 4, 3, 4);
+    let e = entry(d, 4, 5, 4, 5);
+    let f = entry(e, 5, 6, 5, 6);
+    let g = entry(f, 6, 7, 6, 7);
+    let h = entry(g, 7, 8, 7, 8);
+    entry(h, 8, 9, 7, 9);
 }
 
 // Levels and sources at their limits, a second level below, at and above the first, and slots that are not in use.
 fn handlers(s: Aic) {
-    handler(s, 0, 9, 7, 1);
-    handler(s, 0, 9, 8, 1);
-    handler(s, 0, 0, 3, 1);
-    handler(s, 0, 1, 3, 1);
-    handler(s, 0, 32, 3, 1);
-    let t = handler(s, 0, 31, 3, 1);
-    handler(t, 1, 10, 2, 2);
-    handler(t, 1, 10, 3, 2);
-    handler(t, 1, 10, 4, 2);
-    handler(s, 0, 9, 0, 0);
-    handler(s, 0, 0, 3, 0);
+    entry(s, 0, 9, 7, 1);
+    entry(s, 0, 9, 8, 1);
+    entry(s, 0, 9, 255, 1);
+    entry(s, 0, 1, 3, 1);
+    entry(s, 0, 32, 3, 1);
+    let t = entry(s, 0, 31, 3, 1);
+    entry(t, 1, 10, 2, 2);
+    entry(t, 1, 10, 3, 2);
+    entry(t, 1, 10, 4, 2);
+    entry(s, 0, 9, 0, 0);
+    entry(s, 0, 0, 3, 0);
+    entry(s, 0, 0, 255, 0);
+}
+
+// A mark with nothing below it has no level, which 255 stands for; so has a mark on it, and a handler there any level.
+fn marks_alone(s: Aic) {
+    entry(s, 0, 0, 0, 1);
+    entry(s, 0, 0, 3, 1);
+    entry(s, 0, 0, 254, 1);
+    let t = entry(s, 0, 0, 255, 1);
+    entry(t, 1, 0, 0, 2);
+    entry(t, 1, 0, 255, 2);
+    entry(t, 1, 9, 0, 2);
+    entry(t, 1, 9, 7, 2);
+    entry(t, 1, 9, 8, 2);
+    entry(t, 1, 9, 255, 2);
+}
+
+// A mark on a handler has its level, so has a mark on that, and a handler there a higher one.
+fn marks_over(s: Aic) {
+    let t = entry(s, 0, 9, 3, 1);
+    entry(t, 1, 0, 0, 2);
+    entry(t, 1, 0, 2, 2);
+    entry(t, 1, 0, 4, 2);
+    entry(t, 1, 0, 255, 2);
+    let u = entry(t, 1, 0, 3, 2);
+    entry(u, 2, 0, 255, 3);
+    entry(u, 2, 0, 3, 3);
+    entry(u, 2, 10, 3, 3);
+    entry(u, 2, 10, 255, 3);
+    entry(u, 2, 10, 4, 3);
+}
+
+// Eight marks, and a ninth.
+fn eight_marks(s: Aic) {
+    let a = entry(s, 0, 0, 255, 1);
+    let b = entry(a, 1, 0, 255, 2);
+    let c = entry(b, 2, 0, 255, 3);
+    let d = entry(c, 3, 0, 255, 4);
+    let e = entry(d, 4, 0, 255, 5);
+    let f = entry(e, 5, 0, 255, 6);
+    let g = entry(f, 6, 0, 255, 7);
+    let h = entry(g, 7, 0, 255, 8);
+    entry(h, 8, 0, 255, 9);
 }
 
 // With a mode of source 9, a word of memories, one of debug control and one of forced sources.
@@ -91,6 +134,9 @@ pub(crate) fn all() {
     say::heading(b"slot, source, level, depth\n");
     tower(s);
     handlers(s);
+    marks_alone(s);
+    marks_over(s);
+    eight_marks(s);
     say::heading(b"mode, memory, debug, forced\n");
     words(s);
     first_of_all(stored(s, 0, 0, 0, 1));

@@ -83,7 +83,7 @@ module _ (m : Machine) where
       go : KindOf (m .kind) → Small (shown m)
       go (isAic k) =
           let e = sound-aic m k ∙ s in
-          rw (aic-shows k) (rw (aic .outputsSound (m .aic) e) (one-small (irq (m .aic)), one-small (fiq (m .aic)), omega (arith, record-kept .soundIs (m .aic) .0 e .handlers)))
+          rw (aic-shows k) (rw (aic .outputsSound (m .aic) e) (one-small (irq (m .aic)), one-small (fiq (m .aic)), omega (arith, record-kept .soundIs (m .aic) .0 e .entries)))
       go (isCore k) = rw (core-shows k) (one-small (coreOutputs (m .core) .irq), one-small (coreOutputs (m .core) .fiq), omega arith)
       go (isCic k) =
           let e = sound-cic m k ∙ s in

@@ -89,9 +89,9 @@ pub record Promises : Type 0 where
   pub noneSound : (m : Machine) → isKind (m .kind) ≡ false → sound m ≡ false
   -- ---- what is shown
 
-  -- an AIC: IRQ active, FIQ active, handlers open (01, House trace)
+  -- an AIC: IRQ active, FIQ active, entries open (01, House trace; 02, 3/12)
   pub aicShows : (m : Machine) → m .kind ≡ 0
-      → Tells (shown m .first) (aicOutputs (m .aic) .irq) × Tells (shown m .second) (aicOutputs (m .aic) .fiq) × (shown m .third ≡ aicOutputs (m .aic) .handlers)
+      → Tells (shown m .first) (aicOutputs (m .aic) .irq) × Tells (shown m .second) (aicOutputs (m .aic) .fiq) × (shown m .third ≡ aicOutputs (m .aic) .entries)
   -- a CoreInterrupt: IRQ active, FIQ active, 0 (01, House trace)
   pub coreShows : (m : Machine) → m .kind ≡ 1
       → Tells (shown m .first) (coreOutputs (m .core) .irq) × Tells (shown m .second) (coreOutputs (m .core) .fiq) × (shown m .third ≡ 0)

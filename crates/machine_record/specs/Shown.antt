@@ -12,9 +12,9 @@ use Rattle.kinds.specs.Kinds.{byKind}
 use Rattle.machine_record.specs.declared.Columns.{Columns}
 use Rattle.machine_record.specs.declared.Machine.{Machine}
 
--- IRQ active, FIQ active, handlers open (01, House trace)
+-- IRQ active, FIQ active, entries open (01, House trace; 02, 3/12)
 abbrev pub aicColumns : AicSignals → Columns
-aicColumns o = record { first = one (o .irq); second = one (o .fiq); third = o .handlers }
+aicColumns o = record { first = one (o .irq); second = one (o .fiq); third = o .entries }
 
 -- IRQ active, FIQ active, 0 (01, House trace)
 abbrev pub coreColumns : CoreSignals → Columns

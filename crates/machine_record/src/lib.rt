@@ -147,14 +147,14 @@ fn one_if(t: bool) -> u32
     0
 }
 
-// IRQ active, FIQ active, handlers open.
+// IRQ active, FIQ active, entries open.
 fn aic_columns(o: aic::Signals) -> Columns
     ensures { λ r. ⌜ r ≡ aicColumns o ⌝ }
 {
     Columns {
         first: one_if(o.irq),
         second: one_if(o.fiq),
-        third: o.handlers,
+        third: o.entries,
     }
 }
 

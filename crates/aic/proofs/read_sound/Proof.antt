@@ -8,7 +8,7 @@ use Rattle.aic.proofs.read_sound.Statement.{statement}
 use Rattle.aic.proofs.read_sound.Tie as tie
 
 read-at-requires : tie.Need-read-at-requires
-read-at-requires c κs = sound-is _ (c .before .before .before .pre) .handlers
+read-at-requires c κs = sound-is _ (c .before .before .before .pre) .entries
 
 returns : tie.Need-returns
 unfolding read

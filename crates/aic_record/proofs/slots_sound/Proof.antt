@@ -1,37 +1,31 @@
 -- That `slots_sound` of src/lib.rt keeps its contract.
-use lib.ListN.{getD}
-use mir.Syntax.{w8}
-use mir.Val.{Fits}
-use mathlib.Core.Path.{_≡_}
+use mathlib.Core.Path.{_≡_, sym}
 use Prim.Native.Nat.{_-_, _≤_}
 use native.Mathlib.Omega.{arith}
 use Rattle.words.specs.Counting.{allBelow}
 use Rattle.words.proofs.CountingLaws.{all-none-yet, all-more, at-end}
-use Rattle.aic_record.specs.Passes.{floorAt, slotSound}
-use Rattle.aic_record.proofs.PassLaws.{floor-none, floor-more, slot-is}
+use Rattle.aic_record.specs.Sound.{levelBelow}
+use Rattle.aic_record.specs.Passes.{slotSound}
+use Rattle.aic_record.proofs.SoundLaws.{below-none, below-next}
+use Rattle.aic_record.proofs.PassLaws.{slot-is}
 use borrow.Author.Needs.{needs}
 use Rattle.aic_record.proofs.slots_sound.Statement.{statement}
 use Rattle.aic_record.proofs.slots_sound.Tie as tie
 
 abbrev Inv-loop : tie.InvT-loop
-Inv-loop depth source level ok₀ floor₀ i₀ ok floor i = (i ≤ 8) × (ok ≡ allBelow i (slotSound source level depth)) × (floor ≡ floorAt level i)
+Inv-loop depth source level ok₀ below₀ i₀ ok below i = (i ≤ 8) × (ok ≡ allBelow i (slotSound source level depth)) × (below ≡ levelBelow level i)
 
 abbrev μ-loop : tie.MeasureT-loop
-μ-loop depth source level ok₀ floor₀ i₀ ok floor i = 8 - i
+μ-loop depth source level ok₀ below₀ i₀ ok below i = 8 - i
 
 loop-holds : tie.Need-loop-holds Inv-loop μ-loop
-loop-holds c = (omega arith, all-none-yet _, floor-none _)
-
-add-floor : tie.Need-add-floor Inv-loop μ-loop
-add-floor c =
-    let h : Fits w8 (getD (c .before .before .before .args .t2) (c .before .before .loop .i) 0) = search needs in
-    search needs
+loop-holds c = (omega arith, all-none-yet _, sym (below-none _))
 
 loop-again : tie.Need-loop-again Inv-loop μ-loop
 loop-again c =
     let a = c .before .before .before .args in
     let l = c .before .before .loop in
-    (omega arith, all-more (slotSound (a .t1) (a .t2) (a .depth)) (l .i) (l .inv .1) (slot-is (a .t1) (a .t2) (a .depth) (l .i) (l .floor) (l .inv .2) (c .slot-sound .ensures)), floor-more (a .t2) (l .i))
+    (omega arith, all-more (slotSound (a .t1) (a .t2) (a .depth)) (l .i) (l .inv .1) (slot-is (a .t1) (a .t2) (a .depth) (l .i) (l .below) (l .inv .2) (c .slot-sound .ensures)), sym (below-next (a .t2) (l .i)))
 
 returns : tie.Need-returns Inv-loop μ-loop
 returns c =
@@ -50,8 +44,6 @@ slots-sound-spec =
     (λ c. search needs)
     (λ c κs. search needs)
     (λ c. search needs)
-    (λ c. search needs)
-    add-floor
     (λ c. search needs)
     (λ c. search needs)
     loop-again

@@ -9,9 +9,9 @@ returns : tie.Need-returns
 returns c = c .start-now .ensures ∙ ivr-some _ _ (c .before .before .chosen-source .ensures) (c .before .if1 .taken)
 
 returns-2 : tie.Need-returns-2
-returns-2 c = c .answer-of .ensures ∙ ivr-none _ _ (c .before .before .chosen-source .ensures) (c .before .if1 .left)
+returns-2 c = c .answer-of .ensures ∙ ivr-none _ _ _ (c .before .before .before .chosen-source .ensures) (c .before .before .if1 .left) (c .before .open-mark .ensures)
 
 pub read-ivr-spec : {M : Type 1} → statement M
 read-ivr-spec =
     tie.close
-    (tie.spec (λ c κs. search needs) (λ c κs. search needs) returns (λ c κs. search needs) returns-2)
+    (tie.spec (λ c κs. search needs) (λ c κs. search needs) returns (λ c κs. search needs) (λ c κs. search needs) returns-2)
