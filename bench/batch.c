@@ -1,7 +1,7 @@
-/* Lists many traces in one process through the proved library, for machines whose Rust cannot link its x86-64 code.
+/* Serves many traces and tables in one process through the proved library, for machines whose Rust cannot link its x86-64 code.
  *
  * Standard input has requests and standard output the replies, all numbers 32 bits, lowest byte first:
- *   request: length of the trace, step limit, room for the listing, then the trace;
+ *   request: what is asked (0 the listing of a trace, 1 the stack of a table), its length, step limit (0 for a table), room, then the trace or table;
  *   reply:   bytes written, bytes changed behind them, then the bytes written.
  * It ends with 0 at the end of the input, and with 1 at a request that it cannot serve.
  *
@@ -13,12 +13,14 @@ typedef __UINT8_TYPE__ uint8_t;
 typedef __UINT32_TYPE__ uint32_t;
 
 enum { READ = 0, WRITE = 1, EXIT = 231, LARGEST = 1 << 22, UNTOUCHED = 0xA5 };
+enum { LISTING = 0, STACK = 1 };
 
-/* The proved function: include/wisteria.h says what each number counts. */
+/* The proved functions: include/wisteria.h says what each number counts. */
 size_t wisteria_list(const uint8_t *trace, size_t trace_len, uint32_t limit, uint8_t *out, size_t out_len);
+size_t wisteria_stack(const uint8_t *text, size_t text_len, uint8_t *out, size_t out_len);
 
-static uint8_t trace[LARGEST];
-static uint8_t listing[LARGEST];
+static uint8_t input[LARGEST];
+static uint8_t output[LARGEST];
 
 static long system_call(long number, long first, void *second, size_t third)
 {
@@ -64,25 +66,25 @@ static void put_number(uint8_t *bytes, uint32_t value)
 
 static void serve(const uint8_t *request)
 {
-    uint32_t length = number(request), limit = number(request + 4), room = number(request + 8);
-    if (length > LARGEST || room > LARGEST || move_all(READ, 0, trace, length) < length)
+    uint32_t asked = number(request), length = number(request + 4), limit = number(request + 8), room = number(request + 12);
+    if (asked > STACK || length > LARGEST || room > LARGEST || move_all(READ, 0, input, length) < length)
         end(1);
     for (uint32_t place = 0; place < room; place++)
-        listing[place] = UNTOUCHED;
-    size_t written = wisteria_list(trace, length, limit, listing, room);
+        output[place] = UNTOUCHED;
+    size_t written = asked == LISTING ? wisteria_list(input, length, limit, output, room) : wisteria_stack(input, length, output, room);
     uint32_t changed = 0;
     for (size_t place = written; place < room; place++)
-        changed += listing[place] != UNTOUCHED;
+        changed += output[place] != UNTOUCHED;
     uint8_t reply[8];
     put_number(reply, (uint32_t)written);
     put_number(reply + 4, changed);
     move_all(WRITE, 1, reply, sizeof reply);
-    move_all(WRITE, 1, listing, written < room ? written : room);
+    move_all(WRITE, 1, output, written < room ? written : room);
 }
 
 __attribute__((used)) static void batch(void)
 {
-    uint8_t request[12];
+    uint8_t request[16];
     size_t there;
     while ((there = move_all(READ, 0, request, sizeof request)) == sizeof request)
         serve(request);

@@ -1,4 +1,5 @@
-/* A caller in C: the example of document 01 through the proved library and its header, the empty trace, and traces that end at a limit and beside it.
+/* A caller in C: the example of document 01 through the proved library and its header, the empty trace, traces that end at a limit and beside it, and
+ * typed tables with a figure and with each refusal.
  * It prints what differs, and ends with 1 where something does. */
 #include "wisteria.h"
 
@@ -100,10 +101,83 @@ static void lengths(void)
     ends("65,537 bytes", zeros, sizeof zeros, 1, 0, WISTERIA_TRACE_TOO_LONG, WISTERIA_LONGEST);
 }
 
+/* A table: a row for source 0, one for source 1, the same row for all others, the forced word and the mark's frame. Any of them may be any text. */
+static const char *table(const char *nought, const char *one, const char *others, const char *forced, const char *mark)
+{
+    static char text[1000];
+    size_t at = (size_t)sprintf(text, "%s\n%s\n", nought, one);
+    int source;
+    for (source = 2; source < 32; source++)
+        at += (size_t)sprintf(text + at, "%s\n", others);
+    sprintf(text + at, "%s\n%s", forced, mark);
+    return text;
+}
+
+/* The line of a text, into rooms of every size: its first bytes, and the room behind them untouched. */
+static void said(const char *what, const char *text, size_t length, const char *line)
+{
+    static uint8_t out[WISTERIA_STACK_ROOM + 3], same[sizeof out];
+    size_t whole = strlen(line), room;
+    memset(same, 0xA5, sizeof same);
+    expect(what, whole <= WISTERIA_STACK_ROOM);
+    for (room = 0; room <= sizeof out; room++) {
+        size_t fits = whole < room ? whole : room;
+        memset(out, 0xA5, sizeof out);
+        expect(what, wisteria_stack((const uint8_t *)text, length, out, room) == fits);
+        expect(what, memcmp(out, line, fits) == 0);
+        expect(what, memcmp(out + fits, same, sizeof out - fits) == 0);
+    }
+}
+
+static void stack_is(const char *what, const char *text, const char *line)
+{
+    said(what, text, strlen(text), line);
+}
+
+/* Figures in bytes, and 14 at each limit (02, 4/12). Source 1 has a level to itself unless its row says otherwise. */
+static void stacks(void)
+{
+    stack_is("one source and seven marks", table("0 0 0", "5 3 100", "0 0 0", "0", "10"), "170 bytes\n");
+    stack_is("two levels and six marks", table("0 0 0", "5 3 100", "0 0 20", "0", "10"), "180 bytes\n");
+    stack_is("one level and seven marks", table("0 0 0", "5 3 100", "5 0 101", "0", "10"), "171 bytes\n");
+    stack_is("source 0 does not count", table("7 0 9000", "5 3 100", "0 0 0", "0", "10"), "170 bytes\n");
+    stack_is("a forced source does not count", table("0 0 0", "5 3 9000", "0 0 0", "2", "10"), "80 bytes\n");
+    stack_is("bit 0 is ignored", table("0 0 0", "5 3 100", "0 0 0", "1", "10"), "170 bytes\n");
+    stack_is("nothing", table("0 0 0", "0 0 0", "0 0 0", "0", "0"), "0 bytes\n");
+    stack_is("the most", table("7 3 65535", "7 3 65535", "7 3 65535", "0xFFFFFFFF", "65535"), "524280 bytes\n");
+    stack_is("priority 8", table("0 0 0", "8 0 0", "0 0 0", "0", "0"), "E 14\n");
+    stack_is("type 4", table("0 0 0", "0 4 0", "0 0 0", "0", "0"), "E 14\n");
+    stack_is("a frame of 65,536", table("0 0 0", "0 0 65536", "0 0 0", "0", "0"), "E 14\n");
+    stack_is("a mark of 65,536", table("0 0 0", "0 0 0", "0 0 0", "0", "65536"), "E 14\n");
+    stack_is("source 0 beyond its limit", table("0 0 65536", "0 0 0", "0 0 0", "0", "0"), "E 14\n");
+    stack_is("a forced source beyond its limit", table("0 0 0", "8 0 0", "0 0 0", "0xFFFFFFFF", "0"), "E 14\n");
+}
+
+/* How a table is typed: forms that are read, and each slip with its offset. */
+static void typing(void)
+{
+    static char longest[WISTERIA_LONGEST + 1];
+    stack_is("hexadecimal, of both cases", table("0 0 0", "0x5 0x03 0x0aB", "0 0 0", "0xfFfFfFf0", "0xA"), "241 bytes\n");
+    stack_is("comments and white space", table("0\t0\r0#note 1", "5 3\n# 7\n100", "0 0 0", " 0", "10 # end"), "170 bytes\n");
+    stack_is("the empty text", "", "E 8 0\n");
+    stack_is("the last number missing", table("0 0 0", "0 0 0", "0 0 0", "0", ""), "E 8 194\n");
+    stack_is("a number too many", table("0 0 0", "0 0 0", "0 0 0", "0", "0 0"), "E 8 196\n");
+    stack_is("a letter", table("0 0 0", "0 O 0", "0 0 0", "0", "0"), "E 8 8\n");
+    stack_is("0X", table("0 0 0", "0X1 0 0", "0 0 0", "0", "0"), "E 8 6\n");
+    stack_is("no digit", table("0 0 0x", "0 0 0", "0 0 0", "0", "0"), "E 8 4\n");
+    stack_is("33 bits", table("0 0 0", "0 0 0", "0 0 0", "4294967296", "0"), "E 8 192\n");
+    stack_is("8 before 14", table("8 0 0", "0 0 0", "0 0 0", "0", "x"), "E 8 194\n");
+    memset(longest, ' ', sizeof longest);
+    said("65,536 bytes", longest, WISTERIA_LONGEST, "E 8 65536\n");
+    said("65,537 bytes", longest, sizeof longest, "E 11 65536\n");
+}
+
 int main(void)
 {
     worked_example();
     endings();
     lengths();
+    stacks();
+    typing();
     return wrong;
 }

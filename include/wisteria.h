@@ -1,15 +1,15 @@
-/* Lists and plays recorded traces of register accesses and line changes, for callers in C and C++.
+/* Lists and plays recorded traces of register accesses and line changes, and says the stack that a priority table needs, for callers in C and C++.
  *
- * The functions are those of crates/exports, proved to answer what its contracts say for every trace and every limit. Link
+ * The functions are those of crates/exports, proved to answer what its contracts say for every trace, limit and text. Link
  * libexports.a, which `rt staticlib exports` writes (x86-64); bench/prepare also makes it for other machines.
  *
  * What a caller answers for:
- *   - trace points to trace_len bytes that nothing changes during the call, and out to out_len bytes that nothing else uses;
+ *   - trace (or text) points to trace_len (text_len) bytes that nothing changes during the call, and out to out_len bytes that nothing else uses;
  *   - neither pointer is null, not even where its length is 0: it is then the address of anything, and not followed;
- *   - trace and out do not overlap, not even in one byte.
+ *   - trace (or text) and out do not overlap, not even in one byte.
  * No function keeps a pointer, allocates memory, reads or writes anything else, or fails. Each may be called from several threads at once.
  *
- * A trace longer than 65,536 bytes is refused as a whole, so at most 65,537 bytes of a longer one need to be handed over.
+ * A trace or text longer than 65,536 bytes is refused as a whole, so at most 65,537 bytes of a longer one need to be handed over.
  */
 #ifndef WISTERIA_H
 #define WISTERIA_H
@@ -21,12 +21,15 @@
 extern "C" {
 #endif
 
-/* The longest trace that is played, in bytes, and the most steps that the program `wisteria` plays of one. */
+/* The longest trace that is played and the longest text that is read, in bytes; and the most steps that the program `wisteria` plays of a trace. */
 #define WISTERIA_LONGEST 65536
 #define WISTERIA_LIMIT 20000
 
 /* A number of bytes that any listing of at most `limit` steps fits, where `limit` is at most 99,999. */
 #define WISTERIA_ROOM(limit) (29 * (size_t)(limit) + 58)
+
+/* A number of bytes that the line of any table fits. */
+#define WISTERIA_STACK_ROOM 13
 
 /* How a trace ended: played to its end, or by one of the refusals that end a trace. */
 enum {
@@ -53,6 +56,20 @@ uint32_t wisteria_refusal(const uint8_t *trace, size_t trace_len, uint32_t limit
 /* Where it ended, in bytes from the start of the trace: for 8, 9 and 10 the first byte of the number at fault, for 7 that of the next step,
  * for 11 it is 65,536, and for 0 the length of the trace. */
 size_t wisteria_offset(const uint8_t *trace, size_t trace_len, uint32_t limit);
+
+/* Writes one line about a priority table of the AIC to the start of out: how many bytes of stack the open handlers and spurious marks can take
+ * at once.
+ * The text has 98 numbers, in decimal or behind 0x in hexadecimal, parted by spaces, tabs, CR or LF; a comment begins with # and ends with its line.
+ * For sources 0 to 31 in order they are priority (0 to 7), type (0 to 3) and frame (bytes that its handler takes, 0 to 65,535); then a word whose
+ * bit n says that source n is forced to the fast side (bit 0 is ignored); then the frame of a spurious mark (bytes, 0 to 65,535).
+ * The line is one of these, ended by '\n', with numbers in decimal:
+ *   N bytes      the figure, in bytes, at most 524,280;
+ *   E 14         a priority, type or frame is beyond its limit, be its source fast or not;
+ *   E 8 OFFSET   a number is missing, is no number or passes 32 bits, or something stands behind the last one: where it begins, in bytes from the
+ *                start of the text, or text_len where it is missing. This comes before 14;
+ *   E 11 65536   the text has more than 65,536 bytes, whatever they are.
+ * Answers the number of bytes written, at most out_len, with what finds no room dropped as above. */
+size_t wisteria_stack(const uint8_t *text, size_t text_len, uint8_t *out, size_t out_len);
 
 #ifdef __cplusplus
 }

@@ -1,4 +1,4 @@
-//! The other side as one program that lists many traces, for machines that cannot link the library into this process.
+//! The other side as one program that serves many cases, for machines that cannot link the library into this process.
 //!
 //! Requests and replies are those of `batch.c`: numbers of 32 bits, lowest byte first, and bytes.
 
@@ -10,64 +10,94 @@ use std::thread;
 use crate::compare::Outcome;
 use crate::generate::Case;
 use crate::program::{Program, PATIENCE};
+use crate::stack::generate::Typed;
 
-/// The step limit and room of a request, and its trace.
+/// What is printed for the bytes of a request.
+#[derive(Clone, Copy, Debug, PartialEq, Eq)]
+pub enum Asked {
+    /// The listing of a trace.
+    Listing = 0,
+    /// The line of a typed table.
+    Stack = 1,
+}
+
+/// What is asked for, the step limit (0 for a table), the room, and the trace or table.
 pub struct Request {
+    pub asked: Asked,
     pub limit: u32,
     pub room: usize,
-    pub trace: Vec<u8>,
+    pub input: Vec<u8>,
 }
 
 impl Request {
-    pub fn new(case: &Case) -> Request {
+    pub fn listing(case: &Case) -> Request {
         Request {
+            asked: Asked::Listing,
             limit: case.limit,
             room: case.ample_room(),
-            trace: case.trace.clone(),
+            input: case.trace.clone(),
+        }
+    }
+
+    pub fn stack(typed: &Typed) -> Request {
+        Request {
+            asked: Asked::Stack,
+            limit: 0,
+            room: typed.ample_room(),
+            input: typed.text.clone(),
         }
     }
 
     fn write(&self, to: &mut impl Write) -> io::Result<()> {
-        write_number(to, self.trace.len() as u32)?;
+        write_number(to, self.asked as u32)?;
+        write_number(to, self.input.len() as u32)?;
         write_number(to, self.limit)?;
         write_number(to, self.room as u32)?;
-        to.write_all(&self.trace)?;
+        to.write_all(&self.input)?;
         to.flush()
     }
 
     /// The next request, or nothing at the end of the input.
     fn read(from: &mut impl Read) -> io::Result<Option<Request>> {
-        let Some(length) = read_first_number(from)? else {
-            return Ok(None);
+        let asked = match read_first_number(from)? {
+            None => return Ok(None),
+            Some(0) => Asked::Listing,
+            Some(1) => Asked::Stack,
+            Some(_) => return Err(io::ErrorKind::InvalidData.into()),
         };
+        let mut input = vec![0; read_number(from)? as usize];
         let limit = read_number(from)?;
         let room = read_number(from)? as usize;
-        let mut trace = vec![0; length as usize];
-        from.read_exact(&mut trace)?;
-        Ok(Some(Request { limit, room, trace }))
+        from.read_exact(&mut input)?;
+        Ok(Some(Request {
+            asked,
+            limit,
+            room,
+            input,
+        }))
     }
 }
 
-/// What comes back: how many bytes behind the listing changed, and the listing.
+/// What comes back: how many bytes behind the text changed, and the text.
 pub struct Reply {
     pub changed: u32,
-    pub listing: Vec<u8>,
+    pub text: Vec<u8>,
 }
 
 impl Reply {
     fn write(&self, to: &mut impl Write) -> io::Result<()> {
-        write_number(to, self.listing.len() as u32)?;
+        write_number(to, self.text.len() as u32)?;
         write_number(to, self.changed)?;
-        to.write_all(&self.listing)?;
+        to.write_all(&self.text)?;
         to.flush()
     }
 
     fn read(from: &mut impl Read) -> io::Result<Reply> {
         let written = read_number(from)?;
         let changed = read_number(from)?;
-        let mut listing = vec![0; written as usize];
-        from.read_exact(&mut listing)?;
-        Ok(Reply { changed, listing })
+        let mut text = vec![0; written as usize];
+        from.read_exact(&mut text)?;
+        Ok(Reply { changed, text })
     }
 }
 
@@ -75,10 +105,10 @@ impl Reply {
 pub fn serve(
     from: &mut impl Read,
     to: &mut impl Write,
-    list: impl Fn(&Request) -> Reply,
+    reply: impl Fn(&Request) -> Reply,
 ) -> io::Result<()> {
     while let Some(request) = Request::read(from)? {
-        list(&request).write(to)?;
+        reply(&request).write(to)?;
     }
     Ok(())
 }
@@ -103,17 +133,17 @@ impl Batch {
         }
     }
 
-    pub fn list(&mut self, case: &Case) -> Outcome {
+    pub fn ask(&mut self, request: Request) -> Outcome {
         let running = match self.running.take() {
             Some(running) => running,
             None => Running::start(self.program.command())
                 .map_err(|error| format!("the program does not start: {error}"))?,
         };
-        let (running, reply) = running.ask(Request::new(case))?;
+        let (running, reply) = running.ask(request)?;
         self.running = Some(running);
         match reply.changed {
-            0 => Ok(reply.listing),
-            changed => Err(format!("{changed} bytes behind the listing changed")),
+            0 => Ok(reply.text),
+            changed => Err(format!("{changed} bytes behind the text changed")),
         }
     }
 }

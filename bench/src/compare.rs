@@ -1,47 +1,130 @@
-//! The comparison itself: another side lists the same traces, and every byte has to be the model's.
+//! The comparison itself: another side prints a text for the same cases, and every byte has to be the model's.
 
 use std::time::{Duration, Instant};
 
+use crate::batch::Request;
 use crate::coverage::Coverage;
 use crate::generate::Case;
-use crate::listing::{listing, Text};
-use crate::trace::{pieces, play};
+use crate::listing::Text;
+use crate::trace::{pieces, play, PROGRAM_LIMIT};
 
-/// What the other side makes of a case: its listing, or what went wrong.
+/// What the other side makes of a case: its text, or what went wrong.
 pub type Outcome = Result<Vec<u8>, String>;
 
+/// What is compared: bytes that both sides print a text for, into so much room.
+pub trait Subject: Clone {
+    /// What counts what the cases reach.
+    type Coverage: Default;
+
+    /// Which sort of case it is.
+    fn name(&self) -> &'static str;
+
+    /// What is handed over.
+    fn input(&self) -> &[u8];
+
+    /// How many bytes the text may have; none said: as many as it has.
+    fn room(&self) -> Option<usize>;
+
+    /// The model's text, whatever the room; what the case reaches is counted.
+    fn by_model(&self, coverage: &mut Self::Coverage) -> Vec<u8>;
+
+    /// The same through a process that serves many.
+    fn request(&self) -> Request;
+
+    /// The same by the linked library.
+    #[cfg(feature = "exports")]
+    fn by_library(&self) -> Outcome;
+
+    /// What a program of its own makes of it has all the room it wants.
+    fn for_program(self) -> Self;
+
+    /// A smaller case that still differs, if one is found in some time.
+    fn smaller(&self, time: Duration, differs: impl FnMut(&Self) -> bool) -> Self;
+}
+
+impl Subject for Case {
+    type Coverage = Coverage;
+
+    fn name(&self) -> &'static str {
+        self.name
+    }
+
+    fn input(&self) -> &[u8] {
+        &self.trace
+    }
+
+    fn room(&self) -> Option<usize> {
+        self.room
+    }
+
+    fn by_model(&self, coverage: &mut Coverage) -> Vec<u8> {
+        let mut text = Text::default();
+        play(&self.trace, self.limit, &mut (&mut text, coverage));
+        text.bytes
+    }
+
+    fn request(&self) -> Request {
+        Request::listing(self)
+    }
+
+    #[cfg(feature = "exports")]
+    fn by_library(&self) -> Outcome {
+        crate::exports::list(self)
+    }
+
+    /// A program has its own step limit.
+    fn for_program(self) -> Case {
+        Case {
+            limit: PROGRAM_LIMIT,
+            room: None,
+            ..self
+        }
+    }
+
+    fn smaller(&self, time: Duration, differs: impl FnMut(&Case) -> bool) -> Case {
+        shrink(self, time, differs)
+    }
+}
+
 /// What came of many comparisons.
-#[derive(Default)]
-pub struct Summary {
+pub struct Summary<S: Subject = Case> {
     pub compared: usize,
-    pub listing_bytes: usize,
+    /// The bytes of all texts.
+    pub bytes: usize,
     pub differ: usize,
-    /// How often the other side had no listing at all; after some failures the comparison stops.
+    /// How often the other side had no text at all; after some failures the comparison stops.
     pub failed: usize,
     /// The number of the first case that differs, and the case.
-    pub first: Option<(usize, Case)>,
-    pub coverage: Coverage,
+    pub first: Option<(usize, S)>,
+    pub coverage: S::Coverage,
+}
+
+impl<S: Subject> Default for Summary<S> {
+    fn default() -> Summary<S> {
+        Summary {
+            compared: 0,
+            bytes: 0,
+            differ: 0,
+            failed: 0,
+            first: None,
+            coverage: S::Coverage::default(),
+        }
+    }
 }
 
 /// A comparison with so many failures is not worth the wait for more.
 pub const MOST_FAILURES: usize = 10;
 
 /// Compares numbered cases with the other side, and counts what they reach.
-pub fn compare(
-    cases: impl IntoIterator<Item = (usize, Case)>,
-    mut other: impl FnMut(&Case) -> Outcome,
-) -> Summary {
+pub fn compare<S: Subject>(
+    cases: impl IntoIterator<Item = (usize, S)>,
+    mut other: impl FnMut(&S) -> Outcome,
+) -> Summary<S> {
     let mut summary = Summary::default();
     for (number, case) in cases {
-        let mut text = Text::default();
-        play(
-            &case.trace,
-            case.limit,
-            &mut (&mut text, &mut summary.coverage),
-        );
-        let expected = within_room(&case, text.bytes);
+        let expected = within_room(&case, &mut summary.coverage);
         summary.compared += 1;
-        summary.listing_bytes += expected.len();
+        summary.bytes += expected.len();
         let outcome = other(&case);
         if outcome.as_ref() != Ok(&expected) {
             summary.differ += 1;
@@ -55,14 +138,15 @@ pub fn compare(
     summary
 }
 
-/// The listing of a case by the model, as far as there is room for it.
-pub fn expected(case: &Case) -> Vec<u8> {
-    within_room(case, listing(&case.trace, case.limit))
+/// The text of a case by the model, as far as there is room for it.
+pub fn expected<S: Subject>(case: &S) -> Vec<u8> {
+    within_room(case, &mut S::Coverage::default())
 }
 
-fn within_room(case: &Case, mut listing: Vec<u8>) -> Vec<u8> {
-    listing.truncate(case.room.unwrap_or(usize::MAX));
-    listing
+fn within_room<S: Subject>(case: &S, coverage: &mut S::Coverage) -> Vec<u8> {
+    let mut text = case.by_model(coverage);
+    text.truncate(case.room().unwrap_or(usize::MAX));
+    text
 }
 
 /// The first line that differs, and what each side has there.
@@ -73,7 +157,7 @@ pub struct Difference {
     pub other: String,
 }
 
-/// The first line in which two listings differ, counted from 1; nothing if they are the same.
+/// The first line in which two texts differ, counted from 1; nothing if they are the same.
 pub fn first_difference(expected: &[u8], other: &[u8]) -> Option<Difference> {
     if expected == other {
         return None;
@@ -94,7 +178,7 @@ pub fn first_difference(expected: &[u8], other: &[u8]) -> Option<Difference> {
 }
 
 /// A smaller case that still differs, found by leaving out steps, many at a time and then few, while there is time.
-pub fn shrink(case: &Case, time: Duration, mut differs: impl FnMut(&Case) -> bool) -> Case {
+fn shrink(case: &Case, time: Duration, mut differs: impl FnMut(&Case) -> bool) -> Case {
     let begin = Instant::now();
     let mut smallest = case.clone();
     let mut size = pieces(&case.trace).len() / 2;

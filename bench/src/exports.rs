@@ -1,7 +1,8 @@
-//! The other side in process: the proved listing through its C function, in a library that is linked on request.
+//! The other side in process: the proved texts through their C functions, in a library that is linked on request.
 
 use crate::compare::Outcome;
 use crate::generate::Case;
+use crate::stack::generate::Typed;
 
 extern "C" {
     /// Writes the listing of the lent trace into the lent buffer and answers the bytes written; what finds no room is
@@ -19,6 +20,9 @@ extern "C" {
     fn wisteria_steps(trace: *const u8, trace_len: usize, limit: u32) -> u32;
     fn wisteria_refusal(trace: *const u8, trace_len: usize, limit: u32) -> u32;
     fn wisteria_offset(trace: *const u8, trace_len: usize, limit: u32) -> usize;
+
+    /// Writes the line of the lent text of a table into the lent buffer and answers the bytes written, as above.
+    fn wisteria_stack(text: *const u8, text_len: usize, out: *mut u8, out_len: usize) -> usize;
 }
 
 /// Fills the buffer with the listing of a trace and answers how many bytes of it were written.
@@ -51,16 +55,34 @@ pub fn ending_of(trace: &[u8], limit: u32) -> (u32, usize) {
     }
 }
 
+/// Fills the buffer with the line of a typed table and answers how many bytes of it were written.
+pub fn stack_into(text: &[u8], buffer: &mut [u8]) -> usize {
+    // As for the listing.
+    unsafe { wisteria_stack(text.as_ptr(), text.len(), buffer.as_mut_ptr(), buffer.len()) }
+}
+
 /// What the buffer holds where nothing was written.
 const UNTOUCHED: u8 = 0xA5;
 
-/// The listing of a case. The bytes behind it must be left as they were.
+/// The listing of a case.
 pub fn list(case: &Case) -> Outcome {
-    let mut buffer = vec![UNTOUCHED; case.ample_room()];
-    let written = list_into(&case.trace, case.limit, &mut buffer);
+    written(case.ample_room(), |buffer| {
+        list_into(&case.trace, case.limit, buffer)
+    })
+}
+
+/// The line of a typed table.
+pub fn stack(typed: &Typed) -> Outcome {
+    written(typed.ample_room(), |buffer| stack_into(&typed.text, buffer))
+}
+
+/// What is written into so much room. The bytes behind it must be left as they were.
+fn written(room: usize, write: impl Fn(&mut [u8]) -> usize) -> Outcome {
+    let mut buffer = vec![UNTOUCHED; room];
+    let written = write(&mut buffer);
     let rest = buffer
         .get(written..)
-        .ok_or_else(|| format!("{written} bytes written into {}", buffer.len()))?;
+        .ok_or_else(|| format!("{written} bytes written into {room}"))?;
     if rest.iter().any(|&byte| byte != UNTOUCHED) {
         return Err(format!("bytes behind the {written} written ones changed"));
     }

@@ -12,5 +12,6 @@ pub mod listing;
 pub mod model;
 pub mod program;
 pub mod random;
+pub mod stack;
 pub mod trace;
 pub mod workload;

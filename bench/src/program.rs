@@ -1,4 +1,4 @@
-//! The other side as a program: a process for each trace, which reads it on standard input and prints the listing.
+//! The other side as a program: a process for each case, which reads it on standard input and prints the text.
 
 use std::io::{Read, Write};
 use std::path::PathBuf;
@@ -9,7 +9,7 @@ use std::time::Duration;
 
 use crate::compare::Outcome;
 
-/// A program that takes longer than this for one trace has failed.
+/// A program that takes longer than this for one case has failed.
 pub const PATIENCE: Duration = Duration::from_secs(10);
 
 /// A program to be run, which may be an emulator that is told what to run by its arguments.
@@ -32,8 +32,8 @@ impl Program {
         command
     }
 
-    /// What the program prints for a trace. It has to end well, in time, and with nothing on standard error.
-    pub fn list(&self, trace: &[u8]) -> Outcome {
+    /// What the program prints for a trace or table. It has to end well, in time, and with nothing on standard error.
+    pub fn ask(&self, input: &[u8]) -> Outcome {
         let mut child = self
             .command()
             .stdin(Stdio::piped())
@@ -41,7 +41,7 @@ impl Program {
             .stderr(Stdio::piped())
             .spawn()
             .map_err(|error| format!("{} does not start: {error}", self.path.display()))?;
-        feed(&mut child, trace.to_vec());
+        feed(&mut child, input.to_vec());
         let printed = in_background(child.stdout.take().expect("its output is piped"));
         let complaints = in_background(child.stderr.take().expect("its errors are piped"));
         let (Ok(printed), Ok(complaints)) = (
@@ -62,11 +62,11 @@ impl Program {
     }
 }
 
-/// Writes the trace from a thread of its own. A program may stop reading once it knows that a trace is too long.
-fn feed(child: &mut Child, trace: Vec<u8>) {
-    let mut input = child.stdin.take().expect("its input is piped");
+/// Writes the input from a thread of its own. A program may stop reading once it knows that it is too long.
+fn feed(child: &mut Child, input: Vec<u8>) {
+    let mut pipe = child.stdin.take().expect("its input is piped");
     thread::spawn(move || {
-        let _ = input.write_all(&trace);
+        let _ = pipe.write_all(&input);
     });
 }
 

@@ -3,7 +3,7 @@
 use std::process::Command;
 
 use bench::batch::Batch;
-use bench::compare::{compare, expected, Outcome, Summary, MOST_FAILURES};
+use bench::compare::{compare, expected, Outcome, Subject, Summary, MOST_FAILURES};
 use bench::generate::{Case, Generator};
 use bench::model::Kind;
 use bench::program::Program;
@@ -91,20 +91,20 @@ fn a_program_is_fed_and_heard() {
     for number in [0, 1, 5, generator.sweeps() - 1] {
         let trace = generator.case(number).trace;
         let listing = bench::listing::listing(&trace, 20_000);
-        assert_eq!(program.list(&trace), Ok(listing));
+        assert_eq!(program.ask(&trace), Ok(listing));
     }
     let complaining = Program::new(env!("CARGO_BIN_EXE_differential"), &[]);
-    assert!(complaining.list(b"").is_err());
-    assert!(Program::new("no/such/program", &[]).list(b"").is_err());
+    assert!(complaining.ask(b"").is_err());
+    assert!(Program::new("no/such/program", &[]).ask(b"").is_err());
 }
 
 #[test]
 fn a_batch_is_fed_and_heard() {
     let mut batch = Batch::new(Program::new(env!("CARGO_BIN_EXE_reference"), &["--batch"]));
-    let summary = compare_some(|case| batch.list(case));
+    let summary = compare_some(|case| batch.ask(case.request()));
     assert_eq!(summary.differ, 0);
     let mut silent = Batch::new(Program::new(env!("CARGO_BIN_EXE_reference"), &["--what"]));
-    let summary = compare_some(|case| silent.list(case));
+    let summary = compare_some(|case| silent.ask(case.request()));
     assert_eq!(summary.differ, summary.compared);
 }
 

@@ -1,4 +1,5 @@
-//! The examples: a readable text, the bytes it stands for and their listing have to belong together.
+//! The examples: a readable text, the bytes it stands for and their listing have to belong together, and a typed table
+//! and its line.
 
 use std::collections::BTreeMap;
 use std::fs;
@@ -6,10 +7,27 @@ use std::path::PathBuf;
 
 use bench::hex;
 use bench::listing::listing;
+use bench::stack::{line, text};
 use bench::trace::{decode, encode, NUMBER_BYTES, PROGRAM_LIMIT};
 
-/// The contents of the examples' files, by name and then by ending.
-fn examples() -> BTreeMap<String, BTreeMap<String, Vec<u8>>> {
+/// The contents of a sort of examples' files, by name and then by ending.
+type Examples = BTreeMap<String, BTreeMap<String, Vec<u8>>>;
+
+/// The traces.
+fn examples() -> Examples {
+    let mut examples = all();
+    examples.retain(|_, files| !files.contains_key("table"));
+    examples
+}
+
+/// The typed tables.
+fn tables() -> Examples {
+    let mut examples = all();
+    examples.retain(|_, files| files.contains_key("table"));
+    examples
+}
+
+fn all() -> Examples {
     let folder = PathBuf::from(env!("CARGO_MANIFEST_DIR")).join("../examples");
     let mut examples = BTreeMap::<_, BTreeMap<_, _>>::new();
     for entry in fs::read_dir(folder).expect("the folder of the examples can be read") {
@@ -93,4 +111,43 @@ fn the_small_endings_are_all_there() {
     for ending in [8, 9, 10] {
         assert!(listings.contains(&format!("E {ending} ")));
     }
+}
+
+#[test]
+fn each_table_has_its_line() {
+    let tables = tables();
+    assert!(tables.len() >= 8);
+    for (name, files) in tables {
+        let endings: Vec<&str> = files.keys().map(String::as_str).collect();
+        assert_eq!(endings, ["line", "table"], "{name}");
+        assert!(name.starts_with("stack-"), "{name}");
+        let (there, expected) = (&files["line"], line(&files["table"]));
+        assert_eq!(
+            there.escape_ascii().to_string(),
+            expected.escape_ascii().to_string()
+        );
+    }
+}
+
+#[test]
+fn every_refusal_of_a_table_but_its_length_is_there() {
+    let lines: Vec<Vec<u8>> = tables()
+        .into_values()
+        .map(|mut files| files.remove("line").expect("it has a line"))
+        .collect();
+    for start in [b"E 8 ".as_slice(), b"E 14\n"] {
+        assert!(lines.iter().filter(|line| line.starts_with(start)).count() >= 3);
+    }
+}
+
+/// All eight levels have a source above the mark, so that the figure is eight handlers' frames; seven are less.
+#[test]
+fn the_board_needs_eight_frames() {
+    let table = text::table(&tables()["stack-board"]["table"]).expect("it is a table");
+    let largest = |level| table.frames_at(level).last().copied();
+    let frames: Vec<u32> = (0..8).filter_map(largest).collect();
+    assert_eq!(frames, [240, 208, 320, 416, 288, 352, 272, 160]);
+    assert!(frames.iter().all(|&frame| frame > table.mark));
+    assert_eq!(table.bytes(), Ok(2_256));
+    assert_eq!(frames.iter().sum::<u32>(), 2_256);
 }

@@ -1,10 +1,12 @@
-//! The proved library through its C function: only built where it is linked in, with the feature `exports`.
+//! The proved library through its C functions: only built where it is linked in, with the feature `exports`.
 #![cfg(feature = "exports")]
 
 use bench::compare::{compare, expected};
-use bench::exports::{ending_of, list_into, steps_of};
+use bench::exports::{ending_of, list_into, stack_into, steps_of};
 use bench::generate::Generator;
 use bench::listing::listing;
+use bench::stack::generate::Generator as Typist;
+use bench::stack::line;
 use bench::trace::play;
 
 #[test]
@@ -46,5 +48,68 @@ fn steps_and_endings_are_those_of_the_model() {
             "case {number}"
         );
         assert_eq!(ending_of(&case.trace, case.limit), ending, "case {number}");
+    }
+}
+
+#[test]
+fn the_library_says_the_stack_of_a_table_as_the_model_does() {
+    let typist = Typist::new(7);
+    let tables = (0..typist.sweeps() + 2_000).map(|number| (number, typist.typed(number)));
+    let summary = compare(tables, bench::exports::stack);
+    if let Some((number, typed)) = summary.first {
+        panic!(
+            "table {number} differs: {}",
+            expected(&typed).escape_ascii()
+        );
+    }
+}
+
+/// The line of a text, into a room of so many bytes: its first bytes, and the room behind them untouched.
+fn stack_line(text: &[u8], room: usize) {
+    let whole = line(text);
+    let mut buffer = vec![0xA5; room];
+    let written = stack_into(text, &mut buffer);
+    let said = text.escape_ascii();
+    assert_eq!(written, room.min(whole.len()), "{said}");
+    assert_eq!(buffer[..written], whole[..written], "{said}");
+    assert!(buffer[written..].iter().all(|&byte| byte == 0xA5), "{said}");
+}
+
+#[test]
+fn a_line_is_written_as_far_as_there_is_room() {
+    let largest = format!("{}65535", "7 3 65535 ".repeat(32) + "0 ");
+    let beyond = "8 ".repeat(98);
+    let long = " ".repeat(65_537);
+    for text in [
+        largest.as_str(),
+        beyond.as_str(),
+        long.as_str(),
+        &long[1..],
+        "",
+    ] {
+        (0..20).for_each(|room| stack_line(text.as_bytes(), room));
+    }
+}
+
+/// Every byte before, inside and behind a number, and behind the last one.
+#[test]
+fn every_character_counts_as_in_the_model() {
+    for byte in 0..=u8::MAX {
+        for around in [
+            ("", ""),
+            ("1", ""),
+            ("", "1"),
+            ("0", "1"),
+            ("0x", "1"),
+            ("0x1", " "),
+        ] {
+            let word = [around.0.as_bytes(), &[byte], around.1.as_bytes()].concat();
+            let first = [&word, b" ".as_slice(), "0 ".repeat(97).as_bytes()].concat();
+            let last = ["0 ".repeat(97).as_bytes(), &word].concat();
+            let behind = ["0 ".repeat(98).as_bytes(), &word].concat();
+            [first, last, behind]
+                .iter()
+                .for_each(|text| stack_line(text, 40));
+        }
     }
 }

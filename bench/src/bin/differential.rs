@@ -1,4 +1,5 @@
-//! Compares the listings of another side, a program or a linked library, with the model's on many generated traces.
+//! Compares the texts of another side, a program or a linked library, with the model's on many generated cases: the
+//! listings of traces, or the stack lines of typed tables.
 
 use std::io::{self, Write};
 use std::process::ExitCode;
@@ -6,25 +7,25 @@ use std::time::{Duration, Instant};
 
 use bench::batch::Batch;
 use bench::compare::{
-    compare, expected, first_difference, shrink, Outcome, Summary, MOST_FAILURES,
+    compare, expected, first_difference, Outcome, Subject, Summary, MOST_FAILURES,
 };
-use bench::coverage::Coverage;
 use bench::generate::{Case, Generator};
 use bench::hex;
 use bench::model::Kind;
 use bench::program::Program;
-use bench::trace::PROGRAM_LIMIT;
+use bench::stack::generate::{Generator as Typist, Typed};
 
 const USAGE: &str = "\
 differential --program PATH [options] [-- ARGUMENTS]
 differential --batch PATH   [options] [-- ARGUMENTS]
 differential --exports      [options]
-differential --trace N [--seed N]
+differential --trace N [--stack] [--seed N]
 
   --program PATH  a process for each trace: the trace on standard input, the listing on standard output
   --batch PATH    one process for all traces, which speaks as batch.c does; step limits and room vary too
   --exports       in this process, if it is built with the feature `exports`; step limits and room vary too
-  --trace N       writes the trace of case N to standard output
+  --stack         typed tables and their stack lines, instead of traces and their listings
+  --trace N       writes the trace (or table) of case N to standard output
   --seed N        other traces for another seed (1)
   --count N       how many (600 for --program, else 100000)
   --first N       the number of the first one (0); coverage is judged only from 0 on
@@ -53,14 +54,9 @@ enum Way {
 }
 
 impl Way {
-    /// A program has its own step limit and all the room it wants.
-    fn adapt(self, case: Case) -> Case {
+    fn adapt<S: Subject>(self, case: S) -> S {
         match self {
-            Way::Program => Case {
-                limit: PROGRAM_LIMIT,
-                room: None,
-                ..case
-            },
+            Way::Program => case.for_program(),
             Way::Batch | Way::Exports => case,
         }
     }
@@ -78,6 +74,7 @@ struct Options {
     way: Option<Way>,
     path: String,
     arguments: Vec<String>,
+    stack: bool,
     trace: Option<usize>,
     seed: u64,
     count: Option<usize>,
@@ -90,18 +87,28 @@ fn main() -> ExitCode {
         Ok(options) => options,
         Err(error) => return wrong(&error),
     };
-    let generator = Generator::new(options.seed);
+    if options.stack {
+        let typist = Typist::new(options.seed);
+        asked(&options, |number| typist.typed(number))
+    } else {
+        let generator = Generator::new(options.seed);
+        asked(&options, |number| generator.case(number))
+    }
+}
+
+/// Does what is asked with the numbered cases.
+fn asked<S: Reported>(options: &Options, case: impl Fn(usize) -> S) -> ExitCode {
     match (options.trace, options.way) {
         (Some(number), _) => {
             // A reader that has gone away wants no more.
-            let _ = io::stdout().write_all(&generator.case(number).trace);
+            let _ = io::stdout().write_all(case(number).input());
             ExitCode::SUCCESS
         }
         (None, None) => wrong("none of --program, --batch and --exports is given"),
         (None, Some(Way::Exports)) if cfg!(not(feature = "exports")) => {
             wrong("--exports wants a build with the feature `exports`")
         }
-        (None, Some(way)) => differential(&generator, way, &options),
+        (None, Some(way)) => differential(case, way, options),
     }
 }
 
@@ -115,6 +122,7 @@ fn options(mut words: impl Iterator<Item = String>) -> Result<Options, String> {
         way: None,
         path: String::new(),
         arguments: Vec::new(),
+        stack: false,
         trace: None,
         seed: 1,
         count: None,
@@ -127,6 +135,7 @@ fn options(mut words: impl Iterator<Item = String>) -> Result<Options, String> {
             "--program" => (options.way, options.path) = (Some(Way::Program), value()?),
             "--batch" => (options.way, options.path) = (Some(Way::Batch), value()?),
             "--exports" => options.way = Some(Way::Exports),
+            "--stack" => options.stack = true,
             "--trace" => options.trace = Some(number(&value()?)?),
             "--seed" => options.seed = number(&value()?)?,
             "--count" => options.count = Some(number(&value()?)?),
@@ -161,53 +170,116 @@ impl Other {
         }
     }
 
-    fn list(&mut self, case: &Case) -> Outcome {
+    fn ask<S: Subject>(&mut self, case: &S) -> Outcome {
         match self {
-            Other::Program(program) => program.list(&case.trace),
-            Other::Batch(batch) => batch.list(case),
+            Other::Program(program) => program.ask(case.input()),
+            Other::Batch(batch) => batch.ask(case.request()),
             Other::Exports => in_process(case),
         }
     }
 
-    fn differs(&mut self, case: &Case) -> bool {
-        self.list(case).as_ref() != Ok(&expected(case))
+    fn differs<S: Subject>(&mut self, case: &S) -> bool {
+        self.ask(case).as_ref() != Ok(&expected(case))
     }
 }
 
 #[cfg(feature = "exports")]
-fn in_process(case: &Case) -> Outcome {
-    bench::exports::list(case)
+fn in_process<S: Subject>(case: &S) -> Outcome {
+    case.by_library()
 }
 
 #[cfg(not(feature = "exports"))]
-fn in_process(_: &Case) -> Outcome {
+fn in_process<S: Subject>(_: &S) -> Outcome {
     unreachable!("--exports is refused without the feature")
 }
 
+/// What is told of cases of a sort.
+trait Reported: Subject {
+    /// What they are.
+    const MANY: &'static str;
+
+    /// How much was compared, and of what.
+    fn amount(summary: &Summary<Self>) -> String;
+
+    /// The listed items and how often each was reached.
+    fn items(coverage: &Self::Coverage) -> Vec<(u64, String)>;
+
+    /// The case in short.
+    fn told(&self) -> String;
+}
+
+impl Reported for Case {
+    const MANY: &'static str = "traces";
+
+    fn amount(summary: &Summary) -> String {
+        let steps = summary.coverage.steps();
+        let started = |kind: Kind| format!("{} {}", kind.name(), summary.coverage.started(kind));
+        let started = Kind::ALL.map(started).join(", ");
+        format!(
+            "{steps} steps, {} bytes of listing, started: {started}",
+            summary.bytes
+        )
+    }
+
+    fn items(coverage: &Self::Coverage) -> Vec<(u64, String)> {
+        named(coverage.table())
+    }
+
+    fn told(&self) -> String {
+        let shown = hex::print(start(&self.trace));
+        format!("limit {}, trace: {shown}", self.limit)
+    }
+}
+
+impl Reported for Typed {
+    const MANY: &'static str = "tables";
+
+    fn amount(summary: &Summary<Typed>) -> String {
+        format!("{} bytes of lines", summary.bytes)
+    }
+
+    fn items(coverage: &Self::Coverage) -> Vec<(u64, String)> {
+        named(coverage.table())
+    }
+
+    fn told(&self) -> String {
+        format!("text: {}", start(&self.text).escape_ascii())
+    }
+}
+
+fn named(table: Vec<(u64, impl std::fmt::Debug)>) -> Vec<(u64, String)> {
+    let named = |(count, item)| (count, format!("{item:?}"));
+    table.into_iter().map(named).collect()
+}
+
+/// As much of a case as is shown; `--trace N` writes all.
+fn start(bytes: &[u8]) -> &[u8] {
+    &bytes[..bytes.len().min(1_000)]
+}
+
 /// Compares, reports, and answers the exit status.
-fn differential(generator: &Generator, way: Way, options: &Options) -> ExitCode {
+fn differential<S: Reported>(case: impl Fn(usize) -> S, way: Way, options: &Options) -> ExitCode {
     let begin = Instant::now();
     let mut other = Other::new(way, options);
     let count = options.count.unwrap_or(way.usual_count());
     let numbers = options.first..options.first + count;
-    let cases = numbers.map(|number| (number, way.adapt(generator.case(number))));
-    let summary = compare(cases, |case| other.list(case));
-    let seconds = begin.elapsed().as_secs_f64();
+    let cases = numbers.map(|number| (number, way.adapt(case(number))));
+    let summary = compare(cases, |case| other.ask(case));
     say!(
-        "seed {}: {} traces compared, {} differ; {} steps, {} bytes of listing, {seconds:.1} s",
+        "seed {}: {} {} compared, {} differ; {:.1} s; {}",
         options.seed,
         summary.compared,
+        S::MANY,
         summary.differ,
-        summary.coverage.steps(),
-        summary.listing_bytes,
+        begin.elapsed().as_secs_f64(),
+        S::amount(&summary),
     );
-    say!("started: {}", started(&summary));
     if summary.failed == MOST_FAILURES {
         say!("stopped after {MOST_FAILURES} failures");
     }
     report_difference(&summary, &mut other);
     let judged = options.first == 0 && summary.failed < MOST_FAILURES;
-    let gaps = report_coverage(&summary.coverage, judged, options.table);
+    let gaps = report_items(&S::items(&summary.coverage), judged, options.table);
     if summary.differ > 0 || (judged && gaps > 0) {
         ExitCode::FAILURE
     } else {
@@ -215,43 +287,27 @@ fn differential(generator: &Generator, way: Way, options: &Options) -> ExitCode 
     }
 }
 
-/// How many traces started a controller of each kind.
-fn started(summary: &Summary) -> String {
-    let share = |kind: Kind| format!("{} {}", kind.name(), summary.coverage.started(kind));
-    Kind::ALL.map(share).join(", ")
-}
-
 /// The first case that differs, and a smaller one if there is one.
-fn report_difference(summary: &Summary, other: &mut Other) {
+fn report_difference<S: Reported>(summary: &Summary<S>, other: &mut Other) {
     let Some((number, case)) = &summary.first else {
         return;
     };
     say!("case {number} differs:");
     describe(case, other);
-    let smaller = shrink(case, SHRINK_TIME, |case| other.differs(case));
-    if smaller.trace.len() < case.trace.len() {
+    let smaller = case.smaller(SHRINK_TIME, |case| other.differs(case));
+    if smaller.input().len() < case.input().len() {
         say!("a smaller one that differs:");
         describe(&smaller, other);
     }
 }
 
-fn describe(case: &Case, other: &mut Other) {
-    let shown = &case.trace[..case.trace.len().min(1_000)];
-    let more = match shown.len() < case.trace.len() {
-        true => " ... (--trace N writes all)",
-        false => "",
-    };
-    say!(
-        "  {}, {} bytes, limit {}, room {:?}",
-        case.name,
-        case.trace.len(),
-        case.limit,
-        case.room
-    );
-    say!("  trace: {}{more}", hex::print(shown));
-    match other.list(case) {
+fn describe<S: Reported>(case: &S, other: &mut Other) {
+    let (name, length, room) = (case.name(), case.input().len(), case.room());
+    say!("  {name}, {length} bytes, room {room:?}");
+    say!("  {}", case.told());
+    match other.ask(case) {
         Err(error) => say!("  other: {error}"),
-        Ok(listing) => match first_difference(&expected(case), &listing) {
+        Ok(text) => match first_difference(&expected(case), &text) {
             None => say!("  the second time it does not differ"),
             Some(difference) => {
                 say!("  line {}", difference.line);
@@ -263,24 +319,22 @@ fn describe(case: &Case, other: &mut Other) {
 }
 
 /// Prints what was reached and what was not, and answers how many listed items were not.
-fn report_coverage(coverage: &Coverage, judged: bool, whole_table: bool) -> usize {
-    let table = coverage.table();
-    let gaps = coverage.gaps();
+fn report_items(items: &[(u64, String)], judged: bool, all: bool) -> usize {
+    let gaps = items.iter().filter(|(count, _)| *count == 0);
+    let missing = gaps.clone().count();
     say!(
         "coverage: {} of {} listed items reached{}",
-        table.len() - gaps.len(),
-        table.len(),
+        items.len() - missing,
+        items.len(),
         if judged { "" } else { " (not judged)" }
     );
     if judged {
-        for gap in &gaps {
-            say!("  not reached: {gap:?}");
-        }
+        gaps.for_each(|(_, item)| say!("  not reached: {item}"));
     }
-    if whole_table {
-        for (count, item) in &table {
-            say!("  {count:>10}  {item:?}");
-        }
+    if all {
+        items
+            .iter()
+            .for_each(|(count, item)| say!("  {count:>10}  {item}"));
     }
-    gaps.len()
+    missing
 }

@@ -1,36 +1,41 @@
-//! The model as a program: a trace on standard input, its listing on standard output; or, with `--batch`, many of them.
+//! The model as a program: a trace on standard input, its listing on standard output; with `--stack` a typed table and
+//! its line; with `--batch` many of both.
 
 use std::io::{self, BufReader, BufWriter, Read, Write};
 use std::process::ExitCode;
 
-use bench::batch::{serve, Reply, Request};
+use bench::batch::{serve, Asked, Reply, Request};
 use bench::listing::listing;
+use bench::stack;
 use bench::trace::PROGRAM_LIMIT;
+
+const USAGE: &str = "\
+reference [--stack | --batch]: lists the trace on standard input, or says the stack of the table there, or many (batch.c)
+";
 
 fn main() -> ExitCode {
     let words: Vec<String> = std::env::args().skip(1).collect();
     match words.as_slice() {
-        [] => list_one(),
-        [word] if word == "--batch" => list_many(),
+        [] => print_one(|trace| listing(trace, PROGRAM_LIMIT)),
+        [word] if word == "--stack" => print_one(stack::line),
+        [word] if word == "--batch" => print_many(),
         _ => {
-            eprintln!(
-                "reference [--batch]: lists the trace on standard input, or many (see batch.c)"
-            );
+            eprint!("{USAGE}");
             return ExitCode::from(2);
         }
     }
     ExitCode::SUCCESS
 }
 
-fn list_one() {
-    let mut trace = Vec::new();
+fn print_one(text: impl Fn(&[u8]) -> Vec<u8>) {
+    let mut input = Vec::new();
     // Input that cannot be read ends where it cannot be read.
-    let _ = io::stdin().read_to_end(&mut trace);
+    let _ = io::stdin().read_to_end(&mut input);
     // A reader that has gone away wants no more.
-    let _ = io::stdout().write_all(&listing(&trace, PROGRAM_LIMIT));
+    let _ = io::stdout().write_all(&text(&input));
 }
 
-fn list_many() {
+fn print_many() {
     let mut requests = BufReader::new(io::stdin().lock());
     let mut replies = BufWriter::new(io::stdout().lock());
     // An asker that has gone away wants no more.
@@ -38,10 +43,10 @@ fn list_many() {
 }
 
 fn reply(request: &Request) -> Reply {
-    let mut listing = listing(&request.trace, request.limit);
-    listing.truncate(request.room);
-    Reply {
-        changed: 0,
-        listing,
-    }
+    let mut text = match request.asked {
+        Asked::Listing => listing(&request.input, request.limit),
+        Asked::Stack => stack::line(&request.input),
+    };
+    text.truncate(request.room);
+    Reply { changed: 0, text }
 }

@@ -28,7 +28,7 @@ pub struct Recorded {
     pub privilege: u32,
 }
 
-/// Why a step or a trace is not carried out, with the number that 01's table or 02's request gives it.
+/// Why a step, a trace or a table is not carried out, with the number that 01's table or 02's request gives it.
 ///
 /// Number 12 is missing: it is about a record that somebody hands in, and these models keep their state to themselves.
 #[derive(Clone, Copy, Debug, PartialEq, Eq, PartialOrd, Ord, Hash)]
@@ -45,6 +45,7 @@ pub enum Refusal {
     BadConfiguration = 10,
     TraceTooLong = 11,
     Unprivileged = 13,
+    BeyondTable = 14,
 }
 
 impl Refusal {

@@ -1,9 +1,10 @@
-// The player and the listing for callers in Rust and C. A slice goes as a pointer and a length, in this order; a length and an offset are of the
-// width of a pointer. include/wisteria.h declares the functions for C, and says what a caller answers for.
+// The player, the listing and the stack size of a typed table for callers in Rust and C. A slice goes as a pointer and a length, in this order; a length
+// and an offset are of the width of a pointer. include/wisteria.h declares the functions for C, and says what a caller answers for.
 ghost use mathlib.Core.Path.{_≡_};
 ghost use Rattle.text.specs.Text.{laid};
 ghost use Rattle.player.specs.Play.{playOf};
 ghost use Rattle.listing.specs.Listing.{listingOf};
+ghost use Rattle.tables.specs.Reading.{answerTo};
 
 // Writes the listing of a trace of at most `limit` steps to the start of the lent buffer. Answers the number of bytes written: what finds no room
 // is dropped, and the rest of the buffer stays as it was. A listing of at most 99,999 steps has at most 29 bytes for each step and 58 more.
@@ -39,4 +40,13 @@ pub extern "C" fn wisteria_offset(trace: &[u8], limit: u32) -> usize
 {
     let p = player::play(trace, limit);
     p.offset
+}
+
+// Writes the line that answers a typed table to the start of the lent buffer: the stack size that it needs, with the word bytes, or its refusal. Answers
+// the number of bytes written: what finds no room is dropped, and the rest of the buffer stays as it was.
+#[no_mangle]
+pub extern "C" fn wisteria_stack(text: &[u8], out: &mut [u8]) -> usize
+    ensures { λ r. ⌜ (now (out .exit), r) ≡ laid (now (out .entry)) (answerTo (now (text .entry))) ⌝ }
+{
+    tables::put_answer(out, text)
 }

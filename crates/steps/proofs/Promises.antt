@@ -216,6 +216,7 @@ the-numbers =
       ten = refl;
       eleven = refl;
       thirteen = refl;
+      fourteen = refl;
     }
 
 pub kept : Promises

@@ -62,6 +62,10 @@ unsound = 12
 abbrev pub unprivileged : ℕ
 unprivileged = 13
 
+-- a number of a stack table is beyond its limit (02, 4/12)
+abbrev pub oversized : ℕ
+oversized = 14
+
 -- ---- privilege
 
 -- the privilege of a step where the trace does not tell one: it bars nothing (02, 2/12)

@@ -1,0 +1,436 @@
+//! What the compared tables have reached, counted from the model's own reading; a listed item not reached is a gap.
+
+use std::collections::BTreeMap;
+
+use super::text::{self, words, Slip, Word, NUMBERS};
+use super::{Fault, Row, Table, LEVELS, MOST_FRAME, MOST_PRIORITY, MOST_TYPE};
+use crate::model::aic::SOURCES;
+use crate::trace::LONGEST;
+
+/// Something that a comparison should have reached.
+#[derive(Clone, Copy, Debug, PartialEq, Eq, PartialOrd, Ord)]
+pub enum Item {
+    /// The figure had so many digits.
+    Digits(usize),
+    /// The frame that counts for a level came about so.
+    Largest(u32, How),
+    /// A fast source of a level had a larger frame than the one that counts.
+    PassedOver(u32, Standing),
+    /// A number was at its limit, in a table with a figure.
+    AtLimit(Limited),
+    /// 14 by this number alone, by one beyond its limit or by more.
+    Beyond(Limited, Far),
+    /// 8 by a number of this sort.
+    Misread(Field, Slip),
+    /// A number of this sort was typed so, in a table with a figure.
+    Typed(Field, Form),
+    /// A situation in plain words.
+    Fact(&'static str),
+}
+
+/// How the frame that counts for a level came about.
+#[derive(Clone, Copy, Debug, PartialEq, Eq, PartialOrd, Ord)]
+pub enum How {
+    /// The level has no normal source, so it is the mark's.
+    None,
+    /// The mark's is larger than those of all its sources.
+    Mark,
+    /// The mark's and a source's are the same.
+    MarkTies,
+    /// One source has a larger frame than the mark and the others.
+    One,
+    /// Several sources share it, above the mark's.
+    Tie,
+}
+
+/// Whether a source can open an entry, and why not.
+#[derive(Clone, Copy, Debug, PartialEq, Eq, PartialOrd, Ord)]
+pub enum Standing {
+    Nought,
+    Forced,
+    Normal,
+}
+
+/// A number with a limit of its own.
+#[derive(Clone, Copy, Debug, PartialEq, Eq, PartialOrd, Ord)]
+pub enum Limited {
+    Priority(Standing),
+    Type(Standing),
+    Frame(Standing),
+    Mark,
+}
+
+/// How far beyond its limit a number is.
+#[derive(Clone, Copy, Debug, PartialEq, Eq, PartialOrd, Ord)]
+pub enum Far {
+    ByOne,
+    ByMore,
+}
+
+/// A sort of number in the order of the text.
+#[derive(Clone, Copy, Debug, PartialEq, Eq, PartialOrd, Ord)]
+pub enum Field {
+    Priority,
+    Type,
+    Frame,
+    Forced,
+    Mark,
+    /// What stands behind the last number.
+    Behind,
+}
+
+impl Field {
+    const NUMBERS: [Field; 5] = [
+        Field::Priority,
+        Field::Type,
+        Field::Frame,
+        Field::Forced,
+        Field::Mark,
+    ];
+
+    /// The sort of the nth number.
+    fn of(nth: usize) -> Field {
+        match (NUMBERS - 2).checked_sub(nth) {
+            Some(0) => Field::Forced,
+            Some(_) => Field::NUMBERS[nth % 3],
+            None if nth < NUMBERS => Field::Mark,
+            None => Field::Behind,
+        }
+    }
+
+    /// Priorities and types with a letter are beyond their limits.
+    fn takes(self, form: Form) -> bool {
+        let letters = matches!(form, Form::Small | Form::Large | Form::Mixed);
+        !letters || !matches!(self, Field::Priority | Field::Type)
+    }
+}
+
+/// How a number was typed.
+#[derive(Clone, Copy, Debug, PartialEq, Eq, PartialOrd, Ord)]
+pub enum Form {
+    Decimal,
+    /// With a zero before another digit.
+    Zeros,
+    /// Hexadecimal with no letter.
+    Hexadecimal,
+    /// Hexadecimal with small letters, large ones, or both.
+    Small,
+    Large,
+    Mixed,
+}
+
+impl Form {
+    const ALL: [Form; 6] = [
+        Form::Decimal,
+        Form::Zeros,
+        Form::Hexadecimal,
+        Form::Small,
+        Form::Large,
+        Form::Mixed,
+    ];
+
+    fn of(word: &[u8]) -> Form {
+        let Some(digits) = word.strip_prefix(b"0x") else {
+            return match word {
+                [b'0', _, ..] => Form::Zeros,
+                _ => Form::Decimal,
+            };
+        };
+        let small = digits.iter().any(u8::is_ascii_lowercase);
+        let large = digits.iter().any(u8::is_ascii_uppercase);
+        match (small, large) {
+            (false, false) => Form::Hexadecimal,
+            (true, false) => Form::Small,
+            (false, true) => Form::Large,
+            (true, true) => Form::Mixed,
+        }
+    }
+}
+
+/// The counters.
+#[derive(Default)]
+pub struct Coverage {
+    counts: BTreeMap<Item, u64>,
+}
+
+impl Coverage {
+    /// How often an item was reached.
+    pub fn count(&self, item: Item) -> u64 {
+        self.counts.get(&item).copied().unwrap_or(0)
+    }
+
+    /// All that was reached, listed or not.
+    pub fn reached(&self) -> impl Iterator<Item = Item> + '_ {
+        self.counts.keys().copied()
+    }
+
+    /// The listed items with their counts, the rarest first.
+    pub fn table(&self) -> Vec<(u64, Item)> {
+        let items = wanted().into_iter();
+        let mut table: Vec<_> = items.map(|item| (self.count(item), item)).collect();
+        table.sort();
+        table
+    }
+
+    fn reach(&mut self, item: Item) {
+        *self.counts.entry(item).or_insert(0) += 1;
+    }
+
+    /// Counts a situation if it is there.
+    fn fact_if(&mut self, there: bool, fact: &'static str) {
+        if there {
+            self.reach(Item::Fact(fact));
+        }
+    }
+
+    /// Counts what a typed table and its outcome show.
+    pub fn see(&mut self, text: &[u8], needed: Result<u32, Fault>) {
+        match (needed, text::table(text)) {
+            (Ok(bytes), Ok(table)) => {
+                self.figure(&table, bytes);
+                self.typed(text);
+                self.layout(text);
+            }
+            (Err(Fault::Misread(misread)), _) => {
+                self.reach(Item::Misread(Field::of(misread.nth), misread.slip));
+                self.misread(text, misread.nth);
+            }
+            (Err(Fault::TooLong), _) => {
+                self.fact_if(text.len() == LONGEST + 1, "one byte too many");
+                self.fact_if(text.len() > LONGEST + 1, "many bytes too many");
+            }
+            (_, Ok(table)) => self.beyond(&table),
+            (_, Err(_)) => {}
+        }
+    }
+
+    fn figure(&mut self, table: &Table, bytes: u32) {
+        self.reach(Item::Digits(bytes.to_string().len()));
+        self.fact_if(bytes == 0, "the figure 0");
+        self.fact_if(bytes == 524_280, "the figure 524,280");
+        self.fact_if(table.forced & 1 == 1, "bit 0 of the forced word");
+        self.fact_if(table.forced == u32::MAX, "every source forced");
+        self.fact_if(table.forced == 0, "no source forced");
+        for level in 0..LEVELS {
+            let frames = table.frames_at(level);
+            self.reach(Item::Largest(level, how(&frames, table.mark)));
+            self.passed_over(table, level, frames.last().copied());
+        }
+        for (number, value, limit) in numbers(table) {
+            if value == limit {
+                self.reach(Item::AtLimit(number));
+            }
+        }
+    }
+
+    fn passed_over(&mut self, table: &Table, level: u32, largest: Option<u32>) {
+        let counts = largest.unwrap_or(0).max(table.mark);
+        for source in 0..SOURCES {
+            let row = table.rows[source];
+            let standing = standing(table, source);
+            if standing != Standing::Normal && row.priority == level && row.frame > counts {
+                self.reach(Item::PassedOver(level, standing));
+            }
+        }
+    }
+
+    /// Counted only where one number is beyond its limit: whoever overlooks it gives a figure.
+    fn beyond(&mut self, table: &Table) {
+        let mut numbers = numbers(table);
+        numbers.retain(|&(_, value, limit)| value > limit);
+        if let [(number, value, limit)] = numbers[..] {
+            let far = match value - limit {
+                1 => Far::ByOne,
+                _ => Far::ByMore,
+            };
+            self.reach(Item::Beyond(number, far));
+        }
+    }
+
+    fn typed(&mut self, text: &[u8]) {
+        for (nth, word) in words(text).iter().enumerate() {
+            self.reach(Item::Typed(Field::of(nth), Form::of(word.characters)));
+        }
+        let forced = words(text)[NUMBERS - 2].characters;
+        self.fact_if(forced == b"4294967295", "32 bits in decimal");
+        self.fact_if(forced == b"0xffffffff", "32 bits in hexadecimal");
+    }
+
+    /// What stands before, between and behind the numbers of a table with a figure.
+    fn layout(&mut self, text: &[u8]) {
+        let words = words(text);
+        for pair in words.windows(2) {
+            let gap = &text[end(&pair[0])..pair[1].offset];
+            self.between(gap);
+        }
+        let (first, last) = (words[0].offset, end(&words[NUMBERS - 1]));
+        let lines = text[first..last].split(|&byte| byte == b'\n').count();
+        self.fact_if(first > 0, "something before the first number");
+        self.fact_if(last == text.len(), "nothing behind the last number");
+        self.fact_if(lines == 1, "all numbers on one line");
+        let behind = &text[last..];
+        let opened = behind.rsplit(|&byte| byte == b'\n').next();
+        let open = opened.is_some_and(|line| line.contains(&b'#'));
+        self.fact_if(open, "a comment at the end without a line feed");
+        self.fact_if(text.len() == LONGEST, "65,536 bytes with a figure");
+    }
+
+    fn between(&mut self, gap: &[u8]) {
+        let white = |byte: u8| !gap.is_empty() && gap.iter().all(|&other| other == byte);
+        self.fact_if(white(b' '), "only spaces between numbers");
+        self.fact_if(white(b'\t'), "only tabs between numbers");
+        self.fact_if(white(b'\r'), "only carriage returns between numbers");
+        self.fact_if(white(b'\n'), "only line feeds between numbers");
+        self.fact_if(gap == b"\r\n", "a DOS line end between numbers");
+        self.fact_if(gap.first() == Some(&b'#'), "a comment behind a number");
+        let Some(at) = gap.iter().position(|&byte| byte == b'#') else {
+            return;
+        };
+        self.fact_if(at > 0, "a comment behind white space");
+        let comment = gap[at + 1..].split(|&byte| byte == b'\n').next();
+        let comment = comment.unwrap_or_default();
+        let has = |found: fn(&u8) -> bool| comment.iter().any(found);
+        self.fact_if(has(u8::is_ascii_digit), "digits in a comment");
+        self.fact_if(has(|&byte| byte == b'#'), "a # in a comment");
+        self.fact_if(has(|&byte| byte == b'\r'), "a CR in a comment");
+        self.fact_if(has(|byte| !byte.is_ascii()), "other bytes in a comment");
+    }
+
+    fn misread(&mut self, text: &[u8], nth: usize) {
+        let words = words(text);
+        self.fact_if(text.is_empty(), "an empty text");
+        self.fact_if(words.is_empty() && !text.is_empty(), "no word at all");
+        self.fact_if(text.len() == LONGEST, "65,536 bytes with a slip");
+        let word = words
+            .get(nth)
+            .map_or(b"".as_slice(), |word| word.characters);
+        self.fact_if(word.starts_with(b"0X"), "the prefix 0X");
+        self.fact_if(word == b"4294967296", "33 bits in decimal");
+        self.fact_if(word == b"0x100000000", "33 bits in hexadecimal");
+        self.fact_if(word.starts_with(b"-"), "a sign");
+        let later = words
+            .iter()
+            .skip(nth + 1)
+            .take(NUMBERS.saturating_sub(nth + 1));
+        let twice = later.filter(|word| word.characters == b"0x").count() > 0;
+        self.fact_if(twice, "a second slip behind the first");
+        let beyond = nth > 0 && words.first().is_some_and(|word| word.characters == b"8");
+        self.fact_if(beyond, "a slip behind a number beyond its limit");
+    }
+}
+
+/// The byte offset behind a word.
+fn end(word: &Word) -> usize {
+    word.offset + word.characters.len()
+}
+
+/// How the frame that counts comes about from those of a level's sources, the smallest first, and the mark's.
+fn how(frames: &[u32], mark: u32) -> How {
+    match *frames {
+        [] => How::None,
+        [.., largest] if mark > largest => How::Mark,
+        [.., largest] if mark == largest => How::MarkTies,
+        [.., second, largest] if second == largest => How::Tie,
+        _ => How::One,
+    }
+}
+
+fn standing(table: &Table, source: usize) -> Standing {
+    match source {
+        0 => Standing::Nought,
+        _ if table.is_normal(source) => Standing::Normal,
+        _ => Standing::Forced,
+    }
+}
+
+/// The numbers of a table that have a limit, each with its value and its limit.
+fn numbers(table: &Table) -> Vec<(Limited, u32, u32)> {
+    let mut numbers = vec![(Limited::Mark, table.mark, MOST_FRAME)];
+    for (source, row) in table.rows.iter().enumerate() {
+        let &Row {
+            priority,
+            kind,
+            frame,
+        } = row;
+        let of = standing(table, source);
+        numbers.push((Limited::Priority(of), priority, MOST_PRIORITY));
+        numbers.push((Limited::Type(of), kind, MOST_TYPE));
+        numbers.push((Limited::Frame(of), frame, MOST_FRAME));
+    }
+    numbers
+}
+
+/// Everything that a comparison has to reach.
+pub fn wanted() -> Vec<Item> {
+    let mut items: Vec<Item> = (1..=6).map(Item::Digits).collect();
+    for level in 0..LEVELS {
+        let ways = [How::None, How::Mark, How::MarkTies, How::One, How::Tie];
+        items.extend(ways.map(|how| Item::Largest(level, how)));
+        let fast = [Standing::Nought, Standing::Forced];
+        items.extend(fast.map(|standing| Item::PassedOver(level, standing)));
+    }
+    for number in limited() {
+        items.push(Item::AtLimit(number));
+        items.extend([Far::ByOne, Far::ByMore].map(|far| Item::Beyond(number, far)));
+    }
+    let slips = [
+        Slip::Missing,
+        Slip::OtherCharacter,
+        Slip::NoDigit,
+        Slip::TooManyBits,
+    ];
+    for field in Field::NUMBERS {
+        items.extend(slips.map(|slip| Item::Misread(field, slip)));
+        let forms = Form::ALL.into_iter().filter(|&form| field.takes(form));
+        items.extend(forms.map(|form| Item::Typed(field, form)));
+    }
+    items.push(Item::Misread(Field::Behind, Slip::TooMany));
+    items.extend(FACTS.map(Item::Fact));
+    items
+}
+
+/// The numbers with limits, of sources of every standing.
+fn limited() -> Vec<Limited> {
+    let mut all = vec![Limited::Mark];
+    for of in [Standing::Nought, Standing::Forced, Standing::Normal] {
+        all.extend([Limited::Priority(of), Limited::Type(of), Limited::Frame(of)]);
+    }
+    all
+}
+
+const FACTS: [&str; 34] = [
+    "the figure 0",
+    "the figure 524,280",
+    "bit 0 of the forced word",
+    "every source forced",
+    "no source forced",
+    "32 bits in decimal",
+    "32 bits in hexadecimal",
+    "33 bits in decimal",
+    "33 bits in hexadecimal",
+    "only spaces between numbers",
+    "only tabs between numbers",
+    "only carriage returns between numbers",
+    "only line feeds between numbers",
+    "a DOS line end between numbers",
+    "a comment behind a number",
+    "a comment behind white space",
+    "digits in a comment",
+    "a # in a comment",
+    "a CR in a comment",
+    "other bytes in a comment",
+    "a comment at the end without a line feed",
+    "something before the first number",
+    "nothing behind the last number",
+    "all numbers on one line",
+    "an empty text",
+    "no word at all",
+    "the prefix 0X",
+    "a sign",
+    "a second slip behind the first",
+    "a slip behind a number beyond its limit",
+    "65,536 bytes with a figure",
+    "65,536 bytes with a slip",
+    "one byte too many",
+    "many bytes too many",
+];

@@ -1,0 +1,288 @@
+//! A priority table as people type it, read into its 98 numbers: words between white space, comments left out.
+
+use super::{Fault, Row, Table};
+use crate::model::aic::SOURCES;
+use crate::trace::LONGEST;
+
+/// Priority, type and frame for each source, the forced word, the mark's frame.
+pub const NUMBERS: usize = 3 * SOURCES + 2;
+
+/// What is wrong with a typed table.
+#[derive(Clone, Copy, Debug, PartialEq, Eq, PartialOrd, Ord, Hash)]
+pub enum Slip {
+    /// The text ends before the number.
+    Missing,
+    /// A character that is no digit of the number.
+    OtherCharacter,
+    /// Nothing behind the `0x`.
+    NoDigit,
+    /// Worth 2^32 or more.
+    TooManyBits,
+    /// Something stands behind the last number.
+    TooMany,
+}
+
+/// The first slip of a text.
+#[derive(Clone, Copy, Debug, PartialEq, Eq)]
+pub struct Misread {
+    pub slip: Slip,
+    /// Which number it is, from 0; one too many has the number 98.
+    pub nth: usize,
+    /// The byte offset of its first character, or the length of the text where it is missing.
+    pub offset: usize,
+}
+
+/// What stands between white space and comments, and its byte offset.
+#[derive(Clone, Copy, Debug, PartialEq, Eq)]
+pub struct Word<'a> {
+    pub offset: usize,
+    pub characters: &'a [u8],
+}
+
+/// The table that a text says.
+pub fn table(text: &[u8]) -> Result<Table, Fault> {
+    if text.len() > LONGEST {
+        return Err(Fault::TooLong);
+    }
+    let numbers = numbers(text).map_err(Fault::Misread)?;
+    let row = |source: usize| Row {
+        priority: numbers[3 * source],
+        kind: numbers[3 * source + 1],
+        frame: numbers[3 * source + 2],
+    };
+    Ok(Table {
+        rows: std::array::from_fn(row),
+        forced: numbers[NUMBERS - 2],
+        mark: numbers[NUMBERS - 1],
+    })
+}
+
+/// The 98 numbers of a text, which has nothing else.
+fn numbers(text: &[u8]) -> Result<Vec<u32>, Misread> {
+    let words = words(text);
+    let mut numbers = Vec::with_capacity(NUMBERS);
+    for nth in 0..NUMBERS {
+        let (offset, read) = match words.get(nth) {
+            Some(word) => (word.offset, value(word.characters)),
+            None => (text.len(), Err(Slip::Missing)),
+        };
+        numbers.push(read.map_err(|slip| Misread { slip, nth, offset })?);
+    }
+    match words.get(NUMBERS) {
+        None => Ok(numbers),
+        Some(word) => Err(Misread {
+            slip: Slip::TooMany,
+            nth: NUMBERS,
+            offset: word.offset,
+        }),
+    }
+}
+
+/// The words of all lines; what stands behind a `#` is none.
+pub fn words(text: &[u8]) -> Vec<Word<'_>> {
+    let mut words = Vec::new();
+    let mut start = 0;
+    for line in text.split(|&byte| byte == b'\n') {
+        let typed = line.split(|&byte| byte == b'#').next().unwrap_or(line);
+        let mut offset = start;
+        for characters in typed.split(|byte| b" \t\r".contains(byte)) {
+            if !characters.is_empty() {
+                words.push(Word { offset, characters });
+            }
+            offset += characters.len() + 1;
+        }
+        start += line.len() + 1;
+    }
+    words
+}
+
+/// The value of a number in decimal or, behind `0x`, in hexadecimal.
+fn value(word: &[u8]) -> Result<u32, Slip> {
+    let (digits, base) = match word.strip_prefix(b"0x") {
+        Some(digits) => (digits, 16),
+        None => (word, 10),
+    };
+    if digits.is_empty() {
+        return Err(Slip::NoDigit);
+    }
+    let mut value: u32 = 0;
+    let mut fits = true;
+    for &character in digits {
+        let digit = char::from(character).to_digit(base);
+        let digit = digit.ok_or(Slip::OtherCharacter)?;
+        let more = value.checked_mul(base).and_then(|v| v.checked_add(digit));
+        fits &= more.is_some();
+        value = more.unwrap_or(0);
+    }
+    if fits {
+        Ok(value)
+    } else {
+        Err(Slip::TooManyBits)
+    }
+}
+
+#[cfg(test)]
+mod tests {
+    use super::*;
+    use crate::stack::line;
+
+    /// Words that are read as the first numbers; the others are 0.
+    fn first(words: &str) -> Result<Vec<u32>, Misread> {
+        let there = super::words(words.as_bytes()).len();
+        let text = format!("{words}{}", " 0".repeat(NUMBERS - there));
+        numbers(text.as_bytes()).map(|numbers| numbers[..there].to_vec())
+    }
+
+    fn first_slip(words: &str) -> (Slip, usize, usize) {
+        let misread = first(words).expect_err("it is no table");
+        (misread.slip, misread.nth, misread.offset)
+    }
+
+    fn printed(text: &str) -> String {
+        String::from_utf8(line(text.as_bytes())).expect("a line is plain text")
+    }
+
+    /// A table of so many zeros.
+    fn zeros(count: usize) -> String {
+        "0 ".repeat(count)
+    }
+
+    #[test]
+    fn decimal_and_hexadecimal() {
+        assert_eq!(first("0 7 65535 010"), Ok(vec![0, 7, 65_535, 10]));
+        assert_eq!(
+            first("0x0 0xff 0xFF 0xaBcDeF"),
+            Ok(vec![0, 255, 255, 0xABCDEF])
+        );
+        assert_eq!(
+            first("0x0000000000000000001 0000000000000000002"),
+            Ok(vec![1, 2])
+        );
+        assert_eq!(first_slip("0 0X1"), (Slip::OtherCharacter, 1, 2));
+        assert_eq!(first_slip("00x1"), (Slip::OtherCharacter, 0, 0));
+        assert_eq!(first_slip("0x1g"), (Slip::OtherCharacter, 0, 0));
+        assert_eq!(first_slip("0x0x1"), (Slip::OtherCharacter, 0, 0));
+        assert_eq!(first_slip("1f"), (Slip::OtherCharacter, 0, 0));
+    }
+
+    #[test]
+    fn no_digit() {
+        for text in ["0 0x 0", "0 0x\n", "0 0x#1", "0 0x\t1"] {
+            assert_eq!(first_slip(text), (Slip::NoDigit, 1, 2), "{text:?}");
+        }
+    }
+
+    #[test]
+    fn thirty_two_bits_and_one_more() {
+        let most = Ok(vec![u32::MAX]);
+        for text in ["4294967295", "0xFFFFFFFF", "0xffffffff", "0x0ffffffff"] {
+            assert_eq!(first(text), most, "{text}");
+        }
+        for text in ["4294967296", "0x100000000", "99999999999999999999999"] {
+            assert_eq!(first_slip(text), (Slip::TooManyBits, 0, 0), "{text}");
+        }
+        let wraps = format!("1{}", "0".repeat(64));
+        assert_eq!(first_slip(&wraps), (Slip::TooManyBits, 0, 0));
+        let hexadecimal = format!("0x1{}", "0".repeat(64));
+        assert_eq!(first_slip(&hexadecimal), (Slip::TooManyBits, 0, 0));
+    }
+
+    #[test]
+    fn any_other_character_refuses_its_number() {
+        for byte in (0..=u8::MAX).filter(|byte| !byte.is_ascii_digit()) {
+            let text = [b"0 1", [byte].as_slice(), b"2 "].concat();
+            let text = [text, zeros(NUMBERS).into_bytes()].concat();
+            let misread = table(&text).expect_err("a number too many at least");
+            let expected = match byte {
+                b' ' | b'\t' | b'\r' | b'\n' => (Slip::TooMany, NUMBERS, 2 * NUMBERS),
+                // It takes the line with it, and so all that follows.
+                b'#' => (Slip::Missing, 2, text.len()),
+                _ => (Slip::OtherCharacter, 1, 2),
+            };
+            let Fault::Misread(misread) = misread else {
+                panic!("{byte:#x}: {misread:?}");
+            };
+            let seen = (misread.slip, misread.nth, misread.offset);
+            assert_eq!(seen, expected, "{byte:#x}");
+        }
+    }
+
+    #[test]
+    fn comments_end_with_their_line_feed() {
+        assert_eq!(first("5#note\n6 # 7 #8\r9\n10"), Ok(vec![5, 6, 10]));
+        assert_eq!(first("#\n##1\n1"), Ok(vec![1]));
+        assert_eq!(printed(&format!("{}0#", zeros(97))), "0 bytes\n");
+        assert_eq!(
+            printed(&format!("{}#no line feed, no 0", zeros(97))),
+            "E 8 213\n"
+        );
+    }
+
+    #[test]
+    fn white_space_is_four_characters() {
+        assert_eq!(first(" \t\r\n1\t2\r3\r\n4\n\n5  6"), Ok((1..=6).collect()));
+        for other in ["\u{b}", "\u{c}", "\u{0}", "\u{a0}"] {
+            let text = format!("1{other}2");
+            assert_eq!(first_slip(&text), (Slip::OtherCharacter, 0, 0));
+        }
+    }
+
+    #[test]
+    fn a_missing_number_is_told_at_the_end_of_the_text() {
+        assert_eq!(printed(""), "E 8 0\n");
+        assert_eq!(printed(" \n# nothing\n"), "E 8 12\n");
+        assert_eq!(printed(&zeros(97)), "E 8 194\n");
+        assert_eq!(printed(&zeros(98)), "0 bytes\n");
+        assert_eq!(printed(zeros(98).trim_end()), "0 bytes\n");
+        assert_eq!(printed(&format!("{}\n\n", zeros(97))), "E 8 196\n");
+    }
+
+    #[test]
+    fn nothing_stands_behind_the_last_number() {
+        assert_eq!(printed(&format!("{} \n# end", zeros(98))), "0 bytes\n");
+        assert_eq!(printed(&zeros(99)), "E 8 196\n");
+        assert_eq!(printed(&format!("{}\n x 0x", zeros(98))), "E 8 198\n");
+    }
+
+    /// The numbers in their order, and the slip of the typing before 14.
+    #[test]
+    fn the_first_slip_is_told_and_before_14() {
+        let beyond = "8 4 65536 ";
+        assert_eq!(printed(&format!("{beyond}{}", zeros(95))), "E 14\n");
+        assert_eq!(printed(&format!("{beyond}{}", zeros(94))), "E 8 198\n");
+        assert_eq!(printed(&format!("{beyond}{}", zeros(96))), "E 8 200\n");
+        assert_eq!(printed(&format!("{beyond}{}x", zeros(94))), "E 8 198\n");
+        assert_eq!(printed(&format!("0 y {}x", zeros(95))), "E 8 2\n");
+        assert_eq!(printed("0 y"), "E 8 2\n");
+    }
+
+    #[test]
+    fn each_number_has_its_place() {
+        let text: Vec<String> = (1..=NUMBERS).map(|n| n.to_string()).collect();
+        let table = table(text.join(" ").as_bytes()).expect("it is a table");
+        for source in 0..SOURCES {
+            let row = table.rows[source];
+            let before = 3 * source as u32;
+            let place = (before + 1, before + 2, before + 3);
+            assert_eq!((row.priority, row.kind, row.frame), place);
+        }
+        assert_eq!((table.forced, table.mark), (97, 98));
+    }
+
+    #[test]
+    fn the_longest_text() {
+        for filling in [' ', '\n', '#', '\0'] {
+            let of_length = |length: usize| {
+                let start = format!("{}0#", zeros(97));
+                let rest = length - start.len();
+                start + &filling.to_string().repeat(rest)
+            };
+            assert_eq!(printed(&of_length(65_536)), "0 bytes\n");
+            assert_eq!(printed(&of_length(65_537)), "E 11 65536\n");
+        }
+        assert_eq!(printed(&"0 ".repeat(32_768)), "E 8 196\n");
+        assert_eq!(printed(&"x".repeat(65_536)), "E 8 0\n");
+        assert_eq!(printed(&"x".repeat(65_537)), "E 11 65536\n");
+        assert_eq!(printed(&" ".repeat(65_536)), "E 8 65536\n");
+    }
+}

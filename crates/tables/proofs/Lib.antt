@@ -1,0 +1,10 @@
+-- Laws and theorems about typed tables.
+pub mod BareLaws
+pub mod FillLaws
+pub mod LayoutLaws
+pub mod NumberLaws
+pub mod PlainLaws
+pub mod Promises
+pub mod ReadLaws
+pub mod RefusalLaws
+pub mod SeekLaws

@@ -1,0 +1,185 @@
+-- A table that is written out in the plain way is read back as it is.
+use Prim.Native.Nat.{ℕ, zero, suc, _+_, _-_, _*_, _^_, _≤_, _<_}
+use mathlib.Core.Path.{_≡_, refl, sym, ap, _∙_}
+use mathlib.Core.Bool.{true, false}
+use mathlib.Core.List.{List, [], _∷_, _++_, map}
+use mathlib.Core.Logic.{inl, inr}
+use native.Mathlib.Nat.{add-zero, zero-add}
+use native.Mathlib.Omega.{arith}
+use native.Mathlib.Decide.{decLt, ℕ-discrete}
+use lib.ListN.{length, getD, length-append, length-map, List·getD-map, List·getD-eq-default}
+use lib.Seq.{ext-getD}
+use borrow.Author.Tests.{le-leb}
+use Rattle.words.specs.Choice.{pick}
+use Rattle.words.proofs.TruthLaws.{not-holds}
+use Rattle.text.specs.Text.{decimal}
+use Rattle.text.specs.Promises.{worthAfter}
+use Rattle.text.proofs.DigitLaws.{length-below}
+use Rattle.stack.specs.declared.Table.{Table}
+use Rattle.tables.specs.Typed.{bare, nthStart}
+use Rattle.tables.specs.Number.{digit, worthFrom, isHex, isNumber, worth}
+use Rattle.tables.specs.Reading.{everyThird, tableOf, taken, readTable}
+use Rattle.tables.specs.Layout.{Gap, nothing, space, Parted, Spread, done, more, linesFrom, plain}
+use Rattle.tables.specs.Promises.{Words}
+use Rattle.tables.proofs.BareLaws.{length-bare}
+use Rattle.tables.proofs.FillLaws.{length-listOf, getD-listOf}
+use Rattle.tables.proofs.LayoutLaws.{found-words}
+use Rattle.tables.proofs.NumberLaws.{are-digits, number-plain, hex-first}
+use Rattle.tables.proofs.RefusalLaws.{read, read-values}
+use Rattle.text.proofs.Promises as Text
+
+-- ---- a decimal is a number, and worth what it says
+
+abbrev Tens : List ℕ → Type 0
+Tens ds = (k : ℕ) → k < length ds → (48 ≤ getD ds k 0) × (getD ds k 0 ≤ 57)
+
+pub digit-plain : (b : ℕ) → 48 ≤ b → b ≤ 57 → digit b ≡ b - 48
+unfolding digit pick
+digit-plain b l m = rw (le-leb 48 b l, le-leb b 57 m)
+
+worth-tens : (v : ℕ) (ds : List ℕ) → Tens ds → worthFrom 10 v ds ≡ worthAfter v ds
+unfolding worthFrom worthAfter
+worth-tens v [] h = refl
+worth-tens v (b ∷ ds) h = rw (digit-plain b (h 0 (omega arith) .0) (h 0 (omega arith) .1)) (worth-tens (10 * v + (b - 48)) ds (λ k l. h (suc k) (omega arith)))
+
+module _ (v : ℕ) (l : v < 2 ^ 32) where
+  tens : Tens (decimal v)
+  tens = Text.kept .decimalBytes v
+
+  worth-is : worthFrom 10 0 (decimal v) ≡ v
+  worth-is = worth-tens 0 (decimal v) tens ∙ Text.kept .decimalWorth v (omega arith)
+
+  some-digit : 0 < length (decimal v)
+  some-digit = go (ℕ-discrete v 0) (decLt 0 (length (decimal v)))
+    where
+      none : (ds : List ℕ) → (0 < length ds → ⊥) → ds ≡ []
+      none [] n = refl
+      none (b ∷ ds) n = absurd (n (omega arith))
+
+      go : Dec (v ≡ 0) → Dec (0 < length (decimal v)) → 0 < length (decimal v)
+      go d (yes m) = m
+      go (yes e) (no n) = rw (e, Text.kept .decimalZero) (omega arith)
+      go (no d) (no n) = absurd (d (sym worth-is ∙ ap (worthFrom 10 0) (none (decimal v) n) ∙ unfold worthFrom in refl))
+
+  not-hex : isHex (decimal v) ≡ false
+  not-hex = not-holds (isHex (decimal v)) (λ h. go (decLt 1 (length (decimal v))) (hex-first (decimal v) h .1))
+    where
+      go : Dec (1 < length (decimal v)) → getD (decimal v) 1 0 ≡ 120 → ⊥
+      go (yes m) e = omega (arith, tens 1 m .1)
+      go (no m) e = omega (arith, List·getD-eq-default (decimal v) 0 {n = 1} (omega arith))
+
+  decimal-number : isNumber (decimal v) ≡ true
+  decimal-number =
+      number-plain (decimal v) not-hex .0
+      ∙ are-digits 10 (decimal v) (record {
+        some = some-digit;
+        each = λ k m. omega (arith, tens k m .0, tens k m .1, digit-plain (getD (decimal v) k 0) (tens k m .0) (tens k m .1));
+        small = omega (arith, worth-is);
+      })
+
+  decimal-worth : worth (decimal v) ≡ v
+  decimal-worth = number-plain (decimal v) not-hex .1 ∙ worth-is
+
+  decimal-length : length (decimal v) ≤ 10
+  decimal-length = length-below 20 10 v (omega arith) (omega arith)
+
+-- ---- the numbers of a table, one after the other
+
+valuesFrom : Table → ℕ → ℕ → List ℕ
+valuesFrom t zero i = t .forced ∷ t .mark ∷ []
+valuesFrom t (suc k) i = getD (t .priority) i 0 ∷ getD (t .kind) i 0 ∷ getD (t .frame) i 0 ∷ valuesFrom t k (i + 1)
+
+-- the number in a column of the jth row
+column : (t : Table) (f : ℕ) (get : ℕ → ℕ) → ((k i : ℕ) → getD (valuesFrom t (suc k) i) f 0 ≡ get i)
+    → (k i j : ℕ) → j < k → getD (valuesFrom t k i) (3 * j + f) 0 ≡ get (i + j)
+unfolding valuesFrom
+column t f get h zero i j l = absurd (omega arith)
+column t f get h (suc k) i zero l =
+    let z : 3 * 0 + f ≡ f = omega arith in
+    rw (z, add-zero i) (h k i)
+column t f get h (suc k) i (suc j) l =
+    let z : 3 * suc j + f ≡ suc (suc (suc (3 * j + f))) = omega arith in
+    let y : i + suc j ≡ i + 1 + j = omega arith in
+    rw (z, y) (column t f get h k (i + 1) j (omega arith))
+
+last-two : (t : Table) (k i f : ℕ) → getD (valuesFrom t k i) (3 * k + f) 0 ≡ getD (t .forced ∷ t .mark ∷ []) f 0
+unfolding valuesFrom
+last-two t zero i f = let z : 3 * 0 + f ≡ f = omega arith in rw z
+last-two t (suc k) i f = let z : 3 * suc k + f ≡ suc (suc (suc (3 * k + f))) = omega arith in rw z (last-two t k (i + 1) f)
+
+-- the table of its numbers is the table
+table-back : (t : Table) → Words t → tableOf (valuesFrom t 32 0) ≡ t
+unfolding tableOf
+table-back t w =
+    rw (each 0 (t .priority) (w .lengths .0) (λ k i. unfold valuesFrom in refl), each 1 (t .kind) (w .lengths .1) (λ k i. unfold valuesFrom in refl), each 2 (t .frame) (w .lengths .2) (λ k i. unfold valuesFrom in refl), last-two t 32 0 0, last-two t 32 0 1)
+  where
+    each : (f : ℕ) (l : List ℕ) → length l ≡ 32 → ((k i : ℕ) → getD (valuesFrom t (suc k) i) f 0 ≡ getD l i 0) → everyThird (valuesFrom t 32 0) f ≡ l
+    each f l e h =
+        unfold everyThird in (ext-getD 0 _ l (length-listOf 32 _ ∙ sym e) (λ i m.
+        let b : i < 32 = omega (arith, length-listOf 32 (λ i. getD (valuesFrom t 32 0) (3 * i + f) 0)) in
+        getD-listOf 32 _ i b ∙ column t f (λ n. getD l n 0) h 32 0 i b ∙ ap (λ (n : ℕ). getD l n 0) (zero-add i)))
+
+-- ---- they are spread over its lines
+
+abbrev wordsFrom : Table → ℕ → ℕ → List (List ℕ)
+wordsFrom t k i = map decimal (valuesFrom t k i)
+
+feed : Gap (10 ∷ [])
+feed = space 10 [] (inr (inr (inr refl))) nothing
+
+blank : Gap (32 ∷ [])
+blank = space 32 [] (inl refl) nothing
+
+at-feed : (s : List ℕ) → Parted (10 ∷ s)
+at-feed s = inr (inl (inr (inr (inr refl))))
+
+at-blank : (s : List ℕ) → Parted (32 ∷ s)
+at-blank s = inr (inl (inl refl))
+
+module _ (t : Table) (w : Words t) where
+  spread-lines : (k i : ℕ) → i + k ≡ 32 → (g : List ℕ) → Gap g → Spread (wordsFrom t k i) (g ++ linesFrom t k i)
+  unfolding linesFrom valuesFrom
+  spread-lines zero i e g q =
+      more g (decimal (t .forced)) _ _ q (decimal-number (t .forced) (w .forced)) (at-feed _)
+      (more (10 ∷ []) (decimal (t .mark)) _ _ feed (decimal-number (t .mark) (w .mark)) (at-feed _) (done (10 ∷ []) feed))
+  spread-lines (suc k) i e g q =
+      more g (decimal (getD (t .priority) i 0)) _ _ q (decimal-number _ (w .priority i (omega arith))) (at-blank _)
+      (more (32 ∷ []) (decimal (getD (t .kind) i 0)) _ _ blank (decimal-number _ (w .kind i (omega arith))) (at-blank _)
+      (more (32 ∷ []) (decimal (getD (t .frame) i 0)) _ _ blank (decimal-number _ (w .frame i (omega arith))) (at-feed _)
+      (spread-lines k (i + 1) (omega arith) (10 ∷ []) feed)))
+
+  lines-length : (k i : ℕ) → i + k ≡ 32 → length (linesFrom t k i) ≤ 33 * k + 22
+  unfolding linesFrom
+  lines-length zero i e =
+      simp length-append (omega (arith, decimal-length (t .forced) (w .forced), decimal-length (t .mark) (w .mark)))
+  lines-length (suc k) i e =
+      simp length-append (omega (arith, lines-length k (i + 1) (omega arith), decimal-length _ (w .priority i (omega arith)), decimal-length _ (w .kind i (omega arith)), decimal-length _ (w .frame i (omega arith))))
+
+  values-length : (k i : ℕ) → length (valuesFrom t k i) ≡ 3 * k + 2
+  unfolding valuesFrom
+  values-length zero i = refl
+  values-length (suc k) i = omega (arith, values-length k (i + 1))
+
+  values-worth : (k i : ℕ) → i + k ≡ 32 → map worth (wordsFrom t k i) ≡ valuesFrom t k i
+  unfolding valuesFrom
+  values-worth zero i e = rw (decimal-worth (t .forced) (w .forced), decimal-worth (t .mark) (w .mark))
+  values-worth (suc k) i e =
+      rw (decimal-worth _ (w .priority i (omega arith)), decimal-worth _ (w .kind i (omega arith)), decimal-worth _ (w .frame i (omega arith)), values-worth k (i + 1) (omega arith))
+
+-- ---- whatever stands between 98 numbers
+
+worth-none : worth [] ≡ 0
+unfolding worth isHex worthFrom pick
+worth-none = refl
+
+pub spread : (ws : List (List ℕ)) (s : List ℕ) → Spread ws s → length ws ≡ 98 → length s ≤ 65536 → readTable s ≡ taken (tableOf (map worth ws))
+spread ws s d e l =
+    let f = found-words ws s d in
+    read-values s (map worth ws)
+    (read s .1 (l, (λ k m. f .0 k (omega arith) .1), ap (nthStart (bare s)) (sym e) ∙ f .1 ∙ length-bare false s))
+    (λ k m. ap (λ (x : ℕ). getD (map worth ws) k x) (sym worth-none) ∙ List·getD-map worth ws k [] ∙ ap worth (sym (f .0 k (omega arith) .0)))
+
+pub read-back : (t : Table) → Words t → readTable (plain t) ≡ taken t
+read-back t w =
+    spread (wordsFrom t 32 0) (plain t) (spread-lines t w 32 0 refl [] nothing) (length-map (valuesFrom t 32 0) decimal ∙ values-length t w 32 0) (omega (arith, lines-length t w 32 0 refl))
+    ∙ ap taken (ap tableOf (values-worth t w 32 0 refl) ∙ table-back t w)

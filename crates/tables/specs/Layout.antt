@@ -1,0 +1,44 @@
+-- How a table may be typed: its numbers, with white space and comments between them; and the plain way (docs/STACK.md).
+use Prim.Native.Nat.{ℕ, zero, suc, _+_, _<_}
+use mathlib.Core.Path.{_≡_}
+use mathlib.Core.Bool.{true}
+use mathlib.Core.List.{List, [], _∷_, _++_}
+use mathlib.Core.Logic.{_≢_, _⊎_}
+use lib.ListN.{length, getD}
+use Rattle.text.specs.Text.{decimal}
+use Rattle.stack.specs.declared.Table.{Table}
+use Rattle.tables.specs.Number.{isNumber}
+
+-- a space, a tab, a carriage return or a line feed
+abbrev pub White : ℕ → Type 0
+White b = (b ≡ 32) ⊎ ((b ≡ 9) ⊎ ((b ≡ 13) ⊎ (b ≡ 10)))
+
+-- no byte of s is b
+abbrev pub Without : ℕ → List ℕ → Type 0
+Without b s = (k : ℕ) → k < length s → getD s k 0 ≢ b
+
+-- white space and comments with their line feeds, one after the other
+pub data Gap : List ℕ → Type 0 where
+  nothing : Gap []
+  space : (b : ℕ) (g : List ℕ) → White b → Gap g → Gap (b ∷ g)
+  comment : (c g : List ℕ) → Without 10 c → Gap g → Gap (35 ∷ (c ++ (10 ∷ g)))
+
+-- the text is at its end, or goes on with white space or a comment
+abbrev pub Parted : List ℕ → Type 0
+Parted s = (s ≡ []) ⊎ (White (getD s 0 0) ⊎ (getD s 0 0 ≡ 35))
+
+-- these numbers one after the other, a gap before each and behind the last, where a comment may be left open
+pub data Spread : List (List ℕ) → List ℕ → Type 0 where
+  done : (g : List ℕ) → Gap g → Spread [] g
+  leftOpen : (g c : List ℕ) → Gap g → Without 10 c → Spread [] (g ++ (35 ∷ c))
+  more : (g w : List ℕ) (ws : List (List ℕ)) (s : List ℕ) → Gap g → isNumber w ≡ true → Parted s → Spread ws s → Spread (w ∷ ws) (g ++ (w ++ s))
+
+-- the plain way: a line for each of k sources from the ith on, with its three numbers in decimal, then a line for each of the last two numbers
+unfoldable pub linesFrom : Table → ℕ → ℕ → List ℕ
+linesFrom t zero i = decimal (t .forced) ++ (10 ∷ (decimal (t .mark) ++ (10 ∷ [])))
+linesFrom t (suc k) i =
+    decimal (getD (t .priority) i 0)
+    ++ (32 ∷ (decimal (getD (t .kind) i 0) ++ (32 ∷ (decimal (getD (t .frame) i 0) ++ (10 ∷ linesFrom t k (i + 1))))))
+
+abbrev pub plain : Table → List ℕ
+plain t = linesFrom t 32 0

@@ -1,0 +1,138 @@
+-- What is promised of a typed table: where its numbers stand, what is one, what is refused where, that a table that was written out is read
+-- back, and the line that answers it (docs/STACK.md; 02, 4/12). The byte at an offset k of a text s is `getD s k 0`.
+use Prim.Native.Nat.{ℕ, suc, _+_, _-_, _*_, _^_, _≤_, _<_}
+use mathlib.Core.Path.{_≡_}
+use mathlib.Core.Bool.{true, false}
+use mathlib.Core.List.{List, [], _∷_, _++_, map}
+use mathlib.Core.Logic.{_↔_, _≢_, _⊎_}
+use lib.ListN.{length, getD, take, drop, replicate}
+use Rattle.text.specs.Text.{decimal}
+use Rattle.stack.specs.declared.Table.{Table}
+use Rattle.stack.specs.Bytes.{needed}
+use Rattle.stack.specs.Printed.{textOf}
+use Rattle.tables.specs.Typed.{bare, startFrom, endFrom, pastNth, nthStart, nthTyped}
+use Rattle.tables.specs.Number.{digit, worthFrom, isNumber, worth}
+use Rattle.tables.specs.Reading.{tableOf, readTable, answerTo}
+use Rattle.tables.specs.Layout.{White, Without, Spread, linesFrom, plain}
+
+-- from an offset on, i is the first byte that is not white, or the end of the text
+pub record Starts (s : List ℕ) (at i : ℕ) : Type 0 where
+  pub from : at ≤ i
+  pub within : i ≤ length s
+  pub before : (j : ℕ) → at ≤ j → j < i → White (getD s j 0)
+  pub found : i < length s → White (getD s i 0) → ⊥
+
+-- i is the first byte that is white, or the end of the text
+pub record Ends (s : List ℕ) (at i : ℕ) : Type 0 where
+  pub from : at ≤ i
+  pub within : i ≤ length s
+  pub before : (j : ℕ) → at ≤ j → j < i → White (getD s j 0) → ⊥
+  pub found : i < length s → White (getD s i 0)
+
+-- one digit at least, each less than the base, and worth less than 2^32 together
+pub record Digits (base : ℕ) (ds : List ℕ) : Type 0 where
+  pub some : 0 < length ds
+  pub each : (k : ℕ) → k < length ds → digit (getD ds k 0) < base
+  pub small : worthFrom base 0 ds < 2 ^ 32
+
+-- the first n numbers of a text without comments are numbers
+abbrev pub Numbers : List ℕ → ℕ → Type 0
+Numbers s n = (k : ℕ) → k < n → isNumber (nthTyped s k) ≡ true
+
+-- the first slip of such a text begins at p: the nth of the 98 is no number, or all are and something follows
+abbrev pub SlipAt : List ℕ → ℕ → Type 0
+SlipAt s p =
+    ((n : ℕ) × (n < 98) × Numbers s n × (isNumber (nthTyped s n) ≡ false) × (p ≡ nthStart s n))
+    ⊎ (Numbers s 98 × (p ≡ nthStart s 98) × (p < length s))
+
+-- the arrays of a table have a number for each source, and every number is a word
+pub record Words (t : Table) : Type 0 where
+  pub lengths : (length (t .priority) ≡ 32) × (length (t .kind) ≡ 32) × (length (t .frame) ≡ 32)
+  pub priority : (i : ℕ) → i < 32 → getD (t .priority) i 0 < 2 ^ 32
+  pub kind : (i : ℕ) → i < 32 → getD (t .kind) i 0 < 2 ^ 32
+  pub frame : (i : ℕ) → i < 32 → getD (t .frame) i 0 < 2 ^ 32
+  pub forced : t .forced < 2 ^ 32
+  pub mark : t .mark < 2 ^ 32
+
+-- the numbers vs as a table: for each source three, then two
+pub record Rows (vs : List ℕ) (t : Table) : Type 0 where
+  pub lengths : (length (t .priority) ≡ 32) × (length (t .kind) ≡ 32) × (length (t .frame) ≡ 32)
+  pub priority : (i : ℕ) → i < 32 → getD (t .priority) i 0 ≡ getD vs (3 * i) 0
+  pub kind : (i : ℕ) → i < 32 → getD (t .kind) i 0 ≡ getD vs (3 * i + 1) 0
+  pub frame : (i : ℕ) → i < 32 → getD (t .frame) i 0 ≡ getD vs (3 * i + 2) 0
+  pub forced : t .forced ≡ getD vs 96 0
+  pub mark : t .mark ≡ getD vs 97 0
+
+pub record Promises : Type 0 where
+  -- ---- comments
+
+  -- a text without # is as it was; from # to its line feed, or to the end of the text, all bytes become spaces, and offsets stay as they are
+  pub bareNone : (s : List ℕ) → Without 35 s → bare s ≡ s
+  pub bareEnded : (before c after : List ℕ) → Without 35 before → Without 10 c
+      → bare (before ++ (35 ∷ (c ++ (10 ∷ after)))) ≡ before ++ (replicate (length c + 2) 32 ++ bare after)
+  pub bareOpen : (before c : List ℕ) → Without 35 before → Without 10 c → bare (before ++ (35 ∷ c)) ≡ before ++ replicate (length c + 1) 32
+  pub bareLength : (s : List ℕ) → length (bare s) ≡ length s
+  -- ---- where the numbers stand in a text without comments
+
+  -- a number begins with the first byte that is not white, and ends with the first that is
+  pub starts : (s : List ℕ) (at i : ℕ) → at ≤ length s → (startFrom s at ≡ i) ↔ Starts s at i
+  pub ends : (s : List ℕ) (at i : ℕ) → at ≤ length s → (endFrom s at ≡ i) ↔ Ends s at i
+  -- so the first number is found from the start of the text on, and each other one from the end of the one before it on
+  pub pastNone : (s : List ℕ) → pastNth s 0 ≡ 0
+  pub pastMore : (s : List ℕ) (n : ℕ) → pastNth s (suc n) ≡ endFrom s (startFrom s (pastNth s n))
+  pub pastWithin : (s : List ℕ) (n : ℕ) → pastNth s n ≤ length s
+  pub startIs : (s : List ℕ) (n : ℕ) → nthStart s n ≡ startFrom s (pastNth s n)
+  pub typedIs : (s : List ℕ) (n : ℕ) → nthTyped s n ≡ take (pastNth s (suc n) - nthStart s n) (drop (nthStart s n) s)
+  -- a number that is missing has no character, begins at the end of the text, and is none
+  pub missing : (s : List ℕ) (n : ℕ) → nthStart s n ≡ length s → (nthTyped s n ≡ []) × (isNumber (nthTyped s n) ≡ false)
+  -- ---- what a number is
+
+  -- the digits 0 to 9, A to F and a to f; any other character is worth 16, which is no digit to any base here
+  pub digitPlain : (b : ℕ) → 48 ≤ b → b ≤ 57 → digit b ≡ b - 48
+  pub digitUpper : (b : ℕ) → 65 ≤ b → b ≤ 70 → digit b ≡ b - 55
+  pub digitLower : (b : ℕ) → 97 ≤ b → b ≤ 102 → digit b ≡ b - 87
+  pub digitNone : (b : ℕ) → (b < 48) ⊎ (((57 < b) × (b < 65)) ⊎ (((70 < b) × (b < 97)) ⊎ (102 < b))) → digit b ≡ 16
+  -- digits are worth the base times those before the last and the last one
+  pub worthNone : (base v : ℕ) → worthFrom base v [] ≡ v
+  pub worthMore : (base v b : ℕ) (bs : List ℕ) → worthFrom base v (b ∷ bs) ≡ worthFrom base (base * v + digit b) bs
+  -- after 0x hexadecimal digits, else decimal ones, are a number exactly if there is one and no other character, and they fit 32 bits
+  pub hexadecimal : (ds : List ℕ) → ((isNumber (48 ∷ 120 ∷ ds) ≡ true) ↔ Digits 16 ds) × (worth (48 ∷ 120 ∷ ds) ≡ worthFrom 16 0 ds)
+  pub decimals : (w : List ℕ) → (getD w 0 0 ≢ 48) ⊎ (getD w 1 0 ≢ 120) → ((isNumber w ≡ true) ↔ Digits 10 w) × (worth w ≡ worthFrom 10 0 w)
+  -- 0X is no prefix
+  pub upperX : (ds : List ℕ) → isNumber (48 ∷ 88 ∷ ds) ≡ false
+  -- ---- what is read, and what is refused where
+
+  -- 11 exactly if a text has more than 65,536 bytes, and its offset is 65,536
+  pub eleven : (s : List ℕ) → (readTable s .refusal ≡ 11) ↔ (65536 < length s)
+  pub elevenAt : (s : List ℕ) → readTable s .refusal ≡ 11 → readTable s .offset ≡ 65536
+  -- 8 at an offset exactly if the first slip begins there: at its first character, or at the end of the text where the number is missing
+  pub eight : (s : List ℕ) (p : ℕ) → ((readTable s .refusal ≡ 8) × (readTable s .offset ≡ p)) ↔ ((length s ≤ 65536) × SlipAt (bare s) p)
+  -- else the table is read, exactly if the 98 numbers are there and nothing follows them, and it is the table of their values
+  pub read : (s : List ℕ) → (readTable s .refusal ≡ 0) ↔ ((length s ≤ 65536) × Numbers (bare s) 98 × (nthStart (bare s) 98 ≡ length s))
+  pub readValues : (s vs : List ℕ) → readTable s .refusal ≡ 0 → ((k : ℕ) → k < 98 → getD vs k 0 ≡ worth (nthTyped (bare s) k))
+      → readTable s ≡ record { refusal = 0; offset = 0; table = tableOf vs }
+  pub rows : (vs : List ℕ) → Rows vs (tableOf vs)
+  -- no other number is given, and a refused text gives no table
+  pub only : (s : List ℕ) → (readTable s .refusal ≡ 0) ⊎ ((readTable s .refusal ≡ 8) ⊎ (readTable s .refusal ≡ 11))
+  pub refusedEmpty : (s : List ℕ) → readTable s .refusal ≢ 0
+      → readTable s .table ≡ record { priority = replicate 32 0; kind = replicate 32 0; forced = 0; frame = replicate 32 0; mark = 0 }
+  -- ---- what is written out is read back
+
+  -- 98 numbers are read as they stand, whatever white space and comments stand between them: these do not count
+  pub spread : (ws : List (List ℕ)) (s : List ℕ) → Spread ws s → length ws ≡ 98 → length s ≤ 65536
+      → readTable s ≡ record { refusal = 0; offset = 0; table = tableOf (map worth ws) }
+  -- a table that is written out in the plain way is read back as it is
+  pub readBack : (t : Table) → Words t → readTable (plain t) ≡ record { refusal = 0; offset = 0; table = t }
+  -- the plain way: for each source priority, type and frame in decimal with a space between and a line feed behind, then the last two numbers
+  pub plainLast : (t : Table) (i : ℕ) → linesFrom t 0 i ≡ decimal (t .forced) ++ (10 ∷ (decimal (t .mark) ++ (10 ∷ [])))
+  pub plainMore : (t : Table) (k i : ℕ) → linesFrom t (suc k) i
+      ≡ decimal (getD (t .priority) i 0)
+      ++ (32 ∷ (decimal (getD (t .kind) i 0) ++ (32 ∷ (decimal (getD (t .frame) i 0) ++ (10 ∷ linesFrom t k (i + 1))))))
+  -- ---- the line
+
+  -- of a table that is read, that of its stack size; else E, the refusal and its offset (02, 4/12)
+  pub answerRead : (s : List ℕ) → readTable s .refusal ≡ 0 → answerTo s ≡ textOf (needed (readTable s .table))
+  pub answerRefused : (s : List ℕ) → readTable s .refusal ≢ 0
+      → answerTo s ≡ 69 ∷ 32 ∷ (decimal (readTable s .refusal) ++ (32 ∷ (decimal (readTable s .offset) ++ (10 ∷ []))))
+  -- no line is longer than 13 bytes
+  pub answerMost : (s : List ℕ) → length (answerTo s) ≤ 13
