@@ -1,10 +1,14 @@
 // AIC: no start is refused; which records are, by 12 (01, AIC, Configuration; A sound record; 02, 3/12).
-use super::say;
 use aic_record::Aic;
 
-fn start(external: u32, lines: u32) -> Aic {
+fn start(external: u32, lines: u32) {
     let b = aic::start(external, lines);
-    say::four(external, lines, 0, 0, b.refusal);
+    cases_lines::four(external, lines, 0, 0, b.refusal);
+}
+
+// Every record is made from the one that starts with internal sources and low lines.
+fn fresh() -> Aic {
+    let b = aic::start(0, 0);
     b.aic
 }
 
@@ -17,13 +21,31 @@ fn look(s: Aic) -> u32 {
 // With a source and a level in a slot of the entries, of which so many are open.
 fn entry(s: Aic, slot: u32, source: u8, level: u8, depth: u32) -> Aic {
     let t = aic_record::put_handler(s, slot, source, level, depth);
-    say::four(slot, source as u32, level as u32, depth, look(t));
+    cases_lines::four(slot, source as u32, level as u32, depth, look(t));
     t
 }
 
+// In slot 0.
+fn first(source: u8, level: u8, depth: u32) {
+    entry(fresh(), 0, source, level, depth);
+}
+
+// In slot 1, over an entry of the source and the level `below`.
+fn second(below: u8, at: u8, source: u8, level: u8) {
+    let s = aic_record::put_handler(fresh(), 0, below, at, 1);
+    entry(s, 1, source, level, 2);
+}
+
+// In slot 2, over a handler of source 9 at level 3 and a mark on it.
+fn third(source: u8, level: u8) {
+    let s = aic_record::put_handler(fresh(), 0, 9, 3, 1);
+    let t = aic_record::put_handler(s, 1, 0, 3, 2);
+    entry(t, 2, source, level, 3);
+}
+
 // Eight handlers at the levels 0 to 7, and a ninth.
-fn tower(s: Aic) {
-    let a = entry(s, 0, 1, 0, 1);
+fn tower() {
+    let a = entry(fresh(), 0, 1, 0, 1);
     let b = entry(a, 1, 2, 1, 2);
     let c = entry(b, 2, 3, 2, 3);
     let d = entry(c, 3, 4, 3, 4);
@@ -35,53 +57,53 @@ fn tower(s: Aic) {
 }
 
 // Levels and sources at their limits, a second level below, at and above the first, and slots that are not in use.
-fn handlers(s: Aic) {
-    entry(s, 0, 9, 7, 1);
-    entry(s, 0, 9, 8, 1);
-    entry(s, 0, 9, 255, 1);
-    entry(s, 0, 1, 3, 1);
-    entry(s, 0, 32, 3, 1);
-    let t = entry(s, 0, 31, 3, 1);
-    entry(t, 1, 10, 2, 2);
-    entry(t, 1, 10, 3, 2);
-    entry(t, 1, 10, 4, 2);
-    entry(s, 0, 9, 0, 0);
-    entry(s, 0, 0, 3, 0);
-    entry(s, 0, 0, 255, 0);
+fn handlers() {
+    first(9, 7, 1);
+    first(9, 8, 1);
+    first(9, 255, 1);
+    first(1, 3, 1);
+    first(32, 3, 1);
+    first(31, 3, 1);
+    second(31, 3, 10, 2);
+    second(31, 3, 10, 3);
+    second(31, 3, 10, 4);
+    first(9, 0, 0);
+    first(0, 3, 0);
+    first(0, 255, 0);
 }
 
 // A mark with nothing below it has no level, which 255 stands for; so has a mark on it, and a handler there any level.
-fn marks_alone(s: Aic) {
-    entry(s, 0, 0, 0, 1);
-    entry(s, 0, 0, 3, 1);
-    entry(s, 0, 0, 254, 1);
-    let t = entry(s, 0, 0, 255, 1);
-    entry(t, 1, 0, 0, 2);
-    entry(t, 1, 0, 255, 2);
-    entry(t, 1, 9, 0, 2);
-    entry(t, 1, 9, 7, 2);
-    entry(t, 1, 9, 8, 2);
-    entry(t, 1, 9, 255, 2);
+fn marks_alone() {
+    first(0, 0, 1);
+    first(0, 3, 1);
+    first(0, 254, 1);
+    first(0, 255, 1);
+    second(0, 255, 0, 0);
+    second(0, 255, 0, 255);
+    second(0, 255, 9, 0);
+    second(0, 255, 9, 7);
+    second(0, 255, 9, 8);
+    second(0, 255, 9, 255);
 }
 
 // A mark on a handler has its level, so has a mark on that, and a handler there a higher one.
-fn marks_over(s: Aic) {
-    let t = entry(s, 0, 9, 3, 1);
-    entry(t, 1, 0, 0, 2);
-    entry(t, 1, 0, 2, 2);
-    entry(t, 1, 0, 4, 2);
-    entry(t, 1, 0, 255, 2);
-    let u = entry(t, 1, 0, 3, 2);
-    entry(u, 2, 0, 255, 3);
-    entry(u, 2, 0, 3, 3);
-    entry(u, 2, 10, 3, 3);
-    entry(u, 2, 10, 255, 3);
-    entry(u, 2, 10, 4, 3);
+fn marks_over() {
+    first(9, 3, 1);
+    second(9, 3, 0, 0);
+    second(9, 3, 0, 2);
+    second(9, 3, 0, 4);
+    second(9, 3, 0, 255);
+    second(9, 3, 0, 3);
+    third(0, 255);
+    third(0, 3);
+    third(10, 3);
+    third(10, 255);
+    third(10, 4);
 }
 
 // Eight marks, and a ninth.
-fn eight_marks(s: Aic) {
-    let a = entry(s, 0, 0, 255, 1);
+fn eight_marks() {
+    let a = entry(fresh(), 0, 0, 255, 1);
     let b = entry(a, 1, 0, 255, 2);
     let c = entry(b, 2, 0, 255, 3);
     let d = entry(c, 3, 0, 255, 4);
@@ -93,51 +115,52 @@ fn eight_marks(s: Aic) {
 }
 
 // With a mode of source 9, a word of memories, one of debug control and one of forced sources.
-fn stored(s: Aic, mode: u8, memory: u32, debug: u32, forced: u32) -> Aic {
-    let t = aic_record::with_memory(aic_record::put_mode(s, 9, mode), memory);
+fn stored(mode: u8, memory: u32, debug: u32, forced: u32) {
+    let t = aic_record::with_memory(aic_record::put_mode(fresh(), 9, mode), memory);
     let u = aic_record::with_forced(aic_record::with_mask(t, debug), forced);
-    say::four(mode as u32, memory, debug, forced, look(u));
-    u
+    cases_lines::four(mode as u32, memory, debug, forced, look(u));
 }
 
 // Memory on each type; the bits of a mode and of debug control that a write drops; sources 0 and 1 forced.
-fn words(s: Aic) {
-    stored(s, 0x07, 0x200, 0, 0);
-    stored(s, 0x27, 0x200, 0, 0);
-    stored(s, 0x47, 0x200, 0, 0);
-    stored(s, 0x67, 0x200, 0, 0);
-    stored(s, 0x6F, 0, 0, 0);
-    stored(s, 0x77, 0, 0, 0);
-    stored(s, 0xE7, 0, 0, 0);
-    stored(s, 0, 0, 1, 0);
-    stored(s, 0, 0, 2, 0);
-    stored(s, 0, 0, 3, 0);
-    stored(s, 0, 0, 0, 2);
+fn words() {
+    stored(0x07, 0x200, 0, 0);
+    stored(0x27, 0x200, 0, 0);
+    stored(0x47, 0x200, 0, 0);
+    stored(0x67, 0x200, 0, 0);
+    stored(0x6F, 0, 0, 0);
+    stored(0x77, 0, 0, 0);
+    stored(0xE7, 0, 0, 0);
+    stored(0, 0, 1, 0);
+    stored(0, 0, 2, 0);
+    stored(0, 0, 3, 0);
+    stored(0, 0, 0, 2);
+    stored(0, 0, 0, 1);
 }
 
 // Of an unsound record 12 stands before every other number, and its outputs are refused too.
-fn first_of_all(s: Aic) {
+fn first_of_all() {
+    let s = aic_record::with_forced(fresh(), 1);
     let r = aic::read(s, 0x119);
-    say::one(0x119, r.refusal);
+    cases_lines::one(0x119, r.refusal);
     let w = aic::write(s, 0x138, 1);
-    say::one(0x138, w.refusal);
+    cases_lines::one(0x138, w.refusal);
     let l = aic::line(s, 32, 1);
-    say::one(32, l.refusal);
+    cases_lines::one(32, l.refusal);
     let o = aic::outputs(s);
-    say::one(0, o.refusal);
+    cases_lines::one(0, o.refusal);
 }
 
 pub(crate) fn all() {
-    say::heading(b"AIC starts\n");
+    cases_lines::heading(b"AIC starts\n");
     start(0xFFFFFFFF, 0xFFFFFFFF);
-    let s = start(0, 0);
-    say::heading(b"slot, source, level, depth\n");
-    tower(s);
-    handlers(s);
-    marks_alone(s);
-    marks_over(s);
-    eight_marks(s);
-    say::heading(b"mode, memory, debug, forced\n");
-    words(s);
-    first_of_all(stored(s, 0, 0, 0, 1));
+    start(0, 0);
+    cases_lines::heading(b"slot, source, level, depth\n");
+    tower();
+    handlers();
+    marks_alone();
+    marks_over();
+    eight_marks();
+    cases_lines::heading(b"mode, memory, debug, forced\n");
+    words();
+    first_of_all();
 }

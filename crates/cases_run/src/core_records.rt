@@ -1,11 +1,10 @@
 // CoreInterrupt: which starts and which records are refused, 10 and 12 (01, CoreInterrupt).
-use super::say;
 use coreinterrupt::Core;
 use coreinterrupt_side::Side;
 
 fn start(fiqs: u32, irqs: u32, fiqlevel: u32, irqlevel: u32) {
     let b = coreinterrupt::start(fiqs, irqs, fiqlevel, irqlevel);
-    say::four(fiqs, irqs, fiqlevel, irqlevel, b.refusal);
+    cases_lines::four(fiqs, irqs, fiqlevel, irqlevel, b.refusal);
 }
 
 fn starts() {
@@ -28,8 +27,8 @@ fn look(fiq: Side, irq: Side) -> u32 {
 fn counts(count: u32, level: u32) {
     let g = coreinterrupt_side::idle(count, level);
     let none = coreinterrupt_side::idle(0, 0);
-    say::four(count, level, 0, 0, look(g, none));
-    say::four(0, 0, count, level, look(none, g));
+    cases_lines::four(count, level, 0, 0, look(g, none));
+    cases_lines::four(0, 0, count, level, look(none, g));
 }
 
 // A side of so many sources, with the words of its inputs, soft and enable bits.
@@ -47,8 +46,8 @@ fn side(count: u32, inputs: u32, soft: u32, enable: u32) -> Side {
 fn both(count: u32, inputs: u32, soft: u32, enable: u32) {
     let g = side(count, inputs, soft, enable);
     let none = coreinterrupt_side::idle(0, 0);
-    say::four(count, inputs, soft, enable, look(g, none));
-    say::four(count, inputs, soft, enable, look(none, g));
+    cases_lines::four(count, inputs, soft, enable, look(g, none));
+    cases_lines::four(count, inputs, soft, enable, look(none, g));
 }
 
 // The last bit of 5 sources, and of 31, which only the IRQ side can have, and the one after it.
@@ -70,9 +69,9 @@ fn first_of_all() {
         irq: coreinterrupt_side::idle(32, 1),
     };
     let r = coreinterrupt::read(c, 0x031);
-    say::one(0x031, r.refusal);
+    cases_lines::one(0x031, r.refusal);
     let o = coreinterrupt::outputs(c);
-    say::one(0, o.refusal);
+    cases_lines::one(0, o.refusal);
 }
 
 fn levels() {
@@ -84,11 +83,11 @@ fn levels() {
 }
 
 pub(crate) fn all() {
-    say::heading(b"COREINTERRUPT starts\n");
+    cases_lines::heading(b"COREINTERRUPT starts\n");
     starts();
-    say::heading(b"FIQ count and level, IRQ count and level\n");
+    cases_lines::heading(b"FIQ count and level, IRQ count and level\n");
     levels();
-    say::heading(b"count, inputs, soft, enable\n");
+    cases_lines::heading(b"count, inputs, soft, enable\n");
     words();
     first_of_all();
 }
