@@ -1,0 +1,3 @@
+-- The laws of the parts and of their steps.
+pub mod PartLaws
+pub mod StepLaws
