@@ -4,7 +4,7 @@ ghost use mathlib.Core.Path.{_≡_};
 ghost use mathlib.Core.Bool.{true};
 ghost use Prim.Native.Nat.{_+_, _/_, _%_, _<_};
 ghost use lib.Dec.{eqb, ltb};
-ghost use lib.ListN.{getD, set};
+ghost use lib.ListN.{getD, set, length};
 ghost use Rattle.words.specs.Choice.{pick};
 ghost use Rattle.words.specs.Word.{withBit};
 ghost use Rattle.coreinterrupt_side.specs.Side.{active, moved};
@@ -72,6 +72,20 @@ pub fn core_of(z: Size, ws: [u32; 6]) -> Core
 }
 
 // ---- one side, FIQ or IRQ, by the same code
+
+// The words as they stand.
+fn copy_of(ws: &[u32; 6]) -> [u32; 6]
+    ensures { λ r. ⌜ r ≡ now (ws .entry) ⌝ }
+{
+    *ws
+}
+
+// Tells the proofs that six words are lent: a list may have any length, an array that goes by value has its own. Nothing is left of it in the program.
+fn there_are_six(ws: &[u32; 6])
+    ensures { λ _. ⌜ length (now (ws .entry)) ≡ 6 ⌝ }
+{
+    let _six = copy_of(ws);
+}
 
 // How many sources the side has.
 fn count_of(z: Size, fast: bool) -> u32
@@ -212,6 +226,7 @@ fn write_to(z: Size, ws: &mut [u32; 6], fast: bool, i: u32, value: u32) -> Reply
     if 3 < i {
         return refuse(steps::UNWRITABLE);
     }
+    there_are_six(ws);
     let v = words::keep(count_of(z, fast), value);
     turn_bits(ws, fast, i, v);
     carry_out(0)
@@ -244,6 +259,7 @@ fn moved_word(n: u32, w: u32, k: u32, high: bool) -> u32
 fn move_input(z: Size, ws: &mut [u32; 6], fast: bool, k: u32, high: bool)
     ensures { λ _. ⌜ recordOf z (now (ws .exit)) ≡ withSide (recordOf z (now (ws .entry))) fast (moved (side (recordOf z (now (ws .entry))) fast) k high) ⌝ }
 {
+    there_are_six(ws);
     let n = count_of(z, fast);
     let at = first_of(fast);
     ws[at] = moved_word(n, ws[at], k, high);

@@ -6,11 +6,11 @@ use Rattle.coreinterrupt_parts.proofs.count_of.Tie as tie
 
 returns : tie.Need-returns
 unfolding countOf
-returns c = pick-true _ (c .before .if1 .taken)
+returns c = pick-true _ (c .if1 .taken)
 
 returns-2 : tie.Need-returns-2
 unfolding countOf
-returns-2 c = pick-false _ (c .before .if1 .left)
+returns-2 c = pick-false _ (c .if1 .left)
 
 pub count-of-spec : {M : Type 1} → statement M
 count-of-spec = tie.close (tie.spec returns returns-2)

@@ -6,11 +6,11 @@ use Rattle.coreinterrupt_parts.proofs.level_of.Tie as tie
 
 returns : tie.Need-returns
 unfolding levelOf
-returns c = pick-true _ (c .before .if1 .taken)
+returns c = pick-true _ (c .if1 .taken)
 
 returns-2 : tie.Need-returns-2
 unfolding levelOf
-returns-2 c = pick-false _ (c .before .if1 .left)
+returns-2 c = pick-false _ (c .if1 .left)
 
 pub level-of-spec : {M : Type 1} → statement M
 level-of-spec = tie.close (tie.spec returns returns-2)
