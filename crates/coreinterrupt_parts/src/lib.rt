@@ -46,7 +46,14 @@ pub fn size_of(c: Core) -> Size
 pub fn words_of(c: Core) -> [u32; 6]
     ensures { λ r. ⌜ r ≡ wordsOf c ⌝ }
 {
-    [c.fiq.inputs, c.fiq.soft, c.fiq.enable, c.irq.inputs, c.irq.soft, c.irq.enable]
+    [
+        c.fiq.inputs,
+        c.fiq.soft,
+        c.fiq.enable,
+        c.irq.inputs,
+        c.irq.soft,
+        c.irq.enable,
+    ]
 }
 
 // The record that the parts hold.

@@ -12,14 +12,14 @@ use Rattle.coreinterrupt_parts.proofs.line.Statement.{statement}
 use Rattle.coreinterrupt_parts.proofs.line.Tie as tie
 
 returns : tie.Need-returns
-returns c = 
+returns c =
     let a = c .before .before .before .args in
     let d = recordOf (a .z) (a .ws .now) in
     ap (λ (r : Reply). answerOf r d) (c .refuse .ensures) ∙ line-stopped d (a .k) (a .level) (c .before .before .line-refusal .ensures) (c .before .if1 .taken)
 
 returns-2 : tie.Need-returns-2
 unfolding fiqLine
-returns-2 c = 
+returns-2 c =
     let a = c .before .before .before .before .before .before .args in
     let d = recordOf (a .z) (a .ws .now) in
     ap₂ answerOf (c .carry-out .ensures) (c .before .move-input .ensures ∙ ap (λ (i : ℕ). withSide d (fiqLine (a .k)) (moved (side d (fiqLine (a .k))) i (eqb (a .level) 1))) (c .before .before .before .input .ensures))

@@ -12,7 +12,7 @@ use Rattle.coreinterrupt_parts.proofs.move_input.Statement.{statement}
 use Rattle.coreinterrupt_parts.proofs.move_input.Tie as tie
 
 returns : tie.Need-returns
-returns c = 
+returns c =
     let a = c .before .before .before .before .before .before .args in
     ap (recordOf (a .z))
     (ap (set (a .ws .now) (c .before .before .first-of .result)) (c .moved-word .ensures)

@@ -9,14 +9,14 @@ use Rattle.coreinterrupt_parts.proofs.read.Statement.{statement}
 use Rattle.coreinterrupt_parts.proofs.read.Tie as tie
 
 returns : tie.Need-returns
-returns c = 
+returns c =
     let a = c .before .before .args in
     let d = recordOf (a .z) (a .ws .now) in
     ap (λ (r : Reply). answerOf r d) (c .refuse .ensures) ∙ read-misaligned d (a .offset) (c .before .if1 .taken)
 
 returns-2 : tie.Need-returns-2
 unfolding fiqOffset
-returns-2 c = 
+returns-2 c =
     let a = c .before .before .before .args in
     let d = recordOf (a .z) (a .ws .now) in
     c .read-from .ensures ∙ ap (readFrom d (fiqOffset (a .offset))) (c .before .register .ensures) ∙ read-at d (a .offset) (c .before .before .if1 .left)

@@ -7,19 +7,19 @@ use Rattle.coreinterrupt_parts.proofs.step.Statement.{statement}
 use Rattle.coreinterrupt_parts.proofs.step.Tie as tie
 
 returns : tie.Need-returns
-returns c = 
+returns c =
     let a = c .before .before .before .before .before .args in
     let d = recordOf (a .z) (a .ws .now) in
     c .read .ensures ∙ sym (ap (stepAs true d) (c .before .before .before .x .given .1))
 
 returns-2 : tie.Need-returns-2
-returns-2 c = 
+returns-2 c =
     let a = c .before .before .before .before .before .args in
     let d = recordOf (a .z) (a .ws .now) in
     c .write .ensures ∙ sym (ap (stepAs true d) (c .before .before .before .x2 .given .1))
 
 returns-3 : tie.Need-returns-3
-returns-3 c = 
+returns-3 c =
     let a = c .before .before .before .before .before .args in
     let d = recordOf (a .z) (a .ws .now) in
     c .line .ensures ∙ sym (ap (stepAs true d) (c .before .before .before .x3 .given .1))

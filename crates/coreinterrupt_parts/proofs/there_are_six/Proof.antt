@@ -6,7 +6,7 @@ use Rattle.coreinterrupt_parts.proofs.there_are_six.Statement.{statemen
 use Rattle.coreinterrupt_parts.proofs.there_are_six.Tie as tie
 
 returns : tie.Need-returns
-returns c = 
+returns c =
     let e : length (c .copy-of .result) ≡ 6 = search needs in
     ap length (sym (c .copy-of .ensures)) ∙ e
 

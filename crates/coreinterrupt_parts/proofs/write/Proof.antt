@@ -10,14 +10,14 @@ use Rattle.coreinterrupt_parts.proofs.write.Statement.{statement}
 use Rattle.coreinterrupt_parts.proofs.write.Tie as tie
 
 returns : tie.Need-returns
-returns c = 
+returns c =
     let a = c .before .before .args in
     let d = recordOf (a .z) (a .ws .now) in
     ap (λ (r : Reply). answerOf r d) (c .refuse .ensures) ∙ write-misaligned d (a .offset) (a .value) (c .before .if1 .taken)
 
 returns-2 : tie.Need-returns-2
 unfolding fiqOffset
-returns-2 c = 
+returns-2 c =
     let a = c .before .before .before .before .args in
     let d = recordOf (a .z) (a .ws .now) in
     c .write-to .ensures ∙ ap (λ (i : ℕ). writeTo d (fiqOffset (a .offset)) i (a .value)) (c .before .before .register .ensures) ∙ write-at d (a .offset) (a .value) (c .before .before .before .if1 .left)

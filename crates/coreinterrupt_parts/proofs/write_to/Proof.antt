@@ -14,19 +14,19 @@ use Rattle.coreinterrupt_parts.proofs.write_to.Statement.{statement}
 use Rattle.coreinterrupt_parts.proofs.write_to.Tie as tie
 
 returns : tie.Need-returns
-returns c = 
+returns c =
     let a = c .before .before .args in
     let d = recordOf (a .z) (a .ws .now) in
     ap (λ (r : Reply). answerOf r d) (c .refuse .ensures) ∙ write-past d (a .fast) (a .i) (a .value) (omega (arith, c .before .if1 .taken))
 
 returns-2 : tie.Need-returns-2
-returns-2 c = 
+returns-2 c =
     let a = c .before .before .before .args in
     let d = recordOf (a .z) (a .ws .now) in
     ap (λ (r : Reply). answerOf r d) (c .refuse2 .ensures) ∙ write-read-only d (a .fast) (a .i) (a .value) (omega (arith, c .before .if2 .taken)) (omega (arith, c .before .before .if1 .left))
 
 returns-3 : tie.Need-returns-3
-returns-3 c = 
+returns-3 c =
     let a = c .before .before .before .before .before .before .before .before .before .args in
     let d = recordOf (a .z) (a .ws .now) in
     let at = firstOf (a .fast) + 1 + a .i / 2 in
