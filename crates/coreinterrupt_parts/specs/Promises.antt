@@ -6,14 +6,14 @@ use mathlib.Core.List.{List, [], _∷_}
 use mathlib.Core.Logic.{_≢_}
 use lib.ListN.{length}
 use Rattle.steps.specs.declared.Step.{Step}
-use Rattle.steps.specs.declared.Step.the-variants.{Read, Write, Line}
+use Rattle.steps.specs.declared.Step.the-variants.{Read}
 use Rattle.steps.specs.Refusals.{carriedOut}
 use Rattle.coreinterrupt_side.specs.Side.{active}
 use Rattle.coreinterrupt.specs.declared.Core.{Core}
-use Rattle.coreinterrupt.specs.Model.{sound, read, write, line, step, outputs}
+use Rattle.coreinterrupt.specs.Model.{sound, step, outputs}
 use Rattle.coreinterrupt_parts.specs.declared.Reply.{Reply}
 use Rattle.coreinterrupt_parts.specs.declared.Size.{Size}
-use Rattle.coreinterrupt_parts.specs.Parts.{recordOf, sizeOf, wordsOf, answerOf, readAs, stepAs}
+use Rattle.coreinterrupt_parts.specs.Parts.{recordOf, sizeOf, wordsOf, answerOf, stepAs}
 
 -- the step x, on words that were `before` and are `after`, answered r: what the contracts of `step`, `read`, `write` and `line` say
 abbrev pub Stepped : Size → List ℕ → List ℕ → Step → Reply → Type 0

@@ -87,7 +87,7 @@ fn copy_of(ws: &[u32; 6]) -> [u32; 6]
     *ws
 }
 
-// Tells the proofs that six words are lent: a list may have any length, an array that goes by value has its own. Nothing is left of it in the program.
+// Tells the proofs that six words are lent: of a lent list they do not know the length, of an array that goes by value they do. The copy is not used.
 fn there_are_six(ws: &[u32; 6])
     ensures { λ _. ⌜ length (now (ws .entry)) ≡ 6 ⌝ }
 {
