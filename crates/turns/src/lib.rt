@@ -9,6 +9,8 @@ ghost use Rattle.trace.specs.declared.Turn.the-variants.{Found, Ended};
 ghost use Rattle.trace.specs.Steps.{stepAt};
 ghost use Rattle.trace.specs.Trace.{turnAt};
 ghost use Rattle.turns.specs.Turns.{endedKind, unsureKind, made, stepOf, turnOf, privilegeAt};
+use numbers::Short;
+use numbers::short_at;
 use steps::Step;
 use trace::Turn;
 
@@ -26,12 +28,6 @@ pub struct Told {
 pub const ENDED: u32 = 0;
 
 pub const UNSURE: u32 = 4;
-
-// A number with the place after it, which is 0 where the number is not short.
-struct Short {
-    value: u32,
-    next: usize,
-}
 
 // The turn at a place with `left` of the limit, where it is an end or a step of short numbers; else UNSURE. Where `told`, a privilege
 // number follows each offset.
@@ -70,7 +66,7 @@ fn quick_step(trace: &[u8], at: usize, told: bool) -> Told
     requires { ⌜ at < length (now trace) ⌝ }
     ensures { λ r. ⌜ ((r .kind ≡ unsureKind → ⊥) → turnOf r ≡ stepAt told (now (trace .entry)) at) × (r .kind < 5) ⌝ }
 {
-    let kind = wide(trace[at]);
+    let kind = numbers::wide(trace[at]);
     if (0 < kind) & (kind < 4) {
         return by_kind(trace, at, told, kind);
     }
@@ -111,40 +107,6 @@ fn privilege_at(trace: &[u8], at: usize, told: bool, kind: u32) -> Short
         value: steps::PRIVILEGED,
         next: at,
     }
-}
-
-// A byte as a number.
-fn wide(b: u8) -> u32
-    ensures { λ r. ⌜ (r ≡ b) × (r < 256) ⌝ }
-{
-    b as u32
-}
-
-// The number at a place, if it has one byte or two.
-fn short_at(trace: &[u8], at: usize) -> Short
-    ensures { λ r. ⌜ ((r .next ≡ 0 → ⊥) → numberAt (now (trace .entry)) at ≡ Value (r .value) (r .next)) ⌝ }
-{
-    if trace.len() <= at {
-        return Short { value: 0, next: 0 };
-    }
-    let a = wide(trace[at]);
-    if a < 128 {
-        return Short {
-            value: a,
-            next: at + 1,
-        };
-    }
-    if trace.len() - at < 2 {
-        return Short { value: 0, next: 0 };
-    }
-    let b = wide(trace[at + 1]);
-    if b < 128 {
-        return Short {
-            value: a - 128 + 128 * b,
-            next: at + 2,
-        };
-    }
-    Short { value: 0, next: 0 }
 }
 
 // A turn as numbers.

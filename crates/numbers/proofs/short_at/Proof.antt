@@ -1,10 +1,10 @@
 -- That `short_at` of src/lib.rt keeps its contract.
 use mathlib.Core.Path.{refl}
 use native.Mathlib.Omega.{arith}
 use Rattle.numbers.proofs.ShortLaws.{one-byte, two-bytes}
 use borrow.Author.Needs.{needs}
-use Rattle.turns.proofs.short_at.Statement.{statement}
-use Rattle.turns.proofs.short_at.Tie as tie
+use Rattle.numbers.proofs.short_at.Statement.{statement}
+use Rattle.numbers.proofs.short_at.Tie as tie
 
 returns : tie.Need-returns
 returns c = λ n. absurd (n refl)
