@@ -26,6 +26,13 @@ and-then o a b e f = f ∙ ap (λ (x : List ℕ × ℕ). write x b) e ∙ sym (w
 pub rest-of : (o p : List ℕ × ℕ) (a b : List ℕ) → p ≡ write o a → write p b ≡ write o (a ++ b)
 rest-of o p a b e = ap (λ (x : List ℕ × ℕ). write x b) e ∙ sym (write-append o a b)
 
+-- eight bytes, one after the other
+pub eight-bytes : (o : List ℕ × ℕ) {p q r s t u v w : List ℕ × ℕ} (a b c d e f g h : ℕ) → p ≡ write o (a ∷ []) → q ≡ write p (b ∷ []) → r ≡ write q (c ∷ [])
+    → s ≡ write r (d ∷ []) → t ≡ write s (e ∷ []) → u ≡ write t (f ∷ []) → v ≡ write u (g ∷ []) → w ≡ write v (h ∷ [])
+    → w ≡ write o (a ∷ b ∷ c ∷ d ∷ e ∷ f ∷ g ∷ h ∷ [])
+unfolding write
+eight-bytes o a b c d e f g h i j k l m n x y = rw (y, x, n, m, l, k, j, i)
+
 pub nothing : (o : List ℕ × ℕ) → o ≡ write o []
 unfolding write
 nothing o = refl
