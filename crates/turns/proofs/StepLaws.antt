@@ -11,13 +11,11 @@ use Rattle.words.proofs.ChoiceLaws.{pick-true, pick-false}
 use Rattle.steps.specs.Refusals.{privileged}
 use Rattle.steps.specs.declared.Recorded.{Recorded}
 use Rattle.steps.specs.declared.Step.{Step}
-use Rattle.steps.specs.declared.Step.the-variants.{Read, Write, Line}
 use Rattle.numbers.specs.declared.Number.{Number}
 use Rattle.numbers.specs.declared.Number.the-variants.{Value}
 use Rattle.numbers.specs.Number.{numberAt, told as told-of}
-use Rattle.trace.specs.declared.Turn.{Turn}
 use Rattle.trace.specs.declared.Turn.the-variants.{Found}
-use Rattle.trace.specs.Steps.{readKind, writeKind, lineKind, twoNumbers, stepAt}
+use Rattle.trace.specs.Steps.{readKind, writeKind, lineKind, stepAt}
 use Rattle.trace.proofs.StepLaws.{read-one, read-two, write-two, write-three, line-two, one-number, two-numbers, three-numbers, two-read, two-write, two-line}
 use Rattle.turns.specs.Turns.{made, stepOf, privilegeAt}
 use Rattle.turns.proofs.TurnLaws.{step-read, step-write, step-line}

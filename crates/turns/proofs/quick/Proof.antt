@@ -1,7 +1,6 @@
 -- That `quick` of src/lib.rt keeps its contract.
-use mathlib.Core.Path.{_≡_, refl, _∙_}
+use mathlib.Core.Path.{_∙_}
 use native.Mathlib.Omega.{arith}
-use Rattle.trace.specs.declared.Turn.{Turn}
 use Rattle.turns.proofs.TurnLaws.{turn-over, turn-limited, turn-step}
 use borrow.Author.Needs.{needs}
 use Rattle.turns.proofs.quick.Statement.{statement}
