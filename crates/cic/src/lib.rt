@@ -6,7 +6,7 @@ ghost use Rattle.cic_record.specs.Kinds.{system};
 ghost use Rattle.cic_record.specs.Sound.{within, sound};
 ghost use Rattle.cic_record.specs.Start.{start};
 ghost use Rattle.cic_hosts.specs.Hosts.{asserted, outputs};
-ghost use Rattle.cic.specs.Model.{readAs, writeAs, moved, lineAs, stepAs, read, write, line, step};
+ghost use Rattle.cic_steps.specs.Model.{readAs, writeAs, moved, lineAs, stepAs, read, write, line, step};
 use cic_record::Answer;
 use cic_record::Begun;
 use cic_record::Cic;

@@ -1,5 +1,5 @@
 -- That `line` of src/lib.rt keeps its contract.
-use Rattle.cic.specs.Model.{lineAs}
+use Rattle.cic_steps.specs.Model.{lineAs}
 use mathlib.Core.Bool.{Bool}
 use mathlib.Core.Path.{ap, _∙_}
 use borrow.Author.Needs.{needs}

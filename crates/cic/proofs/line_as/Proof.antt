@@ -1,5 +1,5 @@
 -- That `line_as` of src/lib.rt keeps its contract.
-use Rattle.cic.specs.Model.{lineAs}
+use Rattle.cic_steps.specs.Model.{lineAs}
 use Rattle.cic.proofs.StepLaws.{refused-by, carried-by}
 use Rattle.cic_record.specs.Record.{answered}
 use Rattle.cic_record.specs.declared.Cic.{Cic}

@@ -1,5 +1,5 @@
 -- That `move_line` of src/lib.rt keeps its contract.
-use Rattle.cic.specs.Model.{moved}
+use Rattle.cic_steps.specs.Model.{moved}
 use Rattle.words.proofs.ChoiceLaws.{by-true, by-false}
 use Rattle.words.specs.Array.{withBitAt}
 use Rattle.cic_record.specs.declared.Cic.{Cic}

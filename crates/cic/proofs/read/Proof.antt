@@ -1,5 +1,5 @@
 -- That `read` of src/lib.rt keeps its contract.
-use Rattle.cic.specs.Model.{readAs}
+use Rattle.cic_steps.specs.Model.{readAs}
 use mathlib.Core.Bool.{Bool}
 use mathlib.Core.Path.{ap, _∙_}
 use borrow.Author.Needs.{needs}

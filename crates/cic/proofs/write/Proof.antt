@@ -1,5 +1,5 @@
 -- That `write` of src/lib.rt keeps its contract.
-use Rattle.cic.specs.Model.{writeAs}
+use Rattle.cic_steps.specs.Model.{writeAs}
 use mathlib.Core.Bool.{Bool}
 use mathlib.Core.Path.{ap, _∙_}
 use borrow.Author.Needs.{needs}
