@@ -7,6 +7,10 @@ use Rattle.cic_record.specs.declared.Cic.{Cic}
 use Rattle.cic_record.specs.declared.Reply.{Reply}
 use Rattle.cic_record.specs.declared.Size.{Size}
 
+-- the configured numbers of a record
+abbrev pub sizeOf : Cic → Size
+sizeOf c = record { systems = c .systems; channels = c .channels; hosts = c .hosts; revision = c .revision }
+
 -- the record that is put together from its parts
 abbrev pub cicOf : Size → ℕ → List ℕ → List ℕ → List ℕ → List ℕ → List ℕ → List ℕ → Cic
 cicOf z global lines status enable channel host allow =
