@@ -1,7 +1,10 @@
 // The CIC's register map: which register stands at an offset, and what it may be used for (001, table 2-1; 01, CIC, registers).
+ghost use mathlib.Core.List.{List};
 ghost use mathlib.Core.Path.{_≡_};
+ghost use Prim.Native.Nat.{ℕ};
+ghost use Rattle.cic_record.specs.Parts.{cicOf};
 ghost use Rattle.cic_layout.specs.Map.{singleAt, registerAt, ifAny, accessOf};
-use cic_record::Cic;
+use cic_record::Size;
 use steps::Access;
 
 // The registers of 001, table 2-1, in its order; a register of a group with its number in the group.
@@ -85,9 +88,9 @@ fn if_any(first: u64, n: u32) -> Access
     Access::NoRegister
 }
 
-// What a register may be used for.
-pub fn access_of(c: Cic, r: Register) -> Access
-    ensures { λ a. ⌜ a ≡ accessOf c r ⌝ }
+// What a register may be used for, of every record of this size.
+pub fn access_of(z: Size, r: Register) -> Access
+    ensures { λ a. ⌜ ((g : ℕ) (ls st en ch ho al : List ℕ) → a ≡ accessOf (cicOf z g ls st en ch ho al) r) ⌝ }
 {
     match r {
         Register::Nothing => Access::NoRegister,
@@ -99,12 +102,12 @@ pub fn access_of(c: Cic, r: Register) -> Access
         Register::EnableIndexClear => Access::WriteOnly,
         Register::HostIndexSet => Access::WriteOnly,
         Register::HostIndexClear => Access::WriteOnly,
-        Register::RawSet(k) => if_any(32 * (k as u64), c.systems),
-        Register::EnabledClear(k) => if_any(32 * (k as u64), c.systems),
-        Register::EnableSet(k) => if_any(32 * (k as u64), c.systems),
-        Register::EnableClear(k) => if_any(32 * (k as u64), c.systems),
-        Register::ChannelMap(k) => if_any(4 * (k as u64), c.systems),
-        Register::HostMap(k) => if_any(4 * (k as u64), c.channels),
-        Register::HostEnable(k) => if_any(32 * (k as u64), c.hosts),
+        Register::RawSet(k) => if_any(32 * (k as u64), z.systems),
+        Register::EnabledClear(k) => if_any(32 * (k as u64), z.systems),
+        Register::EnableSet(k) => if_any(32 * (k as u64), z.systems),
+        Register::EnableClear(k) => if_any(32 * (k as u64), z.systems),
+        Register::ChannelMap(k) => if_any(4 * (k as u64), z.systems),
+        Register::HostMap(k) => if_any(4 * (k as u64), z.channels),
+        Register::HostEnable(k) => if_any(32 * (k as u64), z.hosts),
     }
 }

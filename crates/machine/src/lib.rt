@@ -6,7 +6,7 @@ ghost use Rattle.aic_record.specs.Sound.{sound as aicSound};
 ghost use Rattle.aic.specs.Model.{step as aicStep};
 ghost use Rattle.coreinterrupt.specs.Model.{sound as coreSound, step as coreStep};
 ghost use Rattle.cic_record.specs.Sound.{sound as cicSound};
-ghost use Rattle.cic.specs.Model.{step as cicStep};
+ghost use Rattle.cic_steps.specs.Model.{step as cicStep};
 ghost use Rattle.aintc_choice.specs.Settle.{sound as aintcSound};
 ghost use Rattle.aintc.specs.Model.{step as aintcStep};
 ghost use Rattle.machine_record.specs.Machine.{sound};

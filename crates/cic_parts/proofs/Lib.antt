@@ -1,0 +1,2 @@
+-- The law of a line that moves.
+pub mod MoveLaws
