@@ -1,0 +1,3 @@
+-- The laws of the kept counts.
+pub mod CountLaws
+pub mod RecordLaws
