@@ -2,8 +2,8 @@
 use mathlib.Core.Path.{_≡_, refl, sym, ap, ap₂, _∙_}
 use mathlib.Core.Bool.{Bool, true, false, _&&_, not, and-false}
 use mathlib.Core.List.{List}
-use Prim.Native.Nat.{ℕ, zero, suc, _+_, _-_, _*_, _/_, _%_, _≤_, _<_}
-use native.Mathlib.Decide.{ℕ-discrete, decLt}
+use Prim.Native.Nat.{ℕ, zero, suc, _+_, _-_, _≤_, _<_}
+use native.Mathlib.Decide.{ℕ-discrete}
 use native.Mathlib.Omega.{arith}
 use borrow.Author.Tests.{eq-eqb, ne-eqb}
 use lib.Dec.{eqb}
@@ -11,7 +11,7 @@ use lib.ListN.{length, getD, set, length-set}
 use lib.Seq.{getD-set-same, getD-set-other}
 use Rattle.words.specs.Array.{bitAt, withBitAt}
 use Rattle.words.specs.Choice.{pick}
-use Rattle.words.specs.Counting.{anyBelow, countBelow, one}
+use Rattle.words.specs.Counting.{countBelow, one}
 use Rattle.words.proofs.ArrayLaws.{bitAt-withBitAt}
 use Rattle.words.proofs.CountingLaws.{count-same, count-le}
 use Rattle.cic_counts.specs.Counts.{target, goesTo, loadOf, Kept}

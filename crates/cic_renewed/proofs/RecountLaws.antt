@@ -12,14 +12,12 @@ use lib.ListN.{length, getD, set}
 use lib.Seq.{getD-set-same, getD-set-other}
 use Rattle.words.specs.Array.{bitAt}
 use Rattle.words.specs.Word.{bit, both, withBit}
-use Rattle.words.specs.Counting.{countBelow}
 use Rattle.words.proofs.ArrayLaws.{bitAt-word, none-before}
-use Rattle.words.proofs.CountingLaws.{count-same}
 use Rattle.words.proofs.TruthLaws.{eqb-iff}
 use Rattle.words.proofs.WordLaws.{bit-both, bit-cleared}
 use Rattle.cic_record.specs.declared.Cic.{Cic}
 use Rattle.cic_record.specs.Promises.{Shaped}
-use Rattle.cic_counts.specs.Counts.{target, goesTo, loadOf, Kept, ActiveIn, Beside}
+use Rattle.cic_counts.specs.Counts.{target, goesTo, loadOf, Kept, Beside}
 use Rattle.cic_counts.proofs.CountLaws.{count-nothing}
 
 -- ---- all words
@@ -38,7 +36,7 @@ pub words-active : (status enable ws : List ℕ) → ((i : ℕ) → i < 32 → g
     → (s : ℕ) → s < 1024 → bitAt ws s ≡ (bitAt status s && bitAt enable s)
 words-active status enable ws h s l =
     let e : 32 * (s / 32) + s % 32 ≡ s = omega arith in
-    let m = mod-lt s (omega arith) in
+    let m : s % 32 < 32 = mod-lt s (omega arith) in
     ap (bitAt ws) (sym e) ∙ bitAt-word ws (s / 32) (s % 32) m ∙ ap (λ (w : ℕ). bit w (s % 32)) (h (s / 32) (omega (arith, l)))
     ∙ bit-both (getD status (s / 32) 0) (getD enable (s / 32) 0) (s % 32) m
     ∙ ap₂ (λ (x y : Bool). x && y) (sym (bitAt-word status (s / 32) (s % 32) m) ∙ ap (bitAt status) e) (sym (bitAt-word enable (s / 32) (s % 32) m) ∙ ap (bitAt enable) e)

@@ -5,7 +5,7 @@ use Rattle.words.specs.Array.{bitAt}
 use Rattle.words.specs.Counting.{countBelow, lowestBelow}
 use Rattle.words.specs.Word.{bit, withBit}
 use Rattle.words.proofs.WordLaws.{withBit-lt, either-lt}
-use lib.ListN.{getD, set, length}
+use lib.ListN.{getD, set}
 use lib.Seq.{set-set, set-getD, getD-set-same}
 use mathlib.Core.Bool.{Bool, true, false, not}
 use mathlib.Core.List.{List}

@@ -1,46 +1,33 @@
+-- That `wipe_counts` of src/lib.rt keeps its contract.
+use Rattle.words.proofs.ArrayLaws.{filled}
+use lib.ListN.{length, getD, length-set}
+use mathlib.Core.Path.{_≡_, refl, _∙_}
+use native.Mathlib.Omega.{arith}
+use Prim.Native.Nat.{ℕ, _-_, _<_, _≤_}
 use borrow.Author.Needs.{needs}
 use Rattle.cic_renewed.proofs.wipe_counts.Statement.{statement}
 use Rattle.cic_renewed.proofs.wipe_counts.Tie as tie
-use Rattle.cic_renewed.proofs.wipe_counts.Reads as reads
-use Rattle.cic_renewed.proofs.wipe_counts.Lts as lts
 
 abbrev Inv-loop : tie.InvT-loop
-Inv-loop ns₀ k₀ ns k = ?
+Inv-loop ns₀ k₀ ns k = (length ns ≡ length ns₀) × ((k ≤ length ns₀) × ((i : ℕ) → i < k → getD ns i 0 ≡ 0))
 
 abbrev μ-loop : tie.MeasureT-loop
-μ-loop ns₀ k₀ ns k = ?
+μ-loop ns₀ k₀ ns k = length ns₀ - k
 
--- src/lib.rt:121:5
 loop-holds : tie.Need-loop-holds Inv-loop μ-loop
-loop-holds c = ?
+loop-holds c = (refl, (omega arith, λ i l. absurd (omega (arith, l))))
 
--- src/lib.rt:122:9
-mul-ns : tie.Need-mul-ns Inv-loop μ-loop
-mul-ns c = ?
-
--- src/lib.rt:122:9
-slice-write-ns : tie.Need-slice-write-ns Inv-loop μ-loop
-slice-write-ns c = ?
-
--- src/lib.rt:123:13
-add-k : tie.Need-add-k Inv-loop μ-loop
-add-k c = ?
-
--- src/lib.rt:121:5
-loop-less : tie.Need-loop-less Inv-loop μ-loop
-loop-less c = ?
-
--- src/lib.rt:121:5
 loop-again : tie.Need-loop-again Inv-loop μ-loop
-loop-again c = ?
+loop-again c =
+    let l = c .before .loop in (
+      length-set (l .ns) (l .k) 0 ∙ l .inv .0,
+      (omega (arith, c .loop-test .taken, l .inv .0), filled (l .ns) (λ (_ : ℕ). 0) (l .k) (omega (arith, c .loop-test .taken)) (l .inv .1 .1) 0 refl),
+    )
 
--- src/lib.rt:116:1
-same-length : tie.Need-same-length Inv-loop μ-loop
-same-length c = ?
-
--- src/lib.rt:116:1
 returns : tie.Need-returns Inv-loop μ-loop
-returns c = ?
+returns c =
+    let l = c .before .loop in
+    (l .inv .0, λ i m. l .inv .1 .1 i (omega (arith, m, c .loop-test .left, l .inv .0)))
 
 pub wipe-counts-spec : {M : Type 1} → statement M
 wipe-counts-spec =
@@ -49,10 +36,10 @@ wipe-counts-spec =
     Inv-loop
     μ-loop
     loop-holds
-    mul-ns
-    slice-write-ns
-    add-k
-    loop-less
+    (λ c. search needs)
+    (λ c. search needs)
+    (λ c. search needs)
+    (λ c. search needs)
     loop-again
-    same-length
+    (λ c. search needs)
     returns)

@@ -1,46 +1,33 @@
+-- That `wipe_words` of src/lib.rt keeps its contract.
+use Rattle.words.proofs.ArrayLaws.{filled}
+use lib.ListN.{length, getD, length-set}
+use mathlib.Core.Path.{_≡_, refl, _∙_}
+use native.Mathlib.Omega.{arith}
+use Prim.Native.Nat.{ℕ, _-_, _<_, _≤_}
 use borrow.Author.Needs.{needs}
 use Rattle.cic_renewed.proofs.wipe_words.Statement.{statement}
 use Rattle.cic_renewed.proofs.wipe_words.Tie as tie
-use Rattle.cic_renewed.proofs.wipe_words.Reads as reads
-use Rattle.cic_renewed.proofs.wipe_words.Lts as lts
 
 abbrev Inv-loop : tie.InvT-loop
-Inv-loop ws₀ k₀ ws k = ?
+Inv-loop ws₀ k₀ ws k = (length ws ≡ length ws₀) × ((k ≤ length ws₀) × ((i : ℕ) → i < k → getD ws i 0 ≡ 0))
 
 abbrev μ-loop : tie.MeasureT-loop
-μ-loop ws₀ k₀ ws k = ?
+μ-loop ws₀ k₀ ws k = length ws₀ - k
 
--- src/lib.rt:109:5
 loop-holds : tie.Need-loop-holds Inv-loop μ-loop
-loop-holds c = ?
+loop-holds c = (refl, (omega arith, λ i l. absurd (omega (arith, l))))
 
--- src/lib.rt:110:9
-mul-ws : tie.Need-mul-ws Inv-loop μ-loop
-mul-ws c = ?
-
--- src/lib.rt:110:9
-slice-write-ws : tie.Need-slice-write-ws Inv-loop μ-loop
-slice-write-ws c = ?
-
--- src/lib.rt:111:13
-add-k : tie.Need-add-k Inv-loop μ-loop
-add-k c = ?
-
--- src/lib.rt:109:5
-loop-less : tie.Need-loop-less Inv-loop μ-loop
-loop-less c = ?
-
--- src/lib.rt:109:5
 loop-again : tie.Need-loop-again Inv-loop μ-loop
-loop-again c = ?
+loop-again c =
+    let l = c .before .loop in (
+      length-set (l .ws) (l .k) 0 ∙ l .inv .0,
+      (omega (arith, c .loop-test .taken, l .inv .0), filled (l .ws) (λ (_ : ℕ). 0) (l .k) (omega (arith, c .loop-test .taken)) (l .inv .1 .1) 0 refl),
+    )
 
--- src/lib.rt:104:1
-same-length : tie.Need-same-length Inv-loop μ-loop
-same-length c = ?
-
--- src/lib.rt:104:1
 returns : tie.Need-returns Inv-loop μ-loop
-returns c = ?
+returns c =
+    let l = c .before .loop in
+    (l .inv .0, λ i m. l .inv .1 .1 i (omega (arith, m, c .loop-test .left, l .inv .0)))
 
 pub wipe-words-spec : {M : Type 1} → statement M
 wipe-words-spec =
@@ -49,10 +36,10 @@ wipe-words-spec =
     Inv-loop
     μ-loop
     loop-holds
-    mul-ws
-    slice-write-ws
-    add-k
-    loop-less
+    (λ c. search needs)
+    (λ c. search needs)
+    (λ c. search needs)
+    (λ c. search needs)
     loop-again
-    same-length
+    (λ c. search needs)
     returns)
