@@ -40,6 +40,10 @@ ActiveIn c active = (s : ℕ) → s < 1024 → bitAt active s ≡ (bitAt (c .sta
 abbrev pub RaisedIn : Cic → List ℕ → Type 0
 RaisedIn c raised = (h : ℕ) → h < 256 → bitAt raised h ≡ anyBelow (c .systems) (λ s. raises c (hostNumber h) (system s))
 
+-- the parts of a record that the kept words and counts are about
+abbrev pub Has : Cic → List ℕ → List ℕ → List ℕ → List ℕ → Type 0
+Has c status enable channel host = (c .status ≡ status) × (c .enable ≡ enable) × (c .channel ≡ channel) × (c .host ≡ host)
+
 -- the kept words and counts are those of a record
 pub record Beside (c : Cic) (active load raised : List ℕ) : Type 0 where
   pub shaped : Shaped c

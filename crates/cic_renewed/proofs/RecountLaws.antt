@@ -17,7 +17,7 @@ use Rattle.words.proofs.TruthLaws.{eqb-iff}
 use Rattle.words.proofs.WordLaws.{bit-both, bit-cleared}
 use Rattle.cic_record.specs.declared.Cic.{Cic}
 use Rattle.cic_record.specs.Promises.{Shaped}
-use Rattle.cic_counts.specs.Counts.{target, goesTo, loadOf, Kept, Beside}
+use Rattle.cic_counts.specs.Counts.{target, goesTo, loadOf, Kept, Has, Beside}
 use Rattle.cic_counts.proofs.CountLaws.{count-nothing}
 
 -- ---- all words
@@ -63,13 +63,13 @@ kept-none channel host ws load raised w n r a z o =
     empty h = count-nothing 1024 (goesTo channel host ws h) (λ s l. ap (λ (b : Bool). b && eqb (target channel host s) h) (a s l))
 
 -- the kept words and counts are those of a record with these parts
-pub beside-parts : (c : Cic) (status enable channel host active load raised : List ℕ) → Shaped c → c .status ≡ status → c .enable ≡ enable → c .channel ≡ channel → c .host ≡ host
+pub beside-parts : (c : Cic) (status enable channel host active load raised : List ℕ) → Shaped c → Has c status enable channel host
     → ((i : ℕ) → i < 32 → getD active i 0 ≡ both (getD status i 0) (getD enable i 0)) → Kept channel host active load raised → Beside c active load raised
-beside-parts c status enable channel host active load raised h p q u w a k =
+beside-parts c status enable channel host active load raised h p a k =
     record {
       shaped = h;
-      held = λ s l. words-active status enable active a s l ∙ ap₂ (λ (x y : List ℕ). bitAt x s && bitAt y s) (sym p) (sym q);
-      kept = subst (λ (x : List ℕ). Kept x (c .host) active load raised) (sym u) (subst (λ (x : List ℕ). Kept channel x active load raised) (sym w) k);
+      held = λ s l. words-active status enable active a s l ∙ ap₂ (λ (x y : List ℕ). bitAt x s && bitAt y s) (sym (p .0)) (sym (p .1));
+      kept = subst (λ (x : List ℕ). Kept x (c .host) active load raised) (sym (p .2)) (subst (λ (x : List ℕ). Kept channel x active load raised) (sym (p .3)) k);
     }
 
 -- ---- four system interrupts

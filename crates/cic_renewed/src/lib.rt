@@ -9,7 +9,7 @@ ghost use Rattle.words.specs.Array.{bitAt};
 ghost use Rattle.words.specs.Word.{bit, either, both, without};
 ghost use Rattle.cic_record.specs.declared.Cic.{Cic};
 ghost use Rattle.cic_record.specs.Promises.{Shaped};
-ghost use Rattle.cic_counts.specs.Counts.{Kept, Beside};
+ghost use Rattle.cic_counts.specs.Counts.{Kept, Has, Beside};
 use cic_record::System;
 
 // The bits in which two words differ.
@@ -144,7 +144,7 @@ pub fn recount<'a>(
     channel: &'a [u8; 1024],
     host: &'a [u8; 256],
 )
-    ensures { λ _. ⌜ ((c : Cic) → Shaped c → c .status ≡ now (status .entry) → c .enable ≡ now (enable .entry) → c .channel ≡ now (channel .entry) → c .host ≡ now (host .entry) → Beside c (now (active .exit)) (now (load .exit)) (now (raised .exit))) ⌝ }
+    ensures { λ _. ⌜ ((c : Cic) → Shaped c → Has c (now (status .entry)) (now (enable .entry)) (now (channel .entry)) (now (host .entry)) → Beside c (now (active .exit)) (now (load .exit)) (now (raised .exit))) ⌝ }
 {
     wipe(active, load, raised);
     renew_all(status, enable, active, load, raised, channel, host);

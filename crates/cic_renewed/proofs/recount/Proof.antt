@@ -12,7 +12,7 @@ renew-all-requires c κs =
 returns : tie.Need-returns
 returns c =
     let a = c .before .before .before .before .before .before .before .before .args in
-    λ r h p q u w. beside-parts r (a .status .now) (a .enable .now) (a .channel .now) (a .host .now) _ _ _ h p q u w (c .renew-all .ensures .0) (c .renew-all .ensures .1)
+    λ r h p. beside-parts r (a .status .now) (a .enable .now) (a .channel .now) (a .host .now) _ _ _ h p (c .renew-all .ensures .0) (c .renew-all .ensures .1)
 
 pub recount-spec : {M : Type 1} → statement M
 recount-spec = tie.close (tie.spec (λ c κs. search needs) renew-all-requires returns)
