@@ -24,13 +24,13 @@ use Rattle.cic_record.specs.Promises.{Shaped}
 use Rattle.cic_record.specs.Sound.{sound}
 use Rattle.cic_hosts.specs.Hosts.{shown}
 use Rattle.cic_layout.specs.Map.{registerAt}
-use Rattle.cic.specs.Model.{writeAs}
+use Rattle.cic.specs.Model.{writeAs, lineAs}
 use Rattle.cic_counts.specs.Counts.{target, goesTo, loadOf, Kept, ActiveIn, Has, Beside}
 use Rattle.cic_counts.proofs.RecordLaws.{raised-record, shown-same}
 use Rattle.cic_beside.specs.declared.Touch.{Touch}
 use Rattle.cic_beside.specs.declared.Touch.the-variants.{Word, Channels, Hosts, Enables, Nothing}
 use Rattle.cic_beside.specs.Touching.{touched, renews, moves, sparesEnables, Renewed, Between}
-use Rattle.cic_beside.proofs.TouchLaws.{Touching, write-touching, write-shaped, moves-renewed}
+use Rattle.cic_beside.proofs.TouchLaws.{Touching, write-touching, line-touching, write-shaped, line-shaped, moves-renewed}
 
 -- ---- the counts under other maps
 
@@ -53,6 +53,12 @@ kept-stays channel host channel′ host′ ws load raised e k =
       counted = λ h l. k .counted h l ∙ sym (load-stays channel host channel′ host′ ws h e);
       any = λ h l. k .any h l ∙ ap (λ (n : ℕ). not (eqb n 0)) (sym (load-stays channel host channel′ host′ ws h e));
     }
+
+-- the same maps
+pub kept-maps : {channel host channel′ host′ : List ℕ} (ws load raised : List ℕ) → channel ≡ channel′ → host ≡ host′ → Kept channel′ host′ ws load raised
+    → Kept channel host ws load raised
+kept-maps {channel} {host} {channel′} {host′} ws load raised p q k =
+    subst (λ (x : List ℕ). Kept x host ws load raised) (sym p) (subst (λ (x : List ℕ). Kept channel′ x ws load raised) (sym q) k)
 
 -- ---- before a write
 
@@ -105,7 +111,7 @@ pub renewed-none : (t : Touch) (status enable ws : List ℕ) → ((i : ℕ) → 
 renewed-none t status enable ws n i l = pick-false (both (getD status i 0) (getD enable i 0)) (n i)
 
 -- the renewed words are those of the record after the step
-pub active-after : (t : Touch) (c d : Cic) (ws ws′ : List ℕ) → Touching t c d → ((s : ℕ) → s < 1024 → bitAt ws s ≡ ((bitAt (c .status) s && bitAt (c .enable) s) && not (moves t s)))
+pub active-after : (t : Touch) (c d : Cic) (ws ws′ : List ℕ) → Touching t c d → ((s : ℕ) → s < 1024 → renews t (s / 32) ≡ false → bitAt ws s ≡ (bitAt (c .status) s && bitAt (c .enable) s))
     → Renewed t (d .status) (d .enable) ws ws′ → ActiveIn d ws′
 active-after t c d ws ws′ touching held renewed s l = go (told (renews t (s / 32)))
   where
@@ -122,7 +128,7 @@ active-after t c d ws ws′ touching held renewed s l = go (told (renews t (s / 
         ∙ ap₂ (λ (x y : Bool). x && y) (sym (word (d .status))) (sym (word (d .enable)))
     go (inr r) =
         word ws′ ∙ ap (λ (x : ℕ). bit x (s % 32)) (now-in ∙ sym (pick-false (both (getD (d .status) (s / 32) 0) (getD (d .enable) (s / 32) 0)) r)) ∙ sym (word ws)
-        ∙ held s l ∙ ap (λ (x : Bool). (bitAt (c .status) s && bitAt (c .enable) s) && not x) (moves-renewed t s r) ∙ and-true (bitAt (c .status) s && bitAt (c .enable) s)
+        ∙ held s l r
         ∙ ap₂ (λ (x y : Bool). x && y) (same (c .status) (d .status) (touching .status (s / 32) r)) (same (c .enable) (d .enable) (touching .enable (s / 32) r))
       where
         same : (u v : List ℕ) → getD v (s / 32) 0 ≡ getD u (s / 32) 0 → bitAt u s ≡ bitAt v s
@@ -131,20 +137,14 @@ active-after t c d ws ws′ touching held renewed s l = go (told (renews t (s / 
 -- ---- after a step
 
 pub beside-after : (t : Touch) (c d : Cic) (status enable channel host ws ws′ load′ raised′ : List ℕ) → Touching t c d → Shaped d → Has d status enable channel host
-    → ((s : ℕ) → s < 1024 → bitAt ws s ≡ ((bitAt (c .status) s && bitAt (c .enable) s) && not (moves t s))) → Renewed t status enable ws ws′ → Kept channel host ws′ load′ raised′
+    → ((s : ℕ) → s < 1024 → renews t (s / 32) ≡ false → bitAt ws s ≡ (bitAt (c .status) s && bitAt (c .enable) s)) → Renewed t status enable ws ws′ → Kept channel host ws′ load′ raised′
     → Beside d ws′ load′ raised′
 beside-after t c d status enable channel host ws ws′ load′ raised′ touching h p held renewed k =
     record {
       shaped = h;
       held = active-after t c d ws ws′ touching held (subst (λ (x : List ℕ). Renewed t x (d .enable) ws ws′) (sym (p .0)) (subst (λ (x : List ℕ). Renewed t status x ws ws′) (sym (p .1)) renewed));
-      kept = subst (λ (x : List ℕ). Kept x (d .host) ws′ load′ raised′) (sym (p .2)) (subst (λ (x : List ℕ). Kept channel x ws′ load′ raised′) (sym (p .3)) k);
+      kept = kept-maps ws′ load′ raised′ (p .2) (p .3) k;
     }
-
--- a system interrupt that may not move is held as it is set and enabled
-pub held-all : (t : Touch) (c : Cic) (ws : List ℕ) → ((s : ℕ) → moves t s ≡ false) → ActiveIn c ws
-    → (s : ℕ) → s < 1024 → bitAt ws s ≡ ((bitAt (c .status) s && bitAt (c .enable) s) && not (moves t s))
-held-all t c ws n a s l =
-    a s l ∙ sym (ap (λ (x : Bool). (bitAt (c .status) s && bitAt (c .enable) s) && not x) (n s) ∙ and-true (bitAt (c .status) s && bitAt (c .enable) s))
 
 -- what is shown stays where the enables and the bits of all hosts do
 pub shown-after : (t : Touch) (c d : Cic) (active load raised active′ load′ raised′ : List ℕ) → Touching t c d → sparesEnables t ≡ true → sound c ≡ true → sound d ≡ true
@@ -153,7 +153,27 @@ shown-after t c d active load raised active′ load′ raised′ touching spares
     shown-same c d raised raised′ (raised-record c active load raised ok (b .held) (b .kept)) (raised-record d active′ load′ raised′ ok′ (b′ .held) (b′ .kept)) same
     (touching .enables spares .0) (touching .enables spares .1)
 
+-- ---- a line step
+
+module _ (c d : Cic) (s level : ℕ) (status enable channel host ws load raised ws′ load′ raised′ : List ℕ) (b : Beside c ws load raised) (e : d ≡ lineAs true c s level .cic) where
+  touching-line : Touching (Word (s / 32)) c d
+  touching-line = subst (Touching (Word (s / 32)) c) (sym e) (line-touching c s level)
+
+  pub beside-line : Has d status enable channel host → ws′ ≡ set ws (s / 32) (both (getD status (s / 32) 0) (getD enable (s / 32) 0)) → Kept channel host ws′ load′ raised′
+      → Beside d ws′ load′ raised′
+  unfolding renews
+  beside-line p f k =
+      beside-after (Word (s / 32)) c d status enable channel host ws ws′ load′ raised′ touching-line (subst Shaped (sym e) (line-shaped c s level (b .shaped))) p
+      (λ i l _. b .held i l) (renewed-word (Word (s / 32)) status enable ws ws′ (s / 32) (b .kept .words) (λ i. refl) f) k
+
+  pub shown-line : Beside d ws′ load′ raised′ → ((h : ℕ) → bitAt raised′ h ≡ bitAt raised h) → sound c ≡ true → sound d ≡ true → shown d ≡ shown c
+  unfolding sparesEnables
+  shown-line b′ same ok ok′ = shown-after (Word (s / 32)) c d ws load raised ws′ load′ raised′ touching-line refl ok ok′ b b′ (λ h _. same h)
+
 -- ---- around a write
+
+none-out : {b t : Bool} → t ≡ false → (b && not t) ≡ b
+none-out {b} e = ap (λ (x : Bool). b && not x) e ∙ and-true b
 
 -- where none may move, what is kept in between is that of the record before
 pub beside-before : (c d : Cic) (o v : ℕ) (active load raised : List ℕ) → ((s : ℕ) → moves (touched (registerAt o) v) s ≡ false) → Between c d o v active load raised
@@ -161,20 +181,21 @@ pub beside-before : (c d : Cic) (o v : ℕ) (active load raised : List ℕ) → 
 beside-before c d o v active load raised n b =
     record {
       shaped = b .shaped;
-      held = λ s l. b .held s l ∙ ap (λ (x : Bool). (bitAt (c .status) s && bitAt (c .enable) s) && not x) (n s) ∙ and-true (bitAt (c .status) s && bitAt (c .enable) s);
+      held = λ s l. b .held s l ∙ none-out (n s);
       kept = kept-stays (d .channel) (d .host) (c .channel) (c .host) active load raised (λ s l _. sym (touching .goes s (n s))) (b .kept);
     }
   where
     touching : Touching (touched (registerAt o) v) c d
     touching = subst (Touching (touched (registerAt o) v) c) (sym (b .written)) (write-touching c o v)
 
--- the words that were renewed after it
+-- the kept words after it
 pub after-between : (c d : Cic) (o v : ℕ) (t : Touch) (status enable channel host active load raised active′ load′ raised′ : List ℕ) → touched (registerAt o) v ≡ t
     → Between c d o v active load raised → Has d status enable channel host → Renewed t status enable active active′ → Kept channel host active′ load′ raised′
     → Beside d active′ load′ raised′
 after-between c d o v t status enable channel host active load raised active′ load′ raised′ at b p renewed k =
     beside-after (touched (registerAt o) v) c d status enable channel host active active′ load′ raised′
-    (subst (Touching (touched (registerAt o) v) c) (sym (b .written)) (write-touching c o v)) (subst Shaped (sym (b .written)) (write-shaped c o v (b .shaped))) p (b .held)
+    (subst (Touching (touched (registerAt o) v) c) (sym (b .written)) (write-touching c o v)) (subst Shaped (sym (b .written)) (write-shaped c o v (b .shaped))) p
+    (λ s l r. b .held s l ∙ none-out (moves-renewed (touched (registerAt o) v) s r))
     (subst (λ (x : Touch). Renewed x status enable active active′) (sym at) renewed) k
 
 -- what is shown stays

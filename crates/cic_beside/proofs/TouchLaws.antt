@@ -2,6 +2,7 @@
 use mathlib.Core.Path.{_≡_, refl, sym, ap, subst, _∙_}
 use mathlib.Core.Bool.{Bool, true, false, not, _&&_, true≢false, false≢true}
 use mathlib.Core.List.{List}
+use mathlib.Core.Logic.{_≢_}
 use Prim.Native.Nat.{ℕ, _/_, _%_}
 use native.Mathlib.Omega.{arith}
 use borrow.Author.Tests.{eq-eqb, ne-eqb, eqb-false}
@@ -19,7 +20,7 @@ use Rattle.cic_record.specs.declared.Answer.{Answer}
 use Rattle.cic_record.specs.declared.Cic.{Cic}
 use Rattle.cic_record.specs.Kinds.{system}
 use Rattle.cic_record.specs.Promises.{Shaped}
-use Rattle.cic_record.specs.Record.{withStatus, withEnable, withChannel, withHost, withAllow, withGlobal, withLines}
+use Rattle.cic_record.specs.Record.{withStatus, withEnable, withChannel, withHost, withAllow, withGlobal, answered}
 use Rattle.cic_words.specs.Bits.{bitsSet, bitsCleared}
 use Rattle.cic_maps.specs.Maps.{mapPut}
 use Rattle.cic_maps.proofs.Promises as maps
@@ -28,8 +29,9 @@ use Rattle.cic_layout.specs.declared.Register.the-variants as register
 use Rattle.cic_layout.specs.Map.{registerAt, access}
 use Rattle.cic_registers.specs.Registers.{writtenTo}
 use Rattle.cic_registers.proofs.WrittenLaws.{shaped-written}
-use Rattle.cic.specs.Model.{refusalAt, readAs, writeAs, moved, lineAs, stepAs}
+use Rattle.cic.specs.Model.{unlessRefused, refusalAt, readAs, writeAs, moved, lineAs, stepAs}
 use Rattle.cic.proofs.LineLaws.{moved-shaped}
+use Rattle.cic.proofs.StepLaws.{its-record}
 use Rattle.cic_counts.specs.Counts.{target}
 use Rattle.cic_beside.specs.declared.Touch.{Touch}
 use Rattle.cic_beside.specs.declared.Touch.the-variants.{Word, Channels, Hosts, Enables, Nothing}
@@ -124,6 +126,20 @@ line-touching c s level =
 pub read-record : (c : Cic) (o : ℕ) → readAs true c o .cic ≡ c
 unfolding readAs
 read-record c o = pick-cases (λ (a : Answer). a .cic ≡ c) (eqb (readRefusal true o (access c o)) carriedOut) (λ _. refl) (λ _. refl)
+
+by-number : (c : Cic) (n : ℕ) (a : Answer) → a .refusal ≡ carriedOut → (unlessRefused c n a .refusal ≡ carriedOut → ⊥) → unlessRefused c n a .cic ≡ c
+by-number c n a z d = ap (λ (b : Answer). b .cic) (its-record c n a z d)
+
+pub read-step : (c : Cic) (o : ℕ) → stepAs true c (Read o) .cic ≡ c
+unfolding stepAs
+read-step c o = read-record c o
+
+-- a step that is refused leaves the record
+pub refused-step : (c : Cic) (x : Step) → stepAs true c x .refusal ≢ carriedOut → stepAs true c x .cic ≡ c
+unfolding stepAs readAs writeAs lineAs
+refused-step c (Read o) n = read-step c o
+refused-step c (Write o v) n = by-number c (writeRefusal true o (access c o) (refusalAt c o v)) (answered (writtenTo c (registerAt o) v) 0) refl n
+refused-step c (Line s level) n = by-number c (lineRefusal true (c .systems) s level) (answered (moved c (system s) (eqb level 1)) 0) refl n
 
 pub step-touching : (c : Cic) (x : Step) → Touching (touchedBy x) c (stepAs true c x .cic)
 unfolding stepAs touchedBy

@@ -59,7 +59,16 @@ pub fn after_line<'a>(
     ensures kept { λ _. ⌜ ((c d : Cic) (level : ℕ) → Beside c (now (active .entry)) (now (load .entry)) (now (raised .entry)) → d ≡ lineAs true c number level .cic → Has d (now (status .entry)) (now (enable .entry)) (now (channel .entry)) (now (host .entry)) → Beside d (now (active .exit)) (now (load .exit)) (now (raised .exit))) ⌝ }
     ensures same { λ r. ⌜ (r ≡ false → (c d : Cic) (level : ℕ) → Beside c (now (active .entry)) (now (load .entry)) (now (raised .entry)) → d ≡ lineAs true c number level .cic → Has d (now (status .entry)) (now (enable .entry)) (now (channel .entry)) (now (host .entry)) → sound c ≡ true → sound d ≡ true → shown d ≡ shown c) ⌝ }
 {
-    cic_renewed::renew_word(status, enable, active, load, raised, channel, host, number / 32)
+    cic_renewed::renew_word(
+        status,
+        enable,
+        active,
+        load,
+        raised,
+        channel,
+        host,
+        number / 32,
+    )
 }
 
 // Before a write at the offset those system interrupts are taken out that it may send to another host. The channel map
@@ -103,7 +112,16 @@ pub fn after_write<'a>(
 {
     let t = touched(cic_layout::register_at(offset), value);
     match t {
-        Touch::Word(k) => cic_renewed::renew_word(status, enable, active, load, raised, channel, host, k),
+        Touch::Word(k) => cic_renewed::renew_word(
+            status,
+            enable,
+            active,
+            load,
+            raised,
+            channel,
+            host,
+            k,
+        ),
         Touch::Channels(k) => {
             cic_renewed::renew_word(status, enable, active, load, raised, channel, host, k / 8);
             true
