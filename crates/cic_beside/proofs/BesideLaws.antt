@@ -28,7 +28,7 @@ use Rattle.cic.specs.Model.{writeAs, lineAs}
 use Rattle.cic_counts.specs.Counts.{target, goesTo, loadOf, Kept, ActiveIn, Has, Beside}
 use Rattle.cic_counts.proofs.RecordLaws.{raised-record, shown-same}
 use Rattle.cic_beside.specs.declared.Touch.{Touch}
-use Rattle.cic_beside.specs.declared.Touch.the-variants.{Word, Channels, Hosts, Enables, Nothing}
+use Rattle.cic_beside.specs.declared.Touch.the-variants.{Word, Hosts}
 use Rattle.cic_beside.specs.Touching.{touched, renews, moves, sparesEnables, Renewed, Between}
 use Rattle.cic_beside.proofs.TouchLaws.{Touching, write-touching, line-touching, write-shaped, line-shaped, moves-renewed}
 

@@ -1,6 +1,6 @@
 -- At which offsets a write may send system interrupts to another host.
 use mathlib.Core.Path.{_≡_, refl, ap, _∙_}
-use mathlib.Core.Bool.{Bool, true, false, _||_}
+use mathlib.Core.Bool.{true, false, _||_}
 use mathlib.Core.Logic.{⊎-elim}
 use Prim.Native.Nat.{ℕ, _-_, _/_, _<_, _≤_}
 use native.Mathlib.Decide.{decLt}

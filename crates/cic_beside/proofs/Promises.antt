@@ -1,18 +1,14 @@
 -- The proofs of what is promised of the words and counts that are kept beside a CIC.
-use mathlib.Core.Path.{_≡_, refl, sym, ap, subst, _∙_}
+use mathlib.Core.Path.{_≡_, sym, ap, subst}
 use mathlib.Core.Bool.{true}
 use mathlib.Core.List.{List}
-use mathlib.Core.Logic.{_≢_}
 use Prim.Native.Nat.{ℕ}
-use lib.Dec.{eqb}
-use Rattle.steps.specs.declared.Step.{Step}
-use Rattle.steps.specs.declared.Step.the-variants.{Read, Write, Line}
-use Rattle.steps.specs.Refusals.{carriedOut}
-use Rattle.cic_record.specs.declared.Answer.{Answer}
+use Rattle.steps.specs.declared.Step.the-variants.{Read}
 use Rattle.cic_record.specs.declared.Cic.{Cic}
 use Rattle.cic_hosts.specs.Hosts.{shown}
 use Rattle.cic.specs.Model.{stepAs}
 use Rattle.cic_counts.specs.Counts.{Beside}
+use Rattle.cic_renewed.proofs.RecountLaws.{beside-fresh}
 use Rattle.cic_beside.specs.Promises.{Promises}
 use Rattle.cic_beside.specs.Touching.{touchedBy}
 use Rattle.cic_beside.proofs.BesideLaws.{active-after, shown-after}
@@ -25,6 +21,7 @@ same-record c d active load raised e b = (subst (λ (x : Cic). Beside x active l
 pub kept : Promises
 kept =
     record {
+      atReset = beside-fresh;
       everyStep = λ c x active load raised active′ load′ raised′ b r k.
           record {
             shaped = step-shaped c x (b .shaped);

@@ -1,16 +1,15 @@
 -- What a step leaves of a record, by what it may touch.
-use mathlib.Core.Path.{_≡_, refl, sym, ap, subst, _∙_}
+use mathlib.Core.Path.{_≡_, refl, sym, ap, subst}
 use mathlib.Core.Bool.{Bool, true, false, not, _&&_, true≢false, false≢true}
 use mathlib.Core.List.{List}
 use mathlib.Core.Logic.{_≢_}
 use Prim.Native.Nat.{ℕ, _/_, _%_}
 use native.Mathlib.Omega.{arith}
-use borrow.Author.Tests.{eq-eqb, ne-eqb, eqb-false}
+use borrow.Author.Tests.{eq-eqb, ne-eqb}
 use lib.Dec.{eqb}
 use lib.ListN.{getD, set}
 use lib.Seq.{getD-set-other}
 use Rattle.words.specs.Array.{bitAt, withBitAt}
-use Rattle.words.specs.Choice.{pick}
 use Rattle.words.proofs.ChoiceLaws.{pick-cases}
 use Rattle.words.proofs.TruthLaws.{clash}
 use Rattle.steps.specs.declared.Step.{Step}

@@ -1,13 +1,15 @@
 // How many active system interrupts each host has, kept beside the parts of a CIC and renewed system by system.
 ghost use mathlib.Core.Path.{_≡_};
 ghost use mathlib.Core.Bool.{true, false, not};
+ghost use mathlib.Core.List.{List};
 ghost use Prim.Native.Nat.{ℕ, _<_, _/_};
 ghost use lib.ListN.{length};
 ghost use Rattle.words.specs.Array.{bitAt, withBitAt};
 ghost use Rattle.cic_record.specs.declared.Cic.{Cic};
 ghost use Rattle.cic_record.specs.Kinds.{hostNumber};
+ghost use Rattle.cic_record.specs.Sound.{sound};
 ghost use Rattle.cic_hosts.specs.Hosts.{asserted, shown};
-ghost use Rattle.cic_counts.specs.Counts.{target, Kept, RaisedIn};
+ghost use Rattle.cic_counts.specs.Counts.{target, Kept, RaisedIn, Beside};
 use cic_record::Signals;
 use cic_record::System;
 
@@ -111,9 +113,9 @@ fn asserted_words(global: u32, raised: [u32; 8], allow: [u32; 8]) -> [u32; 8]
     cic_hosts::shared(allow, raised)
 }
 
-// How many hosts are asserted and which is the lowest, from the kept words.
+// How many hosts are asserted and which is the lowest, of every sound record that the words are kept for.
 pub fn shown(global: u32, raised: [u32; 8], allow: [u32; 8]) -> Signals
-    ensures { λ r. ⌜ ((c : Cic) → c .global ≡ global → c .allow ≡ allow → RaisedIn c raised → r ≡ shown c) ⌝ }
+    ensures { λ r. ⌜ ((c : Cic) (active load : List ℕ) → sound c ≡ true → c .global ≡ global → c .allow ≡ allow → Beside c active load raised → r ≡ shown c) ⌝ }
 {
     let ws = asserted_words(global, raised, allow);
     let hosts = cic_hosts::count_of(ws);

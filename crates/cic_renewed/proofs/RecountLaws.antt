@@ -8,15 +8,16 @@ use native.Mathlib.Nat.{mod-lt}
 use native.Mathlib.Omega.{arith}
 use borrow.Author.Tests.{eq-eqb, ne-eqb}
 use lib.Dec.{eqb}
-use lib.ListN.{length, getD, set}
+use lib.ListN.{length, getD, set, replicate}
 use lib.Seq.{getD-set-same, getD-set-other}
 use Rattle.words.specs.Array.{bitAt}
 use Rattle.words.specs.Word.{bit, both, withBit}
-use Rattle.words.proofs.ArrayLaws.{bitAt-word, none-before}
+use Rattle.words.proofs.ArrayLaws.{bitAt-word, none-before, zeros-bitAt, zeros-getD}
 use Rattle.words.proofs.TruthLaws.{eqb-iff}
 use Rattle.words.proofs.WordLaws.{bit-both, bit-cleared}
 use Rattle.cic_record.specs.declared.Cic.{Cic}
 use Rattle.cic_record.specs.Promises.{Shaped}
+use Rattle.cic_record.specs.Start.{fresh}
 use Rattle.cic_counts.specs.Counts.{target, goesTo, loadOf, Kept, Has, Beside}
 use Rattle.cic_counts.proofs.CountLaws.{count-nothing}
 
@@ -70,6 +71,18 @@ beside-parts c status enable channel host active load raised h p a k =
       shaped = h;
       held = λ s l. words-active status enable active a s l ∙ ap₂ (λ (x y : List ℕ). bitAt x s && bitAt y s) (sym (p .0)) (sym (p .1));
       kept = subst (λ (x : List ℕ). Kept x (c .host) active load raised) (sym (p .2)) (subst (λ (x : List ℕ). Kept channel x active load raised) (sym (p .3)) k);
+    }
+
+-- words and counts of 0 are those of the record at reset
+pub beside-fresh : (s k h v : ℕ) → Beside (fresh s k h v) (replicate 32 0) (replicate 256 0) (replicate 8 0)
+unfolding fresh
+beside-fresh s k h v =
+    record {
+      shaped = (refl, refl, refl, refl, refl, refl);
+      held = λ i l. zeros-bitAt 32 i ∙ sym (ap₂ (λ (x y : Bool). x && y) (zeros-bitAt 32 i) (zeros-bitAt 32 i));
+      kept =
+          kept-none (replicate 1024 0) (replicate 256 0) (replicate 32 0) (replicate 256 0) (replicate 8 0) refl refl refl (λ i l. zeros-bitAt 32 i) (λ i l. zeros-getD 256 i)
+          (λ i l. zeros-getD 8 i);
     }
 
 -- ---- four system interrupts

@@ -7,7 +7,7 @@ use Rattle.cic_layout.specs.declared.Register.{Register}
 use Rattle.cic_layout.specs.Map.{registerAt}
 use Rattle.words.proofs.TruthLaws.{clash}
 use mathlib.Core.Path.{_≡_, refl, sym, ap, _∙_}
-use Prim.Native.Nat.{ℕ, _/_}
+use Prim.Native.Nat.{ℕ}
 use borrow.Author.Needs.{needs}
 use Rattle.cic_beside.proofs.after_write.Statement.{statement}
 use Rattle.cic_beside.proofs.after_write.Tie as tie
