@@ -40,7 +40,7 @@ fn is_routed(route: u8, side: u8) -> bool
 }
 
 // The inputs from `base` on whose output is `side`, 32 of them as a word.
-fn route_word(routes: &[u8; 128], base: u32, side: u8) -> u32
+pub fn route_word(routes: &[u8; 128], base: u32, side: u8) -> u32
     requires { ⌜ base ≤ 96 ⌝ }
     ensures { λ r. ⌜ r ≡ routeWord (now (routes .entry)) base side ⌝ }
 {
