@@ -1,0 +1,2 @@
+-- Laws about the AINTC in parts.
+pub mod OutputLaws

@@ -1,0 +1,121 @@
+// What a read of each register answers, where nothing refuses it.
+ghost use mathlib.Core.Path.{_≡_};
+ghost use mathlib.Core.List.{List};
+ghost use mathlib.Core.Bool.{Bool};
+ghost use Prim.Native.Nat.{ℕ, _<_, _≤_};
+ghost use lib.ListN.{getD};
+ghost use Rattle.aintc_record.specs.Route.{routeValue};
+ghost use Rattle.aintc_registers.specs.Registers.{singleRead, bankRead, readAt};
+ghost use Rattle.aintc_parts.specs.Parts.{aintcOf};
+use super::outputs;
+use super::sides;
+use aintc_registers::map;
+use aintc_registers::reads::one_of;
+use aintc_registers::reads::shown;
+
+// The registers that stand alone; 0 where there is none to read.
+fn read_single(
+    threshold: u8,
+    revision: u8,
+    guarded: bool,
+    autoidle: bool,
+    turbo: bool,
+    funcidle: bool,
+    irq: u32,
+    fiq: u32,
+    offset: u32,
+) -> u32
+    ensures { λ r. ⌜ ((ls so ms rs : List ℕ) → r ≡ singleRead (aintcOf ls so ms rs threshold revision guarded autoidle turbo funcidle irq fiq) offset) ⌝ }
+{
+    match offset {
+        map::REVISION => revision as u32,
+        map::SYSCONFIG => one_of(autoidle),
+        map::SYSSTATUS => 1,
+        map::SIR_IRQ => shown(outputs::is_active(irq), outputs::number_of(irq)),
+        map::SIR_FIQ => shown(outputs::is_active(fiq), outputs::number_of(fiq)),
+        map::PROTECTION => one_of(guarded),
+        map::IDLE => 2 * one_of(turbo) + one_of(funcidle),
+        map::IRQ_PRIORITY => shown(outputs::is_active(irq), outputs::priority_of(irq)),
+        map::FIQ_PRIORITY => shown(outputs::is_active(fiq), outputs::priority_of(fiq)),
+        map::THRESHOLD => threshold as u32,
+        _ => 0,
+    }
+}
+
+// The registers of bank n, by their row; 0 where there is none to read.
+fn read_bank<'a>(
+    lines: &'a [u32; 4],
+    soft: &'a [u32; 4],
+    masks: &'a [u32; 4],
+    routes: &'a [u8; 128],
+    n: u32,
+    row: u32,
+) -> u32
+    requires { ⌜ n < 4 ⌝ }
+    ensures { λ r. ⌜ ((th re : ℕ) (gu au tu fu : Bool) (ir fi : ℕ) → r ≡ bankRead (aintcOf (now (lines .entry)) (now (soft .entry)) (now (masks .entry)) (now (routes .entry)) th re gu au tu fu ir fi) n row) ⌝ }
+{
+    let at = n as usize;
+    match row {
+        map::ITR => lines[at],
+        map::MIR => masks[at],
+        map::ISR_SET => soft[at],
+        map::PENDING_IRQ => sides::pending_word(lines, soft, masks, routes, false, n),
+        map::PENDING_FIQ => sides::pending_word(lines, soft, masks, routes, true, n),
+        _ => 0,
+    }
+}
+
+// The route of input k as its register shows it; 0 past the last one.
+fn read_route(routes: &[u8], k: u32) -> u32
+    ensures { λ r. ⌜ r ≡ routeValue (getD (now (routes .entry)) k 0) ⌝ }
+{
+    let at = k as usize;
+    if at < routes.len() {
+        return aintc_record::route_value(routes[at]);
+    }
+    0
+}
+
+// A read of a register that may be read.
+pub(crate) fn read_at<'a>(
+    lines: &'a [u32; 4],
+    soft: &'a [u32; 4],
+    masks: &'a [u32; 4],
+    routes: &'a [u8; 128],
+    threshold: u8,
+    revision: u8,
+    guarded: bool,
+    autoidle: bool,
+    turbo: bool,
+    funcidle: bool,
+    irq: u32,
+    fiq: u32,
+    offset: u32,
+) -> u32
+    ensures { λ r. ⌜ r ≡ readAt (aintcOf (now (lines .entry)) (now (soft .entry)) (now (masks .entry)) (now (routes .entry)) threshold revision guarded autoidle turbo funcidle irq fiq) offset ⌝ }
+{
+    if offset < map::ITR {
+        return read_single(
+            threshold,
+            revision,
+            guarded,
+            autoidle,
+            turbo,
+            funcidle,
+            irq,
+            fiq,
+            offset,
+        );
+    }
+    if offset < map::ILR {
+        return read_bank(
+            lines,
+            soft,
+            masks,
+            routes,
+            (offset - map::ITR) / 0x20,
+            map::row_of(offset),
+        );
+    }
+    read_route(routes, (offset - map::ILR) / 4)
+}
