@@ -2,8 +2,8 @@
 // and an offset are of the width of a pointer. include/wisteria.h declares the functions for C, and says what a caller answers for.
 ghost use mathlib.Core.Path.{_≡_};
 ghost use Rattle.text.specs.Text.{laid};
-ghost use Rattle.player.specs.Play.{playOf};
-ghost use Rattle.listing.specs.Listing.{listingOf};
+ghost use Rattle.reports.specs.Play.{playOf};
+ghost use Rattle.lines.specs.Listing.{listingOf};
 ghost use Rattle.tables.specs.Reading.{answerTo};
 
 // Writes the listing of a trace of at most `limit` steps to the start of the lent buffer. Answers the number of bytes written: what finds no room

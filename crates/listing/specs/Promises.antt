@@ -17,9 +17,9 @@ use Rattle.machine.specs.declared.Answer.{Answer}
 use Rattle.machine_record.specs.declared.Columns.{Columns}
 use Rattle.machine_record.specs.Shown.{shown}
 use Rattle.machine.specs.Steps.{step}
-use Rattle.player.specs.Begin.{beginOf}
-use Rattle.player.specs.Play.{recordsOf, runOf, playOf}
-use Rattle.listing.specs.Listing.{stepLine, linesFrom, joined, endOf, listingOf}
+use Rattle.beginning.specs.Begin.{beginOf}
+use Rattle.reports.specs.Play.{recordsOf, runOf, playOf}
+use Rattle.lines.specs.Listing.{stepLine, linesFrom, joined, endOf, listingOf}
 
 -- the lines of the steps of a trace, of which at most so many are played
 abbrev pub linesOf : List ℕ → ℕ → List (List ℕ)

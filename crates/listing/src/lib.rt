@@ -5,7 +5,7 @@ ghost use Rattle.text.specs.Text.{write, laid};
 ghost use Rattle.trace.specs.Trace.{stepsFrom};
 ghost use Rattle.kinds.specs.Kinds.{name, tellsPrivilege};
 ghost use Rattle.machine_record.specs.Promises.{Ready};
-ghost use Rattle.listing.specs.Listing.{letterOf, letter, shownValue, lineOf, endLine, endOf, textFrom, listingOf};
+ghost use Rattle.lines.specs.Listing.{letterOf, letter, shownValue, lineOf, endLine, endOf, textFrom, listingOf};
 use machine_record::Columns;
 use machine_record::Machine;
 use player::Begun;

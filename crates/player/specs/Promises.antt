@@ -14,17 +14,9 @@ use Rattle.machine_record.specs.Machine.{blank, sound}
 use Rattle.machine.specs.Steps.{step}
 use Rattle.kinds.specs.Promises.{Within}
 use Rattle.machine_record.specs.Promises.{startWith}
-use Rattle.player.specs.Begin.{beginOf}
-use Rattle.player.specs.Play.{recordsOf, runOf, playOf}
-
--- a beginning that has been read as far as these numbers, the kind first, asks for another one
-abbrev pub Wanting : List ℕ → Type 0
-Wanting [] = Unit
-Wanting (kind ∷ ns) = (isKind kind ≡ true) × (Within kind 0 ns × (length ns < wanted kind))
-
--- these numbers configure a controller of a kind
-abbrev pub Configures : ℕ → List ℕ → Type 0
-Configures kind ns = (isKind kind ≡ true) × (Within kind 0 ns × (length ns ≡ wanted kind))
+use Rattle.beginning.specs.Asked.{Wanting, Configures}
+use Rattle.beginning.specs.Begin.{beginOf}
+use Rattle.reports.specs.Play.{recordsOf, runOf, playOf}
 
 -- a trace begins with a refusal, 0 for none, at a place
 abbrev pub Begins : List ℕ → ℕ → ℕ → Type 0

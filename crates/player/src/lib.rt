@@ -1,9 +1,9 @@
 // Plays a recorded trace on the machine that it names (01, "House trace"; 02, 2/12).
 ghost use mathlib.Core.Path.{_≡_};
 ghost use Rattle.machine_record.specs.Promises.{Ready};
-ghost use Rattle.player.specs.Begin.{refusedSetup, setupOf, notBegun, bySetup, byController, beginOf};
+ghost use Rattle.beginning.specs.Begin.{refusedSetup, setupOf, notBegun, bySetup, byController, beginOf};
 ghost use Rattle.trace.specs.Trace.{ends, stepsFrom};
-ghost use Rattle.player.specs.Play.{report, playOf};
+ghost use Rattle.reports.specs.Play.{report, playOf};
 use kinds::Configuration;
 use machine_record::Machine;
 use numbers::Number;

@@ -1,9 +1,9 @@
 -- That `list` of src/lib.rt keeps its contract.
 use mathlib.Core.Path.{ap, _∙_}
-use Rattle.player.proofs.BeginningLaws.{begin-ready}
+use Rattle.beginning.proofs.BeginningLaws.{begin-ready}
 use Rattle.text.proofs.WriteLaws.{write-laid}
 use Rattle.text.specs.Text.{write}
-use Rattle.listing.proofs.LineLaws.{listing-begun, listing-refused}
+use Rattle.lines.proofs.LineLaws.{listing-begun, listing-refused}
 use borrow.Author.Needs.{needs}
 use Rattle.listing.proofs.list.Statement.{statement}
 use Rattle.listing.proofs.list.Tie as tie

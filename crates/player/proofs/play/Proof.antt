@@ -1,7 +1,7 @@
 -- That `play` of src/lib.rt keeps its contract.
 use mathlib.Core.Path.{_∙_}
-use Rattle.player.proofs.BeginningLaws.{begin-ready}
-use Rattle.player.proofs.BeginLaws.{play-begun, play-refused}
+use Rattle.beginning.proofs.BeginningLaws.{begin-ready}
+use Rattle.beginning.proofs.BeginLaws.{play-begun, play-refused}
 use borrow.Author.Needs.{needs}
 use Rattle.player.proofs.play.Statement.{statement}
 use Rattle.player.proofs.play.Tie as tie
