@@ -4,13 +4,16 @@ use mathlib.Core.Path.{_≡_, refl, sym, ap, _∙_}
 use mathlib.Core.Bool.{Bool}
 use mathlib.Core.List.{List, _++_, append-assoc}
 use borrow.Author.Tests.{eq-eqb, ne-eqb}
+use Rattle.words.specs.Choice.{pick}
 use Rattle.words.proofs.ChoiceLaws.{pick-true, pick-false}
 use Rattle.steps.specs.Refusals.{carriedOut}
 use Rattle.steps.specs.declared.Recorded.{Recorded}
 use Rattle.steps.specs.declared.Step.{Step}
+use Rattle.steps.specs.declared.Step.the-variants.{Read, Write, Line}
 use Rattle.text.specs.Text.{write}
 use Rattle.text.proofs.WriteLaws.{rest-of}
 use Rattle.trace.specs.declared.Turn.the-variants.{Found, Ended}
+use Rattle.trace.specs.Steps.{readKind, writeKind, lineKind}
 use Rattle.trace.specs.Trace.{Trace, ends, after, turnAt, stepsFrom}
 use Rattle.trace.proofs.TraceLaws.{trace-ended, trace-found}
 use Rattle.machine.specs.declared.Answer.{Answer}
@@ -23,7 +26,7 @@ use Rattle.beginning.specs.declared.Begun.{Begun}
 use Rattle.beginning.specs.Begin.{beginOf}
 use Rattle.reports.specs.Play.{recordsFrom}
 use Rattle.reports.proofs.PlayLaws.{records-begun, records-refused}
-use Rattle.lines.specs.Listing.{letter, shownValue, lineOf, stepLine, linesFrom, joined, endOf, textFrom, nameLine, listingOf}
+use Rattle.lines.specs.Listing.{letter, letterBy, shownValue, lineOf, stepLine, linesFrom, joined, endOf, textFrom, nameLine, listingOf}
 
 -- nothing follows
 text-ends : (n : ℕ) (m : Machine) (refusal offset : ℕ) → endOf refusal offset ≡ textFrom n m (ends refusal offset)
@@ -61,6 +64,20 @@ module _ (n : ℕ) (m : Machine) (told : Bool) (left : ℕ) (s : List ℕ) (at :
       (eq ∙ ap (write o) (line-made (n + 1) (x .step) a l v c el ev ec))
       ∙ ap (λ (b : Answer). write o (stepLine (n + 1) (x .step) b ++ textFrom (n + 1) (b .machine) (stepsFrom told (left - 1) s p))) g
       ∙ ap (write o) (text-found x p e) ∙ ew
+
+-- ---- letters by the number of a kind
+
+pub letter-read : (offset refusal : ℕ) → letterBy readKind refusal ≡ letter (Read offset) refusal
+unfolding letterBy letter pick
+letter-read offset refusal = refl
+
+pub letter-write : (offset value refusal : ℕ) → letterBy writeKind refusal ≡ letter (Write offset value) refusal
+unfolding letterBy letter pick
+letter-write offset value refusal = refl
+
+pub letter-line : (line level refusal : ℕ) → letterBy lineKind refusal ≡ letter (Line line level) refusal
+unfolding letterBy letter pick
+letter-line line level refusal = refl
 
 -- ---- the whole listing, by its beginning
 

@@ -8,6 +8,7 @@ use Rattle.steps.specs.declared.Recorded.{Recorded}
 use Rattle.steps.specs.declared.Step.{Step}
 use Rattle.steps.specs.declared.Step.the-variants.{Read, Write, Line}
 use Rattle.text.specs.Text.{space, newline, hex, decimal, field}
+use Rattle.trace.specs.Steps.{readKind, writeKind}
 use Rattle.trace.specs.Trace.{Trace}
 use Rattle.machine.specs.declared.Answer.{Answer}
 use Rattle.machine_record.specs.declared.Columns.{Columns}
@@ -30,6 +31,13 @@ letterOf (Line line level) = 76
 -- X where the step is refused (01, House trace)
 unfoldable pub letter : Step → ℕ → ℕ
 letter x refusal = pick (eqb refusal carriedOut) (letterOf x) 88
+
+-- the same by the number of the kind of step, 1, 2 or 3 (01, House trace)
+abbrev pub letterOfKind : ℕ → ℕ
+letterOfKind kind = pick (eqb kind readKind) 82 (pick (eqb kind writeKind) 87 76)
+
+unfoldable pub letterBy : ℕ → ℕ → ℕ
+letterBy kind refusal = pick (eqb refusal carriedOut) (letterOfKind kind) 88
 
 -- the value read, else 0; the refusal's number where the step is refused (01, House trace)
 unfoldable pub shownValue : ℕ → ℕ → ℕ

@@ -1,7 +1,10 @@
 // The lines of a listing, as text in a buffer that the caller lends (01, "House trace").
 ghost use mathlib.Core.Path.{_≡_};
+ghost use lib.Dec.{eqb};
+ghost use Rattle.words.specs.Choice.{pick};
+ghost use Rattle.steps.specs.Refusals.{carriedOut};
 ghost use Rattle.text.specs.Text.{write};
-ghost use Rattle.lines.specs.Listing.{letterOf, letter, shownValue, lineOf, endLine, endOf};
+ghost use Rattle.lines.specs.Listing.{letterOf, letter, letterOfKind, letterBy, shownValue, lineOf, endLine, endOf};
 use machine_record::Columns;
 use steps::Step;
 use text::NEWLINE;
@@ -46,10 +49,23 @@ fn put_refusal(out: &mut [u8], at: usize, refusal: u32, offset: usize) -> usize
 pub fn letter_of(x: Step, refusal: u32) -> u8
     ensures { λ r. ⌜ r ≡ letter x refusal ⌝ }
 {
+    unless_refused(letter_by_kind(x), refusal)
+}
+
+// The letter of a step of which only the number of its kind is known: 1, 2 or 3, as in a trace.
+pub fn letter_by(kind: u32, refusal: u32) -> u8
+    ensures { λ r. ⌜ r ≡ letterBy kind refusal ⌝ }
+{
+    unless_refused(letter_by_number(kind), refusal)
+}
+
+fn unless_refused(letter: u8, refusal: u32) -> u8
+    ensures { λ r. ⌜ r ≡ pick (eqb refusal carriedOut) letter 88 ⌝ }
+{
     if refusal != steps::CARRIED_OUT {
         return b'X';
     }
-    letter_by_kind(x)
+    letter
 }
 
 fn letter_by_kind(x: Step) -> u8
@@ -60,6 +76,18 @@ fn letter_by_kind(x: Step) -> u8
         Step::Write(_, _) => b'W',
         Step::Line(_, _) => b'L',
     }
+}
+
+fn letter_by_number(kind: u32) -> u8
+    ensures { λ r. ⌜ r ≡ letterOfKind kind ⌝ }
+{
+    if kind == trace::READ {
+        return b'R';
+    }
+    if kind == trace::WRITE {
+        return b'W';
+    }
+    b'L'
 }
 
 // What the eight digits show: the value read, else 0, or the refusal's number.
