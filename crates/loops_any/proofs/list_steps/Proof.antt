@@ -7,7 +7,7 @@ use Rattle.text.specs.Text.{write}
 use Rattle.trace.specs.Trace.{stepsFrom}
 use Rattle.trace.proofs.TraceLaws.{turn-found}
 use Rattle.machine_record.specs.Promises.{Ready}
-use Rattle.machine.proofs.StepLaws.{step-ready}
+use Rattle.reports.proofs.PlayLaws.{next-ready}
 use Rattle.lines.specs.Listing.{textFrom}
 use Rattle.lines.proofs.LineLaws.{text-ended, listed}
 use borrow.Author.Needs.{needs}
@@ -39,7 +39,7 @@ add-count c = let m = c .before .before .before .before .before in
 shown-sound-requires : tie.Need-shown-sound-requires Inv-loop μ-loop
 shown-sound-requires c κs = let a = c .before .before .before .before in
     let l = a .before .before .before .before .before .loop in
-    rw (a .step-sound .ensures) (step-ready _ _ (l .inv .3) .0)
+    next-ready _ _ _ (a .step-sound .ensures) (l .inv .3) .0
 
 loop-less : tie.Need-loop-less Inv-loop μ-loop
 loop-less c = let a = c .before .before .before .before .before .before .before .before in
@@ -57,7 +57,7 @@ loop-again c = let p = c .before .before in
           (p .put-line .ensures) (l .inv .0),
       search needs,
       omega (arith, turn-found _ _ _ _ _ _ e .1 .0),
-      rw (a .step-sound .ensures) (step-ready _ _ (l .inv .3)),
+      next-ready _ _ _ (a .step-sound .ensures) (l .inv .3),
     )
 
 pub list-steps-spec : {M : Type 1} → statement M
