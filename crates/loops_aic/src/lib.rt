@@ -32,7 +32,8 @@ pub fn play_steps(trace: &[u8], limit: u32, start: usize, first: Aic) -> Played
                 };
             }
             Turn::Found(x, next) => {
-                let a = aic::step_sound(s, x.step);
+                let step = x.step;
+                let a = aic::step_sound(s, step);
                 s = a.aic;
                 at = next;
                 left = left - 1;
