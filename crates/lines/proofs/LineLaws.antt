@@ -65,6 +65,12 @@ module _ (n : ℕ) (m : Machine) (told : Bool) (left : ℕ) (s : List ℕ) (at :
       ∙ ap (λ (b : Answer). write o (stepLine (n + 1) (x .step) b ++ textFrom (n + 1) (b .machine) (stepsFrom told (left - 1) s p))) g
       ∙ ap (write o) (text-found x p e) ∙ ew
 
+-- the text of a loop that has the machine in a form of its own
+pub text-as : (n : ℕ) (told told′ : Bool) (limit : ℕ) (s : List ℕ) (at : ℕ) (m m′ : Machine) → m ≡ m′ → told ≡ told′
+    → textFrom n m (stepsFrom told limit s at) ≡ textFrom n m′ (stepsFrom told′ limit s at)
+text-as n told told′ limit s at m m′ e t =
+    ap (λ (x : Machine). textFrom n x (stepsFrom told limit s at)) e ∙ ap (λ (z : Bool). textFrom n m′ (stepsFrom z limit s at)) t
+
 -- ---- letters by the number of a kind
 
 pub letter-read : (offset refusal : ℕ) → letterBy readKind refusal ≡ letter (Read offset) refusal
