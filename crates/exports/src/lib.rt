@@ -15,6 +15,14 @@ pub extern "C" fn wisteria_list(trace: &[u8], limit: u32, out: &mut [u8]) -> usi
     listing::list(trace, limit, out)
 }
 
+// The same listing by the loop over any machine, whatever the kind: it is there to be timed beside the other.
+#[no_mangle]
+pub extern "C" fn wisteria_list_plain(trace: &[u8], limit: u32, out: &mut [u8]) -> usize
+    ensures { λ r. ⌜ (now (out .exit), r) ≡ laid (now (out .entry)) (listingOf (now (trace .entry)) limit) ⌝ }
+{
+    listing::list_plain(trace, limit, out)
+}
+
 // The number of steps played, refused ones among them: at most `limit`, and 0 where the trace has no accepted configuration.
 #[no_mangle]
 pub extern "C" fn wisteria_steps(trace: &[u8], limit: u32) -> u32
