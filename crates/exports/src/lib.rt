@@ -32,6 +32,15 @@ pub extern "C" fn wisteria_steps(trace: &[u8], limit: u32) -> u32
     p.steps
 }
 
+// The same number by the loop over any machine, whatever the kind: it is there to be timed beside the other.
+#[no_mangle]
+pub extern "C" fn wisteria_play_plain(trace: &[u8], limit: u32) -> u32
+    ensures { λ r. ⌜ r ≡ playOf (now (trace .entry)) limit .steps ⌝ }
+{
+    let p = player::play_plain(trace, limit);
+    p.steps
+}
+
 // The number of the refusal that ended the play, 7 to 11, or 0 where the trace was played to its end.
 #[no_mangle]
 pub extern "C" fn wisteria_refusal(trace: &[u8], limit: u32) -> u32
