@@ -21,13 +21,13 @@ use Rattle.machine_record.specs.Shown.{shown}
 use Rattle.machine.specs.Steps.{step}
 use Rattle.machine_record.proofs.ShownLaws.{small}
 use Rattle.machine.proofs.StepLaws.{step-ready}
-use Rattle.player.specs.declared.Begun.{Begun}
-use Rattle.player.specs.Begin.{beginOf}
-use Rattle.player.specs.Play.{recordsOf}
-use Rattle.player.proofs.PlayLaws.{records-limited}
-use Rattle.player.proofs.BeginningLaws.{begin-ready}
-use Rattle.listing.specs.Listing.{letter, shownValue, lineOf, stepLine, linesFrom, joined, endLine, endOf, textFrom, nameLine, listingOf}
-use Rattle.listing.proofs.LineLaws.{listing-refused}
+use Rattle.beginning.specs.declared.Begun.{Begun}
+use Rattle.beginning.specs.Begin.{beginOf}
+use Rattle.reports.specs.Play.{recordsOf}
+use Rattle.reports.proofs.PlayLaws.{records-limited}
+use Rattle.beginning.proofs.BeginningLaws.{begin-ready}
+use Rattle.lines.specs.Listing.{letter, shownValue, lineOf, stepLine, linesFrom, joined, endLine, endOf, textFrom, nameLine, listingOf}
+use Rattle.lines.proofs.LineLaws.{listing-refused}
 
 -- a number up to 256 takes at most four bytes with its space
 field-small : (n : ℕ) → n ≤ 256 → length (field n) ≤ 4

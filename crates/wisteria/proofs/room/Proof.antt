@@ -5,7 +5,7 @@ use mathlib.Core.Path.{_≡_, sym}
 use native.Mathlib.Omega.{arith}
 use lib.ListN.{length, replicate, length-replicate}
 use Rattle.listing.proofs.Promises.{kept}
-use Rattle.listing.specs.Listing.{listingOf}
+use Rattle.lines.specs.Listing.{listingOf}
 use Rattle.wisteria.proofs.room.Statement.{statement}
 use Rattle.wisteria.proofs.room.Tie as tie
 

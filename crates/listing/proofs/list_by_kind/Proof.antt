@@ -1,0 +1,24 @@
+-- That `list_by_kind` of src/lib.rt keeps its contract.
+use mathlib.Core.Path.{sym, ap, subst, _∙_}
+use Rattle.text.specs.Text.{write}
+use Rattle.kinds.specs.Kinds.{tellsPrivilege}
+use Rattle.machine_record.specs.Promises.{Ready}
+use Rattle.beginning.proofs.BeginningLaws.{begin-ready}
+use Rattle.beginning.proofs.OwnLaws.{begun-own}
+use Rattle.lines.proofs.LineLaws.{text-as}
+use borrow.Author.Needs.{needs}
+use Rattle.listing.proofs.list_by_kind.Statement.{statement}
+use Rattle.listing.proofs.list_by_kind.Tie as tie
+
+list-steps-requires : tie.Need-list-steps-requires
+list-steps-requires c κs = let p = c .before .before .before .before .before .before .pre in
+    subst Ready (sym (begun-own _ _ (p .0) .aic (c .before .if1 .taken))) (begin-ready _ _ (p .0) (p .1))
+
+returns : tie.Need-returns
+returns c = let l = c .before .before in
+    let i = l .before .before in
+    let p = i .before .before .before .before .before .pre in
+    l .list-steps .ensures ∙ ap (write _) (text-as _ _ _ _ _ _ _ _ (begun-own _ _ (p .0) .aic (i .if1 .taken)) (sym (ap tellsPrivilege (i .if1 .taken))))
+
+pub list-by-kind-spec : {M : Type 1} → statement M
+list-by-kind-spec = tie.close (tie.spec list-steps-requires (λ c. search needs) returns (λ c κs. search needs) (λ c. search needs) (λ c. search needs))
