@@ -1,6 +1,6 @@
 //! The other side in process: the proved texts through their C functions, in a library that is linked on request.
 
-use crate::compare::Outcome;
+use crate::compare::{written, Outcome};
 use crate::generate::Case;
 use crate::stack::generate::Typed;
 
@@ -61,9 +61,6 @@ pub fn stack_into(text: &[u8], buffer: &mut [u8]) -> usize {
     unsafe { wisteria_stack(text.as_ptr(), text.len(), buffer.as_mut_ptr(), buffer.len()) }
 }
 
-/// What the buffer holds where nothing was written.
-const UNTOUCHED: u8 = 0xA5;
-
 /// The listing of a case.
 pub fn list(case: &Case) -> Outcome {
     written(case.ample_room(), |buffer| {
@@ -74,18 +71,4 @@ pub fn list(case: &Case) -> Outcome {
 /// The line of a typed table.
 pub fn stack(typed: &Typed) -> Outcome {
     written(typed.ample_room(), |buffer| stack_into(&typed.text, buffer))
-}
-
-/// What is written into so much room. The bytes behind it must be left as they were.
-fn written(room: usize, write: impl Fn(&mut [u8]) -> usize) -> Outcome {
-    let mut buffer = vec![UNTOUCHED; room];
-    let written = write(&mut buffer);
-    let rest = buffer
-        .get(written..)
-        .ok_or_else(|| format!("{written} bytes written into {room}"))?;
-    if rest.iter().any(|&byte| byte != UNTOUCHED) {
-        return Err(format!("bytes behind the {written} written ones changed"));
-    }
-    buffer.truncate(written);
-    Ok(buffer)
 }
