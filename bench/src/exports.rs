@@ -21,6 +21,18 @@ extern "C" {
     fn wisteria_refusal(trace: *const u8, trace_len: usize, limit: u32) -> u32;
     fn wisteria_offset(trace: *const u8, trace_len: usize, limit: u32) -> usize;
 
+    /// The listing and the steps by the loops over a controller of any kind, as above.
+    #[cfg(feature = "plain")]
+    fn wisteria_list_plain(
+        trace: *const u8,
+        trace_len: usize,
+        limit: u32,
+        out: *mut u8,
+        out_len: usize,
+    ) -> usize;
+    #[cfg(feature = "plain")]
+    fn wisteria_play_plain(trace: *const u8, trace_len: usize, limit: u32) -> u32;
+
     /// Writes the line of the lent text of a table into the lent buffer and answers the bytes written, as above.
     fn wisteria_stack(text: *const u8, text_len: usize, out: *mut u8, out_len: usize) -> usize;
 }
@@ -43,6 +55,27 @@ pub fn list_into(trace: &[u8], limit: u32, buffer: &mut [u8]) -> usize {
 pub fn steps_of(trace: &[u8], limit: u32) -> u32 {
     // The pointer comes from a slice of the length that goes with it, here and below.
     unsafe { wisteria_steps(trace.as_ptr(), trace.len(), limit) }
+}
+
+/// The listing by the loop over a controller of any kind.
+#[cfg(feature = "plain")]
+pub fn list_plain_into(trace: &[u8], limit: u32, buffer: &mut [u8]) -> usize {
+    // As for the other listing.
+    unsafe {
+        wisteria_list_plain(
+            trace.as_ptr(),
+            trace.len(),
+            limit,
+            buffer.as_mut_ptr(),
+            buffer.len(),
+        )
+    }
+}
+
+/// The steps by the loop over a controller of any kind.
+#[cfg(feature = "plain")]
+pub fn steps_plain_of(trace: &[u8], limit: u32) -> u32 {
+    unsafe { wisteria_play_plain(trace.as_ptr(), trace.len(), limit) }
 }
 
 /// The number of the refusal that ends the play and its offset; 0 and the length where there is none.
