@@ -210,7 +210,7 @@ fn cic_step(random: &mut Random, script: &mut Script, at: u32, systems: u32) {
 
 /// A whole word of systems is cleared, and the same one set again in the next step.
 fn busy_status_step(_: &mut Random, script: &mut Script, at: u32) {
-    let base = if at % 2 == 0 { 0x280 } else { 0x200 };
+    let base = if at.is_multiple_of(2) { 0x280 } else { 0x200 };
     script.write(base + 4 * (at / 2 % 32), u32::MAX);
 }
 

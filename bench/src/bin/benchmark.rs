@@ -104,7 +104,7 @@ fn measure(workload: &Workload, rounds: usize) -> Times {
         samples[0].push(nanoseconds(|| proved.list()));
         samples[1].push(nanoseconds(|| proved.list_plain()));
         samples[2].push(nanoseconds(|| list_by_hand(workload, &mut digits)));
-        samples[3].push(nanoseconds(|| drop(list_tuned(workload, &mut buffer))));
+        samples[3].push(nanoseconds(|| list_tuned(workload, &mut buffer)));
         samples[4].push(nanoseconds(|| list_with_std(workload, &mut text)));
         samples[5].push(nanoseconds(|| proved.play()));
         samples[6].push(nanoseconds(|| proved.play_plain()));
@@ -152,7 +152,7 @@ fn play_tuned(workload: &Workload) {
     black_box(tuned::play(black_box(&workload.trace), PROGRAM_LIMIT));
 }
 
-fn nanoseconds(run: impl FnOnce()) -> u128 {
+fn nanoseconds<T>(run: impl FnOnce() -> T) -> u128 {
     let begin = Instant::now();
     run();
     begin.elapsed().as_nanos()
