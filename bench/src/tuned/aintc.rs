@@ -124,24 +124,27 @@ impl Aintc {
         [pending(0) | pending(1) << 32, pending(2) | pending(3) << 32]
     }
 
-    /// A side takes an input unless the threshold stops it, which never stops 0.
+    /// Priority 0 passes any threshold.
     #[inline(always)]
-    fn take(&mut self, side: usize, input: usize) {
-        let priority = self.priority(input);
-        if priority == 0 || priority < self.registers[THRESHOLD] {
-            self.registers[NUMBERS + side] = input as u32;
-            self.registers[PRIORITIES + side] = priority;
-        }
+    fn passes(&self, priority: u32) -> bool {
+        (priority == 0) | (priority < self.registers[THRESHOLD])
     }
 
-    /// Each side that is free chooses, if something is open for it.
+    /// Each side that is free chooses. Whether something is open for it is hard to foretell, so that no branch asks it.
     #[inline(always)]
     fn choose(&mut self) {
         for side in [IRQ, FIQ] {
-            let open = self.open(side);
-            if self.is_free(side) && open != [0; 2] {
+            if self.is_free(side) {
+                let open = self.open(side);
                 let input = self.first(open);
-                self.take(side, input);
+                let priority = self.priority(input);
+                let chosen = (open != [0; 2]) & self.passes(priority);
+                let [number, priority] = match chosen {
+                    true => [input as u32, priority],
+                    false => [SPURIOUS; 2],
+                };
+                self.registers[NUMBERS + side] = number;
+                self.registers[PRIORITIES + side] = priority;
             }
         }
     }
@@ -276,7 +279,11 @@ impl Device for Aintc {
         let side = (bank[ROUTES] >> (input % 32) & 1) as usize;
         let raised = bank[ITR] & !bank[MIR] & 1 << (input % 32) != 0;
         if raised & self.is_free(side) {
-            self.take(side, input);
+            let priority = self.priority(input);
+            if self.passes(priority) {
+                self.registers[NUMBERS + side] = line;
+                self.registers[PRIORITIES + side] = priority;
+            }
         }
         Ok(())
     }
