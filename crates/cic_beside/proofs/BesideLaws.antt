@@ -24,7 +24,7 @@ use Rattle.cic_record.specs.Promises.{Shaped}
 use Rattle.cic_record.specs.Sound.{sound}
 use Rattle.cic_hosts.specs.Hosts.{shown}
 use Rattle.cic_layout.specs.Map.{registerAt}
-use Rattle.cic.specs.Model.{writeAs, lineAs}
+use Rattle.cic_steps.specs.Model.{writeAs, lineAs}
 use Rattle.cic_counts.specs.Counts.{target, goesTo, loadOf, Kept, ActiveIn, Has, Beside}
 use Rattle.cic_counts.proofs.RecordLaws.{raised-record, shown-same}
 use Rattle.cic_beside.specs.declared.Touch.{Touch}

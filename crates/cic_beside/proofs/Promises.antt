@@ -6,7 +6,7 @@ use Prim.Native.Nat.{ℕ}
 use Rattle.steps.specs.declared.Step.the-variants.{Read}
 use Rattle.cic_record.specs.declared.Cic.{Cic}
 use Rattle.cic_hosts.specs.Hosts.{shown}
-use Rattle.cic.specs.Model.{stepAs}
+use Rattle.cic_steps.specs.Model.{stepAs}
 use Rattle.cic_counts.specs.Counts.{Beside}
 use Rattle.cic_renewed.proofs.RecountLaws.{beside-fresh}
 use Rattle.cic_beside.specs.Promises.{Promises}

@@ -28,7 +28,7 @@ use Rattle.cic_layout.specs.declared.Register.the-variants as register
 use Rattle.cic_layout.specs.Map.{registerAt, access}
 use Rattle.cic_registers.specs.Registers.{writtenTo}
 use Rattle.cic_registers.proofs.WrittenLaws.{shaped-written}
-use Rattle.cic.specs.Model.{unlessRefused, refusalAt, readAs, writeAs, moved, lineAs, stepAs}
+use Rattle.cic_steps.specs.Model.{unlessRefused, refusalAt, readAs, writeAs, moved, lineAs, stepAs}
 use Rattle.cic.proofs.LineLaws.{moved-shaped}
 use Rattle.cic.proofs.StepLaws.{its-record}
 use Rattle.cic_counts.specs.Counts.{target}

@@ -13,7 +13,7 @@ use Rattle.cic_record.specs.declared.Cic.{Cic}
 use Rattle.cic_record.specs.Sound.{sound}
 use Rattle.cic_record.specs.Start.{fresh}
 use Rattle.cic_hosts.specs.Hosts.{shown}
-use Rattle.cic.specs.Model.{stepAs}
+use Rattle.cic_steps.specs.Model.{stepAs}
 use Rattle.cic_counts.specs.Counts.{Kept, Beside}
 use Rattle.cic_beside.specs.Touching.{touchedBy, sparesEnables, Renewed}
 

@@ -15,7 +15,7 @@ use Rattle.cic_record.specs.Promises.{Shaped}
 use Rattle.cic_layout.specs.declared.Register.{Register}
 use Rattle.cic_layout.specs.declared.Register.the-variants as register
 use Rattle.cic_layout.specs.Map.{registerAt}
-use Rattle.cic.specs.Model.{writeAs}
+use Rattle.cic_steps.specs.Model.{writeAs}
 use Rattle.cic_counts.specs.Counts.{Kept}
 use Rattle.cic_beside.specs.declared.Touch.{Touch}
 use Rattle.cic_beside.specs.declared.Touch.the-variants.{Word, Channels, Hosts, Enables, Nothing}

@@ -5,7 +5,7 @@ ghost use Prim.Native.Nat.{ℕ};
 ghost use Rattle.cic_record.specs.declared.Cic.{Cic};
 ghost use Rattle.cic_record.specs.Sound.{sound};
 ghost use Rattle.cic_hosts.specs.Hosts.{shown};
-ghost use Rattle.cic.specs.Model.{lineAs, writeAs};
+ghost use Rattle.cic_steps.specs.Model.{lineAs, writeAs};
 ghost use Rattle.cic_counts.specs.Counts.{Kept, Has, Beside};
 ghost use Rattle.cic_beside.specs.Touching.{touched, Between};
 use cic_layout::Register;

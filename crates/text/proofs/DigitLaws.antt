@@ -35,15 +35,6 @@ hex-row v =
     let g : v / 16777216 / 16 ≡ v / 268435456 = omega arith in
     rw (b, c, d, e, f, g)
 
--- the digit as it is computed
-pub digit-low : (d : ℕ) → d < 10 → 48 + d ≡ hexDigit d
-unfolding hexDigit
-digit-low d l = pick-true (55 + d) (lt-ltb d 10 l)
-
-pub digit-high : (d : ℕ) → 10 ≤ d → 55 + d ≡ hexDigit d
-unfolding hexDigit
-digit-high d l = pick-false (48 + d) (le-ltb d 10 l)
-
 pub decimal-none : (k n : ℕ) → k ≡ 0 → [] ≡ decimalOf k n
 unfolding decimalOf
 decimal-none zero n e = refl

@@ -8,6 +8,25 @@ pub const SPACE: u8 = b' ';
 
 pub const NEWLINE: u8 = b'\n';
 
+const DIGITS: [u8; 16] = [
+    b'0',
+    b'1',
+    b'2',
+    b'3',
+    b'4',
+    b'5',
+    b'6',
+    b'7',
+    b'8',
+    b'9',
+    b'A',
+    b'B',
+    b'C',
+    b'D',
+    b'E',
+    b'F',
+];
+
 // One byte where the next one goes; answers where the one after it goes.
 pub fn put(out: &mut [u8], at: usize, b: u8) -> usize
     ensures { λ r. ⌜ (now (out .exit), r) ≡ write (now (out .entry), at) (b ∷ []) ⌝ }
@@ -150,8 +169,5 @@ fn digit(d: usize) -> u8
     requires { ⌜ d < 16 ⌝ }
     ensures { λ r. ⌜ r ≡ hexDigit d ⌝ }
 {
-    if d < 10 {
-        return 48 + d as u8;
-    }
-    55 + d as u8
+    DIGITS[d]
 }
