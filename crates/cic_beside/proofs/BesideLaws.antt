@@ -43,6 +43,7 @@ load-stays channel host channel′ host′ ws h e = count-same 1024 (goesTo chan
     go s l true f = ap (λ (n : ℕ). eqb n h) (e s l f)
     go s l false f = refl
 
+-- so what is kept stays kept under maps that send every active system interrupt to the same host
 pub kept-stays : (channel host channel′ host′ ws load raised : List ℕ) → ((s : ℕ) → s < 1024 → bitAt ws s ≡ true → target channel′ host′ s ≡ target channel host s)
     → Kept channel host ws load raised → Kept channel′ host′ ws load raised
 kept-stays channel host channel′ host′ ws load raised e k =
@@ -69,6 +70,7 @@ not-out true false e = refl
 not-out false true e = sym e
 not-out false false e = refl
 
+-- what is kept between, once those that may move are taken out
 pub between : (c d : Cic) (o v : ℕ) (active load raised active′ load′ raised′ : List ℕ) → Beside c active load raised → d ≡ writeAs true c o v .cic
     → ((s : ℕ) → s < 1024 → bitAt active′ s ≡ (bitAt active s && not (moves (touched (registerAt o) v) s))) → Kept (c .channel) (c .host) active′ load′ raised′
     → Between c d o v active′ load′ raised′
@@ -136,6 +138,7 @@ active-after t c d ws ws′ touching held renewed s l = go (told (renews t (s / 
 
 -- ---- after a step
 
+-- what is kept after a step, once the words that it may touch are renewed
 pub beside-after : (t : Touch) (c d : Cic) (status enable channel host ws ws′ load′ raised′ : List ℕ) → Touching t c d → Shaped d → Has d status enable channel host
     → ((s : ℕ) → s < 1024 → renews t (s / 32) ≡ false → bitAt ws s ≡ (bitAt (c .status) s && bitAt (c .enable) s)) → Renewed t status enable ws ws′ → Kept channel host ws′ load′ raised′
     → Beside d ws′ load′ raised′
@@ -172,8 +175,9 @@ module _ (c d : Cic) (s level : ℕ) (status enable channel host ws load raised 
 
 -- ---- around a write
 
-none-out : {b t : Bool} → t ≡ false → (b && not t) ≡ b
-none-out {b} e = ap (λ (x : Bool). b && not x) e ∙ and-true b
+-- none is taken out where none may move
+all-in : {b t : Bool} → t ≡ false → (b && not t) ≡ b
+all-in {b} e = ap (λ (x : Bool). b && not x) e ∙ and-true b
 
 -- where none may move, what is kept in between is that of the record before
 pub beside-before : (c d : Cic) (o v : ℕ) (active load raised : List ℕ) → ((s : ℕ) → moves (touched (registerAt o) v) s ≡ false) → Between c d o v active load raised
@@ -181,7 +185,7 @@ pub beside-before : (c d : Cic) (o v : ℕ) (active load raised : List ℕ) → 
 beside-before c d o v active load raised n b =
     record {
       shaped = b .shaped;
-      held = λ s l. b .held s l ∙ none-out (n s);
+      held = λ s l. b .held s l ∙ all-in (n s);
       kept = kept-stays (d .channel) (d .host) (c .channel) (c .host) active load raised (λ s l _. sym (touching .goes s (n s))) (b .kept);
     }
   where
@@ -195,7 +199,7 @@ pub after-between : (c d : Cic) (o v : ℕ) (t : Touch) (status enable channel h
 after-between c d o v t status enable channel host active load raised active′ load′ raised′ at b p renewed k =
     beside-after (touched (registerAt o) v) c d status enable channel host active active′ load′ raised′
     (subst (Touching (touched (registerAt o) v) c) (sym (b .written)) (write-touching c o v)) (subst Shaped (sym (b .written)) (write-shaped c o v (b .shaped))) p
-    (λ s l r. b .held s l ∙ none-out (moves-renewed (touched (registerAt o) v) s r))
+    (λ s l r. b .held s l ∙ all-in (moves-renewed (touched (registerAt o) v) s r))
     (subst (λ (x : Touch). Renewed x status enable active active′) (sym at) renewed) k
 
 -- what is shown stays

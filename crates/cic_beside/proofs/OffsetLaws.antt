@@ -58,6 +58,7 @@ pub outside-maps : (o v s : ℕ) → (ltb o 0x400 || leb 0x900 o) ≡ true → m
 outside-maps o v s e =
     ⊎-elim (λ (q : ltb o 0x400 ≡ true). before-maps o v s (ltb-true o 0x400 q)) (λ (q : leb 0x900 o ≡ true). after-maps o v s (leb-true 0x900 o q)) (or-either (ltb o 0x400) (leb 0x900 o) e)
 
+-- and that it fails
 pub inside-maps : (o : ℕ) → (ltb o 0x400 || leb 0x900 o) ≡ false → (0x400 ≤ o) × (o < 0x900)
 inside-maps o e = (go (decLt o 0x400), back (decLt o 0x900))
   where

@@ -49,17 +49,21 @@ same-touching t c = record { status = λ i _. refl; enable = λ i _. refl; goes 
 
 -- ---- by register
 
+-- the words other than the one that is put anew
 other-word : (ws : List ℕ) (k i x : ℕ) → eqb i k ≡ false → getD (set ws k x) i 0 ≡ getD ws i 0
 other-word ws k i x f = getD-set-other ws k i x 0 (λ e. clash (eq-eqb i k e) f)
 
+-- a word of the status
 status-word : (c : Cic) (k x : ℕ) → Touching (Word k) c (withStatus c (set (c .status) k x))
 unfolding renews
 status-word c k x = record { status = λ i n. other-word (c .status) k i x n; enable = λ i _. refl; goes = λ s _. refl; enables = λ _. (refl, refl) }
 
+-- a word of the system enables
 enable-word : (c : Cic) (k x : ℕ) → Touching (Word k) c (withEnable c (set (c .enable) k x))
 unfolding renews
 enable-word c k x = record { status = λ i _. refl; enable = λ i n. other-word (c .enable) k i x n; goes = λ s _. refl; enables = λ _. (refl, refl) }
 
+-- four channels
 channel-bytes : (c : Cic) (k v : ℕ) → Touching (Channels k) c (withChannel c (mapPut (c .systems) k v (c .channel)))
 unfolding moves
 channel-bytes c k v =
@@ -70,18 +74,22 @@ channel-bytes c k v =
       enables = λ _. (refl, refl);
     }
 
+-- four hosts
 host-bytes : (c : Cic) (x : List ℕ) → Touching Hosts c (withHost c x)
 unfolding moves
 host-bytes c x = record { status = λ i _. refl; enable = λ i _. refl; goes = λ s n. absurd (true≢false n); enables = λ _. (refl, refl) }
 
+-- the host enables
 allow-words : (c : Cic) (x : List ℕ) → Touching Enables c (withAllow c x)
 unfolding sparesEnables
 allow-words c x = record { status = λ i _. refl; enable = λ i _. refl; goes = λ s _. refl; enables = λ e. absurd (false≢true e) }
 
+-- global enable
 global-bit : (c : Cic) (x : ℕ) → Touching Enables c (withGlobal c x)
 unfolding sparesEnables
 global-bit c x = record { status = λ i _. refl; enable = λ i _. refl; goes = λ s _. refl; enables = λ e. absurd (false≢true e) }
 
+-- every register
 pub written-touching : (c : Cic) (r : Register) (v : ℕ) → Touching (touched r v) c (writtenTo c r v)
 unfolding touched writtenTo withBitAt bitsSet bitsCleared
 written-touching c register.Nothing v = same-touching Nothing c
@@ -103,12 +111,14 @@ written-touching c (register.HostEnable k) v = allow-words c _
 
 -- ---- by step
 
+-- a write, carried out or refused
 pub write-touching : (c : Cic) (o v : ℕ) → Touching (touched (registerAt o) v) c (writeAs true c o v .cic)
 unfolding writeAs
 write-touching c o v =
     pick-cases (λ (a : Answer). Touching (touched (registerAt o) v) c (a .cic)) (eqb (writeRefusal true o (access c o) (refusalAt c o v)) carriedOut)
     (λ _. written-touching c (registerAt o) v) (λ _. same-touching (touched (registerAt o) v) c)
 
+-- a line that is moved
 moved-touching : (c : Cic) (s : ℕ) (high : Bool) → Touching (Word (s / 32)) c (moved c (system s) high)
 unfolding moved withBitAt
 moved-touching c s high =
@@ -116,19 +126,23 @@ moved-touching c s high =
     (λ _. let w = status-word c (s / 32) _ in record { status = w .status; enable = w .enable; goes = w .goes; enables = w .enables })
     (λ _. record { status = λ i _. refl; enable = λ i _. refl; goes = λ i _. refl; enables = λ _. (refl, refl) })
 
+-- a line step, carried out or refused
 pub line-touching : (c : Cic) (s level : ℕ) → Touching (Word (s / 32)) c (lineAs true c s level .cic)
 unfolding lineAs
 line-touching c s level =
     pick-cases (λ (a : Answer). Touching (Word (s / 32)) c (a .cic)) (eqb (lineRefusal true (c .systems) s level) carriedOut) (λ _. moved-touching c s (eqb level 1))
     (λ _. same-touching (Word (s / 32)) c)
 
+-- a read leaves the record
 pub read-record : (c : Cic) (o : ℕ) → readAs true c o .cic ≡ c
 unfolding readAs
 read-record c o = pick-cases (λ (a : Answer). a .cic ≡ c) (eqb (readRefusal true o (access c o)) carriedOut) (λ _. refl) (λ _. refl)
 
+-- what is refused by its number leaves the record
 by-number : (c : Cic) (n : ℕ) (a : Answer) → a .refusal ≡ carriedOut → (unlessRefused c n a .refusal ≡ carriedOut → ⊥) → unlessRefused c n a .cic ≡ c
 by-number c n a z d = ap (λ (b : Answer). b .cic) (its-record c n a z d)
 
+-- the same of a step that is a read
 pub read-step : (c : Cic) (o : ℕ) → stepAs true c (Read o) .cic ≡ c
 unfolding stepAs
 read-step c o = read-record c o
@@ -140,6 +154,7 @@ refused-step c (Read o) n = read-step c o
 refused-step c (Write o v) n = by-number c (writeRefusal true o (access c o) (refusalAt c o v)) (answered (writtenTo c (registerAt o) v) 0) refl n
 refused-step c (Line s level) n = by-number c (lineRefusal true (c .systems) s level) (answered (moved c (system s) (eqb level 1)) 0) refl n
 
+-- any step
 pub step-touching : (c : Cic) (x : Step) → Touching (touchedBy x) c (stepAs true c x .cic)
 unfolding stepAs touchedBy
 step-touching c (Read o) = subst (Touching Nothing c) (sym (read-record c o)) (same-touching Nothing c)
@@ -148,16 +163,19 @@ step-touching c (Line s level) = line-touching c s level
 
 -- ---- every array keeps its length
 
+-- after a write
 pub write-shaped : (c : Cic) (o v : ℕ) → Shaped c → Shaped (writeAs true c o v .cic)
 unfolding writeAs
 write-shaped c o v h =
     pick-cases (λ (a : Answer). Shaped (a .cic)) (eqb (writeRefusal true o (access c o) (refusalAt c o v)) carriedOut) (λ _. shaped-written c (registerAt o) v h) (λ _. h)
 
+-- after a line step
 pub line-shaped : (c : Cic) (s level : ℕ) → Shaped c → Shaped (lineAs true c s level .cic)
 unfolding lineAs
 line-shaped c s level h =
     pick-cases (λ (a : Answer). Shaped (a .cic)) (eqb (lineRefusal true (c .systems) s level) carriedOut) (λ _. moved-shaped c s (eqb level 1) h) (λ _. h)
 
+-- after any step
 pub step-shaped : (c : Cic) (x : Step) → Shaped c → Shaped (stepAs true c x .cic)
 unfolding stepAs
 step-shaped c (Read o) h = subst Shaped (sym (read-record c o)) h

@@ -37,6 +37,7 @@ unfolding countBelow
 count-nothing zero p h = refl
 count-nothing (suc n) p h = ap₂ (λ (x : ℕ) (b : Bool). x + one b) (count-nothing n p (λ k l. h k (omega arith))) (h n (omega arith))
 
+-- what is chosen at the number that is tested for, and at another
 pick-at : (j s : ℕ) (t b : Bool) → j ≡ s → pick (eqb j s) t b ≡ t
 unfolding pick
 pick-at j s t b e = ap (λ (x : Bool). pick x t b) (eq-eqb j s e)
@@ -45,6 +46,7 @@ pick-off : (j s : ℕ) (t b : Bool) → (j ≡ s → ⊥) → pick (eqb j s) t b
 unfolding pick
 pick-off j s t b n = ap (λ (x : Bool). pick x t b) (ne-eqb j s n)
 
+-- the bit that is put, and another
 bit-at : (ws : List ℕ) (s : ℕ) (t : Bool) → length ws ≡ 32 → s < 1024 → bitAt (withBitAt ws s t) s ≡ t
 bit-at ws s t e l = bitAt-withBitAt ws s t s (omega arith) ∙ pick-at s s t (bitAt ws s) refl
 
@@ -86,6 +88,7 @@ load-other channel host ws s h t e l n =
 
 -- ---- all counts
 
+-- no bit that is put changes the number of words
 length-put : (ws : List ℕ) (i : ℕ) (t : Bool) (n : ℕ) → length ws ≡ n → length (withBitAt ws i t) ≡ n
 unfolding withBitAt
 length-put ws i t n e = simp length-set e
@@ -109,6 +112,7 @@ put-kept channel host ws ws′ load raised h x t l k w e f o =
         bitAt-withBitAt raised h t i (omega (arith, k .hosts)) ∙ pick-off i h t (bitAt raised i) p ∙ k .any i m
         ∙ ap (λ (y : ℕ). not (eqb y 0)) (sym (o i (λ q. p (sym q))))
 
+-- a system interrupt becomes active: one more for its host, which has some now
 pub turned-on : (channel host ws load raised : List ℕ) (s h n : ℕ) → s < 1024 → h < 256 → Kept channel host ws load raised → bitAt ws s ≡ false
     → h ≡ target channel host s → n ≡ getD load h 0 → Kept channel host (withBitAt ws s true) (set load h (n + 1)) (withBitAt raised h true)
 turned-on channel host ws load raised s h n l m k b e f =
@@ -117,6 +121,7 @@ turned-on channel host ws load raised s h n l m k b e f =
     (sym (ap not (ne-eqb (n + 1) 0 (λ q. absurd (omega (arith, q))))))
     (λ i o. load-other channel host ws s i true (k .words) l (λ q. o (e ∙ q)))
 
+-- one less than a count is 0 exactly if it was 1
 one-or-more : (n : ℕ) → 0 < n → not (eqb n 1) ≡ not (eqb (n - 1) 0)
 one-or-more n l = go (ℕ-discrete n 1)
   where
@@ -124,13 +129,16 @@ one-or-more n l = go (ℕ-discrete n 1)
     go (yes p) = ap not (eq-eqb n 1 p ∙ sym (eq-eqb (n - 1) 0 (omega (arith, p))))
     go (no p) = ap not (ne-eqb n 1 p ∙ sym (ne-eqb (n - 1) 0 (λ q. p (omega (arith, q, l)))))
 
+-- the host of an active system interrupt has some
 pub some-load : (channel host ws load raised : List ℕ) (s h n : ℕ) → s < 1024 → h < 256 → Kept channel host ws load raised → bitAt ws s ≡ true
     → h ≡ target channel host s → n ≡ getD load h 0 → 0 < n
 some-load channel host ws load raised s h n l m k b e f = omega (arith, f, k .counted h m, load-off channel host ws s h (k .words) l b (sym e))
 
+-- no host has more than there are system interrupts
 pub load-room : (channel host ws load raised : List ℕ) (h n : ℕ) → h < 256 → Kept channel host ws load raised → n ≡ getD load h 0 → n ≤ 1024
 load-room channel host ws load raised h n m k f = omega (arith, f, k .counted h m, count-le 1024 (goesTo channel host ws h))
 
+-- a system interrupt is no longer active: one less for its host
 pub turned-off : (channel host ws load raised : List ℕ) (s h n : ℕ) (t : Bool) → s < 1024 → h < 256 → Kept channel host ws load raised → bitAt ws s ≡ true
     → h ≡ target channel host s → n ≡ getD load h 0 → t ≡ not (eqb n 1) → Kept channel host (withBitAt ws s false) (set load h (n - 1)) (withBitAt raised h t)
 turned-off channel host ws load raised s h n t l m k b e f g =
@@ -141,6 +149,7 @@ turned-off channel host ws load raised s h n t l m k b e f g =
 
 -- ---- the bits of all hosts stay where the count of one neither leaves 0 nor reaches it
 
+-- a bit that is put as it was changes none
 put-same : (raised : List ℕ) (h i : ℕ) (t : Bool) → length raised ≡ 8 → h < 256 → bitAt raised h ≡ t → bitAt (withBitAt raised h t) i ≡ bitAt raised i
 put-same raised h i t e l b = bitAt-withBitAt raised h t i (omega (arith, e, l)) ∙ go (ℕ-discrete i h)
   where
@@ -152,10 +161,12 @@ put-same raised h i t e l b = bitAt-withBitAt raised h t i (omega (arith, e, l))
 bit-some : (channel host ws load raised : List ℕ) (h n : ℕ) → h < 256 → Kept channel host ws load raised → n ≡ getD load h 0 → (n ≡ 0 → ⊥) → bitAt raised h ≡ true
 bit-some channel host ws load raised h n l k e o = k .any h l ∙ ap not (ne-eqb (loadOf channel host ws h) 0 (λ q. o (e ∙ k .counted h l ∙ q)))
 
+-- one more for a host that has some
 pub same-on : (channel host ws load raised : List ℕ) (h n : ℕ) → h < 256 → Kept channel host ws load raised → n ≡ getD load h 0 → (n ≡ 0 → ⊥)
     → (i : ℕ) → bitAt (withBitAt raised h true) i ≡ bitAt raised i
 same-on channel host ws load raised h n l k e o i = put-same raised h i true (k .hosts) l (bit-some channel host ws load raised h n l k e o)
 
+-- one less for a host that has more than one
 pub same-off : (channel host ws load raised : List ℕ) (h n : ℕ) (t : Bool) → h < 256 → Kept channel host ws load raised → n ≡ getD load h 0 → 0 < n → t ≡ not (eqb n 1)
     → (n ≡ 1 → ⊥) → (i : ℕ) → bitAt (withBitAt raised h t) i ≡ bitAt raised i
 same-off channel host ws load raised h n t l k e p f o i =

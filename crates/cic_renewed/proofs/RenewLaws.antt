@@ -27,6 +27,7 @@ differs false b = b
 abbrev pub Left : ℕ → ℕ → ℕ → Type 0
 Left left a b = (j : ℕ) → j < 32 → bit left j ≡ differs (bit a j) (bit b j)
 
+-- at first all bits are left in which the words differ
 pub left-first : (a b r : ℕ) → r ≡ either (without a b) (without b a) → Left r a b
 left-first a b r e j l =
     ap (λ (w : ℕ). bit w j) e ∙ bit-either (without a b) (without b a) j l
@@ -90,6 +91,7 @@ left-less left a b i l f j m = bit-withBit left i false j m ∙ go (ℕ-discrete
         ap (λ (x : Bool). pick x false (bit left j)) (ne-eqb j i e) ∙ f j m
         ∙ sym (ap (λ (x : Bool). differs (pick x (bit b i) (bit a j)) (bit b j)) (ne-eqb j i e))
 
+-- so the bits that are left get fewer
 pub fewer-left : (left i w : ℕ) → i < 32 → bit left i ≡ true → w ≡ withBit left i false → countBelow 32 (bit w) < countBelow 32 (bit left)
 unfolding pick
 fewer-left left i w l e f =
