@@ -57,11 +57,11 @@ pub fn list_steps(
 {
     let mut at = start;
     let mut s = first;
-    let mut left = limit;
-    let mut count: u32 = 0;
+    let mut more = limit;
+    let mut number: u32 = 0;
     let mut to = from;
     loop {
-        match trace::turn_at(trace, at, left, false) {
+        match trace::turn_at(trace, at, more, false) {
             Turn::Ended(refusal, offset) => {
                 return lines::put_end(out, to, refusal, offset);
             }
@@ -70,12 +70,12 @@ pub fn list_steps(
                 let a = aic::step_sound(s, step);
                 s = a.aic;
                 at = next;
-                left = left - 1;
-                count = count + 1;
+                more = more - 1;
+                number = number + 1;
                 let letter = lines::letter_of(step, a.refusal);
                 let value = lines::shown_value(a.refusal, a.value);
                 let columns = machine_record::aic_columns(aic::outputs_sound(s));
-                to = lines::put_line(out, to, count, letter, value, columns);
+                to = lines::put_line(out, to, number, letter, value, columns);
             }
         }
     }

@@ -54,11 +54,11 @@ pub fn list_steps(
 {
     let mut at = start;
     let mut m = first;
-    let mut left = limit;
-    let mut count: u32 = 0;
+    let mut more = limit;
+    let mut number: u32 = 0;
     let mut to = from;
     loop {
-        match trace::turn_at(trace, at, left, told) {
+        match trace::turn_at(trace, at, more, told) {
             Turn::Ended(refusal, offset) => {
                 return lines::put_end(out, to, refusal, offset);
             }
@@ -66,15 +66,15 @@ pub fn list_steps(
                 let a = machine::step_sound(m, x);
                 m = a.machine;
                 at = next;
-                left = left - 1;
-                count = count + 1;
+                more = more - 1;
+                number = number + 1;
                 let step = x.step;
                 let letter = lines::letter_of(step, a.refusal);
                 let value = lines::shown_value(a.refusal, a.value);
                 to = lines::put_line(
                     out,
                     to,
-                    count,
+                    number,
                     letter,
                     value,
                     machine_record::shown_sound(m),

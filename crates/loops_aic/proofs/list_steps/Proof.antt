@@ -18,12 +18,12 @@ use Rattle.loops_aic.proofs.list_steps.Statement.{statement}
 use Rattle.loops_aic.proofs.list_steps.Tie as tie
 
 abbrev Inv-loop : tie.InvT-loop
-Inv-loop trace limit start out₀ from at₀ s₀ left₀ count₀ to₀ out at s left count to =
-    (write (out, to) (textFrom count (ofAic s) (stepsFrom false left trace at)) ≡ write (out₀, from) (textFrom 0 (ofAic s₀) (stepsFrom false limit trace start)))
-    × (length out ≡ length out₀) × (count + left ≡ limit) × Ready (ofAic s)
+Inv-loop trace limit start out₀ from at₀ s₀ more₀ number₀ to₀ out at s more number to =
+    (write (out, to) (textFrom number (ofAic s) (stepsFrom false more trace at)) ≡ write (out₀, from) (textFrom 0 (ofAic s₀) (stepsFrom false limit trace start)))
+    × (length out ≡ length out₀) × (number + more ≡ limit) × Ready (ofAic s)
 
 abbrev μ-loop : tie.MeasureT-loop
-μ-loop trace limit start out₀ from at₀ s₀ left₀ count₀ to₀ out at s left count to = left
+μ-loop trace limit start out₀ from at₀ s₀ more₀ number₀ to₀ out at s more number to = more
 
 returns : tie.Need-returns Inv-loop μ-loop
 returns c = let p = c .before .before in
@@ -34,12 +34,12 @@ step-sound-requires : tie.Need-step-sound-requires Inv-loop μ-loop
 step-sound-requires c κs = its-sound _ (c .before .before .before .before .loop .inv .3)
 
 -- a step is found only while something is left of the limit
-sub-left : tie.Need-sub-left Inv-loop μ-loop
-sub-left c = let m = c .before .before .before .before .before in
+sub-more : tie.Need-sub-more Inv-loop μ-loop
+sub-more c = let m = c .before .before .before .before .before in
     omega (arith, turn-found _ _ _ _ _ _ (sym (m .turn-at .ensures) ∙ c .before .before .before .x .given .1) .1 .0)
 
-add-count : tie.Need-add-count Inv-loop μ-loop
-add-count c = let m = c .before .before .before .before .before in
+add-number : tie.Need-add-number Inv-loop μ-loop
+add-number c = let m = c .before .before .before .before .before in
     omega (arith, turn-found _ _ _ _ _ _ (sym (m .turn-at .ensures) ∙ c .before .before .before .x .given .1) .1 .0)
 
 outputs-sound-requires : tie.Need-outputs-sound-requires Inv-loop μ-loop
@@ -81,8 +81,8 @@ list-steps-spec =
     returns
     (λ c. search needs)
     step-sound-requires
-    sub-left
-    add-count
+    sub-more
+    add-number
     (λ c κs. search needs)
     (λ c κs. search needs)
     outputs-sound-requires

@@ -15,12 +15,12 @@ use Rattle.loops_any.proofs.list_steps.Statement.{statement}
 use Rattle.loops_any.proofs.list_steps.Tie as tie
 
 abbrev Inv-loop : tie.InvT-loop
-Inv-loop trace limit told start out₀ from at₀ m₀ left₀ count₀ to₀ out at m left count to =
-    (write (out, to) (textFrom count m (stepsFrom told left trace at)) ≡ write (out₀, from) (textFrom 0 m₀ (stepsFrom told limit trace start)))
-    × (length out ≡ length out₀) × (count + left ≡ limit) × Ready m
+Inv-loop trace limit told start out₀ from at₀ m₀ more₀ number₀ to₀ out at m more number to =
+    (write (out, to) (textFrom number m (stepsFrom told more trace at)) ≡ write (out₀, from) (textFrom 0 m₀ (stepsFrom told limit trace start)))
+    × (length out ≡ length out₀) × (number + more ≡ limit) × Ready m
 
 abbrev μ-loop : tie.MeasureT-loop
-μ-loop trace limit told start out₀ from at₀ m₀ left₀ count₀ to₀ out at m left count to = left
+μ-loop trace limit told start out₀ from at₀ m₀ more₀ number₀ to₀ out at m more number to = more
 
 returns : tie.Need-returns Inv-loop μ-loop
 returns c = let p = c .before .before in
@@ -28,12 +28,12 @@ returns c = let p = c .before .before in
     p .put-end .ensures ∙ ap (write _) (text-ended _ _ _ _ _ _ _ _ (sym (m .turn-at .ensures) ∙ p .before .before .before .refusal .given .1)) ∙ m .before .loop .inv .0
 
 -- a step is found only while something is left of the limit
-sub-left : tie.Need-sub-left Inv-loop μ-loop
-sub-left c = let m = c .before .before .before .before .before in
+sub-more : tie.Need-sub-more Inv-loop μ-loop
+sub-more c = let m = c .before .before .before .before .before in
     omega (arith, turn-found _ _ _ _ _ _ (sym (m .turn-at .ensures) ∙ c .before .before .before .x .given .1) .1 .0)
 
-add-count : tie.Need-add-count Inv-loop μ-loop
-add-count c = let m = c .before .before .before .before .before in
+add-number : tie.Need-add-number Inv-loop μ-loop
+add-number c = let m = c .before .before .before .before .before in
     omega (arith, turn-found _ _ _ _ _ _ (sym (m .turn-at .ensures) ∙ c .before .before .before .x .given .1) .1 .0)
 
 shown-sound-requires : tie.Need-shown-sound-requires Inv-loop μ-loop
@@ -74,8 +74,8 @@ list-steps-spec =
     returns
     (λ c. search needs)
     (λ c κs. search needs)
-    sub-left
-    add-count
+    sub-more
+    add-number
     (λ c κs. search needs)
     (λ c κs. search needs)
     shown-sound-requires
