@@ -3,6 +3,8 @@
 //!
 //! It is no second opinion: the model is what the documents are read into, and every byte here has to be the model's.
 
+#![forbid(unsafe_code)]
+
 mod aic;
 mod aintc;
 mod cic;

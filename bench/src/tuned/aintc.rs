@@ -65,13 +65,18 @@ const fn access_of(slot: usize) -> Option<Access> {
     })
 }
 
-/// The slot at an offset and its access. A misaligned offset is far beyond the slots.
+/// The slot of an aligned offset; that of a misaligned one is far beyond the registers.
 #[inline(always)]
-fn slot_at(offset: u32) -> Result<(usize, Access), Refusal> {
-    let slot = offset.rotate_right(2) as usize;
-    match ACCESS.get(slot) {
-        Some(&Some(access)) => Ok((slot, access)),
-        _ => Err(nothing_at(offset)),
+fn slot_of(offset: u32) -> usize {
+    offset.rotate_right(2) as usize
+}
+
+/// Why an access is refused that is not among those allowed at its offset: there is no register, or else as said.
+#[cold]
+fn refusal_at(offset: u32, else_for: Refusal) -> Refusal {
+    match ACCESS.get(slot_of(offset)) {
+        Some(Some(_)) => else_for,
+        _ => nothing_at(offset),
     }
 }
 
@@ -220,11 +225,11 @@ impl Aintc {
         if privilege > PRIVILEGED {
             return Err(Refusal::OutOfRange);
         }
-        let (slot, _) = slot_at(offset)?;
+        let slot = slot_of(offset);
         let restricted = self.registers[PROTECTION] == 1 || slot == PROTECTION;
-        match restricted {
-            true => Err(Refusal::Unprivileged),
-            false => Ok(()),
+        match ACCESS.get(slot) {
+            Some(Some(_)) if !restricted => Ok(()),
+            _ => Err(refusal_at(offset, Refusal::Unprivileged)),
         }
     }
 }
@@ -237,9 +242,10 @@ impl Device for Aintc {
         if privilege != PRIVILEGED {
             self.admit(offset, privilege)?;
         }
-        match slot_at(offset)? {
-            (_, Access::WriteOnly) => Err(Refusal::WriteOnly),
-            (slot, _) => Ok(self.registers[slot]),
+        let slot = slot_of(offset);
+        match ACCESS.get(slot) {
+            Some(Some(Access::ReadWrite | Access::ReadOnly)) => Ok(self.registers[slot]),
+            _ => Err(refusal_at(offset, Refusal::WriteOnly)),
         }
     }
 
@@ -249,18 +255,18 @@ impl Device for Aintc {
         if privilege != PRIVILEGED {
             self.admit(offset, privilege)?;
         }
-        let (slot, access) = slot_at(offset)?;
-        if access == Access::ReadOnly {
-            return Err(Refusal::ReadOnly);
-        }
+        let slot = slot_of(offset);
         match slot {
             CONTROL => self.write_control(value),
             REVISION | THRESHOLD => self.registers[slot] = value & 0xFF,
             SYSCONFIG => self.write_sysconfig(value),
             PROTECTION => self.registers[PROTECTION] = value & 1,
             IDLE => self.registers[IDLE] = value & 3,
-            ILRS.. => self.write_ilr(slot - ILRS, value),
-            _ => self.write_bank(slot, value),
+            ILRS..SLOTS => self.write_ilr(slot - ILRS, value),
+            BANKS..ILRS if MIR <= slot % BANK && slot % BANK < PENDING => {
+                self.write_bank(slot, value);
+            }
+            _ => return Err(refusal_at(offset, Refusal::ReadOnly)),
         }
         self.choose();
         Ok(())
