@@ -1,11 +1,6 @@
-// The CIC's register map: which register stands at an offset, and what it may be used for (001, table 2-1; 01, CIC, registers).
-ghost use mathlib.Core.List.{List};
+// The CIC's register map: which register stands at an offset (001, table 2-1). What it may be used for is defined beside it.
 ghost use mathlib.Core.Path.{_≡_};
-ghost use Prim.Native.Nat.{ℕ};
-ghost use Rattle.cic_record.specs.Parts.{cicOf};
-ghost use Rattle.cic_layout.specs.Map.{singleAt, registerAt, ifAny, accessOf};
-use cic_record::Size;
-use steps::Access;
+ghost use Rattle.cic_layout.specs.Map.{singleAt, registerAt};
 
 // The registers of 001, table 2-1, in its order; a register of a group with its number in the group.
 pub enum Register {
@@ -76,38 +71,4 @@ pub fn register_at(offset: u32) -> Register
         return Register::HostEnable((offset - 0x1500) / 4);
     }
     Register::Nothing
-}
-
-// A register whose first bit or byte is that of thing `first` exists if that is one of n things.
-fn if_any(first: u64, n: u32) -> Access
-    ensures { λ r. ⌜ r ≡ ifAny first n ⌝ }
-{
-    if first < (n as u64) {
-        return Access::ReadWrite;
-    }
-    Access::NoRegister
-}
-
-// What a register may be used for, of every record of this size.
-pub fn access_of(z: Size, r: Register) -> Access
-    ensures { λ a. ⌜ ((g : ℕ) (ls st en ch ho al : List ℕ) → a ≡ accessOf (cicOf z g ls st en ch ho al) r) ⌝ }
-{
-    match r {
-        Register::Nothing => Access::NoRegister,
-        Register::Revision => Access::ReadOnly,
-        Register::GlobalEnable => Access::ReadWrite,
-        Register::StatusIndexSet => Access::WriteOnly,
-        Register::StatusIndexClear => Access::WriteOnly,
-        Register::EnableIndexSet => Access::WriteOnly,
-        Register::EnableIndexClear => Access::WriteOnly,
-        Register::HostIndexSet => Access::WriteOnly,
-        Register::HostIndexClear => Access::WriteOnly,
-        Register::RawSet(k) => if_any(32 * (k as u64), z.systems),
-        Register::EnabledClear(k) => if_any(32 * (k as u64), z.systems),
-        Register::EnableSet(k) => if_any(32 * (k as u64), z.systems),
-        Register::EnableClear(k) => if_any(32 * (k as u64), z.systems),
-        Register::ChannelMap(k) => if_any(4 * (k as u64), z.systems),
-        Register::HostMap(k) => if_any(4 * (k as u64), z.channels),
-        Register::HostEnable(k) => if_any(32 * (k as u64), z.hosts),
-    }
 }

@@ -9,32 +9,12 @@ ghost use Rattle.words.specs.Array.{withBitAt};
 ghost use Rattle.words.specs.Choice.{pick};
 ghost use Rattle.cic_record.specs.declared.Size.{Size};
 ghost use Rattle.cic_record.specs.Kinds.{system};
-ghost use Rattle.cic_record.specs.Parts.{cicOf, answerOf, refusedReply, answeredReply};
+ghost use Rattle.cic_record.specs.Parts.{cicOf, answerOf};
 ghost use Rattle.cic_steps.specs.Model.{readAs, writeAs, moved, lineAs, stepAs};
 use cic_record::Reply;
 use cic_record::Size;
 use cic_record::System;
 use steps::Step;
-
-// The reply of a step that is refused by number n.
-fn refuse(n: u32) -> Reply
-    ensures { λ r. ⌜ r ≡ refusedReply n ⌝ }
-{
-    Reply {
-        refusal: n,
-        value: 0,
-    }
-}
-
-// The reply of a step that is carried out.
-fn carry_out(value: u32) -> Reply
-    ensures { λ r. ⌜ r ≡ answeredReply value ⌝ }
-{
-    Reply {
-        refusal: steps::CARRIED_OUT,
-        value: value,
-    }
-}
 
 // The status of a system interrupt is set where its line rises.
 fn set_on_rise(status: &mut [u32], s: System, rises: bool)
@@ -79,12 +59,11 @@ pub fn read<'a>(
 ) -> Reply
     ensures { λ r. ⌜ ((ls : List ℕ) → answerOf r (cicOf z global ls (now (status .entry)) (now (enable .entry)) (now (channel .entry)) (now (host .entry)) (now (allow .entry))) ≡ readAs true (cicOf z global ls (now (status .entry)) (now (enable .entry)) (now (channel .entry)) (now (host .entry)) (now (allow .entry))) offset) ⌝ }
 {
-    let r = cic_layout::register_at(offset);
-    let n = steps::read_refusal(true, offset, cic_layout::access_of(z, r));
-    if n != steps::CARRIED_OUT {
-        return refuse(n);
+    if offset % 4 != 0 {
+        return cic_registers::refuse(steps::MISALIGNED);
     }
-    carry_out(cic_registers::value_of(z, global, status, enable, channel, host, allow, r))
+    let r = cic_layout::register_at(offset);
+    cic_registers::read_register(z, global, status, enable, channel, host, allow, r)
 }
 
 // A write of the register at an offset.
@@ -101,18 +80,11 @@ pub fn write<'a>(
 ) -> Reply
     ensures { λ r. ⌜ ((ls : List ℕ) → answerOf r (cicOf z (now (global .exit)) ls (now (status .exit)) (now (enable .exit)) (now (channel .exit)) (now (host .exit)) (now (allow .exit))) ≡ writeAs true (cicOf z (now (global .entry)) ls (now (status .entry)) (now (enable .entry)) (now (channel .entry)) (now (host .entry)) (now (allow .entry))) offset value) ⌝ }
 {
-    let r = cic_layout::register_at(offset);
-    let n = steps::write_refusal(
-        true,
-        offset,
-        cic_layout::access_of(z, r),
-        cic_registers::value_refusal(z, r, value),
-    );
-    if n != steps::CARRIED_OUT {
-        return refuse(n);
+    if offset % 4 != 0 {
+        return cic_registers::refuse(steps::MISALIGNED);
     }
-    cic_registers::write_to(z, global, status, enable, channel, host, allow, r, value);
-    carry_out(0)
+    let r = cic_layout::register_at(offset);
+    cic_registers::write_register(z, global, status, enable, channel, host, allow, r, value)
 }
 
 // A line is put to a level.
@@ -127,10 +99,10 @@ pub fn line(
 {
     let n = steps::line_refusal(true, z.systems, number, level);
     if n != steps::CARRIED_OUT {
-        return refuse(n);
+        return cic_registers::refuse(n);
     }
     move_number(lines, status, number, level == 1);
-    carry_out(0)
+    cic_registers::carry_out(0)
 }
 
 // Any step, of a record that is sound.

@@ -1,23 +1,34 @@
--- Refused or carried out: what a step answers by its number, what one of an unsound record does, and lines past the last one.
+-- Refused or carried out: what a step answers by its number, of a record that is not sound, at an aligned offset, and of a line past the last one.
 use mathlib.Core.Path.{_≡_, refl, sym, ap, _∙_}
 use mathlib.Core.Bool.{Bool, true, false, not, _&&_}
-use Prim.Native.Nat.{ℕ, _≤_}
+use mathlib.Core.Logic.{_⊎_, inl, inr}
+use Prim.Native.Nat.{ℕ, _%_, _≤_}
 use native.Mathlib.Omega.{arith}
 use borrow.Author.Tests.{eq-eqb, ne-eqb}
+use lib.Dec.{eqb}
 use lib.ListN.{length}
 use Rattle.words.specs.Array.{bitAt, withBitAt}
 use Rattle.words.proofs.ArrayLaws.{withBitAt-past}
-use Rattle.words.proofs.ChoiceLaws.{pick-true, pick-false, pick-cases}
+use Rattle.words.proofs.ChoiceLaws.{pick-true, pick-false, pick-cases, pick-ap}
+use Rattle.steps.specs.declared.Access.{Access}
+use Rattle.steps.specs.declared.Access.the-variants.{NoRegister, ReadOnly, WriteOnly, ReadWrite}
 use Rattle.steps.specs.declared.Step.{Step}
 use Rattle.steps.specs.declared.Step.the-variants.{Read, Write, Line}
-use Rattle.steps.specs.Refusals.{carriedOut, unsound}
+use Rattle.steps.specs.Refusals.{carriedOut, misaligned, beyond, unsound, readAccess, writeAccess, readRefusal, writeRefusal}
+use Rattle.steps.specs.Promises.{ValueNumber}
+use Rattle.steps.specs.Tables.{Writable}
 use Rattle.steps.proofs.Promises as checks
 use Rattle.cic_record.specs.declared.Answer.{Answer}
 use Rattle.cic_record.specs.declared.Cic.{Cic}
+use Rattle.cic_record.specs.declared.Reply.{Reply}
 use Rattle.cic_record.specs.declared.System.{System}
-use Rattle.cic_record.specs.Record.{refused}
+use Rattle.cic_record.specs.Parts.{answerOf, refusedReply, answeredReply}
+use Rattle.cic_record.specs.Record.{refused, answered}
+use Rattle.cic_layout.specs.declared.Register.{Register}
 use Rattle.cic_layout.specs.Map.{registerAt, access}
-use Rattle.cic_registers.proofs.WrittenLaws.{value-number}
+use Rattle.cic_registers.specs.Access.{readIn, writeIn}
+use Rattle.cic_registers.specs.Registers.{valueOf, writtenTo}
+use Rattle.cic_registers.proofs.WrittenLaws.{value-number, value-six}
 use Rattle.cic_steps.specs.Model.{unlessRefused, refusalAt, readAs, writeAs, moved, lineAs, stepAs}
 
 -- ---- by the number
@@ -52,6 +63,49 @@ unfolding stepAs
 step-unsound c (Read o) = read-unsound c o
 step-unsound c (Write o v) = write-unsound c o v
 step-unsound c (Line s l) = line-unsound c s l
+
+-- ---- a sound record: an offset that is no multiple of 4, and one that is
+
+pub misaligned-read : (c : Cic) (o : ℕ) → (o % 4 ≡ 0 → ⊥) → refused c misaligned ≡ readAs true c o
+unfolding readAs
+misaligned-read c o odd = refused-by c _ (sym (checks.kept .reads true o (access c o) .one .1 (refl, odd))) (λ z. omega (arith, z))
+
+pub misaligned-write : (c : Cic) (o v : ℕ) → (o % 4 ≡ 0 → ⊥) → refused c misaligned ≡ writeAs true c o v
+unfolding writeAs
+misaligned-write c o v odd =
+    refused-by c _ (sym (checks.kept .writes true o (access c o) (refusalAt c o v) (value-number c (registerAt o) v) .one .1 (refl, odd))) (λ z. omega (arith, z))
+
+read-number : (o : ℕ) (a : Access) → o % 4 ≡ 0 → readAccess a ≡ readRefusal true o a
+read-number o NoRegister e = sym (checks.kept .reads true o NoRegister .two .1 (refl, (e, refl)))
+read-number o ReadOnly e = sym (checks.kept .reads true o ReadOnly .none .1 (refl, (e, inl refl)))
+read-number o WriteOnly e = sym (checks.kept .reads true o WriteOnly .three .1 (refl, (e, refl)))
+read-number o ReadWrite e = sym (checks.kept .reads true o ReadWrite .none .1 (refl, (e, inr refl)))
+
+-- the value is refused by 6 or not at all
+taken : (o : ℕ) (a : Access) (w : ℕ) → ValueNumber w → o % 4 ≡ 0 → Writable a → (w ≡ carriedOut) ⊎ (w ≡ beyond) → w ≡ writeRefusal true o a w
+taken o a w k e t (inl z) = z ∙ sym (checks.kept .writes true o a w k .none .1 (refl, (e, (t, z))))
+taken o a w k e t (inr z) = z ∙ sym (checks.kept .writes true o a w k .six .1 (refl, (e, (t, z))))
+
+write-number : (o : ℕ) (a : Access) (w : ℕ) → ValueNumber w → o % 4 ≡ 0 → (w ≡ carriedOut) ⊎ (w ≡ beyond) → writeAccess a w ≡ writeRefusal true o a w
+write-number o NoRegister w k e z = sym (checks.kept .writes true o NoRegister w k .two .1 (refl, (e, refl)))
+write-number o ReadOnly w k e z = sym (checks.kept .writes true o ReadOnly w k .four .1 (refl, (e, refl)))
+write-number o WriteOnly w k e z = taken o WriteOnly w k e (inl refl) z
+write-number o ReadWrite w k e z = taken o ReadWrite w k e (inr refl) z
+
+-- the register r stands at the offset
+pub aligned-read : (c : Cic) (o : ℕ) {r : Register} {x : Reply} → o % 4 ≡ 0 → r ≡ registerAt o → x ≡ readIn c r → answerOf x c ≡ readAs true c o
+unfolding readAs
+aligned-read c o e at p =
+    ap (λ (x : Reply). answerOf x c) (p ∙ ap (readIn c) at)
+    ∙ pick-ap (λ (x : Reply). answerOf x c) (eqb (readAccess (access c o)) carriedOut) (answeredReply (valueOf c (registerAt o))) (refusedReply (readAccess (access c o)))
+    ∙ ap (λ (n : ℕ). unlessRefused c n (answered c (valueOf c (registerAt o)))) (read-number o (access c o) e)
+
+pub aligned-write : (c : Cic) (o v : ℕ) {r : Register} → o % 4 ≡ 0 → r ≡ registerAt o → writeIn c r v ≡ writeAs true c o v
+unfolding writeAs
+aligned-write c o v e at =
+    ap (λ (x : Register). writeIn c x v) at
+    ∙ ap (λ (n : ℕ). unlessRefused c n (answered (writtenTo c (registerAt o) v) 0))
+    (write-number o (access c o) (refusalAt c o v) (value-number c (registerAt o) v) e (value-six c (registerAt o) v))
 
 -- ---- lines
 
