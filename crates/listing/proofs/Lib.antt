@@ -1,5 +1,3 @@
--- How a listing's lines end, how long it is, the worked listings, and the proof of what is promised.
-pub mod EndingLaws
+-- The worked listings, and the proof of what is promised.
 pub mod Examples
 pub mod Promises
-pub mod SizeLaws

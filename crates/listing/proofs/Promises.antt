@@ -37,9 +37,9 @@ use Rattle.beginning.proofs.BeginningLaws.{begin-ready}
 use Rattle.lines.specs.Listing.{letterOf, letter, shownValue, lineOf, stepLine, linesFrom, joined, endLine, endOf, textFrom, listingOf}
 use Rattle.listing.specs.Promises.{linesOf, lineBytes, Promises}
 use Rattle.listing.proofs.Examples.{aic-listed, nothing-listed, core-listed, cic-listed, aintc-listed, aintc-alone}
-use Rattle.listing.proofs.EndingLaws.{endings-append, lines-end, end-ends, name-ends}
+use Rattle.lines.proofs.EndingLaws.{endings-append, lines-end, end-ends, name-ends}
 use Rattle.lines.proofs.LineLaws.{listing-begun, listing-refused}
-use Rattle.listing.proofs.SizeLaws.{length-listing}
+use Rattle.lines.proofs.SizeLaws.{length-listing}
 
 -- how the records end is how the play does
 ending : (s : List ℕ) (limit : ℕ) → endOf (recordsOf s limit .refusal) (recordsOf s limit .offset) ≡ endOf (playOf s limit .refusal) (playOf s limit .offset)
