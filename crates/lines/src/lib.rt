@@ -1,6 +1,9 @@
 // The lines of a listing, as text in a buffer that the caller lends (01, "House trace").
 ghost use mathlib.Core.Path.{_≡_};
+ghost use mathlib.Core.Bool.{true};
+ghost use Prim.Native.Nat.{_+_, _≤_};
 ghost use lib.Dec.{eqb};
+ghost use lib.ListN.{length};
 ghost use Rattle.words.specs.Choice.{pick};
 ghost use Rattle.steps.specs.Refusals.{carriedOut};
 ghost use Rattle.text.specs.Text.{write};
@@ -10,8 +13,44 @@ use steps::Step;
 use text::NEWLINE;
 use text::SPACE;
 
-// The line of a step: its number, its letter, the value in eight digits, and the machine's three numbers.
+// The line of a step: its number, its letter, the value in eight digits, and the machine's three numbers. One test for room serves for all its bytes.
 pub fn put_line(out: &mut [u8], at: usize, n: u32, letter: u8, value: u32, c: Columns) -> usize
+    ensures { λ r. ⌜ (now (out .exit), r) ≡ write (now (out .entry), at) (lineOf n letter value c) ⌝ }
+{
+    if has_room(out.len(), at) {
+        return put_line_in(out, at, n, letter, value, c);
+    }
+    put_line_cut(out, at, n, letter, value, c)
+}
+
+// Whether a line finds room, however long its numbers are: it has at most 55 bytes.
+fn has_room(length: usize, at: usize) -> bool
+    ensures { λ r. ⌜ r ≡ true → at + 55 ≤ length ⌝ }
+{
+    if length < 55 {
+        return false;
+    }
+    at <= length - 55
+}
+
+// A line that finds room.
+fn put_line_in(out: &mut [u8], at: usize, n: u32, letter: u8, value: u32, c: Columns) -> usize
+    requires { ⌜ at + 55 ≤ length (now out) ⌝ }
+    ensures { λ r. ⌜ (now (out .exit), r) ≡ write (now (out .entry), at) (lineOf n letter value c) ⌝ }
+{
+    let a = text_room::decimal_in(out, at, n);
+    let b = text_room::put_in(out, a, SPACE);
+    let d = text_room::put_in(out, b, letter);
+    let e = text_room::put_in(out, d, SPACE);
+    let f = text_room::hex_in(out, e, value);
+    let g = text_room::field_in(out, f, c.first);
+    let h = text_room::field_in(out, g, c.second);
+    let i = text_room::field_in(out, h, c.third);
+    text_room::put_in(out, i, NEWLINE)
+}
+
+// A line near the end of the buffer: what finds no room is dropped.
+fn put_line_cut(out: &mut [u8], at: usize, n: u32, letter: u8, value: u32, c: Columns) -> usize
     ensures { λ r. ⌜ (now (out .exit), r) ≡ write (now (out .entry), at) (lineOf n letter value c) ⌝ }
 {
     let a = text::put_decimal(out, at, n as u64);

@@ -8,7 +8,7 @@ pub const SPACE: u8 = b' ';
 
 pub const NEWLINE: u8 = b'\n';
 
-const DIGITS: [u8; 16] = [
+pub const DIGITS: [u8; 16] = [
     b'0',
     b'1',
     b'2',

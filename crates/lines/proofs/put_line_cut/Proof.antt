@@ -1,9 +1,9 @@
--- That `put_line` of src/lib.rt keeps its contract.
+-- That `put_line_cut` of src/lib.rt keeps its contract.
 use Rattle.text.proofs.WriteLaws.{and-then, same-length as same-len}
 use Rattle.lines.specs.Listing.{lineOf}
 use borrow.Author.Needs.{needs}
-use Rattle.lines.proofs.put_line.Statement.{statement}
-use Rattle.lines.proofs.put_line.Tie as tie
+use Rattle.lines.proofs.put_line_cut.Statement.{statement}
+use Rattle.lines.proofs.put_line_cut.Tie as tie
 
 returns : tie.Need-returns
 unfolding lineOf
@@ -27,8 +27,8 @@ returns c = let c9 = c .before .before in
 same-length : tie.Need-same-length
 same-length c = same-len _ _ _ (returns c)
 
-pub put-line-spec : {M : Type 1} → statement M
-put-line-spec =
+pub put-line-cut-spec : {M : Type 1} → statement M
+put-line-cut-spec =
     tie.close
     (tie.spec
     (λ c κs. search needs)

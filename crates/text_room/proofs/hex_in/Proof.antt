@@ -1,0 +1,52 @@
+-- That `hex_in` of src/lib.rt keeps its contract.
+use mathlib.Core.Path.{ap, _∙_}
+use Rattle.text.specs.Text.{write}
+use Rattle.text.proofs.WriteLaws.{eight-bytes}
+use Rattle.text.proofs.DigitLaws.{listed-row}
+use Rattle.text_room.proofs.RoomLaws.{hex-stands}
+use borrow.Author.Needs.{needs}
+use Rattle.text_room.proofs.hex_in.Statement.{statement}
+use Rattle.text_room.proofs.hex_in.Tie as tie
+
+returns : tie.Need-returns
+returns c =
+    let h = c .before .before in
+    let g = h .before .before .before .before in
+    let f = g .before .before .before .before in
+    let e = f .before .before .before .before in
+    let d = e .before .before .before .before in
+    let b = d .before .before .before .before in
+    let a = b .before .before .before .before in
+    let z = a .before .before .before .before in
+    hex-stands _ _ _ (eight-bytes _ _ _ _ _ _ _ _ _ (z .put-in .ensures .0) (a .put-in2 .ensures .0) (b .put-in3 .ensures .0) (d .put-in4 .ensures .0) (e .put-in5 .ensures .0) (f .put-in6 .ensures .0) (g .put-in7 .ensures .0) (h .put-in8 .ensures .0) ∙ ap (write _) (listed-row _))
+
+pub hex-in-spec : {M : Type 1} → statement M
+hex-in-spec =
+    tie.close
+    (tie.spec
+    (λ c. search needs)
+    (λ c. search needs)
+    (λ c κs. search needs)
+    (λ c. search needs)
+    (λ c. search needs)
+    (λ c κs. search needs)
+    (λ c. search needs)
+    (λ c. search needs)
+    (λ c κs. search needs)
+    (λ c. search needs)
+    (λ c. search needs)
+    (λ c κs. search needs)
+    (λ c. search needs)
+    (λ c. search needs)
+    (λ c κs. search needs)
+    (λ c. search needs)
+    (λ c. search needs)
+    (λ c κs. search needs)
+    (λ c. search needs)
+    (λ c. search needs)
+    (λ c κs. search needs)
+    (λ c. search needs)
+    (λ c. search needs)
+    (λ c κs. search needs)
+    (λ c. search needs)
+    returns)
