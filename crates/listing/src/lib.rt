@@ -1,10 +1,9 @@
 // The listing of a recorded trace, as text in a buffer that the caller lends, by the loop of the trace's kind (01, "House trace"; 02, 2/12).
 ghost use mathlib.Core.Path.{_≡_};
-ghost use mathlib.Core.List.{_++_};
 ghost use Rattle.steps.specs.Refusals.{carriedOut};
 ghost use Rattle.text.specs.Text.{write, laid};
 ghost use Rattle.trace.specs.Trace.{stepsFrom};
-ghost use Rattle.kinds.specs.Kinds.{name, tellsPrivilege};
+ghost use Rattle.kinds.specs.Kinds.{tellsPrivilege};
 ghost use Rattle.beginning.specs.Begin.{beginOf};
 ghost use Rattle.lines.specs.Listing.{textFrom, listingOf};
 use beginning::Begun;

@@ -9,10 +9,9 @@ use Rattle.steps.specs.declared.Recorded.{Recorded}
 use Rattle.numbers.specs.Promises.{toldAt}
 use Rattle.trace.specs.Promises.{Reads, Along, Ends}
 use Rattle.machine_record.specs.declared.Machine.{Machine}
-use Rattle.kinds.specs.Kinds.{isKind, wanted, within, tellsPrivilege}
+use Rattle.kinds.specs.Kinds.{isKind, within, tellsPrivilege}
 use Rattle.machine_record.specs.Machine.{blank, sound}
 use Rattle.machine.specs.Steps.{step}
-use Rattle.kinds.specs.Promises.{Within}
 use Rattle.machine_record.specs.Promises.{startWith}
 use Rattle.beginning.specs.Asked.{Wanting, Configures}
 use Rattle.beginning.specs.Begin.{beginOf}

@@ -1,11 +1,10 @@
 -- That `play_steps` of src/lib.rt keeps its contract.
 use Prim.Native.Nat.{_+_}
 use mathlib.Core.Bool.{false}
-use mathlib.Core.Path.{_≡_, sym, ap, _∙_}
+use mathlib.Core.Path.{_≡_, sym, _∙_}
 use native.Mathlib.Omega.{arith}
 use Rattle.trace.specs.Trace.{stepsFrom}
 use Rattle.trace.proofs.TraceLaws.{turn-found}
-use Rattle.machine_record.specs.declared.Machine.{Machine}
 use Rattle.machine_record.specs.Machine.{ofAic}
 use Rattle.machine_record.specs.Promises.{Ready}
 use Rattle.reports.specs.Play.{report}
