@@ -60,7 +60,7 @@ pub fn read<'a>(
     ensures { λ r. ⌜ ((ls : List ℕ) → answerOf r (cicOf z global ls (now (status .entry)) (now (enable .entry)) (now (channel .entry)) (now (host .entry)) (now (allow .entry))) ≡ readAs true (cicOf z global ls (now (status .entry)) (now (enable .entry)) (now (channel .entry)) (now (host .entry)) (now (allow .entry))) offset) ⌝ }
 {
     if offset % 4 != 0 {
-        return cic_registers::refuse(steps::MISALIGNED);
+        return cic_groups::refuse(steps::MISALIGNED);
     }
     let r = cic_layout::register_at(offset);
     cic_registers::read_register(z, global, status, enable, channel, host, allow, r)
@@ -81,7 +81,7 @@ pub fn write<'a>(
     ensures { λ r. ⌜ ((ls : List ℕ) → answerOf r (cicOf z (now (global .exit)) ls (now (status .exit)) (now (enable .exit)) (now (channel .exit)) (now (host .exit)) (now (allow .exit))) ≡ writeAs true (cicOf z (now (global .entry)) ls (now (status .entry)) (now (enable .entry)) (now (channel .entry)) (now (host .entry)) (now (allow .entry))) offset value) ⌝ }
 {
     if offset % 4 != 0 {
-        return cic_registers::refuse(steps::MISALIGNED);
+        return cic_groups::refuse(steps::MISALIGNED);
     }
     let r = cic_layout::register_at(offset);
     cic_registers::write_register(z, global, status, enable, channel, host, allow, r, value)
@@ -99,10 +99,10 @@ pub fn line(
 {
     let n = steps::line_refusal(true, z.systems, number, level);
     if n != steps::CARRIED_OUT {
-        return cic_registers::refuse(n);
+        return cic_groups::refuse(n);
     }
     move_number(lines, status, number, level == 1);
-    cic_registers::carry_out(0)
+    cic_groups::carry_out(0)
 }
 
 // Any step, of a record that is sound.

@@ -15,7 +15,8 @@ use Rattle.cic_record.specs.declared.Reply.{Reply}
 use Rattle.cic_record.specs.Parts.{answerOf, refusedReply, answeredReply}
 use Rattle.cic_record.specs.Record.{refused, answered}
 use Rattle.cic_layout.specs.Map.{ifAny}
-use Rattle.cic_registers.specs.Access.{replyBy, answerBy, left}
+use Rattle.cic_groups.specs.Groups.{left}
+use Rattle.cic_registers.specs.Access.{replyBy, answerBy}
 use Rattle.cic_registers.specs.Registers.{unless}
 
 -- ---- reads of a register that allows a

@@ -1,5 +1,4 @@
 -- A read and a write of a register at an aligned offset, by what the register may be used for (01, Numbers; 01, CIC, registers).
-use mathlib.Core.List.{List}
 use Prim.Native.Nat.{ℕ}
 use lib.Dec.{eqb}
 use Rattle.words.specs.Choice.{pick}
@@ -28,7 +27,3 @@ readIn c r = replyBy (readAccess (accessOf c r)) (valueOf c r)
 -- a write of v to the register r (01, Numbers; 01, CIC, registers)
 abbrev pub writeIn : Cic → Register → ℕ → Answer
 writeIn c r v = answerBy c (writeAccess (accessOf c r) (valueRefusal c r v)) (writtenTo c r v)
-
--- what a write replies, and the part of the record that it leaves
-abbrev pub left : Reply → List ℕ → Reply × List ℕ
-left r l = (r, l)

@@ -1,90 +1,13 @@
-// The CIC's registers, in parts that the caller lends: whether one is there, what it answers, which values it takes and what a write does
+// The CIC's registers, in parts that the caller lends: what a read of each one replies and what a write does, refusals included
 // (01, CIC, registers; 001, 2.2).
 ghost use mathlib.Core.List.{List};
 ghost use mathlib.Core.Path.{_≡_};
-ghost use Prim.Native.Nat.{ℕ, _*_, _%_};
-ghost use lib.Dec.{ltb};
-ghost use lib.ListN.{length};
-ghost use Rattle.words.specs.Array.{withBitAt};
-ghost use Rattle.words.specs.Choice.{pick};
-ghost use Rattle.words.specs.Word.{both};
-ghost use Rattle.steps.specs.Refusals.{absent, beyond};
-ghost use Rattle.cic_record.specs.Parts.{cicOf, answerOf, refusedReply, answeredReply};
-ghost use Rattle.cic_words.specs.Bits.{wordRead, bitsSet, bitsCleared, wordReplaced};
-ghost use Rattle.cic_maps.specs.Maps.{mapRead, mapTaken, mapPut};
-ghost use Rattle.cic_registers.specs.Access.{readIn, writeIn, left};
+ghost use Prim.Native.Nat.{ℕ};
+ghost use Rattle.cic_record.specs.Parts.{cicOf, answerOf};
+ghost use Rattle.cic_registers.specs.Access.{readIn, writeIn};
 use cic_layout::Register;
-use cic_record::Host;
 use cic_record::Reply;
 use cic_record::Size;
-use cic_record::System;
-
-// The reply of a step that is refused by number n.
-pub fn refuse(n: u32) -> Reply
-    ensures { λ r. ⌜ r ≡ refusedReply n ⌝ }
-{
-    Reply {
-        refusal: n,
-        value: 0,
-    }
-}
-
-// The reply of a step that is carried out.
-pub fn carry_out(value: u32) -> Reply
-    ensures { λ r. ⌜ r ≡ answeredReply value ⌝ }
-{
-    Reply {
-        refusal: steps::CARRIED_OUT,
-        value: value,
-    }
-}
-
-// A register whose first bit or byte is that of thing `first` exists if that is one of n things.
-fn is_there(first: u64, n: u32) -> bool
-    ensures { λ r. ⌜ r ≡ ltb first n ⌝ }
-{
-    first < (n as u64)
-}
-
-// A read of register k of a group of bits, one for each of n things.
-fn read_bits(n: u32, ws: &[u32], k: u32) -> Reply
-    ensures { λ r. ⌜ r ≡ pick (ltb (32 * k) n) (answeredReply (wordRead n (now (ws .entry)) k)) (refusedReply absent) ⌝ }
-{
-    if is_there(32 * (k as u64), n) {
-        return carry_out(cic_words::read_word(n, ws, k));
-    }
-    refuse(steps::ABSENT)
-}
-
-// The same of the bits that are set in two arrays of words.
-fn read_shared<'a>(n: u32, a: &'a [u32; 32], b: &'a [u32; 32], k: u32) -> Reply
-    ensures { λ r. ⌜ r ≡ pick (ltb (32 * k) n) (answeredReply (both (wordRead n (now (a .entry)) k) (wordRead n (now (b .entry)) k))) (refusedReply absent) ⌝ }
-{
-    if is_there(32 * (k as u64), n) {
-        return carry_out(words::meet(cic_words::read_word(n, a, k), cic_words::read_word(n, b, k)));
-    }
-    refuse(steps::ABSENT)
-}
-
-// A read of register k of the channel map.
-fn read_channels(z: Size, channel: &[u8; 1024], k: u32) -> Reply
-    ensures { λ r. ⌜ r ≡ pick (ltb (4 * k) (z .systems)) (answeredReply (mapRead (z .systems) (now (channel .entry)) k)) (refusedReply absent) ⌝ }
-{
-    if is_there(4 * (k as u64), z.systems) {
-        return carry_out(cic_maps::read_channels(z, channel, k));
-    }
-    refuse(steps::ABSENT)
-}
-
-// A read of register k of the host map.
-fn read_hosts(z: Size, host: &[u8; 256], k: u32) -> Reply
-    ensures { λ r. ⌜ r ≡ pick (ltb (4 * k) (z .channels)) (answeredReply (mapRead (z .channels) (now (host .entry)) k)) (refusedReply absent) ⌝ }
-{
-    if is_there(4 * (k as u64), z.channels) {
-        return carry_out(cic_maps::read_hosts(z, host, k));
-    }
-    refuse(steps::ABSENT)
-}
 
 // A read of a register at an aligned offset. No register shows the lines.
 pub fn read_register<'a>(
@@ -100,136 +23,23 @@ pub fn read_register<'a>(
     ensures { λ a. ⌜ ((ls : List ℕ) → a ≡ readIn (cicOf z global ls (now (status .entry)) (now (enable .entry)) (now (channel .entry)) (now (host .entry)) (now (allow .entry))) r) ⌝ }
 {
     match r {
-        Register::Nothing => refuse(steps::ABSENT),
-        Register::Revision => carry_out(z.revision),
-        Register::GlobalEnable => carry_out(global),
-        Register::StatusIndexSet => refuse(steps::UNREADABLE),
-        Register::StatusIndexClear => refuse(steps::UNREADABLE),
-        Register::EnableIndexSet => refuse(steps::UNREADABLE),
-        Register::EnableIndexClear => refuse(steps::UNREADABLE),
-        Register::HostIndexSet => refuse(steps::UNREADABLE),
-        Register::HostIndexClear => refuse(steps::UNREADABLE),
-        Register::RawSet(k) => read_bits(z.systems, status, k),
-        Register::EnabledClear(k) => read_shared(z.systems, status, enable, k),
-        Register::EnableSet(k) => read_bits(z.systems, enable, k),
-        Register::EnableClear(k) => read_bits(z.systems, enable, k),
-        Register::ChannelMap(k) => read_channels(z, channel, k),
-        Register::HostMap(k) => read_hosts(z, host, k),
-        Register::HostEnable(k) => read_bits(z.hosts, allow, k),
+        Register::Nothing => cic_groups::refuse(steps::ABSENT),
+        Register::Revision => cic_groups::carry_out(z.revision),
+        Register::GlobalEnable => cic_groups::carry_out(global),
+        Register::StatusIndexSet => cic_groups::refuse(steps::UNREADABLE),
+        Register::StatusIndexClear => cic_groups::refuse(steps::UNREADABLE),
+        Register::EnableIndexSet => cic_groups::refuse(steps::UNREADABLE),
+        Register::EnableIndexClear => cic_groups::refuse(steps::UNREADABLE),
+        Register::HostIndexSet => cic_groups::refuse(steps::UNREADABLE),
+        Register::HostIndexClear => cic_groups::refuse(steps::UNREADABLE),
+        Register::RawSet(k) => cic_groups::read_bits(z.systems, status, k),
+        Register::EnabledClear(k) => cic_groups::read_shared(z.systems, status, enable, k),
+        Register::EnableSet(k) => cic_groups::read_bits(z.systems, enable, k),
+        Register::EnableClear(k) => cic_groups::read_bits(z.systems, enable, k),
+        Register::ChannelMap(k) => cic_groups::read_channels(z, channel, k),
+        Register::HostMap(k) => cic_groups::read_hosts(z, host, k),
+        Register::HostEnable(k) => cic_groups::read_bits(z.hosts, allow, k),
     }
-}
-
-// Global enable keeps bit 0.
-fn write_global(global: &mut u32, v: u32) -> Reply
-    ensures { λ r. ⌜ (r ≡ answeredReply 0) × (now (global .exit) ≡ v % 2) ⌝ }
-{
-    *global = v % 2;
-    carry_out(0)
-}
-
-// The bit of system interrupt v, if there is one, is set or cleared.
-fn put_system(ws: &mut [u32], v: u32, on: bool)
-    requires { ⌜ length (now ws) ≡ 32 ⌝ }
-    ensures { λ _. ⌜ now (ws .exit) ≡ withBitAt (now (ws .entry)) v on ⌝ }
-{
-    if 1024 <= v {
-        return;
-    }
-    cic_words::mark_system(ws, System(v as u16), on);
-}
-
-// The bit of host interrupt v, if there is one, is set or cleared.
-fn put_host(ws: &mut [u32], v: u32, on: bool)
-    requires { ⌜ length (now ws) ≡ 8 ⌝ }
-    ensures { λ _. ⌜ now (ws .exit) ≡ withBitAt (now (ws .entry)) v on ⌝ }
-{
-    if 256 <= v {
-        return;
-    }
-    cic_words::mark_host(ws, Host(v as u16), on);
-}
-
-// A write of system interrupt v to an index register: it is compared whole.
-fn index_system(n: u32, ws: &mut [u32; 32], v: u32, on: bool) -> Reply
-    ensures { λ r. ⌜ left r (now (ws .exit)) ≡ pick (ltb v n) (left (answeredReply 0) (withBitAt (now (ws .entry)) v on)) (left (refusedReply beyond) (now (ws .entry))) ⌝ }
-{
-    if v < n {
-        put_system(ws, v, on);
-        return carry_out(0);
-    }
-    refuse(steps::BEYOND)
-}
-
-// A write of host interrupt v to an index register: it is compared whole.
-fn index_host(n: u32, ws: &mut [u32; 8], v: u32, on: bool) -> Reply
-    ensures { λ r. ⌜ left r (now (ws .exit)) ≡ pick (ltb v n) (left (answeredReply 0) (withBitAt (now (ws .entry)) v on)) (left (refusedReply beyond) (now (ws .entry))) ⌝ }
-{
-    if v < n {
-        put_host(ws, v, on);
-        return carry_out(0);
-    }
-    refuse(steps::BEYOND)
-}
-
-// A write to register k of a group whose bits are set.
-fn set_bits(n: u32, ws: &mut [u32], k: u32, v: u32) -> Reply
-    ensures { λ r. ⌜ left r (now (ws .exit)) ≡ pick (ltb (32 * k) n) (left (answeredReply 0) (bitsSet n (now (ws .entry)) k v)) (left (refusedReply absent) (now (ws .entry))) ⌝ }
-{
-    if is_there(32 * (k as u64), n) {
-        cic_words::set_bits(ws, n, k, v);
-        return carry_out(0);
-    }
-    refuse(steps::ABSENT)
-}
-
-// A write to register k of a group whose bits are cleared.
-fn clear_bits(n: u32, ws: &mut [u32], k: u32, v: u32) -> Reply
-    ensures { λ r. ⌜ left r (now (ws .exit)) ≡ pick (ltb (32 * k) n) (left (answeredReply 0) (bitsCleared (now (ws .entry)) k v)) (left (refusedReply absent) (now (ws .entry))) ⌝ }
-{
-    if is_there(32 * (k as u64), n) {
-        cic_words::clear_bits(ws, k, v);
-        return carry_out(0);
-    }
-    refuse(steps::ABSENT)
-}
-
-// A write to register k of a group whose words are replaced.
-fn replace_bits(n: u32, ws: &mut [u32], k: u32, v: u32) -> Reply
-    ensures { λ r. ⌜ left r (now (ws .exit)) ≡ pick (ltb (32 * k) n) (left (answeredReply 0) (wordReplaced n (now (ws .entry)) k v)) (left (refusedReply absent) (now (ws .entry))) ⌝ }
-{
-    if is_there(32 * (k as u64), n) {
-        cic_words::replace_bits(ws, n, k, v);
-        return carry_out(0);
-    }
-    refuse(steps::ABSENT)
-}
-
-// A write to register k of the channel map: one byte beyond the channels refuses it whole.
-fn write_channels(z: Size, channel: &mut [u8; 1024], k: u32, v: u32) -> Reply
-    ensures { λ r. ⌜ left r (now (channel .exit)) ≡ pick (ltb (4 * k) (z .systems)) (pick (mapTaken (z .systems) (z .channels) k v) (left (answeredReply 0) (mapPut (z .systems) k v (now (channel .entry)))) (left (refusedReply beyond) (now (channel .entry)))) (left (refusedReply absent) (now (channel .entry))) ⌝ }
-{
-    if !is_there(4 * (k as u64), z.systems) {
-        return refuse(steps::ABSENT);
-    }
-    if cic_maps::channels_taken(z, k, v) {
-        cic_maps::write_channels(z, channel, k, v);
-        return carry_out(0);
-    }
-    refuse(steps::BEYOND)
-}
-
-// A write to register k of the host map: one byte beyond the hosts refuses it whole.
-fn write_hosts(z: Size, host: &mut [u8; 256], k: u32, v: u32) -> Reply
-    ensures { λ r. ⌜ left r (now (host .exit)) ≡ pick (ltb (4 * k) (z .channels)) (pick (mapTaken (z .channels) (z .hosts) k v) (left (answeredReply 0) (mapPut (z .channels) k v (now (host .entry)))) (left (refusedReply beyond) (now (host .entry)))) (left (refusedReply absent) (now (host .entry))) ⌝ }
-{
-    if !is_there(4 * (k as u64), z.channels) {
-        return refuse(steps::ABSENT);
-    }
-    if cic_maps::hosts_taken(z, k, v) {
-        cic_maps::write_hosts(z, host, k, v);
-        return carry_out(0);
-    }
-    refuse(steps::BEYOND)
 }
 
 // A write to a register at an aligned offset. It reaches no line.
@@ -247,21 +57,21 @@ pub fn write_register<'a>(
     ensures { λ a. ⌜ ((ls : List ℕ) → answerOf a (cicOf z (now (global .exit)) ls (now (status .exit)) (now (enable .exit)) (now (channel .exit)) (now (host .exit)) (now (allow .exit))) ≡ writeIn (cicOf z (now (global .entry)) ls (now (status .entry)) (now (enable .entry)) (now (channel .entry)) (now (host .entry)) (now (allow .entry))) r v) ⌝ }
 {
     match r {
-        Register::Nothing => refuse(steps::ABSENT),
-        Register::Revision => refuse(steps::UNWRITABLE),
-        Register::GlobalEnable => write_global(global, v),
-        Register::StatusIndexSet => index_system(z.systems, status, v, true),
-        Register::StatusIndexClear => index_system(z.systems, status, v, false),
-        Register::EnableIndexSet => index_system(z.systems, enable, v, true),
-        Register::EnableIndexClear => index_system(z.systems, enable, v, false),
-        Register::HostIndexSet => index_host(z.hosts, allow, v, true),
-        Register::HostIndexClear => index_host(z.hosts, allow, v, false),
-        Register::RawSet(k) => set_bits(z.systems, status, k, v),
-        Register::EnabledClear(k) => clear_bits(z.systems, status, k, v),
-        Register::EnableSet(k) => set_bits(z.systems, enable, k, v),
-        Register::EnableClear(k) => clear_bits(z.systems, enable, k, v),
-        Register::ChannelMap(k) => write_channels(z, channel, k, v),
-        Register::HostMap(k) => write_hosts(z, host, k, v),
-        Register::HostEnable(k) => replace_bits(z.hosts, allow, k, v),
+        Register::Nothing => cic_groups::refuse(steps::ABSENT),
+        Register::Revision => cic_groups::refuse(steps::UNWRITABLE),
+        Register::GlobalEnable => cic_groups::write_global(global, v),
+        Register::StatusIndexSet => cic_groups::index_system(z.systems, status, v, true),
+        Register::StatusIndexClear => cic_groups::index_system(z.systems, status, v, false),
+        Register::EnableIndexSet => cic_groups::index_system(z.systems, enable, v, true),
+        Register::EnableIndexClear => cic_groups::index_system(z.systems, enable, v, false),
+        Register::HostIndexSet => cic_groups::index_host(z.hosts, allow, v, true),
+        Register::HostIndexClear => cic_groups::index_host(z.hosts, allow, v, false),
+        Register::RawSet(k) => cic_groups::set_bits(z.systems, status, k, v),
+        Register::EnabledClear(k) => cic_groups::clear_bits(z.systems, status, k, v),
+        Register::EnableSet(k) => cic_groups::set_bits(z.systems, enable, k, v),
+        Register::EnableClear(k) => cic_groups::clear_bits(z.systems, enable, k, v),
+        Register::ChannelMap(k) => cic_groups::write_channels(z, channel, k, v),
+        Register::HostMap(k) => cic_groups::write_hosts(z, host, k, v),
+        Register::HostEnable(k) => cic_groups::replace_bits(z.hosts, allow, k, v),
     }
 }

@@ -1,11 +1,11 @@
 -- That `set_bits` of src/lib.rt keeps its contract.
 use Rattle.words.proofs.ChoiceLaws.{by-true, by-false}
 use Rattle.cic_record.specs.declared.Reply.{Reply}
-use Rattle.cic_registers.specs.Access.{left}
+use Rattle.cic_groups.specs.Groups.{left}
 use mathlib.Core.Path.{ap, ap₂, _∙_}
 use borrow.Author.Needs.{needs}
-use Rattle.cic_registers.proofs.set_bits.Statement.{statement}
-use Rattle.cic_registers.proofs.set_bits.Tie as tie
+use Rattle.cic_groups.proofs.set_bits.Statement.{statement}
+use Rattle.cic_groups.proofs.set_bits.Tie as tie
 
 returns : tie.Need-returns
 returns c = ap₂ left (c .carry-out .ensures) (c .before .before .before .set-bits .ensures) ∙ by-true _ (c .before .before .before .before .before .before .is-there .ensures) (c .before .before .before .before .before .if1 .taken)

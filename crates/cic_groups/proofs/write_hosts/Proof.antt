@@ -1,12 +1,12 @@
 -- That `write_hosts` of src/lib.rt keeps its contract.
 use Rattle.words.proofs.ChoiceLaws.{by-true, by-false}
 use Rattle.cic_record.specs.declared.Reply.{Reply}
-use Rattle.cic_registers.specs.Access.{left}
+use Rattle.cic_groups.specs.Groups.{left}
 use borrow.Author.Tests.{not-true, not-false}
 use mathlib.Core.Path.{ap, ap₂, _∙_}
 use borrow.Author.Needs.{needs}
-use Rattle.cic_registers.proofs.write_hosts.Statement.{statement}
-use Rattle.cic_registers.proofs.write_hosts.Tie as tie
+use Rattle.cic_groups.proofs.write_hosts.Statement.{statement}
+use Rattle.cic_groups.proofs.write_hosts.Tie as tie
 
 returns : tie.Need-returns
 returns c = ap (λ (r : Reply). left r (c .before .before .before .args .host .now)) (c .refuse .ensures) ∙ by-false _ (c .before .before .is-there .ensures) (not-true _ (c .before .if1 .taken))

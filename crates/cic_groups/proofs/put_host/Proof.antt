@@ -3,8 +3,8 @@ use Rattle.words.proofs.ArrayLaws.{withBitAt-past}
 use mathlib.Core.Path.{sym}
 use native.Mathlib.Omega.{arith}
 use borrow.Author.Needs.{needs}
-use Rattle.cic_registers.proofs.put_host.Statement.{statement}
-use Rattle.cic_registers.proofs.put_host.Tie as tie
+use Rattle.cic_groups.proofs.put_host.Statement.{statement}
+use Rattle.cic_groups.proofs.put_host.Tie as tie
 
 returns : tie.Need-returns
 returns c = let a = c .before .before .args in sym (withBitAt-past (a .ws .now) (a .v) (a .on) (omega (arith, c .before .before .pre, c .if1 .taken)))

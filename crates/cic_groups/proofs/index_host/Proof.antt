@@ -1,12 +1,12 @@
 -- That `index_host` of src/lib.rt keeps its contract.
 use Rattle.words.proofs.ChoiceLaws.{pick-true, pick-false}
 use Rattle.cic_record.specs.declared.Reply.{Reply}
-use Rattle.cic_registers.specs.Access.{left}
+use Rattle.cic_groups.specs.Groups.{left}
 use borrow.Author.Tests.{lt-ltb, le-ltb}
 use mathlib.Core.Path.{ap, ap₂, _∙_}
 use borrow.Author.Needs.{needs}
-use Rattle.cic_registers.proofs.index_host.Statement.{statement}
-use Rattle.cic_registers.proofs.index_host.Tie as tie
+use Rattle.cic_groups.proofs.index_host.Statement.{statement}
+use Rattle.cic_groups.proofs.index_host.Tie as tie
 
 returns : tie.Need-returns
 returns c = ap₂ left (c .carry-out .ensures) (c .before .put-host .ensures) ∙ pick-true _ (lt-ltb _ _ (c .before .before .before .if1 .taken))

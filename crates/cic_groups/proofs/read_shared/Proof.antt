@@ -4,8 +4,8 @@ use Rattle.words.proofs.ChoiceLaws.{by-true, by-false}
 use Rattle.cic_record.specs.Parts.{answeredReply}
 use mathlib.Core.Path.{ap, ap₂, _∙_}
 use borrow.Author.Needs.{needs}
-use Rattle.cic_registers.proofs.read_shared.Statement.{statement}
-use Rattle.cic_registers.proofs.read_shared.Tie as tie
+use Rattle.cic_groups.proofs.read_shared.Statement.{statement}
+use Rattle.cic_groups.proofs.read_shared.Tie as tie
 
 returns : tie.Need-returns
 returns c =
