@@ -25,7 +25,7 @@ pub fn put_line(out: &mut [u8], at: usize, n: u32, letter: u8, value: u32, c: Co
 
 // Whether a line finds room, however long its numbers are: it has at most 55 bytes.
 fn has_room(length: usize, at: usize) -> bool
-    ensures { λ r. ⌜ r ≡ true → at + 55 ≤ length ⌝ }
+    ensures { λ r. ⌜ (r ≡ true → at + 55 ≤ length) ⌝ }
 {
     if length < 55 {
         return false;
