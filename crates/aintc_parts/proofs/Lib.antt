@@ -1,2 +1,0 @@
--- Laws about the AINTC in parts.
-pub mod OutputLaws
