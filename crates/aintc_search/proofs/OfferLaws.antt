@@ -8,8 +8,8 @@ use native.Mathlib.Decide.{decLt, ℕ-discrete}
 use native.Mathlib.Omega.{arith}
 use borrow.Author.Tests.{eq-eqb, ne-eqb, lt-ltb, le-ltb}
 use lib.Dec.{eqb, leb, ltb}
-use lib.ListN.{getD, set}
-use lib.Seq.{getD-set-other}
+use lib.ListN.{length, getD, set}
+use lib.Seq.{getD-set-other, set-out}
 use Rattle.words.specs.Array.{withBitAt}
 use Rattle.words.specs.Choice.{pick}
 use Rattle.words.specs.Counting.{one}
@@ -29,7 +29,7 @@ use Rattle.aintc_choice.specs.Settle.{settledSide, settle, sound}
 use Rattle.aintc_choice.proofs.InputLaws.{open-from, passes-limit}
 use Rattle.aintc_choice.proofs.Promises as choice-promises
 use Rattle.aintc_choice.proofs.SearchLaws.{Nobody, Leader, Found, waiting, word-found, found-cases}
-use Rattle.aintc_choice.proofs.SettleLaws.{is-none, settled-held, settled-none, side-settled}
+use Rattle.aintc_choice.proofs.SettleLaws.{is-none, settled-held, settled-none, settled-same, side-settled}
 use Rattle.aintc_search.specs.Offer.{taken, offered}
 
 -- input k is one of those of word n that the word w holds
@@ -248,3 +248,32 @@ module _ (s : Aintc) (k b : ℕ) (ok : sound s ≡ true) where
   pub route-settled : (x y : Chosen) → k < 128 → x ≡ offered (s .irq) itself (k / 32) (set (s .routes) k b) (s .threshold) 0
       → y ≡ offered (s .fiq) itself (k / 32) (set (s .routes) k b) (s .threshold) 1 → withSides other x y ≡ settle other
   route-settled x y l ex ey = offered-both other (k / 32) itself x y (omega arith) only-itself ex ey
+
+-- ---- as the code has it: u is what stands in the parts before the outputs take anything
+
+pub settled-by : (s t u : Aintc) (n o w x : ℕ) (a b : Chosen) → n < 4 → sound s ≡ true → Near s t n → u ≡ t → o ≡ openWord s n → w ≡ openWord u n → x ≡ without w o
+    → a ≡ offered (s .irq) x n (s .routes) (s .threshold) 0 → b ≡ offered (s .fiq) x n (s .routes) (s .threshold) 1 → withSides u a b ≡ settle t
+settled-by s t u n o w x a b l ok near eu eo ew ex ea eb =
+    ap (λ (y : Aintc). withSides y a b) eu ∙ new-settled s t n ok near a b l (ea ∙ by-word (s .irq) 0) (eb ∙ by-word (s .fiq) 1)
+  where
+    word : x ≡ without (openWord t n) (openWord s n)
+    word = ex ∙ ap₂ without (ew ∙ ap (λ (y : Aintc). openWord y n) eu) eo
+
+    by-word : (c : Chosen) (q : ℕ) → offered c x n (s .routes) (s .threshold) q ≡ offered c (without (openWord t n) (openWord s n)) n (s .routes) (s .threshold) q
+    by-word c q = ap (λ (y : ℕ). offered c y n (s .routes) (s .threshold) q) word
+
+pub route-by : (s : Aintc) (rs : List ℕ) (k b o x : ℕ) (h : Bool) (c d : Chosen) → k < 128 → sound s ≡ true → rs ≡ set (s .routes) k b → o ≡ openWord s (k / 32) → h ≡ bit o (k % 32)
+    → x ≡ withBit 0 (k % 32) h → c ≡ offered (s .irq) x (k / 32) rs (s .threshold) 0 → d ≡ offered (s .fiq) x (k / 32) rs (s .threshold) 1
+    → withSides (withRoutes s rs) c d ≡ settle (withRoutes s (set (s .routes) k b))
+route-by s rs k b o x h c d l ok er eo eh ex ec ed =
+    ap (λ (y : List ℕ). withSides (withRoutes s y) c d) er ∙ route-settled s k b ok c d l (ec ∙ by-word (s .irq) 0) (ed ∙ by-word (s .fiq) 1)
+  where
+    word : x ≡ itself s k b ok
+    word = ex ∙ ap (withBit 0 (k % 32)) (eh ∙ ap (λ (y : ℕ). bit y (k % 32)) eo)
+
+    by-word : (e : Chosen) (q : ℕ) → offered e x (k / 32) rs (s .threshold) q ≡ offered e (itself s k b ok) (k / 32) (set (s .routes) k b) (s .threshold) q
+    by-word e q = ap₂ (λ (y : ℕ) (z : List ℕ). offered e y (k / 32) z (s .threshold) q) word er
+
+-- past the last input nothing changes, and what was settled stays so
+pub route-past : (s : Aintc) (k b : ℕ) → sound s ≡ true → length (s .routes) ≡ 128 → 128 ≤ k → s ≡ settle (withRoutes s (set (s .routes) k b))
+route-past s k b ok l h = sym (ap (λ (y : List ℕ). settle (withRoutes s y)) (set-out (s .routes) k b (omega (arith, l))) ∙ settled-same s ok)

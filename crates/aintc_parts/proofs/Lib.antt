@@ -1,0 +1,2 @@
+-- Laws about the steps of an AINTC on parts.
+pub mod PartLaws
