@@ -1,2 +1,2 @@
--- Laws about the AINTC in parts.
-pub mod OutputLaws
+-- Laws about the steps of an AINTC on parts.
+pub mod PartLaws

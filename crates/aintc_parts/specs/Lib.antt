@@ -1,2 +1,2 @@
--- The AINTC in parts: the record that they make, and what a step on them answers.
-pub mod Parts
+-- What a step on the parts of an AINTC answers.
+pub mod Reply

@@ -1,15 +1,12 @@
-// The AINTC with each part of its record lent and changed in place. What is done is defined by the model by value.
+// The AINTC's steps with each part of its record lent and changed in place. What is done is defined by the model by value.
 ghost use mathlib.Core.Path.{_≡_};
-ghost use mathlib.Core.Bool.{Bool, true};
-ghost use mathlib.Core.List.{List};
-ghost use Prim.Native.Nat.{ℕ};
+ghost use mathlib.Core.Bool.{true};
 ghost use Rattle.aintc_choice.specs.Settle.{sound};
 ghost use Rattle.aintc.specs.Model.{read, write, line, step};
-ghost use Rattle.aintc_parts.specs.Parts.{aintcOf, answerOf, answeredReply, refusedReply};
+ghost use Rattle.aintc_search.specs.Parts.{aintcOf, Fiqs};
+ghost use Rattle.aintc_parts.specs.Reply.{answerOf, answeredReply, refusedReply};
 
-pub mod outputs;
 pub mod reads;
-pub mod sides;
 pub mod writes;
 
 use aintc_registers::map::access_of;
@@ -48,43 +45,25 @@ pub fn read<'a>(
     soft: &'a [u32; 4],
     masks: &'a [u32; 4],
     routes: &'a [u8; 128],
-    threshold: u8,
-    revision: u8,
-    guarded: bool,
-    autoidle: bool,
-    turbo: bool,
-    funcidle: bool,
+    fiqs: &'a [u32; 4],
+    settings: u32,
     irq: u32,
     fiq: u32,
     privilege: u32,
     offset: u32,
 ) -> Reply
-    ensures { λ r. ⌜ (sound (aintcOf (now (lines .entry)) (now (soft .entry)) (now (masks .entry)) (now (routes .entry)) threshold revision guarded autoidle turbo funcidle irq fiq) ≡ true → answerOf r (aintcOf (now (lines .entry)) (now (soft .entry)) (now (masks .entry)) (now (routes .entry)) threshold revision guarded autoidle turbo funcidle irq fiq) ≡ read (aintcOf (now (lines .entry)) (now (soft .entry)) (now (masks .entry)) (now (routes .entry)) threshold revision guarded autoidle turbo funcidle irq fiq) privilege offset) ⌝ }
+    ensures { λ r. ⌜ (sound (aintcOf (now (lines .entry)) (now (soft .entry)) (now (masks .entry)) (now (routes .entry)) settings irq fiq) ≡ true → Fiqs (now (routes .entry)) (now (fiqs .entry)) → answerOf r (aintcOf (now (lines .entry)) (now (soft .entry)) (now (masks .entry)) (now (routes .entry)) settings irq fiq) ≡ read (aintcOf (now (lines .entry)) (now (soft .entry)) (now (masks .entry)) (now (routes .entry)) settings irq fiq) privilege offset) ⌝ }
 {
     let rest = steps::read_refusal(true, offset, access_of(offset));
     let n = aintc::access_number(
         privilege,
-        aintc::is_barred(guarded, privilege, offset),
+        aintc::is_barred(settings / 0x10000 % 2 == 1, privilege, offset),
         rest,
     );
     if n != steps::CARRIED_OUT {
         return refuse(n);
     }
-    carry_out(reads::read_at(
-        lines,
-        soft,
-        masks,
-        routes,
-        threshold,
-        revision,
-        guarded,
-        autoidle,
-        turbo,
-        funcidle,
-        irq,
-        fiq,
-        offset,
-    ))
+    carry_out(reads::read_at(lines, soft, masks, routes, fiqs, settings, irq, fiq, offset))
 }
 
 // A write of the register at an offset.
@@ -93,45 +72,38 @@ pub fn write<'a>(
     soft: &'a mut [u32; 4],
     masks: &'a mut [u32; 4],
     routes: &'a mut [u8; 128],
-    threshold: &'a mut u8,
-    revision: &'a mut u8,
-    guarded: &'a mut bool,
-    autoidle: &'a mut bool,
-    turbo: &'a mut bool,
-    funcidle: &'a mut bool,
+    fiqs: &'a mut [u32; 4],
+    settings: &'a mut u32,
     irq: &'a mut u32,
     fiq: &'a mut u32,
     privilege: u32,
     offset: u32,
     value: u32,
 ) -> Reply
-    ensures { λ r. ⌜ (sound (aintcOf (now (lines .entry)) (now (soft .entry)) (now (masks .entry)) (now (routes .entry)) (now (threshold .entry)) (now (revision .entry)) (now (guarded .entry)) (now (autoidle .entry)) (now (turbo .entry)) (now (funcidle .entry)) (now (irq .entry)) (now (fiq .entry))) ≡ true → answerOf r (aintcOf (now (lines .entry)) (now (soft .exit)) (now (masks .exit)) (now (routes .exit)) (now (threshold .exit)) (now (revision .exit)) (now (guarded .exit)) (now (autoidle .exit)) (now (turbo .exit)) (now (funcidle .exit)) (now (irq .exit)) (now (fiq .exit))) ≡ write (aintcOf (now (lines .entry)) (now (soft .entry)) (now (masks .entry)) (now (routes .entry)) (now (threshold .entry)) (now (revision .entry)) (now (guarded .entry)) (now (autoidle .entry)) (now (turbo .entry)) (now (funcidle .entry)) (now (irq .entry)) (now (fiq .entry))) privilege offset value) ⌝ }
+    ensures { λ r. ⌜ (sound (aintcOf (now (lines .entry)) (now (soft .entry)) (now (masks .entry)) (now (routes .entry)) (now (settings .entry)) (now (irq .entry)) (now (fiq .entry))) ≡ true → Fiqs (now (routes .entry)) (now (fiqs .entry)) → (answerOf r (aintcOf (now (lines .entry)) (now (soft .exit)) (now (masks .exit)) (now (routes .exit)) (now (settings .exit)) (now (irq .exit)) (now (fiq .exit))) ≡ write (aintcOf (now (lines .entry)) (now (soft .entry)) (now (masks .entry)) (now (routes .entry)) (now (settings .entry)) (now (irq .entry)) (now (fiq .entry))) privilege offset value) × Fiqs (now (routes .exit)) (now (fiqs .exit))) ⌝ }
 {
+    let guarded = *settings / 0x10000 % 2 == 1;
     let rest = steps::write_refusal(true, offset, access_of(offset), steps::CARRIED_OUT);
     let n = aintc::access_number(
         privilege,
-        aintc::is_barred(*guarded, privilege, offset),
+        aintc::is_barred(guarded, privilege, offset),
         rest,
     );
     if n != steps::CARRIED_OUT {
         return refuse(n);
     }
     writes::write_at(
+        lines,
         soft,
         masks,
         routes,
-        threshold,
-        revision,
-        guarded,
-        autoidle,
-        turbo,
-        funcidle,
+        fiqs,
+        settings,
         irq,
         fiq,
         offset,
         value,
     );
-    sides::settle(lines, soft, masks, routes, *threshold, irq, fiq);
     carry_out(0)
 }
 
@@ -141,20 +113,29 @@ pub fn line<'a>(
     soft: &'a [u32; 4],
     masks: &'a [u32; 4],
     routes: &'a [u8; 128],
-    threshold: u8,
+    settings: u32,
     irq: &'a mut u32,
     fiq: &'a mut u32,
     k: u32,
     level: u32,
 ) -> Reply
-    ensures { λ r. ⌜ ((re : ℕ) (gu au tu fu : Bool) → sound (aintcOf (now (lines .entry)) (now (soft .entry)) (now (masks .entry)) (now (routes .entry)) threshold re gu au tu fu (now (irq .entry)) (now (fiq .entry))) ≡ true → answerOf r (aintcOf (now (lines .exit)) (now (soft .entry)) (now (masks .entry)) (now (routes .entry)) threshold re gu au tu fu (now (irq .exit)) (now (fiq .exit))) ≡ line (aintcOf (now (lines .entry)) (now (soft .entry)) (now (masks .entry)) (now (routes .entry)) threshold re gu au tu fu (now (irq .entry)) (now (fiq .entry))) k level) ⌝ }
+    ensures { λ r. ⌜ (sound (aintcOf (now (lines .entry)) (now (soft .entry)) (now (masks .entry)) (now (routes .entry)) settings (now (irq .entry)) (now (fiq .entry))) ≡ true → answerOf r (aintcOf (now (lines .exit)) (now (soft .entry)) (now (masks .entry)) (now (routes .entry)) settings (now (irq .exit)) (now (fiq .exit))) ≡ line (aintcOf (now (lines .entry)) (now (soft .entry)) (now (masks .entry)) (now (routes .entry)) settings (now (irq .entry)) (now (fiq .entry))) k level) ⌝ }
 {
     let n = steps::line_refusal(true, INPUTS, k, level);
     if n != steps::CARRIED_OUT {
         return refuse(n);
     }
-    writes::move_line(lines, k, level == 1);
-    sides::settle(lines, soft, masks, routes, threshold, irq, fiq);
+    writes::move_line(
+        lines,
+        soft,
+        masks,
+        routes,
+        settings,
+        irq,
+        fiq,
+        k,
+        level == 1,
+    );
     carry_out(0)
 }
 
@@ -164,18 +145,14 @@ pub fn step<'a>(
     soft: &'a mut [u32; 4],
     masks: &'a mut [u32; 4],
     routes: &'a mut [u8; 128],
-    threshold: &'a mut u8,
-    revision: &'a mut u8,
-    guarded: &'a mut bool,
-    autoidle: &'a mut bool,
-    turbo: &'a mut bool,
-    funcidle: &'a mut bool,
+    fiqs: &'a mut [u32; 4],
+    settings: &'a mut u32,
     irq: &'a mut u32,
     fiq: &'a mut u32,
     privilege: u32,
     x: Step,
 ) -> Reply
-    ensures { λ r. ⌜ (sound (aintcOf (now (lines .entry)) (now (soft .entry)) (now (masks .entry)) (now (routes .entry)) (now (threshold .entry)) (now (revision .entry)) (now (guarded .entry)) (now (autoidle .entry)) (now (turbo .entry)) (now (funcidle .entry)) (now (irq .entry)) (now (fiq .entry))) ≡ true → answerOf r (aintcOf (now (lines .exit)) (now (soft .exit)) (now (masks .exit)) (now (routes .exit)) (now (threshold .exit)) (now (revision .exit)) (now (guarded .exit)) (now (autoidle .exit)) (now (turbo .exit)) (now (funcidle .exit)) (now (irq .exit)) (now (fiq .exit))) ≡ step (aintcOf (now (lines .entry)) (now (soft .entry)) (now (masks .entry)) (now (routes .entry)) (now (threshold .entry)) (now (revision .entry)) (now (guarded .entry)) (now (autoidle .entry)) (now (turbo .entry)) (now (funcidle .entry)) (now (irq .entry)) (now (fiq .entry))) privilege x) ⌝ }
+    ensures { λ r. ⌜ (sound (aintcOf (now (lines .entry)) (now (soft .entry)) (now (masks .entry)) (now (routes .entry)) (now (settings .entry)) (now (irq .entry)) (now (fiq .entry))) ≡ true → Fiqs (now (routes .entry)) (now (fiqs .entry)) → (answerOf r (aintcOf (now (lines .exit)) (now (soft .exit)) (now (masks .exit)) (now (routes .exit)) (now (settings .exit)) (now (irq .exit)) (now (fiq .exit))) ≡ step (aintcOf (now (lines .entry)) (now (soft .entry)) (now (masks .entry)) (now (routes .entry)) (now (settings .entry)) (now (irq .entry)) (now (fiq .entry))) privilege x) × Fiqs (now (routes .exit)) (now (fiqs .exit))) ⌝ }
 {
     match x {
         Step::Read(offset) => read(
@@ -183,12 +160,8 @@ pub fn step<'a>(
             soft,
             masks,
             routes,
-            *threshold,
-            *revision,
-            *guarded,
-            *autoidle,
-            *turbo,
-            *funcidle,
+            fiqs,
+            *settings,
             *irq,
             *fiq,
             privilege,
@@ -199,18 +172,14 @@ pub fn step<'a>(
             soft,
             masks,
             routes,
-            threshold,
-            revision,
-            guarded,
-            autoidle,
-            turbo,
-            funcidle,
+            fiqs,
+            settings,
             irq,
             fiq,
             privilege,
             offset,
             value,
         ),
-        Step::Line(k, level) => line(lines, soft, masks, routes, *threshold, irq, fiq, k, level),
+        Step::Line(k, level) => line(lines, soft, masks, routes, *settings, irq, fiq, k, level),
     }
 }

@@ -1,43 +1,31 @@
 // What a read of each register answers, where nothing refuses it.
 ghost use mathlib.Core.Path.{_≡_};
 ghost use mathlib.Core.List.{List};
-ghost use mathlib.Core.Bool.{Bool};
-ghost use Prim.Native.Nat.{ℕ, _<_, _≤_};
+ghost use Prim.Native.Nat.{ℕ, _<_};
 ghost use lib.ListN.{getD};
 ghost use Rattle.aintc_record.specs.Route.{routeValue};
 ghost use Rattle.aintc_registers.specs.Registers.{singleRead, bankRead, readAt};
-ghost use Rattle.aintc_parts.specs.Parts.{aintcOf};
-use super::outputs;
-use super::sides;
+ghost use Rattle.aintc_search.specs.Parts.{aintcOf, Fiqs};
 use aintc_registers::map;
-use aintc_registers::reads::one_of;
 use aintc_registers::reads::shown;
+use aintc_search::outputs;
+use aintc_search::sides;
 
 // The registers that stand alone; 0 where there is none to read.
-fn read_single(
-    threshold: u8,
-    revision: u8,
-    guarded: bool,
-    autoidle: bool,
-    turbo: bool,
-    funcidle: bool,
-    irq: u32,
-    fiq: u32,
-    offset: u32,
-) -> u32
-    ensures { λ r. ⌜ ((ls so ms rs : List ℕ) → r ≡ singleRead (aintcOf ls so ms rs threshold revision guarded autoidle turbo funcidle irq fiq) offset) ⌝ }
+fn read_single(settings: u32, irq: u32, fiq: u32, offset: u32) -> u32
+    ensures { λ r. ⌜ ((ls so ms rs : List ℕ) → r ≡ singleRead (aintcOf ls so ms rs settings irq fiq) offset) ⌝ }
 {
     match offset {
-        map::REVISION => revision as u32,
-        map::SYSCONFIG => one_of(autoidle),
+        map::REVISION => settings / 0x100 % 0x100,
+        map::SYSCONFIG => settings / 0x20000 % 2,
         map::SYSSTATUS => 1,
         map::SIR_IRQ => shown(outputs::is_active(irq), outputs::number_of(irq)),
         map::SIR_FIQ => shown(outputs::is_active(fiq), outputs::number_of(fiq)),
-        map::PROTECTION => one_of(guarded),
-        map::IDLE => 2 * one_of(turbo) + one_of(funcidle),
+        map::PROTECTION => settings / 0x10000 % 2,
+        map::IDLE => settings / 0x40000 % 4,
         map::IRQ_PRIORITY => shown(outputs::is_active(irq), outputs::priority_of(irq)),
         map::FIQ_PRIORITY => shown(outputs::is_active(fiq), outputs::priority_of(fiq)),
-        map::THRESHOLD => threshold as u32,
+        map::THRESHOLD => settings % 0x100,
         _ => 0,
     }
 }
@@ -47,20 +35,20 @@ fn read_bank<'a>(
     lines: &'a [u32; 4],
     soft: &'a [u32; 4],
     masks: &'a [u32; 4],
-    routes: &'a [u8; 128],
+    fiqs: &'a [u32; 4],
     n: u32,
     row: u32,
 ) -> u32
     requires { ⌜ n < 4 ⌝ }
-    ensures { λ r. ⌜ ((th re : ℕ) (gu au tu fu : Bool) (ir fi : ℕ) → r ≡ bankRead (aintcOf (now (lines .entry)) (now (soft .entry)) (now (masks .entry)) (now (routes .entry)) th re gu au tu fu ir fi) n row) ⌝ }
+    ensures { λ r. ⌜ ((rs : List ℕ) (se ir fi : ℕ) → Fiqs rs (now (fiqs .entry)) → r ≡ bankRead (aintcOf (now (lines .entry)) (now (soft .entry)) (now (masks .entry)) rs se ir fi) n row) ⌝ }
 {
     let at = n as usize;
     match row {
         map::ITR => lines[at],
         map::MIR => masks[at],
         map::ISR_SET => soft[at],
-        map::PENDING_IRQ => sides::pending_word(lines, soft, masks, routes, false, n),
-        map::PENDING_FIQ => sides::pending_word(lines, soft, masks, routes, true, n),
+        map::PENDING_IRQ => sides::pending_word(lines, soft, masks, fiqs, false, n),
+        map::PENDING_FIQ => sides::pending_word(lines, soft, masks, fiqs, true, n),
         _ => 0,
     }
 }
@@ -82,37 +70,23 @@ pub(crate) fn read_at<'a>(
     soft: &'a [u32; 4],
     masks: &'a [u32; 4],
     routes: &'a [u8; 128],
-    threshold: u8,
-    revision: u8,
-    guarded: bool,
-    autoidle: bool,
-    turbo: bool,
-    funcidle: bool,
+    fiqs: &'a [u32; 4],
+    settings: u32,
     irq: u32,
     fiq: u32,
     offset: u32,
 ) -> u32
-    ensures { λ r. ⌜ r ≡ readAt (aintcOf (now (lines .entry)) (now (soft .entry)) (now (masks .entry)) (now (routes .entry)) threshold revision guarded autoidle turbo funcidle irq fiq) offset ⌝ }
+    ensures { λ r. ⌜ (Fiqs (now (routes .entry)) (now (fiqs .entry)) → r ≡ readAt (aintcOf (now (lines .entry)) (now (soft .entry)) (now (masks .entry)) (now (routes .entry)) settings irq fiq) offset) ⌝ }
 {
     if offset < map::ITR {
-        return read_single(
-            threshold,
-            revision,
-            guarded,
-            autoidle,
-            turbo,
-            funcidle,
-            irq,
-            fiq,
-            offset,
-        );
+        return read_single(settings, irq, fiq, offset);
     }
     if offset < map::ILR {
         return read_bank(
             lines,
             soft,
             masks,
-            routes,
+            fiqs,
             (offset - map::ITR) / 0x20,
             map::row_of(offset),
         );

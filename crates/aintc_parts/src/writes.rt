@@ -1,20 +1,24 @@
-// What a write of each register and a line step do, where nothing refuses them. The outputs have not yet taken anything anew.
+// What a write of each register and a line step do, where nothing refuses them, and what the outputs then take.
 ghost use mathlib.Core.Path.{_≡_};
+ghost use mathlib.Core.Bool.{true};
 ghost use mathlib.Core.List.{List};
-ghost use mathlib.Core.Bool.{Bool};
-ghost use Prim.Native.Nat.{ℕ, _<_, _≤_};
+ghost use Prim.Native.Nat.{ℕ, _<_};
 ghost use lib.ListN.{set};
 ghost use Rattle.words.specs.Array.{withBitAt};
-ghost use Rattle.aintc_record.specs.Record.{reset};
+ghost use Rattle.aintc_record.specs.Record.{withRoutes, reset};
 ghost use Rattle.aintc_record.specs.Route.{routeByte};
-ghost use Rattle.aintc_registers.specs.Effects.{agreed, configured, singleWritten, bankWritten, writtenAt};
-ghost use Rattle.aintc_parts.specs.Parts.{aintcOf};
-use super::outputs;
+ghost use Rattle.aintc_choice.specs.Settle.{settle, sound};
+ghost use Rattle.aintc_registers.specs.Effects.{agreed, configured, singleWritten, bankWritten, writtenAt, moved};
+ghost use Rattle.aintc_search.specs.Parts.{aintcOf, Fiqs};
 use aintc_registers::map;
+use aintc_search::fiqs as kept;
+use aintc_search::outputs;
+use aintc_search::settings as fields;
+use aintc_search::sides;
 
 // A write of CONTROL: bit 0 agrees to IRQ, bit 1 to FIQ.
 fn agree<'a>(irq: &'a mut u32, fiq: &'a mut u32, v: u32)
-    ensures { λ _. ⌜ ((ls so ms rs : List ℕ) (th re : ℕ) (gu au tu fu : Bool) → aintcOf ls so ms rs th re gu au tu fu (now (irq .exit)) (now (fiq .exit)) ≡ agreed (aintcOf ls so ms rs th re gu au tu fu (now (irq .entry)) (now (fiq .entry))) v) ⌝ }
+    ensures { λ _. ⌜ ((ls so ms rs : List ℕ) (se : ℕ) → aintcOf ls so ms rs se (now (irq .exit)) (now (fiq .exit)) ≡ agreed (aintcOf ls so ms rs se (now (irq .entry)) (now (fiq .entry))) v) ⌝ }
 {
     *irq = outputs::release(words::has(v, 0), *irq);
     *fiq = outputs::release(words::has(v, 1), *fiq);
@@ -25,26 +29,18 @@ fn reset<'a>(
     soft: &'a mut [u32; 4],
     masks: &'a mut [u32; 4],
     routes: &'a mut [u8; 128],
-    threshold: &'a mut u8,
-    revision: &'a mut u8,
-    guarded: &'a mut bool,
-    autoidle: &'a mut bool,
-    turbo: &'a mut bool,
-    funcidle: &'a mut bool,
+    fiqs: &'a mut [u32; 4],
+    settings: &'a mut u32,
     irq: &'a mut u32,
     fiq: &'a mut u32,
 )
-    ensures { λ _. ⌜ ((ls : List ℕ) → aintcOf ls (now (soft .exit)) (now (masks .exit)) (now (routes .exit)) (now (threshold .exit)) (now (revision .exit)) (now (guarded .exit)) (now (autoidle .exit)) (now (turbo .exit)) (now (funcidle .exit)) (now (irq .exit)) (now (fiq .exit)) ≡ reset ls) ⌝ }
+    ensures done { λ _. ⌜ ((ls : List ℕ) → aintcOf ls (now (soft .exit)) (now (masks .exit)) (now (routes .exit)) (now (settings .exit)) (now (irq .exit)) (now (fiq .exit)) ≡ reset ls) ⌝ }
+    ensures kept { λ _. ⌜ (Fiqs (now (routes .entry)) (now (fiqs .entry)) → Fiqs (now (routes .exit)) (now (fiqs .exit))) ⌝ }
 {
     *soft = [0; 4];
     *masks = [0xFFFFFFFF; 4];
-    *routes = [0; 128];
-    *threshold = 0xFF;
-    *revision = 0;
-    *guarded = false;
-    *autoidle = false;
-    *turbo = false;
-    *funcidle = false;
+    kept::clear(routes, fiqs);
+    *settings = 0xFF;
     *irq = 0;
     *fiq = 0;
 }
@@ -54,35 +50,20 @@ fn configure<'a>(
     soft: &'a mut [u32; 4],
     masks: &'a mut [u32; 4],
     routes: &'a mut [u8; 128],
-    threshold: &'a mut u8,
-    revision: &'a mut u8,
-    guarded: &'a mut bool,
-    autoidle: &'a mut bool,
-    turbo: &'a mut bool,
-    funcidle: &'a mut bool,
+    fiqs: &'a mut [u32; 4],
+    settings: &'a mut u32,
     irq: &'a mut u32,
     fiq: &'a mut u32,
     v: u32,
 )
-    ensures { λ _. ⌜ ((ls : List ℕ) → aintcOf ls (now (soft .exit)) (now (masks .exit)) (now (routes .exit)) (now (threshold .exit)) (now (revision .exit)) (now (guarded .exit)) (now (autoidle .exit)) (now (turbo .exit)) (now (funcidle .exit)) (now (irq .exit)) (now (fiq .exit)) ≡ configured (aintcOf ls (now (soft .entry)) (now (masks .entry)) (now (routes .entry)) (now (threshold .entry)) (now (revision .entry)) (now (guarded .entry)) (now (autoidle .entry)) (now (turbo .entry)) (now (funcidle .entry)) (now (irq .entry)) (now (fiq .entry))) v) ⌝ }
+    ensures done { λ _. ⌜ ((ls : List ℕ) → aintcOf ls (now (soft .exit)) (now (masks .exit)) (now (routes .exit)) (now (settings .exit)) (now (irq .exit)) (now (fiq .exit)) ≡ configured (aintcOf ls (now (soft .entry)) (now (masks .entry)) (now (routes .entry)) (now (settings .entry)) (now (irq .entry)) (now (fiq .entry))) v) ⌝ }
+    ensures kept { λ _. ⌜ (Fiqs (now (routes .entry)) (now (fiqs .entry)) → Fiqs (now (routes .exit)) (now (fiqs .exit))) ⌝ }
 {
     if words::has(v, 1) {
-        reset(
-            soft,
-            masks,
-            routes,
-            threshold,
-            revision,
-            guarded,
-            autoidle,
-            turbo,
-            funcidle,
-            irq,
-            fiq,
-        );
+        reset(soft, masks, routes, fiqs, settings, irq, fiq);
         return;
     }
-    *autoidle = words::has(v, 0);
+    *settings = fields::with_autoidle(*settings, v);
 }
 
 // The registers that stand alone; nothing changes where there is none to write.
@@ -90,56 +71,58 @@ fn write_single<'a>(
     soft: &'a mut [u32; 4],
     masks: &'a mut [u32; 4],
     routes: &'a mut [u8; 128],
-    threshold: &'a mut u8,
-    revision: &'a mut u8,
-    guarded: &'a mut bool,
-    autoidle: &'a mut bool,
-    turbo: &'a mut bool,
-    funcidle: &'a mut bool,
+    fiqs: &'a mut [u32; 4],
+    settings: &'a mut u32,
     irq: &'a mut u32,
     fiq: &'a mut u32,
     offset: u32,
     v: u32,
 )
-    ensures { λ _. ⌜ ((ls : List ℕ) → aintcOf ls (now (soft .exit)) (now (masks .exit)) (now (routes .exit)) (now (threshold .exit)) (now (revision .exit)) (now (guarded .exit)) (now (autoidle .exit)) (now (turbo .exit)) (now (funcidle .exit)) (now (irq .exit)) (now (fiq .exit)) ≡ singleWritten (aintcOf ls (now (soft .entry)) (now (masks .entry)) (now (routes .entry)) (now (threshold .entry)) (now (revision .entry)) (now (guarded .entry)) (now (autoidle .entry)) (now (turbo .entry)) (now (funcidle .entry)) (now (irq .entry)) (now (fiq .entry))) offset v) ⌝ }
+    ensures done { λ _. ⌜ ((ls : List ℕ) → aintcOf ls (now (soft .exit)) (now (masks .exit)) (now (routes .exit)) (now (settings .exit)) (now (irq .exit)) (now (fiq .exit)) ≡ singleWritten (aintcOf ls (now (soft .entry)) (now (masks .entry)) (now (routes .entry)) (now (settings .entry)) (now (irq .entry)) (now (fiq .entry))) offset v) ⌝ }
+    ensures kept { λ _. ⌜ (Fiqs (now (routes .entry)) (now (fiqs .entry)) → Fiqs (now (routes .exit)) (now (fiqs .exit))) ⌝ }
 {
     match offset {
         map::REVISION => {
-            *revision = (v % 256) as u8;
+            *settings = fields::with_revision(*settings, v);
         }
-        map::SYSCONFIG => configure(
-            soft,
-            masks,
-            routes,
-            threshold,
-            revision,
-            guarded,
-            autoidle,
-            turbo,
-            funcidle,
-            irq,
-            fiq,
-            v,
-        ),
+        map::SYSCONFIG => configure(soft, masks, routes, fiqs, settings, irq, fiq, v),
         map::CONTROL => agree(irq, fiq, v),
         map::PROTECTION => {
-            *guarded = words::has(v, 0);
+            *settings = fields::with_guarded(*settings, v);
         }
         map::IDLE => {
-            *turbo = words::has(v, 1);
-            *funcidle = words::has(v, 0);
+            *settings = fields::with_idle(*settings, v);
         }
         map::THRESHOLD => {
-            *threshold = (v % 256) as u8;
+            *settings = fields::with_threshold(*settings, v);
         }
         _ => {}
     }
 }
 
+// A register that stands alone: after it each output with none chosen takes its first.
+fn write_alone<'a>(
+    lines: &'a [u32; 4],
+    soft: &'a mut [u32; 4],
+    masks: &'a mut [u32; 4],
+    routes: &'a mut [u8; 128],
+    fiqs: &'a mut [u32; 4],
+    settings: &'a mut u32,
+    irq: &'a mut u32,
+    fiq: &'a mut u32,
+    offset: u32,
+    v: u32,
+)
+    ensures { λ _. ⌜ (Fiqs (now (routes .entry)) (now (fiqs .entry)) → (aintcOf (now (lines .entry)) (now (soft .exit)) (now (masks .exit)) (now (routes .exit)) (now (settings .exit)) (now (irq .exit)) (now (fiq .exit)) ≡ settle (singleWritten (aintcOf (now (lines .entry)) (now (soft .entry)) (now (masks .entry)) (now (routes .entry)) (now (settings .entry)) (now (irq .entry)) (now (fiq .entry))) offset v)) × Fiqs (now (routes .exit)) (now (fiqs .exit))) ⌝ }
+{
+    write_single(soft, masks, routes, fiqs, settings, irq, fiq, offset, v);
+    sides::settle(lines, soft, masks, routes, fiqs, *settings, irq, fiq);
+}
+
 // The registers of bank n, by their row; nothing changes where there is none to write.
-fn write_bank<'a>(soft: &'a mut [u32; 4], masks: &'a mut [u32; 4], n: u32, row: u32, v: u32)
+fn put_bank<'a>(soft: &'a mut [u32; 4], masks: &'a mut [u32; 4], n: u32, row: u32, v: u32)
     requires { ⌜ n < 4 ⌝ }
-    ensures { λ _. ⌜ ((ls rs : List ℕ) (th re : ℕ) (gu au tu fu : Bool) (ir fi : ℕ) → aintcOf ls (now (soft .exit)) (now (masks .exit)) rs th re gu au tu fu ir fi ≡ bankWritten (aintcOf ls (now (soft .entry)) (now (masks .entry)) rs th re gu au tu fu ir fi) n row v) ⌝ }
+    ensures { λ _. ⌜ ((ls rs : List ℕ) (se ir fi : ℕ) → aintcOf ls (now (soft .exit)) (now (masks .exit)) rs se ir fi ≡ bankWritten (aintcOf ls (now (soft .entry)) (now (masks .entry)) rs se ir fi) n row v) ⌝ }
 {
     let at = n as usize;
     match row {
@@ -162,45 +145,76 @@ fn write_bank<'a>(soft: &'a mut [u32; 4], masks: &'a mut [u32; 4], n: u32, row: 
     }
 }
 
-// The route of input k; past the last one nothing changes.
-fn write_route(routes: &mut [u8], k: u32, v: u32)
-    ensures { λ _. ⌜ now (routes .exit) ≡ set (now (routes .entry)) k (routeByte v) ⌝ }
+// A register of bank n: only the inputs that it opens are offered to the outputs.
+fn write_bank<'a>(
+    lines: &'a [u32; 4],
+    soft: &'a mut [u32; 4],
+    masks: &'a mut [u32; 4],
+    routes: &'a [u8; 128],
+    settings: u32,
+    irq: &'a mut u32,
+    fiq: &'a mut u32,
+    n: u32,
+    row: u32,
+    v: u32,
+)
+    requires { ⌜ n < 4 ⌝ }
+    ensures { λ _. ⌜ (sound (aintcOf (now (lines .entry)) (now (soft .entry)) (now (masks .entry)) (now (routes .entry)) settings (now (irq .entry)) (now (fiq .entry))) ≡ true → aintcOf (now (lines .entry)) (now (soft .exit)) (now (masks .exit)) (now (routes .entry)) settings (now (irq .exit)) (now (fiq .exit)) ≡ settle (bankWritten (aintcOf (now (lines .entry)) (now (soft .entry)) (now (masks .entry)) (now (routes .entry)) settings (now (irq .entry)) (now (fiq .entry))) n row v)) ⌝ }
 {
-    let at = k as usize;
-    if at < routes.len() {
-        routes[at] = aintc_record::route_byte(v);
+    let was = sides::open_word(lines, soft, masks, n);
+    put_bank(soft, masks, n, row, v);
+    let new = words::drop_bits(sides::open_word(lines, soft, masks, n), was);
+    sides::offer(routes, settings, irq, fiq, new, n);
+}
+
+// The route of input k; past the last one nothing changes. Only this input is offered to the outputs.
+fn write_route<'a>(
+    lines: &'a [u32; 4],
+    soft: &'a [u32; 4],
+    masks: &'a [u32; 4],
+    routes: &'a mut [u8; 128],
+    fiqs: &'a mut [u32; 4],
+    settings: u32,
+    irq: &'a mut u32,
+    fiq: &'a mut u32,
+    k: u32,
+    v: u32,
+)
+    ensures { λ _. ⌜ (sound (aintcOf (now (lines .entry)) (now (soft .entry)) (now (masks .entry)) (now (routes .entry)) settings (now (irq .entry)) (now (fiq .entry))) ≡ true → Fiqs (now (routes .entry)) (now (fiqs .entry)) → (aintcOf (now (lines .entry)) (now (soft .entry)) (now (masks .entry)) (now (routes .exit)) settings (now (irq .exit)) (now (fiq .exit)) ≡ settle (withRoutes (aintcOf (now (lines .entry)) (now (soft .entry)) (now (masks .entry)) (now (routes .entry)) settings (now (irq .entry)) (now (fiq .entry))) (set (now (routes .entry)) k (routeByte v)))) × Fiqs (now (routes .exit)) (now (fiqs .exit))) ⌝ }
+{
+    if 128 <= k {
+        return;
     }
+    let n = k / 32;
+    let i = k % 32;
+    kept::put_route(routes, fiqs, k, v);
+    let open = words::has(sides::open_word(lines, soft, masks, n), i);
+    sides::offer(routes, settings, irq, fiq, words::with_bit(0, i, open), n);
 }
 
 // A write of a register that takes the value.
 pub(crate) fn write_at<'a>(
+    lines: &'a [u32; 4],
     soft: &'a mut [u32; 4],
     masks: &'a mut [u32; 4],
     routes: &'a mut [u8; 128],
-    threshold: &'a mut u8,
-    revision: &'a mut u8,
-    guarded: &'a mut bool,
-    autoidle: &'a mut bool,
-    turbo: &'a mut bool,
-    funcidle: &'a mut bool,
+    fiqs: &'a mut [u32; 4],
+    settings: &'a mut u32,
     irq: &'a mut u32,
     fiq: &'a mut u32,
     offset: u32,
     v: u32,
 )
-    ensures { λ _. ⌜ ((ls : List ℕ) → aintcOf ls (now (soft .exit)) (now (masks .exit)) (now (routes .exit)) (now (threshold .exit)) (now (revision .exit)) (now (guarded .exit)) (now (autoidle .exit)) (now (turbo .exit)) (now (funcidle .exit)) (now (irq .exit)) (now (fiq .exit)) ≡ writtenAt (aintcOf ls (now (soft .entry)) (now (masks .entry)) (now (routes .entry)) (now (threshold .entry)) (now (revision .entry)) (now (guarded .entry)) (now (autoidle .entry)) (now (turbo .entry)) (now (funcidle .entry)) (now (irq .entry)) (now (fiq .entry))) offset v) ⌝ }
+    ensures { λ _. ⌜ (sound (aintcOf (now (lines .entry)) (now (soft .entry)) (now (masks .entry)) (now (routes .entry)) (now (settings .entry)) (now (irq .entry)) (now (fiq .entry))) ≡ true → Fiqs (now (routes .entry)) (now (fiqs .entry)) → (aintcOf (now (lines .entry)) (now (soft .exit)) (now (masks .exit)) (now (routes .exit)) (now (settings .exit)) (now (irq .exit)) (now (fiq .exit)) ≡ settle (writtenAt (aintcOf (now (lines .entry)) (now (soft .entry)) (now (masks .entry)) (now (routes .entry)) (now (settings .entry)) (now (irq .entry)) (now (fiq .entry))) offset v)) × Fiqs (now (routes .exit)) (now (fiqs .exit))) ⌝ }
 {
     if offset < map::ITR {
-        write_single(
+        write_alone(
+            lines,
             soft,
             masks,
             routes,
-            threshold,
-            revision,
-            guarded,
-            autoidle,
-            turbo,
-            funcidle,
+            fiqs,
+            settings,
             irq,
             fiq,
             offset,
@@ -210,23 +224,61 @@ pub(crate) fn write_at<'a>(
     }
     if offset < map::ILR {
         write_bank(
+            lines,
             soft,
             masks,
+            routes,
+            *settings,
+            irq,
+            fiq,
             (offset - map::ITR) / 0x20,
             map::row_of(offset),
             v,
         );
         return;
     }
-    write_route(routes, (offset - map::ILR) / 4, v);
+    write_route(
+        lines,
+        soft,
+        masks,
+        routes,
+        fiqs,
+        *settings,
+        irq,
+        fiq,
+        (offset - map::ILR) / 4,
+        v,
+    );
 }
 
-// The line of input k goes to a level; past the last one nothing changes.
-pub(crate) fn move_line(lines: &mut [u32], k: u32, high: bool)
+// Bit k of the words; past the last one nothing changes.
+fn put_line(lines: &mut [u32], k: u32, high: bool)
     ensures { λ _. ⌜ now (lines .exit) ≡ withBitAt (now (lines .entry)) k high ⌝ }
 {
     let at = (k / 32) as usize;
     if at < lines.len() {
         lines[at] = words::with_bit(lines[at], k % 32, high);
     }
+}
+
+// The line of input k goes to a level: only an input that it opens is offered to the outputs.
+pub(crate) fn move_line<'a>(
+    lines: &'a mut [u32; 4],
+    soft: &'a [u32; 4],
+    masks: &'a [u32; 4],
+    routes: &'a [u8; 128],
+    settings: u32,
+    irq: &'a mut u32,
+    fiq: &'a mut u32,
+    k: u32,
+    high: bool,
+)
+    requires { ⌜ k < 128 ⌝ }
+    ensures { λ _. ⌜ (sound (aintcOf (now (lines .entry)) (now (soft .entry)) (now (masks .entry)) (now (routes .entry)) settings (now (irq .entry)) (now (fiq .entry))) ≡ true → aintcOf (now (lines .exit)) (now (soft .entry)) (now (masks .entry)) (now (routes .entry)) settings (now (irq .exit)) (now (fiq .exit)) ≡ settle (moved (aintcOf (now (lines .entry)) (now (soft .entry)) (now (masks .entry)) (now (routes .entry)) settings (now (irq .entry)) (now (fiq .entry))) k high)) ⌝ }
+{
+    let n = k / 32;
+    let was = sides::open_word(lines, soft, masks, n);
+    put_line(lines, k, high);
+    let new = words::drop_bits(sides::open_word(lines, soft, masks, n), was);
+    sides::offer(routes, settings, irq, fiq, new, n);
 }

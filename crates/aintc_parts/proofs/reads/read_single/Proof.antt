@@ -1,82 +1,77 @@
 -- That `read_single` of src/reads.rt keeps its contract.
-use Prim.Native.Nat.{ℕ, _+_, _*_}
+use Prim.Native.Nat.{ℕ, _/_, _%_}
 use mathlib.Core.Path.{sym, ap, ap₂, _∙_}
 use native.Mathlib.Omega.{arith}
 use borrow.Author.Tests.{ne-eqb}
 use Rattle.words.specs.Choice.{pick}
 use Rattle.words.proofs.ChoiceLaws.{pick-false}
-use Rattle.words.proofs.CountingLaws.{one-le}
+use Rattle.words.proofs.WordLaws.{one-eqb}
 use Rattle.aintc_registers.specs.Registers.{shown, idleBits, singleRead}
-use Rattle.aintc_parts.specs.Parts.{aintcOf}
+use Rattle.aintc_search.specs.Parts.{aintcOf}
+use Rattle.aintc_parts.proofs.PartLaws.{idle-shown}
 use borrow.Author.Needs.{needs}
 use Rattle.aintc_parts.proofs.reads.read_single.Statement.{statement}
 use Rattle.aintc_parts.proofs.reads.read_single.Tie as tie
-
-mul-result : tie.Need-mul-result
-mul-result c = omega (arith, one-le (c .before .before .args .turbo), c .one-of3 .ensures)
-
-add-result : tie.Need-add-result
-add-result c = omega (arith, one-le (c .before .before .before .args .turbo), one-le (c .before .before .before .args .funcidle), c .one-of4 .ensures, c .before .one-of3 .ensures)
 
 returns : tie.Need-returns
 unfolding singleRead pick
 returns c ls so ms rs =
     let a = c .before .args in
-    sym (ap (λ (o : ℕ). singleRead (aintcOf ls so ms rs (a .threshold) (a .revision) (a .guarded) (a .autoidle) (a .turbo) (a .funcidle) (a .irq) (a .fiq)) o) (c .match .keys1))
+    sym (ap (singleRead (aintcOf ls so ms rs (a .settings) (a .irq) (a .fiq))) (c .match .keys1))
 
 returns-2 : tie.Need-returns-2
 unfolding singleRead pick
 returns-2 c ls so ms rs =
-    let a = c .before .before .args in
-    c .one-of .ensures ∙ sym (ap (λ (o : ℕ). singleRead (aintcOf ls so ms rs (a .threshold) (a .revision) (a .guarded) (a .autoidle) (a .turbo) (a .funcidle) (a .irq) (a .fiq)) o) (c .before .match .keys2))
+    let a = c .before .args in
+    sym (one-eqb (a .settings / 0x20000 % 2) (omega arith)) ∙ sym (ap (singleRead (aintcOf ls so ms rs (a .settings) (a .irq) (a .fiq))) (c .match .keys2))
 
 returns-3 : tie.Need-returns-3
 unfolding singleRead pick
 returns-3 c ls so ms rs =
     let a = c .before .args in
-    sym (ap (λ (o : ℕ). singleRead (aintcOf ls so ms rs (a .threshold) (a .revision) (a .guarded) (a .autoidle) (a .turbo) (a .funcidle) (a .irq) (a .fiq)) o) (c .match .keys3))
+    sym (ap (singleRead (aintcOf ls so ms rs (a .settings) (a .irq) (a .fiq))) (c .match .keys3))
 
 returns-4 : tie.Need-returns-4
 unfolding singleRead pick
 returns-4 c ls so ms rs =
     let a = c .before .before .before .before .args in
-    c .shown .ensures ∙ ap₂ shown (c .before .before .is-active .ensures) (c .before .number-of .ensures) ∙ sym (ap (λ (o : ℕ). singleRead (aintcOf ls so ms rs (a .threshold) (a .revision) (a .guarded) (a .autoidle) (a .turbo) (a .funcidle) (a .irq) (a .fiq)) o) (c .before .before .before .match .keys4))
+    c .shown .ensures ∙ ap₂ shown (c .before .before .is-active .ensures) (c .before .number-of .ensures) ∙ sym (ap (singleRead (aintcOf ls so ms rs (a .settings) (a .irq) (a .fiq))) (c .before .before .before .match .keys4))
 
 returns-5 : tie.Need-returns-5
 unfolding singleRead pick
 returns-5 c ls so ms rs =
     let a = c .before .before .before .before .args in
-    c .shown2 .ensures ∙ ap₂ shown (c .before .before .is-active2 .ensures) (c .before .number-of2 .ensures) ∙ sym (ap (λ (o : ℕ). singleRead (aintcOf ls so ms rs (a .threshold) (a .revision) (a .guarded) (a .autoidle) (a .turbo) (a .funcidle) (a .irq) (a .fiq)) o) (c .before .before .before .match .keys5))
+    c .shown2 .ensures ∙ ap₂ shown (c .before .before .is-active2 .ensures) (c .before .number-of2 .ensures) ∙ sym (ap (singleRead (aintcOf ls so ms rs (a .settings) (a .irq) (a .fiq))) (c .before .before .before .match .keys5))
 
 returns-6 : tie.Need-returns-6
 unfolding singleRead pick
 returns-6 c ls so ms rs =
-    let a = c .before .before .args in
-    c .one-of2 .ensures ∙ sym (ap (λ (o : ℕ). singleRead (aintcOf ls so ms rs (a .threshold) (a .revision) (a .guarded) (a .autoidle) (a .turbo) (a .funcidle) (a .irq) (a .fiq)) o) (c .before .match .keys6))
+    let a = c .before .args in
+    sym (one-eqb (a .settings / 0x10000 % 2) (omega arith)) ∙ sym (ap (singleRead (aintcOf ls so ms rs (a .settings) (a .irq) (a .fiq))) (c .match .keys6))
 
 returns-7 : tie.Need-returns-7
 unfolding singleRead idleBits pick
 returns-7 c ls so ms rs =
-    let a = c .before .before .before .args in
-    ap₂ (λ (x y : ℕ). 2 * x + y) (c .before .one-of3 .ensures) (c .one-of4 .ensures) ∙ sym (ap (λ (o : ℕ). singleRead (aintcOf ls so ms rs (a .threshold) (a .revision) (a .guarded) (a .autoidle) (a .turbo) (a .funcidle) (a .irq) (a .fiq)) o) (c .before .before .match .keys7))
+    let a = c .before .args in
+    idle-shown (a .settings) ∙ sym (ap (singleRead (aintcOf ls so ms rs (a .settings) (a .irq) (a .fiq))) (c .match .keys7))
 
 returns-8 : tie.Need-returns-8
 unfolding singleRead pick
 returns-8 c ls so ms rs =
     let a = c .before .before .before .before .args in
-    c .shown3 .ensures ∙ ap₂ shown (c .before .before .is-active3 .ensures) (c .before .priority-of .ensures) ∙ sym (ap (λ (o : ℕ). singleRead (aintcOf ls so ms rs (a .threshold) (a .revision) (a .guarded) (a .autoidle) (a .turbo) (a .funcidle) (a .irq) (a .fiq)) o) (c .before .before .before .match .keys8))
+    c .shown3 .ensures ∙ ap₂ shown (c .before .before .is-active3 .ensures) (c .before .priority-of .ensures) ∙ sym (ap (singleRead (aintcOf ls so ms rs (a .settings) (a .irq) (a .fiq))) (c .before .before .before .match .keys8))
 
 returns-9 : tie.Need-returns-9
 unfolding singleRead pick
 returns-9 c ls so ms rs =
     let a = c .before .before .before .before .args in
-    c .shown4 .ensures ∙ ap₂ shown (c .before .before .is-active4 .ensures) (c .before .priority-of2 .ensures) ∙ sym (ap (λ (o : ℕ). singleRead (aintcOf ls so ms rs (a .threshold) (a .revision) (a .guarded) (a .autoidle) (a .turbo) (a .funcidle) (a .irq) (a .fiq)) o) (c .before .before .before .match .keys9))
+    c .shown4 .ensures ∙ ap₂ shown (c .before .before .is-active4 .ensures) (c .before .priority-of2 .ensures) ∙ sym (ap (singleRead (aintcOf ls so ms rs (a .settings) (a .irq) (a .fiq))) (c .before .before .before .match .keys9))
 
 returns-10 : tie.Need-returns-10
 unfolding singleRead pick
 returns-10 c ls so ms rs =
     let a = c .before .args in
-    sym (ap (λ (o : ℕ). singleRead (aintcOf ls so ms rs (a .threshold) (a .revision) (a .guarded) (a .autoidle) (a .turbo) (a .funcidle) (a .irq) (a .fiq)) o) (c .match .keys10))
+    sym (ap (singleRead (aintcOf ls so ms rs (a .settings) (a .irq) (a .fiq))) (c .match .keys10))
 
 returns-11 : tie.Need-returns-11
 unfolding singleRead
@@ -92,12 +87,6 @@ read-single-spec =
     (λ c κs. search needs)
     (λ c κs. search needs)
     (λ c κs. search needs)
-    (λ c κs. search needs)
-    (λ c κs. search needs)
-    (λ c κs. search needs)
-    mul-result
-    (λ c κs. search needs)
-    add-result
     (λ c κs. search needs)
     (λ c κs. search needs)
     (λ c κs. search needs)

@@ -1,30 +1,32 @@
 -- That `move_line` of src/writes.rt keeps its contract.
-use Prim.Native.Nat.{ℕ, _/_}
-use mathlib.Core.Path.{sym, ap}
-use lib.ListN.{set}
-use Rattle.words.specs.Array.{withBitAt}
-use Rattle.words.proofs.ArrayLaws.{withBitAt-past}
+use Prim.Native.Nat.{_/_}
+use mathlib.Core.Path.{ap}
+use native.Mathlib.Omega.{arith}
+use Rattle.aintc_record.specs.Record.{withLines}
+use Rattle.aintc_registers.specs.Effects.{moved}
+use Rattle.aintc_search.proofs.OfferLaws.{settled-by}
+use Rattle.aintc_search.specs.Parts.{aintcOf}
+use Rattle.aintc_parts.proofs.PartLaws.{line-near}
 use borrow.Author.Needs.{needs}
 use Rattle.aintc_parts.proofs.writes.move_line.Statement.{statement}
 use Rattle.aintc_parts.proofs.writes.move_line.Tie as tie
 
 returns : tie.Need-returns
-unfolding withBitAt
-returns c = let a = c .before .before .before .before .args in ap (set (a .lines .now) (a .k / 32)) (c .with-bit .ensures)
-
-returns-2 : tie.Need-returns-2
-returns-2 c = let a = c .before .before .args in sym (withBitAt-past (a .lines .now) (a .k) (a .high) (c .if1 .left))
+unfolding moved
+returns c ok =
+    let a = c .before .before .before .before .before .before .before .before .before .before .args in
+    let s = aintcOf (a .lines .now) (a .soft .now) (a .masks .now) (a .routes .now) (a .settings) (a .irq .now) (a .fiq .now) in
+    settled-by s _ _ (a .k / 32) _ _ _ _ _ (omega (arith, c .before .before .before .before .before .before .before .before .before .before .pre)) ok (line-near s (a .k) (a .high)) (ap (withLines s) (c .before .before .before .before .before .before .put-line .ensures))
+    (c .before .before .before .before .before .before .before .before .open-word .ensures (a .routes .now) (a .settings) (a .irq .now) (a .fiq .now)) (c .before .before .before .before .open-word2 .ensures (a .routes .now) (a .settings) (a .irq .now) (a .fiq .now)) (c .before .before .before .drop-bits .ensures)
+    (c .offer .ensures .0) (c .offer .ensures .1)
 
 pub move-line-spec : {M : Type 1} → statement M
 move-line-spec =
     tie.close
     (tie.spec
-    (λ c. search needs)
-    (λ c. search needs)
-    (λ c. search needs)
     (λ c κs. search needs)
-    (λ c. search needs)
-    (λ c. search needs)
-    (λ c. search needs)
-    returns
-    returns-2)
+    (λ c κs. search needs)
+    (λ c κs. search needs)
+    (λ c κs. search needs)
+    (λ c κs. search needs)
+    returns)

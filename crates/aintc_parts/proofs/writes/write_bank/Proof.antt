@@ -1,80 +1,26 @@
 -- That `write_bank` of src/writes.rt keeps its contract.
-use Prim.Native.Nat.{ℕ}
-use mathlib.Core.Path.{sym, ap, _∙_}
-use lib.ListN.{set}
-use borrow.Author.Tests.{ne-eqb}
-use Rattle.words.specs.Choice.{pick}
-use Rattle.words.proofs.ChoiceLaws.{pick-false}
-use Rattle.aintc_record.specs.Record.{withMasks, withSoft}
-use Rattle.aintc_registers.specs.Effects.{bankWritten}
-use Rattle.aintc_parts.specs.Parts.{aintcOf}
+use Rattle.aintc_search.proofs.OfferLaws.{settled-by}
+use Rattle.aintc_search.specs.Parts.{aintcOf}
+use Rattle.aintc_parts.proofs.PartLaws.{bank-near}
 use borrow.Author.Needs.{needs}
 use Rattle.aintc_parts.proofs.writes.write_bank.Statement.{statement}
 use Rattle.aintc_parts.proofs.writes.write_bank.Tie as tie
 
 returns : tie.Need-returns
-unfolding bankWritten pick
-returns c ls rs th re gu au tu fu ir fi =
-    let a = c .before .args in
-    sym (ap (λ (r : ℕ). bankWritten (aintcOf ls (a .soft .now) (a .masks .now) rs th re gu au tu fu ir fi) (a .n) r (a .v)) (c .match .keys1))
-
-returns-2 : tie.Need-returns-2
-unfolding bankWritten pick
-returns-2 c ls rs th re gu au tu fu ir fi =
-    let a = c .before .before .before .args in
-    ap (λ (w : ℕ). withMasks (aintcOf ls (a .soft .now) (a .masks .now) rs th re gu au tu fu ir fi) (set (a .masks .now) (a .n) w)) (c .drop-bits .ensures) ∙ sym (ap (λ (r : ℕ). bankWritten (aintcOf ls (a .soft .now) (a .masks .now) rs th re gu au tu fu ir fi) (a .n) r (a .v)) (c .before .before .match .keys2))
-
-returns-3 : tie.Need-returns-3
-unfolding bankWritten pick
-returns-3 c ls rs th re gu au tu fu ir fi =
-    let a = c .before .before .before .args in
-    ap (λ (w : ℕ). withMasks (aintcOf ls (a .soft .now) (a .masks .now) rs th re gu au tu fu ir fi) (set (a .masks .now) (a .n) w)) (c .join .ensures) ∙ sym (ap (λ (r : ℕ). bankWritten (aintcOf ls (a .soft .now) (a .masks .now) rs th re gu au tu fu ir fi) (a .n) r (a .v)) (c .before .before .match .keys3))
-
-returns-4 : tie.Need-returns-4
-unfolding bankWritten pick
-returns-4 c ls rs th re gu au tu fu ir fi =
-    let a = c .before .before .before .args in
-    ap (λ (w : ℕ). withSoft (aintcOf ls (a .soft .now) (a .masks .now) rs th re gu au tu fu ir fi) (set (a .soft .now) (a .n) w)) (c .join2 .ensures) ∙ sym (ap (λ (r : ℕ). bankWritten (aintcOf ls (a .soft .now) (a .masks .now) rs th re gu au tu fu ir fi) (a .n) r (a .v)) (c .before .before .match .keys4))
-
-returns-5 : tie.Need-returns-5
-unfolding bankWritten pick
-returns-5 c ls rs th re gu au tu fu ir fi =
-    let a = c .before .before .before .args in
-    ap (λ (w : ℕ). withSoft (aintcOf ls (a .soft .now) (a .masks .now) rs th re gu au tu fu ir fi) (set (a .soft .now) (a .n) w)) (c .drop-bits2 .ensures) ∙ sym (ap (λ (r : ℕ). bankWritten (aintcOf ls (a .soft .now) (a .masks .now) rs th re gu au tu fu ir fi) (a .n) r (a .v)) (c .before .before .match .keys5))
-
-returns-6 : tie.Need-returns-6
-unfolding bankWritten
-returns-6 c ls rs th re gu au tu fu ir fi = pick-false _ (ne-eqb _ _ (c .match .rest .1)) ∙ pick-false _ (ne-eqb _ _ (c .match .rest .0 .1)) ∙ pick-false _ (ne-eqb _ _ (c .match .rest .0 .0 .1)) ∙ pick-false _ (ne-eqb _ _ (c .match .rest .0 .0 .0 .1)) ∙ pick-false _ (ne-eqb _ _ (c .match .rest .0 .0 .0 .0 .1))
+returns c ok =
+    let a = c .before .before .before .before .before .before .before .before .before .before .before .before .before .args in
+    let s = aintcOf (a .lines .now) (a .soft .now) (a .masks .now) (a .routes .now) (a .settings) (a .irq .now) (a .fiq .now) in
+    settled-by s _ _ (a .n) _ _ _ _ _ (c .before .before .before .before .before .before .before .before .before .before .before .before .before .pre) ok (bank-near s (a .n) (a .row) (a .v)) (c .before .before .before .before .before .before .before .put-bank .ensures (a .lines .now) (a .routes .now) (a .settings) (a .irq .now) (a .fiq .now))
+    (c .before .before .before .before .before .before .before .before .before .before .open-word .ensures (a .routes .now) (a .settings) (a .irq .now) (a .fiq .now)) (c .before .before .before .before .open-word2 .ensures (a .routes .now) (a .settings) (a .irq .now) (a .fiq .now)) (c .before .before .before .drop-bits .ensures)
+    (c .offer .ensures .0) (c .offer .ensures .1)
 
 pub write-bank-spec : {M : Type 1} → statement M
 write-bank-spec =
     tie.close
     (tie.spec
-    (λ c. search needs)
-    (λ c. search needs)
-    (λ c. search needs)
-    (λ c. search needs)
     (λ c κs. search needs)
-    (λ c. search needs)
-    (λ c. search needs)
-    (λ c. search needs)
-    (λ c. search needs)
     (λ c κs. search needs)
-    (λ c. search needs)
-    (λ c. search needs)
-    (λ c. search needs)
-    (λ c. search needs)
     (λ c κs. search needs)
-    (λ c. search needs)
-    (λ c. search needs)
-    (λ c. search needs)
-    (λ c. search needs)
     (λ c κs. search needs)
-    (λ c. search needs)
-    (λ c. search needs)
-    returns
-    returns-2
-    returns-3
-    returns-4
-    returns-5
-    returns-6)
+    (λ c κs. search needs)
+    returns)
