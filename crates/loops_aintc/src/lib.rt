@@ -3,12 +3,13 @@
 ghost use mathlib.Core.Path.{_≡_};
 ghost use mathlib.Core.Bool.{true};
 ghost use Rattle.text.specs.Text.{write};
-ghost use Rattle.trace.specs.Trace.{ends, stepsFrom};
+ghost use Rattle.trace.specs.Trace.{stepsFrom};
 ghost use Rattle.turns.specs.Turns.{stepOf};
 ghost use Rattle.aintc_record.specs.declared.Aintc.{Aintc};
 ghost use Rattle.aintc_choice.specs.Settle.{sound};
 ghost use Rattle.aintc.specs.Model.{step};
-ghost use Rattle.aintc_parts.specs.Parts.{chosenOf, aintcOf, answerOf};
+ghost use Rattle.aintc_search.specs.Parts.{chosenOf, aintcOf, Fiqs};
+ghost use Rattle.aintc_parts.specs.Reply.{answerOf};
 ghost use Rattle.machine_record.specs.Machine.{ofAintc};
 ghost use Rattle.machine_record.specs.Promises.{Ready};
 ghost use Rattle.machine_record.specs.Shown.{shown};
@@ -16,8 +17,10 @@ ghost use Rattle.reports.specs.Play.{report};
 ghost use Rattle.lines.specs.Listing.{textFrom};
 use aintc::Signals;
 use aintc_parts::Reply;
-use aintc_parts::outputs;
 use aintc_record::Aintc;
+use aintc_search::fiqs::fiqs_of;
+use aintc_search::outputs;
+use aintc_search::settings;
 use machine_record::Columns;
 use reports::Played;
 
@@ -27,12 +30,8 @@ fn take<'a>(
     soft: &'a mut [u32; 4],
     masks: &'a mut [u32; 4],
     routes: &'a mut [u8; 128],
-    threshold: &'a mut u8,
-    revision: &'a mut u8,
-    guarded: &'a mut bool,
-    autoidle: &'a mut bool,
-    turbo: &'a mut bool,
-    funcidle: &'a mut bool,
+    fiqs: &'a mut [u32; 4],
+    settings: &'a mut u32,
     irq: &'a mut u32,
     fiq: &'a mut u32,
     kind: u32,
@@ -40,7 +39,7 @@ fn take<'a>(
     y: u32,
     privilege: u32,
 ) -> Reply
-    ensures { λ r. ⌜ (sound (aintcOf (now (lines .entry)) (now (soft .entry)) (now (masks .entry)) (now (routes .entry)) (now (threshold .entry)) (now (revision .entry)) (now (guarded .entry)) (now (autoidle .entry)) (now (turbo .entry)) (now (funcidle .entry)) (now (irq .entry)) (now (fiq .entry))) ≡ true → answerOf r (aintcOf (now (lines .exit)) (now (soft .exit)) (now (masks .exit)) (now (routes .exit)) (now (threshold .exit)) (now (revision .exit)) (now (guarded .exit)) (now (autoidle .exit)) (now (turbo .exit)) (now (funcidle .exit)) (now (irq .exit)) (now (fiq .exit))) ≡ step (aintcOf (now (lines .entry)) (now (soft .entry)) (now (masks .entry)) (now (routes .entry)) (now (threshold .entry)) (now (revision .entry)) (now (guarded .entry)) (now (autoidle .entry)) (now (turbo .entry)) (now (funcidle .entry)) (now (irq .entry)) (now (fiq .entry))) privilege (stepOf kind x y)) ⌝ }
+    ensures { λ r. ⌜ (sound (aintcOf (now (lines .entry)) (now (soft .entry)) (now (masks .entry)) (now (routes .entry)) (now (settings .entry)) (now (irq .entry)) (now (fiq .entry))) ≡ true → Fiqs (now (routes .entry)) (now (fiqs .entry)) → (answerOf r (aintcOf (now (lines .exit)) (now (soft .exit)) (now (masks .exit)) (now (routes .exit)) (now (settings .exit)) (now (irq .exit)) (now (fiq .exit))) ≡ step (aintcOf (now (lines .entry)) (now (soft .entry)) (now (masks .entry)) (now (routes .entry)) (now (settings .entry)) (now (irq .entry)) (now (fiq .entry))) privilege (stepOf kind x y)) × Fiqs (now (routes .exit)) (now (fiqs .exit))) ⌝ }
 {
     if kind == trace::READ {
         return aintc_parts::read(
@@ -48,12 +47,8 @@ fn take<'a>(
             soft,
             masks,
             routes,
-            *threshold,
-            *revision,
-            *guarded,
-            *autoidle,
-            *turbo,
-            *funcidle,
+            fiqs,
+            *settings,
             *irq,
             *fiq,
             privilege,
@@ -66,12 +61,8 @@ fn take<'a>(
             soft,
             masks,
             routes,
-            threshold,
-            revision,
-            guarded,
-            autoidle,
-            turbo,
-            funcidle,
+            fiqs,
+            settings,
             irq,
             fiq,
             privilege,
@@ -79,7 +70,7 @@ fn take<'a>(
             y,
         );
     }
-    aintc_parts::line(lines, soft, masks, routes, *threshold, irq, fiq, x, y)
+    aintc_parts::line(lines, soft, masks, routes, *settings, irq, fiq, x, y)
 }
 
 // What a listing shows of a sound record with these chosen ones: IRQ active, FIQ active, the number of the input that is active for IRQ.
@@ -94,45 +85,31 @@ fn columns(irq: u32, fiq: u32) -> Columns
     })
 }
 
-// The report on what is played when a trace ends, with the record put together.
-fn played(
-    steps: u32,
+// The record that the parts hold.
+fn together(
     lines: [u32; 4],
     soft: [u32; 4],
     masks: [u32; 4],
     routes: [u8; 128],
-    threshold: u8,
-    revision: u8,
-    guarded: bool,
-    autoidle: bool,
-    turbo: bool,
-    funcidle: bool,
+    settings: u32,
     irq: u32,
     fiq: u32,
-    refusal: u32,
-    offset: usize,
-) -> Played
-    ensures { λ r. ⌜ r ≡ report steps (ofAintc (aintcOf lines soft masks routes threshold revision guarded autoidle turbo funcidle irq fiq)) (ends refusal offset) ⌝ }
+) -> Aintc
+    ensures { λ r. ⌜ r ≡ aintcOf lines soft masks routes settings irq fiq ⌝ }
 {
-    let m = machine_record::of_aintc(Aintc {
+    Aintc {
         lines,
         soft,
         masks,
         routes,
-        threshold,
-        revision,
-        guarded,
-        autoidle,
-        turbo,
-        funcidle,
+        threshold: settings::threshold_of(settings),
+        revision: (settings / 0x100 % 0x100) as u8,
+        guarded: settings / 0x10000 % 2 == 1,
+        autoidle: settings / 0x20000 % 2 == 1,
+        turbo: settings / 0x80000 % 2 == 1,
+        funcidle: settings / 0x40000 % 2 == 1,
         irq: outputs::chosen_of(irq),
         fiq: outputs::chosen_of(fiq),
-    });
-    Played {
-        steps,
-        machine: m,
-        refusal,
-        offset,
     }
 }
 
@@ -145,12 +122,8 @@ pub fn play_steps(trace: &[u8], limit: u32, start: usize, first: Aintc) -> Playe
     let mut soft = first.soft;
     let mut masks = first.masks;
     let mut routes = first.routes;
-    let mut threshold = first.threshold;
-    let mut revision = first.revision;
-    let mut guarded = first.guarded;
-    let mut autoidle = first.autoidle;
-    let mut turbo = first.turbo;
-    let mut funcidle = first.funcidle;
+    let mut fiqs = fiqs_of(&routes);
+    let mut settings = settings::settings_of(first);
     let mut irq = outputs::packed(first.irq);
     let mut fiq = outputs::packed(first.fiq);
     let mut at = start;
@@ -159,35 +132,29 @@ pub fn play_steps(trace: &[u8], limit: u32, start: usize, first: Aintc) -> Playe
     loop {
         let t = turns::sure(turns::quick(trace, at, left, true), trace, at, left, true);
         if t.kind == turns::ENDED {
-            return played(
-                count,
+            let m = machine_record::of_aintc(together(
                 lines,
                 soft,
                 masks,
                 routes,
-                threshold,
-                revision,
-                guarded,
-                autoidle,
-                turbo,
-                funcidle,
+                settings,
                 irq,
                 fiq,
-                t.refusal,
-                t.next,
-            );
+            ));
+            return Played {
+                steps: count,
+                machine: m,
+                refusal: t.refusal,
+                offset: t.next,
+            };
         }
         take(
             &mut lines,
             &mut soft,
             &mut masks,
             &mut routes,
-            &mut threshold,
-            &mut revision,
-            &mut guarded,
-            &mut autoidle,
-            &mut turbo,
-            &mut funcidle,
+            &mut fiqs,
+            &mut settings,
             &mut irq,
             &mut fiq,
             t.kind,
@@ -217,12 +184,8 @@ pub fn list_steps(
     let mut soft = first.soft;
     let mut masks = first.masks;
     let mut routes = first.routes;
-    let mut threshold = first.threshold;
-    let mut revision = first.revision;
-    let mut guarded = first.guarded;
-    let mut autoidle = first.autoidle;
-    let mut turbo = first.turbo;
-    let mut funcidle = first.funcidle;
+    let mut fiqs = fiqs_of(&routes);
+    let mut settings = settings::settings_of(first);
     let mut irq = outputs::packed(first.irq);
     let mut fiq = outputs::packed(first.fiq);
     let mut place = start;
@@ -245,12 +208,8 @@ pub fn list_steps(
             &mut soft,
             &mut masks,
             &mut routes,
-            &mut threshold,
-            &mut revision,
-            &mut guarded,
-            &mut autoidle,
-            &mut turbo,
-            &mut funcidle,
+            &mut fiqs,
+            &mut settings,
             &mut irq,
             &mut fiq,
             t.kind,
