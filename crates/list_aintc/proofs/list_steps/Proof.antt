@@ -14,10 +14,10 @@ use Rattle.machine_record.specs.Promises.{Ready}
 use Rattle.reports.proofs.PlayLaws.{next-ready}
 use Rattle.lines.specs.Listing.{textFrom}
 use Rattle.lines.proofs.LineLaws.{text-ended, listed, letter-made}
-use Rattle.loops_aintc.proofs.LoopLaws.{together, begins, its-sound, stepped}
+use Rattle.aintc_taken.proofs.TakenLaws.{together, begins, its-sound, stepped}
 use borrow.Author.Needs.{needs}
-use Rattle.loops_aintc.proofs.list_steps.Statement.{statement}
-use Rattle.loops_aintc.proofs.list_steps.Tie as tie
+use Rattle.list_aintc.proofs.list_steps.Statement.{statement}
+use Rattle.list_aintc.proofs.list_steps.Tie as tie
 
 abbrev Inv-loop : tie.InvT-loop
 Inv-loop trace limit start out₀ from lines₀ soft₀ masks₀ routes₀ threshold₀ revision₀ guarded₀ autoidle₀ turbo₀ funcidle₀ irq₀ fiq₀ place₀ more₀ number₀ to₀ out lines soft masks routes threshold revision guarded autoidle turbo funcidle irq fiq place more number to =

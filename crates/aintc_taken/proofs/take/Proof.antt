@@ -4,8 +4,8 @@ use Rattle.turns.proofs.TurnLaws.{step-read, step-write, step-line}
 use Rattle.aintc.specs.Model.{step}
 use Rattle.aintc_parts.specs.Parts.{aintcOf}
 use borrow.Author.Needs.{needs}
-use Rattle.loops_aintc.proofs.take.Statement.{statement}
-use Rattle.loops_aintc.proofs.take.Tie as tie
+use Rattle.aintc_taken.proofs.take.Statement.{statement}
+use Rattle.aintc_taken.proofs.take.Tie as tie
 
 returns : tie.Need-returns
 returns c h = let a = c .before .before .before .before .before .before .before .before .before .before .args in

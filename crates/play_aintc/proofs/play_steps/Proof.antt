@@ -12,10 +12,10 @@ use Rattle.machine_record.specs.Machine.{ofAintc}
 use Rattle.machine_record.specs.Promises.{Ready}
 use Rattle.reports.specs.Play.{report}
 use Rattle.reports.proofs.PlayLaws.{played, next-ready}
-use Rattle.loops_aintc.proofs.LoopLaws.{together, begins, its-sound, stepped}
+use Rattle.aintc_taken.proofs.TakenLaws.{together, begins, its-sound, stepped}
 use borrow.Author.Needs.{needs}
-use Rattle.loops_aintc.proofs.play_steps.Statement.{statement}
-use Rattle.loops_aintc.proofs.play_steps.Tie as tie
+use Rattle.play_aintc.proofs.play_steps.Statement.{statement}
+use Rattle.play_aintc.proofs.play_steps.Tie as tie
 
 abbrev Inv-loop : tie.InvT-loop
 Inv-loop trace limit start lines₀ soft₀ masks₀ routes₀ threshold₀ revision₀ guarded₀ autoidle₀ turbo₀ funcidle₀ irq₀ fiq₀ at₀ left₀ count₀ lines soft masks routes threshold revision guarded autoidle turbo funcidle irq fiq at left count =

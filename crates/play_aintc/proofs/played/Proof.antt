@@ -6,10 +6,10 @@ use Rattle.machine_record.specs.declared.Machine.{Machine}
 use Rattle.machine_record.specs.Machine.{ofAintc}
 use Rattle.reports.specs.declared.Played.{Played}
 use Rattle.reports.proofs.PlayLaws.{report-ends}
-use Rattle.loops_aintc.proofs.LoopLaws.{put-together}
+use Rattle.aintc_taken.proofs.TakenLaws.{put-together}
 use borrow.Author.Needs.{needs}
-use Rattle.loops_aintc.proofs.played.Statement.{statement}
-use Rattle.loops_aintc.proofs.played.Tie as tie
+use Rattle.play_aintc.proofs.played.Statement.{statement}
+use Rattle.play_aintc.proofs.played.Tie as tie
 
 returns : tie.Need-returns
 returns c = let a = c .before .before .before .args in
