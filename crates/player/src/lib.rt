@@ -37,6 +37,12 @@ fn play_by_kind(trace: &[u8], limit: u32, b: Begun) -> Played
     if m.kind == kinds::AIC {
         return loops_aic::play_steps(trace, limit, b.place, m.aic);
     }
+    if m.kind == kinds::CORE {
+        return loops_core::play_steps(trace, limit, b.place, m.core);
+    }
+    if m.kind == kinds::AINTC {
+        return play_aintc::play_steps(trace, limit, b.place, m.aintc);
+    }
     play_any(trace, limit, b)
 }
 

@@ -2,10 +2,10 @@
 use mathlib.Core.Path.{ap, _∙_}
 use mathlib.Core.Bool.{Bool}
 use Prim.Native.Nat.{ℕ}
-use Rattle.loops_aintc.proofs.LoopLaws.{seen, shown-as}
+use Rattle.aintc_taken.proofs.TakenLaws.{seen, shown-as}
 use borrow.Author.Needs.{needs}
-use Rattle.loops_aintc.proofs.columns.Statement.{statement}
-use Rattle.loops_aintc.proofs.columns.Tie as tie
+use Rattle.list_aintc.proofs.columns.Statement.{statement}
+use Rattle.list_aintc.proofs.columns.Tie as tie
 
 returns : tie.Need-returns
 returns c s e f ready =

@@ -10,7 +10,7 @@ use Rattle.aintc_choice.specs.Settle.{sound as aintcSound}
 use Rattle.aintc.specs.Model.{step as aintcStep}
 use Rattle.aintc.proofs.Promises.{kept as aintc}
 use Rattle.aintc_parts.specs.declared.Reply.{Reply}
-use Rattle.aintc_parts.specs.Parts.{chosenOf, aintcOf, answerOf}
+use Rattle.aintc_parts.specs.Reply.{answerOf}
 use Rattle.machine_record.specs.declared.Columns.{Columns}
 use Rattle.machine_record.specs.Machine.{ofAintc}
 use Rattle.machine_record.specs.Promises.{Ready}
@@ -31,14 +31,9 @@ with-chosen s irq fiq =
 pub put-together : (s : Aintc) (irq fiq : Chosen) → irq ≡ s .irq → fiq ≡ s .fiq → with-chosen s irq fiq ≡ s
 put-together s irq fiq e f = ap (λ (c : Chosen). with-chosen s c fiq) e ∙ ap (with-chosen s (s .irq)) f
 
-module _ (s : Aintc) (irq fiq : ℕ) (e : chosenOf irq ≡ s .irq) (f : chosenOf fiq ≡ s .fiq) where
-  -- parts hold the record that they are taken from
-  pub together : with-chosen s (chosenOf irq) (chosenOf fiq) ≡ s
-  together = put-together s (chosenOf irq) (chosenOf fiq) e f
-
-  -- so their machine is ready if its is
-  pub begins : Ready (ofAintc s) → Ready (ofAintc (with-chosen s (chosenOf irq) (chosenOf fiq)))
-  begins r = subst (λ (d : Aintc). Ready (ofAintc d)) (sym together) r
+-- parts that hold the record of a machine that is ready hold one that is
+pub begins : (s d : Aintc) → d ≡ s → Ready (ofAintc s) → Ready (ofAintc d)
+begins s d e r = subst (λ (x : Aintc). Ready (ofAintc x)) (sym e) r
 
 -- ---- a step of the loop
 
