@@ -14,7 +14,7 @@ use Rattle.steps.specs.declared.Access.{Access}
 use Rattle.steps.specs.declared.Access.the-variants.{NoRegister, ReadOnly, WriteOnly, ReadWrite}
 use Rattle.steps.specs.declared.Step.{Step}
 use Rattle.steps.specs.declared.Step.the-variants.{Read, Write, Line}
-use Rattle.steps.specs.Refusals.{carriedOut, misaligned, beyond, unsound, readAccess, writeAccess, readRefusal, writeRefusal}
+use Rattle.steps.specs.Refusals.{carriedOut, misaligned, beyond, unsound, readAccess, writeAccess, readRefusal, writeRefusal, lineRefusal}
 use Rattle.steps.specs.Promises.{ValueNumber}
 use Rattle.steps.specs.Tables.{Writable}
 use Rattle.steps.proofs.Promises as checks
@@ -22,6 +22,7 @@ use Rattle.cic_record.specs.declared.Answer.{Answer}
 use Rattle.cic_record.specs.declared.Cic.{Cic}
 use Rattle.cic_record.specs.declared.Reply.{Reply}
 use Rattle.cic_record.specs.declared.System.{System}
+use Rattle.cic_record.specs.Kinds.{system}
 use Rattle.cic_record.specs.Parts.{answerOf, refusedReply, answeredReply}
 use Rattle.cic_record.specs.Record.{refused, answered}
 use Rattle.cic_layout.specs.declared.Register.{Register}
@@ -106,6 +107,28 @@ aligned-write c o v e at =
     ap (λ (x : Register). writeIn c x v) at
     ∙ ap (λ (n : ℕ). unlessRefused c n (answered (writtenTo c (registerAt o) v) 0))
     (write-number o (access c o) (refusalAt c o v) (value-number c (registerAt o) v) e (value-six c (registerAt o) v))
+
+-- ---- a line step by the code's number n, and a step by its kind
+
+pub line-refused : (c : Cic) (s l : ℕ) {n : ℕ} → n ≡ lineRefusal true (c .systems) s l → (n ≡ carriedOut → ⊥) → refused c n ≡ lineAs true c s l
+unfolding lineAs
+line-refused c s l e z = refused-by c _ e z
+
+pub line-carried : (c : Cic) (s l : ℕ) {n : ℕ} {a : Answer} → n ≡ lineRefusal true (c .systems) s l → n ≡ carriedOut → a ≡ answered (moved c (system s) (eqb l 1)) 0 → a ≡ lineAs true c s l
+unfolding lineAs
+line-carried c s l e z f = carried-by c e z f
+
+pub step-read : (ok : Bool) (c : Cic) (o : ℕ) {x : Step} → x ≡ Read o → readAs ok c o ≡ stepAs ok c x
+unfolding stepAs
+step-read ok c o e = sym (ap (stepAs ok c) e)
+
+pub step-write : (ok : Bool) (c : Cic) (o v : ℕ) {x : Step} → x ≡ Write o v → writeAs ok c o v ≡ stepAs ok c x
+unfolding stepAs
+step-write ok c o v e = sym (ap (stepAs ok c) e)
+
+pub step-line : (ok : Bool) (c : Cic) (s l : ℕ) {x : Step} → x ≡ Line s l → lineAs ok c s l ≡ stepAs ok c x
+unfolding stepAs
+step-line ok c s l e = sym (ap (stepAs ok c) e)
 
 -- ---- lines
 
