@@ -1,6 +1,7 @@
--- Refused or carried out: what a step answers by its number, of a record that is not sound, at an aligned offset, and of a line past the last one.
-use mathlib.Core.Path.{_≡_, refl, sym, ap, _∙_}
+-- Refused or carried out: what a step answers by its number, of a record that is not sound, at an aligned offset, and of lines.
+use mathlib.Core.Path.{_≡_, refl, sym, ap, ap₂, _∙_}
 use mathlib.Core.Bool.{Bool, true, false, not, _&&_}
+use mathlib.Core.List.{List}
 use mathlib.Core.Logic.{_⊎_, inl, inr}
 use Prim.Native.Nat.{ℕ, _%_, _≤_}
 use native.Mathlib.Omega.{arith}
@@ -8,6 +9,7 @@ use borrow.Author.Tests.{eq-eqb, ne-eqb}
 use lib.Dec.{eqb}
 use lib.ListN.{length}
 use Rattle.words.specs.Array.{bitAt, withBitAt}
+use Rattle.words.specs.Choice.{pick}
 use Rattle.words.proofs.ArrayLaws.{withBitAt-past}
 use Rattle.words.proofs.ChoiceLaws.{pick-true, pick-false, pick-cases, pick-ap}
 use Rattle.steps.specs.declared.Access.{Access}
@@ -21,9 +23,10 @@ use Rattle.steps.proofs.Promises as checks
 use Rattle.cic_record.specs.declared.Answer.{Answer}
 use Rattle.cic_record.specs.declared.Cic.{Cic}
 use Rattle.cic_record.specs.declared.Reply.{Reply}
+use Rattle.cic_record.specs.declared.Size.{Size}
 use Rattle.cic_record.specs.declared.System.{System}
 use Rattle.cic_record.specs.Kinds.{system}
-use Rattle.cic_record.specs.Parts.{answerOf, refusedReply, answeredReply}
+use Rattle.cic_record.specs.Parts.{cicOf, answerOf, refusedReply, answeredReply}
 use Rattle.cic_record.specs.Record.{refused, answered}
 use Rattle.cic_layout.specs.declared.Register.{Register}
 use Rattle.cic_layout.specs.Map.{registerAt, access}
@@ -131,6 +134,15 @@ unfolding stepAs
 step-line ok c s l e = sym (ap (stepAs ok c) e)
 
 -- ---- lines
+
+-- the line was as `was` says; st′ and ls′ are the words after the line went high or low
+pub moved-parts : (z : Size) (g : ℕ) (ls st en ch ho al : List ℕ) (s : System) (high : Bool) {was : Bool} {st′ ls′ : List ℕ}
+    → was ≡ bitAt ls (s .0) → st′ ≡ pick (high && not was) (withBitAt st (s .0) true) st → ls′ ≡ withBitAt ls (s .0) high
+    → cicOf z g ls′ st′ en ch ho al ≡ moved (cicOf z g ls st en ch ho al) s high
+unfolding moved
+moved-parts z g ls st en ch ho al s high w p q =
+    ap₂ (λ (a b : List ℕ). cicOf z g a b en ch ho al) q (p ∙ ap (λ (b : Bool). pick (high && not b) (withBitAt st (s .0) true) st) w)
+    ∙ pick-ap (λ (b : List ℕ). cicOf z g (withBitAt ls (s .0) high) b en ch ho al) (high && not (bitAt ls (s .0))) (withBitAt st (s .0) true) st
 
 -- there is no line past the last
 pub moved-past : (c : Cic) (s : System) (high : Bool) → length (c .lines) ≡ 32 → length (c .status) ≡ 32 → 1024 ≤ s .0 → moved c s high ≡ c
