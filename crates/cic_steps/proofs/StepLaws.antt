@@ -1,6 +1,7 @@
--- Refused or carried out: what a step answers by its number, of a record that is not sound, at an aligned offset, and of a line past the last one.
-use mathlib.Core.Path.{_≡_, refl, sym, ap, _∙_}
+-- Refused or carried out: what a step answers by its number, of a record that is not sound, at an aligned offset, and of lines.
+use mathlib.Core.Path.{_≡_, refl, sym, ap, ap₂, _∙_}
 use mathlib.Core.Bool.{Bool, true, false, not, _&&_}
+use mathlib.Core.List.{List}
 use mathlib.Core.Logic.{_⊎_, inl, inr}
 use Prim.Native.Nat.{ℕ, _%_, _≤_}
 use native.Mathlib.Omega.{arith}
@@ -8,21 +9,24 @@ use borrow.Author.Tests.{eq-eqb, ne-eqb}
 use lib.Dec.{eqb}
 use lib.ListN.{length}
 use Rattle.words.specs.Array.{bitAt, withBitAt}
+use Rattle.words.specs.Choice.{pick}
 use Rattle.words.proofs.ArrayLaws.{withBitAt-past}
 use Rattle.words.proofs.ChoiceLaws.{pick-true, pick-false, pick-cases, pick-ap}
 use Rattle.steps.specs.declared.Access.{Access}
 use Rattle.steps.specs.declared.Access.the-variants.{NoRegister, ReadOnly, WriteOnly, ReadWrite}
 use Rattle.steps.specs.declared.Step.{Step}
 use Rattle.steps.specs.declared.Step.the-variants.{Read, Write, Line}
-use Rattle.steps.specs.Refusals.{carriedOut, misaligned, beyond, unsound, readAccess, writeAccess, readRefusal, writeRefusal}
+use Rattle.steps.specs.Refusals.{carriedOut, misaligned, beyond, unsound, readAccess, writeAccess, readRefusal, writeRefusal, lineRefusal}
 use Rattle.steps.specs.Promises.{ValueNumber}
 use Rattle.steps.specs.Tables.{Writable}
 use Rattle.steps.proofs.Promises as checks
 use Rattle.cic_record.specs.declared.Answer.{Answer}
 use Rattle.cic_record.specs.declared.Cic.{Cic}
 use Rattle.cic_record.specs.declared.Reply.{Reply}
+use Rattle.cic_record.specs.declared.Size.{Size}
 use Rattle.cic_record.specs.declared.System.{System}
-use Rattle.cic_record.specs.Parts.{answerOf, refusedReply, answeredReply}
+use Rattle.cic_record.specs.Kinds.{system}
+use Rattle.cic_record.specs.Parts.{cicOf, answerOf, refusedReply, answeredReply}
 use Rattle.cic_record.specs.Record.{refused, answered}
 use Rattle.cic_layout.specs.declared.Register.{Register}
 use Rattle.cic_layout.specs.Map.{registerAt, access}
@@ -107,7 +111,38 @@ aligned-write c o v e at =
     ∙ ap (λ (n : ℕ). unlessRefused c n (answered (writtenTo c (registerAt o) v) 0))
     (write-number o (access c o) (refusalAt c o v) (value-number c (registerAt o) v) e (value-six c (registerAt o) v))
 
+-- ---- a line step by the code's number n, and a step by its kind
+
+pub line-refused : (c : Cic) (s l : ℕ) {n : ℕ} → n ≡ lineRefusal true (c .systems) s l → (n ≡ carriedOut → ⊥) → refused c n ≡ lineAs true c s l
+unfolding lineAs
+line-refused c s l e z = refused-by c _ e z
+
+pub line-carried : (c : Cic) (s l : ℕ) {n : ℕ} {a : Answer} → n ≡ lineRefusal true (c .systems) s l → n ≡ carriedOut → a ≡ answered (moved c (system s) (eqb l 1)) 0 → a ≡ lineAs true c s l
+unfolding lineAs
+line-carried c s l e z f = carried-by c e z f
+
+pub step-read : (ok : Bool) (c : Cic) (o : ℕ) {x : Step} → x ≡ Read o → readAs ok c o ≡ stepAs ok c x
+unfolding stepAs
+step-read ok c o e = sym (ap (stepAs ok c) e)
+
+pub step-write : (ok : Bool) (c : Cic) (o v : ℕ) {x : Step} → x ≡ Write o v → writeAs ok c o v ≡ stepAs ok c x
+unfolding stepAs
+step-write ok c o v e = sym (ap (stepAs ok c) e)
+
+pub step-line : (ok : Bool) (c : Cic) (s l : ℕ) {x : Step} → x ≡ Line s l → lineAs ok c s l ≡ stepAs ok c x
+unfolding stepAs
+step-line ok c s l e = sym (ap (stepAs ok c) e)
+
 -- ---- lines
+
+-- the line was as `was` says; st′ and ls′ are the words after the line went high or low
+pub moved-parts : (z : Size) (g : ℕ) (ls st en ch ho al : List ℕ) (s : System) (high : Bool) {was : Bool} {st′ ls′ : List ℕ}
+    → was ≡ bitAt ls (s .0) → st′ ≡ pick (high && not was) (withBitAt st (s .0) true) st → ls′ ≡ withBitAt ls (s .0) high
+    → cicOf z g ls′ st′ en ch ho al ≡ moved (cicOf z g ls st en ch ho al) s high
+unfolding moved
+moved-parts z g ls st en ch ho al s high w p q =
+    ap₂ (λ (a b : List ℕ). cicOf z g a b en ch ho al) q (p ∙ ap (λ (b : Bool). pick (high && not b) (withBitAt st (s .0) true) st) w)
+    ∙ pick-ap (λ (b : List ℕ). cicOf z g (withBitAt ls (s .0) high) b en ch ho al) (high && not (bitAt ls (s .0))) (withBitAt st (s .0) true) st
 
 -- there is no line past the last
 pub moved-past : (c : Cic) (s : System) (high : Bool) → length (c .lines) ≡ 32 → length (c .status) ≡ 32 → 1024 ≤ s .0 → moved c s high ≡ c

@@ -1,5 +1,5 @@
 -- That `move_line` of src/lib.rt keeps its contract.
-use Rattle.cic_parts.proofs.MoveLaws.{moved-parts}
+use Rattle.cic_steps.proofs.StepLaws.{moved-parts}
 use borrow.Author.Needs.{needs}
 use Rattle.cic_parts.proofs.move_line.Statement.{statement}
 use Rattle.cic_parts.proofs.move_line.Tie as tie

@@ -1,2 +1,0 @@
--- The law of a line that moves.
-pub mod MoveLaws
