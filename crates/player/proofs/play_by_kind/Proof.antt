@@ -18,5 +18,22 @@ returns c = let p = c .before .before .before .before .before .pre in
     let k = c .before .if1 .taken in
     c .play-steps .ensures ∙ play-begun _ _ _ _ _ (p .0) (p .1) (begun-own _ _ (p .0) .aic k) (sym (ap tellsPrivilege k))
 
+play-steps-requires-2 : tie.Need-play-steps-requires-2
+play-steps-requires-2 c κs = let p = c .before .before .before .before .before .before .pre in
+    subst Ready (sym (begun-own _ _ (p .0) .cic (c .if2 .taken))) (begin-ready _ _ (p .0) (p .1))
+
+returns-2 : tie.Need-returns-2
+returns-2 c = let p = c .before .before .before .before .before .before .before .pre in
+    let k = c .before .if2 .taken in
+    c .play-steps2 .ensures ∙ play-begun _ _ _ _ _ (p .0) (p .1) (begun-own _ _ (p .0) .cic k) (sym (ap tellsPrivilege k))
+
 pub play-by-kind-spec : {M : Type 1} → statement M
-play-by-kind-spec = tie.close (tie.spec play-steps-requires returns (λ c κs. search needs) (λ c. search needs))
+play-by-kind-spec =
+    tie.close
+    (tie.spec
+    play-steps-requires
+    returns
+    play-steps-requires-2
+    returns-2
+    (λ c κs. search needs)
+    (λ c. search needs))
