@@ -3,9 +3,10 @@ use Prim.Native.Nat.{ℕ, _+_, _-_}
 use mathlib.Core.Path.{_≡_, refl, sym, ap, _∙_}
 use mathlib.Core.Bool.{Bool}
 use mathlib.Core.List.{List, _++_, append-assoc}
+use lib.Dec.{eqb}
 use borrow.Author.Tests.{eq-eqb, ne-eqb}
 use Rattle.words.specs.Choice.{pick}
-use Rattle.words.proofs.ChoiceLaws.{pick-true, pick-false}
+use Rattle.words.proofs.ChoiceLaws.{pick-true, pick-false, pick-ap}
 use Rattle.steps.specs.Refusals.{carriedOut}
 use Rattle.steps.specs.declared.Recorded.{Recorded}
 use Rattle.steps.specs.declared.Step.{Step}
@@ -16,6 +17,7 @@ use Rattle.trace.specs.declared.Turn.the-variants.{Found, Ended}
 use Rattle.trace.specs.Steps.{readKind, writeKind, lineKind}
 use Rattle.trace.specs.Trace.{Trace, ends, after, turnAt, stepsFrom}
 use Rattle.trace.proofs.TraceLaws.{trace-ended, trace-found}
+use Rattle.turns.specs.Turns.{stepOf}
 use Rattle.machine.specs.declared.Answer.{Answer}
 use Rattle.machine_record.specs.declared.Columns.{Columns}
 use Rattle.machine_record.specs.declared.Machine.{Machine}
@@ -26,7 +28,7 @@ use Rattle.beginning.specs.declared.Begun.{Begun}
 use Rattle.beginning.specs.Begin.{beginOf}
 use Rattle.reports.specs.Play.{recordsFrom}
 use Rattle.reports.proofs.PlayLaws.{records-begun, records-refused}
-use Rattle.lines.specs.Listing.{letter, letterBy, shownValue, lineOf, stepLine, linesFrom, joined, endOf, textFrom, nameLine, listingOf}
+use Rattle.lines.specs.Listing.{letterOf, letter, letterBy, shownValue, lineOf, stepLine, linesFrom, joined, endOf, textFrom, nameLine, listingOf}
 
 -- nothing follows
 text-ends : (n : ℕ) (m : Machine) (refusal offset : ℕ) → endOf refusal offset ≡ textFrom n m (ends refusal offset)
@@ -84,6 +86,14 @@ letter-write offset value refusal = refl
 pub letter-line : (line level refusal : ℕ) → letterBy lineKind refusal ≡ letter (Line line level) refusal
 unfolding letterBy letter pick
 letter-line line level refusal = refl
+
+-- by the number of a kind and the numbers of a step
+pub letter-made : (kind x y refusal : ℕ) → letterBy kind refusal ≡ letter (stepOf kind x y) refusal
+unfolding letterBy letter stepOf
+letter-made kind x y refusal =
+    ap (λ (l : ℕ). pick (eqb refusal carriedOut) l 88)
+    (ap (pick (eqb kind readKind) 82) (sym (pick-ap letterOf (eqb kind writeKind) (Write x y) (Line x y)))
+    ∙ sym (pick-ap letterOf (eqb kind readKind) (Read x) (pick (eqb kind writeKind) (Write x y) (Line x y))))
 
 -- ---- the whole listing, by its beginning
 

@@ -43,6 +43,9 @@ fn list_by_kind(trace: &[u8], limit: u32, b: Begun, out: &mut [u8], at: usize) -
     if m.kind == kinds::AIC {
         return loops_aic::list_steps(trace, limit, b.place, m.aic, out, at);
     }
+    if m.kind == kinds::CIC {
+        return list_cic::list_steps(trace, limit, b.place, m.cic, out, at);
+    }
     list_any(trace, limit, b, out, at)
 }
 

@@ -38,7 +38,7 @@ fn play_by_kind(trace: &[u8], limit: u32, b: Begun) -> Played
         return loops_aic::play_steps(trace, limit, b.place, m.aic);
     }
     if m.kind == kinds::CIC {
-        return loops_cic::play_steps(trace, limit, b.place, m.cic);
+        return play_cic::play_steps(trace, limit, b.place, m.cic);
     }
     play_any(trace, limit, b)
 }

@@ -20,5 +20,26 @@ returns c = let l = c .before .before in
     let p = i .before .before .before .before .before .pre in
     l .list-steps .ensures ∙ ap (write _) (text-as _ _ _ _ _ _ _ _ (begun-own _ _ (p .0) .aic (i .if1 .taken)) (sym (ap tellsPrivilege (i .if1 .taken))))
 
+list-steps-requires-2 : tie.Need-list-steps-requires-2
+list-steps-requires-2 c κs = let p = c .before .before .before .before .before .before .before .before .pre in
+    subst Ready (sym (begun-own _ _ (p .0) .cic (c .before .if2 .taken))) (begin-ready _ _ (p .0) (p .1))
+
+returns-2 : tie.Need-returns-2
+returns-2 c = let l = c .before .before in
+    let i = l .before .before in
+    let p = i .before .before .before .before .before .before .before .pre in
+    l .list-steps2 .ensures ∙ ap (write _) (text-as _ _ _ _ _ _ _ _ (begun-own _ _ (p .0) .cic (i .if2 .taken)) (sym (ap tellsPrivilege (i .if2 .taken))))
+
 pub list-by-kind-spec : {M : Type 1} → statement M
-list-by-kind-spec = tie.close (tie.spec list-steps-requires (λ c. search needs) returns (λ c κs. search needs) (λ c. search needs) (λ c. search needs))
+list-by-kind-spec =
+    tie.close
+    (tie.spec
+    list-steps-requires
+    (λ c. search needs)
+    returns
+    list-steps-requires-2
+    (λ c. search needs)
+    returns-2
+    (λ c κs. search needs)
+    (λ c. search needs)
+    (λ c. search needs))

@@ -11,10 +11,10 @@ use Rattle.machine_record.specs.Machine.{ofCic}
 use Rattle.machine_record.specs.Promises.{Ready}
 use Rattle.reports.specs.Play.{report}
 use Rattle.reports.proofs.PlayLaws.{report-ended, played, next-ready}
-use Rattle.loops_cic.proofs.LoopLaws.{together, begins, stepped}
+use Rattle.play_cic.proofs.LoopLaws.{together, begins, stepped}
 use borrow.Author.Needs.{needs}
-use Rattle.loops_cic.proofs.play_steps.Statement.{statement}
-use Rattle.loops_cic.proofs.play_steps.Tie as tie
+use Rattle.play_cic.proofs.play_steps.Statement.{statement}
+use Rattle.play_cic.proofs.play_steps.Tie as tie
 
 abbrev Inv-loop : tie.InvT-loop
 Inv-loop trace limit start z global₀ lines₀ status₀ enable₀ channel₀ host₀ allow₀ at₀ left₀ count₀ global lines status enable channel host allow at left count =

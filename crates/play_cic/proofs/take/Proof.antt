@@ -1,8 +1,8 @@
 -- That `take` of src/lib.rt keeps its contract.
-use Rattle.loops_cic.proofs.LoopLaws.{by-read, by-write, by-line}
+use Rattle.play_cic.proofs.LoopLaws.{by-read, by-write, by-line}
 use borrow.Author.Needs.{needs}
-use Rattle.loops_cic.proofs.take.Statement.{statement}
-use Rattle.loops_cic.proofs.take.Tie as tie
+use Rattle.play_cic.proofs.take.Statement.{statement}
+use Rattle.play_cic.proofs.take.Tie as tie
 
 returns : tie.Need-returns
 returns c = let i = c .before .before .before .before .before .before .before in
