@@ -101,7 +101,7 @@ pub fn asserted(c: Cic, h: Host) -> bool
 }
 
 // The configured numbers of a record.
-fn size_of(c: Cic) -> Size
+pub fn size_of(c: Cic) -> Size
     ensures { λ r. ⌜ r ≡ sizeOf c ⌝ }
 {
     Size {
@@ -131,7 +131,7 @@ fn read_parts(c: Cic, offset: u32) -> Answer
 }
 
 // The record that is put together from its parts.
-fn together(
+pub fn together(
     z: Size,
     global: u32,
     lines: [u32; 32],

@@ -45,6 +45,9 @@ fn list_by_kind(trace: &[u8], limit: u32, b: Begun, out: &mut [u8], at: usize) -
     if m.kind == kinds::CORE {
         return loops_core::list_steps(trace, limit, b.place, m.core, out, at);
     }
+    if m.kind == kinds::CIC {
+        return list_cic::list_steps(trace, limit, b.place, m.cic, out, at);
+    }
     if m.kind == kinds::AINTC {
         return list_aintc::list_steps(trace, limit, b.place, m.aintc, out, at);
     }

@@ -40,6 +40,9 @@ fn play_by_kind(trace: &[u8], limit: u32, b: Begun) -> Played
     if m.kind == kinds::CORE {
         return loops_core::play_steps(trace, limit, b.place, m.core);
     }
+    if m.kind == kinds::CIC {
+        return play_cic::play_steps(trace, limit, b.place, m.cic);
+    }
     if m.kind == kinds::AINTC {
         return play_aintc::play_steps(trace, limit, b.place, m.aintc);
     }

@@ -1,0 +1,3 @@
+-- The laws of the loop.
+pub mod ShownLaws
+pub mod TakenLaws
