@@ -1,5 +1,6 @@
 -- That `hex_in` of src/lib.rt keeps its contract.
 use mathlib.Core.Path.{ap, _∙_}
+use native.Mathlib.Omega.{arith}
 use Rattle.text.specs.Text.{write}
 use Rattle.text.proofs.WriteLaws.{eight-bytes}
 use Rattle.text.proofs.DigitLaws.{listed-row}
@@ -7,6 +8,18 @@ use Rattle.text_room.proofs.RoomLaws.{hex-stands}
 use borrow.Author.Needs.{needs}
 use Rattle.text_room.proofs.hex_in.Statement.{statement}
 use Rattle.text_room.proofs.hex_in.Tie as tie
+
+-- seven digits are written
+put-in-requires-8 : tie.Need-put-in-requires-8
+put-in-requires-8 c κs =
+    let g = c .before .before .before in
+    let f = g .before .before .before .before in
+    let e = f .before .before .before .before in
+    let d = e .before .before .before .before in
+    let b = d .before .before .before .before in
+    let a = b .before .before .before .before in
+    let z = a .before .before .before .before in
+    omega (arith, z .before .before .before .pre, z .put-in .ensures .1, a .put-in2 .ensures .1, b .put-in3 .ensures .1, d .put-in4 .ensures .1, e .put-in5 .ensures .1, f .put-in6 .ensures .1, g .put-in7 .ensures .1)
 
 returns : tie.Need-returns
 returns c =
@@ -47,6 +60,6 @@ hex-in-spec =
     (λ c κs. search needs)
     (λ c. search needs)
     (λ c. search needs)
-    (λ c κs. search needs)
+    put-in-requires-8
     (λ c. search needs)
     returns)
