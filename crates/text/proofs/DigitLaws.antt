@@ -122,16 +122,6 @@ rule = refl
 pub digit-listed : (d : ℕ) → d < 16 → getD digits d 0 ≡ hexDigit d
 digit-listed d l = eqb-true (getD digits d 0) (hexDigit d) (all-at 16 right rule d l)
 
--- eight digits in a row, each looked up in the list
-pub listed-row : (v : ℕ)
-    → getD digits (v / 268435456 % 16) 0 ∷ getD digits (v / 16777216 % 16) 0 ∷ getD digits (v / 1048576 % 16) 0 ∷ getD digits (v / 65536 % 16) 0
-    ∷ getD digits (v / 4096 % 16) 0 ∷ getD digits (v / 256 % 16) 0 ∷ getD digits (v / 16 % 16) 0 ∷ getD digits (v % 16) 0 ∷ []
-    ≡ hexOf 8 v
-listed-row v =
-    rw
-    (digit-listed (v / 268435456 % 16) (omega arith), digit-listed (v / 16777216 % 16) (omega arith), digit-listed (v / 1048576 % 16) (omega arith), digit-listed (v / 65536 % 16) (omega arith), digit-listed (v / 4096 % 16) (omega arith), digit-listed (v / 256 % 16) (omega arith), digit-listed (v / 16 % 16) (omega arith), digit-listed (v % 16) (omega arith))
-    (hex-row v)
-
 pub hex-nth : (p v k : ℕ) → k < p → getD (hexOf p v) k 0 ≡ hexDigit (v / 16 ^ (p - 1 - k) % 16)
 unfolding hexOf
 hex-nth zero v k l = absurd (omega arith)

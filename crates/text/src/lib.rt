@@ -8,7 +8,7 @@ pub const SPACE: u8 = b' ';
 
 pub const NEWLINE: u8 = b'\n';
 
-pub const DIGITS: [u8; 16] = [
+const DIGITS: [u8; 16] = [
     b'0',
     b'1',
     b'2',
@@ -165,7 +165,7 @@ fn put_decimal_digits(out: &mut [u8], at: usize, n: u64, digits: u32) -> usize
 }
 
 // The hexadecimal digit of a number below 16.
-fn digit(d: usize) -> u8
+pub fn digit(d: usize) -> u8
     requires { ⌜ d < 16 ⌝ }
     ensures { λ r. ⌜ r ≡ hexDigit d ⌝ }
 {

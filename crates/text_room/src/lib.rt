@@ -2,9 +2,9 @@
 // each function says how far it goes at most, and that the buffer keeps its length, so that the next one finds its room.
 ghost use mathlib.Core.Path.{_≡_};
 ghost use mathlib.Core.List.{[], _∷_};
-ghost use Prim.Native.Nat.{_+_, _<_, _≤_};
+ghost use Prim.Native.Nat.{_+_, _%_, _<_, _≤_};
 ghost use lib.ListN.{length};
-ghost use Rattle.text.specs.Text.{write, decimal, lastOf, field, hex};
+ghost use Rattle.text.specs.Text.{write, decimal, lastOf, field, hex, hexDigit};
 use text::SPACE;
 
 // One byte where the next one goes; answers where the one after it goes.
@@ -16,20 +16,27 @@ pub fn put_in(out: &mut [u8], at: usize, b: u8) -> usize
     at + 1
 }
 
-// The eight hexadecimal digits of a word. The table stands once for all of them: `digit` would lay it down for each.
+// The eight hexadecimal digits of a word.
 pub fn hex_in(out: &mut [u8], at: usize, v: u32) -> usize
     requires { ⌜ at + 8 ≤ length (now out) ⌝ }
     ensures { λ r. ⌜ ((now (out .exit), r) ≡ write (now (out .entry), at) (hex v)) × ((r ≤ at + 8) × (length (now (out .exit)) ≡ length (now (out .entry)))) ⌝ }
 {
-    let digits = text::DIGITS;
-    let a = put_in(out, at, digits[(v / 268435456 % 16) as usize]);
-    let b = put_in(out, a, digits[(v / 16777216 % 16) as usize]);
-    let c = put_in(out, b, digits[(v / 1048576 % 16) as usize]);
-    let d = put_in(out, c, digits[(v / 65536 % 16) as usize]);
-    let e = put_in(out, d, digits[(v / 4096 % 16) as usize]);
-    let f = put_in(out, e, digits[(v / 256 % 16) as usize]);
-    let g = put_in(out, f, digits[(v / 16 % 16) as usize]);
-    put_in(out, g, digits[(v % 16) as usize])
+    let a = hex_digit_in(out, at, v / 268435456);
+    let b = hex_digit_in(out, a, v / 16777216);
+    let c = hex_digit_in(out, b, v / 1048576);
+    let d = hex_digit_in(out, c, v / 65536);
+    let e = hex_digit_in(out, d, v / 4096);
+    let f = hex_digit_in(out, e, v / 256);
+    let g = hex_digit_in(out, f, v / 16);
+    hex_digit_in(out, g, v)
+}
+
+// The lowest hexadecimal digit of v.
+fn hex_digit_in(out: &mut [u8], at: usize, v: u32) -> usize
+    requires { ⌜ at < length (now out) ⌝ }
+    ensures { λ r. ⌜ ((now (out .exit), r) ≡ write (now (out .entry), at) (hexDigit (v % 16) ∷ [])) × ((r ≡ at + 1) × (length (now (out .exit)) ≡ length (now (out .entry)))) ⌝ }
+{
+    put_in(out, at, text::digit((v % 16) as usize))
 }
 
 // The decimal digits of a number. Nearly all numbers of a listing have at most five.

@@ -3,15 +3,15 @@ use mathlib.Core.Path.{ap, _∙_}
 use native.Mathlib.Omega.{arith}
 use Rattle.text.specs.Text.{write}
 use Rattle.text.proofs.WriteLaws.{eight-bytes}
-use Rattle.text.proofs.DigitLaws.{listed-row}
+use Rattle.text.proofs.DigitLaws.{hex-row}
 use Rattle.text_room.proofs.RoomLaws.{hex-stands}
 use borrow.Author.Needs.{needs}
 use Rattle.text_room.proofs.hex_in.Statement.{statement}
 use Rattle.text_room.proofs.hex_in.Tie as tie
 
 -- seven digits are written
-put-in-requires-8 : tie.Need-put-in-requires-8
-put-in-requires-8 c κs =
+hex-digit-in-requires-8 : tie.Need-hex-digit-in-requires-8
+hex-digit-in-requires-8 c κs =
     let g = c .before .before .before in
     let f = g .before .before .before .before in
     let e = f .before .before .before .before in
@@ -19,7 +19,7 @@ put-in-requires-8 c κs =
     let b = d .before .before .before .before in
     let a = b .before .before .before .before in
     let z = a .before .before .before .before in
-    omega (arith, z .before .before .before .pre, z .put-in .ensures .1, a .put-in2 .ensures .1, b .put-in3 .ensures .1, d .put-in4 .ensures .1, e .put-in5 .ensures .1, f .put-in6 .ensures .1, g .put-in7 .ensures .1)
+    omega (arith, z .before .before .before .pre, z .hex-digit-in .ensures .1, a .hex-digit-in2 .ensures .1, b .hex-digit-in3 .ensures .1, d .hex-digit-in4 .ensures .1, e .hex-digit-in5 .ensures .1, f .hex-digit-in6 .ensures .1, g .hex-digit-in7 .ensures .1)
 
 returns : tie.Need-returns
 returns c =
@@ -31,35 +31,19 @@ returns c =
     let b = d .before .before .before .before in
     let a = b .before .before .before .before in
     let z = a .before .before .before .before in
-    hex-stands _ _ _ (eight-bytes _ _ _ _ _ _ _ _ _ (z .put-in .ensures .0) (a .put-in2 .ensures .0) (b .put-in3 .ensures .0) (d .put-in4 .ensures .0) (e .put-in5 .ensures .0) (f .put-in6 .ensures .0) (g .put-in7 .ensures .0) (h .put-in8 .ensures .0) ∙ ap (write _) (listed-row _))
+    hex-stands _ _ _ (eight-bytes _ _ _ _ _ _ _ _ _ (z .hex-digit-in .ensures .0) (a .hex-digit-in2 .ensures .0) (b .hex-digit-in3 .ensures .0) (d .hex-digit-in4 .ensures .0) (e .hex-digit-in5 .ensures .0) (f .hex-digit-in6 .ensures .0) (g .hex-digit-in7 .ensures .0) (h .hex-digit-in8 .ensures .0) ∙ ap (write _) (hex-row _))
 
 pub hex-in-spec : {M : Type 1} → statement M
 hex-in-spec =
     tie.close
     (tie.spec
-    (λ c. search needs)
-    (λ c. search needs)
     (λ c κs. search needs)
-    (λ c. search needs)
-    (λ c. search needs)
     (λ c κs. search needs)
-    (λ c. search needs)
-    (λ c. search needs)
     (λ c κs. search needs)
-    (λ c. search needs)
-    (λ c. search needs)
     (λ c κs. search needs)
-    (λ c. search needs)
-    (λ c. search needs)
     (λ c κs. search needs)
-    (λ c. search needs)
-    (λ c. search needs)
     (λ c κs. search needs)
-    (λ c. search needs)
-    (λ c. search needs)
     (λ c κs. search needs)
-    (λ c. search needs)
-    (λ c. search needs)
-    put-in-requires-8
+    hex-digit-in-requires-8
     (λ c. search needs)
     returns)
