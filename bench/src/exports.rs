@@ -22,7 +22,6 @@ extern "C" {
     fn wisteria_offset(trace: *const u8, trace_len: usize, limit: u32) -> usize;
 
     /// The listing and the steps by the loops over a controller of any kind, as above.
-    #[cfg(feature = "plain")]
     fn wisteria_list_plain(
         trace: *const u8,
         trace_len: usize,
@@ -30,7 +29,6 @@ extern "C" {
         out: *mut u8,
         out_len: usize,
     ) -> usize;
-    #[cfg(feature = "plain")]
     fn wisteria_play_plain(trace: *const u8, trace_len: usize, limit: u32) -> u32;
 
     /// Writes the line of the lent text of a table into the lent buffer and answers the bytes written, as above.
@@ -58,7 +56,6 @@ pub fn steps_of(trace: &[u8], limit: u32) -> u32 {
 }
 
 /// The listing by the loop over a controller of any kind.
-#[cfg(feature = "plain")]
 pub fn list_plain_into(trace: &[u8], limit: u32, buffer: &mut [u8]) -> usize {
     // As for the other listing.
     unsafe {
@@ -73,7 +70,6 @@ pub fn list_plain_into(trace: &[u8], limit: u32, buffer: &mut [u8]) -> usize {
 }
 
 /// The steps by the loop over a controller of any kind.
-#[cfg(feature = "plain")]
 pub fn steps_plain_of(trace: &[u8], limit: u32) -> u32 {
     unsafe { wisteria_play_plain(trace.as_ptr(), trace.len(), limit) }
 }
@@ -94,11 +90,23 @@ pub fn stack_into(text: &[u8], buffer: &mut [u8]) -> usize {
     unsafe { wisteria_stack(text.as_ptr(), text.len(), buffer.as_mut_ptr(), buffer.len()) }
 }
 
-/// The listing of a case.
+/// The listing of a case. The loop over a controller of any kind has to make the same of it, in listing and in play.
 pub fn list(case: &Case) -> Outcome {
-    written(case.ample_room(), |buffer| {
-        list_into(&case.trace, case.limit, buffer)
-    })
+    let (trace, limit) = (&case.trace, case.limit);
+    let (steps, plain) = (steps_of(trace, limit), steps_plain_of(trace, limit));
+    if steps != plain {
+        return Err(format!(
+            "{steps} steps are played, {plain} by the loop over any kind"
+        ));
+    }
+    let listing = written(case.ample_room(), |buffer| list_into(trace, limit, buffer))?;
+    let plain = written(case.ample_room(), |buffer| {
+        list_plain_into(trace, limit, buffer)
+    })?;
+    if listing != plain {
+        return Err("the loop over any kind lists it otherwise".to_string());
+    }
+    Ok(listing)
 }
 
 /// The line of a typed table.

@@ -14,7 +14,7 @@ use bench::workload::{busy, workloads, Workload};
 const NOTES: &str = "\
 Nanoseconds per step in the fastest of several rounds; a round is one play of the whole trace by each side in turn.
 
-- proved: the proved library through its C functions; plain, where it is there: its loops over a controller of any kind.
+- proved: the proved library through its C functions; plain: its loops over a controller of any kind.
 - model: the plain Rust model, its listing with digits made by hand; std text: with the standard library's formatting, as
   the differential test has it.
 - tuned: the Rust player that is tuned by hand.
@@ -194,24 +194,16 @@ impl<'a> Proved<'a> {
         black_box(bench::exports::steps_of(trace, PROGRAM_LIMIT));
     }
 
-    #[cfg(feature = "plain")]
     fn list_plain(&mut self) {
         let trace = black_box(self.trace);
         self.written = bench::exports::list_plain_into(trace, PROGRAM_LIMIT, &mut self.buffer);
         black_box(&self.buffer);
     }
 
-    #[cfg(feature = "plain")]
     fn play_plain(&mut self) {
         let trace = black_box(self.trace);
         black_box(bench::exports::steps_plain_of(trace, PROGRAM_LIMIT));
     }
-
-    #[cfg(not(feature = "plain"))]
-    fn list_plain(&mut self) {}
-
-    #[cfg(not(feature = "plain"))]
-    fn play_plain(&mut self) {}
 
     /// What is timed must be the same work.
     fn check(&mut self, listing: &[u8]) {
@@ -246,14 +238,9 @@ impl Proved {
 
 /// The head of a table: what a workload is, what counts its bytes, the sides, and last the standard text if it is timed.
 fn head(bytes: &str, std_text: bool) -> String {
-    let plain = if cfg!(feature = "plain") {
-        "plain | "
-    } else {
-        ""
-    };
     let std_text = if std_text { " std text |" } else { "" };
     let head = format!(
-        "| controller | size | steps | {bytes} | proved | {plain}model | tuned | proved/model | proved/tuned |{std_text}"
+        "| controller | size | steps | {bytes} | proved | plain | model | tuned | proved/model | proved/tuned |{std_text}"
     );
     let numbers = head.matches('|').count() - 3;
     format!("{head}\n|---|---|{}", "--:|".repeat(numbers))
@@ -289,10 +276,9 @@ fn side_by_side(workload: &Workload, sides: &Sides) -> String {
         false => "-".to_string(),
     };
     let ratio = |other: u128| linked(format!("{:.2}", sides.proved as f64 / other as f64));
-    let mut cells = vec![linked(per_step(workload, sides.proved))];
-    if cfg!(feature = "plain") {
-        cells.push(per_step(workload, sides.plain));
-    }
+    let mut cells: Vec<String> = [sides.proved, sides.plain]
+        .map(|whole| linked(per_step(workload, whole)))
+        .into();
     cells.extend([model, tuned].map(|whole| per_step(workload, whole)));
     cells.extend([model, tuned].map(ratio));
     cells.join(" | ")
