@@ -5,10 +5,6 @@ ghost use Rattle.aintc_choice.specs.Settle.{sound};
 ghost use Rattle.aintc.specs.Model.{read, write, line, step};
 ghost use Rattle.aintc_search.specs.Parts.{aintcOf, Fiqs};
 ghost use Rattle.aintc_parts.specs.Reply.{answerOf, answeredReply, refusedReply};
-
-pub mod reads;
-pub mod writes;
-
 use aintc_registers::map::access_of;
 use steps::Step;
 
@@ -63,7 +59,7 @@ pub fn read<'a>(
     if n != steps::CARRIED_OUT {
         return refuse(n);
     }
-    carry_out(reads::read_at(lines, soft, masks, routes, fiqs, settings, irq, fiq, offset))
+    carry_out(aintc_reads::read_at(lines, soft, masks, routes, fiqs, settings, irq, fiq, offset))
 }
 
 // A write of the register at an offset.
@@ -92,7 +88,7 @@ pub fn write<'a>(
     if n != steps::CARRIED_OUT {
         return refuse(n);
     }
-    writes::write_at(
+    aintc_writes::write_at(
         lines,
         soft,
         masks,
@@ -125,7 +121,7 @@ pub fn line<'a>(
     if n != steps::CARRIED_OUT {
         return refuse(n);
     }
-    writes::move_line(
+    aintc_banks::move_line(
         lines,
         soft,
         masks,

@@ -1,2 +1,0 @@
--- Laws about the steps of an AINTC on parts.
-pub mod PartLaws

@@ -1,3 +1,0 @@
--- The laws of the loop.
-pub mod ShownLaws
-pub mod TakenLaws
