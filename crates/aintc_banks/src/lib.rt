@@ -12,8 +12,6 @@ ghost use Rattle.aintc_registers.specs.Effects.{bankWritten, moved};
 ghost use Rattle.aintc_search.specs.Parts.{aintcOf, Fiqs};
 use aintc_registers::map;
 use aintc_search::fiqs as kept;
-use aintc_search::outputs;
-use aintc_search::settings as fields;
 use aintc_search::sides;
 
 // The registers of bank n, by their row; nothing changes where there is none to write.

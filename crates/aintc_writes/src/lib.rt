@@ -2,13 +2,10 @@
 ghost use mathlib.Core.Path.{_≡_};
 ghost use mathlib.Core.Bool.{true};
 ghost use mathlib.Core.List.{List};
-ghost use Prim.Native.Nat.{ℕ, _<_};
-ghost use lib.ListN.{set};
-ghost use Rattle.words.specs.Array.{withBitAt};
-ghost use Rattle.aintc_record.specs.Record.{withRoutes, reset};
-ghost use Rattle.aintc_record.specs.Route.{routeByte};
+ghost use Prim.Native.Nat.{ℕ};
+ghost use Rattle.aintc_record.specs.Record.{reset};
 ghost use Rattle.aintc_choice.specs.Settle.{settle, sound};
-ghost use Rattle.aintc_registers.specs.Effects.{agreed, configured, singleWritten, bankWritten, writtenAt, moved};
+ghost use Rattle.aintc_registers.specs.Effects.{agreed, configured, singleWritten, writtenAt};
 ghost use Rattle.aintc_search.specs.Parts.{aintcOf, Fiqs};
 use aintc_registers::map;
 use aintc_search::fiqs as kept;
