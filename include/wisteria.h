@@ -46,8 +46,14 @@ enum {
  * they were. The listing is text in ASCII, each line ended by '\n'; no zero byte is put behind it. */
 size_t wisteria_list(const uint8_t *trace, size_t trace_len, uint32_t limit, uint8_t *out, size_t out_len);
 
+/* The same as wisteria_list, byte for byte, by the loop that plays a machine of any kind. For the benchmark, which times both. */
+size_t wisteria_list_plain(const uint8_t *trace, size_t trace_len, uint32_t limit, uint8_t *out, size_t out_len);
+
 /* The number of steps played, refused ones among them: at most `limit`, and 0 where the trace has no accepted configuration. */
 uint32_t wisteria_steps(const uint8_t *trace, size_t trace_len, uint32_t limit);
+
+/* The same number as wisteria_steps, by the loop that plays a machine of any kind. For the benchmark, which times both. */
+uint32_t wisteria_play_plain(const uint8_t *trace, size_t trace_len, uint32_t limit);
 
 /* How the trace ended: 0, or the refusal's number, 7 to 11. A step that is refused by 1 to 6 or 13 ends nothing, and the
  * listing shows it. */

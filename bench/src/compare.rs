@@ -6,7 +6,9 @@ use crate::batch::Request;
 use crate::coverage::Coverage;
 use crate::generate::Case;
 use crate::listing::Text;
-use crate::trace::{pieces, play, PROGRAM_LIMIT};
+use crate::model::{Answer, Machine, Recorded};
+use crate::trace::{pieces, play, Observer, PROGRAM_LIMIT};
+use crate::tuned::{self, added, Played};
 
 /// What the other side makes of a case: its text, or what went wrong.
 pub type Outcome = Result<Vec<u8>, String>;
@@ -34,6 +36,11 @@ pub trait Subject: Clone {
     /// The same by the linked library.
     #[cfg(feature = "exports")]
     fn by_library(&self) -> Outcome;
+
+    /// The same by the tuned player, where there is one for it.
+    fn by_tuned(&self) -> Outcome {
+        Err("nothing is tuned for it".to_string())
+    }
 
     /// What a program of its own makes of it has all the room it wants.
     fn for_program(self) -> Self;
@@ -72,6 +79,17 @@ impl Subject for Case {
         crate::exports::list(self)
     }
 
+    /// The play has to come to the same as well.
+    fn by_tuned(&self) -> Outcome {
+        let (tuned, model) = (tuned::play(&self.trace, self.limit), played(self));
+        if (Played { state: 0, ..tuned }) != model {
+            return Err(format!("the model played {model:?}, the other {tuned:?}"));
+        }
+        written(self.ample_room(), |buffer| {
+            tuned::list(&self.trace, self.limit, buffer)
+        })
+    }
+
     /// A program has its own step limit.
     fn for_program(self) -> Case {
         Case {
@@ -84,6 +102,49 @@ impl Subject for Case {
     fn smaller(&self, time: Duration, differs: impl FnMut(&Case) -> bool) -> Case {
         shrink(self, time, differs)
     }
+}
+
+/// What the model's play of a case comes to, without its state.
+fn played(case: &Case) -> Played {
+    let mut answers = Answers(0);
+    let report = play(&case.trace, case.limit, &mut answers);
+    let (refusal, offset) = match report.ending {
+        Ok(length) => (0, length),
+        Err(fault) => (fault.refusal.number(), fault.offset),
+    };
+    Played {
+        steps: report.steps,
+        refusal,
+        offset,
+        answers: answers.0,
+        state: 0,
+    }
+}
+
+/// All answers of a play together.
+struct Answers(u64);
+
+impl Observer for Answers {
+    fn after(&mut self, _: &Machine, _: u32, _: Recorded, answer: Answer) {
+        self.0 = added(self.0, answer);
+    }
+}
+
+/// What a buffer holds where nothing was written.
+const UNTOUCHED: u8 = 0xA5;
+
+/// What is written into so much room. The bytes behind it must be left as they were.
+pub fn written(room: usize, write: impl Fn(&mut [u8]) -> usize) -> Outcome {
+    let mut buffer = vec![UNTOUCHED; room];
+    let written = write(&mut buffer);
+    let rest = buffer
+        .get(written..)
+        .ok_or_else(|| format!("{written} bytes written into {room}"))?;
+    if rest.iter().any(|&byte| byte != UNTOUCHED) {
+        return Err(format!("bytes behind the {written} written ones changed"));
+    }
+    buffer.truncate(written);
+    Ok(buffer)
 }
 
 /// What came of many comparisons.

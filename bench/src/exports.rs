@@ -1,6 +1,6 @@
 //! The other side in process: the proved texts through their C functions, in a library that is linked on request.
 
-use crate::compare::Outcome;
+use crate::compare::{written, Outcome};
 use crate::generate::Case;
 use crate::stack::generate::Typed;
 
@@ -20,6 +20,16 @@ extern "C" {
     fn wisteria_steps(trace: *const u8, trace_len: usize, limit: u32) -> u32;
     fn wisteria_refusal(trace: *const u8, trace_len: usize, limit: u32) -> u32;
     fn wisteria_offset(trace: *const u8, trace_len: usize, limit: u32) -> usize;
+
+    /// The listing and the steps by the loops over a controller of any kind, as above.
+    fn wisteria_list_plain(
+        trace: *const u8,
+        trace_len: usize,
+        limit: u32,
+        out: *mut u8,
+        out_len: usize,
+    ) -> usize;
+    fn wisteria_play_plain(trace: *const u8, trace_len: usize, limit: u32) -> u32;
 
     /// Writes the line of the lent text of a table into the lent buffer and answers the bytes written, as above.
     fn wisteria_stack(text: *const u8, text_len: usize, out: *mut u8, out_len: usize) -> usize;
@@ -45,6 +55,25 @@ pub fn steps_of(trace: &[u8], limit: u32) -> u32 {
     unsafe { wisteria_steps(trace.as_ptr(), trace.len(), limit) }
 }
 
+/// The listing by the loop over a controller of any kind.
+pub fn list_plain_into(trace: &[u8], limit: u32, buffer: &mut [u8]) -> usize {
+    // As for the other listing.
+    unsafe {
+        wisteria_list_plain(
+            trace.as_ptr(),
+            trace.len(),
+            limit,
+            buffer.as_mut_ptr(),
+            buffer.len(),
+        )
+    }
+}
+
+/// The steps by the loop over a controller of any kind.
+pub fn steps_plain_of(trace: &[u8], limit: u32) -> u32 {
+    unsafe { wisteria_play_plain(trace.as_ptr(), trace.len(), limit) }
+}
+
 /// The number of the refusal that ends the play and its offset; 0 and the length where there is none.
 pub fn ending_of(trace: &[u8], limit: u32) -> (u32, usize) {
     unsafe {
@@ -61,31 +90,26 @@ pub fn stack_into(text: &[u8], buffer: &mut [u8]) -> usize {
     unsafe { wisteria_stack(text.as_ptr(), text.len(), buffer.as_mut_ptr(), buffer.len()) }
 }
 
-/// What the buffer holds where nothing was written.
-const UNTOUCHED: u8 = 0xA5;
-
-/// The listing of a case.
+/// The listing of a case. The loop over a controller of any kind has to make the same of it, in listing and in play.
 pub fn list(case: &Case) -> Outcome {
-    written(case.ample_room(), |buffer| {
-        list_into(&case.trace, case.limit, buffer)
-    })
+    let (trace, limit) = (&case.trace, case.limit);
+    let (steps, plain) = (steps_of(trace, limit), steps_plain_of(trace, limit));
+    if steps != plain {
+        return Err(format!(
+            "{steps} steps are played, {plain} by the loop over any kind"
+        ));
+    }
+    let listing = written(case.ample_room(), |buffer| list_into(trace, limit, buffer))?;
+    let plain = written(case.ample_room(), |buffer| {
+        list_plain_into(trace, limit, buffer)
+    })?;
+    if listing != plain {
+        return Err("the loop over any kind lists it otherwise".to_string());
+    }
+    Ok(listing)
 }
 
 /// The line of a typed table.
 pub fn stack(typed: &Typed) -> Outcome {
     written(typed.ample_room(), |buffer| stack_into(&typed.text, buffer))
-}
-
-/// What is written into so much room. The bytes behind it must be left as they were.
-fn written(room: usize, write: impl Fn(&mut [u8]) -> usize) -> Outcome {
-    let mut buffer = vec![UNTOUCHED; room];
-    let written = write(&mut buffer);
-    let rest = buffer
-        .get(written..)
-        .ok_or_else(|| format!("{written} bytes written into {room}"))?;
-    if rest.iter().any(|&byte| byte != UNTOUCHED) {
-        return Err(format!("bytes behind the {written} written ones changed"));
-    }
-    buffer.truncate(written);
-    Ok(buffer)
 }

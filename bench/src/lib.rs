@@ -14,4 +14,5 @@ pub mod program;
 pub mod random;
 pub mod stack;
 pub mod trace;
+pub mod tuned;
 pub mod workload;

@@ -1,4 +1,5 @@
-//! The traces that are timed: for each controller a small and a full one, of any number of steps, none refused.
+//! The traces that are timed, with no step refused: for each controller a small and a full one, of any number of steps;
+//! and writes to a full CIC of which every system is active.
 
 use crate::generate::Script;
 use crate::random::Random;
@@ -47,13 +48,13 @@ const PLANS: [Plan; 8] = [
     Plan {
         controller: "CIC",
         size: "8 systems, 2 channels, 2 hosts",
-        opening: || cic(8, 2, 2),
+        opening: || cic(8, 2, 2, EVERY_OTHER),
         step: |random, script, at| cic_step(random, script, at, 8),
     },
     Plan {
         controller: "CIC",
         size: "1,024 systems, 256 channels, 256 hosts",
-        opening: || cic(1_024, 256, 256),
+        opening: || cic(1_024, 256, 256, EVERY_OTHER),
         step: |random, script, at| cic_step(random, script, at, 1_024),
     },
     Plan {
@@ -70,21 +71,56 @@ const PLANS: [Plan; 8] = [
     },
 ];
 
-/// All of them, with so many steps each.
+/// A CIC of full size with all systems active, and what is written to it.
+const BUSY: [Plan; 3] = [
+    Plan {
+        controller: "busy CIC",
+        size: "writes of the channel map",
+        opening: || cic(1_024, 256, 256, u32::MAX),
+        step: |random, script, _| script.write(0x400 + 4 * random.below(256), random.bits() as u32),
+    },
+    Plan {
+        controller: "busy CIC",
+        size: "writes of the host map",
+        opening: || cic(1_024, 256, 256, u32::MAX),
+        step: |random, script, _| script.write(0x800 + 4 * random.below(64), random.bits() as u32),
+    },
+    Plan {
+        controller: "busy CIC",
+        size: "writes of status words",
+        opening: || cic(1_024, 256, 256, u32::MAX),
+        step: busy_status_step,
+    },
+];
+
+/// How many writes follow the opening of a busy CIC.
+const BUSY_WRITES: u32 = 5_000;
+
+/// One for each controller and size, with so many steps each.
 pub fn workloads(steps: u32) -> Vec<Workload> {
-    PLANS.iter().map(|plan| workload(plan, steps)).collect()
+    let rest = |opened| steps - opened;
+    PLANS.iter().map(|plan| workload(plan, rest)).collect()
 }
 
-fn workload(plan: &Plan, steps: u32) -> Workload {
+/// Those of a busy CIC.
+pub fn busy() -> Vec<Workload> {
+    BUSY.iter()
+        .map(|plan| workload(plan, |_| BUSY_WRITES))
+        .collect()
+}
+
+/// The trace of a plan; how many steps follow the opening is said by the steps that it has.
+fn workload(plan: &Plan, following: impl Fn(u32) -> u32) -> Workload {
     let random = &mut Random::new(11);
     let (mut script, opened) = (plan.opening)();
-    for at in 0..steps - opened {
+    let following = following(opened);
+    for at in 0..following {
         (plan.step)(random, &mut script, at);
     }
     Workload {
         controller: plan.controller,
         size: plan.size,
-        steps,
+        steps: opened + following,
         trace: script.bytes,
     }
 }
@@ -130,9 +166,12 @@ fn core_step(random: &mut Random, script: &mut Script, at: u32, fiqs: u32, irqs:
     }
 }
 
-/// System n drives channel n and channel n drives host n, modulo how many there are; everything is enabled, and every
-/// other system is set, so that steps cost the same from the first to the last.
-fn cic(systems: u32, channels: u32, hosts: u32) -> (Script, u32) {
+/// A word with every other system set, so that steps cost the same from the first to the last.
+const EVERY_OTHER: u32 = 0x5555_5555;
+
+/// System n drives channel n and channel n drives host n, modulo how many there are; everything is enabled, and each
+/// word of systems is set as the given one.
+fn cic(systems: u32, channels: u32, hosts: u32, set: u32) -> (Script, u32) {
     let mut script = Script::new(2, &[systems, channels, hosts, 0x4E82_0000]);
     let mut steps = 0;
     let maps = [(0x400, systems, channels), (0x800, channels, hosts)];
@@ -144,7 +183,7 @@ fn cic(systems: u32, channels: u32, hosts: u32) -> (Script, u32) {
         }
     }
     let words = [
-        (0x200, systems, 0x5555_5555),
+        (0x200, systems, set),
         (0x300, systems, u32::MAX),
         (0x1500, hosts, u32::MAX),
     ];
@@ -167,6 +206,12 @@ fn cic_step(random: &mut Random, script: &mut Script, at: u32, systems: u32) {
         4 => script.read(0x280),
         _ => script.read(0x010),
     }
+}
+
+/// A whole word of systems is cleared, and the same one set again in the next step.
+fn busy_status_step(_: &mut Random, script: &mut Script, at: u32) {
+    let base = if at.is_multiple_of(2) { 0x280 } else { 0x200 };
+    script.write(base + 4 * (at / 2 % 32), u32::MAX);
 }
 
 /// Inputs of eight priorities, those of odd number routed to FIQ, unmasked; every other line is high, so that steps
@@ -213,15 +258,21 @@ mod tests {
         }
     }
 
+    fn has_its_steps_and_fits(workload: &Workload) {
+        let report = play(&workload.trace, PROGRAM_LIMIT, &mut NoneRefused);
+        assert_eq!(report.steps, workload.steps);
+        assert_eq!(report.ending, Ok(workload.trace.len()));
+        assert!(workload.trace.len() <= LONGEST);
+    }
+
     #[test]
     fn the_workloads_have_their_steps_and_fit() {
         for steps in [2_000, PROGRAM_LIMIT] {
             for workload in workloads(steps) {
-                let report = play(&workload.trace, PROGRAM_LIMIT, &mut NoneRefused);
-                assert_eq!(report.steps, steps);
-                assert_eq!(report.ending, Ok(workload.trace.len()));
-                assert!(workload.trace.len() <= LONGEST);
+                assert_eq!(workload.steps, steps);
+                has_its_steps_and_fits(&workload);
             }
         }
+        busy().iter().for_each(has_its_steps_and_fits);
     }
 }

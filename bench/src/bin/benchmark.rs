@@ -1,4 +1,5 @@
-//! Times play and listing, the proved one and the model side by side on the same traces; it reports and judges nothing.
+//! Times play and listing, the proved one, the model and the tuned player side by side on the same traces; it reports
+//! and judges nothing.
 
 use std::fs;
 use std::hint::black_box;
@@ -7,27 +8,28 @@ use std::time::Instant;
 use bench::digits::Digits;
 use bench::listing::Text;
 use bench::trace::{play, PROGRAM_LIMIT};
-use bench::workload::{workloads, Workload};
+use bench::tuned;
+use bench::workload::{busy, workloads, Workload};
 
 const NOTES: &str = "\
 Nanoseconds per step in the fastest of several rounds; a round is one play of the whole trace by each side in turn.
 
-- listing: play and listing, by the proved library through its C function and by the Rust model with digits made by hand.
-- std text: the model's listing with the standard library's formatting, as the differential test has it.
-- play: the steps alone, with no text and no outputs after each step.
-- A ratio is proved to model.
+- proved: the proved library through its C functions; plain: its loops over a controller of any kind.
+- model: the plain Rust model, its listing with digits made by hand; std text: with the standard library's formatting, as
+  the differential test has it.
+- tuned: the Rust player that is tuned by hand.
+- Listing is play and listing. Play is the steps alone, with no text and no outputs after each step.
 
-Buffers: each side writes its listing into one buffer that is kept from round to round and not cleared. The proved
-library gets ample room; the model's vectors have grown to their size before the rounds begin. The trace is in memory
-before the clock starts.
+Buffers: each side writes its listing into one buffer that is kept from round to round and not cleared. The proved library
+and the tuned player get ample room; the model's vectors have grown to their size before the rounds begin. The trace is in
+memory before the clock starts.
 ";
-
-const HEAD: &str = "\
-| controller | size | steps | trace bytes | listing bytes | listing, proved | model | ratio | std text | play, proved | model | ratio |
-|---|---|--:|--:|--:|--:|--:|--:|--:|--:|--:|--:|";
 
 /// How often each workload is timed, unless said otherwise.
 const ROUNDS: usize = 31;
+
+/// Room for any listing that is timed.
+const AMPLE: usize = 1 << 20;
 
 fn main() {
     let rounds = match std::env::args().nth(1) {
@@ -36,14 +38,23 @@ fn main() {
     };
     println!("Build: {}; {rounds} rounds.\n", build());
     println!("{NOTES}");
-    println!("{HEAD}");
-    for steps in [2_000, PROGRAM_LIMIT] {
-        for workload in workloads(steps) {
-            println!("{}", row(&workload, &measure(&workload, rounds)));
-        }
+    let few = workloads(2_000).into_iter();
+    let most: Vec<_> = few.chain(workloads(PROGRAM_LIMIT)).collect();
+    let times: Vec<_> = most.iter().map(|each| measure(each, rounds)).collect();
+    let rows = || most.iter().zip(&times);
+    println!("Listing:\n\n{}", head("trace bytes | listing bytes", true));
+    rows().for_each(|(workload, times)| println!("{}", listing_row(workload, times)));
+    println!("\nPlay:\n\n{}", head("trace bytes", false));
+    rows().for_each(|(workload, times)| println!("{}", play_row(workload, times)));
+    println!(
+        "\nListing of a full CIC, 1,024 systems active:\n\n{}",
+        head("trace bytes | listing bytes", true)
+    );
+    for workload in busy() {
+        println!("{}", listing_row(&workload, &measure(&workload, rounds)));
     }
     if let Some(peak) = peak_memory() {
-        println!("\nPeak memory of this process, both sides and all buffers: {peak}.");
+        println!("\nPeak memory of this process, all sides and all buffers: {peak}.");
     }
 }
 
@@ -51,7 +62,9 @@ fn build() -> String {
     let architecture = std::env::consts::ARCH;
     let exports = match cfg!(feature = "exports") {
         true => "with the proved library linked in",
-        false => "without the proved library (feature `exports`), so the model is timed alone",
+        false => {
+            "without the proved library (feature `exports`), so the Rust sides are timed alone"
+        }
     };
     let debug = match cfg!(debug_assertions) {
         true => ", and NOT a release build",
@@ -68,42 +81,48 @@ struct Times {
     play: Sides,
 }
 
-/// The same work by both sides; the proved one only where it is linked in.
+/// The same work by all sides; what is not linked in takes no time, and is not shown.
 struct Sides {
-    proved: Option<u128>,
+    proved: u128,
+    plain: u128,
     model: u128,
-}
-
-impl Sides {
-    fn new(proved: u128, model: u128) -> Sides {
-        Sides {
-            proved: cfg!(feature = "exports").then_some(proved),
-            model,
-        }
-    }
+    tuned: u128,
 }
 
 fn measure(workload: &Workload, rounds: usize) -> Times {
     let (mut digits, mut text) = (Digits::default(), Text::default());
     let mut proved = Proved::new(workload);
+    let mut buffer = vec![0; AMPLE];
     list_by_hand(workload, &mut digits);
     list_with_std(workload, &mut text);
     assert!(digits.bytes == text.bytes, "the model's listings differ");
+    let written = list_tuned(workload, &mut buffer);
+    assert!(buffer[..written] == text.bytes, "the tuned listing differs");
     proved.check(&text.bytes);
-    let mut samples = [const { Vec::new() }; 5];
+    let mut samples = [const { Vec::new() }; 9];
     for _ in 0..rounds {
         samples[0].push(nanoseconds(|| proved.list()));
-        samples[1].push(nanoseconds(|| list_by_hand(workload, &mut digits)));
-        samples[2].push(nanoseconds(|| list_with_std(workload, &mut text)));
-        samples[3].push(nanoseconds(|| proved.play()));
-        samples[4].push(nanoseconds(|| play_alone(workload)));
+        samples[1].push(nanoseconds(|| proved.list_plain()));
+        samples[2].push(nanoseconds(|| list_by_hand(workload, &mut digits)));
+        samples[3].push(nanoseconds(|| list_tuned(workload, &mut buffer)));
+        samples[4].push(nanoseconds(|| list_with_std(workload, &mut text)));
+        samples[5].push(nanoseconds(|| proved.play()));
+        samples[6].push(nanoseconds(|| proved.play_plain()));
+        samples[7].push(nanoseconds(|| play_model(workload)));
+        samples[8].push(nanoseconds(|| play_tuned(workload)));
     }
-    let [proved, model, std_text, proved_play, model_play] = samples.map(fastest);
+    let samples = samples.map(fastest);
+    let sides = |[proved, plain, model, tuned]: [u128; 4]| Sides {
+        proved,
+        plain,
+        model,
+        tuned,
+    };
     Times {
         listing_bytes: text.bytes.len(),
-        listing: Sides::new(proved, model),
-        std_text,
-        play: Sides::new(proved_play, model_play),
+        listing: sides([samples[0], samples[1], samples[2], samples[3]]),
+        std_text: samples[4],
+        play: sides([samples[5], samples[6], samples[7], samples[8]]),
     }
 }
 
@@ -119,11 +138,21 @@ fn list_with_std(workload: &Workload, text: &mut Text) {
     black_box(&text.bytes);
 }
 
-fn play_alone(workload: &Workload) {
+fn list_tuned(workload: &Workload, buffer: &mut [u8]) -> usize {
+    let written = tuned::list(black_box(&workload.trace), PROGRAM_LIMIT, buffer);
+    black_box(&buffer);
+    written
+}
+
+fn play_model(workload: &Workload) {
     black_box(play(black_box(&workload.trace), PROGRAM_LIMIT, &mut ()));
 }
 
-fn nanoseconds(run: impl FnOnce()) -> u128 {
+fn play_tuned(workload: &Workload) {
+    black_box(tuned::play(black_box(&workload.trace), PROGRAM_LIMIT));
+}
+
+fn nanoseconds<T>(run: impl FnOnce() -> T) -> u128 {
     let begin = Instant::now();
     run();
     begin.elapsed().as_nanos()
@@ -149,7 +178,7 @@ impl<'a> Proved<'a> {
     fn new(workload: &'a Workload) -> Proved<'a> {
         Proved {
             trace: &workload.trace,
-            buffer: vec![0; 1 << 20],
+            buffer: vec![0; AMPLE],
             written: 0,
         }
     }
@@ -161,17 +190,28 @@ impl<'a> Proved<'a> {
     }
 
     fn play(&mut self) {
-        black_box(bench::exports::steps_of(
-            black_box(self.trace),
-            PROGRAM_LIMIT,
-        ));
+        let trace = black_box(self.trace);
+        black_box(bench::exports::steps_of(trace, PROGRAM_LIMIT));
+    }
+
+    fn list_plain(&mut self) {
+        let trace = black_box(self.trace);
+        self.written = bench::exports::list_plain_into(trace, PROGRAM_LIMIT, &mut self.buffer);
+        black_box(&self.buffer);
+    }
+
+    fn play_plain(&mut self) {
+        let trace = black_box(self.trace);
+        black_box(bench::exports::steps_plain_of(trace, PROGRAM_LIMIT));
     }
 
     /// What is timed must be the same work.
     fn check(&mut self, listing: &[u8]) {
-        self.list();
-        let same = self.buffer[..self.written] == *listing;
-        assert!(same, "the listings differ");
+        for list in [Proved::list, Proved::list_plain] {
+            list(self);
+            let same = self.buffer[..self.written] == *listing;
+            assert!(same, "the listings differ");
+        }
     }
 }
 
@@ -187,36 +227,65 @@ impl Proved {
 
     fn list(&mut self) {}
 
+    fn list_plain(&mut self) {}
+
     fn play(&mut self) {}
+
+    fn play_plain(&mut self) {}
 
     fn check(&mut self, _: &[u8]) {}
 }
 
-fn row(workload: &Workload, times: &Times) -> String {
-    let per_step = |whole: u128| format!("{:.1}", whole as f64 / f64::from(workload.steps));
-    let side_by_side = |sides: &Sides| match sides.proved {
-        Some(proved) => {
-            let ratio = proved as f64 / sides.model as f64;
-            [
-                per_step(proved),
-                per_step(sides.model),
-                format!("{ratio:.2}"),
-            ]
-            .join(" | ")
-        }
-        None => format!("- | {} | -", per_step(sides.model)),
-    };
+/// The head of a table: what a workload is, what counts its bytes, the sides, and last the standard text if it is timed.
+fn head(bytes: &str, std_text: bool) -> String {
+    let std_text = if std_text { " std text |" } else { "" };
+    let head = format!(
+        "| controller | size | steps | {bytes} | proved | plain | model | tuned | proved/model | proved/tuned |{std_text}"
+    );
+    let numbers = head.matches('|').count() - 3;
+    format!("{head}\n|---|---|{}", "--:|".repeat(numbers))
+}
+
+fn listing_row(workload: &Workload, times: &Times) -> String {
     format!(
-        "| {} | {} | {} | {} | {} | {} | {} | {} |",
-        workload.controller,
-        workload.size,
-        workload.steps,
-        workload.trace.len(),
+        "{} | {} | {} | {} |",
+        beginning(workload),
         times.listing_bytes,
-        side_by_side(&times.listing),
-        per_step(times.std_text),
-        side_by_side(&times.play),
+        side_by_side(workload, &times.listing),
+        per_step(workload, times.std_text),
     )
+}
+
+fn play_row(workload: &Workload, times: &Times) -> String {
+    let sides = side_by_side(workload, &times.play);
+    format!("{} | {sides} |", beginning(workload))
+}
+
+/// What a workload is.
+fn beginning(workload: &Workload) -> String {
+    let (controller, size, steps) = (workload.controller, workload.size, workload.steps);
+    let bytes = workload.trace.len();
+    format!("| {controller} | {size} | {steps} | {bytes}")
+}
+
+/// The times of all sides, and the ratios of the proved one to the model and to the tuned player.
+fn side_by_side(workload: &Workload, sides: &Sides) -> String {
+    let (model, tuned) = (sides.model, sides.tuned);
+    let linked = |cell: String| match cfg!(feature = "exports") {
+        true => cell,
+        false => "-".to_string(),
+    };
+    let ratio = |other: u128| linked(format!("{:.2}", sides.proved as f64 / other as f64));
+    let mut cells: Vec<String> = [sides.proved, sides.plain]
+        .map(|whole| linked(per_step(workload, whole)))
+        .into();
+    cells.extend([model, tuned].map(|whole| per_step(workload, whole)));
+    cells.extend([model, tuned].map(ratio));
+    cells.join(" | ")
+}
+
+fn per_step(workload: &Workload, whole: u128) -> String {
+    format!("{:.1}", whole as f64 / f64::from(workload.steps))
 }
 
 /// The most memory that this process had, where the system tells.

@@ -19,11 +19,13 @@ const USAGE: &str = "\
 differential --program PATH [options] [-- ARGUMENTS]
 differential --batch PATH   [options] [-- ARGUMENTS]
 differential --exports      [options]
+differential --tuned        [options]
 differential --trace N [--stack] [--seed N]
 
   --program PATH  a process for each trace: the trace on standard input, the listing on standard output
   --batch PATH    one process for all traces, which speaks as batch.c does; step limits and room vary too
   --exports       in this process, if it is built with the feature `exports`; step limits and room vary too
+  --tuned         the tuned player, in this process, which needs no proved side; step limits and room vary too
   --stack         typed tables and their stack lines, instead of traces and their listings
   --trace N       writes the trace (or table) of case N to standard output
   --seed N        other traces for another seed (1)
@@ -51,20 +53,21 @@ enum Way {
     Program,
     Batch,
     Exports,
+    Tuned,
 }
 
 impl Way {
     fn adapt<S: Subject>(self, case: S) -> S {
         match self {
             Way::Program => case.for_program(),
-            Way::Batch | Way::Exports => case,
+            Way::Batch | Way::Exports | Way::Tuned => case,
         }
     }
 
     fn usual_count(self) -> usize {
         match self {
             Way::Program => 600,
-            Way::Batch | Way::Exports => 100_000,
+            Way::Batch | Way::Exports | Way::Tuned => 100_000,
         }
     }
 }
@@ -104,9 +107,12 @@ fn asked<S: Reported>(options: &Options, case: impl Fn(usize) -> S) -> ExitCode 
             let _ = io::stdout().write_all(case(number).input());
             ExitCode::SUCCESS
         }
-        (None, None) => wrong("none of --program, --batch and --exports is given"),
+        (None, None) => wrong("none of --program, --batch, --exports and --tuned is given"),
         (None, Some(Way::Exports)) if cfg!(not(feature = "exports")) => {
             wrong("--exports wants a build with the feature `exports`")
+        }
+        (None, Some(Way::Tuned)) if options.stack => {
+            wrong("--tuned is about traces, not about tables")
         }
         (None, Some(way)) => differential(case, way, options),
     }
@@ -135,6 +141,7 @@ fn options(mut words: impl Iterator<Item = String>) -> Result<Options, String> {
             "--program" => (options.way, options.path) = (Some(Way::Program), value()?),
             "--batch" => (options.way, options.path) = (Some(Way::Batch), value()?),
             "--exports" => options.way = Some(Way::Exports),
+            "--tuned" => options.way = Some(Way::Tuned),
             "--stack" => options.stack = true,
             "--trace" => options.trace = Some(number(&value()?)?),
             "--seed" => options.seed = number(&value()?)?,
@@ -157,6 +164,7 @@ enum Other {
     Program(Program),
     Batch(Batch),
     Exports,
+    Tuned,
 }
 
 impl Other {
@@ -167,6 +175,7 @@ impl Other {
             Way::Program => Other::Program(program),
             Way::Batch => Other::Batch(Batch::new(program)),
             Way::Exports => Other::Exports,
+            Way::Tuned => Other::Tuned,
         }
     }
 
@@ -175,6 +184,7 @@ impl Other {
             Other::Program(program) => program.ask(case.input()),
             Other::Batch(batch) => batch.ask(case.request()),
             Other::Exports => in_process(case),
+            Other::Tuned => case.by_tuned(),
         }
     }
 

@@ -65,7 +65,7 @@ fn is_register(access: Access) -> bool
 
 // Whether an access at this privilege is barred: unprivileged, of a register, and either all are protected or it is the protection
 // register itself.
-fn is_barred(guarded: bool, privilege: u32, offset: u32) -> bool
+pub fn is_barred(guarded: bool, privilege: u32, offset: u32) -> bool
     ensures { λ r. ⌜ r ≡ barred guarded privilege offset ⌝ }
 {
     let register = is_register(access_of(offset));
@@ -74,7 +74,7 @@ fn is_barred(guarded: bool, privilege: u32, offset: u32) -> bool
 
 // The checks of an access to a sound record in their order, 6, 13, then those of the read or the write itself; 1 and 2 of those come
 // before 13, since a barred access is aligned and of a register.
-fn access_number(privilege: u32, barred: bool, rest: u32) -> u32
+pub fn access_number(privilege: u32, barred: bool, rest: u32) -> u32
     ensures { λ r. ⌜ r ≡ accessNumber true privilege barred rest ⌝ }
 {
     if 1 < privilege {

@@ -23,7 +23,7 @@ fn open_word(s: Aintc, n: u32) -> u32
 }
 
 // The bit of a route that asks for an output: 1 for FIQ, 0 for IRQ.
-fn side_number(fast: bool) -> u8
+pub fn side_number(fast: bool) -> u8
     ensures { λ r. ⌜ r ≡ one fast ⌝ }
 {
     if fast {
@@ -40,7 +40,7 @@ fn is_routed(route: u8, side: u8) -> bool
 }
 
 // The inputs from `base` on whose output is `side`, 32 of them as a word.
-fn route_word(routes: &[u8; 128], base: u32, side: u8) -> u32
+pub fn route_word(routes: &[u8; 128], base: u32, side: u8) -> u32
     requires { ⌜ base ≤ 96 ⌝ }
     ensures { λ r. ⌜ r ≡ routeWord (now (routes .entry)) base side ⌝ }
 {
@@ -88,27 +88,25 @@ fn turn(x: Best, waits: bool, k: u32, route: u8, side: u8) -> Best
     x
 }
 
-// The search through the 32 inputs from `base` on, of which the word w waits. A word of none is passed over.
-fn search_word(w: u32, base: u32, routes: &[u8; 128], side: u8, x: Best) -> Best
+// The search through the 32 inputs from `base` on, of which the word w waits: from one that waits to the next.
+pub fn search_word(w: u32, base: u32, routes: &[u8; 128], side: u8, x: Best) -> Best
     requires { ⌜ base ≤ 96 ⌝ }
     ensures { λ r. ⌜ r ≡ wordSearched w base (now (routes .entry)) side x ⌝ }
 {
     let mut best = x;
-    if w == 0 {
-        return best;
-    }
-    let mut i: u32 = 0;
-    while i < 32 {
+    let mut left = w;
+    while left != 0 {
+        let i = words::lowest(left);
         let k = base + i;
         let at = k as usize;
-        best = turn(best, words::has(w, i), k, routes[at], side);
-        i = i + 1;
+        best = turn(best, true, k, routes[at], side);
+        left = words::with_bit(left, i, false);
     }
     best
 }
 
 // The lowest priority that the threshold lets pass: 0 always does.
-fn limit_of(threshold: u8) -> u8
+pub fn limit_of(threshold: u8) -> u8
     ensures { λ r. ⌜ r ≡ threshold - 1 ⌝ }
 {
     if threshold == 0 {

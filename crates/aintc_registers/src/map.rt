@@ -3,53 +3,53 @@ ghost use mathlib.Core.Path.{_≡_};
 ghost use Rattle.aintc_registers.specs.Map.{rowOf, rowAccess, access};
 use steps::Access;
 
-pub(crate) const REVISION: u32 = 0x00;
+pub const REVISION: u32 = 0x00;
 
-pub(crate) const SYSCONFIG: u32 = 0x10;
+pub const SYSCONFIG: u32 = 0x10;
 
-pub(crate) const SYSSTATUS: u32 = 0x14;
+pub const SYSSTATUS: u32 = 0x14;
 
-pub(crate) const SIR_IRQ: u32 = 0x40;
+pub const SIR_IRQ: u32 = 0x40;
 
-pub(crate) const SIR_FIQ: u32 = 0x44;
+pub const SIR_FIQ: u32 = 0x44;
 
-pub(crate) const CONTROL: u32 = 0x48;
+pub const CONTROL: u32 = 0x48;
 
 pub const PROTECTION: u32 = 0x4C;
 
-pub(crate) const IDLE: u32 = 0x50;
+pub const IDLE: u32 = 0x50;
 
-pub(crate) const IRQ_PRIORITY: u32 = 0x60;
+pub const IRQ_PRIORITY: u32 = 0x60;
 
-pub(crate) const FIQ_PRIORITY: u32 = 0x64;
+pub const FIQ_PRIORITY: u32 = 0x64;
 
-pub(crate) const THRESHOLD: u32 = 0x68;
+pub const THRESHOLD: u32 = 0x68;
 
 // Four banks of eight registers, one bank for each word of the inputs: these are the registers of bank 0.
-pub(crate) const ITR: u32 = 0x80;
+pub const ITR: u32 = 0x80;
 
-pub(crate) const MIR: u32 = 0x84;
+pub const MIR: u32 = 0x84;
 
-pub(crate) const MIR_CLEAR: u32 = 0x88;
+pub const MIR_CLEAR: u32 = 0x88;
 
-pub(crate) const MIR_SET: u32 = 0x8C;
+pub const MIR_SET: u32 = 0x8C;
 
-pub(crate) const ISR_SET: u32 = 0x90;
+pub const ISR_SET: u32 = 0x90;
 
-pub(crate) const ISR_CLEAR: u32 = 0x94;
+pub const ISR_CLEAR: u32 = 0x94;
 
-pub(crate) const PENDING_IRQ: u32 = 0x98;
+pub const PENDING_IRQ: u32 = 0x98;
 
-pub(crate) const PENDING_FIQ: u32 = 0x9C;
+pub const PENDING_FIQ: u32 = 0x9C;
 
 // The 128 routes from here on, one for each input.
-pub(crate) const ILR: u32 = 0x100;
+pub const ILR: u32 = 0x100;
 
 // No register from here on.
-pub(crate) const PAST: u32 = 0x300;
+pub const PAST: u32 = 0x300;
 
 // The row of the table that an offset is in, told by the first offset of the row.
-pub(crate) fn row_of(offset: u32) -> u32
+pub fn row_of(offset: u32) -> u32
     ensures { λ r. ⌜ r ≡ rowOf offset ⌝ }
 {
     if offset < ITR {

@@ -9,7 +9,7 @@ use aintc_record::Aintc;
 // What the number and the priority registers read with none chosen: the flag in bits 31:7, and 0.
 const SPURIOUS: u32 = 0xFFFFFF80;
 
-fn one_of(b: bool) -> u32
+pub fn one_of(b: bool) -> u32
     ensures { λ r. ⌜ r ≡ one b ⌝ }
 {
     if b {
@@ -19,7 +19,7 @@ fn one_of(b: bool) -> u32
 }
 
 // With one chosen its number, or the priority that it had when it was chosen; else the flag.
-fn shown(active: bool, n: u8) -> u32
+pub fn shown(active: bool, n: u8) -> u32
     ensures { λ r. ⌜ r ≡ shown active n ⌝ }
 {
     if active {

@@ -27,7 +27,7 @@ use Rattle.cic_maps.specs.Maps.{byteRead, mapRead, byteTaken, mapTaken, bytePut
 use Rattle.cic_words.specs.Bits.{wordRead}
 use Rattle.cic_layout.specs.Map.{singleAt, registerAt, accessOf}
 use Rattle.cic_registers.specs.Registers as Registers
-use Rattle.cic.specs.Model.{readAs, writeAs, stepAs}
+use Rattle.cic_steps.specs.Model.{readAs, writeAs, stepAs}
 use Rattle.cases.specs.Cases.{ran, raise, answers, starts, marks, startsNone, pendingBit, sameList, same, higherPriorityStarts, lowerNumberStarts, atLevelThree, spuriousThen, equalPriorityWaits, nextPriorityNests, levelNotCleared, disabledEdge, disabledEdgeKept, forcedNine, forcedIsFast, allLevels, eightAtMost, noneToClose, clearOfNoneRead, clearOfOneRefused, cic, secondWordThere, thirdWordAbsent, channelOneNotTwo, starred, holds}
 
 pub cases-hold : holds starred ≡ true

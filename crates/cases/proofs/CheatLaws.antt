@@ -25,7 +25,7 @@ use Rattle.cic_record.specs.Sound as Cic
 use Rattle.cic_record.specs.Start.{fresh, configured, start as cicStart}
 use Rattle.cic_layout.specs.Map.{singleAt, registerAt, accessOf}
 use Rattle.cic_registers.specs.Registers as Registers
-use Rattle.cic.specs.Model.{readAs, writeAs, stepAs}
+use Rattle.cic_steps.specs.Model.{readAs, writeAs, stepAs}
 use Rattle.cases.specs.Cheats.{Model, Keeps, NoCheat, aicModel, coreModel, cicModel}
 
 -- what a read of the register at o answers

@@ -10,7 +10,7 @@ use Rattle.aic.specs.Model as Aic
 use Rattle.coreinterrupt.specs.declared.Core.{Core}
 use Rattle.coreinterrupt.specs.Model as CoreInterrupt
 use Rattle.cic_record.specs.declared.Cic.{Cic}
-use Rattle.cic.specs.Model as Cic
+use Rattle.cic_steps.specs.Model as Cic
 
 -- what a step answers, whatever the controller
 pub record Outcome (R : Type 0) : Type 0 where

@@ -14,7 +14,7 @@ use Rattle.cic_layout.proofs.AccessLaws.{there-if}
 use Rattle.cic_layout.proofs.Promises as layout
 use Rattle.cic_registers.specs.Registers.{unless, valueRefusal}
 use Rattle.cic_registers.proofs.WrittenLaws.{refused-from, taken-if, value-six}
-use Rattle.cic.specs.Model.{refusalAt}
+use Rattle.cic_steps.specs.Model.{refusalAt}
 use Rattle.cic.specs.Tables.{ThereIf, MapTable, LimitAt, BytesAt, Limits}
 
 -- ---- what each register allows

@@ -30,7 +30,7 @@ use Rattle.cic_layout.proofs.AccessLaws.{is-there}
 use Rattle.cic_layout.proofs.Promises as layout
 use Rattle.cic_registers.specs.Registers.{valueOf}
 use Rattle.cic_registers.proofs.MapRegisterLaws.{read-bytes}
-use Rattle.cic.specs.Model.{read}
+use Rattle.cic_steps.specs.Model.{read}
 use Rattle.cic.specs.Tables.{Shows, BitsOf, BytesOf, Reads}
 use Rattle.cic.proofs.StepLaws.{read-done}
 

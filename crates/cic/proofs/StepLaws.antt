@@ -1,21 +1,16 @@
--- Refused or carried out: what a step answers by its number, and lines past the last one.
+-- What a step answers by its number, and what one that is carried out does.
 use mathlib.Core.Path.{_≡_, refl, sym, ap, subst, _∙_}
-use mathlib.Core.Bool.{Bool, true, not, _&&_}
+use mathlib.Core.Bool.{true}
 use Prim.Native.Nat.{ℕ, _%_, _<_, _≤_}
 use native.Mathlib.Decide.{ℕ-discrete}
-use native.Mathlib.Omega.{arith}
 use borrow.Author.Tests.{eq-eqb, ne-eqb}
 use lib.Dec.{eqb}
-use lib.ListN.{length}
-use Rattle.words.specs.Array.{bitAt, withBitAt}
-use Rattle.words.proofs.ArrayLaws.{withBitAt-past}
-use Rattle.words.proofs.ChoiceLaws.{pick-true, pick-false, pick-cases}
+use Rattle.words.proofs.ChoiceLaws.{pick-true, pick-false}
 use Rattle.steps.specs.Refusals.{carriedOut}
 use Rattle.steps.specs.Tables.{Readable, Writable}
 use Rattle.steps.proofs.Promises as checks
 use Rattle.cic_record.specs.declared.Answer.{Answer}
 use Rattle.cic_record.specs.declared.Cic.{Cic}
-use Rattle.cic_record.specs.declared.System.{System}
 use Rattle.cic_record.specs.Kinds.{system}
 use Rattle.cic_record.specs.Record.{refused, answered}
 use Rattle.cic_record.specs.Sound.{sound}
@@ -23,17 +18,10 @@ use Rattle.cic_layout.specs.declared.Register.{Register}
 use Rattle.cic_layout.specs.Map.{registerAt, accessOf, access}
 use Rattle.cic_registers.specs.Registers.{valueOf, valueRefusal, writtenTo}
 use Rattle.cic_registers.proofs.WrittenLaws.{value-number}
-use Rattle.cic.specs.Model.{unlessRefused, refusalAt, readAs, writeAs, lineAs, moved, read, write, line}
+use Rattle.cic_steps.specs.Model.{unlessRefused, refusalAt, readAs, writeAs, lineAs, moved, read, write, line}
+use Rattle.cic_steps.proofs.StepLaws.{refused-by, carried-by}
 
 -- ---- by the number
-
--- the code's number n is the definition's number m, and not 0
-pub refused-by : (c : Cic) {n m : ℕ} (a : Answer) → n ≡ m → (n ≡ carriedOut → ⊥) → refused c n ≡ unlessRefused c m a
-refused-by c {n} {m} a e z = ap (refused c) e ∙ pick-false a (ne-eqb m carriedOut (λ f. z (e ∙ f)))
-
--- it is 0
-pub carried-by : (c : Cic) {n m : ℕ} {b a : Answer} → n ≡ m → n ≡ carriedOut → b ≡ a → b ≡ unlessRefused c m a
-carried-by c {n} {m} e z f = f ∙ pick-true (refused c m) (eq-eqb m carriedOut (sym e ∙ z))
 
 -- the number that is answered, where a step that is carried out answers 0
 pub its-number : (c : Cic) (n : ℕ) (a : Answer) → a .refusal ≡ carriedOut → unlessRefused c n a .refusal ≡ n
@@ -72,13 +60,3 @@ write-done c o v ok four at writable takes =
 pub line-done : (c : Cic) (s l : ℕ) → sound c ≡ true → s < c .systems → l ≤ 1 → line c s l ≡ answered (moved c (system s) (eqb l 1)) 0
 unfolding lineAs
 line-done c s l ok there low = sym (carried-by c refl (checks.kept .lines (sound c) (c .systems) s l .none .1 (ok, (there, low))) refl)
-
--- ---- lines
-
--- there is no line past the last
-pub moved-past : (c : Cic) (s : System) (high : Bool) → length (c .lines) ≡ 32 → length (c .status) ≡ 32 → 1024 ≤ s .0 → moved c s high ≡ c
-unfolding moved
-moved-past c s high l m p =
-    let ls : withBitAt (c .lines) (s .0) high ≡ c .lines = withBitAt-past (c .lines) (s .0) high (omega arith) in
-    let st : withBitAt (c .status) (s .0) true ≡ c .status = withBitAt-past (c .status) (s .0) true (omega arith) in
-    pick-cases (λ (d : Cic). d ≡ c) (high && not (bitAt (c .lines) (s .0))) (λ _. rw (ls, st)) (λ _. rw ls)

@@ -32,7 +32,7 @@ use Rattle.cic_layout.proofs.Promises as layout
 use Rattle.cic_registers.specs.Registers.{unless, valueRefusal, writtenTo}
 use Rattle.cic_registers.proofs.MapRegisterLaws.{put-bytes}
 use Rattle.cic_registers.proofs.WrittenLaws.{taken-if}
-use Rattle.cic.specs.Model.{write}
+use Rattle.cic_steps.specs.Model.{write}
 use Rattle.cic.specs.Tables.{Sets, Maps, Writes}
 use Rattle.cic.proofs.StepLaws.{write-done}
 

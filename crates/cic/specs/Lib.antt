@@ -1,4 +1,3 @@
--- The CIC's steps, and what is promised of them.
-pub mod Model
+-- What is promised of the CIC's steps.
 pub mod Promises
 pub mod Tables

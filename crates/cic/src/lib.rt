@@ -1,18 +1,19 @@
-// The KeyStone CIC without prioritisation: start, reads, writes, lines, steps and outputs (01, CIC; 001).
+// The KeyStone CIC without prioritisation, by value: start, reads, writes, lines, steps and outputs (01, CIC; 001). Steps take the record apart and
+// are carried out on its parts (cic_parts).
 ghost use mathlib.Core.Path.{_≡_};
 ghost use mathlib.Core.Bool.{true};
-ghost use Rattle.words.specs.Array.{bitAt};
-ghost use Rattle.cic_record.specs.Kinds.{system};
+ghost use Rattle.cic_record.specs.Parts.{sizeOf, cicOf, answerOf};
 ghost use Rattle.cic_record.specs.Sound.{within, sound};
 ghost use Rattle.cic_record.specs.Start.{start};
 ghost use Rattle.cic_hosts.specs.Hosts.{asserted, outputs};
-ghost use Rattle.cic.specs.Model.{readAs, writeAs, moved, lineAs, stepAs, read, write, line, step};
+ghost use Rattle.cic_steps.specs.Model.{readAs, writeAs, lineAs, stepAs, read, write, line, step};
 use cic_record::Answer;
 use cic_record::Begun;
 use cic_record::Cic;
 use cic_record::Host;
+use cic_record::Reply;
 use cic_record::Signals;
-use cic_record::System;
+use cic_record::Size;
 use steps::Step;
 
 // Whether the nth configuration number, in the order systems, channels, hosts, revision, may be `value`. The first is number 0.
@@ -33,28 +34,40 @@ pub fn start(systems: u32, channels: u32, hosts: u32, revision: u32) -> Begun
 pub fn read(c: Cic, offset: u32) -> Answer
     ensures { λ r. ⌜ r ≡ read c offset ⌝ }
 {
-    read_as(cic_record::is_sound(c), c, offset)
+    if cic_record::is_sound(c) {
+        return read_parts(c, offset);
+    }
+    cic_record::refusal_of(c, steps::UNSOUND)
 }
 
 // A write of the register at an offset.
 pub fn write(c: Cic, offset: u32, value: u32) -> Answer
     ensures { λ r. ⌜ r ≡ write c offset value ⌝ }
 {
-    write_as(cic_record::is_sound(c), c, offset, value)
+    if cic_record::is_sound(c) {
+        return write_parts(c, offset, value);
+    }
+    cic_record::refusal_of(c, steps::UNSOUND)
 }
 
 // A line is put to a level.
 pub fn line(c: Cic, number: u32, level: u32) -> Answer
     ensures { λ r. ⌜ r ≡ line c number level ⌝ }
 {
-    line_as(cic_record::is_sound(c), c, number, level)
+    if cic_record::is_sound(c) {
+        return line_parts(c, number, level);
+    }
+    cic_record::refusal_of(c, steps::UNSOUND)
 }
 
 // Any step.
 pub fn step(c: Cic, s: Step) -> Answer
     ensures { λ r. ⌜ r ≡ step c s ⌝ }
 {
-    step_as(cic_record::is_sound(c), c, s)
+    if cic_record::is_sound(c) {
+        return step_parts(c, s);
+    }
+    cic_record::refusal_of(c, steps::UNSOUND)
 }
 
 // A step of a record that is known to be sound, as after a start and after every step: it is not looked at again.
@@ -62,7 +75,7 @@ pub fn step_sound(c: Cic, s: Step) -> Answer
     requires { ⌜ sound c ≡ true ⌝ }
     ensures { λ r. ⌜ r ≡ step c s ⌝ }
 {
-    step_as(true, c, s)
+    step_parts(c, s)
 }
 
 // How many hosts are asserted and the lowest of them, or refusal 12 where the record is not sound.
@@ -87,83 +100,125 @@ pub fn asserted(c: Cic, h: Host) -> bool
     cic_hosts::asserted(c, h)
 }
 
-// A read of a record that is sound or not, as `ok` says.
-fn read_as(ok: bool, c: Cic, offset: u32) -> Answer
-    ensures { λ r. ⌜ r ≡ readAs ok c offset ⌝ }
+// The configured numbers of a record.
+pub fn size_of(c: Cic) -> Size
+    ensures { λ r. ⌜ r ≡ sizeOf c ⌝ }
 {
-    let r = cic_layout::register_at(offset);
-    let n = steps::read_refusal(ok, offset, cic_layout::access_of(c, r));
-    if n != steps::CARRIED_OUT {
-        return cic_record::refusal_of(c, n);
+    Size {
+        systems: c.systems,
+        channels: c.channels,
+        hosts: c.hosts,
+        revision: c.revision,
     }
-    cic_record::answer_of(c, cic_registers::value_of(c, r))
 }
 
-// A write to such a record.
-fn write_as(ok: bool, c: Cic, offset: u32, value: u32) -> Answer
-    ensures { λ r. ⌜ r ≡ writeAs ok c offset value ⌝ }
+// A read on the parts of a sound record.
+fn read_parts(c: Cic, offset: u32) -> Answer
+    ensures { λ r. ⌜ r ≡ readAs true c offset ⌝ }
 {
-    let r = cic_layout::register_at(offset);
-    let n = steps::write_refusal(
-        ok,
+    let z = size_of(c);
+    let r = cic_parts::read(
+        z,
+        c.global,
+        &c.status,
+        &c.enable,
+        &c.channel,
+        &c.host,
+        &c.allow,
         offset,
-        cic_layout::access_of(c, r),
-        cic_registers::value_refusal(c, r, value),
     );
-    if n != steps::CARRIED_OUT {
-        return cic_record::refusal_of(c, n);
-    }
-    cic_record::answer_of(cic_registers::written_to(c, r, value), 0)
+    answer_with(r, c)
 }
 
-// Whether the line of a system interrupt is high.
-fn is_high(c: Cic, s: System) -> bool
-    ensures { λ r. ⌜ r ≡ bitAt (c .lines) (s .0) ⌝ }
+// The record that is put together from its parts.
+pub fn together(
+    z: Size,
+    global: u32,
+    lines: [u32; 32],
+    status: [u32; 32],
+    enable: [u32; 32],
+    channel: [u8; 1024],
+    host: [u8; 256],
+    allow: [u32; 8],
+) -> Cic
+    ensures { λ r. ⌜ r ≡ cicOf z global lines status enable channel host allow ⌝ }
 {
-    let k = (s.0 / 32) as u32;
-    let w = cic_words::word_at(&c.lines, k);
-    words::has(w, (s.0 % 32) as u32)
-}
-
-// The line of a system interrupt is put high or low. Only a rise sets the status.
-fn move_line(c: Cic, s: System, high: bool) -> Cic
-    ensures { λ r. ⌜ r ≡ moved c s high ⌝ }
-{
-    if high & !is_high(c, s) {
-        return cic_words::put_line(cic_words::mark_status(c, s, true), s, high);
+    Cic {
+        systems: z.systems,
+        channels: z.channels,
+        hosts: z.hosts,
+        revision: z.revision,
+        global: global,
+        lines: lines,
+        status: status,
+        enable: enable,
+        channel: channel,
+        host: host,
+        allow: allow,
     }
-    cic_words::put_line(c, s, high)
 }
 
-// The same by the line's number; past the last system interrupt there is no line.
-fn move_number(c: Cic, number: u32, high: bool) -> Cic
-    ensures { λ r. ⌜ r ≡ moved c (system number) high ⌝ }
+// The answer of a step on parts.
+fn answer_with(r: Reply, c: Cic) -> Answer
+    ensures { λ a. ⌜ a ≡ answerOf r c ⌝ }
 {
-    if 1024 <= number {
-        return c;
+    Answer {
+        refusal: r.refusal,
+        value: r.value,
+        cic: c,
     }
-    move_line(c, System(number as u16), high)
 }
 
-// A line step of such a record.
-fn line_as(ok: bool, c: Cic, number: u32, level: u32) -> Answer
-    ensures { λ r. ⌜ r ≡ lineAs ok c number level ⌝ }
+// A write on the parts of a sound record.
+fn write_parts(c: Cic, offset: u32, value: u32) -> Answer
+    ensures { λ r. ⌜ r ≡ writeAs true c offset value ⌝ }
 {
-    let inputs = c.systems;
-    let n = steps::line_refusal(ok, inputs, number, level);
-    if n != steps::CARRIED_OUT {
-        return cic_record::refusal_of(c, n);
-    }
-    cic_record::answer_of(move_number(c, number, level == 1), 0)
+    let z = size_of(c);
+    let mut global = c.global;
+    let mut status = c.status;
+    let mut enable = c.enable;
+    let mut channel = c.channel;
+    let mut host = c.host;
+    let mut allow = c.allow;
+    let r = cic_parts::write(
+        z,
+        &mut global,
+        &mut status,
+        &mut enable,
+        &mut channel,
+        &mut host,
+        &mut allow,
+        offset,
+        value,
+    );
+    let lines = c.lines;
+    answer_with(
+        r,
+        together(z, global, lines, status, enable, channel, host, allow),
+    )
 }
 
-// Any step of such a record.
-fn step_as(ok: bool, c: Cic, s: Step) -> Answer
-    ensures { λ r. ⌜ r ≡ stepAs ok c s ⌝ }
+// A line step on the parts of a sound record.
+fn line_parts(c: Cic, number: u32, level: u32) -> Answer
+    ensures { λ r. ⌜ r ≡ lineAs true c number level ⌝ }
+{
+    let z = size_of(c);
+    let mut lines = c.lines;
+    let mut status = c.status;
+    let r = cic_parts::line(z, &mut lines, &mut status, number, level);
+    let mut d = c;
+    d.lines = lines;
+    d.status = status;
+    answer_with(r, d)
+}
+
+// Any step on the parts of a sound record.
+fn step_parts(c: Cic, s: Step) -> Answer
+    ensures { λ r. ⌜ r ≡ stepAs true c s ⌝ }
 {
     match s {
-        Step::Read(offset) => read_as(ok, c, offset),
-        Step::Write(offset, value) => write_as(ok, c, offset, value),
-        Step::Line(number, level) => line_as(ok, c, number, level),
+        Step::Read(offset) => read_parts(c, offset),
+        Step::Write(offset, value) => write_parts(c, offset, value),
+        Step::Line(number, level) => line_parts(c, number, level),
     }
 }

@@ -23,7 +23,7 @@ fn wide(b: u8) -> u16
 }
 
 // The channel of a system interrupt in a lent channel map: the scan copies no record.
-fn channel_in(channel: &[u8; 1024], s: System) -> Channel
+pub fn channel_in(channel: &[u8; 1024], s: System) -> Channel
     requires { ⌜ s .0 < 1024 ⌝ }
     ensures { λ r. ⌜ (r ≡ channelIn (now (channel .entry)) s) × (r .0 < 256) ⌝ }
 {
@@ -32,7 +32,7 @@ fn channel_in(channel: &[u8; 1024], s: System) -> Channel
 }
 
 // The host interrupt that a channel is mapped to in a lent host map.
-fn host_in(host: &[u8; 256], k: Channel) -> Host
+pub fn host_in(host: &[u8; 256], k: Channel) -> Host
     requires { ⌜ k .0 < 256 ⌝ }
     ensures { λ r. ⌜ (r ≡ hostIn (now (host .entry)) k) × (r .0 < 256) ⌝ }
 {
@@ -98,7 +98,7 @@ fn raised_hosts(c: Cic) -> [u32; 8]
 }
 
 // The bits that two arrays of words share.
-fn shared(a: [u32; 8], b: [u32; 8]) -> [u32; 8]
+pub fn shared(a: [u32; 8], b: [u32; 8]) -> [u32; 8]
     ensures { λ r. ⌜ ((h : ℕ) → h < 256 → bitAt r h ≡ (bitAt a h && bitAt b h)) ⌝ }
 {
     let mut out = [0u32; 8];
@@ -124,7 +124,7 @@ fn asserted_hosts(c: Cic) -> [u32; 8]
 }
 
 // How many bits are set.
-fn count_of(ws: [u32; 8]) -> u32
+pub fn count_of(ws: [u32; 8]) -> u32
     ensures { λ r. ⌜ r ≡ countBelow 256 (bitAt ws) ⌝ }
 {
     let mut sum: u32 = 0;
@@ -137,7 +137,7 @@ fn count_of(ws: [u32; 8]) -> u32
 }
 
 // The lowest bit that is set, 256 where none is.
-fn lowest_of(ws: [u32; 8]) -> u32
+pub fn lowest_of(ws: [u32; 8]) -> u32
     ensures { λ r. ⌜ r ≡ lowestBelow 256 (bitAt ws) ⌝ }
 {
     let mut k: u32 = 0;

@@ -1,8 +1,6 @@
-// The CIC's register map: which register stands at an offset, and what it may be used for (001, table 2-1; 01, CIC, registers).
+// The CIC's register map: which register stands at an offset (001, table 2-1). What it may be used for is defined beside it.
 ghost use mathlib.Core.Path.{_≡_};
-ghost use Rattle.cic_layout.specs.Map.{singleAt, registerAt, ifAny, accessOf};
-use cic_record::Cic;
-use steps::Access;
+ghost use Rattle.cic_layout.specs.Map.{singleAt, registerAt};
 
 // The registers of 001, table 2-1, in its order; a register of a group with its number in the group.
 pub enum Register {
@@ -73,38 +71,4 @@ pub fn register_at(offset: u32) -> Register
         return Register::HostEnable((offset - 0x1500) / 4);
     }
     Register::Nothing
-}
-
-// A register whose first bit or byte is that of thing `first` exists if that is one of n things.
-fn if_any(first: u64, n: u32) -> Access
-    ensures { λ r. ⌜ r ≡ ifAny first n ⌝ }
-{
-    if first < (n as u64) {
-        return Access::ReadWrite;
-    }
-    Access::NoRegister
-}
-
-// What a register may be used for.
-pub fn access_of(c: Cic, r: Register) -> Access
-    ensures { λ a. ⌜ a ≡ accessOf c r ⌝ }
-{
-    match r {
-        Register::Nothing => Access::NoRegister,
-        Register::Revision => Access::ReadOnly,
-        Register::GlobalEnable => Access::ReadWrite,
-        Register::StatusIndexSet => Access::WriteOnly,
-        Register::StatusIndexClear => Access::WriteOnly,
-        Register::EnableIndexSet => Access::WriteOnly,
-        Register::EnableIndexClear => Access::WriteOnly,
-        Register::HostIndexSet => Access::WriteOnly,
-        Register::HostIndexClear => Access::WriteOnly,
-        Register::RawSet(k) => if_any(32 * (k as u64), c.systems),
-        Register::EnabledClear(k) => if_any(32 * (k as u64), c.systems),
-        Register::EnableSet(k) => if_any(32 * (k as u64), c.systems),
-        Register::EnableClear(k) => if_any(32 * (k as u64), c.systems),
-        Register::ChannelMap(k) => if_any(4 * (k as u64), c.systems),
-        Register::HostMap(k) => if_any(4 * (k as u64), c.channels),
-        Register::HostEnable(k) => if_any(32 * (k as u64), c.hosts),
-    }
 }

@@ -1,14 +1,13 @@
-// Map registers: what they read, which values they take, and the record after they are written (01, CIC, registers).
+// Map registers, in maps that the caller lends: what they read, which values they take, and the map after they are written (01, CIC, registers).
 ghost use mathlib.Core.Path.{_≡_};
 ghost use Prim.Native.Nat.{_+_, _*_, _<_};
-ghost use lib.ListN.{set};
+ghost use lib.ListN.{set, length};
 ghost use Rattle.words.specs.Array.{byteOf};
 ghost use Rattle.cic_record.specs.Kinds.{channelNumber, hostNumber};
-ghost use Rattle.cic_record.specs.Record.{withChannel, withHost};
 ghost use Rattle.cic_maps.specs.Maps.{byteRead, mapRead, byteTaken, mapTaken, bytePut, mapPut};
 use cic_record::Channel;
-use cic_record::Cic;
 use cic_record::Host;
+use cic_record::Size;
 use cic_record::System;
 
 // Byte j of a word, the lowest being byte 0.
@@ -28,33 +27,35 @@ fn number_at(k: u32, j: u32) -> u64
 }
 
 // The channel that byte j of register k reads, 0 where the byte is spare.
-fn channel_read(c: Cic, k: u32, j: u32) -> Channel
+fn channel_read(z: Size, channel: &[u8], k: u32, j: u32) -> Channel
     requires { ⌜ j < 4 ⌝ }
-    ensures { λ r. ⌜ (r ≡ channelNumber (byteRead (c .systems) (c .channel) k j)) × (r .0 < 256) ⌝ }
+    requires { ⌜ length (now channel) ≡ 1024 ⌝ }
+    ensures { λ r. ⌜ (r ≡ channelNumber (byteRead (z .systems) (now (channel .entry)) k j)) × (r .0 < 256) ⌝ }
 {
     let at = number_at(k, j);
     if 1024 <= at {
         return Channel(0);
     }
     let s = System(at as u16);
-    if cic_record::is_system(c, s) {
-        return cic_record::channel_of(c, s);
+    if cic_record::is_system(z, s) {
+        return cic_record::channel_of(channel, s);
     }
     Channel(0)
 }
 
 // The host interrupt that byte j of register k reads, 0 where the byte is spare.
-fn host_read(c: Cic, k: u32, j: u32) -> Host
+fn host_read(z: Size, host: &[u8], k: u32, j: u32) -> Host
     requires { ⌜ j < 4 ⌝ }
-    ensures { λ r. ⌜ (r ≡ hostNumber (byteRead (c .channels) (c .host) k j)) × (r .0 < 256) ⌝ }
+    requires { ⌜ length (now host) ≡ 256 ⌝ }
+    ensures { λ r. ⌜ (r ≡ hostNumber (byteRead (z .channels) (now (host .entry)) k j)) × (r .0 < 256) ⌝ }
 {
     let at = number_at(k, j);
     if 256 <= at {
         return Host(0);
     }
     let from = Channel(at as u16);
-    if cic_record::is_channel(c, from) {
-        return cic_record::host_of(c, from);
+    if cic_record::is_channel(z, from) {
+        return cic_record::host_of(host, from);
     }
     Host(0)
 }
@@ -84,135 +85,131 @@ fn host_word(p: Host, q: Host, r: Host, s: Host) -> u32
 }
 
 // Register k of the channel map as it is read: the channels of four system interrupts.
-pub fn read_channels(c: Cic, k: u32) -> u32
-    ensures { λ r. ⌜ r ≡ mapRead (c .systems) (c .channel) k ⌝ }
+pub fn read_channels(z: Size, channel: &[u8; 1024], k: u32) -> u32
+    ensures { λ r. ⌜ r ≡ mapRead (z .systems) (now (channel .entry)) k ⌝ }
 {
-    let p = channel_read(c, k, 0);
-    let q = channel_read(c, k, 1);
-    let r = channel_read(c, k, 2);
-    let s = channel_read(c, k, 3);
+    let p = channel_read(z, channel, k, 0);
+    let q = channel_read(z, channel, k, 1);
+    let r = channel_read(z, channel, k, 2);
+    let s = channel_read(z, channel, k, 3);
     channel_word(p, q, r, s)
 }
 
 // Register k of the host map as it is read: the host interrupts of four channels.
-pub fn read_hosts(c: Cic, k: u32) -> u32
-    ensures { λ r. ⌜ r ≡ mapRead (c .channels) (c .host) k ⌝ }
+pub fn read_hosts(z: Size, host: &[u8; 256], k: u32) -> u32
+    ensures { λ r. ⌜ r ≡ mapRead (z .channels) (now (host .entry)) k ⌝ }
 {
-    let p = host_read(c, k, 0);
-    let q = host_read(c, k, 1);
-    let r = host_read(c, k, 2);
-    let s = host_read(c, k, 3);
+    let p = host_read(z, host, k, 0);
+    let q = host_read(z, host, k, 1);
+    let r = host_read(z, host, k, 2);
+    let s = host_read(z, host, k, 3);
     host_word(p, q, r, s)
 }
 
 // Whether byte j of v may stand in register k of the channel map: a spare byte is not checked.
-fn channel_taken(c: Cic, k: u32, v: u32, j: u32) -> bool
+fn channel_taken(z: Size, k: u32, v: u32, j: u32) -> bool
     requires { ⌜ j < 4 ⌝ }
-    ensures { λ r. ⌜ r ≡ byteTaken (c .systems) (c .channels) k v j ⌝ }
+    ensures { λ r. ⌜ r ≡ byteTaken (z .systems) (z .channels) k v j ⌝ }
 {
-    let n = c.systems as u64;
+    let n = z.systems as u64;
     let to = Channel(byte_of(v, j) as u16);
-    (n <= number_at(k, j)) | cic_record::is_channel(c, to)
+    (n <= number_at(k, j)) | cic_record::is_channel(z, to)
 }
 
 // The same of the host map.
-fn host_taken(c: Cic, k: u32, v: u32, j: u32) -> bool
+fn host_taken(z: Size, k: u32, v: u32, j: u32) -> bool
     requires { ⌜ j < 4 ⌝ }
-    ensures { λ r. ⌜ r ≡ byteTaken (c .channels) (c .hosts) k v j ⌝ }
+    ensures { λ r. ⌜ r ≡ byteTaken (z .channels) (z .hosts) k v j ⌝ }
 {
-    let n = c.channels as u64;
+    let n = z.channels as u64;
     let to = Host(byte_of(v, j) as u16);
-    (n <= number_at(k, j)) | cic_record::is_host(c, to)
+    (n <= number_at(k, j)) | cic_record::is_host(z, to)
 }
 
 // Whether each byte of v may stand in register k of the channel map.
-pub fn channels_taken(c: Cic, k: u32, v: u32) -> bool
-    ensures { λ r. ⌜ r ≡ mapTaken (c .systems) (c .channels) k v ⌝ }
+pub fn channels_taken(z: Size, k: u32, v: u32) -> bool
+    ensures { λ r. ⌜ r ≡ mapTaken (z .systems) (z .channels) k v ⌝ }
 {
-    ((channel_taken(c, k, v, 0) & channel_taken(c, k, v, 1)) & channel_taken(c, k, v, 2))
-        & channel_taken(c, k, v, 3)
+    ((channel_taken(z, k, v, 0) & channel_taken(z, k, v, 1)) & channel_taken(z, k, v, 2))
+        & channel_taken(z, k, v, 3)
 }
 
 // Whether each byte of v may stand in register k of the host map.
-pub fn hosts_taken(c: Cic, k: u32, v: u32) -> bool
-    ensures { λ r. ⌜ r ≡ mapTaken (c .channels) (c .hosts) k v ⌝ }
+pub fn hosts_taken(z: Size, k: u32, v: u32) -> bool
+    ensures { λ r. ⌜ r ≡ mapTaken (z .channels) (z .hosts) k v ⌝ }
 {
-    ((host_taken(c, k, v, 0) & host_taken(c, k, v, 1)) & host_taken(c, k, v, 2))
-        & host_taken(c, k, v, 3)
+    ((host_taken(z, k, v, 0) & host_taken(z, k, v, 1)) & host_taken(z, k, v, 2))
+        & host_taken(z, k, v, 3)
 }
 
 // A system interrupt is given its channel.
-fn put_channel(c: Cic, s: System, to: Channel) -> Cic
-    requires { ⌜ s .0 < 1024 ⌝ }
+fn put_channel(channel: &mut [u8], s: System, to: Channel)
+    requires { ⌜ s .0 < length (now channel) ⌝ }
     requires { ⌜ to .0 < 256 ⌝ }
-    ensures { λ r. ⌜ r ≡ withChannel c (set (c .channel) (s .0) (to .0)) ⌝ }
+    ensures { λ _. ⌜ now (channel .exit) ≡ set (now (channel .entry)) (s .0) (to .0) ⌝ }
 {
     let at = s.0 as usize;
-    let mut d = c;
-    d.channel[at] = to.0 as u8;
-    d
+    channel[at] = to.0 as u8;
 }
 
 // A channel is mapped to a host interrupt.
-fn put_host(c: Cic, k: Channel, to: Host) -> Cic
-    requires { ⌜ k .0 < 256 ⌝ }
+fn put_host(host: &mut [u8], k: Channel, to: Host)
+    requires { ⌜ k .0 < length (now host) ⌝ }
     requires { ⌜ to .0 < 256 ⌝ }
-    ensures { λ r. ⌜ r ≡ withHost c (set (c .host) (k .0) (to .0)) ⌝ }
+    ensures { λ _. ⌜ now (host .exit) ≡ set (now (host .entry)) (k .0) (to .0) ⌝ }
 {
     let at = k.0 as usize;
-    let mut d = c;
-    d.host[at] = to.0 as u8;
-    d
+    host[at] = to.0 as u8;
 }
 
 // Byte j of v goes to its system interrupt; a spare one is dropped.
-fn channel_byte(c: Cic, k: u32, v: u32, j: u32) -> Cic
+fn channel_byte(z: Size, channel: &mut [u8], k: u32, v: u32, j: u32)
     requires { ⌜ j < 4 ⌝ }
-    ensures { λ r. ⌜ r ≡ withChannel c (bytePut (c .systems) k v (c .channel) j) ⌝ }
+    requires { ⌜ length (now channel) ≡ 1024 ⌝ }
+    ensures { λ _. ⌜ now (channel .exit) ≡ bytePut (z .systems) k v (now (channel .entry)) j ⌝ }
 {
     let at = number_at(k, j);
     if 1024 <= at {
-        return c;
+        return;
     }
     let s = System(at as u16);
-    if cic_record::is_system(c, s) {
-        return put_channel(c, s, Channel(byte_of(v, j) as u16));
+    if cic_record::is_system(z, s) {
+        put_channel(channel, s, Channel(byte_of(v, j) as u16));
     }
-    c
 }
 
 // Byte j of v goes to its channel; a spare one is dropped.
-fn host_byte(c: Cic, k: u32, v: u32, j: u32) -> Cic
+fn host_byte(z: Size, host: &mut [u8], k: u32, v: u32, j: u32)
     requires { ⌜ j < 4 ⌝ }
-    ensures { λ r. ⌜ r ≡ withHost c (bytePut (c .channels) k v (c .host) j) ⌝ }
+    requires { ⌜ length (now host) ≡ 256 ⌝ }
+    ensures { λ _. ⌜ now (host .exit) ≡ bytePut (z .channels) k v (now (host .entry)) j ⌝ }
 {
     let at = number_at(k, j);
     if 256 <= at {
-        return c;
+        return;
     }
     let from = Channel(at as u16);
-    if cic_record::is_channel(c, from) {
-        return put_host(c, from, Host(byte_of(v, j) as u16));
+    if cic_record::is_channel(z, from) {
+        put_host(host, from, Host(byte_of(v, j) as u16));
     }
-    c
 }
 
 // The channels of four system interrupts.
-pub fn write_channels(c: Cic, k: u32, v: u32) -> Cic
-    ensures { λ r. ⌜ r ≡ withChannel c (mapPut (c .systems) k v (c .channel)) ⌝ }
+pub fn write_channels(z: Size, channel: &mut [u8; 1024], k: u32, v: u32)
+    ensures { λ _. ⌜ now (channel .exit) ≡ mapPut (z .systems) k v (now (channel .entry)) ⌝ }
 {
-    let d = channel_byte(c, k, v, 0);
-    let e = channel_byte(d, k, v, 1);
-    let f = channel_byte(e, k, v, 2);
-    channel_byte(f, k, v, 3)
+    channel_byte(z, channel, k, v, 0);
+    channel_byte(z, channel, k, v, 1);
+    channel_byte(z, channel, k, v, 2);
+    channel_byte(z, channel, k, v, 3);
 }
 
 // The host interrupts of four channels.
-pub fn write_hosts(c: Cic, k: u32, v: u32) -> Cic
-    ensures { λ r. ⌜ r ≡ withHost c (mapPut (c .channels) k v (c .host)) ⌝ }
+pub fn write_hosts(z: Size, host: &mut [u8; 256], k: u32, v: u32)
+    ensures { λ _. ⌜ now (host .exit) ≡ mapPut (z .channels) k v (now (host .entry)) ⌝ }
 {
-    let d = host_byte(c, k, v, 0);
-    let e = host_byte(d, k, v, 1);
-    let f = host_byte(e, k, v, 2);
-    host_byte(f, k, v, 3)
+    host_byte(z, host, k, v, 0);
+    host_byte(z, host, k, v, 1);
+    host_byte(z, host, k, v, 2);
+    host_byte(z, host, k, v, 3);
 }

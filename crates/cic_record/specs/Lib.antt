@@ -1,5 +1,6 @@
 -- The CIC's record: its parts, which records are sound, and the start.
 pub mod Kinds
+pub mod Parts
 pub mod Promises
 pub mod Record
 pub mod Sound

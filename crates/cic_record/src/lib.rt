@@ -6,7 +6,7 @@ ghost use lib.Dec.{eqb, ltb, leb};
 ghost use lib.ListN.{getD, length};
 ghost use Rattle.words.specs.Array.{cleanBelow};
 ghost use Rattle.words.specs.Counting.{allBelow};
-ghost use Rattle.cic_record.specs.Kinds.{channelOf, hostOf};
+ghost use Rattle.cic_record.specs.Kinds.{channelIn, hostIn};
 ghost use Rattle.cic_record.specs.Record.{answered, refused};
 ghost use Rattle.cic_record.specs.Sound.{between, within, wordsSound, entrySound, mapsSound, sound};
 ghost use Rattle.cic_record.specs.Start.{fresh, configured, start};
@@ -34,6 +34,14 @@ pub struct Cic {
     pub allow: [u32; 8],
 }
 
+// The configured numbers, which no step changes: the part of the record that goes by value where the others are lent.
+pub struct Size {
+    pub systems: u32,
+    pub channels: u32,
+    pub hosts: u32,
+    pub revision: u32,
+}
+
 // What a start answers.
 pub struct Begun {
     pub refusal: u32,
@@ -45,6 +53,12 @@ pub struct Answer {
     pub refusal: u32,
     pub value: u32,
     pub cic: Cic,
+}
+
+// What a step on lent parts answers: the record stays with the caller.
+pub struct Reply {
+    pub refusal: u32,
+    pub value: u32,
 }
 
 // How many hosts are asserted, and the lowest of them, 256 where none is.
@@ -77,46 +91,53 @@ pub fn refusal_of(c: Cic, n: u32) -> Answer
 }
 
 // Whether a system interrupt is one of those configured.
-pub fn is_system(c: Cic, s: System) -> bool
-    ensures { λ r. ⌜ r ≡ ltb (s .0) (c .systems) ⌝ }
+pub fn is_system(z: Size, s: System) -> bool
+    ensures { λ r. ⌜ r ≡ ltb (s .0) (z .systems) ⌝ }
 {
-    (s.0 as u32) < c.systems
+    (s.0 as u32) < z.systems
 }
 
 // Whether a channel is one of those configured.
-pub fn is_channel(c: Cic, k: Channel) -> bool
-    ensures { λ r. ⌜ r ≡ ltb (k .0) (c .channels) ⌝ }
+pub fn is_channel(z: Size, k: Channel) -> bool
+    ensures { λ r. ⌜ r ≡ ltb (k .0) (z .channels) ⌝ }
 {
-    (k.0 as u32) < c.channels
+    (k.0 as u32) < z.channels
 }
 
 // Whether a host interrupt is one of those configured.
-pub fn is_host(c: Cic, h: Host) -> bool
-    ensures { λ r. ⌜ r ≡ ltb (h .0) (c .hosts) ⌝ }
+pub fn is_host(z: Size, h: Host) -> bool
+    ensures { λ r. ⌜ r ≡ ltb (h .0) (z .hosts) ⌝ }
 {
-    (h.0 as u32) < c.hosts
+    (h.0 as u32) < z.hosts
 }
 
-// The channel of a system interrupt, 0 past the end of the map.
-pub fn channel_of(c: Cic, s: System) -> Channel
-    ensures { λ r. ⌜ (r ≡ channelOf c s) × (r .0 < 256) ⌝ }
+// A byte of a map as a number.
+fn wide(b: u8) -> u16
+    ensures { λ r. ⌜ (r ≡ b) × (r < 256) ⌝ }
+{
+    b as u16
+}
+
+// The channel of a system interrupt in a lent channel map, 0 past its end.
+pub fn channel_of(channel: &[u8], s: System) -> Channel
+    ensures { λ r. ⌜ (r ≡ channelIn (now (channel .entry)) s) × (r .0 < 256) ⌝ }
 {
     let at = s.0 as usize;
-    if 1024 <= at {
+    if channel.len() <= at {
         return Channel(0);
     }
-    Channel(c.channel[at] as u16)
+    Channel(wide(channel[at]))
 }
 
-// The host interrupt that a channel is mapped to, 0 past the end of the map.
-pub fn host_of(c: Cic, k: Channel) -> Host
-    ensures { λ r. ⌜ (r ≡ hostOf c k) × (r .0 < 256) ⌝ }
+// The host interrupt that a channel is mapped to in a lent host map, 0 past its end.
+pub fn host_of(host: &[u8], k: Channel) -> Host
+    ensures { λ r. ⌜ (r ≡ hostIn (now (host .entry)) k) × (r .0 < 256) ⌝ }
 {
     let at = k.0 as usize;
-    if 256 <= at {
+    if host.len() <= at {
         return Host(0);
     }
-    Host(c.host[at] as u16)
+    Host(wide(host[at]))
 }
 
 // Whether n is one of lowest to highest.

@@ -1,3 +1,4 @@
 -- What the CIC's registers answer, what a write does, and what is promised of them.
+pub mod Access
 pub mod Promises
 pub mod Registers

@@ -145,7 +145,7 @@ fn with_side(c: Core, fast: bool, s: coreinterrupt_side::Side) -> Core
 }
 
 // The number of the register at an offset, within its side.
-fn register(offset: u32) -> u32
+pub fn register(offset: u32) -> u32
     ensures { λ r. ⌜ r ≡ register offset ⌝ }
 {
     if offset < IRQ_BASE {
@@ -178,7 +178,7 @@ fn written(c: Core, offset: u32, value: u32) -> Core
 }
 
 // The number of a line within its side.
-fn input(k: u32) -> u32
+pub fn input(k: u32) -> u32
     ensures { λ r. ⌜ r ≡ input k ⌝ }
 {
     if IRQ_LIMIT <= k {

@@ -2,8 +2,8 @@
 // and an offset are of the width of a pointer. include/wisteria.h declares the functions for C, and says what a caller answers for.
 ghost use mathlib.Core.Path.{_≡_};
 ghost use Rattle.text.specs.Text.{laid};
-ghost use Rattle.player.specs.Play.{playOf};
-ghost use Rattle.listing.specs.Listing.{listingOf};
+ghost use Rattle.reports.specs.Play.{playOf};
+ghost use Rattle.lines.specs.Listing.{listingOf};
 ghost use Rattle.tables.specs.Reading.{answerTo};
 
 // Writes the listing of a trace of at most `limit` steps to the start of the lent buffer. Answers the number of bytes written: what finds no room
@@ -15,12 +15,29 @@ pub extern "C" fn wisteria_list(trace: &[u8], limit: u32, out: &mut [u8]) -> usi
     listing::list(trace, limit, out)
 }
 
+// The same listing by the loop over any machine, whatever the kind: it is there to be timed beside the other.
+#[no_mangle]
+pub extern "C" fn wisteria_list_plain(trace: &[u8], limit: u32, out: &mut [u8]) -> usize
+    ensures { λ r. ⌜ (now (out .exit), r) ≡ laid (now (out .entry)) (listingOf (now (trace .entry)) limit) ⌝ }
+{
+    listing::list_plain(trace, limit, out)
+}
+
 // The number of steps played, refused ones among them: at most `limit`, and 0 where the trace has no accepted configuration.
 #[no_mangle]
 pub extern "C" fn wisteria_steps(trace: &[u8], limit: u32) -> u32
     ensures { λ r. ⌜ r ≡ playOf (now (trace .entry)) limit .steps ⌝ }
 {
     let p = player::play(trace, limit);
+    p.steps
+}
+
+// The same number by the loop over any machine, whatever the kind: it is there to be timed beside the other.
+#[no_mangle]
+pub extern "C" fn wisteria_play_plain(trace: &[u8], limit: u32) -> u32
+    ensures { λ r. ⌜ r ≡ playOf (now (trace .entry)) limit .steps ⌝ }
+{
+    let p = player::play_plain(trace, limit);
     p.steps
 }
 

@@ -1,5 +1,5 @@
 // The kinds of controller: the number and the name of each, the numbers that configure it, and whether its steps tell a privilege. What a kind does is
-// `machine`'s; no other crate tells one kind from another (01, "House trace"; 02, 2/12).
+// `machine`'s; above it only `player` and `listing` tell one kind from another, to choose its loop (01, "House trace"; 02, 2/12).
 ghost use mathlib.Core.Path.{_≡_};
 ghost use Rattle.text.specs.Text.{write};
 ghost use Rattle.kinds.specs.Kinds.{isKind, wanted, within, tellsPrivilege, name};

@@ -13,10 +13,10 @@ use Rattle.machine_record.specs.declared.Machine.{Machine}
 use Rattle.machine_record.specs.Promises.{Ready}
 use Rattle.machine.proofs.Computing.{aic-computes, core-computes, cic-computes, aintc-computes, cicQuick, cicSeen, cic-quick, cic-seen}
 use Rattle.machine.proofs.StepLaws.{step-ready}
-use Rattle.player.specs.Begin.{setupFrom, setupOf, bySetup, beginOf}
-use Rattle.player.specs.Play.{recordsFrom, recordsOf}
-use Rattle.player.proofs.BeginningLaws.{begin-ready}
-use Rattle.listing.specs.Listing.{letter, shownValue, lineOf, stepLine, linesFrom, joined, endLine, endOf, textFrom, nameLine, listingOf}
+use Rattle.beginning.specs.Begin.{setupFrom, setupOf, bySetup, beginOf}
+use Rattle.reports.specs.Play.{recordsFrom, recordsOf}
+use Rattle.beginning.proofs.BeginningLaws.{begin-ready}
+use Rattle.lines.specs.Listing.{letter, shownValue, lineOf, stepLine, linesFrom, joined, endLine, endOf, textFrom, nameLine, listingOf}
 use Rattle.listing.specs.Promises.{aicTrace, aicText, coreTrace, coreText, cicTrace, cicText, aintcTrace, aintcText}
 
 -- what is read of a trace, and how a line is written

@@ -1,6 +1,3 @@
--- The laws of a listing, and the proof of what is promised.
-pub mod EndingLaws
+-- The worked listings, and the proof of what is promised.
 pub mod Examples
-pub mod LineLaws
 pub mod Promises
-pub mod SizeLaws

@@ -27,19 +27,19 @@ use Rattle.kinds.specs.Kinds.{name}
 use Rattle.kinds.specs.Promises.{endings}
 use Rattle.machine_record.specs.Shown.{shown}
 use Rattle.machine.specs.Steps.{step}
-use Rattle.player.specs.declared.Begun.{Begun}
-use Rattle.player.specs.declared.Played.{Played}
-use Rattle.player.specs.Begin.{beginOf}
-use Rattle.player.specs.Play.{recordsOf, runOf, report, playOf}
-use Rattle.player.proofs.PlayLaws.{records-begun}
+use Rattle.beginning.specs.declared.Begun.{Begun}
+use Rattle.reports.specs.declared.Played.{Played}
+use Rattle.beginning.specs.Begin.{beginOf}
+use Rattle.reports.specs.Play.{recordsOf, runOf, report, playOf}
+use Rattle.reports.proofs.PlayLaws.{records-begun}
 use Rattle.player.proofs.Promises.{kept as player}
-use Rattle.player.proofs.BeginningLaws.{begin-ready}
-use Rattle.listing.specs.Listing.{letterOf, letter, shownValue, lineOf, stepLine, linesFrom, joined, endLine, endOf, textFrom, listingOf}
+use Rattle.beginning.proofs.BeginningLaws.{begin-ready}
+use Rattle.lines.specs.Listing.{letterOf, letter, shownValue, lineOf, stepLine, linesFrom, joined, endLine, endOf, textFrom, listingOf}
 use Rattle.listing.specs.Promises.{linesOf, lineBytes, Promises}
 use Rattle.listing.proofs.Examples.{aic-listed, nothing-listed, core-listed, cic-listed, aintc-listed, aintc-alone}
-use Rattle.listing.proofs.EndingLaws.{endings-append, lines-end, end-ends, name-ends}
-use Rattle.listing.proofs.LineLaws.{listing-begun, listing-refused}
-use Rattle.listing.proofs.SizeLaws.{length-listing}
+use Rattle.lines.proofs.EndingLaws.{endings-append, lines-end, end-ends, name-ends}
+use Rattle.lines.proofs.LineLaws.{listing-begun, listing-refused}
+use Rattle.lines.proofs.SizeLaws.{length-listing}
 
 -- how the records end is how the play does
 ending : (s : List ℕ) (limit : ℕ) → endOf (recordsOf s limit .refusal) (recordsOf s limit .offset) ≡ endOf (playOf s limit .refusal) (playOf s limit .offset)
@@ -144,6 +144,7 @@ kept =
       bounded = length-listing;
       fits = λ s l limit h. sym (write-laid l (listingOf s limit)) ∙ text .fits l (listingOf s limit) h;
       partly = λ l bs. refl;
+      anyLoop = λ s l limit r q e f. e ∙ sym f;
       worked = aic-listed;
       nothing = nothing-listed;
       coreListed = core-listed;

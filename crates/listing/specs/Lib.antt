@@ -1,3 +1,2 @@
--- The listing of a trace, and what is promised of it.
-pub mod Listing
+-- What is promised of a listing.
 pub mod Promises

@@ -14,7 +14,7 @@ use Rattle.aic.proofs.Promises.{kept as aic}
 use Rattle.coreinterrupt.specs.Model.{sound as coreSound, step as coreStep}
 use Rattle.coreinterrupt.proofs.Promises.{kept as core}
 use Rattle.cic_record.specs.Sound.{sound as cicSound}
-use Rattle.cic.specs.Model.{step as cicStep, stepAs}
+use Rattle.cic_steps.specs.Model.{step as cicStep, stepAs}
 use Rattle.cic.proofs.Promises.{kept as cic}
 use Rattle.aintc_choice.specs.Settle.{sound as aintcSound}
 use Rattle.aintc.specs.Model.{step as aintcStep}

@@ -5,7 +5,7 @@ use mathlib.Core.Logic.{_↔_, _≢_}
 use Rattle.steps.specs.declared.Recorded.{Recorded}
 use Rattle.aic.specs.Model.{step as aicStep}
 use Rattle.coreinterrupt.specs.Model.{step as coreStep}
-use Rattle.cic.specs.Model.{step as cicStep}
+use Rattle.cic_steps.specs.Model.{step as cicStep}
 use Rattle.aintc.specs.Model.{step as aintcStep}
 use Rattle.kinds.specs.Kinds.{isKind}
 use Rattle.machine_record.specs.declared.Machine.{Machine}

@@ -7,7 +7,7 @@ use Rattle.aic.specs.Model.{step as aicStep}
 use Rattle.coreinterrupt.specs.declared.Answer.{Answer as CoreAnswer}
 use Rattle.coreinterrupt.specs.Model.{step as coreStep}
 use Rattle.cic_record.specs.declared.Answer.{Answer as CicAnswer}
-use Rattle.cic.specs.Model.{step as cicStep}
+use Rattle.cic_steps.specs.Model.{step as cicStep}
 use Rattle.aintc_registers.specs.declared.Answer.{Answer as AintcAnswer}
 use Rattle.aintc.specs.Model.{step as aintcStep}
 use Rattle.kinds.specs.Kinds.{byKind}

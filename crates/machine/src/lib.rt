@@ -1,12 +1,12 @@
 // The steps of one controller of any kind. What a new kind does comes here, its record, start and columns to `machine_record`, its number, name and
-// configuration to `kinds`; the crates above know of no kind (01, "House trace"; 02, 2/12).
+// configuration to `kinds`; of the crates above `player` and `listing` may choose a loop for it, and play it without one (01, "House trace"; 02, 2/12).
 ghost use mathlib.Core.Path.{_≡_};
 ghost use mathlib.Core.Bool.{true};
 ghost use Rattle.aic_record.specs.Sound.{sound as aicSound};
 ghost use Rattle.aic.specs.Model.{step as aicStep};
 ghost use Rattle.coreinterrupt.specs.Model.{sound as coreSound, step as coreStep};
 ghost use Rattle.cic_record.specs.Sound.{sound as cicSound};
-ghost use Rattle.cic.specs.Model.{step as cicStep};
+ghost use Rattle.cic_steps.specs.Model.{step as cicStep};
 ghost use Rattle.aintc_choice.specs.Settle.{sound as aintcSound};
 ghost use Rattle.aintc.specs.Model.{step as aintcStep};
 ghost use Rattle.machine_record.specs.Machine.{sound};

@@ -48,7 +48,7 @@ pub fn empty() -> Machine
     }
 }
 
-fn of_aic(a: Aic) -> Machine
+pub fn of_aic(a: Aic) -> Machine
     ensures { λ r. ⌜ r ≡ ofAic a ⌝ }
 {
     let mut m = empty();
@@ -57,7 +57,7 @@ fn of_aic(a: Aic) -> Machine
     m
 }
 
-fn of_core(c: Core) -> Machine
+pub fn of_core(c: Core) -> Machine
     ensures { λ r. ⌜ r ≡ ofCore c ⌝ }
 {
     let mut m = empty();
@@ -66,7 +66,7 @@ fn of_core(c: Core) -> Machine
     m
 }
 
-fn of_cic(c: Cic) -> Machine
+pub fn of_cic(c: Cic) -> Machine
     ensures { λ r. ⌜ r ≡ ofCic c ⌝ }
 {
     let mut m = empty();
@@ -75,7 +75,7 @@ fn of_cic(c: Cic) -> Machine
     m
 }
 
-fn of_aintc(a: Aintc) -> Machine
+pub fn of_aintc(a: Aintc) -> Machine
     ensures { λ r. ⌜ r ≡ ofAintc a ⌝ }
 {
     let mut m = empty();
@@ -148,7 +148,7 @@ fn one_if(t: bool) -> u32
 }
 
 // IRQ active, FIQ active, entries open.
-fn aic_columns(o: aic::Signals) -> Columns
+pub fn aic_columns(o: aic::Signals) -> Columns
     ensures { λ r. ⌜ r ≡ aicColumns o ⌝ }
 {
     Columns {
@@ -159,7 +159,7 @@ fn aic_columns(o: aic::Signals) -> Columns
 }
 
 // IRQ active, FIQ active, 0.
-fn core_columns(o: coreinterrupt::Signals) -> Columns
+pub fn core_columns(o: coreinterrupt::Signals) -> Columns
     ensures { λ r. ⌜ r ≡ coreColumns o ⌝ }
 {
     Columns {
@@ -170,7 +170,7 @@ fn core_columns(o: coreinterrupt::Signals) -> Columns
 }
 
 // Asserted hosts, the lowest of them, 0.
-fn cic_columns(o: cic_record::Signals) -> Columns
+pub fn cic_columns(o: cic_record::Signals) -> Columns
     ensures { λ r. ⌜ r ≡ cicColumns o ⌝ }
 {
     Columns {
@@ -181,7 +181,7 @@ fn cic_columns(o: cic_record::Signals) -> Columns
 }
 
 // IRQ active, FIQ active, the number of the input that is active for IRQ.
-fn aintc_columns(o: aintc::Signals) -> Columns
+pub fn aintc_columns(o: aintc::Signals) -> Columns
     ensures { λ r. ⌜ r ≡ aintcColumns o ⌝ }
 {
     Columns {

@@ -5,3 +5,4 @@ pub mod GroupLaws
 pub mod NumberLaws
 pub mod Promises
 pub mod ReadLaws
+pub mod ShortLaws

@@ -2,12 +2,19 @@
 ghost use mathlib.Core.Path.{_≡_};
 ghost use Prim.Native.Nat.{_+_, _≤_, _<_};
 ghost use lib.ListN.{length, getD};
+ghost use Rattle.numbers.specs.declared.Number.the-variants.{Value};
 ghost use Rattle.numbers.specs.Number.{sizeAt, worthAt, faulty, numberAt};
 
 // The number at a place: its value with the place after it, or the refusal with the place of its first byte.
 pub enum Number {
     Value(u32, usize),
     Refused(u32, usize),
+}
+
+// A number of one byte or two with the place after it, which is 0 where there is no such number.
+pub struct Short {
+    pub value: u32,
+    pub next: usize,
 }
 
 // The lent trace and a place in it, as one thing.
@@ -37,8 +44,53 @@ pub fn read_number(trace: &[u8], at: usize) -> Number
     next_number(reader_at(trace, at))
 }
 
-// The number at a place. A place past the end is told apart first, so that no sum of a place wraps.
+// A byte as a number.
+pub fn wide(b: u8) -> u32
+    ensures { λ r. ⌜ (r ≡ b) × (r < 256) ⌝ }
+{
+    b as u32
+}
+
+// The number at a place, if it has one byte or two.
+pub fn short_at(trace: &[u8], at: usize) -> Short
+    ensures { λ r. ⌜ ((r .next ≡ 0 → ⊥) → numberAt (now (trace .entry)) at ≡ Value (r .value) (r .next)) ⌝ }
+{
+    if trace.len() <= at {
+        return Short { value: 0, next: 0 };
+    }
+    let a = wide(trace[at]);
+    if a < 128 {
+        return Short {
+            value: a,
+            next: at + 1,
+        };
+    }
+    if trace.len() - at < 2 {
+        return Short { value: 0, next: 0 };
+    }
+    let b = wide(trace[at + 1]);
+    if b < 128 {
+        return Short {
+            value: a - 128 + 128 * b,
+            next: at + 2,
+        };
+    }
+    Short { value: 0, next: 0 }
+}
+
+// The number at a place: nearly all are short.
 fn number_at(trace: &[u8], at: usize) -> Number
+    ensures { λ r. ⌜ r ≡ numberAt (now (trace .entry)) at ⌝ }
+{
+    let s = short_at(trace, at);
+    if s.next == 0 {
+        return any_at(trace, at);
+    }
+    Number::Value(s.value, s.next)
+}
+
+// The number at a place, of any size. A place past the end is told apart first, so that no sum of a place wraps.
+fn any_at(trace: &[u8], at: usize) -> Number
     ensures { λ r. ⌜ r ≡ numberAt (now (trace .entry)) at ⌝ }
 {
     if trace.len() <= at {

@@ -1,6 +1,2 @@
--- The laws of beginnings and of reports.
-pub mod BeginLaws
-pub mod PlayLaws
+-- The proof of what is promised.
 pub mod Promises
-pub mod KnownLaws
-pub mod BeginningLaws

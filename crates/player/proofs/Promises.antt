@@ -23,15 +23,15 @@ use Rattle.kinds.specs.Kinds.{isKind, within}
 use Rattle.machine_record.specs.Machine.{blank, sound}
 use Rattle.machine_record.specs.Promises.{startWith}
 use Rattle.machine.specs.Steps.{step}
-use Rattle.player.specs.declared.Begun.{Begun}
-use Rattle.player.specs.declared.Played.{Played}
-use Rattle.player.specs.Begin.{longest, notBegun, beginOf}
-use Rattle.player.specs.Play.{recordsOf, runOf, report, playOf}
-use Rattle.player.specs.Promises.{Wanting, Configures, Begins, told, Promises}
-use Rattle.player.proofs.BeginLaws.{play-refused}
-use Rattle.player.proofs.PlayLaws.{report-ends, records-begun, records-limited, run-ready}
-use Rattle.player.proofs.KnownLaws.{overlong-so, damaged-so, no-kind-so, beyond-so, configured-so}
-use Rattle.player.proofs.BeginningLaws.{Beginning, overlong, damagedAt, noKind, beyondAt, configured, beginning, begun, begin-ready}
+use Rattle.beginning.specs.declared.Begun.{Begun}
+use Rattle.reports.specs.declared.Played.{Played}
+use Rattle.beginning.specs.Asked.{Wanting, Configures}
+use Rattle.beginning.specs.Begin.{longest, notBegun, beginOf}
+use Rattle.reports.specs.Play.{recordsOf, runOf, report, playOf}
+use Rattle.player.specs.Promises.{Begins, told, Promises}
+use Rattle.reports.proofs.PlayLaws.{report-ends, play-refused, records-begun, records-limited, run-ready}
+use Rattle.beginning.proofs.KnownLaws.{overlong-so, damaged-so, no-kind-so, beyond-so, configured-so}
+use Rattle.beginning.proofs.BeginningLaws.{Beginning, overlong, damagedAt, noKind, beyondAt, configured, beginning, begun, begin-ready}
 
 -- ---- the beginning
 
@@ -256,4 +256,5 @@ kept =
       soundly = soundly;
       ends = ends;
       seven = λ s limit p. (seven-only s limit p, seven-so s limit p);
+      anyLoop = λ s limit r q e f. e ∙ sym f;
     }

@@ -1,4 +1,2 @@
--- Where the steps of a trace begin, what a player reports, and what is promised of both.
-pub mod Begin
-pub mod Play
+-- What is promised of a player.
 pub mod Promises

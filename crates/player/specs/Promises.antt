@@ -9,22 +9,14 @@ use Rattle.steps.specs.declared.Recorded.{Recorded}
 use Rattle.numbers.specs.Promises.{toldAt}
 use Rattle.trace.specs.Promises.{Reads, Along, Ends}
 use Rattle.machine_record.specs.declared.Machine.{Machine}
-use Rattle.kinds.specs.Kinds.{isKind, wanted, within, tellsPrivilege}
+use Rattle.kinds.specs.Kinds.{isKind, within, tellsPrivilege}
 use Rattle.machine_record.specs.Machine.{blank, sound}
 use Rattle.machine.specs.Steps.{step}
-use Rattle.kinds.specs.Promises.{Within}
 use Rattle.machine_record.specs.Promises.{startWith}
-use Rattle.player.specs.Begin.{beginOf}
-use Rattle.player.specs.Play.{recordsOf, runOf, playOf}
-
--- a beginning that has been read as far as these numbers, the kind first, asks for another one
-abbrev pub Wanting : List ℕ → Type 0
-Wanting [] = Unit
-Wanting (kind ∷ ns) = (isKind kind ≡ true) × (Within kind 0 ns × (length ns < wanted kind))
-
--- these numbers configure a controller of a kind
-abbrev pub Configures : ℕ → List ℕ → Type 0
-Configures kind ns = (isKind kind ≡ true) × (Within kind 0 ns × (length ns ≡ wanted kind))
+use Rattle.beginning.specs.Asked.{Wanting, Configures}
+use Rattle.beginning.specs.Begin.{beginOf}
+use Rattle.reports.specs.declared.Played.{Played}
+use Rattle.reports.specs.Play.{recordsOf, runOf, playOf}
 
 -- a trace begins with a refusal, 0 for none, at a place
 abbrev pub Begins : List ℕ → ℕ → ℕ → Type 0
@@ -82,3 +74,5 @@ pub record Promises : Type 0 where
   pub seven : (s : List ℕ) (limit p : ℕ)
       → ((playOf s limit .refusal ≡ 7) × (playOf s limit .offset ≡ p))
       ↔ ((beginOf s .refusal ≡ 0) × Along (told s) s (beginOf s .place) (recordsOf s limit .steps) p × (playOf s limit .steps ≡ limit) × (p < length s))
+  -- whichever loop plays a trace, the report is the same: `play` and `play_plain` have one contract, and it leaves no choice
+  pub anyLoop : (s : List ℕ) (limit : ℕ) (r q : Played) → r ≡ playOf s limit → q ≡ playOf s limit → r ≡ q

@@ -15,20 +15,25 @@ use Rattle.words.specs.Choice.{pick}
 use Rattle.words.specs.Counting.{allBelow}
 use Rattle.words.proofs.CountingLaws.{all-at}
 use Rattle.words.proofs.ChoiceLaws.{pick-true, pick-false, pick-cases}
-use Rattle.text.specs.Text.{hexOf, hexDigit, decimalOf, field}
+use Rattle.text.specs.Text.{hexOf, hexDigit, decimalOf, lastOf, field}
 use Rattle.text.specs.Promises.{worthAfter}
 
 -- ---- one digit at a time, as the code goes
 
-pub hex-none : (k v : ℕ) → k ≡ 0 → [] ≡ hexOf k v
+-- eight digits in a row
+pub hex-row : (v : ℕ)
+    → hexDigit (v / 268435456 % 16) ∷ hexDigit (v / 16777216 % 16) ∷ hexDigit (v / 1048576 % 16) ∷ hexDigit (v / 65536 % 16) ∷ hexDigit (v / 4096 % 16)
+    ∷ hexDigit (v / 256 % 16) ∷ hexDigit (v / 16 % 16) ∷ hexDigit (v % 16) ∷ []
+    ≡ hexOf 8 v
 unfolding hexOf
-hex-none zero v e = refl
-hex-none (suc k) v e = absurd (omega arith)
-
-pub hex-more : (k v : ℕ) {d : ℕ} → (k ≡ 0 → ⊥) → d ≡ hexDigit (v % 16) → hexOf (k - 1) (v / 16) ++ (d ∷ []) ≡ hexOf k v
-unfolding hexOf
-hex-more zero v h e = absurd (h refl)
-hex-more (suc k) v h e = rw (e, sub-one)
+hex-row v =
+    let b : v / 16 / 16 ≡ v / 256 = omega arith in
+    let c : v / 256 / 16 ≡ v / 4096 = omega arith in
+    let d : v / 4096 / 16 ≡ v / 65536 = omega arith in
+    let e : v / 65536 / 16 ≡ v / 1048576 = omega arith in
+    let f : v / 1048576 / 16 ≡ v / 16777216 = omega arith in
+    let g : v / 16777216 / 16 ≡ v / 268435456 = omega arith in
+    rw (b, c, d, e, f, g)
 
 pub decimal-none : (k n : ℕ) → k ≡ 0 → [] ≡ decimalOf k n
 unfolding decimalOf
@@ -44,6 +49,31 @@ pub decimal-more : (k n : ℕ) → (k ≡ 0 → ⊥) → 10 ≤ n → decimalOf 
 unfolding decimalOf
 decimal-more zero n h l = absurd (h refl)
 decimal-more (suc k) n h l = rw sub-one (pick-false ((48 + n % 10) ∷ []) (le-ltb n 10 l))
+
+-- ---- a ladder of decimals
+
+pub last-one : (n : ℕ) → (48 + n % 10) ∷ [] ≡ lastOf 1 n
+unfolding lastOf
+last-one n = refl
+
+-- a digit more
+pub last-more : (k n : ℕ) → lastOf k (n / 10) ++ lastOf 1 n ≡ lastOf (suc k) n
+unfolding lastOf
+last-more k n = refl
+
+-- a number of one digit
+pub last-single : (m n : ℕ) → n < 10 → lastOf 1 n ≡ decimalOf (suc m) n
+unfolding lastOf decimalOf
+last-single m n l = pick-true (decimalOf m (n / 10) ++ ((48 + n % 10) ∷ [])) (lt-ltb n 10 l)
+
+-- a number of k + 1 digits has no others
+pub last-all : (k m n : ℕ) → k ≤ m → 10 ^ k ≤ n → n < 10 ^ (suc k) → lastOf (suc k) n ≡ decimalOf (suc m) n
+unfolding lastOf decimalOf
+last-all zero m n h l u = last-single m n (omega arith)
+last-all (suc k) zero n h l u = absurd (omega arith)
+last-all (suc k) (suc m) n h l u =
+    let r : lastOf (suc k) (n / 10) ≡ decimalOf (suc m) (n / 10) = last-all k m (n / 10) (omega arith) (omega arith) (omega arith) in
+    ap (λ (x : List ℕ). x ++ ((48 + n % 10) ∷ [])) r ∙ pick-false ((48 + n % 10) ∷ []) (le-ltb n 10 (omega arith))
 
 -- ---- how many digits
 

@@ -7,8 +7,9 @@ use native.Mathlib.Numerals.{add-one}
 use native.Mathlib.Omega.{arith}
 use lib.ListN.{length, getD, set, take, drop, length-set, length-append, drop-of-length-le}
 use lib.Seq.{drop-cons, set-out, set-append-seam, append-snoc, take-nil}
+use lib.Dec.{ltb}
 use borrow.Author.Tests.{lt-ltb, le-ltb}
-use Rattle.words.proofs.ChoiceLaws.{pick-true, pick-false}
+use Rattle.words.proofs.ChoiceLaws.{pick-true, pick-false, pick-cases}
 use Rattle.text.specs.Text.{push, write, laid}
 
 -- ---- texts one after the other
@@ -25,6 +26,13 @@ and-then o a b e f = f ∙ ap (λ (x : List ℕ × ℕ). write x b) e ∙ sym (w
 -- what is left to write after a part of it
 pub rest-of : (o p : List ℕ × ℕ) (a b : List ℕ) → p ≡ write o a → write p b ≡ write o (a ++ b)
 rest-of o p a b e = ap (λ (x : List ℕ × ℕ). write x b) e ∙ sym (write-append o a b)
+
+-- eight bytes, one after the other
+pub eight-bytes : (o : List ℕ × ℕ) {p q r s t u v w : List ℕ × ℕ} (a b c d e f g h : ℕ) → p ≡ write o (a ∷ []) → q ≡ write p (b ∷ []) → r ≡ write q (c ∷ [])
+    → s ≡ write r (d ∷ []) → t ≡ write s (e ∷ []) → u ≡ write t (f ∷ []) → v ≡ write u (g ∷ []) → w ≡ write v (h ∷ [])
+    → w ≡ write o (a ∷ b ∷ c ∷ d ∷ e ∷ f ∷ g ∷ h ∷ [])
+unfolding write
+eight-bytes o a b c d e f g h i j k l m n x y = rw (y, x, n, m, l, k, j, i)
 
 pub nothing : (o : List ℕ × ℕ) → o ≡ write o []
 unfolding write
@@ -49,6 +57,17 @@ length-write o (x ∷ a) = length-write (push o x) a ∙ length-set (o .0) (o .1
 
 pub same-length : (o p : List ℕ × ℕ) (a : List ℕ) → p ≡ write o a → length (p .0) ≡ length (o .0)
 same-length o p a e = ap (λ (x : List ℕ × ℕ). length (x .0)) e ∙ length-write o a
+
+-- a text goes no farther than it is long
+pub write-reach : (o : List ℕ × ℕ) (a : List ℕ) → write o a .1 ≤ o .1 + length a
+unfolding write
+write-reach o [] = omega arith
+write-reach o (x ∷ a) =
+    let h : push o x .1 ≤ o .1 + 1 = pick-cases (λ (n : ℕ). n ≤ o .1 + 1) (ltb (o .1) (length (o .0))) (λ e. omega arith) (λ e. omega arith) in
+    omega (arith, write-reach (push o x) a)
+
+pub reach : (o p : List ℕ × ℕ) (a : List ℕ) (k : ℕ) → p ≡ write o a → length a ≤ k → p .1 ≤ o .1 + k
+reach o p a k e h = rw e (omega (arith, write-reach o a))
 
 -- ---- what a text leaves in a buffer
 

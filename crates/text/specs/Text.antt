@@ -31,6 +31,11 @@ unfoldable pub decimalOf : ℕ → ℕ → List ℕ
 decimalOf zero n = []
 decimalOf (suc digits) n = pick (ltb n 10) ((48 + n % 10) ∷ []) (decimalOf digits (n / 10) ++ ((48 + n % 10) ∷ []))
 
+-- the last digits of n to the base 10, so many of them, the highest first, leading 0s among them
+unfoldable pub lastOf : ℕ → ℕ → List ℕ
+lastOf zero n = []
+lastOf (suc digits) n = lastOf digits (n / 10) ++ ((48 + n % 10) ∷ [])
+
 -- a number is written with all its digits: 20 are enough for 64 bits
 abbrev pub decimal : ℕ → List ℕ
 decimal n = decimalOf 20 n

@@ -1,8 +1,8 @@
 // Text into a buffer that the caller lends. What finds no room is dropped, so no function here has to know how long a text is.
 ghost use mathlib.Core.Path.{_≡_};
 ghost use mathlib.Core.List.{[], _∷_};
-ghost use Prim.Native.Nat.{_<_};
-ghost use Rattle.text.specs.Text.{write, decimal, decimalOf, field, hex, hexOf, hexDigit};
+ghost use Prim.Native.Nat.{_<_, _%_};
+ghost use Rattle.text.specs.Text.{write, decimal, decimalOf, lastOf, field, hex, hexDigit};
 
 pub const SPACE: u8 = b' ';
 
@@ -56,13 +56,23 @@ pub fn put_all(out: &mut [u8], at: usize, text: &[u8]) -> usize
 pub fn put_hex(out: &mut [u8], at: usize, v: u32) -> usize
     ensures { λ r. ⌜ (now (out .exit), r) ≡ write (now (out .entry), at) (hex v) ⌝ }
 {
-    put_hex_digits(out, at, v, 8)
+    let a = put_hex_digit(out, at, v / 268435456);
+    let b = put_hex_digit(out, a, v / 16777216);
+    let c = put_hex_digit(out, b, v / 1048576);
+    let d = put_hex_digit(out, c, v / 65536);
+    let e = put_hex_digit(out, d, v / 4096);
+    let f = put_hex_digit(out, e, v / 256);
+    let g = put_hex_digit(out, f, v / 16);
+    put_hex_digit(out, g, v)
 }
 
-// The decimal digits of a number.
+// The decimal digits of a number. Nearly all numbers of a listing have at most five.
 pub fn put_decimal(out: &mut [u8], at: usize, n: u64) -> usize
     ensures { λ r. ⌜ (now (out .exit), r) ≡ write (now (out .entry), at) (decimal n) ⌝ }
 {
+    if n < 100000 {
+        return put_short(out, at, n as u32);
+    }
     put_decimal_digits(out, at, n, 20)
 }
 
@@ -74,15 +84,70 @@ pub fn put_field(out: &mut [u8], at: usize, n: u64) -> usize
     put_decimal(out, next, n)
 }
 
-// The last `digits` hexadecimal digits of v: those before the last one first.
-fn put_hex_digits(out: &mut [u8], at: usize, v: u32, digits: u32) -> usize
-    ensures { λ r. ⌜ (now (out .exit), r) ≡ write (now (out .entry), at) (hexOf digits v) ⌝ }
+// The lowest hexadecimal digit of v.
+fn put_hex_digit(out: &mut [u8], at: usize, v: u32) -> usize
+    ensures { λ r. ⌜ (now (out .exit), r) ≡ write (now (out .entry), at) (hexDigit (v % 16) ∷ []) ⌝ }
 {
-    if digits == 0 {
-        return at;
+    put(out, at, digit((v % 16) as usize))
+}
+
+// The decimal digits of a number of at most five, without a loop.
+fn put_short(out: &mut [u8], at: usize, n: u32) -> usize
+    requires { ⌜ n < 100000 ⌝ }
+    ensures { λ r. ⌜ (now (out .exit), r) ≡ write (now (out .entry), at) (decimal n) ⌝ }
+{
+    if n < 10 {
+        return put_one(out, at, n);
     }
-    let next = put_hex_digits(out, at, v / 16, digits - 1);
-    put(out, next, digit((v % 16) as usize))
+    if n < 100 {
+        return put_two(out, at, n);
+    }
+    if n < 1000 {
+        return put_three(out, at, n);
+    }
+    if n < 10000 {
+        return put_four(out, at, n);
+    }
+    put_five(out, at, n)
+}
+
+// The last decimal digit of n.
+fn put_one(out: &mut [u8], at: usize, n: u32) -> usize
+    ensures { λ r. ⌜ (now (out .exit), r) ≡ write (now (out .entry), at) (lastOf 1 n) ⌝ }
+{
+    put(out, at, 48 + (n % 10) as u8)
+}
+
+// Its last two.
+fn put_two(out: &mut [u8], at: usize, n: u32) -> usize
+    ensures { λ r. ⌜ (now (out .exit), r) ≡ write (now (out .entry), at) (lastOf 2 n) ⌝ }
+{
+    let next = put_one(out, at, n / 10);
+    put_one(out, next, n)
+}
+
+// Its last three.
+fn put_three(out: &mut [u8], at: usize, n: u32) -> usize
+    ensures { λ r. ⌜ (now (out .exit), r) ≡ write (now (out .entry), at) (lastOf 3 n) ⌝ }
+{
+    let next = put_two(out, at, n / 10);
+    put_one(out, next, n)
+}
+
+// Its last four.
+fn put_four(out: &mut [u8], at: usize, n: u32) -> usize
+    ensures { λ r. ⌜ (now (out .exit), r) ≡ write (now (out .entry), at) (lastOf 4 n) ⌝ }
+{
+    let next = put_three(out, at, n / 10);
+    put_one(out, next, n)
+}
+
+// Its last five.
+fn put_five(out: &mut [u8], at: usize, n: u32) -> usize
+    ensures { λ r. ⌜ (now (out .exit), r) ≡ write (now (out .entry), at) (lastOf 5 n) ⌝ }
+{
+    let next = put_four(out, at, n / 10);
+    put_one(out, next, n)
 }
 
 // The decimal digits of n, at most `digits` of them.
@@ -100,7 +165,7 @@ fn put_decimal_digits(out: &mut [u8], at: usize, n: u64, digits: u32) -> usize
 }
 
 // The hexadecimal digit of a number below 16.
-fn digit(d: usize) -> u8
+pub fn digit(d: usize) -> u8
     requires { ⌜ d < 16 ⌝ }
     ensures { λ r. ⌜ r ≡ hexDigit d ⌝ }
 {

@@ -4,7 +4,7 @@ ghost use mathlib.Core.List.{List};
 ghost use Prim.Native.Nat.{ℕ, _≤_};
 ghost use lib.ListN.{length};
 ghost use Rattle.text.specs.Text.{laid};
-ghost use Rattle.listing.specs.Listing.{listingOf};
+ghost use Rattle.lines.specs.Listing.{listingOf};
 
 // The most steps that are played.
 const LIMIT: u32 = 20000;

@@ -2,6 +2,7 @@
 pub mod ArrayLaws
 pub mod ChoiceLaws
 pub mod CountingLaws
+pub mod HopLaws
 pub mod Promises
 pub mod ShiftLaws
 pub mod TruthLaws

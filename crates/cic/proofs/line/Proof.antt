@@ -1,13 +1,21 @@
 -- That `line` of src/lib.rt keeps its contract.
-use Rattle.cic.specs.Model.{lineAs}
+use Rattle.cic_steps.specs.Model.{lineAs}
+use Rattle.cic_steps.proofs.StepLaws.{line-unsound}
 use mathlib.Core.Bool.{Bool}
-use mathlib.Core.Path.{ap, _∙_}
+use mathlib.Core.Path.{sym, ap, _∙_}
 use borrow.Author.Needs.{needs}
 use Rattle.cic.proofs.line.Statement.{statement}
 use Rattle.cic.proofs.line.Tie as tie
 
 returns : tie.Need-returns
-returns c = c .line-as .ensures ∙ ap (λ (t : Bool). lineAs t (c .before .before .args .c) (c .before .before .args .number) (c .before .before .args .level)) (c .before .is-sound .ensures)
+returns c = c .line-parts .ensures ∙ ap (λ (t : Bool). lineAs t (c .before .before .before .args .c) (c .before .before .before .args .number) (c .before .before .before .args .level)) (sym (c .before .if1 .taken) ∙ c .before .before .is-sound .ensures)
+
+returns-2 : tie.Need-returns-2
+returns-2 c =
+    c .refusal-of .ensures ∙ sym (line-unsound (c .before .before .before .args .c) (c .before .before .before .args .number) (c .before .before .before .args .level))
+    ∙ ap (λ (t : Bool). lineAs t (c .before .before .before .args .c) (c .before .before .before .args .number) (c .before .before .before .args .level)) (sym (c .before .if1 .left) ∙ c .before .before .is-sound .ensures)
 
 pub line-spec : {M : Type 1} → statement M
-line-spec = tie.close (tie.spec (λ c κs. search needs) (λ c κs. search needs) returns)
+line-spec =
+    tie.close
+    (tie.spec (λ c κs. search needs) (λ c κs. search needs) returns (λ c κs. search needs) returns-2)

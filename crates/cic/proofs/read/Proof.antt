@@ -1,13 +1,21 @@
 -- That `read` of src/lib.rt keeps its contract.
-use Rattle.cic.specs.Model.{readAs}
+use Rattle.cic_steps.specs.Model.{readAs}
+use Rattle.cic_steps.proofs.StepLaws.{read-unsound}
 use mathlib.Core.Bool.{Bool}
-use mathlib.Core.Path.{ap, _∙_}
+use mathlib.Core.Path.{sym, ap, _∙_}
 use borrow.Author.Needs.{needs}
 use Rattle.cic.proofs.read.Statement.{statement}
 use Rattle.cic.proofs.read.Tie as tie
 
 returns : tie.Need-returns
-returns c = c .read-as .ensures ∙ ap (λ (t : Bool). readAs t (c .before .before .args .c) (c .before .before .args .offset)) (c .before .is-sound .ensures)
+returns c = c .read-parts .ensures ∙ ap (λ (t : Bool). readAs t (c .before .before .before .args .c) (c .before .before .before .args .offset)) (sym (c .before .if1 .taken) ∙ c .before .before .is-sound .ensures)
+
+returns-2 : tie.Need-returns-2
+returns-2 c =
+    c .refusal-of .ensures ∙ sym (read-unsound (c .before .before .before .args .c) (c .before .before .before .args .offset))
+    ∙ ap (λ (t : Bool). readAs t (c .before .before .before .args .c) (c .before .before .before .args .offset)) (sym (c .before .if1 .left) ∙ c .before .before .is-sound .ensures)
 
 pub read-spec : {M : Type 1} → statement M
-read-spec = tie.close (tie.spec (λ c κs. search needs) (λ c κs. search needs) returns)
+read-spec =
+    tie.close
+    (tie.spec (λ c κs. search needs) (λ c κs. search needs) returns (λ c κs. search needs) returns-2)

@@ -1,13 +1,21 @@
 -- That `write` of src/lib.rt keeps its contract.
-use Rattle.cic.specs.Model.{writeAs}
+use Rattle.cic_steps.specs.Model.{writeAs}
+use Rattle.cic_steps.proofs.StepLaws.{write-unsound}
 use mathlib.Core.Bool.{Bool}
-use mathlib.Core.Path.{ap, _∙_}
+use mathlib.Core.Path.{sym, ap, _∙_}
 use borrow.Author.Needs.{needs}
 use Rattle.cic.proofs.write.Statement.{statement}
 use Rattle.cic.proofs.write.Tie as tie
 
 returns : tie.Need-returns
-returns c = c .write-as .ensures ∙ ap (λ (t : Bool). writeAs t (c .before .before .args .c) (c .before .before .args .offset) (c .before .before .args .value)) (c .before .is-sound .ensures)
+returns c = c .write-parts .ensures ∙ ap (λ (t : Bool). writeAs t (c .before .before .before .args .c) (c .before .before .before .args .offset) (c .before .before .before .args .value)) (sym (c .before .if1 .taken) ∙ c .before .before .is-sound .ensures)
+
+returns-2 : tie.Need-returns-2
+returns-2 c =
+    c .refusal-of .ensures ∙ sym (write-unsound (c .before .before .before .args .c) (c .before .before .before .args .offset) (c .before .before .before .args .value))
+    ∙ ap (λ (t : Bool). writeAs t (c .before .before .before .args .c) (c .before .before .before .args .offset) (c .before .before .before .args .value)) (sym (c .before .if1 .left) ∙ c .before .before .is-sound .ensures)
 
 pub write-spec : {M : Type 1} → statement M
-write-spec = tie.close (tie.spec (λ c κs. search needs) (λ c κs. search needs) returns)
+write-spec =
+    tie.close
+    (tie.spec (λ c κs. search needs) (λ c κs. search needs) returns (λ c κs. search needs) returns-2)

@@ -7,7 +7,7 @@ use Rattle.cic_maps.proofs.channel_taken.Tie as tie
 returns : tie.Need-returns
 returns c =
     let a = c .before .before .before .before .args in
-    taken-byte (a .c .systems) (a .c .channels) (a .k) (a .v) (a .j) _ _ (c .before .number-at .ensures) (c .before .before .byte-of .ensures .0) (c .is-channel .ensures)
+    taken-byte (a .z .systems) (a .z .channels) (a .k) (a .v) (a .j) _ _ (c .before .number-at .ensures) (c .before .before .byte-of .ensures .0) (c .is-channel .ensures)
 
 pub channel-taken-spec : {M : Type 1} → statement M
 channel-taken-spec = tie.close (tie.spec (λ c. search needs) (λ c κs. search needs) (λ c. search needs) (λ c κs. search needs) (λ c κs. search needs) returns)

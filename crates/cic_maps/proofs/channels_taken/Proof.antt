@@ -7,7 +7,7 @@ use Rattle.cic_maps.proofs.channels_taken.Tie as tie
 returns : tie.Need-returns
 returns c =
     let a = c .before .before .before .before .args in
-    taken-four (a .c .systems) (a .c .channels) (a .k) (a .v) (c .before .before .before .channel-taken .ensures) (c .before .before .channel-taken2 .ensures) (c .before .channel-taken3 .ensures) (c .channel-taken4 .ensures)
+    taken-four (a .z .systems) (a .z .channels) (a .k) (a .v) (c .before .before .before .channel-taken .ensures) (c .before .before .channel-taken2 .ensures) (c .before .channel-taken3 .ensures) (c .channel-taken4 .ensures)
 
 pub channels-taken-spec : {M : Type 1} → statement M
 channels-taken-spec = tie.close (tie.spec (λ c κs. search needs) (λ c κs. search needs) (λ c κs. search needs) (λ c κs. search needs) returns)

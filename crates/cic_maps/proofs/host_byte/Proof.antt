@@ -1,8 +1,6 @@
 -- That `host_byte` of src/lib.rt keeps its contract.
 use Rattle.cic_maps.proofs.MapLaws.{put-past, put-there, put-spare}
-use Rattle.cic_record.specs.Record.{withHost}
-use lib.ListN.{length}
-use mathlib.Core.Path.{_≡_, ap, _∙_}
+use mathlib.Core.Path.{_∙_}
 use native.Mathlib.Omega.{arith}
 use borrow.Author.Needs.{needs}
 use Rattle.cic_maps.proofs.host_byte.Statement.{statement}
@@ -10,22 +8,21 @@ use Rattle.cic_maps.proofs.host_byte.Tie as tie
 
 returns : tie.Need-returns
 returns c =
-    let a = c .before .before .args in
+    let a = c .before .before .before .args in
     let p = c .before .number-at in
-    let long : length (a .c .host) ≡ 256 = search needs in
-    ap (withHost (a .c)) (put-past (a .c .channels) (a .k) (a .v) (a .c .host) (a .j) (p .result) (p .ensures) (omega (arith, c .if1 .taken)))
+    put-past (a .z .channels) (a .k) (a .v) (a .host .now) (a .j) (p .result) (p .ensures) (omega (arith, c .before .before .before .pre .1, c .if1 .taken))
 
 returns-2 : tie.Need-returns-2
 returns-2 c =
-    let a = c .before .before .before .before .before .before .args in
-    let p = c .before .before .before .before .before .number-at in
-    c .put-host .ensures ∙ ap (withHost (a .c)) (put-there (a .c .channels) (a .k) (a .v) (a .c .host) (a .j) (p .result) _ (p .ensures) (c .before .byte-of .ensures .0) (c .before .before .before .is-channel .ensures) (c .before .before .if2 .taken))
+    let a = c .before .before .before .before .before .before .before .before .before .before .args in
+    let p = c .before .before .before .before .before .before .before .before .number-at in
+    c .before .before .put-host .ensures ∙ put-there (a .z .channels) (a .k) (a .v) (a .host .now) (a .j) (p .result) _ (p .ensures) (c .before .before .before .byte-of .ensures .0) (c .before .before .before .before .before .before .is-channel .ensures) (c .before .before .before .before .before .if2 .taken)
 
 returns-3 : tie.Need-returns-3
 returns-3 c =
-    let a = c .before .before .before .before .args in
+    let a = c .before .before .before .before .before .args in
     let p = c .before .before .before .number-at in
-    ap (withHost (a .c)) (put-spare (a .c .channels) (a .k) (a .v) (a .c .host) (a .j) (p .result) (p .ensures) (c .before .is-channel .ensures) (c .if2 .left))
+    put-spare (a .z .channels) (a .k) (a .v) (a .host .now) (a .j) (p .result) (p .ensures) (c .before .is-channel .ensures) (c .if2 .left)
 
 pub host-byte-spec : {M : Type 1} → statement M
-host-byte-spec = tie.close (tie.spec (λ c κs. search needs) returns (λ c. search needs) (λ c κs. search needs) (λ c κs. search needs) (λ c. search needs) (λ c κs. search needs) returns-2 returns-3)
+host-byte-spec = tie.close (tie.spec (λ c κs. search needs) returns (λ c. search needs) (λ c κs. search needs) (λ c κs. search needs) (λ c. search needs) (λ c κs. search needs) (λ c. search needs) returns-2 returns-3)

@@ -7,7 +7,7 @@ use Rattle.cic_maps.proofs.host_taken.Tie as tie
 returns : tie.Need-returns
 returns c =
     let a = c .before .before .before .before .args in
-    taken-byte (a .c .channels) (a .c .hosts) (a .k) (a .v) (a .j) _ _ (c .before .number-at .ensures) (c .before .before .byte-of .ensures .0) (c .is-host .ensures)
+    taken-byte (a .z .channels) (a .z .hosts) (a .k) (a .v) (a .j) _ _ (c .before .number-at .ensures) (c .before .before .byte-of .ensures .0) (c .is-host .ensures)
 
 pub host-taken-spec : {M : Type 1} → statement M
 host-taken-spec = tie.close (tie.spec (λ c. search needs) (λ c κs. search needs) (λ c. search needs) (λ c κs. search needs) (λ c κs. search needs) returns)

@@ -7,7 +7,7 @@ use Rattle.cic_maps.proofs.hosts_taken.Tie as tie
 returns : tie.Need-returns
 returns c =
     let a = c .before .before .before .before .args in
-    taken-four (a .c .channels) (a .c .hosts) (a .k) (a .v) (c .before .before .before .host-taken .ensures) (c .before .before .host-taken2 .ensures) (c .before .host-taken3 .ensures) (c .host-taken4 .ensures)
+    taken-four (a .z .channels) (a .z .hosts) (a .k) (a .v) (c .before .before .before .host-taken .ensures) (c .before .before .host-taken2 .ensures) (c .before .host-taken3 .ensures) (c .host-taken4 .ensures)
 
 pub hosts-taken-spec : {M : Type 1} → statement M
 hosts-taken-spec = tie.close (tie.spec (λ c κs. search needs) (λ c κs. search needs) (λ c κs. search needs) (λ c κs. search needs) returns)

@@ -1,7 +1,6 @@
 -- That `play` of src/lib.rt keeps its contract.
 use mathlib.Core.Path.{_∙_}
-use Rattle.player.proofs.BeginningLaws.{begin-ready}
-use Rattle.player.proofs.BeginLaws.{play-begun, play-refused}
+use Rattle.reports.proofs.PlayLaws.{play-refused}
 use borrow.Author.Needs.{needs}
 use Rattle.player.proofs.play.Statement.{statement}
 use Rattle.player.proofs.play.Tie as tie
@@ -9,13 +8,8 @@ use Rattle.player.proofs.play.Tie as tie
 returns : tie.Need-returns
 returns c = c .not-played .ensures ∙ play-refused _ _ _ (c .before .before .before .begin .ensures) (c .before .if1 .taken)
 
-play-from-requires : tie.Need-play-from-requires
-play-from-requires c κs = begin-ready _ _ (c .before .before .before .begin .ensures) (c .before .if1 .left)
-
-returns-2 : tie.Need-returns-2
-returns-2 c = let t = c .before in
-    c .play-from .ensures ∙ play-begun _ _ _ _ (t .before .before .before .begin .ensures) (t .before .if1 .left) (t .tells-privilege .ensures)
+play-by-kind-requires : tie.Need-play-by-kind-requires
+play-by-kind-requires c κs = (c .before .before .begin .ensures, c .if1 .left)
 
 pub play-spec : {M : Type 1} → statement M
-play-spec =
-    tie.close (tie.spec (λ c κs. search needs) (λ c κs. search needs) returns (λ c κs. search needs) play-from-requires returns-2)
+play-spec = tie.close (tie.spec (λ c κs. search needs) (λ c κs. search needs) returns play-by-kind-requires (λ c. search needs))

@@ -1,0 +1,2 @@
+-- Laws about the banks and lines of an AINTC on parts.
+pub mod BankLaws

@@ -1,0 +1,2 @@
+-- What a step on the parts of an AINTC answers.
+pub mod Reply

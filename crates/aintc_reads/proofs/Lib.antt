@@ -1,0 +1,2 @@
+-- Laws about the reads of an AINTC on parts.
+pub mod ReadLaws

@@ -1,0 +1,3 @@
+-- Where the steps of a trace begin, and which numbers come before them.
+pub mod Asked
+pub mod Begin

@@ -1,0 +1,4 @@
+-- The laws of the kept counts.
+pub mod CountLaws
+pub mod Promises
+pub mod RecordLaws

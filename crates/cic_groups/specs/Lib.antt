@@ -1,0 +1,2 @@
+-- Registers by group.
+pub mod Groups

@@ -1,0 +1,3 @@
+-- The laws of renewed words.
+pub mod RenewLaws
+pub mod RecountLaws

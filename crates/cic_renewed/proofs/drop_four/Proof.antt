@@ -1,0 +1,27 @@
+-- That `drop_four` of src/lib.rt keeps its contract.
+use Rattle.cic_renewed.proofs.RecountLaws.{four-dropped}
+use borrow.Author.Needs.{needs}
+use Rattle.cic_renewed.proofs.drop_four.Statement.{statement}
+use Rattle.cic_renewed.proofs.drop_four.Tie as tie
+
+returns : tie.Need-returns
+returns c =
+    four-dropped (c .before .before .before .before .args .w) (c .before .before .before .before .args .q) (c .before .before .before .with-bit .result) (c .before .before .with-bit2 .result) (c .before .with-bit3 .result) (c .with-bit4 .result)
+    (c .before .before .before .with-bit .ensures) (c .before .before .with-bit2 .ensures) (c .before .with-bit3 .ensures) (c .with-bit4 .ensures)
+
+pub drop-four-spec : {M : Type 1} → statement M
+drop-four-spec =
+    tie.close
+    (tie.spec
+    (λ c. search needs)
+    (λ c κs. search needs)
+    (λ c. search needs)
+    (λ c. search needs)
+    (λ c κs. search needs)
+    (λ c. search needs)
+    (λ c. search needs)
+    (λ c κs. search needs)
+    (λ c. search needs)
+    (λ c. search needs)
+    (λ c κs. search needs)
+    returns)

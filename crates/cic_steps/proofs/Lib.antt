@@ -1,0 +1,2 @@
+-- The laws of refused and carried out steps.
+pub mod StepLaws

@@ -1,0 +1,2 @@
+-- The CIC's steps.
+pub mod Model

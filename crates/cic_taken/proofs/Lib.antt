@@ -1,0 +1,3 @@
+-- The laws of a listed step and of what is shown after it.
+pub mod ShownLaws
+pub mod TakenLaws

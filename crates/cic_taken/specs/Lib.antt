@@ -1,0 +1,2 @@
+-- The answer of a step that is listed.
+pub mod Answers

@@ -1,0 +1,4 @@
+-- The laws of lines: what a turn lists, how lines end, how long they are.
+pub mod EndingLaws
+pub mod LineLaws
+pub mod SizeLaws

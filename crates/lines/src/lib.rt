@@ -1,0 +1,140 @@
+// The lines of a listing, as text in a buffer that the caller lends (01, "House trace").
+ghost use mathlib.Core.Path.{_≡_};
+ghost use mathlib.Core.Bool.{true};
+ghost use Prim.Native.Nat.{_+_, _≤_};
+ghost use lib.Dec.{eqb};
+ghost use lib.ListN.{length};
+ghost use Rattle.words.specs.Choice.{pick};
+ghost use Rattle.steps.specs.Refusals.{carriedOut};
+ghost use Rattle.text.specs.Text.{write};
+ghost use Rattle.lines.specs.Listing.{letterOf, letter, letterOfKind, letterBy, shownValue, lineOf, endLine, endOf};
+use machine_record::Columns;
+use steps::Step;
+use text::NEWLINE;
+use text::SPACE;
+
+// The line of a step: its number, its letter, the value in eight digits, and the machine's three numbers. One test for room serves for all its bytes.
+pub fn put_line(out: &mut [u8], at: usize, n: u32, letter: u8, value: u32, c: Columns) -> usize
+    ensures { λ r. ⌜ (now (out .exit), r) ≡ write (now (out .entry), at) (lineOf n letter value c) ⌝ }
+{
+    if has_room(out.len(), at) {
+        return put_line_in(out, at, n, letter, value, c);
+    }
+    put_line_cut(out, at, n, letter, value, c)
+}
+
+// Whether a line finds room, however long its numbers are: it has at most 55 bytes.
+fn has_room(length: usize, at: usize) -> bool
+    ensures { λ r. ⌜ (r ≡ true → at + 55 ≤ length) ⌝ }
+{
+    if length < 55 {
+        return false;
+    }
+    at <= length - 55
+}
+
+// A line that finds room.
+fn put_line_in(out: &mut [u8], at: usize, n: u32, letter: u8, value: u32, c: Columns) -> usize
+    requires { ⌜ at + 55 ≤ length (now out) ⌝ }
+    ensures { λ r. ⌜ (now (out .exit), r) ≡ write (now (out .entry), at) (lineOf n letter value c) ⌝ }
+{
+    let a = text_room::decimal_in(out, at, n);
+    let b = text_room::put_in(out, a, SPACE);
+    let d = text_room::put_in(out, b, letter);
+    let e = text_room::put_in(out, d, SPACE);
+    let f = text_room::hex_in(out, e, value);
+    let g = text_room::field_in(out, f, c.first);
+    let h = text_room::field_in(out, g, c.second);
+    let i = text_room::field_in(out, h, c.third);
+    text_room::put_in(out, i, NEWLINE)
+}
+
+// A line near the end of the buffer: what finds no room is dropped.
+fn put_line_cut(out: &mut [u8], at: usize, n: u32, letter: u8, value: u32, c: Columns) -> usize
+    ensures { λ r. ⌜ (now (out .exit), r) ≡ write (now (out .entry), at) (lineOf n letter value c) ⌝ }
+{
+    let a = text::put_decimal(out, at, n as u64);
+    let b = text::put(out, a, SPACE);
+    let d = text::put(out, b, letter);
+    let e = text::put(out, d, SPACE);
+    let f = text::put_hex(out, e, value);
+    let g = text::put_field(out, f, c.first as u64);
+    let h = text::put_field(out, g, c.second as u64);
+    let i = text::put_field(out, h, c.third as u64);
+    text::put(out, i, NEWLINE)
+}
+
+// The last line of a listing that ends with a refusal; nothing where there is none.
+pub fn put_end(out: &mut [u8], at: usize, refusal: u32, offset: usize) -> usize
+    ensures { λ r. ⌜ (now (out .exit), r) ≡ write (now (out .entry), at) (endOf refusal offset) ⌝ }
+{
+    if refusal == steps::CARRIED_OUT {
+        return at;
+    }
+    put_refusal(out, at, refusal, offset)
+}
+
+// E, the refusal's number and its offset.
+fn put_refusal(out: &mut [u8], at: usize, refusal: u32, offset: usize) -> usize
+    ensures { λ r. ⌜ (now (out .exit), r) ≡ write (now (out .entry), at) (endLine refusal offset) ⌝ }
+{
+    let a = text::put(out, at, b'E');
+    let b = text::put_field(out, a, refusal as u64);
+    let c = text::put_field(out, b, offset as u64);
+    text::put(out, c, NEWLINE)
+}
+
+// The letter of a step: R, W or L, and X where it is refused.
+pub fn letter_of(x: Step, refusal: u32) -> u8
+    ensures { λ r. ⌜ r ≡ letter x refusal ⌝ }
+{
+    unless_refused(letter_by_kind(x), refusal)
+}
+
+// The letter of a step of which only the number of its kind is known: 1, 2 or 3, as in a trace.
+pub fn letter_by(kind: u32, refusal: u32) -> u8
+    ensures { λ r. ⌜ r ≡ letterBy kind refusal ⌝ }
+{
+    unless_refused(letter_by_number(kind), refusal)
+}
+
+fn unless_refused(letter: u8, refusal: u32) -> u8
+    ensures { λ r. ⌜ r ≡ pick (eqb refusal carriedOut) letter 88 ⌝ }
+{
+    if refusal != steps::CARRIED_OUT {
+        return b'X';
+    }
+    letter
+}
+
+fn letter_by_kind(x: Step) -> u8
+    ensures { λ r. ⌜ r ≡ letterOf x ⌝ }
+{
+    match x {
+        Step::Read(_) => b'R',
+        Step::Write(_, _) => b'W',
+        Step::Line(_, _) => b'L',
+    }
+}
+
+fn letter_by_number(kind: u32) -> u8
+    ensures { λ r. ⌜ r ≡ letterOfKind kind ⌝ }
+{
+    if kind == trace::READ {
+        return b'R';
+    }
+    if kind == trace::WRITE {
+        return b'W';
+    }
+    b'L'
+}
+
+// What the eight digits show: the value read, else 0, or the refusal's number.
+pub fn shown_value(refusal: u32, value: u32) -> u32
+    ensures { λ r. ⌜ r ≡ shownValue refusal value ⌝ }
+{
+    if refusal != steps::CARRIED_OUT {
+        return refusal;
+    }
+    value
+}

@@ -1,0 +1,2 @@
+-- The laws of reports.
+pub mod PlayLaws

@@ -1,0 +1,2 @@
+-- What a player reports.
+pub mod Play

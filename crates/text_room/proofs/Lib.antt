@@ -1,0 +1,2 @@
+-- What a text that found room comes to.
+pub mod RoomLaws

@@ -1,0 +1,11 @@
+-- That `ended` of src/lib.rt keeps its contract.
+use mathlib.Core.Path.{refl}
+use Rattle.turns.proofs.TurnLaws.{of-ended}
+use Rattle.turns.proofs.ended.Statement.{statement}
+use Rattle.turns.proofs.ended.Tie as tie
+
+returns : tie.Need-returns
+returns c = (of-ended _ refl, refl)
+
+pub ended-spec : {M : Type 1} → statement M
+ended-spec = tie.close (tie.spec returns)

@@ -1,0 +1,12 @@
+-- That `found` of src/lib.rt keeps its contract.
+use mathlib.Core.Path.{refl}
+use native.Mathlib.Omega.{arith}
+use Rattle.turns.proofs.TurnLaws.{of-found}
+use Rattle.turns.proofs.found.Statement.{statement}
+use Rattle.turns.proofs.found.Tie as tie
+
+returns : tie.Need-returns
+returns c = (λ l. of-found _ (λ e. omega arith), refl)
+
+pub found-spec : {M : Type 1} → statement M
+found-spec = tie.close (tie.spec returns)

@@ -1,0 +1,2 @@
+-- A turn as numbers.
+pub mod Turns
