@@ -1,6 +1,6 @@
 -- What is left to list in each of the ways that a turn of the listing goes.
 use Prim.Native.Nat.{ℕ, _+_, _-_}
-use mathlib.Core.Path.{_≡_, refl, sym, ap, _∙_}
+use mathlib.Core.Path.{_≡_, refl, sym, ap, ap₂, _∙_}
 use mathlib.Core.Bool.{Bool}
 use mathlib.Core.List.{List, _++_, append-assoc}
 use lib.Dec.{eqb}
@@ -94,6 +94,10 @@ letter-made kind x y refusal =
     ap (λ (l : ℕ). pick (eqb refusal carriedOut) l 88)
     (ap (pick (eqb kind readKind) 82) (sym (pick-ap letterOf (eqb kind writeKind) (Write x y) (Line x y)))
     ∙ sym (pick-ap letterOf (eqb kind readKind) (Read x) (pick (eqb kind writeKind) (Write x y) (Line x y))))
+
+-- a line of a letter and a value that are known under another form
+pub line-as : (o q : List ℕ × ℕ) (n l l′ v v′ : ℕ) (c : Columns) → q ≡ write o (lineOf n l v c) → l ≡ l′ → v ≡ v′ → q ≡ write o (lineOf n l′ v′ c)
+line-as o q n l l′ v v′ c e f g = e ∙ ap₂ (λ (x y : ℕ). write o (lineOf n x y c)) f g
 
 -- ---- the whole listing, by its beginning
 

@@ -23,6 +23,23 @@ pub fn put_line(out: &mut [u8], at: usize, n: u32, letter: u8, value: u32, c: Co
     put_line_cut(out, at, n, letter, value, c)
 }
 
+// The line of a step of which the number of its kind is known, with what it answered.
+pub fn put_step(
+    out: &mut [u8],
+    at: usize,
+    n: u32,
+    kind: u32,
+    refusal: u32,
+    value: u32,
+    c: Columns,
+) -> usize
+    ensures { λ r. ⌜ (now (out .exit), r) ≡ write (now (out .entry), at) (lineOf n (letterBy kind refusal) (shownValue refusal value) c) ⌝ }
+{
+    let letter = letter_by(kind, refusal);
+    let shown = shown_value(refusal, value);
+    put_line(out, at, n, letter, shown, c)
+}
+
 // Whether a line finds room, however long its numbers are: it has at most 55 bytes.
 fn has_room(length: usize, at: usize) -> bool
     ensures { λ r. ⌜ (r ≡ true → at + 55 ≤ length) ⌝ }

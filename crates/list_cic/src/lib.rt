@@ -72,9 +72,7 @@ fn list_parts(
         left = left - 1;
         count = count + 1;
         seen = cic_taken::columns_after(seen, a.anew, global, &raised, &allow);
-        let letter = lines::letter_by(t.kind, a.refusal);
-        let value = lines::shown_value(a.refusal, a.value);
-        to = lines::put_line(out, to, count, letter, value, seen);
+        to = lines::put_step(out, to, count, t.kind, a.refusal, a.value, seen);
     }
 }
 

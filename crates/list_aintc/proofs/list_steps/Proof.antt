@@ -59,23 +59,22 @@ add-number c = let i = c .before .before .before .before .before .before .before
     omega (arith, found-here _ _ _ _ _ (s .sure .ensures .0) (i .if1 .left) .1 .0, l .loop .inv .2, l .before .before .before .before .before .before .before .before .before .before .before .before .fits .limit)
 
 loop-less : tie.Need-loop-less Inv-loop μ-loop
-loop-less c = let i = c .before .before .before .before .before .before .before .before .before .before .before .before .before .before .before .before in
+loop-less c = let i = c .before .before .before .before .before .before .before .before .before .before .before .before .before .before in
     let s = i .before .before in
     omega (arith, found-here _ _ _ _ _ (s .sure .ensures .0) (i .if1 .left) .1 .0)
 
 loop-again : tie.Need-loop-again Inv-loop μ-loop
 loop-again c = let p = c .before .before in
     let o = p .before .before in
-    let v = o .before in
-    let a = v .before .before in
+    let a = o .before in
     let i = a .before .before .before .before .before .before .before .before .before in
     let s = i .before .before in
     let l = s .before .before .loop in
     let e = a .take .ensures (its-sound _ (l .inv .3)) (l .inv .4) in
     let g = stepped _ _ _ _ (e .0) in
     let n = next-ready _ _ _ g (l .inv .3) in (
-      listed _ _ _ _ _ _ _ _ _ _ _ _ _ _ _ (finds _ _ _ _ _ (s .sure .ensures .0) (i .if1 .left)) g (v .before .letter-by .ensures ∙ letter-made _ _ _ _)
-          (v .shown-value .ensures) (o .columns .ensures _ refl refl n) (p .put-line .ensures) (l .inv .0),
+      listed _ _ _ _ _ _ _ _ _ _ _ _ _ _ _ (finds _ _ _ _ _ (s .sure .ensures .0) (i .if1 .left)) g (letter-made _ _ _ _) refl (o .columns .ensures _ refl refl n)
+          (p .put-step .ensures) (l .inv .0),
       search needs,
       omega (arith, found-here _ _ _ _ _ (s .sure .ensures .0) (i .if1 .left) .1 .0),
       n,
@@ -85,4 +84,4 @@ loop-again c = let p = c .before .before in
 pub list-steps-spec : {M : Type 1} → statement M
 list-steps-spec =
     tie.close
-    (tie.spec Inv-loop μ-loop (λ c κs. search needs) (λ c κs. search needs) (λ c κs. search needs) (λ c κs. search needs) loop-holds (λ c κs. search needs) (λ c κs. search needs) (λ c κs. search needs) (λ c. search needs) returns (λ c κs. search needs) sub-more add-number (λ c κs. search needs) (λ c κs. search needs) (λ c κs. search needs) (λ c κs. search needs) loop-less loop-again)
+    (tie.spec Inv-loop μ-loop (λ c κs. search needs) (λ c κs. search needs) (λ c κs. search needs) (λ c κs. search needs) loop-holds (λ c κs. search needs) (λ c κs. search needs) (λ c κs. search needs) (λ c. search needs) returns (λ c κs. search needs) sub-more add-number (λ c κs. search needs) (λ c κs. search needs) loop-less loop-again)

@@ -60,13 +60,12 @@ add-count c = let i = c .before .before .before .before .before .before .before 
     omega (arith, found-here _ _ _ _ _ (s .sure .ensures .0) (i .if1 .left) .1 .0, l .loop .inv .2, l .before .before .before .before .before .before .before .before .before .before .before .before .before .before .fits .limit)
 
 loop-less : tie.Need-loop-less Inv-loop μ-loop
-loop-less c = let i = c .before .before .before .before .before .before .before .before .before .before .before .before .before .before .before .before .before .before .before .before in
+loop-less c = let i = c .before .before .before .before .before .before .before .before .before .before .before .before .before .before .before .before .before .before in
     omega (arith, found-here _ _ _ _ _ (i .before .before .sure .ensures .0) (i .if1 .left) .1 .0)
 
 loop-again : tie.Need-loop-again Inv-loop μ-loop
 loop-again c = let p = c .before .before in
-    let v = p .before .before in
-    let o = v .before .before in
+    let o = p .before .before in
     let a = o .before .before .before in
     let i = a .before .before .before .before .before .before .before .before .before .before .before in
     let s = i .before .before in
@@ -75,8 +74,7 @@ loop-again c = let p = c .before .before in
     let n = next-ready _ _ _ g (l .inv .3) in
     let b = a .take .ensures .1 in
     let k = o .columns-after .ensures _ _ _ _ (l .inv .5) (λ f. b .1 f (its-sound _ (l .inv .3)) (its-sound _ n)) (l .inv .3) n refl refl (b .0) in (
-      listed _ _ _ _ _ _ _ _ _ _ _ _ _ _ _ (finds _ _ _ _ _ (s .sure .ensures .0) (i .if1 .left)) g (v .before .letter-by .ensures ∙ letter-made _ _ _ _)
-          (v .shown-value .ensures) k (p .put-line .ensures) (l .inv .0),
+      listed _ _ _ _ _ _ _ _ _ _ _ _ _ _ _ (finds _ _ _ _ _ (s .sure .ensures .0) (i .if1 .left)) g (letter-made _ _ _ _) refl k (p .put-step .ensures) (l .inv .0),
       search needs,
       omega (arith, found-here _ _ _ _ _ (s .sure .ensures .0) (i .if1 .left) .1 .0),
       n,
@@ -101,8 +99,6 @@ list-parts-spec =
     take-requires
     sub-left
     add-count
-    (λ c κs. search needs)
-    (λ c κs. search needs)
     (λ c κs. search needs)
     (λ c κs. search needs)
     loop-less

@@ -53,21 +53,20 @@ add-number c = let i = c .before .before in
     omega (arith, found-here _ _ _ _ _ (s .sure .ensures .0) (i .if1 .left) .1 .0, l .loop .inv .2, l .before .before .before .before .before .fits .limit)
 
 loop-less : tie.Need-loop-less Inv-loop μ-loop
-loop-less c = let i = c .before .before .before .before .before .before .before .before .before .before in
+loop-less c = let i = c .before .before .before .before .before .before .before .before in
     omega (arith, found-here _ _ _ _ _ (i .before .before .sure .ensures .0) (i .if1 .left) .1 .0)
 
 loop-again : tie.Need-loop-again Inv-loop μ-loop
 loop-again c = let p = c .before .before in
     let o = p .before .before in
-    let v = o .before .before in
-    let a = v .before .before in
+    let a = o .before .before in
     let i = a .before .before in
     let s = i .before .before in
     let l = s .before .before .loop in
     let g = stepped _ _ _ _ (l .inv .3) (a .take .ensures) in
     let n = next-ready _ _ _ g (l .inv .3) in (
-      listed _ _ _ _ _ _ _ _ _ _ _ _ _ _ _ (finds _ _ _ _ _ (s .sure .ensures .0) (i .if1 .left)) g (v .before .letter-by .ensures ∙ letter-made _ _ _ _)
-          (v .shown-value .ensures) (o .columns .ensures n) (p .put-line .ensures) (l .inv .0),
+      listed _ _ _ _ _ _ _ _ _ _ _ _ _ _ _ (finds _ _ _ _ _ (s .sure .ensures .0) (i .if1 .left)) g (letter-made _ _ _ _) refl (o .columns .ensures n)
+          (p .put-step .ensures) (l .inv .0),
       search needs,
       omega (arith, found-here _ _ _ _ _ (s .sure .ensures .0) (i .if1 .left) .1 .0),
       n,
@@ -90,8 +89,6 @@ list-steps-spec =
     (λ c κs. search needs)
     sub-more
     add-number
-    (λ c κs. search needs)
-    (λ c κs. search needs)
     (λ c κs. search needs)
     (λ c κs. search needs)
     loop-less
