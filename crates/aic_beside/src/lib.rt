@@ -1,0 +1,1 @@
+// What is kept beside the parts of an AT91 controller's record, and how a step renews it.
