@@ -4,5 +4,8 @@ pub mod ChosenLaws
 pub mod HighestLaws
 pub mod LeastLaws
 pub mod LevelLaws
+pub mod Promises
+pub mod RunLaws
 pub mod StartLaws
+pub mod StepLaws
 pub mod TableLaws

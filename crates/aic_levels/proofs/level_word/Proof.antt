@@ -24,12 +24,11 @@ loop-holds c = (omega arith, wordOf-none-yet _)
 loop-again : tie.Need-loop-again Inv-loop μ-loop
 loop-again c =
     let a = c .before .before .before .before .before .before .args in
-    let l = c .before .before .before .before .before .loop in
-    (
+    let l = c .before .before .before .before .before .loop in (
       omega (arith, c .before .before .before .before .loop-test .taken),
       c .with-bit .ensures
-      ∙ wordOf-more (λ i. bit (a .waits) i && eqb (rank (a .mode .now) i) (a .p)) (l .k) (c .before .before .before .before .loop-test .taken) (l .inv .1)
-      (ap₂ (λ (x : Bool) (y : ℕ). x && eqb y (a .p)) (c .before .has .ensures) (c .before .before .priority-of .ensures)),
+          ∙ wordOf-more (λ i. bit (a .waits) i && eqb (rank (a .mode .now) i) (a .p)) (l .k) (c .before .before .before .before .loop-test .taken) (l .inv .1)
+          (ap₂ (λ (x : Bool) (y : ℕ). x && eqb y (a .p)) (c .before .has .ensures) (c .before .before .priority-of .ensures)),
     )
 
 returns : tie.Need-returns Inv-loop μ-loop

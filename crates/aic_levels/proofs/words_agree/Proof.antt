@@ -27,11 +27,10 @@ loop-again : tie.Need-loop-again Inv-loop μ-loop
 loop-again c =
     let a = c .before .before .before .before .args in
     let l = c .before .before .before .loop in
-    let t = c .before .before .loop-test .taken in
-    (
+    let t = c .before .before .loop-test .taken in (
       omega (arith, t),
       all-more (λ q. eqb (getD (a .levels .now) q 0) (wordOf 32 (λ k. bit (a .waits) k && eqb (rank (a .mode .now) k) q))) (l .p) (l .inv .1)
-      (ap (eqb (getD (a .levels .now) (l .p) 0)) (c .level-word .ensures)),
+          (ap (eqb (getD (a .levels .now) (l .p) 0)) (c .level-word .ensures)),
     )
 
 returns : tie.Need-returns Inv-loop μ-loop
