@@ -116,11 +116,11 @@ fn levels_with_any(levels: &[u32; 8]) -> u32
     ensures { λ r. ⌜ r ≡ wordOf 8 (λ p. not (eqb (getD (now (levels .entry)) p 0) 0)) ⌝ }
 {
     let mut any: u32 = 0;
-    let mut p: u32 = 0;
-    while p < 8 {
-        let at = p as usize;
-        any = words::with_bit(any, p, levels[at] != 0);
-        p = p + 1;
+    let mut level: u32 = 0;
+    while level < 8 {
+        let at = level as usize;
+        any = words::with_bit(any, level, levels[at] != 0);
+        level = level + 1;
     }
     any
 }

@@ -3,13 +3,14 @@
 // Entry b is the highest set bit of b; 255 stands for none.
 pub const HIGHEST: [u8; 256] = [
     255,
-    0,
+    0, // from 0x01 on
+    1, // from 0x02 on
     1,
-    1,
+    2, // from 0x04 on
     2,
     2,
     2,
-    2,
+    3, // from 0x08 on
     3,
     3,
     3,
@@ -17,7 +18,7 @@ pub const HIGHEST: [u8; 256] = [
     3,
     3,
     3,
-    3,
+    4, // from 0x10 on
     4,
     4,
     4,
@@ -33,7 +34,7 @@ pub const HIGHEST: [u8; 256] = [
     4,
     4,
     4,
-    4,
+    5, // from 0x20 on
     5,
     5,
     5,
@@ -65,7 +66,7 @@ pub const HIGHEST: [u8; 256] = [
     5,
     5,
     5,
-    5,
+    6, // from 0x40 on
     6,
     6,
     6,
@@ -129,8 +130,7 @@ pub const HIGHEST: [u8; 256] = [
     6,
     6,
     6,
-    6,
-    7,
+    7, // from 0x80 on
     7,
     7,
     7,

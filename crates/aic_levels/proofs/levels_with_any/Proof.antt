@@ -26,7 +26,7 @@ loop-again c =
     let a = c .before .before .before .before .args in
     let l = c .before .before .before .loop in
     let t = c .before .before .loop-test .taken in
-    (omega (arith, t), c .with-bit .ensures ∙ wordOf-more (λ i. not (eqb (getD (a .levels .now) i 0) 0)) (l .p) (omega (arith, t)) (l .inv .1) refl)
+    (omega (arith, t), c .with-bit .ensures ∙ wordOf-more (λ i. not (eqb (getD (a .levels .now) i 0) 0)) (l .level) (omega (arith, t)) (l .inv .1) refl)
 
 returns : tie.Need-returns Inv-loop μ-loop
 returns c =
