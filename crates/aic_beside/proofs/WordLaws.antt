@@ -13,7 +13,7 @@ use lib.Seq.{getD-set-same, getD-set-other}
 use Rattle.words.specs.Choice.{pick}
 use Rattle.words.specs.Counting.{one}
 use Rattle.words.specs.Word.{bit, wordOf, either, both, without, withBit}
-use Rattle.words.proofs.WordLaws.{bit-wordOf, wordOf-same, wordOf-more, word-is, without-lt, bit-without}
+use Rattle.words.proofs.WordLaws.{bit-wordOf, wordOf-same, wordOf-more, word-is, without-lt}
 use Rattle.aic_record.specs.declared.Aic.{Aic}
 use Rattle.aic_record.specs.Mode.{priority, priorityOf}
 use Rattle.aic_sources.specs.Pending.{activeLow, pendingWord, edgeWord}
