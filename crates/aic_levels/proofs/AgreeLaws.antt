@@ -23,21 +23,19 @@ use Rattle.aic.specs.declared.Signals.{Signals}
 use Rattle.aic_levels.specs.declared.Levels.{Levels}
 use Rattle.aic_levels.specs.Levels.{levelWord, anyOf, agrees, chosenBy}
 use Rattle.aic_levels.specs.Model.{outputsWith}
+use Rattle.aic_levels.specs.Promises.{Own}
 use Rattle.aic_levels.proofs.ChosenLaws.{irq-by, chosen-same}
 use Rattle.aic_levels.proofs.LevelLaws.{level-by}
 
--- each word and the byte are those of the record
-abbrev pub Agree : Aic → Levels → Type 0
-Agree s l = ((p : ℕ) → p < 8 → getD (l .words) p 0 ≡ levelWord s p) × (l .any ≡ anyOf s)
-
-pub agreed : (s : Aic) (l : Levels) → agrees s l ≡ true → Agree s l
+-- levels agree exactly if each word and the byte are those of the record
+pub agreed : (s : Aic) (l : Levels) → agrees s l ≡ true → Own s l
 unfolding agrees
 agreed s l h = (
   λ p i. eqb-true _ _ (all-at 8 (λ q. eqb (getD (l .words) q 0) (levelWord s q)) (and-left _ (eqb (l .any) (anyOf s)) h) p i),
   eqb-true _ _ (and-right (allBelow 8 (λ q. eqb (getD (l .words) q 0) (levelWord s q))) _ h),
 )
 
-pub agree : (s : Aic) (l : Levels) → Agree s l → agrees s l ≡ true
+pub agree : (s : Aic) (l : Levels) → Own s l → agrees s l ≡ true
 unfolding agrees
 agree s l (w, a) = and-both (at-all 8 (λ q. eqb (getD (l .words) q 0) (levelWord s q)) (λ p i. eq-eqb _ _ (w p i))) (eq-eqb (l .any) (anyOf s) a)
 

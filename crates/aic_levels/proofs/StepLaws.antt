@@ -27,7 +27,7 @@ use Rattle.aic_levels.specs.declared.Levels.{Levels}
 use Rattle.aic_levels.specs.declared.Answer.{Answer}
 use Rattle.aic_levels.specs.Levels.{levelWord, anyOf, levelsOf, agrees, chosenBy}
 use Rattle.aic_levels.specs.Model.{stepWith, outputsWith}
-use Rattle.aic_levels.proofs.AgreeLaws.{Agree, agreed, agree, found-some}
+use Rattle.aic_levels.proofs.AgreeLaws.{agree, found-some}
 
 -- ---- the levels of a record
 

@@ -1,0 +1,2 @@
+-- stand-in
+pub mod Reply
