@@ -1,15 +1,14 @@
 -- When levels agree with a record, and what the outputs are then.
-use mathlib.Core.Path.{_≡_, refl, sym, ap, ap₂, _∙_}
+use mathlib.Core.Path.{_≡_, sym, ap, _∙_}
 use mathlib.Core.Bool.{Bool, true, false, not, _&&_}
-use mathlib.Core.Logic.{_⊎_, inl, inr}
-use Prim.Native.Nat.{ℕ, _<_}
+use Prim.Native.Nat.{ℕ}
 use borrow.Author.Tests.{eq-eqb, eqb-true}
 use lib.Dec.{eqb, ltb}
 use lib.ListN.{getD}
 use Rattle.words.specs.Counting.{allBelow}
 use Rattle.words.specs.Word.{bit, wordOf, clean}
 use Rattle.words.proofs.ChoiceLaws.{pick-true}
-use Rattle.words.proofs.TruthLaws.{and-left, and-right, and-both, told}
+use Rattle.words.proofs.TruthLaws.{and-left, and-right, and-both}
 use Rattle.words.proofs.CountingLaws.{all-at, at-all, all-same}
 use Rattle.words.proofs.WordLaws.{wordOf-same}
 use Rattle.steps.specs.Refusals.{carriedOut}
@@ -19,7 +18,6 @@ use Rattle.aic_sources.specs.Fast.{fastAsks, masked, fiq}
 use Rattle.aic_sources.specs.Normal.{waiting, candidates, irq}
 use Rattle.aic_sources.specs.Search.{rank, leastOf}
 use Rattle.aic_sources.proofs.SearchLaws.{chosen-some}
-use Rattle.aic.specs.declared.Signals.{Signals}
 use Rattle.aic_levels.specs.declared.Levels.{Levels}
 use Rattle.aic_levels.specs.Levels.{levelWord, anyOf, agrees, chosenBy}
 use Rattle.aic_levels.specs.Model.{outputsWith}

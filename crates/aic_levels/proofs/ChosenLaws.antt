@@ -1,21 +1,20 @@
 -- The source to start by the levels is the candidate that is ahead of all others; IRQ needs no more than the byte.
 use mathlib.Core.Path.{_≡_, refl, sym, ap, _∙_, subst}
-use mathlib.Core.Bool.{Bool, true, false, not, _&&_, _||_}
+use mathlib.Core.Bool.{Bool, true, false, not, _&&_}
 use mathlib.Core.List.{List}
-use mathlib.Core.Logic.{_≢_, _⊎_, inl, inr, ⊎-elim}
-use Prim.Native.Nat.{ℕ, _+_, _*_, _^_, _≤_, _<_}
+use mathlib.Core.Logic.{_≢_, _⊎_, inl, inr}
+use Prim.Native.Nat.{ℕ, _+_, _*_, _≤_, _<_}
 use native.Mathlib.Decide.{ℕ-discrete}
 use native.Mathlib.Omega.{arith}
-use borrow.Author.Tests.{eq-eqb, ne-eqb, eqb-true, eqb-false, leb-true, leb-false, le-leb, lt-leb, not-true}
+use borrow.Author.Tests.{eq-eqb, ne-eqb, eqb-false, leb-true, leb-false, le-leb, not-true}
 use lib.Dec.{eqb, leb}
 use lib.ListN.{getD}
-use Rattle.words.specs.Choice.{pick}
 use Rattle.words.specs.Counting.{lowestBelow}
 use Rattle.words.specs.Word.{bit, clean}
 use Rattle.words.proofs.ChoiceLaws.{pick-cases}
-use Rattle.words.proofs.TruthLaws.{and-left, and-right, and-both, clash, not-holds, same-test, told}
+use Rattle.words.proofs.TruthLaws.{and-left, and-right, and-both, clash, not-holds, told}
 use Rattle.words.proofs.CountingLaws.{any-some, some-any, any-fails, any-none}
-use Rattle.words.proofs.WordLaws.{bit-none, bit-below, bits-clean, clean-lt}
+use Rattle.words.proofs.WordLaws.{bit-below, bits-clean, clean-lt}
 use Rattle.words.proofs.HopLaws.{lowest-in, lowest-before}
 use Rattle.aic_record.specs.declared.Aic.{Aic}
 use Rattle.aic_record.specs.Mode.{priority}
@@ -23,9 +22,8 @@ use Rattle.aic_record.specs.Sound.{noLevel}
 use Rattle.aic_sources.specs.Normal.{waiting, above, candidate, candidates, chosen}
 use Rattle.aic_sources.specs.Search.{leastOf}
 use Rattle.aic_sources.proofs.HandlerLaws.{priority-small, candidate-waits}
-use Rattle.aic_sources.proofs.OrderLaws.{Foremost, lt-ahead, chosen-one, chosen-none}
+use Rattle.aic_sources.proofs.OrderLaws.{lt-ahead, chosen-one, chosen-none}
 use Rattle.aic_sources.proofs.SearchLaws.{least-rule}
-use Rattle.aic_levels.specs.declared.Levels.{Levels}
 use Rattle.aic_levels.specs.Levels.{levelWord, anyOf, highestOf, chosenBy}
 use Rattle.aic_levels.proofs.HighestLaws.{Highest, highest-is}
 use Rattle.aic_levels.proofs.LevelLaws.{level-lt, any-lt, in-level, level-in, any-word, any-source, source-any}

@@ -1,9 +1,9 @@
 -- The promises of the levels, kept.
-use Prim.Native.Nat.{ℕ, zero, suc, _<_, _≤_}
+use Prim.Native.Nat.{ℕ, zero, suc, _<_}
 use mathlib.Core.Path.{_≡_, refl, sym, ap, _∙_, subst}
-use mathlib.Core.Bool.{Bool, true, false, not, _&&_, _||_}
+use mathlib.Core.Bool.{true, false, not, _||_}
 use mathlib.Core.List.{List, map}
-use mathlib.Core.Logic.{_↔_, _≢_, _⊎_, inl, inr}
+use mathlib.Core.Logic.{_↔_, _≢_}
 use native.Mathlib.Decide.{decLt}
 use native.Mathlib.Omega.{arith}
 use borrow.Author.Tests.{eqb-false, ne-eqb}
@@ -15,18 +15,17 @@ use Rattle.words.proofs.WordLaws.{bit-past}
 use Rattle.steps.specs.declared.Step.{Step}
 use Rattle.aic_record.specs.declared.Aic.{Aic}
 use Rattle.aic_record.specs.Mode.{priority}
-use Rattle.aic_record.specs.Promises.{Shaped}
-use Rattle.aic_sources.specs.Pending.{pending, asking}
+use Rattle.aic_sources.specs.Pending.{asking}
 use Rattle.aic_sources.specs.Fast.{fast}
-use Rattle.aic_sources.specs.Normal.{waiting, chosen}
+use Rattle.aic_sources.specs.Normal.{waiting}
 use Rattle.aic_sources.proofs.HandlerLaws.{waiting-is}
 use Rattle.aic.specs.Model as aic
 use Rattle.aic.proofs.Promises as aic-promises
 use Rattle.aic_levels.specs.declared.Levels.{Levels}
-use Rattle.aic_levels.specs.Levels.{levelWord, anyOf, levelsOf, agrees, highestOf, chosenBy}
-use Rattle.aic_levels.specs.Model.{start, stepWith, outputsWith}
+use Rattle.aic_levels.specs.Levels.{levelWord, anyOf, levelsOf, agrees, highestOf}
+use Rattle.aic_levels.specs.Model.{start}
 use Rattle.aic_levels.specs.Runs.{runOf, runWith, besides}
-use Rattle.aic_levels.specs.Promises.{Waits, HasPriority, Own, Beginning, Promises}
+use Rattle.aic_levels.specs.Promises.{Waits, HasPriority, Beginning, Promises}
 use Rattle.aic_levels.proofs.HighestLaws.{highest-is, highest-none, highest-zero, highest-last}
 use Rattle.aic_levels.proofs.LevelLaws.{in-level, level-in, level-lt, any-bit, any-lt, any-word, any-source, source-any}
 use Rattle.aic_levels.proofs.ChosenLaws.{chosen-same}

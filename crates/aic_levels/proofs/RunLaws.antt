@@ -1,5 +1,5 @@
 -- Along every run a record with its levels answers what the record alone does.
-use mathlib.Core.Path.{_≡_, refl, sym, ap, ap₂, _∙_}
+use mathlib.Core.Path.{_≡_, refl, ap₂}
 use mathlib.Core.Bool.{true}
 use mathlib.Core.List.{List, [], _∷_, map}
 use Rattle.steps.specs.declared.Step.{Step}
@@ -12,7 +12,6 @@ use Rattle.aic.proofs.SoundLaws.{step-sound, step-shaped}
 use Rattle.aic_levels.specs.declared.Levels.{Levels}
 use Rattle.aic_levels.specs.declared.Answer.{Answer}
 use Rattle.aic_levels.specs.Levels.{levelsOf, agrees}
-use Rattle.aic_levels.specs.Model.{stepWith, outputsWith}
 use Rattle.aic_levels.specs.Runs.{runOf, runWith, besides}
 use Rattle.aic_levels.proofs.StepLaws.{own-agree, step-same, outputs-same}
 

@@ -1,7 +1,6 @@
 // The sources of the AT91 controller kept by level: a word for each priority, and a byte that says which words have any.
 ghost use mathlib.Core.Path.{_≡_};
 ghost use mathlib.Core.Bool.{true, not, _&&_};
-ghost use mathlib.Core.List.{List};
 ghost use lib.Dec.{eqb};
 ghost use lib.ListN.{getD};
 ghost use Rattle.words.specs.Counting.{allBelow};

@@ -1,5 +1,4 @@
 -- That `start` of src/lib.rt keeps its contract.
-use mathlib.Core.Path.{ap}
 use Rattle.aic_levels.proofs.StartLaws.{start-by}
 use borrow.Author.Needs.{needs}
 use Rattle.aic_levels.proofs.start.Statement.{statement}
