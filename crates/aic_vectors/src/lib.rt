@@ -1,18 +1,18 @@
 // The AT91 controller's outputs and vector reads with each part of its record lent: by the levels, with no look at each source.
 ghost use mathlib.Core.Path.{_≡_};
-ghost use mathlib.Core.Bool.{true, false, _&&_};
+ghost use mathlib.Core.Bool.{false, _&&_};
 ghost use mathlib.Core.List.{List};
-ghost use Prim.Native.Nat.{ℕ, _+_, _*_, _<_};
-ghost use lib.Dec.{eqb, ltb};
+ghost use Prim.Native.Nat.{ℕ, _+_, _*_, _≤_, _<_};
+ghost use lib.Dec.{eqb};
 ghost use Rattle.words.specs.Choice.{pick};
 ghost use Rattle.words.specs.Counting.{one};
 ghost use Rattle.words.specs.Word.{bit, withBit};
 ghost use Rattle.aic_record.specs.Mode.{priority};
 ghost use Rattle.aic_record.specs.Sound.{levelBelow};
-ghost use Rattle.aic_record.specs.Passes.{floorOver};
 ghost use Rattle.aic_sources.specs.Pending.{edgeWord};
 ghost use Rattle.aic_sources.specs.Fast.{fastAsks, fiq};
-ghost use Rattle.aic_sources.specs.Normal.{above, irq};
+ghost use Rattle.aic_sources.specs.Normal.{irq};
+ghost use Rattle.aic_sources.specs.Search.{leastOf};
 ghost use Rattle.aic_registers.specs.Handlers.{answered, spent, opened, marked, ended, ivrRead, fvrRead, current};
 ghost use Rattle.aic_levels.specs.Levels.{anyOf, highestOf};
 ghost use Rattle.aic_beside.specs.Parts.{aicOf};
@@ -32,26 +32,6 @@ fn last_level(level: &[u8; 8], depth: u32) -> u8
     }
     let at = (depth - 1) as usize;
     level[at]
-}
-
-// The least priority above a level, if that is one.
-fn floor_over(level: u8) -> u32
-    ensures { λ r. ⌜ r ≡ floorOver level ⌝ }
-{
-    if level == aic_record::NO_LEVEL {
-        return 0;
-    }
-    level as u32 + 1
-}
-
-// The least priority that may start: with eight entries open 8, which no source has.
-fn least_of(level: &[u8; 8], depth: u32) -> u32
-    ensures { λ r. ⌜ r ≡ pick (ltb depth 8) (floorOver (levelBelow (now (level .entry)) depth)) 8 ⌝ }
-{
-    if 8 <= depth {
-        return 8;
-    }
-    floor_over(last_level(level, depth))
 }
 
 // An entry of source k is opened at a level, after those already open.
@@ -105,7 +85,10 @@ pub fn close<'a>(source: &'a mut [u8; 8], level: &'a mut [u8; 8], depth: &'a mut
 pub fn current(source: &[u8; 8], depth: u32) -> u32
     ensures { λ r. ⌜ ((external lines enabled memory forced spurious mask : ℕ) (mode vector level : List ℕ) → r ≡ current (aicOf external lines enabled memory forced spurious mask mode vector (now (source .entry)) level depth)) ⌝ }
 {
-    if (depth == 0) | (8 < depth) {
+    if depth == 0 {
+        return 0;
+    }
+    if 8 < depth {
         return 0;
     }
     let at = (depth - 1) as usize;
@@ -118,7 +101,7 @@ pub fn current(source: &[u8; 8], depth: u32) -> u32
 pub fn is_irq(mask: u32, level: &[u8; 8], depth: u32, any: u32) -> bool
     ensures { λ r. ⌜ ((external lines enabled memory forced spurious : ℕ) (mode vector source : List ℕ) → any ≡ anyOf (aicOf external lines enabled memory forced spurious mask mode vector source (now (level .entry)) depth) → r ≡ irq (aicOf external lines enabled memory forced spurious mask mode vector source (now (level .entry)) depth)) ⌝ }
 {
-    let least = least_of(level, depth);
+    let least = aic_levels::least(level, depth);
     !words::has(mask, 1) & !words::is_clean(least, any)
 }
 
@@ -218,7 +201,7 @@ fn start<'a>(
     p: u32,
 ) -> u32
     requires { ⌜ (now depth < 8) × (p < 8) ⌝ }
-    ensures { λ r. ⌜ ((external spurious mask : ℕ) (mode : List ℕ) → p ≡ highestOf (now (any .entry)) → above (aicOf external lines enabled (now (memory .entry)) forced spurious mask mode (now (vector .entry)) (now (source .entry)) (now (level .entry)) (now (depth .entry))) p ≡ true → Kept (aicOf external lines enabled (now (memory .entry)) forced spurious mask mode (now (vector .entry)) (now (source .entry)) (now (level .entry)) (now (depth .entry))) (now (words .entry)) (now (any .entry)) edges low (now (class .entry)) → (answered (aicOf external lines enabled (now (memory .exit)) forced spurious mask mode (now (vector .entry)) (now (source .exit)) (now (level .exit)) (now (depth .exit))) r ≡ ivrRead (aicOf external lines enabled (now (memory .entry)) forced spurious mask mode (now (vector .entry)) (now (source .entry)) (now (level .entry)) (now (depth .entry)))) × Kept (aicOf external lines enabled (now (memory .exit)) forced spurious mask mode (now (vector .entry)) (now (source .exit)) (now (level .exit)) (now (depth .exit))) (now (words .exit)) (now (any .exit)) edges low (now (class .entry))) ⌝ }
+    ensures { λ r. ⌜ ((external spurious mask : ℕ) (mode : List ℕ) → p ≡ highestOf (now (any .entry)) → leastOf (aicOf external lines enabled (now (memory .entry)) forced spurious mask mode (now (vector .entry)) (now (source .entry)) (now (level .entry)) (now (depth .entry))) ≤ p → Kept (aicOf external lines enabled (now (memory .entry)) forced spurious mask mode (now (vector .entry)) (now (source .entry)) (now (level .entry)) (now (depth .entry))) (now (words .entry)) (now (any .entry)) edges low (now (class .entry)) → (answered (aicOf external lines enabled (now (memory .exit)) forced spurious mask mode (now (vector .entry)) (now (source .exit)) (now (level .exit)) (now (depth .exit))) r ≡ ivrRead (aicOf external lines enabled (now (memory .entry)) forced spurious mask mode (now (vector .entry)) (now (source .entry)) (now (level .entry)) (now (depth .entry)))) × Kept (aicOf external lines enabled (now (memory .exit)) forced spurious mask mode (now (vector .entry)) (now (source .exit)) (now (level .exit)) (now (depth .exit))) (now (words .exit)) (now (any .exit)) edges low (now (class .entry))) ⌝ }
 {
     let at = p as usize;
     let k = words::lowest(words[at]) % 32;
@@ -248,7 +231,7 @@ pub fn read_ivr<'a>(
     ensures { λ r. ⌜ ((external mask : ℕ) (mode : List ℕ) → Kept (aicOf external lines enabled (now (memory .entry)) forced spurious mask mode (now (vector .entry)) (now (source .entry)) (now (level .entry)) (now (depth .entry))) (now (words .entry)) (now (any .entry)) edges low (now (class .entry)) → (answered (aicOf external lines enabled (now (memory .exit)) forced spurious mask mode (now (vector .entry)) (now (source .exit)) (now (level .exit)) (now (depth .exit))) r ≡ ivrRead (aicOf external lines enabled (now (memory .entry)) forced spurious mask mode (now (vector .entry)) (now (source .entry)) (now (level .entry)) (now (depth .entry)))) × Kept (aicOf external lines enabled (now (memory .exit)) forced spurious mask mode (now (vector .entry)) (now (source .exit)) (now (level .exit)) (now (depth .exit))) (now (words .exit)) (now (any .exit)) edges low (now (class .entry))) ⌝ }
 {
     let p = aic_levels::highest((*any % 256) as u8) as u32;
-    let least = least_of(level, *depth);
+    let least = aic_levels::least(level, *depth);
     if (p < 8) & (least <= p) {
         return start(
             lines,
