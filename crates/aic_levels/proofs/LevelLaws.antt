@@ -1,18 +1,21 @@
 -- Bit by bit: the words of the levels, and the byte.
-use mathlib.Core.Path.{_≡_, refl, sym, ap, _∙_, subst}
+use mathlib.Core.Path.{_≡_, refl, sym, ap, ap₂, _∙_, subst}
 use mathlib.Core.Bool.{Bool, true, false, not, _&&_}
 use mathlib.Core.Logic.{_≢_}
 use Prim.Native.Nat.{ℕ, _^_, _≤_, _<_}
 use native.Mathlib.Omega.{arith}
 use borrow.Author.Tests.{eq-eqb, ne-eqb, eqb-true, eqb-false, not-true}
 use lib.Dec.{eqb}
-use Rattle.words.specs.Word.{bit, wordOf}
+use Rattle.words.specs.Word.{bit, wordOf, either, both, without}
 use Rattle.words.proofs.TruthLaws.{and-left, and-right, and-both}
-use Rattle.words.proofs.WordLaws.{bit-wordOf, wordOf-lt, some-bit, bit-not-zero}
+use Rattle.words.proofs.WordLaws.{bit-wordOf, wordOf-lt, wordOf-same, word-is, without-lt, some-bit, bit-not-zero}
 use Rattle.aic_record.specs.declared.Aic.{Aic}
 use Rattle.aic_record.specs.Mode.{priority}
+use Rattle.aic_sources.specs.Pending.{pendingWord}
 use Rattle.aic_sources.specs.Normal.{waiting}
+use Rattle.aic_sources.specs.Search.{rank}
 use Rattle.aic_sources.proofs.HandlerLaws.{priority-small}
+use Rattle.aic_sources.proofs.PendingLaws.{asking-by, fast-by, waits-are}
 use Rattle.aic_levels.specs.Levels.{levelWord, anyOf}
 
 -- bit k of word p: source k waits and has priority p
@@ -60,3 +63,19 @@ pub source-any : (s : Aic) (k : ℕ) → k < 32 → waiting s k ≡ true → bit
 source-any s k l w =
     any-bit s (priority s k) (omega (arith, priority-small s k))
     ∙ ap not (ne-eqb (levelWord s (priority s k)) 0 (bit-not-zero (levelWord s (priority s k)) k (level-in s (priority s k) k l w refl)))
+
+-- ---- the waiting sources as a word
+
+-- of the pending and enabled sources those that are not fast
+pub waiting-by : (s : Aic) (pend asks fasts r : ℕ) → pend ≡ pendingWord s → asks ≡ both pend (s .enabled) → fasts ≡ either 1 (s .forced) → r ≡ without asks fasts
+    → r ≡ wordOf 32 (waiting s)
+waiting-by s pend asks fasts r e f g h =
+    word-is 32 r (waiting s) (subst (λ (x : ℕ). x < 2 ^ 32) (sym h) (without-lt asks fasts))
+    (λ k l. waits-are s r k (h ∙ ap₂ (λ (x y : ℕ). without x y) (f ∙ ap (λ (x : ℕ). both x (s .enabled)) e ∙ asking-by s) (g ∙ fast-by s)) l)
+
+-- of the waiting sources those of a priority
+pub level-by : (s : Aic) (waits : ℕ) → waits ≡ wordOf 32 (waiting s) → (p : ℕ) → wordOf 32 (λ k. bit waits k && eqb (rank (s .mode) k) p) ≡ levelWord s p
+unfolding levelWord priority
+level-by s waits e p =
+    wordOf-same 32 (λ k. bit waits k && eqb (rank (s .mode) k) p) (λ k. waiting s k && eqb (rank (s .mode) k) p)
+    (λ k l. ap (λ (b : Bool). b && eqb (rank (s .mode) k) p) (ap (λ (w : ℕ). bit w k) e ∙ bit-wordOf 32 (waiting s) k l))
