@@ -2,25 +2,25 @@
 use mathlib.Core.Path.{_≡_, refl, sym, ap, ap₂, _∙_, subst}
 use mathlib.Core.Bool.{Bool, true, false, not, _&&_, _||_, and-false}
 use mathlib.Core.List.{List}
-use mathlib.Core.Logic.{_≢_}
+use mathlib.Core.Logic.{_≢_, ⊎-elim}
 use Prim.Native.Nat.{ℕ, _%_, _^_, _≤_, _<_}
 use native.Mathlib.Decide.{ℕ-discrete, decLt}
 use native.Mathlib.Omega.{arith}
-use borrow.Author.Tests.{eq-eqb, ne-eqb, le-leb, lt-ltb, le-ltb}
+use borrow.Author.Tests.{eq-eqb, ne-eqb, eqb-false, le-leb, lt-ltb, le-ltb, ltb-true, ltb-false}
 use lib.Dec.{eqb, ltb, leb}
 use lib.ListN.{length, getD, set}
 use Rattle.words.specs.Choice.{pick}
 use Rattle.words.specs.Counting.{lowestBelow}
 use Rattle.words.specs.Word.{bit, wordOf, both, withBit}
 use Rattle.words.proofs.ChoiceLaws.{pick-true, pick-false, pick-cases}
-use Rattle.words.proofs.TruthLaws.{and-both}
+use Rattle.words.proofs.TruthLaws.{and-both, or-either, or-neither}
 use Rattle.words.proofs.WordLaws.{wordOf-same}
 use Rattle.aic_record.specs.declared.Aic.{Aic}
 use Rattle.aic_record.specs.Record.{withMemory}
-use Rattle.aic_record.specs.Mode.{priority, edge}
+use Rattle.aic_record.specs.Mode.{priority, kind, edge}
 use Rattle.aic_record.specs.Passes.{floorOver}
 use Rattle.aic_record.specs.Sound.{levelBelow}
-use Rattle.aic_sources.specs.Pending.{asking, pending, active, edgeWord}
+use Rattle.aic_sources.specs.Pending.{activeLow, activeAt, active, pending, asking, edgeWord}
 use Rattle.aic_sources.specs.Fast.{fast}
 use Rattle.aic_sources.specs.Normal.{waiting, chosen}
 use Rattle.aic_sources.specs.Search.{leastOf}
@@ -32,6 +32,19 @@ use Rattle.aic_levels.proofs.HighestLaws.{highest-is}
 use Rattle.aic_levels.proofs.ChosenLaws.{Started, some-found, none-found}
 use Rattle.aic_beside.specs.Kept.{Kept}
 use Rattle.aic_beside.proofs.KeptLaws.{modes-of, modes-same, right-of, right-stays, kept-by, any-small, one-kept, levels-stay, other-bit, priority-low}
+
+-- ---- the open entries, from the test that code makes
+
+-- with at most eight entries the test holds only where none is open
+pub none-open : (n : ℕ) → (eqb n 0 || ltb 8 n) ≡ true → n ≤ 8 → eqb n 0 ≡ true
+none-open n e l = ⊎-elim (λ (z : eqb n 0 ≡ true). z) (λ (z : ltb 8 n ≡ true). absurd (omega (arith, ltb-true 8 n z, l))) (or-either (eqb n 0) (ltb 8 n) e)
+
+-- where it fails one is open at least, and eight at most
+pub some-open : (n : ℕ) → (eqb n 0 || ltb 8 n) ≡ false → (1 ≤ n) × (n ≤ 8) × (eqb n 0 ≡ false)
+some-open n e =
+    let r = or-neither (eqb n 0) (ltb 8 n) e in
+    let d : n ≢ 0 = eqb-false n 0 (r .0) in
+    (omega (arith, d), omega (arith, ltb-false 8 n (r .1)), r .0)
 
 -- ---- the source that starts
 
@@ -117,7 +130,7 @@ fast-spent-by s edges m e f =
 
 -- source 0 is fast, so in no level: whatever its memory, their words stay
 level-fast : (s : Aic) (m q : ℕ) → ((j : ℕ) → j < 32 → (j ≡ 0 → ⊥) → bit m j ≡ bit (s .memory) j) → levelWord (withMemory s m) q ≡ levelWord s q
-unfolding levelWord waiting asking pending active fast edge
+unfolding levelWord waiting asking pending active activeAt activeLow kind fast edge priority
 level-fast s m q f = wordOf-same 32 _ _ (λ j i. ap (λ (b : Bool). b && eqb (priority s j) q) (go j i (ℕ-discrete j 0)))
   where
     out : (j : ℕ) (b : Bool) → j ≡ 0 → (b && not (eqb j 0 || bit (s .forced) j)) ≡ false

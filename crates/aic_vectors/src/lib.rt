@@ -22,13 +22,11 @@ ghost use Rattle.aic_beside.specs.Kept.{lowWord, Kept};
 
 // The level of the last entry, or no level if there is none.
 fn last_level(level: &[u8; 8], depth: u32) -> u8
+    requires { ⌜ depth ≤ 8 ⌝ }
     ensures { λ r. ⌜ r ≡ levelBelow (now (level .entry)) depth ⌝ }
 {
     if depth == 0 {
         return aic_record::NO_LEVEL;
-    }
-    if 8 < depth {
-        return 0;
     }
     let at = (depth - 1) as usize;
     level[at]
@@ -64,35 +62,36 @@ fn open_mark<'a>(source: &'a mut [u8; 8], level: &'a mut [u8; 8], depth: &'a mut
     open_entry(source, level, depth, 0, below);
 }
 
-// A write of EOICR: the last entry is closed, mark or handler. With none open nothing changes.
+// A write of EOICR: the last entry is closed, mark or handler. With none open nothing changes. No sound record has more than eight.
 pub fn close<'a>(source: &'a mut [u8; 8], level: &'a mut [u8; 8], depth: &'a mut u32)
-    ensures { λ _. ⌜ ((external lines enabled memory forced spurious mask : ℕ) (mode vector : List ℕ) → (aicOf external lines enabled memory forced spurious mask mode vector (now (source .exit)) (now (level .exit)) (now (depth .exit))) ≡ ended (aicOf external lines enabled memory forced spurious mask mode vector (now (source .entry)) (now (level .entry)) (now (depth .entry)))) ⌝ }
+    ensures { λ _. ⌜ ((external lines enabled memory forced spurious mask : ℕ) (mode vector : List ℕ) → now (depth .entry) ≤ 8 → (aicOf external lines enabled memory forced spurious mask mode vector (now (source .exit)) (now (level .exit)) (now (depth .exit))) ≡ ended (aicOf external lines enabled memory forced spurious mask mode vector (now (source .entry)) (now (level .entry)) (now (depth .entry)))) ⌝ }
 {
     let entries = *depth;
-    if entries == 0 {
+    if (entries == 0) | (8 < entries) {
         return;
     }
     *depth = entries - 1;
-    if 8 < entries {
-        return;
-    }
     let at = (entries - 1) as usize;
     source[at] = 0;
     level[at] = 0;
 }
 
+// A byte as a number of 32 bits.
+pub fn wide(b: u8) -> u32
+    ensures { λ r. ⌜ r ≡ b ⌝ }
+{
+    b as u32
+}
+
 // ISR: the source of the last entry, 0 if that is a mark or none is open.
 pub fn current(source: &[u8; 8], depth: u32) -> u32
-    ensures { λ r. ⌜ ((external lines enabled memory forced spurious mask : ℕ) (mode vector level : List ℕ) → r ≡ current (aicOf external lines enabled memory forced spurious mask mode vector (now (source .entry)) level depth)) ⌝ }
+    ensures { λ r. ⌜ ((external lines enabled memory forced spurious mask : ℕ) (mode vector level : List ℕ) → depth ≤ 8 → r ≡ current (aicOf external lines enabled memory forced spurious mask mode vector (now (source .entry)) level depth)) ⌝ }
 {
-    if depth == 0 {
-        return 0;
-    }
-    if 8 < depth {
+    if (depth == 0) | (8 < depth) {
         return 0;
     }
     let at = (depth - 1) as usize;
-    source[at] as u32
+    wide(source[at])
 }
 
 // ---- the two outputs

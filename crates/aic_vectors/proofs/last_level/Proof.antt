@@ -1,10 +1,7 @@
 -- That `last_level` of src/lib.rt keeps its contract.
-use mathlib.Core.Path.{_∙_}
-use native.Mathlib.Omega.{arith}
 use borrow.Author.Tests.{eq-eqb, ne-eqb}
 use Rattle.words.proofs.ChoiceLaws.{pick-true, pick-false}
 use Rattle.aic_record.specs.Sound.{levelBelow}
-use Rattle.aic_record.proofs.TableLaws.{past-getD}
 use borrow.Author.Needs.{needs}
 use Rattle.aic_vectors.proofs.last_level.Statement.{statement}
 use Rattle.aic_vectors.proofs.last_level.Tie as tie
@@ -15,12 +12,8 @@ returns c = pick-true _ (eq-eqb _ _ (c .if1 .taken))
 
 returns-2 : tie.Need-returns-2
 unfolding levelBelow
-returns-2 c = past-getD _ 8 _ (search needs) (omega (arith, c .if2 .taken)) ∙ pick-false _ (ne-eqb _ _ (c .before .if1 .left))
-
-returns-3 : tie.Need-returns-3
-unfolding levelBelow
-returns-3 c = c .result .given ∙ pick-false _ (ne-eqb _ _ (c .before .before .if1 .left))
+returns-2 c = pick-false _ (ne-eqb _ _ (c .before .if1 .left))
 
 pub last-level-spec : {M : Type 1} → statement M
 last-level-spec =
-    tie.close (tie.spec returns returns-2 (λ c. search needs) (λ c. search needs) (λ c. search needs) returns-3)
+    tie.close (tie.spec returns (λ c. search needs) (λ c. search needs) (λ c. search needs) returns-2)

@@ -1,5 +1,7 @@
 -- That `read_fvr` of src/lib.rt keeps its contract.
-use mathlib.Core.Path.{ap₂, _∙_}
+use mathlib.Core.Path.{ap, _∙_}
+use lib.ListN.{getD}
+use Rattle.aic_record.specs.declared.Aic.{Aic}
 use Rattle.words.proofs.ChoiceLaws.{by-true, by-false}
 use Rattle.aic_registers.specs.Handlers.{answered, fvrRead}
 use Rattle.aic_beside.specs.Parts.{aicOf}
@@ -14,7 +16,7 @@ returns c external mask depth any mode source level words class h =
     let a = c .before .before .before .before .before .args in
     let s = aicOf external (a .lines) (a .enabled) (a .memory .now) (a .forced) (a .spurious) mask mode (a .vector .now) source level depth in
     let m = c .before .spend-fast .ensures in (
-      ap₂ answered (fast-spent-by s (a .edges) _ (h .edgeTriggered) m) (c .result .given)
+      ap (λ (x : Aic). answered x (getD (a .vector .now) 0 0)) (fast-spent-by s (a .edges) _ (h .edgeTriggered) m)
       ∙ by-true _ (c .before .before .before .fast-asks .ensures external (a .spurious) mask depth mode (a .vector .now) source level (h .edgeTriggered) (h .activeLow)) (c .before .before .if1 .taken),
       fast-kept s words class any (a .edges) (a .low) _ _ m h,
     )

@@ -1,8 +1,9 @@
 -- That `spend` of src/lib.rt keeps its contract.
-use mathlib.Core.Path.{_∙_}
+use mathlib.Core.Path.{refl, _∙_}
 use native.Mathlib.Omega.{arith}
+use Rattle.aic_record.specs.Record.{withMemory}
 use Rattle.aic_beside.specs.Parts.{aicOf}
-use Rattle.aic_beside.proofs.KeptLaws.{priority-low}
+use Rattle.aic_beside.proofs.KeptLaws.{modes-of, modes-same, priority-low}
 use Rattle.aic_vectors.proofs.VectorLaws.{spent-some, spent-none, spent-kept}
 use borrow.Author.Needs.{needs}
 use Rattle.aic_vectors.proofs.spend.Statement.{statement}
@@ -13,10 +14,12 @@ returns c external spurious mask depth mode vector source level l e h =
     let a = c .before .before .before .before .before .before .before .before .args in
     let s = aicOf external (a .lines) (a .enabled) (a .memory .now) (a .forced) spurious mask mode vector source level depth in
     let w = c .before .before .before .before .with-bit .ensures in
+    let n = c .before .before .before .before .with-bit .result in
+    let o = modes-same s (withMemory s n) (a .edges) (a .low) (a .class .now) refl refl (modes-of s (a .words .now) (a .class .now) (a .any .now) (a .edges) (a .low) h) in
     let r = c .renew-level .ensures .0 (omega (arith, e, priority-low s (a .k))) in (
       spent-some s (a .edges) (a .k) _ _ l (h .edgeTriggered) (c .before .before .before .before .before .before .before .has .ensures) (c .before .before .before .before .before .before .if1 .taken) w,
       spent-kept s (a .words .now) _ (a .class .now) (a .any .now) _ (a .edges) (a .low) _ (a .k) (a .p) _ e w
-          (c .before .before .before .waiting-of .ensures external spurious mask depth mode vector source level (h .edgeTriggered) (h .activeLow)) (r .0) (r .1) h,
+          (c .before .before .before .waiting-of .ensures external spurious mask depth mode vector source level (o .edgeTriggered) (o .activeLow)) (r .0) (r .1) h,
     )
 
 returns-2 : tie.Need-returns-2
