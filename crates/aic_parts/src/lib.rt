@@ -52,7 +52,7 @@ fn read_table<'a>(mode: &'a [u8; 32], vector: &'a [u32; 32], offset: u32) -> u32
 {
     let k = (offset / 4 % 32) as usize;
     if offset < map::SVR {
-        return mode[k] as u32;
+        return aic_vectors::wide(mode[k]);
     }
     vector[k]
 }
@@ -403,7 +403,6 @@ pub fn line<'a>(
         return refuse(n);
     }
     aic_commands::move_line(
-        external,
         lines,
         enabled,
         memory,

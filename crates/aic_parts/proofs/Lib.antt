@@ -1,0 +1,2 @@
+-- Laws about steps on parts.
+pub mod AccessLaws
