@@ -1,4 +1,2 @@
--- Laws of what commands, mode writes and line steps do to a record and to what is kept beside it.
+-- Laws of what commands do to a record.
 pub mod CommandLaws
-pub mod LineLaws
-pub mod ModeLaws

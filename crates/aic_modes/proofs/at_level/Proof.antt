@@ -1,6 +1,6 @@
 use Rattle.words.proofs.ChoiceLaws.{pick-true, pick-false}
-use Rattle.aic_commands.proofs.at_level.Statement.{statement}
-use Rattle.aic_commands.proofs.at_level.Tie as tie
+use Rattle.aic_modes.proofs.at_level.Statement.{statement}
+use Rattle.aic_modes.proofs.at_level.Tie as tie
 
 returns : tie.Need-returns
 returns c = pick-true _ (c .if1 .taken)

@@ -4,10 +4,10 @@ use Rattle.aic_beside.specs.Parts.{aicOf}
 use Rattle.aic_beside.proofs.KeptLaws.{Modes}
 use Rattle.aic_record.specs.Record.{withMode, withMemory}
 use lib.ListN.{set}
-use Rattle.aic_commands.proofs.ModeLaws.{mode-record, modes-put, mode-kept}
+use Rattle.aic_modes.proofs.ModeLaws.{mode-record, modes-put, mode-kept}
 use borrow.Author.Needs.{needs}
-use Rattle.aic_commands.proofs.write_mode.Statement.{statement}
-use Rattle.aic_commands.proofs.write_mode.Tie as tie
+use Rattle.aic_modes.proofs.write_mode.Statement.{statement}
+use Rattle.aic_modes.proofs.write_mode.Tie as tie
 
 returns : tie.Need-returns
 returns c = (λ l. absurd (omega (arith, l, c .if1 .taken)), λ l. (refl, refl, refl, refl, refl, refl, refl))

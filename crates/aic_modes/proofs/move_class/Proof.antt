@@ -1,7 +1,7 @@
-use Rattle.aic_commands.proofs.ModeLaws.{class-put}
+use Rattle.aic_modes.proofs.ModeLaws.{class-put}
 use borrow.Author.Needs.{needs}
-use Rattle.aic_commands.proofs.move_class.Statement.{statement}
-use Rattle.aic_commands.proofs.move_class.Tie as tie
+use Rattle.aic_modes.proofs.move_class.Statement.{statement}
+use Rattle.aic_modes.proofs.move_class.Tie as tie
 
 returns : tie.Need-returns
 returns c =

@@ -3,8 +3,8 @@ use mathlib.Core.Path.{sym, ap, _∙_}
 use borrow.Author.Tests.{eq-eqb, ne-eqb}
 use Rattle.words.proofs.ChoiceLaws.{pick-true, pick-false}
 use borrow.Author.Needs.{needs}
-use Rattle.aic_commands.proofs.forget_other_type.Statement.{statement}
-use Rattle.aic_commands.proofs.forget_other_type.Tie as tie
+use Rattle.aic_modes.proofs.forget_other_type.Statement.{statement}
+use Rattle.aic_modes.proofs.forget_other_type.Tie as tie
 
 returns : tie.Need-returns
 returns c = c .with-bit .ensures ∙ pick-true _ (ap not (ne-eqb _ _ (λ q. c .before .if1 .taken (c .before .before .before .type-of .ensures ∙ q ∙ sym (c .before .before .type-of2 .ensures)))))

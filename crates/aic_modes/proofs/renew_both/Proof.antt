@@ -1,7 +1,7 @@
-use Rattle.aic_commands.proofs.ModeLaws.{both-renewed}
+use Rattle.aic_modes.proofs.ModeLaws.{both-renewed}
 use borrow.Author.Needs.{needs}
-use Rattle.aic_commands.proofs.renew_both.Statement.{statement}
-use Rattle.aic_commands.proofs.renew_both.Tie as tie
+use Rattle.aic_modes.proofs.renew_both.Statement.{statement}
+use Rattle.aic_modes.proofs.renew_both.Tie as tie
 
 returns : tie.Need-returns
 returns c =

@@ -4,8 +4,8 @@ use mathlib.Core.Path.{ap, ap₂, _∙_}
 use lib.Dec.{ltb}
 use Rattle.words.specs.Word.{withBit}
 use borrow.Author.Needs.{needs}
-use Rattle.aic_commands.proofs.mark_type.Statement.{statement}
-use Rattle.aic_commands.proofs.mark_type.Tie as tie
+use Rattle.aic_modes.proofs.mark_type.Statement.{statement}
+use Rattle.aic_modes.proofs.mark_type.Tie as tie
 
 returns : tie.Need-returns
 returns c =

@@ -3,8 +3,8 @@ use mathlib.Core.Path.{ap, ap₂, _∙_}
 use Rattle.words.specs.Choice.{pick}
 use Rattle.words.proofs.ChoiceLaws.{by-true, by-false}
 use borrow.Author.Needs.{needs}
-use Rattle.aic_commands.proofs.remembered.Statement.{statement}
-use Rattle.aic_commands.proofs.remembered.Tie as tie
+use Rattle.aic_modes.proofs.remembered.Statement.{statement}
+use Rattle.aic_modes.proofs.remembered.Tie as tie
 
 returns : tie.Need-returns
 returns c =

@@ -4,10 +4,10 @@ use Rattle.aic_record.specs.Mode.{priority}
 use Rattle.aic_record.specs.Record.{withLines, withMemory}
 use Rattle.aic_beside.specs.Parts.{aicOf}
 use Rattle.aic_beside.proofs.KeptLaws.{Modes, modes-of, modes-same}
-use Rattle.aic_commands.proofs.LineLaws.{line-record, line-kept}
+use Rattle.aic_modes.proofs.LineLaws.{line-record, line-kept}
 use borrow.Author.Needs.{needs}
-use Rattle.aic_commands.proofs.move_line.Statement.{statement}
-use Rattle.aic_commands.proofs.move_line.Tie as tie
+use Rattle.aic_modes.proofs.move_line.Statement.{statement}
+use Rattle.aic_modes.proofs.move_line.Tie as tie
 
 returns : tie.Need-returns
 returns c = (λ l. absurd (omega (arith, l, c .if1 .taken)), λ l. (refl, refl, refl, refl))

@@ -24,8 +24,8 @@ use Rattle.aic.proofs.HandlerLaws.{moded-is}
 use Rattle.aic_levels.specs.Levels.{levelWord}
 use Rattle.aic_beside.specs.Kept.{lowWord, classWord, Kept}
 use Rattle.aic_beside.proofs.KeptLaws.{Modes, two-kept}
-use Rattle.aic_commands.specs.Table.{bitPut}
-use Rattle.aic_commands.proofs.LineLaws.{other-memory}
+use Rattle.aic_modes.specs.Table.{bitPut}
+use Rattle.aic_modes.proofs.LineLaws.{other-memory}
 
 -- the record after a mode write
 pub mode-record : (s : Aic) (k v m n : ℕ) → m ≡ pick (not (eqb (typeOf (getD (s .mode) k 0)) (typeOf v))) (withBit (s .memory) k false) (s .memory) → n ≡ keptMode v
