@@ -194,7 +194,7 @@ fn write_table<'a>(
 {
     let k = offset / 4 % 32;
     if offset < map::SVR {
-        aic_commands::write_mode(
+        aic_modes::write_mode(
             external,
             lines,
             enabled,
@@ -402,7 +402,7 @@ pub fn line<'a>(
     if n != steps::CARRIED_OUT {
         return refuse(n);
     }
-    aic_commands::move_line(
+    aic_modes::move_line(
         lines,
         enabled,
         memory,

@@ -1,44 +1,40 @@
+-- That `line` of src/lib.rt keeps its contract.
+use mathlib.Core.Path.{sym, ap, ap₂, _∙_}
+use mathlib.Core.Bool.{true}
+use Rattle.steps.proofs.Promises.{line-table}
+use Rattle.aic.specs.Model.{line}
+use Rattle.aic.proofs.CallLaws.{done, stopped, line-number}
+use Rattle.aic_beside.specs.Parts.{aicOf}
+use Rattle.aic_parts.specs.declared.Reply.{Reply}
+use Rattle.aic_parts.specs.Reply.{answerOf}
 use borrow.Author.Needs.{needs}
 use Rattle.aic_parts.proofs.line.Statement.{statement}
 use Rattle.aic_parts.proofs.line.Tie as tie
-use Rattle.aic_parts.proofs.line.Reads as reads
-use Rattle.aic_parts.proofs.line.Lts as lts
-use Rattle.aic_commands.proofs.move_line.Reads as move-line-reads
-use Rattle.aic_parts.proofs.carry_out.Reads as carry-out-reads
-use Rattle.aic_parts.proofs.refuse.Reads as refuse-reads
-use Rattle.steps.proofs.line_refusal.Reads as line-refusal-reads
 
--- src/lib.rt:401:9
-line-refusal-requires : tie.Need-line-refusal-requires
-line-refusal-requires c κs = search needs
-
--- src/lib.rt:403:9
-refuse-requires : tie.Need-refuse-requires
-refuse-requires c κs = search needs
-
--- src/lib.rt:403:9
 returns : tie.Need-returns
-returns c = ?
+unfolding line
+returns c spurious mask depth vector source levels ok h =
+    let a = c .before .before .before .args in
+    let s = aicOf (a .external) (a .lines .now) (a .enabled) (a .memory .now) (a .forced) spurious mask (a .mode .now) vector source levels depth in
+    (ap (λ (r : Reply). answerOf r s) (c .refuse .ensures) ∙ stopped _ _ _ s (line-number s (a .k) (a .level) _ ok (c .before .before .line-refusal .ensures)) (c .before .if1 .taken), h)
 
--- src/lib.rt:405:5
-move-line-requires : tie.Need-move-line-requires
-move-line-requires c κs = ?
-
--- src/lib.rt:419:5
-carry-out-requires : tie.Need-carry-out-requires
-carry-out-requires c κs = search needs
-
--- src/lib.rt:384:1
 returns-2 : tie.Need-returns-2
-returns-2 c = ?
+unfolding line
+returns-2 c spurious mask depth vector source levels ok h =
+    let a = c .before .before .before .before .before .before .before .before .args in
+    let s = aicOf (a .external) (a .lines .now) (a .enabled) (a .memory .now) (a .forced) spurious mask (a .mode .now) vector source levels depth in
+    let n = c .before .before .before .before .before .before .before .line-refusal .ensures in
+    let z = c .before .before .before .before .before .before .if1 .left in
+    let w = c .before .move-line .ensures .0 (line-table true 32 (a .k) (a .level) .none .0 (sym n ∙ z) .1 .0) (a .external) spurious mask depth vector source levels h in
+    (ap₂ answerOf (c .carry-out .ensures) (w .0) ∙ done _ _ _ s (line-number s (a .k) (a .level) _ ok n) z, w .1)
 
 pub line-spec : {M : Type 1} → statement M
 line-spec =
     tie.close
     (tie.spec
-    line-refusal-requires
-    refuse-requires
+    (λ c κs. search needs)
+    (λ c κs. search needs)
     returns
-    move-line-requires
-    carry-out-requires
+    (λ c κs. search needs)
+    (λ c κs. search needs)
     returns-2)

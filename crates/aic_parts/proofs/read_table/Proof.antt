@@ -1,46 +1,29 @@
+-- That `read_table` of src/lib.rt keeps its contract.
+use mathlib.Core.Path.{_∙_}
+use Rattle.aic_beside.specs.Parts.{aicOf}
+use Rattle.aic_parts.proofs.AccessLaws.{mode-stored, vector-stored}
 use borrow.Author.Needs.{needs}
 use Rattle.aic_parts.proofs.read_table.Statement.{statement}
 use Rattle.aic_parts.proofs.read_table.Tie as tie
-use Rattle.aic_parts.proofs.read_table.Reads as reads
-use Rattle.aic_parts.proofs.read_table.Lts as lts
-use Rattle.aic_vectors.proofs.wide.Reads as wide-reads
 
--- src/lib.rt:53:13
-cast-k : tie.Need-cast-k
-cast-k c = search needs
-
--- src/lib.rt:55:34
-element-copy-out-wide : tie.Need-element-copy-out-wide
-element-copy-out-wide c = search needs
-
--- src/lib.rt:55:9
-wide-requires : tie.Need-wide-requires
-wide-requires c κs = search needs
-
--- src/lib.rt:55:9
 returns : tie.Need-returns
-returns c = ?
+returns c external lines enabled memory forced spurious mask depth source level =
+    let a = c .before .before .before .args in
+    c .wide .ensures ∙ mode-stored (aicOf external lines enabled memory forced spurious mask (a .mode .now) (a .vector .now) source level depth) (a .offset) (c .before .before .if1 .taken)
 
--- src/lib.rt:57:5
-mul-result : tie.Need-mul-result
-mul-result c = search needs
-
--- src/lib.rt:57:5
-element-copy-out-result : tie.Need-element-copy-out-result
-element-copy-out-result c = search needs
-
--- src/lib.rt:49:1
 returns-2 : tie.Need-returns-2
-returns-2 c = ?
+returns-2 c external lines enabled memory forced spurious mask depth source level =
+    let a = c .before .before .args in
+    vector-stored (aicOf external lines enabled memory forced spurious mask (a .mode .now) (a .vector .now) source level depth) (a .offset) (c .before .if1 .left) (c .before .before .pre)
 
 pub read-table-spec : {M : Type 1} → statement M
 read-table-spec =
     tie.close
     (tie.spec
-    cast-k
-    element-copy-out-wide
-    wide-requires
+    (λ c. search needs)
+    (λ c. search needs)
+    (λ c κs. search needs)
     returns
-    mul-result
-    element-copy-out-result
+    (λ c. search needs)
+    (λ c. search needs)
     returns-2)

@@ -1,58 +1,39 @@
+-- That `step` of src/lib.rt keeps its contract.
+use mathlib.Core.Path.{sym, ap, _∙_}
+use Rattle.aic.specs.Model.{step}
+use Rattle.aic_beside.specs.Parts.{aicOf}
 use borrow.Author.Needs.{needs}
 use Rattle.aic_parts.proofs.step.Statement.{statement}
 use Rattle.aic_parts.proofs.step.Tie as tie
-use Rattle.aic_parts.proofs.step.Reads as reads
-use Rattle.aic_parts.proofs.step.Lts as lts
-use Rattle.aic_parts.proofs.line.Reads as line-reads
-use Rattle.aic_parts.proofs.read.Reads as read-reads
-use Rattle.aic_parts.proofs.write.Reads as write-reads
 
--- src/lib.rt:446:20
-enum-known-x : tie.Need-enum-known-x
-enum-known-x c = search needs
-
--- src/lib.rt:446:31
-read-requires : tie.Need-read-requires
-read-requires c κs = search needs
-
--- src/lib.rt:466:21
-enum-known-x-2 : tie.Need-enum-known-x-2
-enum-known-x-2 c = search needs
-
--- src/lib.rt:466:39
-write-requires : tie.Need-write-requires
-write-requires c κs = search needs
-
--- src/lib.rt:487:20
-enum-known-x-3 : tie.Need-enum-known-x-3
-enum-known-x-3 c = search needs
-
--- src/lib.rt:487:30
-line-requires : tie.Need-line-requires
-line-requires c κs = search needs
-
--- src/lib.rt:423:1
 returns : tie.Need-returns
-returns c = ?
+returns c ok h =
+    let a = c .before .before .before .before .before .before .before .before .before .before .before .before .before .before .before .before .before .before .before .before .args in
+    let w = c .read .ensures ok h in
+    (w .0 ∙ sym (ap (step (aicOf (a .external) (a .lines .now) (a .enabled .now) (a .memory .now) (a .forced .now) (a .spurious .now) (a .mask .now) (a .mode .now) (a .vector .now) (a .source .now) (a .level .now) (a .depth .now))) (c .before .before .before .before .before .before .before .before .before .before .before .before .before .before .before .before .before .before .x .given .1)), w .1)
 
--- src/lib.rt:423:1
 returns-2 : tie.Need-returns-2
-returns-2 c = ?
+returns-2 c ok h =
+    let a = c .before .before .before .before .before .before .before .before .before .before .before .before .before .before .before .before .before .before .before .before .args in
+    let w = c .write .ensures ok h in
+    (w .0 ∙ sym (ap (step (aicOf (a .external) (a .lines .now) (a .enabled .now) (a .memory .now) (a .forced .now) (a .spurious .now) (a .mask .now) (a .mode .now) (a .vector .now) (a .source .now) (a .level .now) (a .depth .now))) (c .before .before .before .before .before .before .before .before .before .before .before .before .before .before .before .before .before .before .x2 .given .1)), w .1)
 
--- src/lib.rt:423:1
 returns-3 : tie.Need-returns-3
-returns-3 c = ?
+returns-3 c ok h =
+    let a = c .before .before .before .before .before .before .before .before .before .before .before .before .before .before .args in
+    let w = c .line .ensures (a .spurious .now) (a .mask .now) (a .depth .now) (a .vector .now) (a .source .now) (a .level .now) ok h in
+    (w .0 ∙ sym (ap (step (aicOf (a .external) (a .lines .now) (a .enabled .now) (a .memory .now) (a .forced .now) (a .spurious .now) (a .mask .now) (a .mode .now) (a .vector .now) (a .source .now) (a .level .now) (a .depth .now))) (c .before .before .before .before .before .before .before .before .before .before .before .before .x3 .given .1)), w .1)
 
 pub step-spec : {M : Type 1} → statement M
 step-spec =
     tie.close
     (tie.spec
-    enum-known-x
-    read-requires
-    enum-known-x-2
-    write-requires
-    enum-known-x-3
-    line-requires
+    (λ c. search needs)
+    (λ c κs. search needs)
+    (λ c. search needs)
+    (λ c κs. search needs)
+    (λ c. search needs)
+    (λ c κs. search needs)
     returns
     returns-2
     returns-3)

@@ -1,33 +1,30 @@
+-- That `write` of src/lib.rt keeps its contract.
+use mathlib.Core.Path.{refl}
+use Rattle.aic_beside.specs.Parts.{aicOf}
+use Rattle.aic_parts.proofs.AccessLaws.{in-table, off-table, table-written}
+use Rattle.aic_parts.proofs.ReplyLaws.{write-arm}
 use borrow.Author.Needs.{needs}
 use Rattle.aic_parts.proofs.write.Statement.{statement}
 use Rattle.aic_parts.proofs.write.Tie as tie
-use Rattle.aic_parts.proofs.write.Reads as reads
-use Rattle.aic_parts.proofs.write.Lts as lts
-use Rattle.aic_parts.proofs.carry_out.Reads as carry-out-reads
-use Rattle.aic_parts.proofs.write_single.Reads as write-single-reads
-use Rattle.aic_parts.proofs.write_table.Reads as write-table-reads
 
--- src/lib.rt:343:9
 write-table-requires : tie.Need-write-table-requires
-write-table-requires c κs = ?
+write-table-requires c κs = in-table (c .before .before .before .before .before .before .before .before .before .before .before .args .offset) (c .before .before .before .before .before .before .before .before .before .before .if1 .taken) .0
 
--- src/lib.rt:359:9
-carry-out-requires : tie.Need-carry-out-requires
-carry-out-requires c κs = search needs
-
--- src/lib.rt:359:9
 returns : tie.Need-returns
-returns c = ?
+returns c ok h =
+    let a = c .before .before .before .before .before .before .before .before .before .before .before .before .before .args in
+    let s = aicOf (a .external) (a .lines) (a .enabled .now) (a .memory .now) (a .forced .now) (a .spurious .now) (a .mask .now) (a .mode .now) (a .vector .now) (a .source .now) (a .level .now) (a .depth .now) in
+    let i = in-table (a .offset) (c .before .before .before .before .before .before .before .before .before .before .before .before .if1 .taken) in
+    let w = c .before .write-table .ensures (a .spurious .now) (a .mask .now) (a .depth .now) (a .source .now) (a .level .now) h in
+    (write-arm s _ _ _ (a .offset) (a .offset) (a .value) (c .carry-out .ensures) (w .0) (table-written s (a .offset) (a .value) ok (i .1) (i .0)) refl, w .1)
 
--- src/lib.rt:361:5
 write-single-requires : tie.Need-write-single-requires
-write-single-requires c κs = ?
+write-single-requires c κs = off-table (c .before .before .before .before .before .before .before .before .before .before .before .before .before .before .args .offset) (c .before .before .before .before .before .before .before .before .before .before .before .before .before .if1 .left)
 
--- src/lib.rt:319:1
 returns-2 : tie.Need-returns-2
-returns-2 c = ?
+returns-2 c ok h =
+    let a = c .before .before .before .before .before .before .before .before .before .before .before .before .before .before .before .args in
+    c .write-single .ensures (a .external) (a .mode .now) (a .vector .now) ok h
 
 pub write-spec : {M : Type 1} → statement M
-write-spec =
-    tie.close
-    (tie.spec write-table-requires carry-out-requires returns write-single-requires returns-2)
+write-spec = tie.close (tie.spec write-table-requires (λ c κs. search needs) returns write-single-requires returns-2)

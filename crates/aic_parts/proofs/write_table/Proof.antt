@@ -1,35 +1,33 @@
+-- That `write_table` of src/lib.rt keeps its contract.
+use mathlib.Core.Path.{_∙_}
+use native.Mathlib.Omega.{arith}
+use Prim.Native.Nat.{_/_, _%_}
+use Rattle.aic_beside.specs.Parts.{aicOf}
+use Rattle.aic_beside.proofs.KeptLaws.{entries-kept}
+use Rattle.aic_parts.proofs.AccessLaws.{mode-written, vector-written}
 use borrow.Author.Needs.{needs}
 use Rattle.aic_parts.proofs.write_table.Statement.{statement}
 use Rattle.aic_parts.proofs.write_table.Tie as tie
-use Rattle.aic_parts.proofs.write_table.Reads as reads
-use Rattle.aic_parts.proofs.write_table.Lts as lts
-use Rattle.aic_commands.proofs.write_mode.Reads as write-mode-reads
 
--- src/lib.rt:197:9
-write-mode-requires : tie.Need-write-mode-requires
-write-mode-requires c κs = ?
-
--- src/lib.rt:212:9
 returns : tie.Need-returns
-returns c = ?
+returns c spurious mask depth source level h =
+    let a = c .before .before .before .before .before .before .before .before .before .args in
+    let s = aicOf (a .external) (a .lines) (a .enabled) (a .memory .now) (a .forced) spurious mask (a .mode .now) (a .vector .now) source level depth in
+    let w = c .write-mode .ensures .0 (omega arith) spurious mask depth (a .vector .now) source level h in
+    (w .0 ∙ mode-written s (a .offset) (a .value) (c .before .before .before .before .before .before .before .before .if1 .taken), w .1)
 
--- src/lib.rt:214:14
-cast-at : tie.Need-cast-at
-cast-at c = search needs
-
--- src/lib.rt:215:5
-mul-vector : tie.Need-mul-vector
-mul-vector c = search needs
-
--- src/lib.rt:215:5
-element-write-vector : tie.Need-element-write-vector
-element-write-vector c = search needs
-
--- src/lib.rt:176:1
 returns-2 : tie.Need-returns-2
-returns-2 c = ?
+returns-2 c spurious mask depth source level h =
+    let a = c .before .args in
+    (vector-written (aicOf (a .external) (a .lines) (a .enabled) (a .memory .now) (a .forced) spurious mask (a .mode .now) (a .vector .now) source level depth) (a .offset) (a .value) (c .if1 .left) (c .before .pre), entries-kept (a .external) (a .lines) (a .enabled) (a .memory .now) (a .forced) spurious spurious mask mask depth depth (a .any .now) (a .edges .now) (a .low .now) (a .mode .now) (a .vector .now) _ source source level level (a .words .now) (a .class .now) h)
 
 pub write-table-spec : {M : Type 1} → statement M
 write-table-spec =
     tie.close
-    (tie.spec write-mode-requires returns cast-at mul-vector element-write-vector returns-2)
+    (tie.spec
+    (λ c κs. search needs)
+    returns
+    (λ c. search needs)
+    (λ c. search needs)
+    (λ c. search needs)
+    returns-2)
