@@ -10,8 +10,6 @@ use aic_levels::Levels;
 use aic_record::Aic;
 use steps::Step;
 
-mod stand;
-
 // A step; 12 where the record is not sound or the levels are not its own, and then both are as they were.
 pub fn step(s: Aic, l: Levels, x: Step) -> Answer
     ensures { λ r. ⌜ r ≡ stepWith s l x ⌝ }
@@ -49,7 +47,7 @@ fn step_agreed(s: Aic, l: Levels, x: Step) -> Answer
     let mut edges = aic_sources::mode_word(&mode, 5);
     let mut low = aic_beside::low_of(external, &mode);
     let mut class = aic_beside::class_of(&mode);
-    let r = stand::step(
+    let r = aic_parts::step(
         external,
         &mut lines,
         &mut enabled,

@@ -3,7 +3,7 @@ use Prim.Native.Nat.{ℕ}
 use Rattle.steps.specs.Refusals.{carriedOut}
 use Rattle.aic_record.specs.declared.Aic.{Aic}
 use Rattle.aic_registers.specs.declared.Answer.{Answer}
-use Rattle.aic_pair.specs.declared.stand.Reply.{Reply}
+use Rattle.aic_parts.specs.declared.Reply.{Reply}
 
 -- a reply, with the record that stands in the parts after it, is the answer of a step by value (01, Numbers)
 abbrev pub answerOf : Reply → Aic → Answer

@@ -1,2 +1,0 @@
--- stand-in
-pub mod Reply
