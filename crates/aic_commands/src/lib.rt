@@ -42,7 +42,17 @@ pub fn enable<'a>(
     ensures { λ _. ⌜ ((external spurious mask depth : ℕ) (mode vector source level : List ℕ) → Kept (aicOf external lines (now (enabled .entry)) memory forced spurious mask mode vector source level depth) (now (words .entry)) (now (any .entry)) edges low (now (class .entry)) → (aicOf external lines (now (enabled .exit)) memory forced spurious mask mode vector source level depth ≡ enabledBy (aicOf external lines (now (enabled .entry)) memory forced spurious mask mode vector source level depth) v) × Kept (aicOf external lines (now (enabled .exit)) memory forced spurious mask mode vector source level depth) (now (words .exit)) (now (any .exit)) edges low (now (class .entry))) ⌝ }
 {
     *enabled = words::join(*enabled, v);
-    renew(lines, *enabled, memory, forced, words, any, edges, low, class);
+    renew(
+        lines,
+        *enabled,
+        memory,
+        forced,
+        words,
+        any,
+        edges,
+        low,
+        class,
+    );
 }
 
 // IDCR: each source whose bit is 1 is disabled.
@@ -61,7 +71,17 @@ pub fn disable<'a>(
     ensures { λ _. ⌜ ((external spurious mask depth : ℕ) (mode vector source level : List ℕ) → Kept (aicOf external lines (now (enabled .entry)) memory forced spurious mask mode vector source level depth) (now (words .entry)) (now (any .entry)) edges low (now (class .entry)) → (aicOf external lines (now (enabled .exit)) memory forced spurious mask mode vector source level depth ≡ disabledBy (aicOf external lines (now (enabled .entry)) memory forced spurious mask mode vector source level depth) v) × Kept (aicOf external lines (now (enabled .exit)) memory forced spurious mask mode vector source level depth) (now (words .exit)) (now (any .exit)) edges low (now (class .entry))) ⌝ }
 {
     *enabled = words::drop_bits(*enabled, v);
-    renew(lines, *enabled, memory, forced, words, any, edges, low, class);
+    renew(
+        lines,
+        *enabled,
+        memory,
+        forced,
+        words,
+        any,
+        edges,
+        low,
+        class,
+    );
 }
 
 // ICCR: the memory of each source whose bit is 1 is cleared. It acts on edge sources only.
@@ -80,7 +100,17 @@ pub fn clear<'a>(
     ensures { λ _. ⌜ ((external spurious mask depth : ℕ) (mode vector source level : List ℕ) → Kept (aicOf external lines enabled (now (memory .entry)) forced spurious mask mode vector source level depth) (now (words .entry)) (now (any .entry)) edges low (now (class .entry)) → (aicOf external lines enabled (now (memory .exit)) forced spurious mask mode vector source level depth ≡ clearedBy (aicOf external lines enabled (now (memory .entry)) forced spurious mask mode vector source level depth) v) × Kept (aicOf external lines enabled (now (memory .exit)) forced spurious mask mode vector source level depth) (now (words .exit)) (now (any .exit)) edges low (now (class .entry))) ⌝ }
 {
     *memory = words::drop_bits(*memory, words::meet(v, edges));
-    renew(lines, enabled, *memory, forced, words, any, edges, low, class);
+    renew(
+        lines,
+        enabled,
+        *memory,
+        forced,
+        words,
+        any,
+        edges,
+        low,
+        class,
+    );
 }
 
 // ISCR: the memory of each source whose bit is 1 is set. It acts on edge sources only.
@@ -99,7 +129,17 @@ pub fn set<'a>(
     ensures { λ _. ⌜ ((external spurious mask depth : ℕ) (mode vector source level : List ℕ) → Kept (aicOf external lines enabled (now (memory .entry)) forced spurious mask mode vector source level depth) (now (words .entry)) (now (any .entry)) edges low (now (class .entry)) → (aicOf external lines enabled (now (memory .exit)) forced spurious mask mode vector source level depth ≡ setBy (aicOf external lines enabled (now (memory .entry)) forced spurious mask mode vector source level depth) v) × Kept (aicOf external lines enabled (now (memory .exit)) forced spurious mask mode vector source level depth) (now (words .exit)) (now (any .exit)) edges low (now (class .entry))) ⌝ }
 {
     *memory = words::join(*memory, words::meet(v, edges));
-    renew(lines, enabled, *memory, forced, words, any, edges, low, class);
+    renew(
+        lines,
+        enabled,
+        *memory,
+        forced,
+        words,
+        any,
+        edges,
+        low,
+        class,
+    );
 }
 
 // FFER: each source whose bit is 1 is forced to the fast side, save source 0.
@@ -118,7 +158,17 @@ pub fn force<'a>(
     ensures { λ _. ⌜ ((external spurious mask depth : ℕ) (mode vector source level : List ℕ) → Kept (aicOf external lines enabled memory (now (forced .entry)) spurious mask mode vector source level depth) (now (words .entry)) (now (any .entry)) edges low (now (class .entry)) → (aicOf external lines enabled memory (now (forced .exit)) spurious mask mode vector source level depth ≡ forcedBy (aicOf external lines enabled memory (now (forced .entry)) spurious mask mode vector source level depth) v) × Kept (aicOf external lines enabled memory (now (forced .exit)) spurious mask mode vector source level depth) (now (words .exit)) (now (any .exit)) edges low (now (class .entry))) ⌝ }
 {
     *forced = words::join(*forced, words::drop_bits(v, 1));
-    renew(lines, enabled, memory, *forced, words, any, edges, low, class);
+    renew(
+        lines,
+        enabled,
+        memory,
+        *forced,
+        words,
+        any,
+        edges,
+        low,
+        class,
+    );
 }
 
 // FFDR: each source whose bit is 1 is no longer forced to the fast side.
@@ -137,5 +187,15 @@ pub fn unforce<'a>(
     ensures { λ _. ⌜ ((external spurious mask depth : ℕ) (mode vector source level : List ℕ) → Kept (aicOf external lines enabled memory (now (forced .entry)) spurious mask mode vector source level depth) (now (words .entry)) (now (any .entry)) edges low (now (class .entry)) → (aicOf external lines enabled memory (now (forced .exit)) spurious mask mode vector source level depth ≡ unforcedBy (aicOf external lines enabled memory (now (forced .entry)) spurious mask mode vector source level depth) v) × Kept (aicOf external lines enabled memory (now (forced .exit)) spurious mask mode vector source level depth) (now (words .exit)) (now (any .exit)) edges low (now (class .entry))) ⌝ }
 {
     *forced = words::drop_bits(*forced, v);
-    renew(lines, enabled, memory, *forced, words, any, edges, low, class);
+    renew(
+        lines,
+        enabled,
+        memory,
+        *forced,
+        words,
+        any,
+        edges,
+        low,
+        class,
+    );
 }

@@ -3,7 +3,7 @@
 use mathlib.Core.Path.{_≡_, refl, sym, ap, ap₂, subst₂, _∙_}
 use mathlib.Core.Bool.{Bool, true, false, not, _&&_, and-false}
 use mathlib.Core.List.{List}
-use Prim.Native.Nat.{ℕ, _%_, _<_}
+use Prim.Native.Nat.{ℕ, _<_}
 use native.Mathlib.Decide.{ℕ-discrete}
 use native.Mathlib.Omega.{arith}
 use borrow.Author.Tests.{eq-eqb, ne-eqb}
@@ -70,9 +70,11 @@ word-put f g k b e h = wordOf-same 32 (λ j. pick (eqb j k) b (bit (wordOf 32 f)
 unfoldable classBut : List ℕ → ℕ → ℕ → ℕ
 classBut mode k p = wordOf 32 (λ j. eqb (priorityOf (getD mode j 0)) p && not (eqb j k))
 
+-- but for k: a test of k fails
 but-here : (b : Bool) (k : ℕ) → (b && not (eqb k k)) ≡ false
 but-here b k = ap (λ (x : Bool). b && not x) (eq-eqb k k refl) ∙ and-false b
 
+-- but for k: a test of any other source is as it was
 but-there : (b : Bool) (j k : ℕ) → (j ≡ k → ⊥) → (b && not (eqb j k)) ≡ b
 but-there b j k o = ap (λ (x : Bool). b && not x) (ne-eqb j k o) ∙ and-true b
   where
@@ -123,7 +125,7 @@ module _ (mode : List ℕ) (k n : ℕ) where
   class-other : (q : ℕ) → (q ≡ priorityOf (getD (set mode k n) k 0) → ⊥) → classBut mode k q ≡ classWord (set mode k n) q
   class-other q o = sym (class-stays (set mode k n) k q o ∙ but-same q)
 
-  -- the table after both
+  -- the table after k has left the one word and joined the other
   class-moved : (class : List ℕ) (p q : ℕ) → length class ≡ 8 → p < 8 → q < 8 → p ≡ priorityOf (getD mode k 0) → q ≡ priorityOf (getD (set mode k n) k 0)
       → ((i : ℕ) → i < 8 → getD class i 0 ≡ classWord mode i) → (i : ℕ) → i < 8 → getD (bitPut (bitPut class p k false) q k true) i 0 ≡ classWord (set mode k n) i
   class-moved class p q e l m f g h i x = go (ℕ-discrete i q)

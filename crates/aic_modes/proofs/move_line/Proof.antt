@@ -1,5 +1,8 @@
+use mathlib.Core.Bool.{not, _&&_}
 use mathlib.Core.Path.{refl}
 use native.Mathlib.Omega.{arith}
+use Rattle.words.specs.Choice.{pick}
+use Rattle.words.specs.Word.{bit}
 use Rattle.aic_record.specs.Mode.{priority}
 use Rattle.aic_record.specs.Record.{withLines, withMemory}
 use Rattle.aic_beside.specs.Parts.{aicOf}
@@ -23,7 +26,7 @@ returns-2 c = (
       let s = aicOf external (a .lines .now) (a .enabled) (a .memory .now) (a .forced) spurious mask (a .mode .now) vector source level depth in
       let h : Modes (withLines (withMemory s (m .result)) (n .result)) (a .edges) (a .low) (a .class .now) = modes-same s _ (a .edges) (a .low) (a .class .now) refl refl (modes-of s (a .words .now) (a .class .now) (a .any .now) (a .edges) (a .low) k) in (
         line-record s (a .edges) (a .low) (a .k) (m .result) (n .result) (a .high) l (k .edgeTriggered) (k .activeLow) (m .ensures) (n .ensures),
-        line-kept s (a .words .now) _ (a .class .now) (a .any .now) _ (a .edges) (a .low) (w .result) (a .k) (p .result) (m .result) (n .result) _ (a .high) (unfold priority in (p .ensures)) (m .ensures) (n .ensures)
+        line-kept s (a .words .now) _ (a .class .now) (a .any .now) _ (a .edges) (a .low) (w .result) (a .k) (p .result) (m .result) (n .result) (bit (a .edges) (a .k) && (not (pick (bit (a .low) (a .k)) (not (bit (a .lines .now) (a .k))) (bit (a .lines .now) (a .k))) && pick (bit (a .low) (a .k)) (not (a .high)) (a .high))) (a .high) (unfold priority in (p .ensures)) (m .ensures) (n .ensures)
             (w .ensures external spurious mask depth (a .mode .now) vector source level (h .edgeTriggered) (h .activeLow)) (c .renew-level .ensures .0) k,
       ),
   λ l. absurd (omega (arith, l, c .before .before .before .before .before .before .before .before .before .before .if1 .left)),
