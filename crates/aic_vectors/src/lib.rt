@@ -127,7 +127,19 @@ fn start<'a>(
 {
     let at = p as usize;
     let k = words::lowest(words[at]) % 32;
-    spend(lines, enabled, memory, forced, words, any, edges, low, class, k, p);
+    spend(
+        lines,
+        enabled,
+        memory,
+        forced,
+        words,
+        any,
+        edges,
+        low,
+        class,
+        k,
+        p,
+    );
     aic_entries::open_entry(source, level, depth, k as u8, p as u8);
     let of = k as usize;
     vector[of]

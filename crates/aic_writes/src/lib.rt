@@ -75,29 +75,32 @@ fn command<'a>(
     requires { ⌜ (offset % 4 ≡ 0 → 0x100 ≤ offset) × (offset ≢ 0x100) × (offset ≢ 0x130) × (offset ≢ 0x134) × (offset ≢ 0x138) ⌝ }
     ensures { λ r. ⌜ ((external spurious mask depth : ℕ) (mode vector source level : List ℕ) → sound (aicOf external lines (now (enabled .entry)) (now (memory .entry)) (now (forced .entry)) spurious mask mode vector source level depth) ≡ true → Kept (aicOf external lines (now (enabled .entry)) (now (memory .entry)) (now (forced .entry)) spurious mask mode vector source level depth) (now (words .entry)) (now (any .entry)) edges low (now (class .entry)) → (answerOf r (aicOf external lines (now (enabled .exit)) (now (memory .exit)) (now (forced .exit)) spurious mask mode vector source level depth) ≡ write (aicOf external lines (now (enabled .entry)) (now (memory .entry)) (now (forced .entry)) spurious mask mode vector source level depth) offset v) × Kept (aicOf external lines (now (enabled .exit)) (now (memory .exit)) (now (forced .exit)) spurious mask mode vector source level depth) (now (words .exit)) (now (any .exit)) edges low (now (class .entry))) ⌝ }
 {
+    let on = *enabled;
+    let seen = *memory;
+    let fast = *forced;
     match offset {
         map::IECR => {
-            aic_commands::enable(lines, enabled, *memory, *forced, words, any, edges, low, class, v);
+            aic_commands::enable(lines, enabled, seen, fast, words, any, edges, low, class, v);
             aic_replies::carry_out(0)
         }
         map::IDCR => {
-            aic_commands::disable(lines, enabled, *memory, *forced, words, any, edges, low, class, v);
+            aic_commands::disable(lines, enabled, seen, fast, words, any, edges, low, class, v);
             aic_replies::carry_out(0)
         }
         map::ICCR => {
-            aic_commands::clear(lines, *enabled, memory, *forced, words, any, edges, low, class, v);
+            aic_commands::clear(lines, on, memory, fast, words, any, edges, low, class, v);
             aic_replies::carry_out(0)
         }
         map::ISCR => {
-            aic_commands::set(lines, *enabled, memory, *forced, words, any, edges, low, class, v);
+            aic_commands::set(lines, on, memory, fast, words, any, edges, low, class, v);
             aic_replies::carry_out(0)
         }
         map::FFER => {
-            aic_commands::force(lines, *enabled, *memory, forced, words, any, edges, low, class, v);
+            aic_commands::force(lines, on, seen, forced, words, any, edges, low, class, v);
             aic_replies::carry_out(0)
         }
         map::FFDR => {
-            aic_commands::unforce(lines, *enabled, *memory, forced, words, any, edges, low, class, v);
+            aic_commands::unforce(lines, on, seen, forced, words, any, edges, low, class, v);
             aic_replies::carry_out(0)
         }
         _ => aic_replies::refuse(steps::write_refusal(
@@ -154,6 +157,18 @@ pub fn write_single<'a>(
             aic_replies::carry_out(0)
         }
         map::DCR => write_debug(mask, v),
-        _ => command(lines, enabled, memory, forced, words, any, edges, low, class, offset, v),
+        _ => command(
+            lines,
+            enabled,
+            memory,
+            forced,
+            words,
+            any,
+            edges,
+            low,
+            class,
+            offset,
+            v,
+        ),
     }
 }
