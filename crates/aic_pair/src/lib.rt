@@ -47,7 +47,7 @@ fn step_agreed(s: Aic, l: Levels, x: Step) -> Answer
     let mut edges = aic_sources::mode_word(&mode, 5);
     let mut low = aic_beside::low_of(external, &mode);
     let mut class = aic_beside::class_of(&mode);
-    let r = aic_parts::step(
+    let r = aic_steps::step(
         external,
         &mut lines,
         &mut enabled,

@@ -2,18 +2,18 @@
 use mathlib.Core.Path.{_≡_, refl, sym, ap, ap₂, _∙_, subst}
 use mathlib.Core.Bool.{Bool, true, false, not, _&&_, _||_, and-false}
 use mathlib.Core.List.{List}
-use mathlib.Core.Logic.{_≢_, ⊎-elim}
+use mathlib.Core.Logic.{_≢_}
 use Prim.Native.Nat.{ℕ, _%_, _^_, _≤_, _<_}
 use native.Mathlib.Decide.{ℕ-discrete, decLt}
 use native.Mathlib.Omega.{arith}
-use borrow.Author.Tests.{eq-eqb, ne-eqb, eqb-false, le-leb, lt-ltb, le-ltb, ltb-true, ltb-false}
+use borrow.Author.Tests.{eq-eqb, ne-eqb, le-leb, lt-ltb, le-ltb}
 use lib.Dec.{eqb, ltb, leb}
 use lib.ListN.{length, getD, set}
 use Rattle.words.specs.Choice.{pick}
 use Rattle.words.specs.Counting.{lowestBelow}
 use Rattle.words.specs.Word.{bit, wordOf, both, withBit}
 use Rattle.words.proofs.ChoiceLaws.{pick-true, pick-false, pick-cases}
-use Rattle.words.proofs.TruthLaws.{and-both, or-either, or-neither}
+use Rattle.words.proofs.TruthLaws.{and-both}
 use Rattle.words.proofs.WordLaws.{wordOf-same}
 use Rattle.aic_record.specs.declared.Aic.{Aic}
 use Rattle.aic_record.specs.Record.{withMemory}
@@ -32,19 +32,6 @@ use Rattle.aic_levels.proofs.HighestLaws.{highest-is}
 use Rattle.aic_levels.proofs.ChosenLaws.{Started, some-found, none-found}
 use Rattle.aic_beside.specs.Kept.{Kept}
 use Rattle.aic_beside.proofs.KeptLaws.{modes-of, modes-same, right-of, right-stays, kept-by, any-small, one-kept, levels-stay, other-bit, priority-low}
-
--- ---- the open entries, from the test that code makes
-
--- with at most eight entries the test holds only where none is open
-pub none-open : (n : ℕ) → (eqb n 0 || ltb 8 n) ≡ true → n ≤ 8 → eqb n 0 ≡ true
-none-open n e l = ⊎-elim (λ (z : eqb n 0 ≡ true). z) (λ (z : ltb 8 n ≡ true). absurd (omega (arith, ltb-true 8 n z, l))) (or-either (eqb n 0) (ltb 8 n) e)
-
--- where it fails one is open at least, and eight at most
-pub some-open : (n : ℕ) → (eqb n 0 || ltb 8 n) ≡ false → (1 ≤ n) × (n ≤ 8) × (eqb n 0 ≡ false)
-some-open n e =
-    let r = or-neither (eqb n 0) (ltb 8 n) e in
-    let d : n ≢ 0 = eqb-false n 0 (r .0) in
-    (omega (arith, d), omega (arith, ltb-false 8 n (r .1)), r .0)
 
 -- ---- the source that starts
 

@@ -5,8 +5,8 @@ use Rattle.steps.proofs.Promises.{line-table}
 use Rattle.aic.specs.Model.{line}
 use Rattle.aic.proofs.CallLaws.{done, stopped, line-number}
 use Rattle.aic_beside.specs.Parts.{aicOf}
-use Rattle.aic_parts.specs.declared.Reply.{Reply}
-use Rattle.aic_parts.specs.Reply.{answerOf}
+use Rattle.aic_replies.specs.declared.Reply.{Reply}
+use Rattle.aic_replies.specs.Reply.{answerOf}
 use borrow.Author.Needs.{needs}
 use Rattle.aic_parts.proofs.line.Statement.{statement}
 use Rattle.aic_parts.proofs.line.Tie as tie

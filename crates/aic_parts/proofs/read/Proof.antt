@@ -1,8 +1,8 @@
 -- That `read` of src/lib.rt keeps its contract.
 use mathlib.Core.Path.{refl}
 use Rattle.aic_beside.specs.Parts.{aicOf}
-use Rattle.aic_parts.proofs.AccessLaws.{in-table, off-table, table-done, ivr-done, fvr-done}
-use Rattle.aic_parts.proofs.ReplyLaws.{read-arm, vector-arm}
+use Rattle.aic_replies.proofs.AccessLaws.{in-table, off-table, table-done, ivr-done, fvr-done}
+use Rattle.aic_replies.proofs.ReplyLaws.{read-arm, vector-arm}
 use borrow.Author.Needs.{needs}
 use Rattle.aic_parts.proofs.read.Statement.{statement}
 use Rattle.aic_parts.proofs.read.Tie as tie

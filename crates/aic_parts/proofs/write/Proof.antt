@@ -1,8 +1,8 @@
 -- That `write` of src/lib.rt keeps its contract.
 use mathlib.Core.Path.{refl}
 use Rattle.aic_beside.specs.Parts.{aicOf}
-use Rattle.aic_parts.proofs.AccessLaws.{in-table, off-table, table-written}
-use Rattle.aic_parts.proofs.ReplyLaws.{write-arm}
+use Rattle.aic_replies.proofs.AccessLaws.{in-table, off-table, table-written}
+use Rattle.aic_replies.proofs.ReplyLaws.{write-arm}
 use borrow.Author.Needs.{needs}
 use Rattle.aic_parts.proofs.write.Statement.{statement}
 use Rattle.aic_parts.proofs.write.Tie as tie

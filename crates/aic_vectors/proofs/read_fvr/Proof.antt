@@ -17,7 +17,7 @@ returns c external mask depth any mode source level words class h =
     let s = aicOf external (a .lines) (a .enabled) (a .memory .now) (a .forced) (a .spurious) mask mode (a .vector .now) source level depth in
     let m = c .before .spend-fast .ensures in (
       ap (λ (x : Aic). answered x (getD (a .vector .now) 0 0)) (fast-spent-by s (a .edges) _ (h .edgeTriggered) m)
-      ∙ by-true _ (c .before .before .before .fast-asks .ensures external (a .spurious) mask depth mode (a .vector .now) source level (h .edgeTriggered) (h .activeLow)) (c .before .before .if1 .taken),
+          ∙ by-true _ (c .before .before .before .fast-asks .ensures external (a .spurious) mask depth mode (a .vector .now) source level (h .edgeTriggered) (h .activeLow)) (c .before .before .if1 .taken),
       fast-kept s words class any (a .edges) (a .low) _ _ m h,
     )
 
