@@ -1,0 +1,8 @@
+-- The reply of a step on parts.
+use Rattle.aic_record.specs.declared.Aic.{Aic}
+use Rattle.aic_registers.specs.declared.Answer.{Answer}
+use Rattle.aic_parts.specs.declared.Reply.{Reply}
+
+-- a reply, with the record that stands in the parts after it, is the answer of a step by value (01, Numbers)
+abbrev pub answerOf : Reply → Aic → Answer
+answerOf r s = record { refusal = r .refusal; value = r .value; aic = s }
