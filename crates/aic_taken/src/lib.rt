@@ -98,3 +98,27 @@ pub fn take<'a>(
         y,
     )
 }
+
+// What is kept beside the parts, from nothing: the words of the modes, then all levels.
+pub fn begin<'a>(
+    external: u32,
+    lines: u32,
+    enabled: u32,
+    memory: u32,
+    forced: u32,
+    mode: &'a [u8; 32],
+    words: &'a mut [u32; 8],
+    any: &'a mut u32,
+    edges: &'a mut u32,
+    low: &'a mut u32,
+    class: &'a mut [u32; 8],
+)
+    ensures { λ _. ⌜ ((spurious mask depth : ℕ) (vector source level : List ℕ) → Kept (aicOf external lines enabled memory forced spurious mask (now (mode .entry)) vector source level depth) (now (words .exit)) (now (any .exit)) (now (edges .exit)) (now (low .exit)) (now (class .exit))) ⌝ }
+{
+    *edges = aic_sources::mode_word(mode, 5);
+    *low = aic_beside::low_of(external, mode);
+    *class = aic_beside::class_of(mode);
+    let waits = aic_beside::waiting_of(lines, enabled, memory, forced, *edges, *low);
+    *words = [0; 8];
+    aic_beside::renew_levels(class, words, any, waits);
+}

@@ -1,0 +1,3 @@
+-- The laws of the loop.
+pub mod TakenLaws
+pub mod LoopLaws

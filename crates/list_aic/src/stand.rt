@@ -1,0 +1,84 @@
+// Stand-in for one step on parts, and for what is kept at first.
+ghost use mathlib.Core.Path.{_≡_};
+ghost use mathlib.Core.Bool.{true};
+ghost use Prim.Native.Nat.{ℕ};
+ghost use mathlib.Core.List.{List};
+ghost use Rattle.turns.specs.Turns.{stepOf};
+ghost use Rattle.aic_record.specs.Sound.{sound};
+ghost use Rattle.aic.specs.Model.{step};
+ghost use Rattle.aic_beside.specs.Parts.{aicOf};
+ghost use Rattle.aic_beside.specs.Kept.{Kept, lowWord};
+ghost use Rattle.aic_levels.specs.Levels.{anyOf};
+ghost use Rattle.aic_sources.specs.Pending.{edgeWord};
+ghost use Rattle.aic_sources.specs.Fast.{fiq};
+ghost use Rattle.aic_sources.specs.Normal.{irq};
+ghost use Rattle.aic_parts.specs.Reply.{answerOf};
+use aic_parts::Reply;
+
+pub fn take<'a>(
+    external: u32,
+    lines: &'a mut u32,
+    enabled: &'a mut u32,
+    memory: &'a mut u32,
+    forced: &'a mut u32,
+    spurious: &'a mut u32,
+    mask: &'a mut u32,
+    mode: &'a mut [u8; 32],
+    vector: &'a mut [u32; 32],
+    source: &'a mut [u8; 8],
+    level: &'a mut [u8; 8],
+    depth: &'a mut u32,
+    words: &'a mut [u32; 8],
+    any: &'a mut u32,
+    edges: &'a mut u32,
+    low: &'a mut u32,
+    class: &'a mut [u32; 8],
+    kind: u32,
+    x: u32,
+    y: u32,
+) -> Reply
+    ensures { λ r. ⌜ (sound (aicOf external (now (lines .entry)) (now (enabled .entry)) (now (memory .entry)) (now (forced .entry)) (now (spurious .entry)) (now (mask .entry)) (now (mode .entry)) (now (vector .entry)) (now (source .entry)) (now (level .entry)) (now (depth .entry))) ≡ true → Kept (aicOf external (now (lines .entry)) (now (enabled .entry)) (now (memory .entry)) (now (forced .entry)) (now (spurious .entry)) (now (mask .entry)) (now (mode .entry)) (now (vector .entry)) (now (source .entry)) (now (level .entry)) (now (depth .entry))) (now (words .entry)) (now (any .entry)) (now (edges .entry)) (now (low .entry)) (now (class .entry)) → (answerOf r (aicOf external (now (lines .exit)) (now (enabled .exit)) (now (memory .exit)) (now (forced .exit)) (now (spurious .exit)) (now (mask .exit)) (now (mode .exit)) (now (vector .exit)) (now (source .exit)) (now (level .exit)) (now (depth .exit))) ≡ step (aicOf external (now (lines .entry)) (now (enabled .entry)) (now (memory .entry)) (now (forced .entry)) (now (spurious .entry)) (now (mask .entry)) (now (mode .entry)) (now (vector .entry)) (now (source .entry)) (now (level .entry)) (now (depth .entry))) (stepOf kind x y)) × Kept (aicOf external (now (lines .exit)) (now (enabled .exit)) (now (memory .exit)) (now (forced .exit)) (now (spurious .exit)) (now (mask .exit)) (now (mode .exit)) (now (vector .exit)) (now (source .exit)) (now (level .exit)) (now (depth .exit))) (now (words .exit)) (now (any .exit)) (now (edges .exit)) (now (low .exit)) (now (class .exit))) ⌝ }
+{
+    Reply {
+        refusal: 0,
+        value: 0,
+    }
+}
+
+pub fn begin<'a>(
+    external: u32,
+    lines: u32,
+    enabled: u32,
+    memory: u32,
+    forced: u32,
+    mode: &'a [u8; 32],
+    words: &'a mut [u32; 8],
+    any: &'a mut u32,
+    edges: &'a mut u32,
+    low: &'a mut u32,
+    class: &'a mut [u32; 8],
+)
+    ensures { λ _. ⌜ ((spurious mask depth : ℕ) (vector source level : List ℕ) → Kept (aicOf external lines enabled memory forced spurious mask (now (mode .entry)) vector source level depth) (now (words .exit)) (now (any .exit)) (now (edges .exit)) (now (low .exit)) (now (class .exit))) ⌝ }
+{
+}
+
+
+pub fn is_irq(mask: u32, level: &[u8; 8], depth: u32, any: u32) -> bool
+    ensures { λ r. ⌜ ((external lines enabled memory forced spurious : ℕ) (mode vector source : List ℕ) → any ≡ anyOf (aicOf external lines enabled memory forced spurious mask mode vector source (now (level .entry)) depth) → r ≡ irq (aicOf external lines enabled memory forced spurious mask mode vector source (now (level .entry)) depth)) ⌝ }
+{
+    false
+}
+
+pub fn is_fiq(
+    lines: u32,
+    enabled: u32,
+    memory: u32,
+    forced: u32,
+    mask: u32,
+    edges: u32,
+    low: u32,
+) -> bool
+    ensures { λ r. ⌜ ((external spurious depth : ℕ) (mode vector source level : List ℕ) → edges ≡ edgeWord (aicOf external lines enabled memory forced spurious mask mode vector source level depth) → low ≡ lowWord (aicOf external lines enabled memory forced spurious mask mode vector source level depth) → r ≡ fiq (aicOf external lines enabled memory forced spurious mask mode vector source level depth)) ⌝ }
+{
+    false
+}
