@@ -22,7 +22,7 @@ use Rattle.machine_record.specs.Shown.{shown}
 use Rattle.reports.proofs.PlayLaws.{next-ready}
 use Rattle.lines.specs.Listing.{letterBy, shownValue, lineOf, textFrom}
 use Rattle.lines.proofs.LineLaws.{listed, letter-made}
-use Rattle.list_aic.proofs.TakenLaws.{its-sound, stepped}
+use Rattle.aic_taken.proofs.TakenLaws.{its-sound, stepped}
 
 -- the lines from here on give the whole text; the steps listed and those left are the limit; the record is sound, and what is kept is its own
 pub record Going (trace : List ℕ) (limit start : ℕ) (first : Aic) (whole : List ℕ × ℕ) (number more place : ℕ) (part : List ℕ × ℕ) (s : Aic) (words : List ℕ) (any edges low : ℕ) (class : List ℕ) : Type 0 where

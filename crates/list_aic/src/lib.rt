@@ -34,8 +34,8 @@ fn columns(
 {
     machine_record::aic_columns(Signals {
         refusal: steps::CARRIED_OUT,
-        irq: stand::is_irq(mask, level, depth, any),
-        fiq: stand::is_fiq(lines, enabled, memory, forced, mask, edges, low),
+        irq: aic_vectors::is_irq(mask, level, depth, any),
+        fiq: aic_vectors::is_fiq(lines, enabled, memory, forced, mask, edges, low),
         entries: depth,
     })
 }
@@ -64,24 +64,12 @@ pub fn list_steps(
     let mut source = first.source;
     let mut level = first.level;
     let mut depth = first.depth;
-    let mut words: [u32; 8] = [0; 8];
-    let mut any: u32 = 0;
-    let mut edges: u32 = 0;
-    let mut low: u32 = 0;
-    let mut class: [u32; 8] = [0; 8];
-    stand::begin(
-        external,
-        lines,
-        enabled,
-        memory,
-        forced,
-        &mode,
-        &mut words,
-        &mut any,
-        &mut edges,
-        &mut low,
-        &mut class,
-    );
+    let kept = aic_taken::begin(first);
+    let mut words = kept.words;
+    let mut any = kept.any;
+    let mut edges = kept.edges;
+    let mut low = kept.low;
+    let mut class = kept.class;
     let mut place = start;
     let mut more = limit;
     let mut number: u32 = 0;

@@ -1,17 +1,11 @@
-// Stand-in for one step on parts, and for what is kept at first.
+// Stand-in.
 ghost use mathlib.Core.Path.{_≡_};
 ghost use mathlib.Core.Bool.{true};
-ghost use Prim.Native.Nat.{ℕ};
-ghost use mathlib.Core.List.{List};
 ghost use Rattle.turns.specs.Turns.{stepOf};
 ghost use Rattle.aic_record.specs.Sound.{sound};
 ghost use Rattle.aic.specs.Model.{step};
 ghost use Rattle.aic_beside.specs.Parts.{aicOf};
-ghost use Rattle.aic_beside.specs.Kept.{Kept, lowWord};
-ghost use Rattle.aic_levels.specs.Levels.{anyOf};
-ghost use Rattle.aic_sources.specs.Pending.{edgeWord};
-ghost use Rattle.aic_sources.specs.Fast.{fiq};
-ghost use Rattle.aic_sources.specs.Normal.{irq};
+ghost use Rattle.aic_beside.specs.Kept.{Kept};
 ghost use Rattle.aic_parts.specs.Reply.{answerOf};
 use aic_parts::Reply;
 
@@ -43,42 +37,4 @@ pub fn take<'a>(
         refusal: 0,
         value: 0,
     }
-}
-
-pub fn begin<'a>(
-    external: u32,
-    lines: u32,
-    enabled: u32,
-    memory: u32,
-    forced: u32,
-    mode: &'a [u8; 32],
-    words: &'a mut [u32; 8],
-    any: &'a mut u32,
-    edges: &'a mut u32,
-    low: &'a mut u32,
-    class: &'a mut [u32; 8],
-)
-    ensures { λ _. ⌜ ((spurious mask depth : ℕ) (vector source level : List ℕ) → Kept (aicOf external lines enabled memory forced spurious mask (now (mode .entry)) vector source level depth) (now (words .exit)) (now (any .exit)) (now (edges .exit)) (now (low .exit)) (now (class .exit))) ⌝ }
-{
-}
-
-
-pub fn is_irq(mask: u32, level: &[u8; 8], depth: u32, any: u32) -> bool
-    ensures { λ r. ⌜ ((external lines enabled memory forced spurious : ℕ) (mode vector source : List ℕ) → any ≡ anyOf (aicOf external lines enabled memory forced spurious mask mode vector source (now (level .entry)) depth) → r ≡ irq (aicOf external lines enabled memory forced spurious mask mode vector source (now (level .entry)) depth)) ⌝ }
-{
-    false
-}
-
-pub fn is_fiq(
-    lines: u32,
-    enabled: u32,
-    memory: u32,
-    forced: u32,
-    mask: u32,
-    edges: u32,
-    low: u32,
-) -> bool
-    ensures { λ r. ⌜ ((external spurious depth : ℕ) (mode vector source level : List ℕ) → edges ≡ edgeWord (aicOf external lines enabled memory forced spurious mask mode vector source level depth) → low ≡ lowWord (aicOf external lines enabled memory forced spurious mask mode vector source level depth) → r ≡ fiq (aicOf external lines enabled memory forced spurious mask mode vector source level depth)) ⌝ }
-{
-    false
 }

@@ -18,7 +18,7 @@ use Rattle.machine_record.specs.Machine.{ofAic}
 use Rattle.machine_record.specs.Promises.{Ready}
 use Rattle.reports.specs.Play.{report}
 use Rattle.reports.proofs.PlayLaws.{played, next-ready}
-use Rattle.play_aic.proofs.TakenLaws.{its-sound, stepped}
+use Rattle.aic_taken.proofs.TakenLaws.{its-sound, stepped}
 
 -- what is left from here gives the whole; the steps played and those left are the limit; the record is sound, and what is kept is its own
 pub record Going (trace : List ℕ) (limit start : ℕ) (first : Aic) (count left at : ℕ) (s : Aic) (words : List ℕ) (any edges low : ℕ) (class : List ℕ) : Type 0 where

@@ -10,6 +10,7 @@ use aic_record::Aic;
 use reports::Played;
 mod stand;
 
+
 // Plays the steps from a place on. The limit falls by one with each step.
 pub fn play_steps(trace: &[u8], limit: u32, start: usize, first: Aic) -> Played
     requires { ⌜ Ready (ofAic first) ⌝ }
@@ -27,24 +28,12 @@ pub fn play_steps(trace: &[u8], limit: u32, start: usize, first: Aic) -> Played
     let mut source = first.source;
     let mut level = first.level;
     let mut depth = first.depth;
-    let mut words: [u32; 8] = [0; 8];
-    let mut any: u32 = 0;
-    let mut edges: u32 = 0;
-    let mut low: u32 = 0;
-    let mut class: [u32; 8] = [0; 8];
-    stand::begin(
-        external,
-        lines,
-        enabled,
-        memory,
-        forced,
-        &mode,
-        &mut words,
-        &mut any,
-        &mut edges,
-        &mut low,
-        &mut class,
-    );
+    let kept = aic_taken::begin(first);
+    let mut words = kept.words;
+    let mut any = kept.any;
+    let mut edges = kept.edges;
+    let mut low = kept.low;
+    let mut class = kept.class;
     let mut at = start;
     let mut left = limit;
     let mut count: u32 = 0;

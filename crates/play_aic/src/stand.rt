@@ -1,8 +1,6 @@
-// Stand-in for one step on parts, and for what is kept at first.
+// Stand-in.
 ghost use mathlib.Core.Path.{_≡_};
 ghost use mathlib.Core.Bool.{true};
-ghost use Prim.Native.Nat.{ℕ};
-ghost use mathlib.Core.List.{List};
 ghost use Rattle.turns.specs.Turns.{stepOf};
 ghost use Rattle.aic_record.specs.Sound.{sound};
 ghost use Rattle.aic.specs.Model.{step};
@@ -40,21 +38,3 @@ pub fn take<'a>(
         value: 0,
     }
 }
-
-pub fn begin<'a>(
-    external: u32,
-    lines: u32,
-    enabled: u32,
-    memory: u32,
-    forced: u32,
-    mode: &'a [u8; 32],
-    words: &'a mut [u32; 8],
-    any: &'a mut u32,
-    edges: &'a mut u32,
-    low: &'a mut u32,
-    class: &'a mut [u32; 8],
-)
-    ensures { λ _. ⌜ ((spurious mask depth : ℕ) (vector source level : List ℕ) → Kept (aicOf external lines enabled memory forced spurious mask (now (mode .entry)) vector source level depth) (now (words .exit)) (now (any .exit)) (now (edges .exit)) (now (low .exit)) (now (class .exit))) ⌝ }
-{
-}
-

@@ -1,6 +1,6 @@
 -- That `columns` of src/lib.rt keeps its contract.
 use mathlib.Core.Path.{_∙_}
-use Rattle.list_aic.proofs.TakenLaws.{seen}
+use Rattle.aic_taken.proofs.TakenLaws.{seen}
 use borrow.Author.Needs.{needs}
 use Rattle.list_aic.proofs.columns.Statement.{statement}
 use Rattle.list_aic.proofs.columns.Tie as tie

@@ -22,9 +22,7 @@ abbrev μ-loop : tie.MeasureT-loop
 μ-loop trace limit start out₀ from external lines₀ enabled₀ memory₀ forced₀ spurious₀ mask₀ mode₀ vector₀ source₀ level₀ depth₀ words₀ any₀ edges₀ low₀ class₀ place₀ more₀ number₀ to₀ out lines enabled memory forced spurious mask mode vector source level depth words any edges low class place more number to = more
 
 loop-holds : tie.Need-loop-holds Inv-loop μ-loop
-loop-holds c = let a = c .before .before .before .before .before .before .before .before .before .before .before .before .before in
-    let s = a .args .first in
-    (record { listing = refl; counted = omega arith; ready = a .pre; kept = c .begin .ensures (s .spurious) (s .mask) (s .depth) (s .vector) (s .source) (s .level) }, refl)
+loop-holds c = (record { listing = refl; counted = omega arith; ready = c .before .before .before .before .before .before .before .before .before .pre; kept = c .before .before .begin .ensures }, refl)
 
 returns : tie.Need-returns Inv-loop μ-loop
 returns c = let e = c .before .before in
@@ -41,7 +39,7 @@ add-number : tie.Need-add-number Inv-loop μ-loop
 add-number c = let i = c .before .before .before .before .before .before .before .before .before .before .before .before .before .before .before .before .before in
     let s = i .before .before in
     let l = s .before .before in
-    omega (arith, found-here _ _ _ _ _ (s .sure .ensures .0) (i .if1 .left) .1 .0, l .loop .inv .0 .counted, l .before .before .before .before .before .before .before .before .before .before .before .before .before .before .fits .limit)
+    omega (arith, found-here _ _ _ _ _ (s .sure .ensures .0) (i .if1 .left) .1 .0, l .loop .inv .0 .counted, l .before .before .before .before .before .before .before .before .before .before .fits .limit)
 
 loop-less : tie.Need-loop-less Inv-loop μ-loop
 loop-less c = let i = c .before .before .before .before .before .before .before .before .before .before .before .before .before .before .before .before .before .before .before .before .before .before .before .before .before in

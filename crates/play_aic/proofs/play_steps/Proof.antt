@@ -1,15 +1,8 @@
 -- That `play_steps` of src/lib.rt keeps its contract.
-use Prim.Native.Nat.{_+_}
-use mathlib.Core.Bool.{false}
-use mathlib.Core.Path.{_≡_, refl, _∙_}
+use mathlib.Core.Path.{refl, _∙_}
 use native.Mathlib.Omega.{arith}
-use Rattle.trace.specs.Trace.{stepsFrom}
-use Rattle.turns.proofs.TurnLaws.{ends-here, finds, found-here}
+use Rattle.turns.proofs.TurnLaws.{ends-here, found-here}
 use Rattle.aic_beside.specs.Parts.{aicOf}
-use Rattle.aic_beside.specs.Kept.{Kept}
-use Rattle.machine_record.specs.Machine.{ofAic}
-use Rattle.machine_record.specs.Promises.{Ready}
-use Rattle.reports.specs.Play.{report}
 use Rattle.reports.proofs.PlayLaws.{report-ended}
 use Rattle.play_aic.proofs.LoopLaws.{Going, goes-on}
 use borrow.Author.Needs.{needs}
@@ -26,8 +19,7 @@ abbrev μ-loop : tie.MeasureT-loop
 μ-loop trace limit start external lines₀ enabled₀ memory₀ forced₀ spurious₀ mask₀ mode₀ vector₀ source₀ level₀ depth₀ words₀ any₀ edges₀ low₀ class₀ at₀ left₀ count₀ lines enabled memory forced spurious mask mode vector source level depth words any edges low class at left count = left
 
 loop-holds : tie.Need-loop-holds Inv-loop μ-loop
-loop-holds c = let a = c .before .before .before .before .before .before .before .before .before .before .before .before in
-    record { reported = refl; counted = omega arith; ready = a .pre; kept = c .begin .ensures (a .args .first .spurious) (a .args .first .mask) (a .args .first .depth) (a .args .first .vector) (a .args .first .source) (a .args .first .level) }
+loop-holds c = record { reported = refl; counted = omega arith; ready = c .before .before .before .before .before .before .before .before .pre; kept = c .before .before .begin .ensures }
 
 returns : tie.Need-returns Inv-loop μ-loop
 returns c = let s = c .before .before .before in
@@ -43,7 +35,7 @@ add-count : tie.Need-add-count Inv-loop μ-loop
 add-count c = let i = c .before .before .before .before .before .before .before .before .before .before .before .before .before .before .before .before .before in
     let s = i .before .before in
     let l = s .before .before in
-    omega (arith, found-here _ _ _ _ _ (s .sure .ensures .0) (i .if1 .left) .1 .0, l .loop .inv .counted, l .before .before .before .before .before .before .before .before .before .before .before .before .before .fits .limit)
+    omega (arith, found-here _ _ _ _ _ (s .sure .ensures .0) (i .if1 .left) .1 .0, l .loop .inv .counted, l .before .before .before .before .before .before .before .before .before .fits .limit)
 
 loop-less : tie.Need-loop-less Inv-loop μ-loop
 loop-less c = let i = c .before .before .before .before .before .before .before .before .before .before .before .before .before .before .before .before .before in
@@ -72,4 +64,3 @@ play-steps-spec =
     add-count
     loop-less
     loop-again)
-
