@@ -15,7 +15,6 @@ ghost use Rattle.lines.specs.Listing.{textFrom};
 use aic::Signals;
 use aic_record::Aic;
 use machine_record::Columns;
-mod stand;
 
 // What a listing shows of a sound record: IRQ active, FIQ active, how many entries are open.
 fn columns(
@@ -85,7 +84,7 @@ pub fn list_steps(
         if t.kind == turns::ENDED {
             return lines::put_end(out, to, t.refusal, t.next);
         }
-        let a = stand::take(
+        let a = aic_taken::take(
             external,
             &mut lines,
             &mut enabled,

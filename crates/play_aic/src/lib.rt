@@ -8,7 +8,6 @@ ghost use Rattle.machine_record.specs.Promises.{Ready};
 ghost use Rattle.reports.specs.Play.{report};
 use aic_record::Aic;
 use reports::Played;
-mod stand;
 
 
 // Plays the steps from a place on. The limit falls by one with each step.
@@ -61,7 +60,7 @@ pub fn play_steps(trace: &[u8], limit: u32, start: usize, first: Aic) -> Played
                 offset: t.next,
             };
         }
-        stand::take(
+        aic_taken::take(
             external,
             &mut lines,
             &mut enabled,
