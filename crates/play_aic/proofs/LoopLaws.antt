@@ -28,12 +28,12 @@ pub record Going (trace : List ℕ) (limit start : ℕ) (first : Aic) (count lef
   pub kept : Kept s words any edges low class
 
 -- one step more
-pub goes-on : (trace : List ℕ) (limit start : ℕ) (first : Aic) (count left at : ℕ) (s : Aic) (words : List ℕ) (any edges low : ℕ) (class : List ℕ)
-    (t : Told) (r : Reply) (d : Aic) (words′ : List ℕ) (any′ edges′ low′ : ℕ) (class′ : List ℕ)
-    → Going trace limit start first count left at s words any edges low class → turnOf t ≡ turnAt false trace at left → (t .kind ≡ endedKind → ⊥)
+pub goes-on : {trace : List ℕ} {limit start : ℕ} {first : Aic} {count left at : ℕ} {s : Aic} {words : List ℕ} {any edges low : ℕ} {class : List ℕ} (t : Told)
+    {r : Reply} {d : Aic} {words′ : List ℕ} {any′ edges′ low′ : ℕ} {class′ : List ℕ} → Going trace limit start first count left at s words any edges low class
+    → turnOf t ≡ turnAt false trace at left → (t .kind ≡ endedKind → ⊥)
     → (sound s ≡ true → Kept s words any edges low class → (answerOf r d ≡ step s (stepOf (t .kind) (t .x) (t .y))) × Kept d words′ any′ edges′ low′ class′)
     → Going trace limit start first (count + 1) (left - 1) (t .next) d words′ any′ edges′ low′ class′
-goes-on trace limit start first count left at s words any edges low class t r d words′ any′ edges′ low′ class′ going e n taken =
+goes-on {trace} {limit} {start} {first} {count} {left} {at} {s} t {r} {d} going e n taken =
     let a = taken (its-sound s (going .ready)) (going .kept) in
     let g = stepped s d _ r (a .0) in
     record {

@@ -9,7 +9,6 @@ ghost use Rattle.reports.specs.Play.{report};
 use aic_record::Aic;
 use reports::Played;
 
-
 // Plays the steps from a place on. The limit falls by one with each step.
 pub fn play_steps(trace: &[u8], limit: u32, start: usize, first: Aic) -> Played
     requires { ⌜ Ready (ofAic first) ⌝ }

@@ -20,4 +20,3 @@ returns-3 c h k = let i = c .before .before .before .before .before .before .bef
 
 pub take-spec : {M : Type 1} → statement M
 take-spec = tie.close (tie.spec (λ c κs. search needs) returns (λ c κs. search needs) returns-2 (λ c κs. search needs) returns-3)
-

@@ -52,9 +52,11 @@ loop-again c = let p = c .before .before in
     let a = v .before .before in
     let i = a .before .before .before .before .before .before .before .before .before .before .before .before .before .before .before .before .before in
     let s = i .before .before in
-    let l = s .before .before .loop in
-    (goes-on _ _ _ _ _ _ _ _ _ (aicOf _ (l .lines) (l .enabled) (l .memory) (l .forced) (l .spurious) (l .mask) (l .mode) (l .vector) (l .source) (l .level) (l .depth)) (l .words) (l .any) (l .edges) (l .low) (l .class) _ _ _ _ _ _ _ _ _ _ _ _ (l .inv .0) (s .sure .ensures .0) (i .if1 .left) (a .take .ensures)
-    (v .before .letter-by .ensures) (v .shown-value .ensures) (o .columns .ensures _ _ _ _ _ _ _) (p .put-line .ensures), search needs)
+    let l = s .before .before .loop in (
+      goes-on _ _ _ _ _ _ _ _ _ (aicOf _ (l .lines) (l .enabled) (l .memory) (l .forced) (l .spurious) (l .mask) (l .mode) (l .vector) (l .source) (l .level) (l .depth)) (l .words) (l .any) (l .edges) (l .low) (l .class) _ _ _ _ _ _ _ _ _ _ _ _ (l .inv .0) (s .sure .ensures .0) (i .if1 .left) (a .take .ensures)
+          (v .before .letter-by .ensures) (v .shown-value .ensures) (o .columns .ensures _ _ _ _ _ _ _) (p .put-line .ensures),
+      search needs,
+    )
 
 pub list-steps-spec : {M : Type 1} → statement M
 list-steps-spec =

@@ -45,7 +45,7 @@ loop-again : tie.Need-loop-again Inv-loop μ-loop
 loop-again c = let i = c .before .before .before .before .before .before .before .before .before .before .before .before .before .before .before .before .before in
     let s = i .before .before in
     let l = s .before .before .loop in
-    goes-on _ _ _ _ _ _ _ (aicOf _ (l .lines) (l .enabled) (l .memory) (l .forced) (l .spurious) (l .mask) (l .mode) (l .vector) (l .source) (l .level) (l .depth)) (l .words) (l .any) (l .edges) (l .low) (l .class) _ _ _ _ _ _ _ _ (l .inv) (s .sure .ensures .0) (i .if1 .left) (c .take .ensures)
+    goes-on _ (l .inv) (s .sure .ensures .0) (i .if1 .left) (c .take .ensures)
 
 pub play-steps-spec : {M : Type 1} → statement M
 play-steps-spec =
