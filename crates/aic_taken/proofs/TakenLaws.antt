@@ -14,8 +14,8 @@ use Rattle.aic_sources.specs.Normal.{irq}
 use Rattle.aic_registers.specs.declared.Answer.{Answer}
 use Rattle.aic.specs.Model.{read, write, line, step as aicStep}
 use Rattle.aic.proofs.Promises.{kept as aic}
-use Rattle.aic_parts.specs.declared.Reply.{Reply}
-use Rattle.aic_parts.specs.Reply.{answerOf}
+use Rattle.aic_replies.specs.declared.Reply.{Reply}
+use Rattle.aic_replies.specs.Reply.{answerOf}
 use Rattle.machine_record.specs.declared.Columns.{Columns}
 use Rattle.machine_record.specs.Machine.{ofAic}
 use Rattle.machine_record.specs.Promises.{Ready}

@@ -6,8 +6,8 @@ ghost use Rattle.aic_record.specs.Sound.{sound};
 ghost use Rattle.aic.specs.Model.{step};
 ghost use Rattle.aic_beside.specs.Parts.{aicOf};
 ghost use Rattle.aic_beside.specs.Kept.{Kept};
-ghost use Rattle.aic_parts.specs.Reply.{answerOf};
-use aic_parts::Reply;
+ghost use Rattle.aic_replies.specs.Reply.{answerOf};
+use aic_replies::Reply;
 use aic_record::Aic;
 
 // The step of a kind with its numbers. An AIC's steps have no privilege.

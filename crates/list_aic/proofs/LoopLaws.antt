@@ -13,8 +13,8 @@ use Rattle.aic_record.specs.declared.Aic.{Aic}
 use Rattle.aic_record.specs.Sound.{sound}
 use Rattle.aic.specs.Model.{step}
 use Rattle.aic_beside.specs.Kept.{Kept}
-use Rattle.aic_parts.specs.declared.Reply.{Reply}
-use Rattle.aic_parts.specs.Reply.{answerOf}
+use Rattle.aic_replies.specs.declared.Reply.{Reply}
+use Rattle.aic_replies.specs.Reply.{answerOf}
 use Rattle.machine_record.specs.declared.Columns.{Columns}
 use Rattle.machine_record.specs.Machine.{ofAic}
 use Rattle.machine_record.specs.Promises.{Ready}
