@@ -109,8 +109,6 @@ pub fn list_steps(
         place = t.next;
         more = more - 1;
         number = number + 1;
-        let letter = lines::letter_by(t.kind, a.refusal);
-        let value = lines::shown_value(a.refusal, a.value);
         let c = columns(
             lines,
             enabled,
@@ -123,6 +121,6 @@ pub fn list_steps(
             edges,
             low,
         );
-        to = lines::put_line(out, to, number, letter, value, c);
+        to = lines::put_step(out, to, number, t.kind, a.refusal, a.value, c);
     }
 }

@@ -42,19 +42,18 @@ add-number c = let i = c .before .before .before .before .before .before .before
     omega (arith, found-here _ _ _ _ _ (s .sure .ensures .0) (i .if1 .left) .1 .0, l .loop .inv .0 .counted, l .before .before .before .before .before .before .before .before .before .before .fits .limit)
 
 loop-less : tie.Need-loop-less Inv-loop μ-loop
-loop-less c = let i = c .before .before .before .before .before .before .before .before .before .before .before .before .before .before .before .before .before .before .before .before .before .before .before .before .before in
+loop-less c = let i = c .before .before .before .before .before .before .before .before .before .before .before .before .before .before .before .before .before .before .before .before .before .before .before in
     omega (arith, found-here _ _ _ _ _ (i .before .before .sure .ensures .0) (i .if1 .left) .1 .0)
 
 loop-again : tie.Need-loop-again Inv-loop μ-loop
 loop-again c = let p = c .before .before in
     let o = p .before .before in
-    let v = o .before .before in
-    let a = v .before .before in
+    let a = o .before .before in
     let i = a .before .before .before .before .before .before .before .before .before .before .before .before .before .before .before .before .before in
     let s = i .before .before in
     let l = s .before .before .loop in (
       goes-on _ _ _ _ _ _ _ _ _ (aicOf _ (l .lines) (l .enabled) (l .memory) (l .forced) (l .spurious) (l .mask) (l .mode) (l .vector) (l .source) (l .level) (l .depth)) (l .words) (l .any) (l .edges) (l .low) (l .class) _ _ _ _ _ _ _ _ _ _ _ _ (l .inv .0) (s .sure .ensures .0) (i .if1 .left) (a .take .ensures)
-          (v .before .letter-by .ensures) (v .shown-value .ensures) (o .columns .ensures _ _ _ _ _ _ _) (p .put-line .ensures),
+          refl refl (o .columns .ensures _ _ _ _ _ _ _) (p .put-step .ensures),
       search needs,
     )
 
@@ -74,8 +73,6 @@ list-steps-spec =
     (λ c κs. search needs)
     sub-more
     add-number
-    (λ c κs. search needs)
-    (λ c κs. search needs)
     (λ c κs. search needs)
     (λ c κs. search needs)
     loop-less
