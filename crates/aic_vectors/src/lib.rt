@@ -2,10 +2,10 @@
 ghost use mathlib.Core.Path.{_≡_};
 ghost use mathlib.Core.Bool.{false, _&&_};
 ghost use mathlib.Core.List.{List};
-ghost use Prim.Native.Nat.{ℕ, _+_, _*_, _≤_, _<_};
+ghost use Prim.Native.Nat.{ℕ, _+_, _*_, _%_, _≤_, _<_};
 ghost use lib.Dec.{eqb};
 ghost use Rattle.words.specs.Choice.{pick};
-ghost use Rattle.words.specs.Counting.{one};
+ghost use Rattle.words.specs.Counting.{one, lowestBelow};
 ghost use Rattle.words.specs.Word.{bit, withBit};
 ghost use Rattle.aic_record.specs.Mode.{priority};
 ghost use Rattle.aic_sources.specs.Pending.{edgeWord};
@@ -105,6 +105,13 @@ fn spend<'a>(
     }
 }
 
+// The lowest source of a word, below 32 even of one that has none.
+fn first_of(w: u32) -> u32
+    ensures { λ r. ⌜ r ≡ lowestBelow 32 (bit w) % 32 ⌝ }
+{
+    words::lowest(w) % 32
+}
+
 // The lowest source of level p starts, and its vector is answered.
 fn start<'a>(
     lines: u32,
@@ -126,7 +133,7 @@ fn start<'a>(
     ensures { λ r. ⌜ ((external spurious mask : ℕ) (mode : List ℕ) → p ≡ highestOf (now (any .entry)) → leastOf (aicOf external lines enabled (now (memory .entry)) forced spurious mask mode (now (vector .entry)) (now (source .entry)) (now (level .entry)) (now (depth .entry))) ≤ p → Kept (aicOf external lines enabled (now (memory .entry)) forced spurious mask mode (now (vector .entry)) (now (source .entry)) (now (level .entry)) (now (depth .entry))) (now (words .entry)) (now (any .entry)) edges low (now (class .entry)) → (answered (aicOf external lines enabled (now (memory .exit)) forced spurious mask mode (now (vector .entry)) (now (source .exit)) (now (level .exit)) (now (depth .exit))) r ≡ ivrRead (aicOf external lines enabled (now (memory .entry)) forced spurious mask mode (now (vector .entry)) (now (source .entry)) (now (level .entry)) (now (depth .entry)))) × Kept (aicOf external lines enabled (now (memory .exit)) forced spurious mask mode (now (vector .entry)) (now (source .exit)) (now (level .exit)) (now (depth .exit))) (now (words .exit)) (now (any .exit)) edges low (now (class .entry))) ⌝ }
 {
     let at = p as usize;
-    let k = words::lowest(words[at]) % 32;
+    let k = first_of(words[at]);
     spend(
         lines,
         enabled,
