@@ -1,7 +1,6 @@
 -- That `current` of src/lib.rt keeps its contract.
 use mathlib.Core.Path.{_∙_}
 use native.Mathlib.Omega.{arith}
-use borrow.Author.Tests.{eq-eqb, ne-eqb}
 use Rattle.words.proofs.ChoiceLaws.{pick-true, pick-false}
 use Rattle.aic_registers.specs.Handlers.{current}
 use Rattle.aic_entries.proofs.EntryLaws.{none-open, some-open}

@@ -1,5 +1,5 @@
 -- That `spend` of src/lib.rt keeps its contract.
-use mathlib.Core.Path.{refl, _∙_}
+use mathlib.Core.Path.{refl}
 use native.Mathlib.Omega.{arith}
 use Rattle.aic_record.specs.Record.{withMemory}
 use Rattle.aic_beside.specs.Parts.{aicOf}

@@ -1,7 +1,6 @@
 -- That `write_table` of src/lib.rt keeps its contract.
 use mathlib.Core.Path.{_∙_}
 use native.Mathlib.Omega.{arith}
-use Prim.Native.Nat.{_/_, _%_}
 use Rattle.aic_beside.specs.Parts.{aicOf}
 use Rattle.aic_beside.proofs.KeptLaws.{entries-kept}
 use Rattle.aic_replies.proofs.AccessLaws.{mode-written, vector-written}
