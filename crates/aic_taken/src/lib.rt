@@ -7,8 +7,8 @@ ghost use Rattle.aic.specs.Model.{step};
 ghost use Rattle.aic_beside.specs.Parts.{aicOf};
 ghost use Rattle.aic_beside.specs.Kept.{Kept};
 ghost use Rattle.aic_replies.specs.Reply.{answerOf};
-use aic_replies::Reply;
 use aic_record::Aic;
+use aic_replies::Reply;
 
 // The step of a kind with its numbers. An AIC's steps have no privilege.
 pub fn take<'a>(
