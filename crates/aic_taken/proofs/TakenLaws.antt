@@ -4,15 +4,13 @@ use mathlib.Core.Bool.{Bool, true}
 use mathlib.Core.Path.{_≡_, refl, sym, ap, _∙_}
 use Rattle.words.specs.Counting.{one}
 use Rattle.steps.specs.declared.Recorded.{Recorded}
-use Rattle.trace.specs.Steps.{readKind, writeKind}
-use Rattle.turns.specs.Turns.{stepOf}
-use Rattle.turns.proofs.TurnLaws.{step-read, step-write, step-line}
+use Rattle.steps.specs.declared.Step.{Step}
 use Rattle.aic_record.specs.declared.Aic.{Aic}
 use Rattle.aic_record.specs.Sound.{sound as aicSound}
 use Rattle.aic_sources.specs.Fast.{fiq}
 use Rattle.aic_sources.specs.Normal.{irq}
 use Rattle.aic_registers.specs.declared.Answer.{Answer}
-use Rattle.aic.specs.Model.{read, write, line, step as aicStep}
+use Rattle.aic.specs.Model.{step as aicStep}
 use Rattle.aic.proofs.Promises.{kept as aic}
 use Rattle.aic_replies.specs.declared.Reply.{Reply}
 use Rattle.aic_replies.specs.Reply.{answerOf}
@@ -25,19 +23,9 @@ use Rattle.machine_record.proofs.ShownLaws.{aic-shows}
 use Rattle.machine.specs.Steps.{afterAic, step}
 use Rattle.machine.proofs.StepLaws.{aic-steps}
 
--- ---- what a step of each kind answers
-
-module _ (s : Aic) (a : Answer) (kind x y : ℕ) where
-  pub by-read : a ≡ read s x → kind ≡ readKind → a ≡ aicStep s (stepOf kind x y)
-  by-read e k = e ∙ sym (ap (aicStep s) (step-read kind x y k))
-
-  pub by-write : a ≡ write s x y → kind ≡ writeKind → a ≡ aicStep s (stepOf kind x y)
-  by-write e k = e ∙ sym (ap (aicStep s) (step-write kind x y k))
-
-  pub by-line : a ≡ line s x y → (kind ≡ readKind → ⊥) → (kind ≡ writeKind → ⊥) → a ≡ aicStep s (stepOf kind x y)
-  by-line e r w = e ∙ sym (ap (aicStep s) (step-line kind x y r w))
-
--- ---- a step of the loop
+-- what a step promises it promises of an equal one
+pub as-step : {A B C : Type 0} (s : Aic) {a : Answer} {x y : Step} → x ≡ y → (A → B → (a ≡ aicStep s x) × C) → A → B → (a ≡ aicStep s y) × C
+as-step s e f h k = (f h k .0 ∙ ap (aicStep s) e, f h k .1)
 
 -- the record of a machine that is ready is sound
 pub its-sound : (s : Aic) → Ready (ofAic s) → aicSound s ≡ true

@@ -9,6 +9,7 @@ ghost use Rattle.aic_beside.specs.Kept.{Kept};
 ghost use Rattle.aic_replies.specs.Reply.{answerOf};
 use aic_record::Aic;
 use aic_replies::Reply;
+use steps::Step;
 
 // The step of a kind with its numbers. An AIC's steps have no privilege.
 pub fn take<'a>(
@@ -35,66 +36,39 @@ pub fn take<'a>(
 ) -> Reply
     ensures { λ r. ⌜ (sound (aicOf external (now (lines .entry)) (now (enabled .entry)) (now (memory .entry)) (now (forced .entry)) (now (spurious .entry)) (now (mask .entry)) (now (mode .entry)) (now (vector .entry)) (now (source .entry)) (now (level .entry)) (now (depth .entry))) ≡ true → Kept (aicOf external (now (lines .entry)) (now (enabled .entry)) (now (memory .entry)) (now (forced .entry)) (now (spurious .entry)) (now (mask .entry)) (now (mode .entry)) (now (vector .entry)) (now (source .entry)) (now (level .entry)) (now (depth .entry))) (now (words .entry)) (now (any .entry)) (now (edges .entry)) (now (low .entry)) (now (class .entry)) → (answerOf r (aicOf external (now (lines .exit)) (now (enabled .exit)) (now (memory .exit)) (now (forced .exit)) (now (spurious .exit)) (now (mask .exit)) (now (mode .exit)) (now (vector .exit)) (now (source .exit)) (now (level .exit)) (now (depth .exit))) ≡ step (aicOf external (now (lines .entry)) (now (enabled .entry)) (now (memory .entry)) (now (forced .entry)) (now (spurious .entry)) (now (mask .entry)) (now (mode .entry)) (now (vector .entry)) (now (source .entry)) (now (level .entry)) (now (depth .entry))) (stepOf kind x y)) × Kept (aicOf external (now (lines .exit)) (now (enabled .exit)) (now (memory .exit)) (now (forced .exit)) (now (spurious .exit)) (now (mask .exit)) (now (mode .exit)) (now (vector .exit)) (now (source .exit)) (now (level .exit)) (now (depth .exit))) (now (words .exit)) (now (any .exit)) (now (edges .exit)) (now (low .exit)) (now (class .exit))) ⌝ }
 {
-    if kind == trace::READ {
-        return aic_parts::read(
-            external,
-            *lines,
-            *enabled,
-            memory,
-            *forced,
-            *spurious,
-            *mask,
-            mode,
-            vector,
-            source,
-            level,
-            depth,
-            words,
-            any,
-            *edges,
-            *low,
-            class,
-            x,
-        );
-    }
-    if kind == trace::WRITE {
-        return aic_parts::write(
-            external,
-            *lines,
-            enabled,
-            memory,
-            forced,
-            spurious,
-            mask,
-            mode,
-            vector,
-            source,
-            level,
-            depth,
-            words,
-            any,
-            edges,
-            low,
-            class,
-            x,
-            y,
-        );
-    }
-    aic_parts::line(
+    aic_steps::step(
         external,
         lines,
-        *enabled,
+        enabled,
         memory,
-        *forced,
+        forced,
+        spurious,
+        mask,
         mode,
+        vector,
+        source,
+        level,
+        depth,
         words,
         any,
-        *edges,
-        *low,
+        edges,
+        low,
         class,
-        x,
-        y,
+        step_of(kind, x, y),
     )
+}
+
+// The numbers as a step.
+fn step_of(kind: u32, x: u32, y: u32) -> Step
+    ensures { λ r. ⌜ r ≡ stepOf kind x y ⌝ }
+{
+    if kind == trace::READ {
+        return Step::Read(x);
+    }
+    if kind == trace::WRITE {
+        return Step::Write(x, y);
+    }
+    Step::Line(x, y)
 }
 
 // What is kept beside the parts of a record: its sources by level, those that are edge-triggered, those that are active low, and those of each
