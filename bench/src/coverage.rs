@@ -4,6 +4,7 @@ mod aic;
 mod aintc;
 mod cic;
 mod core;
+mod levels;
 
 use std::collections::HashMap;
 
@@ -55,6 +56,16 @@ pub enum Item {
     Mix(usize, u8),
     /// An EOICR write found so many entries open, and this one last.
     Closed(usize, Option<Entered>),
+    /// A level of the AIC got or lost a waiting source by a step of this sort.
+    Level(u8, Turn, Cause),
+    /// A mode write took a waiting source of the AIC from one level to another.
+    Moved(u8, u8),
+    /// IVR was read while just the levels of these bits had a waiting source.
+    Byte(u8),
+    /// IVR was read with room left, at this level of the last entry and this highest level with a waiting source.
+    Against(Option<u8>, Option<u8>),
+    /// IVR started a source at a level, and a higher number of the same level waited too; the level is given first.
+    LowerNumber(u8, u8),
     /// CISR answered this.
     Cisr(u32),
     /// A CoreInterrupt side was configured with so many sources.
@@ -76,6 +87,33 @@ pub enum Item {
 pub enum Entered {
     Handler,
     Mark,
+}
+
+/// What became of a level of the AIC.
+#[derive(Clone, Copy, Debug, PartialEq, Eq, PartialOrd, Ord, Hash)]
+pub enum Turn {
+    /// It had no waiting source and has one.
+    Filled,
+    /// It had some and has more.
+    Joined,
+    /// It had more and has some.
+    Left,
+    /// It had some and has none.
+    Emptied,
+}
+
+/// What can put a source of the AIC into a level or take it out.
+#[derive(Clone, Copy, Debug, PartialEq, Eq, PartialOrd, Ord, Hash)]
+pub enum Cause {
+    Line,
+    Mode,
+    Enable,
+    Disable,
+    Set,
+    Clear,
+    Force,
+    Unforce,
+    Start,
 }
 
 /// What came of an access to a register.

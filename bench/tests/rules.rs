@@ -1,6 +1,8 @@
 //! The model against the worked cases of document 01, and against the points that can be read in two ways; those of the
-//! spurious marks are in rules/marks.rs, the AINTC's in aintc.rs.
+//! spurious marks are in rules/marks.rs, those of the sources by level in rules/levels.rs, the AINTC's in aintc.rs.
 
+#[path = "rules/levels.rs"]
+mod levels;
 #[path = "rules/marks.rs"]
 mod marks;
 

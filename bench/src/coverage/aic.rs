@@ -27,7 +27,7 @@ fn wants_room(aic: &Aic) -> bool {
 }
 
 /// A word with a bit for each entry that is a mark.
-fn marks(entries: &[Entry]) -> u8 {
+pub(super) fn marks(entries: &[Entry]) -> u8 {
     let mark = |word, entry: &Entry| word << 1 | u8::from(entry.is_mark());
     entries.iter().rev().fold(0, mark)
 }
@@ -46,6 +46,9 @@ impl Coverage {
     pub(super) fn aic_step(&mut self, aic: &Aic, step: Step, answer: Answer) {
         let before = self.aic_before.take().expect("a step has a before").aic;
         self.aic_register(step, answer);
+        if answer.is_ok() {
+            self.aic_levels(&before, aic, step);
+        }
         match (step, answer) {
             (Step::Read { offset }, Ok(value)) => self.aic_read(&before, aic, offset, value),
             (Step::Write { offset, value }, Ok(_)) => {
@@ -524,6 +527,7 @@ pub(super) fn wanted() -> Vec<Item> {
             items.extend([1, 3].map(|kind| Item::Edge(kind, external, now)));
         }
     }
+    items.extend(super::levels::wanted());
     items.extend(FACTS.iter().copied().map(Item::Fact));
     items
 }

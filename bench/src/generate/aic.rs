@@ -1,5 +1,6 @@
-//! Tours of an AIC, in several moods: a bit of everything, deep nesting, marks, the fast side, single edges. Every IVR
-//! read opens an entry while there is room, so that a mood with such reads needs closes as often.
+//! Tours of an AIC, in several moods: a bit of everything, deep nesting, marks, the fast side, single edges, sources that
+//! change their level. Every IVR read opens an entry while there is room, so that a mood with such reads needs closes as
+//! often; the last has fewer, since levels are to change with eight entries open too.
 
 use super::{bad_line, odd_access, Script};
 use crate::random::Random;
@@ -12,13 +13,13 @@ pub const CISR: u32 = 0x114;
 const STATUS: [u32; 7] = [ISR, ISR, 0x10C, 0x10C, 0x110, CISR, 0x148];
 pub const ENABLE: u32 = 0x120;
 pub const DISABLE: u32 = 0x124;
-const CLEAR: u32 = 0x128;
+pub const CLEAR: u32 = 0x128;
 pub const SET: u32 = 0x12C;
 pub const EOICR: u32 = 0x130;
 pub const SPU: u32 = 0x134;
 pub const DCR: u32 = 0x138;
 pub const FFER: u32 = 0x140;
-const FFDR: u32 = 0x144;
+pub const FFDR: u32 = 0x144;
 const END: u32 = 0x14C;
 
 /// Types as they stand in a mode.
@@ -39,6 +40,7 @@ enum Act {
     Close,
     Nest,
     Tower,
+    Crowd,
     Mask,
     Spurious,
     AnyRegister,
@@ -123,6 +125,21 @@ const EDGES: [(u32, Act); 9] = [
     (4, Act::Close),
 ];
 
+const LEVELS: [(u32, Act); 12] = [
+    (20, Act::Line),
+    (16, Act::Mode),
+    (4, Act::Command(ENABLE)),
+    (4, Act::Command(DISABLE)),
+    (5, Act::Command(SET)),
+    (4, Act::Command(CLEAR)),
+    (4, Act::Command(FFER)),
+    (5, Act::Command(FFDR)),
+    (10, Act::ReadIvr),
+    (8, Act::Close),
+    (4, Act::ReadStatus),
+    (2, Act::Crowd),
+];
+
 /// What a tour is mostly about.
 #[derive(Clone, Copy, PartialEq, Eq)]
 enum Mood {
@@ -131,15 +148,17 @@ enum Mood {
     Marks,
     Fast,
     Edges,
+    Levels,
 }
 
 impl Mood {
-    const ALL: [Mood; 5] = [
+    const ALL: [Mood; 6] = [
         Mood::Mixed,
         Mood::Nesting,
         Mood::Marks,
         Mood::Fast,
         Mood::Edges,
+        Mood::Levels,
     ];
 
     fn acts(self) -> &'static [(u32, Act)] {
@@ -149,6 +168,7 @@ impl Mood {
             Mood::Marks => &MARKS,
             Mood::Fast => &FAST,
             Mood::Edges => &EDGES,
+            Mood::Levels => &LEVELS,
         }
     }
 }
@@ -234,6 +254,7 @@ impl Tour<'_> {
             Act::Close => self.script.write(EOICR, self.random.below(2)),
             Act::Nest => self.nest(),
             Act::Tower => self.tower(),
+            Act::Crowd => self.crowd(),
             Act::Mask => self.mask(),
             Act::Spurious => self.script.write(SPU, self.random.word()),
             Act::AnyRegister => self.any_register(),
@@ -318,6 +339,22 @@ impl Tour<'_> {
             self.raise(7);
         }
         self.unwind();
+    }
+
+    /// Eight handlers or eight marks that stay open, and every source enabled beneath them.
+    fn crowd(&mut self) {
+        let marks = self.random.one_in(2);
+        self.script.write(DISABLE, u32::MAX);
+        for _ in 0..8 {
+            self.script.write(EOICR, 0);
+        }
+        for level in 0..8 {
+            if !marks {
+                self.raise(level);
+            }
+            self.script.read(IVR);
+        }
+        self.script.write(ENABLE, u32::MAX);
     }
 
     fn unwind(&mut self) {

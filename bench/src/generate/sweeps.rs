@@ -1,6 +1,7 @@
 //! Traces that visit everything once and on purpose: every register, every defect of every number, every limit.
 
 mod aintc;
+mod levels;
 mod marks;
 
 use super::damage::spoil;
@@ -15,6 +16,7 @@ pub fn all() -> Vec<Script> {
     sweeps.extend(registers());
     sweeps.extend(aic_situations());
     sweeps.extend(marks::situations());
+    sweeps.extend(levels::situations());
     sweeps.extend(core_situations());
     sweeps.extend(cic_situations());
     sweeps.push(line_limits(AINTC, &[], 128));

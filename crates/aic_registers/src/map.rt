@@ -3,39 +3,39 @@ ghost use mathlib.Core.Path.{_≡_};
 ghost use Rattle.aic_registers.specs.Map.{access, valueRefusal};
 use steps::Access;
 
-pub(crate) const SVR: u32 = 0x80;
+pub const SVR: u32 = 0x80;
 
-pub(crate) const IVR: u32 = 0x100;
+pub const IVR: u32 = 0x100;
 
-pub(crate) const FVR: u32 = 0x104;
+pub const FVR: u32 = 0x104;
 
-pub(crate) const ISR: u32 = 0x108;
+pub const ISR: u32 = 0x108;
 
-pub(crate) const IPR: u32 = 0x10C;
+pub const IPR: u32 = 0x10C;
 
-pub(crate) const IMR: u32 = 0x110;
+pub const IMR: u32 = 0x110;
 
-pub(crate) const CISR: u32 = 0x114;
+pub const CISR: u32 = 0x114;
 
-pub(crate) const IECR: u32 = 0x120;
+pub const IECR: u32 = 0x120;
 
-pub(crate) const IDCR: u32 = 0x124;
+pub const IDCR: u32 = 0x124;
 
-pub(crate) const ICCR: u32 = 0x128;
+pub const ICCR: u32 = 0x128;
 
-pub(crate) const ISCR: u32 = 0x12C;
+pub const ISCR: u32 = 0x12C;
 
-pub(crate) const EOICR: u32 = 0x130;
+pub const EOICR: u32 = 0x130;
 
-pub(crate) const SPU: u32 = 0x134;
+pub const SPU: u32 = 0x134;
 
-pub(crate) const DCR: u32 = 0x138;
+pub const DCR: u32 = 0x138;
 
-pub(crate) const FFER: u32 = 0x140;
+pub const FFER: u32 = 0x140;
 
-pub(crate) const FFDR: u32 = 0x144;
+pub const FFDR: u32 = 0x144;
 
-pub(crate) const FFSR: u32 = 0x148;
+pub const FFSR: u32 = 0x148;
 
 // What the register at an aligned offset may be used for. IVR takes writes, which do nothing.
 pub fn access_of(offset: u32) -> Access

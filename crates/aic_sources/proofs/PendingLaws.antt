@@ -52,7 +52,7 @@ pub edge-bit : (m : ℕ) → bit m 5 ≡ edgeOf m
 unfolding bit
 edge-bit m = ap (λ (n : ℕ). eqb n 1) {x = m / 32 % 2} {y = m / 32 % 4 % 2} (omega arith)
 
-low-bit : (m : ℕ) → not (bit m 6) ≡ ltb (typeOf m) 2
+pub low-bit : (m : ℕ) → not (bit m 6) ≡ ltb (typeOf m) 2
 unfolding bit
 low-bit m = go (decLt (m / 32 % 4) 2)
   where
@@ -70,11 +70,11 @@ edges-are s = wordOf-same 32 (λ k. bit (modeAt s k) 5) (edge s) (λ k l. edge-b
 
 -- ---- the pending sources
 
-bit-edges : (s : Aic) (k : ℕ) → k < 32 → bit (edgeWord s) k ≡ edge s k
+pub bit-edges : (s : Aic) (k : ℕ) → k < 32 → bit (edgeWord s) k ≡ edge s k
 unfolding edgeWord
 bit-edges s k l = bit-wordOf 32 (edge s) k l
 
-low-is : (s : Aic) (k : ℕ) → k < 32 → bit (without (s .external) (modeWord (s .mode) 6)) k ≡ activeLow s k
+pub low-is : (s : Aic) (k : ℕ) → k < 32 → bit (without (s .external) (modeWord (s .mode) 6)) k ≡ activeLow s k
 unfolding activeLow kind
 low-is s k l =
     bit-without (s .external) (modeWord (s .mode) 6) k l
@@ -112,7 +112,7 @@ pub fast-by : (s : Aic) → either 1 (s .forced) ≡ wordOf 32 (fast s)
 unfolding either fast
 fast-by s = wordOf-same 32 _ (fast s) (λ k l. ap (λ (b : Bool). b || bit (s .forced) k) (bit-alone 0 k))
 
-bit-waits : (s : Aic) (k : ℕ) → k < 32 → bit (without (wordOf 32 (asking s)) (wordOf 32 (fast s))) k ≡ waiting s k
+pub bit-waits : (s : Aic) (k : ℕ) → k < 32 → bit (without (wordOf 32 (asking s)) (wordOf 32 (fast s))) k ≡ waiting s k
 unfolding waiting
 bit-waits s k l =
     bit-without (wordOf 32 (asking s)) (wordOf 32 (fast s)) k l

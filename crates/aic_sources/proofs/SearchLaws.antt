@@ -127,7 +127,7 @@ unfoldable pub Sees : Aic → ℕ → Type 0
 Sees s w = (k : ℕ) → k < 32 → bit w k ≡ waiting s k
 
 -- at least the least priority that may start: there is room, and it is above the level of the last entry
-least-rule : (s : Aic) (p : ℕ) → p ≤ 7 → leb (leastOf s) p ≡ above s p
+pub least-rule : (s : Aic) (p : ℕ) → p ≤ 7 → leb (leastOf s) p ≡ above s p
 unfolding leastOf above
 least-rule s p l = go (ltb (s .depth) 8)
   where

@@ -21,7 +21,7 @@ fn mode_bit(mode: u8, j: u32) -> bool
 }
 
 // Bit j of each of the 32 modes.
-fn mode_word(mode: &[u8; 32], j: u32) -> u32
+pub fn mode_word(mode: &[u8; 32], j: u32) -> u32
     ensures { λ r. ⌜ r ≡ modeWord (now (mode .entry)) j ⌝ }
 {
     let mut w: u32 = 0;
@@ -35,14 +35,14 @@ fn mode_word(mode: &[u8; 32], j: u32) -> u32
 }
 
 // The bits of a where the mask has a bit, those of b elsewhere.
-fn blend(mask: u32, a: u32, b: u32) -> u32
+pub fn blend(mask: u32, a: u32, b: u32) -> u32
     ensures { λ r. ⌜ r ≡ wordOf 32 (λ k. pick (bit mask k) (bit a k) (bit b k)) ⌝ }
 {
     words::join(words::meet(mask, a), words::drop_bits(b, mask))
 }
 
 // The sources whose lines are at their active levels: low for those of the word `low`, high for the others.
-fn active_word(low: u32, lines: u32) -> u32
+pub fn active_word(low: u32, lines: u32) -> u32
     ensures { λ r. ⌜ r ≡ wordOf 32 (λ k. pick (bit low k) (not (bit lines k)) (bit lines k)) ⌝ }
 {
     words::join(words::drop_bits(low, lines), words::drop_bits(lines, low))

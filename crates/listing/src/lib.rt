@@ -40,7 +40,7 @@ fn list_by_kind(trace: &[u8], limit: u32, b: Begun, out: &mut [u8], at: usize) -
 {
     let m = b.machine;
     if m.kind == kinds::AIC {
-        return loops_aic::list_steps(trace, limit, b.place, m.aic, out, at);
+        return list_aic::list_steps(trace, limit, b.place, m.aic, out, at);
     }
     if m.kind == kinds::CORE {
         return loops_core::list_steps(trace, limit, b.place, m.core, out, at);

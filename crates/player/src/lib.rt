@@ -35,7 +35,7 @@ fn play_by_kind(trace: &[u8], limit: u32, b: Begun) -> Played
 {
     let m = b.machine;
     if m.kind == kinds::AIC {
-        return loops_aic::play_steps(trace, limit, b.place, m.aic);
+        return play_aic::play_steps(trace, limit, b.place, m.aic);
     }
     if m.kind == kinds::CORE {
         return loops_core::play_steps(trace, limit, b.place, m.core);

@@ -14,7 +14,7 @@ pub fn situations() -> Vec<Script> {
 }
 
 /// An AIC with a spurious vector and all its sources enabled.
-fn opening() -> Script {
+pub(super) fn opening() -> Script {
     let mut script = Script::new(0, &[0, 0]);
     script.write(SPU, 0x5050);
     script.write(ENABLE, u32::MAX);
@@ -22,7 +22,7 @@ fn opening() -> Script {
 }
 
 /// The mode of a source, and a vector that tells it apart.
-fn source(script: &mut Script, number: u32, kind: u32, priority: u32) {
+pub(super) fn source(script: &mut Script, number: u32, kind: u32, priority: u32) {
     script.write(4 * number, kind | priority);
     script.write(VECTORS + 4 * number, 0xB000 + number);
 }

@@ -1,0 +1,164 @@
+//! The AIC's sources kept by level (02, 5/12), on the model: eight words and a byte say IRQ and the source that starts,
+//! and a step changes the words of few levels.
+
+use super::*;
+
+use bench::generate::Generator;
+use bench::model::aic::{Register, SOURCES};
+use bench::model::{Machine, Recorded};
+use bench::trace::{play, Observer};
+
+/// A word for each level, and a bit for each that is not 0.
+#[derive(Clone, Copy, Debug, PartialEq, Eq)]
+struct Levels {
+    words: [u32; 8],
+    any: u8,
+}
+
+impl Levels {
+    /// A source that is pending, enabled and not fast is in the level of its priority.
+    fn of(aic: &Aic) -> Levels {
+        let mut words = [0; 8];
+        for (n, source) in aic.sources().iter().enumerate() {
+            if source.pending() && source.enabled && !aic.fast(n) {
+                words[usize::from(source.priority)] |= 1 << n;
+            }
+        }
+        let any = (0..8).filter(|&level| words[level] != 0);
+        Levels {
+            words,
+            any: any.fold(0, |any, level| any | 1 << level),
+        }
+    }
+
+    /// The highest level of the byte, 255 for none.
+    fn highest(&self) -> u8 {
+        let found = (0..8).rev().find(|level| self.any >> level & 1 == 1);
+        found.unwrap_or(255)
+    }
+
+    /// The lowest number of the highest level, if that is above the last entry and there is room for one more.
+    fn first(&self, aic: &Aic) -> Option<usize> {
+        let highest = self.highest();
+        let least = aic.last_level().map_or(0, |level| level + 1);
+        let may = aic.entries().len() < 8 && highest != 255 && least <= highest;
+        may.then(|| self.words[usize::from(highest)].trailing_zeros() as usize)
+    }
+}
+
+/// Looks at every step of an AIC.
+#[derive(Default)]
+struct Watch {
+    before: Option<Aic>,
+    moved: usize,
+    started: usize,
+}
+
+impl Watch {
+    /// The levels whose words a step may change; none is said for a command, which may change all.
+    fn touched(before: &Aic, after: &Aic, step: Step, answer: Answer) -> Option<Vec<u8>> {
+        let now = |n: usize| after.sources()[n].priority;
+        Some(match step {
+            _ if answer.is_err() => vec![],
+            Step::Line { line, .. } => vec![now(line as usize)],
+            Step::Read { offset: IVR } => {
+                let edge = |&n: &usize| before.sources()[n].edge_triggered();
+                before.best().filter(edge).map(now).into_iter().collect()
+            }
+            Step::Read { .. } => vec![],
+            Step::Write { offset, .. } => match Register::at(offset)? {
+                Register::Mode(n) => {
+                    let n = usize::from(n);
+                    vec![before.sources()[n].priority, now(n)]
+                }
+                Register::Enable
+                | Register::Disable
+                | Register::Clear
+                | Register::Set
+                | Register::Ffer
+                | Register::Ffdr => return None,
+                _ => vec![],
+            },
+        })
+    }
+
+    fn look(&mut self, before: &Aic, after: &Aic, step: Step, answer: Answer) {
+        let (were, are) = (Levels::of(before), Levels::of(after));
+        assert_eq!(are.first(after), after.best());
+        assert_eq!(
+            after.irq(),
+            !after.masked() && are.first(after).is_some(),
+            "{are:?}"
+        );
+        if let (Step::Read { offset: IVR }, Some(source)) = (step, were.first(before)) {
+            let opened = after.entries().last().expect("an entry was opened");
+            assert_eq!(opened.source.map(usize::from), Some(source));
+            assert_eq!(opened.level, Some(were.highest()));
+            assert_eq!(answer, Ok(before.sources()[source].vector));
+            self.started += 1;
+        }
+        if let Some(touched) = Watch::touched(before, after, step, answer) {
+            for level in (0..8_u8).filter(|level| !touched.contains(level)) {
+                let at = usize::from(level);
+                assert_eq!(were.words[at], are.words[at], "level {level}, {step:?}");
+            }
+        }
+        self.moved += usize::from(were != are);
+    }
+}
+
+impl Observer for Watch {
+    fn started(&mut self, machine: &Machine) {
+        if let Machine::Aic(aic) = machine {
+            let none = Levels {
+                words: [0; 8],
+                any: 0,
+            };
+            assert_eq!(Levels::of(aic), none);
+        }
+    }
+
+    fn before(&mut self, machine: &Machine, _: Recorded) {
+        if let Machine::Aic(aic) = machine {
+            self.before = Some(Aic::clone(aic));
+        }
+    }
+
+    fn after(&mut self, machine: &Machine, _: u32, recorded: Recorded, answer: Answer) {
+        if let (Machine::Aic(after), Some(before)) = (machine, self.before.take()) {
+            self.look(&before, after, recorded.step, answer);
+        }
+    }
+}
+
+#[test]
+fn levels_say_irq_and_the_start_after_every_step() {
+    let generator = Generator::new(5);
+    let mut watch = Watch::default();
+    for number in 0..generator.sweeps() + 2_000 {
+        let case = generator.case(number);
+        play(&case.trace, case.limit.min(2_000), &mut watch);
+    }
+    assert!(watch.moved > 10_000, "{} steps moved", watch.moved);
+    assert!(watch.started > 2_000, "{} starts", watch.started);
+}
+
+/// Source 0 and forced sources are in no level, whatever their priority; nor is one that is disabled or idle.
+#[test]
+fn who_is_in_a_level() {
+    let mut aic = aic();
+    for source in 0..SOURCES as u32 {
+        raise(&mut aic, source, source % 8);
+    }
+    put(&mut aic, FFER, 1 << 9 | 1);
+    put(&mut aic, DISABLE, 1 << 17);
+    set(&mut aic, 25, 0);
+    let levels = Levels::of(&aic);
+    assert_eq!(levels.words[0], 1 << 8 | 1 << 16 | 1 << 24);
+    assert_eq!(levels.words[1], 1 << 1);
+    assert_eq!(levels.words[2], 1 << 2 | 1 << 10 | 1 << 18 | 1 << 26);
+    assert_eq!((levels.any, levels.highest()), (0xFF, 7));
+    put(&mut aic, DISABLE, u32::MAX);
+    let levels = Levels::of(&aic);
+    assert_eq!((levels.any, levels.highest()), (0, 255));
+}

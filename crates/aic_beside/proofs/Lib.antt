@@ -1,0 +1,3 @@
+-- Laws of the words that are kept beside a record.
+pub mod KeptLaws
+pub mod WordLaws

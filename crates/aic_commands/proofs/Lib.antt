@@ -1,0 +1,2 @@
+-- Laws of what commands do to a record.
+pub mod CommandLaws

@@ -1,0 +1,15 @@
+use mathlib.Core.Path.{refl}
+use Rattle.aic_beside.specs.Parts.{aicOf}
+use Rattle.aic_commands.proofs.CommandLaws.{unforced-by}
+use borrow.Author.Needs.{needs}
+use Rattle.aic_commands.proofs.unforce.Statement.{statement}
+use Rattle.aic_commands.proofs.unforce.Tie as tie
+
+returns : tie.Need-returns
+returns c external spurious mask depth mode vector source level k =
+    let a = c .before .before .before .before .before .args in
+    let s = aicOf external (a .lines) (a .enabled) (a .memory) (a .forced .now) spurious mask mode vector source level depth in
+    (unforced-by s (a .v) _ (c .before .before .before .drop-bits .ensures), c .renew .ensures external spurious mask depth mode vector source level s refl refl k)
+
+pub unforce-spec : {M : Type 1} → statement M
+unforce-spec = tie.close (tie.spec (λ c κs. search needs) (λ c κs. search needs) returns)

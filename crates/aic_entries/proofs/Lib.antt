@@ -1,0 +1,2 @@
+-- Laws about the open entries on parts.
+pub mod EntryLaws

@@ -1,0 +1,3 @@
+-- Laws about steps on parts.
+pub mod AccessLaws
+pub mod ReplyLaws

@@ -1,0 +1,2 @@
+-- The laws of a loop over the steps of an AIC.
+pub mod TakenLaws

@@ -1,0 +1,2 @@
+-- Laws about the vector reads on parts.
+pub mod VectorLaws
