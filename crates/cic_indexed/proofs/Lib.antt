@@ -1,0 +1,3 @@
+-- Laws of the registers and of steps, and the proof of what is promised.
+pub mod NumberLaws
+pub mod PlaceLaws
