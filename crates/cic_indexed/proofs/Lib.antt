@@ -1,3 +1,4 @@
 -- Laws of the registers and of steps, and the proof of what is promised.
+pub mod CicLaws
 pub mod NumberLaws
 pub mod PlaceLaws
