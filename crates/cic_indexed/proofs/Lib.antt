@@ -1,4 +1,5 @@
 -- Laws of the registers and of steps, and the proof of what is promised.
 pub mod CicLaws
+pub mod IndexLaws
 pub mod NumberLaws
 pub mod PlaceLaws
