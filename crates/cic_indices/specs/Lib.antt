@@ -1,2 +1,3 @@
--- The order of system interrupts, and the one that an index names.
+-- The order of system interrupts, the one that an index names, and how it is searched for.
 pub mod Order
+pub mod Search
