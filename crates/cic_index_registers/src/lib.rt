@@ -1,14 +1,14 @@
 // The registers that only a CIC with prioritised indices has, and what the CIC's own writes end (02, 6/12; 001, 2.2.2, 2.2.10 and 2.2.17).
 ghost use mathlib.Core.Path.{_≡_};
-ghost use mathlib.Core.Bool.{true};
 ghost use mathlib.Core.Logic.{_≢_};
-ghost use Prim.Native.Nat.{_<_};
+ghost use Prim.Native.Nat.{_≤_, _<_};
 ghost use Rattle.words.specs.Array.{restAt};
-ghost use Rattle.cic_indices.specs.Order.{noneWord};
-ghost use Rattle.cic_index_registers.specs.Registers.{ownAt, hostAccess, holdAfter, afterHost, hostsWritten, heldAfter};
+ghost use Rattle.cic_indices.specs.Order.{noneWord, indexOf};
+ghost use Rattle.cic_index_registers.specs.Registers.{ownAt, hostAccess, indexRead, holdAfter, afterHost, hostsWritten, heldAfter};
 use cic_held::Held;
 use cic_held::Prioritised;
 use cic_record::Cic;
+use cic_record::Host;
 use steps::Access;
 
 // Which of them stands at an offset; any other offset is the CIC's.
@@ -49,6 +49,17 @@ pub fn host_access(p: Prioritised, h: u32) -> Access
         return Access::ReadWrite;
     }
     Access::NoRegister
+}
+
+// The word of an index: the one that is held as x, or where none is the one that the index names now, over every channel or those of host h.
+pub fn index_word(c: Cic, x: u16, every: bool, h: Host) -> u32
+    requires { ⌜ (c .systems ≤ 1024) × (c .channels ≤ 256) ⌝ }
+    ensures { λ r. ⌜ r ≡ indexRead x (indexOf c every h) ⌝ }
+{
+    if x == 0 {
+        return cic_indices::index(c, every, h);
+    }
+    cic_held::word_held(x)
 }
 
 // What is held after a read that answers a word.
