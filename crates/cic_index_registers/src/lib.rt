@@ -2,6 +2,7 @@
 ghost use mathlib.Core.Path.{_≡_};
 ghost use mathlib.Core.Logic.{_≢_};
 ghost use Prim.Native.Nat.{_≤_, _<_};
+ghost use lib.ListN.{getD};
 ghost use Rattle.words.specs.Array.{restAt};
 ghost use Rattle.cic_indices.specs.Order.{noneWord, indexOf};
 ghost use Rattle.cic_index_registers.specs.Registers.{ownAt, hostAccess, indexRead, holdAfter, afterHost, hostsWritten, heldAfter};
@@ -49,6 +50,13 @@ pub fn host_access(p: Prioritised, h: u32) -> Access
         return Access::ReadWrite;
     }
     Access::NoRegister
+}
+
+// What is held for the index of host interrupt h; nothing past the last.
+pub fn host_held(x: Held, h: u32) -> u16
+    ensures { λ r. ⌜ r ≡ getD (x .host) h 0 ⌝ }
+{
+    cic_held::host_at(&x.host, h)
 }
 
 // The word of an index: the one that is held as x, or where none is the one that the index names now, over every channel or those of host h.

@@ -1,6 +1,7 @@
 -- What a sound record tells of its CIC and of what is held beside it.
 use mathlib.Core.Bool.{Bool, true, _&&_}
-use mathlib.Core.Path.{_≡_, sym, _∙_}
+use mathlib.Core.Logic.{_≢_}
+use mathlib.Core.Path.{_≡_, refl, sym, _∙_}
 use Prim.Native.Nat.{ℕ, _+_, _≤_, _<_}
 use native.Mathlib.Omega.{arith}
 use borrow.Author.Tests.{eqb-true, leb-true}
@@ -9,14 +10,18 @@ use lib.ListN.{getD}
 use Rattle.words.specs.Choice.{pick}
 use Rattle.words.specs.Counting.{allBelow}
 use Rattle.words.proofs.ChoiceLaws.{pick-cases}
-use Rattle.words.proofs.CountingLaws.{all-at}
+use Rattle.words.proofs.CountingLaws.{all-at, lowest-found}
 use Rattle.words.proofs.TruthLaws.{and-left, and-right}
 use Rattle.cic_record.specs.declared.Cic.{Cic}
+use Rattle.cic_record.specs.declared.Host.{Host}
+use Rattle.cic_record.specs.Kinds.{system, channelNumber}
 use Rattle.cic_record.specs.Sound as cic
 use Rattle.cic_record.proofs.PartsLaws.{sound-counts}
+use Rattle.cic_indices.specs.Order.{noneWord, pendingIn, firstIn, channelFirst, indexOver, leads, indexOf}
 use Rattle.cic_held.specs.declared.Held.{Held}
 use Rattle.cic_held.specs.declared.Prioritised.{Prioritised}
-use Rattle.cic_held.specs.Held.{entrySound, heldSound, sound}
+use Rattle.cic_held.specs.Held.{wordHeld, entrySound, heldSound, sound}
+use Rattle.cic_index_registers.specs.Registers.{indexRead}
 
 -- the CIC is sound
 pub sound-cic : (p : Prioritised) → sound p ≡ true → cic.sound (p .cic) ≡ true
@@ -90,3 +95,22 @@ host-small p h e l = entry-small (p .cic .systems) (ltb h (p .cic .hosts) && eqb
 -- a configured host is below 256
 pub host-below : (p : Prioritised) (h : ℕ) → sound p ≡ true → h < p .cic .hosts → h < 256
 host-below p h e l = omega (arith, l, sound-counts (p .cic) (sound-cic p e) .hosts .1)
+
+-- ---- words
+
+-- the word of an index, unless it is that of none, is the number of a system interrupt
+found-small : (c : Cic) (every : Bool) (h : Host) → cic.sound c ≡ true → indexOf c every h ≢ noneWord → indexOf c every h < 65534
+unfolding indexOf indexOver firstIn
+found-small c every h e =
+    pick-cases (λ (w : ℕ). w ≢ noneWord → w < 65534) (ltb (channelFirst c (leads c every h)) (c .channels))
+    (λ _ _. omega (arith, sound-counts c e .systems .1, lowest-found (c .systems) (λ s. pendingIn c (channelNumber (channelFirst c (leads c every h))) (system s)) .within))
+    (λ _ d. absurd (d refl))
+
+held-small : (n x : ℕ) → n ≤ 1024 → x ≤ n + 1 → wordHeld x ≢ noneWord → wordHeld x < 65534
+unfolding wordHeld
+held-small n x m l = pick-cases (λ (w : ℕ). w ≢ noneWord → w < 65534) (eqb x 1) (λ _ d. absurd (d refl)) (λ _ _. omega (arith, m, l))
+
+pub word-small : (c : Cic) (x : ℕ) (every : Bool) (h : Host) → cic.sound c ≡ true → x ≤ c .systems + 1
+    → indexRead x (indexOf c every h) ≢ noneWord → indexRead x (indexOf c every h) < 65534
+word-small c x every h e l =
+    pick-cases (λ (w : ℕ). w ≢ noneWord → w < 65534) (eqb x 0) (λ _. found-small c every h e) (λ _. held-small (c .systems) x (sound-counts c e .systems .1) l)

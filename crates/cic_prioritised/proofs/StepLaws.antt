@@ -1,12 +1,15 @@
 -- Refused or carried out: what a step answers by its number, and of a record that is not sound.
 use mathlib.Core.Bool.{Bool, true, false}
+use mathlib.Core.Logic.{_≢_}
 use mathlib.Core.Path.{_≡_, refl, sym, ap, _∙_}
-use Prim.Native.Nat.{ℕ}
-use native.Mathlib.Decide.{ℕ-discrete}
-use borrow.Author.Tests.{eq-eqb, ne-eqb}
+use Prim.Native.Nat.{ℕ, _%_, _<_, _≤_}
+use native.Mathlib.Decide.{decLt, ℕ-discrete}
+use native.Mathlib.Omega.{arith}
+use borrow.Author.Tests.{eq-eqb, ne-eqb, le-ltb}
 use lib.Dec.{eqb}
 use Rattle.words.specs.Choice.{pick}
-use Rattle.words.proofs.ChoiceLaws.{pick-true, pick-false}
+use Rattle.words.proofs.ChoiceLaws.{pick-true, pick-false, pick-cases}
+use Rattle.steps.specs.declared.Access.the-variants.{NoRegister, ReadWrite}
 use Rattle.steps.specs.declared.Step.{Step}
 use Rattle.steps.specs.declared.Step.the-variants.{Read, Write, Line}
 use Rattle.steps.specs.Refusals.{carriedOut, unsound, readRefusal, writeRefusal, lineRefusal}
@@ -15,7 +18,7 @@ use Rattle.cic_held.specs.declared.Answer.{Answer}
 use Rattle.cic_held.specs.declared.Prioritised.{Prioritised}
 use Rattle.cic_index_registers.specs.declared.Own.{Own}
 use Rattle.cic_index_registers.specs.declared.Own.the-variants.{Elsewhere, Control, GlobalIndex, HostIndex}
-use Rattle.cic_index_registers.specs.Registers.{ownAt}
+use Rattle.cic_index_registers.specs.Registers.{ownAt, hostAccess}
 use Rattle.cic_prioritised.specs.Model.{refused, unlessRefused, readAs, writeAs, stepAs}
 
 -- ---- by the number
@@ -62,3 +65,26 @@ unfolding stepAs
 not-sound p (Read o) = not-read p o (ownAt p o)
 not-sound p (Write o v) = not-written p o v (ownAt p o)
 not-sound p (Line s l) = unfold cic.lineAs lineRefusal pick in refl
+
+-- ---- where there is no register
+
+pub no-read : (o : ℕ) → readRefusal true o NoRegister ≢ carriedOut
+unfolding readRefusal pick
+no-read o = pick-cases (λ (n : ℕ). n ≢ 0) (eqb (o % 4) 0) (λ _ e. omega (arith, e)) (λ _ e. omega (arith, e))
+
+pub no-write : (o n : ℕ) → writeRefusal true o NoRegister n ≢ carriedOut
+unfolding writeRefusal pick
+no-write o n = pick-cases (λ (m : ℕ). m ≢ 0) (eqb (o % 4) 0) (λ _ e. omega (arith, e)) (λ _ e. omega (arith, e))
+
+-- there is none for a host that is not configured
+pub not-there : (p : Prioritised) (h : ℕ) → p .cic .hosts ≤ h → NoRegister ≡ hostAccess p h
+unfolding hostAccess
+not-there p h l = pick-false ReadWrite (le-ltb h (p .cic .hosts) l)
+
+-- so an index that is read is that of a configured host
+pub read-there : (p : Prioritised) (o h : ℕ) → readRefusal true o (hostAccess p h) ≡ carriedOut → h < p .cic .hosts
+read-there p o h e = go (decLt h (p .cic .hosts))
+  where
+    go : Dec (h < p .cic .hosts) → h < p .cic .hosts
+    go (yes l) = l
+    go (no n) = absurd (no-read o (ap (readRefusal true o) (not-there p h (omega (arith, n))) ∙ e))
