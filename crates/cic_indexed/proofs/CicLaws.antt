@@ -31,7 +31,7 @@ use Rattle.cic_index_registers.specs.declared.Own.the-variants.{Elsewhere, Host
 use Rattle.cic_index_registers.specs.Registers.{ownAt, hostAccess, heldAfter}
 use Rattle.cic_prioritised.specs.Model.{refused, beside, readAs, writtenBy, writeAs, stepAs, read, write, line, step}
 use Rattle.cic_prioritised.proofs.SoundLaws.{sound-cic, both-sound, hold-choice}
-use Rattle.cic_prioritised.proofs.StepLaws.{refused-by}
+use Rattle.cic_prioritised.proofs.StepLaws.{refused-by, no-read, no-write, not-there}
 use Rattle.cic_indexed.proofs.NumberLaws.{written-refused}
 use Rattle.cic_indexed.proofs.PlaceLaws.{Place, control, global, indices, other, place, on-or-not, nowhere}
 
@@ -81,19 +81,6 @@ off p (Write o v) e z =
 
 -- ---- the indices of hosts that are not configured
 
-no-read : (o : ℕ) → readRefusal true o NoRegister ≢ carriedOut
-unfolding readRefusal pick
-no-read o = pick-cases (λ (n : ℕ). n ≢ 0) (eqb (o % 4) 0) (λ _ e. omega (arith, e)) (λ _ e. omega (arith, e))
-
-no-write : (o v : ℕ) → writeRefusal true o NoRegister v ≢ carriedOut
-unfolding writeRefusal pick
-no-write o v = pick-cases (λ (n : ℕ). n ≢ 0) (eqb (o % 4) 0) (λ _ e. omega (arith, e)) (λ _ e. omega (arith, e))
-
--- there is no register at such an offset
-not-there : (p : Prioritised) (o : ℕ) → 0x900 + 4 * p .cic .hosts ≤ o → NoRegister ≡ hostAccess p ((o - 0x900) / 4)
-unfolding hostAccess
-not-there p o l = pick-false _ (le-ltb ((o - 0x900) / 4) (p .cic .hosts) (omega (arith, l)))
-
 cic-not-read : (c : Cic) (o : ℕ) → cic-sound.sound c ≡ true → access c o ≡ NoRegister → cic.read c o ≡ record-of.refused c (readRefusal true o NoRegister)
 unfolding cic.readAs
 cic-not-read c o e at = sym (of-steps.refused-by c _ (ap₂ (λ (t : Bool) (a : Access). readRefusal t o a) (sym e) (sym at)) (no-read o))
@@ -107,7 +94,7 @@ cic-not-written : (c : Cic) (o v : ℕ) → cic-sound.sound c ≡ true → acces
 unfolding cic.writeAs writeRefusal
 cic-not-written c o v e at = sym (of-steps.refused-by c _ (ap₂ (λ (t : Bool) (a : Access). writeRefusal t o a (cic.refusalAt c o v)) (sym e) (sym at)) (no-write o (cic.refusalAt c o v)))
 
-own-not-written : (p : Prioritised) (o v h : ℕ) → sound p ≡ true → ownAt p o ≡ HostIndex h → NoRegister ≡ hostAccess p h → write p o v ≡ refused p (writeRefusal true o NoRegister 0)
+pub own-not-written : (p : Prioritised) (o v h : ℕ) → sound p ≡ true → ownAt p o ≡ HostIndex h → NoRegister ≡ hostAccess p h → write p o v ≡ refused p (writeRefusal true o NoRegister 0)
 unfolding stepAs writeAs
 own-not-written p o v h e at gone =
     ap (writeAs (sound p) p o v) at ∙ sym (refused-by p _ (ap₂ (λ (t : Bool) (a : Access). writeRefusal t o a carriedOut) (sym e) gone) (no-write o carriedOut))
@@ -131,7 +118,7 @@ module _ (p : Prioritised) (o : ℕ) (e : sound p ≡ true) (a : o ≢ 0x004) (b
       at (control x _) = absurd (a x)
       at (global x _) = absurd (b x)
       at (indices l m x) =
-          own-not-read p o ((o - 0x900) / 4) e x (not-there p o (beyond-hosts l))
+          own-not-read p o ((o - 0x900) / 4) e x (not-there p ((o - 0x900) / 4) (omega (arith, beyond-hosts l)))
           ∙ sym (ap (λ (y : CicAnswer). beside (p .held) y) (cic-not-read (p .cic) o (sound-cic p e) (of-cic.kept .map (p .cic) .noHostIndices o l (omega (arith, m)))))
       at (other _ _ _ x) = plain-read p o e x
 
@@ -153,7 +140,7 @@ module _ (p : Prioritised) (o : ℕ) (e : sound p ≡ true) (a : o ≢ 0x004) (b
       at (control x _) = absurd (a x)
       at (global x _) = absurd (b x)
       at (indices l m x) =
-          subst Same (sym (own-not-written p o v ((o - 0x900) / 4) e x (not-there p o (beyond-hosts l))))
+          subst Same (sym (own-not-written p o v ((o - 0x900) / 4) e x (not-there p ((o - 0x900) / 4) (omega (arith, beyond-hosts l)))))
           (sym (ap (λ (y : CicAnswer). beside (p .held) y) (cic-not-written (p .cic) o v (sound-cic p e) (of-cic.kept .map (p .cic) .noHostIndices o l (omega (arith, m))))))
       at (other _ _ _ x) = plain x
 
