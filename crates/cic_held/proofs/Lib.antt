@@ -1,1 +1,2 @@
--- Laws of what is held: none yet.
+-- The laws of what is held.
+pub mod HeldLaws
