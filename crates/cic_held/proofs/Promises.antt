@@ -75,9 +75,10 @@ module _ (systems channels hosts revision choice : ℕ) where
   taken-is =
       let r = cicStart.start systems channels hosts revision .refusal in
       let is = record-promises.kept .startTaken systems channels hosts revision in (
-        λ e.
-            (is .0 (eqb-true r carriedOut (and-left (eqb r carriedOut) (within 4 choice) e)),
-            zero-or-one choice (leb-true choice 1 (sym (within-choice choice) ∙ and-right (eqb r carriedOut) (within 4 choice) e))),
+        λ e. (
+          is .0 (eqb-true r carriedOut (and-left (eqb r carriedOut) (within 4 choice) e)),
+          zero-or-one choice (leb-true choice 1 (sym (within-choice choice) ∙ and-right (eqb r carriedOut) (within 4 choice) e)),
+        ),
         λ k. and-both (eq-eqb r carriedOut (is .1 (k .0))) (within-choice choice ∙ le-leb choice 1 (most-one choice (k .1))),
       )
 
