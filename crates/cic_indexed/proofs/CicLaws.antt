@@ -30,7 +30,7 @@ use Rattle.cic_index_registers.specs.declared.Own.{Own}
 use Rattle.cic_index_registers.specs.declared.Own.the-variants.{Elsewhere, HostIndex}
 use Rattle.cic_index_registers.specs.Registers.{ownAt, hostAccess, heldAfter}
 use Rattle.cic_prioritised.specs.Model.{refused, beside, readAs, writtenBy, writeAs, stepAs, read, write, line, step}
-use Rattle.cic_prioritised.proofs.SoundLaws.{sound-cic, both-sound, hold-choice}
+use Rattle.cic_prioritised.proofs.SoundLaws.{sound-cic, both-sound, parts}
 use Rattle.cic_prioritised.proofs.StepLaws.{refused-by, no-read, no-write, not-there}
 use Rattle.cic_indexed.proofs.NumberLaws.{written-refused}
 use Rattle.cic_indexed.proofs.PlaceLaws.{Place, control, global, indices, other, place, on-or-not, nowhere}
@@ -77,7 +77,7 @@ off p (Read o) e z = plain-read p o e (nowhere p o z)
 off p (Line s l) e z = lines p s l e
 off p (Write o v) e z =
     plain-write p o v e (nowhere p o z)
-    ∙ written-plain p o v (cic.write (p .cic) o v) (λ h. omega (arith, h, z, hold-choice p e)) (of-cic.kept .refusedSame (p .cic) (Write o v))
+    ∙ written-plain p o v (cic.write (p .cic) o v) (λ h. omega (arith, h, z, parts p e .hold)) (of-cic.kept .refusedSame (p .cic) (Write o v))
 
 -- ---- the indices of hosts that are not configured
 

@@ -24,7 +24,7 @@ use Rattle.cic_indexed.specs.Tables.{Changes}
 use Rattle.cic_indexed.proofs.FreedLaws.{Decided, ended, stayed, set-here, set-other, freed}
 
 -- the same of an entry that is known to be another's
-decide-by : {E F : Type 0} {x y b : ℕ} → (E → F) → (F → E) → y ≡ x → Decided E x b → Decided F y b
+pub decide-by : {E F : Type 0} {x y b : ℕ} → (E → F) → (F → E) → y ≡ x → Decided E x b → Decided F y b
 decide-by f g e (ended a z) = ended (f a) (e ∙ z)
 decide-by f g e (stayed a z) = stayed (λ b. a (g b)) (e ∙ z)
 

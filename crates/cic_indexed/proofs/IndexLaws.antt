@@ -12,8 +12,8 @@ use lib.ListN.{getD, set}
 use lib.Seq.{set-getD}
 use Rattle.words.specs.Choice.{pick}
 use Rattle.words.specs.Word.{bit}
-use Rattle.words.proofs.ChoiceLaws.{pick-true, pick-false}
-use Rattle.words.proofs.TruthLaws.{and-right}
+use Rattle.words.proofs.ChoiceLaws.{pick-true, pick-false, pick-cases}
+use Rattle.words.proofs.TruthLaws.{and-right, and-both}
 use Rattle.steps.specs.declared.Access.{Access}
 use Rattle.steps.specs.declared.Access.the-variants.{ReadWrite}
 use Rattle.steps.specs.Refusals.{carriedOut, readRefusal, writeRefusal}
@@ -23,20 +23,26 @@ use Rattle.cic_indices.specs.Order.{noneWord, indexOf}
 use Rattle.cic_held.specs.declared.Answer.{Answer}
 use Rattle.cic_held.specs.declared.Held.{Held}
 use Rattle.cic_held.specs.declared.Prioritised.{Prioritised}
-use Rattle.cic_held.specs.Held.{prioritised, nothingHeld, withGlobal, withHosts, heldAs, wordHeld, sound, controlled}
+use Rattle.cic_held.specs.Held.{prioritised, nothingHeld, withGlobal, withHosts, heldAs, wordHeld, entrySound, sound, controlled}
+use Rattle.cic_held.proofs.HeldLaws.{held-again}
 use Rattle.cic_index_registers.specs.declared.Own.{Own}
 use Rattle.cic_index_registers.specs.declared.Own.the-variants.{Control, GlobalIndex, HostIndex}
 use Rattle.cic_index_registers.specs.Registers.{ownAt, hostAccess, indexRead, holdAfter, globalWord, hostWord}
 use Rattle.cic_prioritised.specs.Model.{answered, readAs, writeAs, stepAs, read, write}
-use Rattle.cic_prioritised.proofs.SoundLaws.{sound-cic, parts, hold-choice, choice-small, entry-none, global-small, host-entry, host-small, host-below}
+use Rattle.cic_prioritised.proofs.SoundLaws.{sound-cic, parts, host-entry, host-below}
 use Rattle.cic_prioritised.proofs.StepLaws.{carried-by}
 use Rattle.cic_indexed.proofs.PlaceLaws.{at-control, at-global, at-host}
 
 -- ---- what a sound record tells
 
+-- where nothing may be held it is nothing
+entry-none : (n : ℕ) {t : Bool} (x : ℕ) → entrySound n t x ≡ true → (t ≡ true → ⊥) → x ≡ 0
+unfolding entrySound
+entry-none n {t} x e = pick-cases (λ (b : Bool). b ≡ true → (t ≡ true → ⊥) → x ≡ 0) t (λ a _ d. absurd (d a)) (λ _ b _. eqb-true x 0 b) e
+
 -- where the hold mode is on, the choice is
 pub mode-chosen : (p : Prioritised) → sound p ≡ true → p .held .hold ≡ 1 → p .held .choice ≡ 1
-mode-chosen p e z = omega (arith, z, hold-choice p e, choice-small p e)
+mode-chosen p e z = omega (arith, z, parts p e .hold, parts p e .choice)
 
 -- something is held only in the mode
 pub global-mode : (p : Prioritised) → sound p ≡ true → p .held .global ≢ 0 → p .held .hold ≡ 1
@@ -63,17 +69,6 @@ host-free : (p : Prioritised) (h : ℕ) → sound p ≡ true → p .held .hold �
 host-free p h e z l =
     entry-none (p .cic .systems) (getD (p .held .host) h 0) (host-entry p h e (host-below p h e l))
     (λ t. omega (arith, z, eqb-true (p .held .hold) 1 (and-right (ltb h (p .cic .hosts)) (eqb (p .held .hold) 1) t)))
-
--- a word that is held is held again as it was
-held-again : (n x : ℕ) → n ≤ 1024 → x ≤ n + 1 → x ≢ 0 → heldAs (wordHeld x) ≡ x
-unfolding heldAs wordHeld
-held-again n x m l d = go (ℕ-discrete x 1)
-  where
-    go : Dec (x ≡ 1) → heldAs (wordHeld x) ≡ x
-    go (yes e) = ap heldAs (sym (pick-true (x - 2) (eq-eqb x 1 e))) ∙ sym (pick-true (noneWord + 2) (eq-eqb noneWord noneWord refl)) ∙ sym e
-    go (no f) =
-        let y : x - 2 + 2 ≡ x = omega (arith, d, f) in
-        ap heldAs (sym (pick-false noneWord (ne-eqb x 1 f))) ∙ sym (pick-false 1 (ne-eqb (x - 2) noneWord (λ g. omega (arith, g, m, l)))) ∙ y
 
 systems-most : (p : Prioritised) → sound p ≡ true → p .cic .systems ≤ 1024
 systems-most p e = sound-counts (p .cic) (sound-cic p e) .systems .1
@@ -150,7 +145,7 @@ global-held p e d =
     let z = global-mode p e d in
     let w : globalWord p ≡ wordHeld (p .held .global) = sym (pick-false _ (ne-eqb (p .held .global) 0 d)) in
     global-read p e (mode-chosen p e z)
-    ∙ global-same p (sym (pick-true 0 (eq-eqb (p .held .hold) 1 z)) ∙ ap heldAs w) (held-again (p .cic .systems) (p .held .global) (systems-most p e) (global-small p e) d) w
+    ∙ global-same p (sym (pick-true 0 (eq-eqb (p .held .hold) 1 z)) ∙ ap heldAs w) (held-again (p .cic .systems) (p .held .global) (systems-most p e) (subst (λ (t : Bool). entrySound (p .cic .systems) t (p .held .global) ≡ true) (eq-eqb (p .held .hold) 1 z) (parts p e .global)) d) w
 
 pub host-held : (p : Prioritised) (h : ℕ) → sound p ≡ true → h < p .cic .hosts → getD (p .held .host) h 0 ≢ 0
     → read p (0x900 + 4 * h) ≡ answered p (wordHeld (getD (p .held .host) h 0))
@@ -160,7 +155,8 @@ host-held p h e l d =
     let w : hostWord p h ≡ wordHeld x = sym (pick-false _ (ne-eqb x 0 d)) in
     host-read p e (mode-chosen p e z) h l
     ∙ host-same p h (sym (pick-true 0 (eq-eqb (p .held .hold) 1 z)) ∙ ap heldAs w)
-    (held-again (p .cic .systems) x (systems-most p e) (host-small p h e (host-below p h e l)) d) w
+    (held-again (p .cic .systems) x (systems-most p e)
+    (subst (λ (t : Bool). entrySound (p .cic .systems) t x ≡ true) (and-both (lt-ltb h (p .cic .hosts) l) (eq-eqb (p .held .hold) 1 z)) (host-entry p h e (host-below p h e l))) d) w
 
 pub global-shows : (p : Prioritised) → sound p ≡ true → p .held .choice ≡ 1 → p .held .hold ≡ 0 → read p 0x080 ≡ answered p (read p 0x080 .value)
 global-shows p e c z =
@@ -182,7 +178,7 @@ control-reads p e c = go (ℕ-discrete (p .held .hold) 1)
     go : Dec (p .held .hold ≡ 1) → ((p .held .hold ≡ 1) × (read p 0x004 ≡ answered p 0x10)) ⊎ ((p .held .hold ≡ 0) × (read p 0x004 ≡ answered p 0))
     go (yes z) = inl (z, control-read p e c ∙ ap (λ (n : ℕ). answered p (16 * n)) z)
     go (no d) =
-        let z : p .held .hold ≡ 0 = omega (arith, d, c, hold-choice p e) in
+        let z : p .held .hold ≡ 0 = omega (arith, d, c, parts p e .hold) in
         inr (z, control-read p e c ∙ ap (λ (n : ℕ). answered p (16 * n)) z)
 
 -- what control leaves

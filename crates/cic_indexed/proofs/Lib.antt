@@ -5,3 +5,4 @@ pub mod FreedLaws
 pub mod IndexLaws
 pub mod NumberLaws
 pub mod PlaceLaws
+pub mod WriteLaws

@@ -9,13 +9,15 @@ use Rattle.steps.specs.declared.Step.{Step}
 use Rattle.steps.specs.declared.Step.the-variants.{Read, Write, Line}
 use Rattle.steps.specs.Refusals.{carriedOut, unsound}
 use Rattle.steps.specs.Tables.{ReadTable, WriteTable, LineTable}
+use Rattle.cic_record.specs.Kinds.{hostNumber}
 use Rattle.cic_hosts.specs.Hosts as hosts
 use Rattle.cic_layout.specs.Map.{access}
 use Rattle.cic_steps.specs.Model as cic
+use Rattle.cic_indices.specs.Promises.{Meets, MeetsFor}
 use Rattle.cic_held.specs.declared.Prioritised.{Prioritised}
 use Rattle.cic_held.specs.Held.{prioritised, nothingHeld, withGlobal, withHosts, heldAs, wordHeld, sound, start}
 use Rattle.cic_prioritised.specs.Model.{refused, answered, beside, read, write, line, step, outputs}
-use Rattle.cic_indexed.specs.Tables.{Active, ActiveFor, Names, EndsHost, EndsGlobal, accessAt, MapTable}
+use Rattle.cic_indexed.specs.Tables.{Names, EndsHost, EndsGlobal, accessAt, MapTable}
 
 pub record Promises : Type 0 where
   -- a step is a read, a write or a line step (01, House trace)
@@ -48,9 +50,9 @@ pub record Promises : Type 0 where
       → sound (start systems channels hosts revision choice .prioritised) ≡ true
   -- ---- indices
   -- one that is not held names none exactly if no system interrupt meets its conditions, else the first that does (02, 6/12; 001, 1.3.5)
-  pub globalNames : (p : Prioritised) → sound p ≡ true → p .held .choice ≡ 1 → p .held .global ≡ 0 → Names (p .cic) (Active (p .cic)) (read p 0x080 .value)
+  pub globalNames : (p : Prioritised) → sound p ≡ true → p .held .choice ≡ 1 → p .held .global ≡ 0 → Names (p .cic) (Meets (p .cic)) (read p 0x080 .value)
   pub hostNames : (p : Prioritised) (h : ℕ) → sound p ≡ true → p .held .choice ≡ 1 → h < p .cic .hosts → getD (p .held .host) h 0 ≡ 0
-      → Names (p .cic) (ActiveFor (p .cic) h) (read p (0x900 + 4 * h) .value)
+      → Names (p .cic) (MeetsFor (p .cic) (hostNumber h)) (read p (0x900 + 4 * h) .value)
   -- one that is held answers its word, and nothing changes (001, 1.3.5)
   pub globalHeld : (p : Prioritised) → sound p ≡ true → p .held .global ≢ 0 → read p 0x080 ≡ answered p (wordHeld (p .held .global))
   pub hostHeld : (p : Prioritised) (h : ℕ) → sound p ≡ true → h < p .cic .hosts → getD (p .held .host) h 0 ≢ 0

@@ -3,26 +3,17 @@ use mathlib.Core.Bool.{Bool, true, false}
 use mathlib.Core.Logic.{_↔_, _≢_, _⊎_}
 use mathlib.Core.Path.{_≡_}
 use Prim.Native.Nat.{ℕ, _+_, _*_, _/_, _%_, _<_, _≤_}
-use Rattle.words.specs.Array.{bitAt}
 use Rattle.words.specs.Word.{bit}
 use Rattle.steps.specs.declared.Access.{Access}
 use Rattle.steps.specs.declared.Access.the-variants.{NoRegister, ReadWrite}
 use Rattle.cic_record.specs.declared.Cic.{Cic}
-use Rattle.cic_record.specs.Kinds.{system, channelOf, hostOf}
+use Rattle.cic_record.specs.Kinds.{system}
 use Rattle.cic_layout.specs.Map.{access}
 use Rattle.cic_indices.specs.Order.{comesBefore}
 use Rattle.cic_held.specs.declared.Prioritised.{Prioritised}
 use Rattle.cic_index_registers.specs.Registers.{ownAt, accessOf}
 
 -- ---- which system interrupt an index names (02, 6/12; 001, 1.3.5)
-
--- system interrupt s is configured, set and enabled (001, 1.3.2)
-abbrev pub Active : Cic → ℕ → Type 0
-Active c s = (s < c .systems) × (bitAt (c .status) s ≡ true) × (bitAt (c .enable) s ≡ true)
-
--- and its channel is mapped to host h (001, 1.3.3 and 1.3.4)
-abbrev pub ActiveFor : Cic → ℕ → ℕ → Type 0
-ActiveFor c h s = Active c s × (hostOf c (channelOf c (system s)) .0 ≡ h)
 
 -- the word of an index over the system interrupts that meet its conditions
 pub record Names (c : Cic) (Meets : ℕ → Type 0) (word : ℕ) : Type 0 where
