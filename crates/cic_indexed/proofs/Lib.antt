@@ -5,4 +5,5 @@ pub mod FreedLaws
 pub mod IndexLaws
 pub mod NumberLaws
 pub mod PlaceLaws
+pub mod StayLaws
 pub mod WriteLaws

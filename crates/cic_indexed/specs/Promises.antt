@@ -76,9 +76,9 @@ pub record Promises : Type 0 where
   pub globalEnds : (p : Prioritised) (o v : ℕ) → sound p ≡ true → v < 2 ^ 32 → p .held .global ≢ 0
       → (write p o v .prioritised .held .global ≡ 0) ↔ ((write p o v .refusal ≡ carriedOut) × EndsGlobal (p .cic .hosts) o v)
   -- a write begins no hold, and changes none that it does not end (001, 1.3.5)
-  pub hostStays : (p : Prioritised) (h o v : ℕ) → sound p ≡ true
+  pub hostStays : (p : Prioritised) (h o v : ℕ)
       → (getD (write p o v .prioritised .held .host) h 0 ≡ 0) ⊎ (getD (write p o v .prioritised .held .host) h 0 ≡ getD (p .held .host) h 0)
-  pub globalStays : (p : Prioritised) (o v : ℕ) → sound p ≡ true
+  pub globalStays : (p : Prioritised) (o v : ℕ)
       → (write p o v .prioritised .held .global ≡ 0) ⊎ (write p o v .prioritised .held .global ≡ p .held .global)
   -- ---- control (001, 2.2.2)
   -- it reads 0x10 in the hold mode and 0 outside it
