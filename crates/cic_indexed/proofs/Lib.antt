@@ -3,6 +3,7 @@ pub mod CicLaws
 pub mod EndLaws
 pub mod FreedLaws
 pub mod IndexLaws
+pub mod KeptLaws
 pub mod NumberLaws
 pub mod PlaceLaws
 pub mod StayLaws
