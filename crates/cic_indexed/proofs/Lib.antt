@@ -6,5 +6,6 @@ pub mod IndexLaws
 pub mod KeptLaws
 pub mod NumberLaws
 pub mod PlaceLaws
+pub mod Promises
 pub mod StayLaws
 pub mod WriteLaws
