@@ -1,0 +1,1 @@
+-- Laws of what is held: none yet.
