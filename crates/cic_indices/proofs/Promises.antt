@@ -133,8 +133,7 @@ unfolding pendingIn bitAt
 pending-is c k s =
     let a = bit (getD (c .status) (s .0 / 32) 0) (s .0 % 32) in
     let b = bit (getD (c .enable) (s .0 / 32) 0) (s .0 % 32) in
-    let x = getD (c .channel) (s .0) 0 in
-    (
+    let x = getD (c .channel) (s .0) 0 in (
       λ e. (and-left a (b && eqb x (k .0)) e, and-left b (eqb x (k .0)) (and-right a (b && eqb x (k .0)) e), eqb-true x (k .0) (and-right b (eqb x (k .0)) (and-right a (b && eqb x (k .0)) e))),
       λ r. and-both (r .0) (and-both (r .1) (eq-eqb x (k .0) (r .2))),
     )

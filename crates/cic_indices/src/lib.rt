@@ -106,7 +106,14 @@ pub fn index(c: Cic, every: bool, h: Host) -> u32
     let mut k: u16 = 0;
     while (k as u32) < channels {
         let passes = asks(&c.host, every, h, Channel(k));
-        let s = turn(systems, &c.status, &c.enable, &c.channel, passes, Channel(k));
+        let s = turn(
+            systems,
+            &c.status,
+            &c.enable,
+            &c.channel,
+            passes,
+            Channel(k),
+        );
         if s < systems {
             return s;
         }

@@ -34,8 +34,7 @@ loop-again c =
     let l = c .before .before .before .before .before .before .before .before .before .before .loop in
     let a = c .before .before .before .before .before .before .before .before .before .before .before .args in
     let q = c .before .before .before .before .before .before .asks in
-    let t = leads (a .t1) (a .every) (a .h) in
-    (
+    let t = leads (a .t1) (a .every) (a .h) in (
       omega (arith, c .before .before .before .before .before .before .before .before .before .loop-test .taken),
       below-more _ _ (l .inv .1) (turn-none (a .t1) t (l .k) (q .result) (q .ensures) (c .before .turn .result) (c .before .turn .ensures) (c .if1 .left)),
     )

@@ -31,8 +31,8 @@ returns c =
     let a = c .before .before .before .before .before .before .before .before .args in
     let w = c .before .before .keep in
     let low =
-      word-lowest (a .systems) (a .status .now) (a .enable .now) (a .channel .now) (a .k) (l .j) (l .base) (w .result) (l .inv .1 .1 .0)
-      (w .ensures ∙ ap₂ (λ (n x : ℕ). kept n x) (l .inv .1 .0) (c .before .before .before .meet .ensures)) (c .before .first-of .ensures)
+    word-lowest (a .systems) (a .status .now) (a .enable .now) (a .channel .now) (a .k) (l .j) (l .base) (w .result) (l .inv .1 .1 .0)
+    (w .ensures ∙ ap₂ (λ (n x : ℕ). kept n x) (l .inv .1 .0) (c .before .before .before .meet .ensures)) (c .before .first-of .ensures)
     in
     found-word (a .systems) (a .status .now) (a .enable .now) (a .channel .now) (a .k) (l .j) (c .before .first-of .result) low (c .if1 .taken) (l .inv .1 .1 .1)
 
@@ -43,8 +43,8 @@ loop-again c =
     let t = c .before .before .before .before .before .before .before .loop-test in
     let w = c .before .before .before .keep in
     let low =
-      word-lowest (a .systems) (a .status .now) (a .enable .now) (a .channel .now) (a .k) (l .j) (l .base) (w .result) (l .inv .1 .1 .0)
-      (w .ensures ∙ ap₂ (λ (n x : ℕ). kept n x) (l .inv .1 .0) (c .before .before .before .before .meet .ensures)) (c .before .before .first-of .ensures)
+    word-lowest (a .systems) (a .status .now) (a .enable .now) (a .channel .now) (a .k) (l .j) (l .base) (w .result) (l .inv .1 .1 .0)
+    (w .ensures ∙ ap₂ (λ (n x : ℕ). kept n x) (l .inv .1 .0) (c .before .before .before .before .meet .ensures)) (c .before .before .first-of .ensures)
     in (
       omega (arith, t .taken, l .inv .1 .0),
       (
