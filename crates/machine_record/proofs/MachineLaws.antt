@@ -24,6 +24,7 @@ use Rattle.cic_record.specs.Start.{fresh, configured, start as cicStart}
 use Rattle.cic_record.proofs.Promises.{kept as cic}
 use Rattle.cic_held.specs.declared.Begun.{Begun as IndexedBegun}
 use Rattle.cic_held.specs.Held.{within as indexedWithin, sound as indexedSound, start as indexedStart}
+use Rattle.cic_held.proofs.Promises.{kept as held}
 use Rattle.aintc_choice.specs.Settle.{sound as aintcSound}
 use Rattle.aintc.specs.Model.{start as aintcStart}
 use Rattle.aintc.proofs.Promises.{kept as aintc}
@@ -153,8 +154,8 @@ unfolding indexedStart
 indexed-start-taken a b c d e f g h i j =
     ap (λ (r : IndexedBegun). r .refusal) (sym (pick-true _ (and-both (eq-eqb _ _ (cic-start-taken a b c d f g h i)) j)))
 
-start-sound : (a b c d e : ℕ) → indexedStart a b c d e .refusal ≡ carriedOut → indexedSound (indexedStart a b c d e .prioritised) ≡ true
-start-sound a b c d e h = ?
+indexed-start-sound : (a b c d e : ℕ) → indexedStart a b c d e .refusal ≡ carriedOut → indexedSound (indexedStart a b c d e .prioritised) ≡ true
+indexed-start-sound a b c d e z = held .startSound a b c d e (held .startTaken a b c d e .0 z)
 
 indexed-ready : (ns : List ℕ) → length ns ≡ 5 → Within indexedKind 0 ns → Ready (startWith indexedKind ns)
 unfolding within byKind pick indexedWithin
@@ -166,7 +167,7 @@ indexed-ready (a ∷ b ∷ c ∷ d ∷ []) l w = absurd (omega arith)
 indexed-ready (a ∷ b ∷ c ∷ d ∷ e ∷ []) l w =
     rw (indexed-starts a b c d e) (
       sym (sound-indexed (ofIndexed (indexedStart a b c d e .prioritised)) refl)
-      ∙ start-sound a b c d e (indexed-start-taken a b c d e (w .0) (w .1 .0) (w .1 .1 .0) (w .1 .1 .1 .0) (w .1 .1 .1 .1 .0)),
+      ∙ indexed-start-sound a b c d e (indexed-start-taken a b c d e (w .0) (w .1 .0) (w .1 .1 .0) (w .1 .1 .1 .0) (w .1 .1 .1 .1 .0)),
       record-kept .resetShaped 0 0,
     )
 indexed-ready (a ∷ b ∷ c ∷ d ∷ e ∷ f ∷ ns) l w = absurd (omega arith)

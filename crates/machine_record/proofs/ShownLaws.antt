@@ -7,7 +7,7 @@ use native.Mathlib.Omega.{arith}
 use Rattle.words.specs.Counting.{one}
 use Rattle.words.proofs.ChoiceLaws.{pick-true, pick-false}
 use Rattle.words.proofs.CountingLaws.{count-le}
-use Rattle.words.proofs.TruthLaws.{told, and-left}
+use Rattle.words.proofs.TruthLaws.{told}
 use Rattle.aic_record.proofs.Promises.{kept as record-kept}
 use Rattle.aic_sources.specs.Fast.{fiq}
 use Rattle.aic_sources.specs.Normal.{irq}
@@ -21,7 +21,8 @@ use Rattle.cic_record.specs.Sound.{sound as cicSound}
 use Rattle.cic_hosts.specs.Hosts.{asserted, outputs as cicOutputs, shown as cicShown}
 use Rattle.cic_hosts.proofs.Promises.{kept as hosts}
 use Rattle.cic_held.specs.declared.Prioritised.{Prioritised}
-use Rattle.cic_held.specs.Held.{heldSound, sound as indexedSound}
+use Rattle.cic_held.specs.Held.{sound as indexedSound}
+use Rattle.cic_held.proofs.Promises.{kept as held}
 use Rattle.cic_prioritised.specs.Model.{outputs as indexedOutputs}
 use Rattle.aintc_record.specs.declared.Chosen.{Chosen}
 use Rattle.aintc_record.specs.Promises.{Bounds}
@@ -42,14 +43,10 @@ use Rattle.machine_record.proofs.MachineLaws.{sound-aic, sound-core, so
 cic-small : (c : Cic) → cicSound c ≡ true → Small (cicColumns (cicOutputs c))
 cic-small c e = (rw (hosts .outputsSound c e) (count-le 256 (λ h. asserted c (hostNumber h))), hosts .lowestMost c e, omega arith)
 
-cic-sound : (p : Prioritised) → indexedSound p ≡ true → cicSound (p .cic) ≡ true
-unfolding indexedSound
-cic-sound p s = and-left (cicSound (p .cic)) (heldSound (p .cic) (p .held)) s
-
 -- what is held changes no output
 outputs-same : (p : Prioritised) → indexedSound p ≡ true → indexedOutputs p ≡ cicOutputs (p .cic)
 unfolding indexedOutputs cicOutputs
-outputs-same p s = sym (pick-true _ s) ∙ pick-true _ (cic-sound p s)
+outputs-same p s = sym (pick-true _ s) ∙ pick-true _ (held .soundIs p .0 s .cic)
 
 -- ---- by kind
 
@@ -120,5 +117,5 @@ module _ (m : Machine) where
           (one-small (m .aintc .irq .active), one-small (m .aintc .fiq .active), number-small (m .aintc .irq) (choice .soundIs (m .aintc) .0 e .irq)))
       go (isIndexed k) =
           let e = sound-indexed m k ∙ s in
-          rw (indexed-shows k) (rw (outputs-same (indexed m) e) (cic-small (m .cic) (cic-sound (indexed m) e)))
+          rw (indexed-shows k) (rw (outputs-same (indexed m) e) (cic-small (m .cic) (held .soundIs (indexed m) .0 e .cic)))
       go (isNone a b c d e) = rw (no-shows a b c d e) (omega arith, omega arith, omega arith)
