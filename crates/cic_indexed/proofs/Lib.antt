@@ -3,7 +3,9 @@ pub mod CicLaws
 pub mod EndLaws
 pub mod FreedLaws
 pub mod IndexLaws
+pub mod KeptLaws
 pub mod NumberLaws
 pub mod PlaceLaws
+pub mod Promises
 pub mod StayLaws
 pub mod WriteLaws

@@ -7,7 +7,7 @@ use lib.ListN.{getD, set}
 use Rattle.words.specs.Word.{bit}
 use Rattle.steps.specs.declared.Step.{Step}
 use Rattle.steps.specs.declared.Step.the-variants.{Read, Write, Line}
-use Rattle.steps.specs.Refusals.{carriedOut, unsound}
+use Rattle.steps.specs.Refusals.{carriedOut}
 use Rattle.steps.specs.Tables.{ReadTable, WriteTable, LineTable}
 use Rattle.cic_record.specs.Kinds.{hostNumber}
 use Rattle.cic_hosts.specs.Hosts as hosts
@@ -92,5 +92,5 @@ pub record Promises : Type 0 where
   pub controlAgain : (p : Prioritised) (v : ℕ) → sound p ≡ true → p .held .hold ≡ 1 → bit v 4 ≡ true → write p 0x004 v ≡ answered p 0
   -- ---- outputs: those of the CIC, whatever is held; 12 and nothing else exactly if the record is not sound (02, 6/12; 01, Numbers)
   pub outputsSound : (p : Prioritised) → sound p ≡ true → outputs p ≡ hosts.outputs (p .cic)
-  pub outputsUnsound : (p : Prioritised) → sound p ≡ false → outputs p ≡ record { refusal = unsound; hosts = 0; lowest = 0 }
-  pub outputsTwelve : (p : Prioritised) → (outputs p .refusal ≡ unsound) ↔ (sound p ≡ false)
+  pub outputsUnsound : (p : Prioritised) → sound p ≡ false → outputs p ≡ record { refusal = 12; hosts = 0; lowest = 0 }
+  pub outputsTwelve : (p : Prioritised) → (outputs p .refusal ≡ 12) ↔ (sound p ≡ false)
