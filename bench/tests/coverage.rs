@@ -28,6 +28,8 @@ fn every_situation_that_is_counted_is_listed() {
                 | Item::Closed(..)
                 | Item::Core(..)
                 | Item::Cic(..)
+                | Item::Indexed(..)
+                | Item::Index(..)
                 | Item::Aintc(..)
                 | Item::Ilr(..)
                 | Item::Chosen(..)
