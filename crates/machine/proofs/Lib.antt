@@ -1,5 +1,4 @@
 -- The laws of the steps of a machine, and the proof of what is promised.
 pub mod Computing
 pub mod Promises
-pub mod Meanwhile
 pub mod StepLaws

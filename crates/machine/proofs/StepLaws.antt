@@ -1,7 +1,7 @@
 -- Steps of a machine by its kind: what they are, that they keep it sound, and what a refused one answers.
 use Prim.Native.Nat.{ℕ}
 use mathlib.Core.Path.{_≡_, refl, sym, ap, _∙_}
-use mathlib.Core.Bool.{false}
+use mathlib.Core.Bool.{true, false}
 use mathlib.Core.Logic.{_↔_, _≢_}
 use native.Mathlib.Omega.{arith}
 use Rattle.steps.specs.declared.Recorded.{Recorded}
@@ -19,7 +19,7 @@ use Rattle.cic.proofs.Promises.{kept as cic}
 use Rattle.cic_held.specs.declared.Prioritised.{Prioritised}
 use Rattle.cic_held.specs.Held.{sound as indexedSound}
 use Rattle.cic_prioritised.specs.Model.{step as indexedStep}
-use Rattle.machine.proofs.Meanwhile.{kept as prioritised}
+use Rattle.cic_indexed.proofs.Promises.{kept as prioritised}
 use Rattle.aintc_choice.specs.Settle.{sound as aintcSound}
 use Rattle.aintc.specs.Model.{step as aintcStep}
 use Rattle.aintc.proofs.Promises.{kept as aintc}
@@ -54,6 +54,10 @@ module _ (m : Machine) (x : Recorded) where
   pub indexed-steps : m .kind ≡ indexedKind → step m x ≡ afterIndexed m (indexedStep (indexed m) (x .step))
   unfolding step
   indexed-steps e = sym (at-indexed (m .kind) _ e)
+
+  -- with the choice off it is that of a CIC
+  pub indexed-off : m .kind ≡ indexedKind → sound m ≡ true → m .held .choice ≡ 0 → step m x ≡ afterCic m (cicStep (m .cic) (x .step))
+  indexed-off k s e = indexed-steps k ∙ ap (afterIndexed m) (prioritised .off (indexed m) (x .step) (sound-indexed m k ∙ s) e)
 
   pub no-steps : m .kind ≢ aicKind → m .kind ≢ coreKind → m .kind ≢ cicKind → m .kind ≢ aintcKind → m .kind ≢ indexedKind → step m x ≡ refused m unsound
   unfolding step

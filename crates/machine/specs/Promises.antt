@@ -1,6 +1,6 @@
 -- What is promised of the steps of a machine: they are those of the model of its kind.
 use mathlib.Core.Path.{_≡_}
-use mathlib.Core.Bool.{false}
+use mathlib.Core.Bool.{true, false}
 use mathlib.Core.Logic.{_↔_, _≢_}
 use Rattle.steps.specs.declared.Recorded.{Recorded}
 use Rattle.aic.specs.Model.{step as aicStep}
@@ -38,6 +38,10 @@ pub record Promises : Type 0 where
   pub indexedSteps : (m : Machine) (x : Recorded) → m .kind ≡ 4
       → step m x
       ≡ record { refusal = indexedStep (both m) (x .step) .refusal; value = indexedStep (both m) (x .step) .value; machine = record { kind = m .kind; aic = m .aic; core = m .core; cic = indexedStep (both m) (x .step) .prioritised .cic; aintc = m .aintc; held = indexedStep (both m) (x .step) .prioritised .held } }
+  -- with the choice off it is the step of a CIC, and what is held stays (02, 6/12)
+  pub indexedOff : (m : Machine) (x : Recorded) → m .kind ≡ 4 → sound m ≡ true → m .held .choice ≡ 0
+      → step m x
+      ≡ record { refusal = cicStep (m .cic) (x .step) .refusal; value = cicStep (m .cic) (x .step) .value; machine = record { kind = m .kind; aic = m .aic; core = m .core; cic = cicStep (m .cic) (x .step) .cic; aintc = m .aintc; held = m .held } }
   -- a machine of no kind has no step (01, Numbers, 12)
   pub noSteps : (m : Machine) (x : Recorded) → isKind (m .kind) ≡ false → step m x ≡ record { refusal = 12; value = 0; machine = m }
   -- every step keeps a sound machine sound, and the machine's kind (01, Numbers, 12)

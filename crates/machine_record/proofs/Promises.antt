@@ -12,7 +12,7 @@ use Rattle.kinds.proofs.KindLaws.{at-unknown}
 use Rattle.machine_record.specs.Machine.{start, sound}
 use Rattle.machine_record.specs.Promises.{Tells, Promises}
 use Rattle.machine_record.proofs.MachineLaws.{sound-aic, sound-core, sound-cic, sound-aintc, sound-indexed, aic-starts, core-starts, cic-starts, aintc-starts, indexed-starts, start-ready}
-use Rattle.machine_record.proofs.ShownLaws.{aic-shows, core-shows, cic-shows, aintc-shows, indexed-shows, unsound-shown, small}
+use Rattle.machine_record.proofs.ShownLaws.{aic-shows, core-shows, cic-shows, aintc-shows, indexed-shows, indexed-seen, unsound-shown, small}
 
 -- the number of an output tells whether it is active
 tells : (t : Bool) → Tells (one t) t
@@ -53,6 +53,7 @@ kept =
       cicShows = λ m k. rw (cic-shows m k) (refl, refl, refl);
       aintcShows = λ m k. rw (aintc-shows m k) (tells _, tells _, refl);
       indexedShows = λ m k. rw (indexed-shows m k) (refl, refl, refl);
+      indexedShowsCic = λ m k s. rw (indexed-seen m k s) (refl, refl, refl);
       shownUnsound = λ m h. sym (unsound-shown m h);
       shownSmall = small;
     }

@@ -71,6 +71,10 @@ module _ (m : Machine) where
   unfolding shown
   indexed-shows e = sym (at-indexed (m .kind) _ e)
 
+  -- of a sound one those are the outputs of its CIC
+  pub indexed-seen : m .kind ≡ indexedKind → sound m ≡ true → shown m ≡ cicColumns (cicOutputs (m .cic))
+  indexed-seen k s = indexed-shows k ∙ ap cicColumns (outputs-same (indexed m) (sound-indexed m k ∙ s))
+
   no-shows : m .kind ≢ aicKind → m .kind ≢ coreKind → m .kind ≢ cicKind → m .kind ≢ aintcKind → m .kind ≢ indexedKind → shown m ≡ noColumns
   unfolding shown
   no-shows e f g h i = sym (at-none (m .kind) _ e f g h i)
@@ -115,7 +119,5 @@ module _ (m : Machine) where
           rw (aintc-shows k)
           (rw (aintc .outputsSound (m .aintc) e)
           (one-small (m .aintc .irq .active), one-small (m .aintc .fiq .active), number-small (m .aintc .irq) (choice .soundIs (m .aintc) .0 e .irq)))
-      go (isIndexed k) =
-          let e = sound-indexed m k ∙ s in
-          rw (indexed-shows k) (rw (outputs-same (indexed m) e) (cic-small (m .cic) (held .soundIs (indexed m) .0 e .cic)))
+      go (isIndexed k) = rw (indexed-seen k s) (cic-small (m .cic) (held .soundIs (indexed m) .0 (sound-indexed m k ∙ s) .cic))
       go (isNone a b c d e) = rw (no-shows a b c d e) (omega arith, omega arith, omega arith)

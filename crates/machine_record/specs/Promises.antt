@@ -116,6 +116,9 @@ pub record Promises : Type 0 where
   pub indexedShows : (m : Machine) → m .kind ≡ 4
       → (shown m .first ≡ indexedOutputs (record { cic = m .cic; held = m .held }) .hosts)
       × (shown m .second ≡ indexedOutputs (record { cic = m .cic; held = m .held }) .lowest) × (shown m .third ≡ 0)
+  -- whatever is held (02, 6/12)
+  pub indexedShowsCic : (m : Machine) → m .kind ≡ 4 → sound m ≡ true
+      → (shown m .first ≡ cicOutputs (m .cic) .hosts) × (shown m .second ≡ cicOutputs (m .cic) .lowest) × (shown m .third ≡ 0)
   -- a machine that is not sound, so one of no kind too: three zeros (01, Numbers, 12)
   pub shownUnsound : (m : Machine) → sound m ≡ false → shown m ≡ record { first = 0; second = 0; third = 0 }
   -- of a sound machine none of them is over 256, the number that stands for no asserted host (01, House trace)
