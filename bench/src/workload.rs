@@ -106,7 +106,7 @@ const BUSY: [Plan; 3] = [
 ];
 
 /// A CIC with prioritised indices of full size, and what is polled of it again and again with the hold mode off.
-const POLLS: [Plan; 5] = [
+const POLLS: [Plan; 6] = [
     Plan {
         controller: "polled CIC",
         size: "global index, the first system pending",
@@ -136,6 +136,12 @@ const POLLS: [Plan; 5] = [
         size: "index of a host of all channels, nothing pending",
         opening: || indexed(1_024, 256, 1, 0),
         step: |_, script, _| script.read(0x900),
+    },
+    Plan {
+        controller: "polled CIC",
+        size: "index of the last host, all systems but its own pending",
+        opening: crowded,
+        step: |_, script, _| script.read(0x900 + 4 * 255),
     },
 ];
 
@@ -241,6 +247,15 @@ fn last_pending() -> (Script, u32) {
     let (mut script, steps) = indexed(1_024, 256, 256, 0);
     script.line(1_023, 1);
     (script, steps + 1)
+}
+
+/// One of full size with every system pending but the four of the last channel, which are disabled.
+fn crowded() -> (Script, u32) {
+    let (mut script, steps) = indexed(1_024, 256, 256, u32::MAX);
+    for system in [255, 511, 767, 1_023] {
+        script.write(0x02C, system);
+    }
+    (script, steps + 4)
 }
 
 /// A CIC of either kind as [`cic`] has it, behind its configuration.

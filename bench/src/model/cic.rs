@@ -190,6 +190,17 @@ impl Cic {
         usize::from(self.host_of_channel[channel])
     }
 
+    /// The systems that are set and enabled, the lowest first.
+    pub fn active(&self) -> impl Iterator<Item = usize> + '_ {
+        let words = 0..self.systems().div_ceil(32);
+        words.flat_map(|word| {
+            let requests = self.status.word(word) & self.enable.word(word);
+            let bits = if requests == 0 { 0..0 } else { 0..32 };
+            let set = bits.filter(move |bit| requests >> bit & 1 == 1);
+            set.map(move |bit| 32 * word + bit)
+        })
+    }
+
     /// The hosts that some set and enabled system reaches through its channel. No host enable is asked.
     pub fn reached(&self) -> Bits<8> {
         let mut hosts = Bits::new(self.hosts());

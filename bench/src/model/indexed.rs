@@ -80,7 +80,8 @@ impl Indexed {
     /// The system that an index names when nothing is held: of those that meet its conditions that of the lowest
     /// channel, and of one channel the lowest (001, 1.3.5).
     pub fn first(&self, index: Index) -> Option<usize> {
-        (0..self.cic.systems())
+        self.cic
+            .active()
             .filter(|&system| self.meets(index, system))
             .min_by_key(|&system| (self.cic.channel_of(system), system))
     }
