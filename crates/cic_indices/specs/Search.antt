@@ -4,7 +4,6 @@ use mathlib.Core.List.{List}
 use Prim.Native.Nat.{ℕ, _+_}
 use lib.Dec.{eqb}
 use Rattle.words.specs.Array.{bitAt}
-use Rattle.words.specs.Choice.{pick}
 use Rattle.words.specs.Counting.{lowestBelow}
 use Rattle.words.specs.Word.{bit}
 use Rattle.cic_record.specs.declared.Channel.{Channel}
@@ -21,7 +20,3 @@ pendingOf status enable channel k s = bitAt status s && (bitAt enable s && eqb (
 -- the lowest of channel k, the number of systems where it has none
 unfoldable pub firstOf : ℕ → List ℕ → List ℕ → List ℕ → Channel → ℕ
 firstOf systems status enable channel k = lowestBelow systems (pendingOf status enable channel k)
-
--- one channel's turn: where it does not pass the test nothing is found
-unfoldable pub turnOf : ℕ → List ℕ → List ℕ → List ℕ → Bool → Channel → ℕ
-turnOf systems status enable channel passes k = pick passes (firstOf systems status enable channel k) systems
