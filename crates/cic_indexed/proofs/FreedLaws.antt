@@ -1,5 +1,5 @@
 -- What the hold of one host is after others end: of a host set or cleared by index, and of a word of hosts.
-use mathlib.Core.Bool.{Bool, true, false}
+use mathlib.Core.Bool.{true, false}
 use mathlib.Core.List.{List, [], _∷_}
 use mathlib.Core.Logic.{_≢_, _⊎_, inl, inr}
 use mathlib.Core.Path.{_≡_, refl}

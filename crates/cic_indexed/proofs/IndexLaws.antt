@@ -1,9 +1,9 @@
 -- Reads and writes of the registers that prioritisation has: what they answer, and what is held after them.
-use mathlib.Core.Bool.{Bool, true, false, _&&_}
+use mathlib.Core.Bool.{Bool, true, false}
 use mathlib.Core.Logic.{_≢_, _⊎_, inl, inr}
 use mathlib.Core.Path.{_≡_, refl, sym, ap, ap₂, subst, _∙_}
 use mathlib.Core.List.{List}
-use Prim.Native.Nat.{ℕ, _+_, _-_, _*_, _%_, _≤_, _<_}
+use Prim.Native.Nat.{ℕ, _+_, _*_, _%_, _≤_, _<_}
 use native.Mathlib.Decide.{ℕ-discrete}
 use native.Mathlib.Omega.{arith}
 use borrow.Author.Tests.{eq-eqb, ne-eqb, lt-ltb, eqb-true}
@@ -14,20 +14,17 @@ use Rattle.words.specs.Choice.{pick}
 use Rattle.words.specs.Word.{bit}
 use Rattle.words.proofs.ChoiceLaws.{pick-true, pick-false, pick-cases}
 use Rattle.words.proofs.TruthLaws.{and-right, and-both}
-use Rattle.steps.specs.declared.Access.{Access}
 use Rattle.steps.specs.declared.Access.the-variants.{ReadWrite}
 use Rattle.steps.specs.Refusals.{carriedOut, readRefusal, writeRefusal}
 use Rattle.steps.proofs.Promises as checks
 use Rattle.cic_record.proofs.PartsLaws.{sound-counts}
-use Rattle.cic_indices.specs.Order.{noneWord, indexOf}
 use Rattle.cic_held.specs.declared.Answer.{Answer}
 use Rattle.cic_held.specs.declared.Held.{Held}
 use Rattle.cic_held.specs.declared.Prioritised.{Prioritised}
 use Rattle.cic_held.specs.Held.{prioritised, nothingHeld, withGlobal, withHosts, heldAs, wordHeld, entrySound, sound, controlled}
 use Rattle.cic_held.proofs.HeldLaws.{held-again}
-use Rattle.cic_index_registers.specs.declared.Own.{Own}
-use Rattle.cic_index_registers.specs.declared.Own.the-variants.{Control, GlobalIndex, HostIndex}
-use Rattle.cic_index_registers.specs.Registers.{ownAt, hostAccess, indexRead, holdAfter, globalWord, hostWord}
+use Rattle.cic_index_registers.specs.declared.Own.the-variants.{Control, GlobalIndex}
+use Rattle.cic_index_registers.specs.Registers.{hostAccess, holdAfter, globalWord, hostWord}
 use Rattle.cic_prioritised.specs.Model.{answered, readAs, writeAs, stepAs, read, write}
 use Rattle.cic_prioritised.proofs.SoundLaws.{sound-cic, parts, host-entry, host-below}
 use Rattle.cic_prioritised.proofs.StepLaws.{carried-by}

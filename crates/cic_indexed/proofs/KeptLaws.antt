@@ -2,12 +2,12 @@
 use mathlib.Core.Bool.{Bool, true, false, _&&_}
 use mathlib.Core.Logic.{_≢_, _⊎_, inl, inr}
 use mathlib.Core.Path.{_≡_, refl, sym, ap, subst, _∙_}
-use Prim.Native.Nat.{ℕ, _+_, _-_, _/_, _<_, _≤_}
+use Prim.Native.Nat.{ℕ, _+_, _-_, _/_, _<_}
 use native.Mathlib.Omega.{arith}
 use borrow.Author.Tests.{eqb-true, eqb-false, lt-ltb, le-leb}
-use lib.Dec.{eqb, ltb, leb}
+use lib.Dec.{eqb, ltb}
 use lib.ListN.{getD, set}
-use Rattle.words.specs.Array.{restAt, bitAt}
+use Rattle.words.specs.Array.{restAt}
 use Rattle.words.specs.Choice.{pick}
 use Rattle.words.specs.Word.{kept}
 use Rattle.words.proofs.ChoiceLaws.{pick-cases}
@@ -18,7 +18,7 @@ use Rattle.steps.specs.Refusals.{carriedOut, readRefusal, writeRefusal, lineRef
 use Rattle.cic_record.specs.declared.Answer.{Answer as CicAnswer}
 use Rattle.cic_record.specs.declared.Cic.{Cic}
 use Rattle.cic_record.specs.declared.Host.{Host}
-use Rattle.cic_record.specs.Kinds.{system, hostNumber}
+use Rattle.cic_record.specs.Kinds.{hostNumber}
 use Rattle.cic_record.specs.Sound as cic-sound
 use Rattle.cic_layout.specs.Map.{registerAt, access}
 use Rattle.cic_registers.proofs.Promises as of-registers
@@ -29,12 +29,12 @@ use Rattle.cic_held.specs.declared.Answer.{Answer}
 use Rattle.cic_held.specs.declared.Held.{Held}
 use Rattle.cic_held.specs.declared.Prioritised.{Prioritised}
 use Rattle.cic_held.specs.Held.{prioritised, withGlobal, withHosts, heldAs, entrySound, heldSound, freedHosts, sound, controlled}
-use Rattle.cic_held.proofs.HeldLaws.{hostEntry, held-entry, index-below, word-below, nothing-entry, global-kept, host-kept, freed-kept, controlled-kept, counts-kept}
+use Rattle.cic_held.proofs.HeldLaws.{held-entry, index-below, word-below, nothing-entry, global-kept, host-kept, freed-kept, controlled-kept, counts-kept}
 use Rattle.cic_index_registers.specs.declared.Own.{Own}
 use Rattle.cic_index_registers.specs.declared.Own.the-variants.{Elsewhere, Control, GlobalIndex, HostIndex}
 use Rattle.cic_index_registers.specs.Registers.{ownAt, hostAccess, indexRead, holdAfter, globalWord, hostWord, afterHost, hostsWritten, heldAfter}
-use Rattle.cic_prioritised.specs.Model.{beside, readAs, writtenBy, writeAs, stepAs, read, write, line, step}
-use Rattle.cic_prioritised.proofs.SoundLaws.{sound-cic, sound-held, both-parts, parts, host-entry, host-below}
+use Rattle.cic_prioritised.specs.Model.{readAs, writeAs, stepAs, read, write, line, step}
+use Rattle.cic_prioritised.proofs.SoundLaws.{sound-cic, sound-held, both-parts, parts, host-entry}
 use Rattle.cic_prioritised.proofs.StepLaws.{read-there}
 use Rattle.cic_indexed.proofs.CicLaws.{lines, plain-read, plain-write}
 use Rattle.cic_indexed.proofs.PlaceLaws.{on-or-not}

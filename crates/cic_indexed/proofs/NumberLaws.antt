@@ -1,14 +1,13 @@
 -- By which number a step is refused, and that one that is refused changes nothing.
-use mathlib.Core.Bool.{Bool, true}
+use mathlib.Core.Bool.{Bool}
 use mathlib.Core.Logic.{_≢_, _⊎_, inl, inr}
 use mathlib.Core.Path.{_≡_, refl, sym, ap, subst, _∙_}
 use Prim.Native.Nat.{ℕ}
-use native.Mathlib.Decide.{ℕ-discrete}
 use native.Mathlib.Omega.{arith}
-use borrow.Author.Tests.{eq-eqb, ne-eqb}
+use borrow.Author.Tests.{ne-eqb}
 use lib.Dec.{eqb}
 use Rattle.words.specs.Choice.{pick}
-use Rattle.words.proofs.ChoiceLaws.{pick-true, pick-false, pick-cases, pick-ap}
+use Rattle.words.proofs.ChoiceLaws.{pick-false, pick-cases}
 use Rattle.steps.specs.declared.Access.the-variants.{ReadWrite}
 use Rattle.steps.specs.declared.Step.{Step}
 use Rattle.steps.specs.declared.Step.the-variants.{Read, Write, Line}
@@ -28,12 +27,11 @@ use Rattle.cic_registers.proofs.WrittenLaws.{value-number}
 use Rattle.cic_steps.specs.Model as cic
 use Rattle.cic.proofs.StepLaws as of-cic
 use Rattle.cic_held.specs.declared.Answer.{Answer}
-use Rattle.cic_held.specs.declared.Held.{Held}
 use Rattle.cic_held.specs.declared.Prioritised.{Prioritised}
-use Rattle.cic_held.specs.Held.{prioritised, withGlobal, withHosts, sound, controlled}
+use Rattle.cic_held.specs.Held.{prioritised, withGlobal, sound, controlled}
 use Rattle.cic_index_registers.specs.declared.Own.{Own}
 use Rattle.cic_index_registers.specs.declared.Own.the-variants.{Elsewhere, Control, GlobalIndex, HostIndex}
-use Rattle.cic_index_registers.specs.Registers.{ownAt, hostAccess, accessOf, heldAfter}
+use Rattle.cic_index_registers.specs.Registers.{ownAt, hostAccess, accessOf}
 use Rattle.cic_prioritised.specs.Model.{refused, answered, beside, readAs, writtenBy, writeAs, stepAs, read, write, line, step}
 use Rattle.cic_prioritised.proofs.StepLaws.{its-number, its-record}
 use Rattle.cic_indexed.specs.Tables.{accessAt}

@@ -1,6 +1,6 @@
 -- Which of its own registers stands at an offset, where the choice is on, and what the registers may be used for.
 use mathlib.Core.Logic.{_↔_, _≢_, _⊎_, inl, inr}
-use mathlib.Core.Path.{_≡_, refl, sym, ap, subst, _∙_}
+use mathlib.Core.Path.{_≡_, sym, ap, subst, _∙_}
 use Prim.Native.Nat.{ℕ, _+_, _-_, _*_, _/_, _<_, _≤_}
 use native.Mathlib.Decide.{decLt, ℕ-discrete}
 use native.Mathlib.Omega.{arith}
@@ -10,7 +10,7 @@ use Rattle.words.specs.Choice.{pick}
 use Rattle.words.proofs.ChoiceLaws.{pick-true, pick-false}
 use Rattle.steps.specs.declared.Access.{Access}
 use Rattle.steps.specs.declared.Access.the-variants.{NoRegister, ReadWrite}
-use Rattle.cic_layout.specs.Map.{ifAny, access}
+use Rattle.cic_layout.specs.Map.{access}
 use Rattle.cic_layout.proofs.AccessLaws.{there-if}
 use Rattle.cic_held.specs.declared.Prioritised.{Prioritised}
 use Rattle.cic_index_registers.specs.declared.Own.{Own}

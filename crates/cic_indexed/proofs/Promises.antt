@@ -1,5 +1,5 @@
 -- The promises of the CIC with prioritised indices are kept.
-use mathlib.Core.Bool.{Bool, true, false}
+use mathlib.Core.Bool.{true, false}
 use mathlib.Core.Logic.{_↔_, _⊎_, inl, inr}
 use mathlib.Core.Path.{_≡_, refl, sym, ap, subst, _∙_}
 use Prim.Native.Nat.{ℕ, _+_, _*_, _<_}
@@ -22,7 +22,7 @@ use Rattle.cic_held.specs.declared.Answer.{Answer}
 use Rattle.cic_held.specs.declared.Prioritised.{Prioritised}
 use Rattle.cic_held.specs.Held.{sound, start}
 use Rattle.cic_held.proofs.Promises as of-held
-use Rattle.cic_prioritised.specs.Model.{read, stepAs, outputs}
+use Rattle.cic_prioritised.specs.Model.{read, outputs}
 use Rattle.cic_prioritised.proofs.SoundLaws.{sound-cic}
 use Rattle.cic_indexed.specs.Promises.{Promises}
 use Rattle.cic_indexed.specs.Tables.{Names}
@@ -131,4 +131,7 @@ kept =
       outputsSound = outputs-sound;
       outputsUnsound = outputs-unsound;
       outputsTwelve = outputs-twelve;
+      answeredIs = λ p v. (refl, refl, refl);
+      refusedIs = λ p n. (refl, refl, refl);
+      besideIs = λ h a. (refl, refl, refl, refl);
     }

@@ -6,9 +6,8 @@ use mathlib.Core.Path.{_≡_, refl, ap, _∙_}
 use Prim.Native.Nat.{ℕ, _-_, _/_}
 use native.Mathlib.Decide.{ℕ-discrete}
 use lib.Dec.{eqb, ltb}
-use lib.ListN.{getD, set, replicate}
+use lib.ListN.{getD, set}
 use Rattle.words.specs.Array.{restAt}
-use Rattle.words.specs.Choice.{pick}
 use Rattle.words.specs.Word.{bit, kept}
 use Rattle.words.proofs.ArrayLaws.{zeros-getD}
 use Rattle.words.proofs.ChoiceLaws.{pick-cases}

@@ -1,21 +1,18 @@
 -- What a write leaves held, and so what ends the hold of a host's index and of the global one.
-use mathlib.Core.Bool.{Bool, true, false}
+use mathlib.Core.Bool.{true, false}
 use mathlib.Core.Logic.{_↔_, _≢_, _⊎_, inl, inr}
-use mathlib.Core.Path.{_≡_, refl, sym, ap, subst, _∙_}
+use mathlib.Core.Path.{_≡_, sym, ap, _∙_}
 use Prim.Native.Nat.{ℕ, _+_, _-_, _*_, _/_, _%_, _^_, _<_, _≤_}
 use native.Mathlib.Decide.{decLt, ℕ-discrete}
 use native.Mathlib.Omega.{arith}
 use borrow.Author.Tests.{eq-eqb}
-use lib.Dec.{eqb}
-use lib.ListN.{getD, set, replicate}
-use Rattle.words.specs.Choice.{pick}
+use lib.ListN.{getD, set}
 use Rattle.words.specs.Word.{bit}
 use Rattle.words.proofs.ArrayLaws.{zeros-getD}
-use Rattle.words.proofs.ChoiceLaws.{pick-true, pick-false}
+use Rattle.words.proofs.ChoiceLaws.{pick-true}
 use Rattle.words.proofs.TruthLaws.{told, clash}
 use Rattle.steps.specs.declared.Step.the-variants.{Write}
-use Rattle.steps.specs.Refusals.{carriedOut, writeRefusal}
-use Rattle.cic_record.specs.declared.Answer.{Answer as CicAnswer}
+use Rattle.steps.specs.Refusals.{carriedOut}
 use Rattle.cic_record.proofs.PartsLaws.{sound-counts}
 use Rattle.cic_steps.specs.Model as cic
 use Rattle.cic.proofs.Promises as of-cic
@@ -25,10 +22,10 @@ use Rattle.cic_held.specs.declared.Prioritised.{Prioritised}
 use Rattle.cic_held.specs.Held.{prioritised, sound}
 use Rattle.cic_index_registers.specs.declared.Own.the-variants.{Elsewhere, HostIndex}
 use Rattle.cic_index_registers.specs.Registers.{ownAt, heldAfter}
-use Rattle.cic_prioritised.specs.Model.{refused, answered, beside, writtenBy, write}
+use Rattle.cic_prioritised.specs.Model.{refused, answered, write}
 use Rattle.cic_prioritised.proofs.SoundLaws.{sound-cic, host-below}
 use Rattle.cic_prioritised.proofs.StepLaws.{no-write, not-there}
-use Rattle.cic_indexed.specs.Tables.{Changes, TurnsOff, EndsHost, EndsGlobal}
+use Rattle.cic_indexed.specs.Tables.{Changes, EndsHost, EndsGlobal}
 use Rattle.cic_indexed.proofs.CicLaws.{plain-write, own-not-written}
 use Rattle.cic_indexed.proofs.EndLaws.{decide-by, host-after, global-after}
 use Rattle.cic_indexed.proofs.FreedLaws.{Decided, ended, stayed, set-here, set-other}

@@ -9,11 +9,13 @@ use Rattle.steps.specs.declared.Step.{Step}
 use Rattle.steps.specs.declared.Step.the-variants.{Read, Write, Line}
 use Rattle.steps.specs.Refusals.{carriedOut}
 use Rattle.steps.specs.Tables.{ReadTable, WriteTable, LineTable}
+use Rattle.cic_record.specs.declared.Answer.{Answer as CicAnswer}
 use Rattle.cic_record.specs.Kinds.{hostNumber}
 use Rattle.cic_hosts.specs.Hosts as hosts
 use Rattle.cic_layout.specs.Map.{access}
 use Rattle.cic_steps.specs.Model as cic
 use Rattle.cic_indices.specs.Promises.{Meets, MeetsFor}
+use Rattle.cic_held.specs.declared.Held.{Held}
 use Rattle.cic_held.specs.declared.Prioritised.{Prioritised}
 use Rattle.cic_held.specs.Held.{prioritised, nothingHeld, withGlobal, withHosts, heldAs, wordHeld, sound, start}
 use Rattle.cic_prioritised.specs.Model.{refused, answered, beside, read, write, line, step, outputs}
@@ -94,3 +96,8 @@ pub record Promises : Type 0 where
   pub outputsSound : (p : Prioritised) → sound p ≡ true → outputs p ≡ hosts.outputs (p .cic)
   pub outputsUnsound : (p : Prioritised) → sound p ≡ false → outputs p ≡ record { refusal = 12; hosts = 0; lowest = 0 }
   pub outputsTwelve : (p : Prioritised) → (outputs p .refusal ≡ 12) ↔ (sound p ≡ false)
+  -- ---- what a step answers that is carried out, one that is refused, and what the CIC answers with what is held beside it (01, Numbers)
+  pub answeredIs : (p : Prioritised) (v : ℕ) → (answered p v .refusal ≡ 0) × (answered p v .value ≡ v) × (answered p v .prioritised ≡ p)
+  pub refusedIs : (p : Prioritised) (n : ℕ) → (refused p n .refusal ≡ n) × (refused p n .value ≡ 0) × (refused p n .prioritised ≡ p)
+  pub besideIs : (h : Held) (a : CicAnswer) → (beside h a .refusal ≡ a .refusal) × (beside h a .value ≡ a .value)
+      × (beside h a .prioritised .cic ≡ a .cic) × (beside h a .prioritised .held ≡ h)

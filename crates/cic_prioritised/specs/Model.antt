@@ -1,5 +1,5 @@
 -- Reads, writes, line steps and steps of a CIC with prioritised indices: what is not at one of its own registers is the CIC's (02, 6/12).
-use mathlib.Core.Bool.{Bool, false}
+use mathlib.Core.Bool.{Bool}
 use Prim.Native.Nat.{ℕ, _*_}
 use lib.Dec.{eqb}
 use lib.ListN.{set}

@@ -2,7 +2,6 @@
 use borrow.Author.Tests.{lt-ltb, le-ltb}
 use Rattle.words.proofs.ChoiceLaws.{pick-true, pick-false}
 use Rattle.cic_index_registers.specs.Registers.{hostAccess}
-use borrow.Author.Needs.{needs}
 use Rattle.cic_index_registers.proofs.host_access.Statement.{statement}
 use Rattle.cic_index_registers.proofs.host_access.Tie as tie
 

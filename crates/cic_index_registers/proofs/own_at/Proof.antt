@@ -3,7 +3,6 @@ use mathlib.Core.Path.{_∙_}
 use borrow.Author.Tests.{eq-eqb, ne-eqb, lt-ltb, le-ltb}
 use Rattle.words.proofs.ChoiceLaws.{pick-true, pick-false}
 use Rattle.cic_index_registers.specs.Registers.{ownAt}
-use borrow.Author.Needs.{needs}
 use Rattle.cic_index_registers.proofs.own_at.Statement.{statement}
 use Rattle.cic_index_registers.proofs.own_at.Tie as tie
 

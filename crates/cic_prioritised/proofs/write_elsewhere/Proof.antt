@@ -7,6 +7,7 @@ use Rattle.steps.specs.Refusals.{carriedOut}
 use Rattle.cic_record.specs.declared.Answer.{Answer as CicAnswer}
 use Rattle.cic_steps.specs.Model.{stepAs, writeAs}
 use Rattle.cic_held.specs.declared.Held.{Held}
+use Rattle.cic_index_registers.specs.Registers.{heldAfter}
 use Rattle.cic_prioritised.specs.Model.{beside, writtenBy}
 use Rattle.cic_prioritised.proofs.SoundLaws.{sound-cic}
 use borrow.Author.Needs.{needs}
@@ -41,7 +42,7 @@ returns-3 c =
     let a = c .before .before .before .before .before .before .args in
     let s = c .before .before .before .before .before in
     c .put-beside2 .ensures
-    ∙ ap (λ (h : Held). beside h (s .step-sound .result)) (c .before .held-after .ensures ∙ pick-true _ (eq-eqb (a .p .held .hold) 1 (c .before .before .if2 .left)))
+    ∙ ap (λ (h : Held). beside h (s .step-sound .result)) (c .before .held-after .ensures ∙ pick-true {a = heldAfter (a .p .cic) (a .p .held) (a .offset) (a .v)} (a .p .held) (eq-eqb (a .p .held .hold) 1 (c .before .before .if2 .left)))
     ∙ pick-true _ (eq-eqb (s .step-sound .result .refusal) carriedOut (c .before .before .before .before .if1 .left))
     ∙ ap (λ (y : CicAnswer). writtenBy (a .p) (a .offset) (a .v) y) (its s)
 
