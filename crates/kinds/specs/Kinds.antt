@@ -1,4 +1,5 @@
--- The kinds of controller: their numbers, how they are configured, their names, and whether their steps tell a privilege (01, "House trace"; 02, 2/12 and 6/12).
+-- The kinds of controller: their numbers, how they are configured, their names, and whether their steps tell a privilege (01, "House trace"; 02, 2/12
+-- and 6/12).
 use Prim.Native.Nat.{ℕ}
 use mathlib.Core.Bool.{Bool, false, _||_}
 use mathlib.Core.List.{List, [], _∷_}

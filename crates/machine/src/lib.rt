@@ -1,5 +1,6 @@
 // The steps of one controller of any kind. What a new kind does comes here, its record, start and columns to `machine_record`, its number, name and
-// configuration to `kinds`; of the crates above `player` and `listing` may choose a loop for it, and play it without one (01, "House trace"; 02, 2/12 and 6/12).
+// configuration to `kinds`; of the crates above `player` and `listing` may choose a loop for it, and play it without one (01, "House trace"; 02, 2/12
+// and 6/12).
 ghost use mathlib.Core.Path.{_≡_};
 ghost use mathlib.Core.Bool.{true};
 ghost use Rattle.aic_record.specs.Sound.{sound as aicSound};
