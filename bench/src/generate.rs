@@ -112,11 +112,11 @@ fn random_case(random: &mut Random) -> Case {
 /// How often each kind is toured. Of all that is made the AINTC's share has to be a fifth or more, so that it is in
 /// 20,000 of 100,000 traces; a test counts it.
 const KINDS: [(u32, Kind); 5] = [
-    (6, Kind::Aic),
-    (4, Kind::Core),
-    (5, Kind::Cic),
-    (8, Kind::Aintc),
-    (5, Kind::Indexed),
+    (12, Kind::Aic),
+    (5, Kind::Core),
+    (6, Kind::Cic),
+    (12, Kind::Aintc),
+    (7, Kind::Indexed),
 ];
 
 /// A sound trace of any kind.
