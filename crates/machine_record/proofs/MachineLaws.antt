@@ -167,7 +167,7 @@ indexed-ready (a ∷ b ∷ c ∷ d ∷ []) l w = absurd (omega arith)
 indexed-ready (a ∷ b ∷ c ∷ d ∷ e ∷ []) l w =
     rw (indexed-starts a b c d e) (
       sym (sound-indexed (ofIndexed (indexedStart a b c d e .prioritised)) refl)
-      ∙ indexed-start-sound a b c d e (indexed-start-taken a b c d e (w .0) (w .1 .0) (w .1 .1 .0) (w .1 .1 .1 .0) (w .1 .1 .1 .1 .0)),
+          ∙ indexed-start-sound a b c d e (indexed-start-taken a b c d e (w .0) (w .1 .0) (w .1 .1 .0) (w .1 .1 .1 .0) (w .1 .1 .1 .1 .0)),
       record-kept .resetShaped 0 0,
     )
 indexed-ready (a ∷ b ∷ c ∷ d ∷ e ∷ f ∷ ns) l w = absurd (omega arith)
