@@ -80,8 +80,15 @@ static void endings(void)
     ends("a read without its privilege", BYTES("\3\1\0"), 1, 0, WISTERIA_DAMAGED_NUMBER, 3);
     ends("a write with its privilege", BYTES("\3\2\0\1\0"), 1, 1, WISTERIA_ENDED, 5);
     ends("a line, which has no privilege", BYTES("\3\3\0\1"), 1, 1, WISTERIA_ENDED, 4);
-    ends("controller 4", BYTES("\4\1\1\1\0"), 1, 0, WISTERIA_UNKNOWN_KIND, 0);
-    ends("controller 4 in two bytes", BYTES("\x84\0"), 1, 0, WISTERIA_UNKNOWN_KIND, 0);
+    ends("controller 4, choice off", BYTES("\4\1\1\1\0\0"), 1, 0, WISTERIA_ENDED, 6);
+    ends("controller 4, choice on", BYTES("\4\1\1\1\0\1"), 1, 0, WISTERIA_ENDED, 6);
+    ends("controller 4 in two bytes", BYTES("\x84\0\1\1\1\0\1"), 1, 0, WISTERIA_ENDED, 7);
+    ends("controller 4 without a choice", BYTES("\4\1\1\1\0"), 1, 0, WISTERIA_DAMAGED_NUMBER, 5);
+    ends("choice 2", BYTES("\4\1\1\1\0\2"), 1, 0, WISTERIA_BEYOND_LIMIT, 5);
+    ends("choice 2 in two bytes, and a number cut short behind", BYTES("\4\1\1\1\0\x82\0\x80"), 1, 0, WISTERIA_BEYOND_LIMIT, 5);
+    ends("a poll", BYTES("\4\1\1\1\0\1\1\x80\1"), 1, 1, WISTERIA_ENDED, 9);
+    ends("controller 5", BYTES("\5\1\1\1\0"), 1, 0, WISTERIA_UNKNOWN_KIND, 0);
+    ends("controller 5 in two bytes", BYTES("\x85\0"), 1, 0, WISTERIA_UNKNOWN_KIND, 0);
     ends("controller 131", BYTES("\x83\1"), 1, 0, WISTERIA_UNKNOWN_KIND, 0);
     ends("step 0", BYTES("\0\0\0\0\0\0"), 1, 0, WISTERIA_UNKNOWN_KIND, 3);
     ends("step 3", BYTES("\0\0\0\3\0\0"), 1, 1, WISTERIA_ENDED, 6);

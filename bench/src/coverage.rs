@@ -11,6 +11,7 @@ use std::collections::HashMap;
 use crate::model::aic::Register as AicRegister;
 use crate::model::aintc::{Aintc, Register as AintcRegister, Side as Request};
 use crate::model::core::{Register as CoreRegister, Side};
+use crate::model::indexed::Indexed;
 use crate::model::{Answer, Kind, Machine, Recorded, Refusal, Step};
 use crate::trace::{shortest, Defect, Field, Observer, Report};
 use crate::trace::{LONGEST, NUMBER_BYTES, PROGRAM_LIMIT};
@@ -24,6 +25,10 @@ pub enum Item {
     Core(CoreRegister, Size, Outcome),
     /// A register of the CIC, named by its group and its place in the group, answered so.
     Cic(&'static str, Spot, Outcome),
+    /// The same of a CIC with prioritised indices, whose own registers are groups too.
+    Indexed(&'static str, Spot, Outcome),
+    /// A situation of the global index, or of a host's, in plain words.
+    Index(Whose, &'static str),
     /// A register of the AINTC, read or written by a privilege, under protection or not, answered so.
     Aintc(AintcRegister, Way, By, bool, Outcome),
     /// The ILR of an input was read or written.
@@ -124,6 +129,13 @@ pub enum Outcome {
     Refused(Refusal),
 }
 
+/// Whose prioritised index it is.
+#[derive(Clone, Copy, Debug, PartialEq, Eq, PartialOrd, Ord, Hash)]
+pub enum Whose {
+    Global,
+    Host,
+}
+
 /// Which sort of step it was.
 #[derive(Clone, Copy, Debug, PartialEq, Eq, PartialOrd, Ord, Hash)]
 pub enum Way {
@@ -206,9 +218,10 @@ pub struct Coverage {
     steps: u64,
     /// The forms of the numbers read since the start or the last step.
     forms: Vec<Item>,
-    /// The AIC or the AINTC before the present step; of a CIC only what its rules need.
+    /// The AIC, the AINTC or the CIC with indices before the present step; of a CIC only what its rules need.
     aic_before: Option<aic::Before>,
     aintc_before: Option<Aintc>,
+    indexed_before: Option<Indexed>,
     cic_before: Option<cic::Before>,
 }
 
@@ -299,6 +312,7 @@ impl Observer for Coverage {
             Machine::Aic(_) | Machine::Aintc(_) => {}
             Machine::Core(core) => self.core_started(core),
             Machine::Cic(cic) => self.cic_started(cic),
+            Machine::Indexed(indexed) => self.indexed_started(indexed),
         }
     }
 
@@ -309,6 +323,7 @@ impl Observer for Coverage {
             Machine::Core(_) => {}
             Machine::Cic(cic) => self.cic_before = Some(cic::Before::new(cic, recorded.step)),
             Machine::Aintc(aintc) => self.aintc_before = Some(Aintc::clone(aintc)),
+            Machine::Indexed(indexed) => self.indexed_before = Some(Indexed::clone(indexed)),
         }
     }
 
@@ -324,6 +339,7 @@ impl Observer for Coverage {
             Machine::Core(core) => self.core_step(core, step, answer),
             Machine::Cic(cic) => self.cic_step(cic, step, answer),
             Machine::Aintc(aintc) => self.aintc_step(aintc, recorded, answer),
+            Machine::Indexed(indexed) => self.indexed_step(indexed, step, answer),
         }
     }
 
@@ -366,6 +382,7 @@ pub fn wanted() -> Vec<Item> {
     items.extend(core::wanted());
     items.extend(cic::wanted());
     items.extend(aintc::wanted());
+    items.extend(cic::indexed::wanted());
     items
 }
 
@@ -418,7 +435,13 @@ fn fields() -> Vec<Field> {
         Field::Line,
         Field::Level,
     ];
-    for (kind, count) in [(Kind::Aic, 2), (Kind::Core, 4), (Kind::Cic, 4)] {
+    let configured = [
+        (Kind::Aic, 2),
+        (Kind::Core, 4),
+        (Kind::Cic, 4),
+        (Kind::Indexed, 5),
+    ];
+    for (kind, count) in configured {
         fields.extend((0..count).map(|place| Field::Configuration(kind, place)));
     }
     fields
@@ -430,12 +453,13 @@ fn defects(field: Field) -> impl Iterator<Item = Defect> {
     Defect::ALL.into_iter().filter(can_be)
 }
 
-/// The refusal that a number can get for its value (01: not the two words of the AIC, nor the revision of the CIC).
+/// The refusal that a number can get for its value (01: not the two words of the AIC, nor the revision of a CIC).
 fn judged(field: Field) -> Option<Refusal> {
     match field {
         Field::Kind | Field::StepKind => Some(Refusal::UnknownKind),
         Field::Configuration(Kind::Core, _) => Some(Refusal::BadConfiguration),
-        Field::Configuration(Kind::Cic, 0..=2) => Some(Refusal::BadConfiguration),
+        Field::Configuration(Kind::Cic | Kind::Indexed, 0..=2)
+        | Field::Configuration(Kind::Indexed, 4) => Some(Refusal::BadConfiguration),
         _ => None,
     }
 }
@@ -444,7 +468,7 @@ fn judged(field: Field) -> Option<Refusal> {
 fn widest(field: Field) -> usize {
     match (judged(field), field) {
         (None, _) => NUMBER_BYTES,
-        (Some(_), Field::Configuration(Kind::Cic, _)) => 2,
+        (Some(_), Field::Configuration(Kind::Cic | Kind::Indexed, 0..=2)) => 2,
         (Some(_), _) => 1,
     }
 }

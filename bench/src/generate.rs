@@ -5,10 +5,11 @@ mod aintc;
 mod cic;
 mod core;
 mod damage;
+mod indexed;
 mod long;
 mod sweeps;
 
-use crate::model::{Kind, PRIVILEGED};
+use crate::model::{Kind, Step, PRIVILEGED};
 use crate::random::Random;
 use crate::trace::{decode, encode, NUMBER_BYTES, PROGRAM_LIMIT};
 
@@ -110,11 +111,12 @@ fn random_case(random: &mut Random) -> Case {
 
 /// How often each kind is toured. Of all that is made the AINTC's share has to be a fifth or more, so that it is in
 /// 20,000 of 100,000 traces; a test counts it.
-const KINDS: [(u32, Kind); 4] = [
-    (5, Kind::Aic),
-    (2, Kind::Core),
-    (3, Kind::Cic),
-    (4, Kind::Aintc),
+const KINDS: [(u32, Kind); 5] = [
+    (12, Kind::Aic),
+    (5, Kind::Core),
+    (6, Kind::Cic),
+    (12, Kind::Aintc),
+    (7, Kind::Indexed),
 ];
 
 /// A sound trace of any kind.
@@ -136,6 +138,7 @@ fn tour_of(random: &mut Random, kind: Kind, steps: u32) -> Script {
         Kind::Core => core::tour(random, steps),
         Kind::Cic => cic::tour(random, steps),
         Kind::Aintc => aintc::tour(random, steps),
+        Kind::Indexed => indexed::tour(random, steps),
     }
 }
 
@@ -160,6 +163,8 @@ fn width(random: &mut Random) -> usize {
 
 /// The number that names the AINTC in a trace (02, 2/12).
 const AINTC: u32 = 3;
+/// The number that names the CIC with prioritised indices (02, 6/12).
+const INDEXED: u32 = 4;
 
 /// A trace as it is written down, with the places where its numbers begin.
 #[derive(Clone, Debug, Default)]
@@ -211,6 +216,27 @@ impl Script {
     fn value(&self, nth: usize) -> u32 {
         let number = decode(&self.bytes[self.numbers[nth]..]);
         number.expect("a script writes good numbers").0
+    }
+
+    /// The steps that are written from the nth number on, where no privilege is told.
+    fn steps_from(&self, nth: usize) -> Vec<Step> {
+        let mut values = (nth..self.numbers.len()).map(|nth| self.value(nth));
+        let mut next = || values.next();
+        let step = || {
+            let (kind, first) = (next()?, next()?);
+            Some(match kind {
+                1 => Step::Read { offset: first },
+                2 => Step::Write {
+                    offset: first,
+                    value: next()?,
+                },
+                _ => Step::Line {
+                    line: first,
+                    level: next()?,
+                },
+            })
+        };
+        std::iter::from_fn(step).collect()
     }
 
     /// A read, privileged where the trace says it.
@@ -305,7 +331,7 @@ mod tests {
     #[test]
     fn every_kind_has_its_share() {
         let generator = Generator::new(1);
-        let (mut started, cases) = ([0; 4], 10_000);
+        let (mut started, cases) = ([0; 5], 10_000);
         for number in 0..cases {
             let trace = generator.case(number).trace;
             if let Some(machine) = play(&trace, 0, &mut ()).machine {

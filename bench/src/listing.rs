@@ -97,7 +97,11 @@ mod tests {
         assert_eq!(text(&[2, 1, 1, 1, 0x80], 9), "E 8 4\n");
         assert_eq!(text(&[3], 9), "AINTC\n");
         assert_eq!(text(&[3, 1, 0], 9), "AINTC\nE 8 3\n");
-        assert_eq!(text(&[4], 9), "E 9 0\n");
+        assert_eq!(text(&[4, 1, 1, 1, 0, 0], 9), "CIC\n");
+        assert_eq!(text(&[4, 1, 1, 1, 0, 1], 9), "CIC\n");
+        assert_eq!(text(&[4, 1, 1, 1, 0, 2], 9), "E 10 5\n");
+        assert_eq!(text(&[4, 1, 1, 1, 0], 9), "E 8 5\n");
+        assert_eq!(text(&[5], 9), "E 9 0\n");
     }
 
     #[test]

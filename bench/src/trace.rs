@@ -1,9 +1,10 @@
-//! The house trace: numbers, configurations and steps read from bytes, and their player (01, house trace; 02, 1/12
-//! and 2/12).
+//! The house trace: numbers, configurations and steps read from bytes, and their player (01, house trace; 02, 1/12,
+//! 2/12 and 6/12).
 
 use crate::model::aic::Aic;
 use crate::model::cic::Cic;
 use crate::model::core::CoreInterrupt;
+use crate::model::indexed::Indexed;
 use crate::model::{Answer, Kind, Machine, Recorded, Refusal, Step, PRIVILEGED};
 
 /// The longest trace that is played (01, refusal 11).
@@ -120,8 +121,9 @@ impl<'a, O: Observer> Reader<'a, O> {
         match self.number(Field::Kind)? {
             0 => self.aic(),
             1 => self.core(),
-            2 => self.cic(),
+            2 => Ok(Machine::Cic(Box::new(self.cic(Kind::Cic)?))),
             3 => Ok(Machine::Aintc(Box::default())),
+            4 => self.indexed(),
             _ => Err(unknown),
         }
     }
@@ -143,14 +145,22 @@ impl<'a, O: Observer> Reader<'a, O> {
         Ok(Machine::Core(core))
     }
 
-    fn cic(&mut self) -> Result<Machine, Fault> {
-        let field = |place| Field::Configuration(Kind::Cic, place);
+    /// The four numbers of a CIC, at the beginning of a configuration of either kind.
+    fn cic(&mut self, kind: Kind) -> Result<Cic, Fault> {
+        let field = |place| Field::Configuration(kind, place);
         let systems = self.limited(field(0), 1, 1_024)? as usize;
         let channels = self.limited(field(1), 1, 256)? as usize;
         let hosts = self.limited(field(2), 1, 256)? as usize;
         let revision = self.number(field(3))?;
-        let cic = Cic::new(systems, channels, hosts, revision);
-        Ok(Machine::Cic(Box::new(cic)))
+        Ok(Cic::new(systems, channels, hosts, revision))
+    }
+
+    /// A CIC, and behind its revision whether it is prioritised (02, 6/12).
+    fn indexed(&mut self) -> Result<Machine, Fault> {
+        let cic = self.cic(Kind::Indexed)?;
+        let prioritised = self.limited(Field::Configuration(Kind::Indexed, 4), 0, 1)? == 1;
+        let indexed = Indexed::new(cic, prioritised);
+        Ok(Machine::Indexed(Box::new(indexed)))
     }
 
     /// The next step of a controller; an unknown step kind is refused before anything after it is read.
@@ -463,11 +473,12 @@ mod tests {
 
     #[test]
     fn at_one_number_8_comes_before_9_and_10() {
-        let kinds: [(&[u8], u8, (u32, usize)); 4] = [
-            (&[], 0x04, (9, 0)),
+        let kinds: [(&[u8], u8, (u32, usize)); 5] = [
+            (&[], 0x05, (9, 0)),
             (&[0x00, 0x00, 0x00], 0x04, (9, 3)),
             (&[0x03], 0x04, (9, 1)),
             (&[0x01], 0x09, (10, 1)),
+            (&[0x04, 0x01, 0x01, 0x01, 0x00], 0x02, (10, 5)),
         ];
         for (before, value, judged) in kinds {
             for width in 1..=NUMBER_BYTES + 1 {
@@ -494,6 +505,16 @@ mod tests {
         assert_eq!(ending(&[0x02, 0x80, 0x08, 0x81, 0x02], 9), (10, 3));
         assert_eq!(ending(&[0x02, 0x01, 0x01, 0x00], 9), (10, 3));
         assert_eq!(ending(&[0x02, 0x01, 0x01, 0x01], 9), (8, 4));
+        assert_eq!(ending(&[0x04, 0x00], 9), (10, 1));
+        assert_eq!(ending(&[0x04, 0x80, 0x08, 0x81, 0x02], 9), (10, 3));
+        assert_eq!(ending(&[0x04, 0x01, 0x01, 0x00], 9), (10, 3));
+        assert_eq!(ending(&[0x04, 0x01, 0x01, 0x01], 9), (8, 4));
+        assert_eq!(ending(&[0x04, 0x01, 0x01, 0x01, 0x00], 9), (8, 5));
+        assert_eq!(ending(&[0x04, 0x01, 0x01, 0x01, 0x00, 0x02], 9), (10, 5));
+        assert_eq!(ending(&[0x04, 0x01, 0x01, 0x01, 0x00, 0x82], 9), (8, 5));
+        for choice in [0x00, 0x01] {
+            assert_eq!(ending(&[0x04, 0x01, 0x01, 0x01, 0x00, choice], 9), (0, 6));
+        }
     }
 
     #[test]

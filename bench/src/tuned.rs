@@ -2,6 +2,7 @@
 //! outputs kept up to date, numbers of one and two bytes first, a line of text under one test for room. In safe Rust.
 //!
 //! It is no second opinion: the model is what the documents are read into, and every byte here has to be the model's.
+//! The CIC with prioritised indices is not tuned: it goes by the model's own steps.
 
 #![forbid(unsafe_code)]
 
@@ -9,6 +10,7 @@ mod aic;
 mod aintc;
 mod cic;
 mod core;
+mod indexed;
 mod reader;
 mod text;
 
@@ -16,6 +18,7 @@ use self::aic::Aic;
 use self::aintc::Aintc;
 use self::cic::Cic;
 use self::core::CoreInterrupt;
+use self::indexed::Plain;
 use self::reader::{Fault, Reader};
 use self::text::{Line, Text};
 use crate::model::{Answer, Kind, Refusal, PRIVILEGED};
@@ -141,6 +144,7 @@ fn started<const SHOWN: bool>(
             steps(cic, played, reader, limit, sink)
         }
         3 => steps(Aintc::new(), played, reader, limit, sink),
+        4 => steps(Plain::read_from(&mut reader)?, played, reader, limit, sink),
         _ => Err(Fault::new(Refusal::UnknownKind, 0)),
     }
 }

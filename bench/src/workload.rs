@@ -1,5 +1,5 @@
 //! The traces that are timed, with no step refused: for each controller a small and a full one, of any number of steps;
-//! and writes to a full CIC of which every system is active.
+//! writes to a full CIC of which every system is active; and polls of a full one with prioritised indices.
 
 use crate::generate::Script;
 use crate::random::Random;
@@ -20,7 +20,7 @@ struct Plan {
     step: fn(&mut Random, &mut Script, u32),
 }
 
-const PLANS: [Plan; 8] = [
+const PLANS: [Plan; 10] = [
     Plan {
         controller: "AIC",
         size: "1 source",
@@ -58,6 +58,18 @@ const PLANS: [Plan; 8] = [
         step: |random, script, at| cic_step(random, script, at, 1_024),
     },
     Plan {
+        controller: "CIC with indices",
+        size: "8 systems, 2 channels, 2 hosts",
+        opening: || indexed(8, 2, 2, EVERY_OTHER),
+        step: |random, script, at| indexed_step(random, script, at, 8, 2),
+    },
+    Plan {
+        controller: "CIC with indices",
+        size: "1,024 systems, 256 channels, 256 hosts",
+        opening: || indexed(1_024, 256, 256, EVERY_OTHER),
+        step: |random, script, at| indexed_step(random, script, at, 1_024, 256),
+    },
+    Plan {
         controller: "AINTC",
         size: "4 inputs",
         opening: || aintc(4),
@@ -93,6 +105,46 @@ const BUSY: [Plan; 3] = [
     },
 ];
 
+/// A CIC with prioritised indices of full size, and what is polled of it again and again with the hold mode off.
+const POLLS: [Plan; 6] = [
+    Plan {
+        controller: "polled CIC",
+        size: "global index, the first system pending",
+        opening: || indexed(1_024, 256, 256, 1),
+        step: |_, script, _| script.read(0x080),
+    },
+    Plan {
+        controller: "polled CIC",
+        size: "global index, only the last system of the last channel pending",
+        opening: last_pending,
+        step: |_, script, _| script.read(0x080),
+    },
+    Plan {
+        controller: "polled CIC",
+        size: "global index, nothing pending",
+        opening: || indexed(1_024, 256, 256, 0),
+        step: |_, script, _| script.read(0x080),
+    },
+    Plan {
+        controller: "polled CIC",
+        size: "indices of hosts of one channel each, nothing pending",
+        opening: || indexed(1_024, 256, 256, 0),
+        step: |_, script, at| script.read(0x900 + 4 * (at % 256)),
+    },
+    Plan {
+        controller: "polled CIC",
+        size: "index of a host of all channels, nothing pending",
+        opening: || indexed(1_024, 256, 1, 0),
+        step: |_, script, _| script.read(0x900),
+    },
+    Plan {
+        controller: "polled CIC",
+        size: "index of the last host, all systems but its own pending",
+        opening: crowded,
+        step: |_, script, _| script.read(0x900 + 4 * 255),
+    },
+];
+
 /// How many writes follow the opening of a busy CIC.
 const BUSY_WRITES: u32 = 5_000;
 
@@ -107,6 +159,12 @@ pub fn busy() -> Vec<Workload> {
     BUSY.iter()
         .map(|plan| workload(plan, |_| BUSY_WRITES))
         .collect()
+}
+
+/// Those of a polled CIC, with so many steps each.
+pub fn polls(steps: u32) -> Vec<Workload> {
+    let rest = |opened| steps - opened;
+    POLLS.iter().map(|plan| workload(plan, rest)).collect()
 }
 
 /// The trace of a plan; how many steps follow the opening is said by the steps that it has.
@@ -172,7 +230,36 @@ const EVERY_OTHER: u32 = 0x5555_5555;
 /// System n drives channel n and channel n drives host n, modulo how many there are; everything is enabled, and each
 /// word of systems is set as the given one.
 fn cic(systems: u32, channels: u32, hosts: u32, set: u32) -> (Script, u32) {
-    let mut script = Script::new(2, &[systems, channels, hosts, 0x4E82_0000]);
+    let script = Script::new(2, &[systems, channels, hosts, 0x4E82_0000]);
+    opened(script, systems, channels, hosts, set)
+}
+
+/// The same of a CIC with prioritised indices, with the hold mode off as one who polls has it.
+fn indexed(systems: u32, channels: u32, hosts: u32, set: u32) -> (Script, u32) {
+    let mut script = Script::new(4, &[systems, channels, hosts, 0x4E82_0000, 1]);
+    script.write(0x004, 0);
+    let (script, steps) = opened(script, systems, channels, hosts, set);
+    (script, steps + 1)
+}
+
+/// One of full size with nothing but its last system pending, which drives the last channel.
+fn last_pending() -> (Script, u32) {
+    let (mut script, steps) = indexed(1_024, 256, 256, 0);
+    script.line(1_023, 1);
+    (script, steps + 1)
+}
+
+/// One of full size with every system pending but the four of the last channel, which are disabled.
+fn crowded() -> (Script, u32) {
+    let (mut script, steps) = indexed(1_024, 256, 256, u32::MAX);
+    for system in [255, 511, 767, 1_023] {
+        script.write(0x02C, system);
+    }
+    (script, steps + 4)
+}
+
+/// A CIC of either kind as [`cic`] has it, behind its configuration.
+fn opened(mut script: Script, systems: u32, channels: u32, hosts: u32, set: u32) -> (Script, u32) {
     let mut steps = 0;
     let maps = [(0x400, systems, channels), (0x800, channels, hosts)];
     for (base, entries, limit) in maps {
@@ -204,6 +291,20 @@ fn cic_step(random: &mut Random, script: &mut Script, at: u32, systems: u32) {
         1 => script.write(0x020, random.below(systems)),
         3 => script.write(0x024, random.below(systems)),
         4 => script.read(0x280),
+        _ => script.read(0x010),
+    }
+}
+
+/// The same with polls of the global index and of hosts' indices. Few steps are longer than three bytes, so that 20,000
+/// fit.
+fn indexed_step(random: &mut Random, script: &mut Script, at: u32, systems: u32, hosts: u32) {
+    match at % 8 {
+        0 => script.line(random.below(systems), random.below(2)),
+        1 => script.write(0x020, random.below(systems)),
+        4 => script.write(0x024, random.below(systems)),
+        2 | 5 => script.read(0x080),
+        3 => script.read(0x900 + 4 * random.below(hosts)),
+        6 => script.read(0x004),
         _ => script.read(0x010),
     }
 }
@@ -274,5 +375,6 @@ mod tests {
             }
         }
         busy().iter().for_each(has_its_steps_and_fits);
+        polls(PROGRAM_LIMIT).iter().for_each(has_its_steps_and_fits);
     }
 }

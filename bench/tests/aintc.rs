@@ -703,7 +703,7 @@ mod traces {
         assert_eq!(listed(&[0x03]), "AINTC\n");
         assert_eq!(listed(&[0x83, 0x00]), "AINTC\n");
         assert_eq!(listed(&[0x03, 0x00]), "AINTC\nE 9 1\n");
-        assert_eq!(listed(&[0x04]), "E 9 0\n");
+        assert_eq!(listed(&[0x05]), "E 9 0\n");
     }
 
     #[test]

@@ -33,6 +33,8 @@ fn every_situation_that_is_counted_is_listed() {
                 | Item::LowerNumber(..)
                 | Item::Core(..)
                 | Item::Cic(..)
+                | Item::Indexed(..)
+                | Item::Index(..)
                 | Item::Aintc(..)
                 | Item::Ilr(..)
                 | Item::Chosen(..)

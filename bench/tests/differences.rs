@@ -9,7 +9,7 @@ use bench::model::Kind;
 use bench::program::Program;
 
 /// How many traces .ci/checks/differential sends through the program.
-const THROUGH_THE_PROGRAM: usize = 600;
+const THROUGH_THE_PROGRAM: usize = 900;
 
 /// Some sweeps and some random cases.
 fn compare_some(other: impl FnMut(&Case) -> Outcome) -> Summary {
@@ -115,7 +115,7 @@ fn generated_traces_of_every_kind_go_through_the_program() {
     let cases = numbers.map(|number| (number, generator.case(number)));
     let coverage = compare(cases, |case| Ok(expected(case))).coverage;
     for kind in Kind::ALL {
-        assert!(coverage.started(kind) >= 5, "{}", kind.name());
+        assert!(coverage.started(kind) >= 5, "{}", kind.told());
     }
 }
 

@@ -98,6 +98,18 @@ fn the_padded_example_is_the_first_in_five_bytes_each() {
     assert_eq!(examples["padded"]["listing"], examples["first"]["listing"]);
 }
 
+/// With the choice off the same steps list as those of a plain CIC; only the kind and the choice differ.
+#[test]
+fn the_indices_that_are_off_are_a_plain_cic() {
+    let examples = examples();
+    let (off, plain) = (&examples["index-off"], &examples["index-off-plain"]);
+    assert_eq!(off["listing"], plain["listing"]);
+    let configuration = 9;
+    let (numbers, steps) = plain["trace"].split_at(configuration);
+    let indexed = [&[4], &numbers[1..], &[0], steps].concat();
+    assert_eq!(off["trace"], indexed);
+}
+
 #[test]
 fn the_small_endings_are_all_there() {
     let listings: String = examples()

@@ -697,7 +697,8 @@ mod number_rules {
     #[test]
     fn kinds_and_limits_are_judged_by_the_value() {
         assert_eq!(listed(&[&[0x83, 0x00]]), "AINTC\n");
-        assert_eq!(listed(&[&[0x84, 0x00]]), "E 9 0\n");
+        assert_eq!(listed(&[&[0x84, 0x00]]), "E 8 2\n");
+        assert_eq!(listed(&[&[0x85, 0x00]]), "E 9 0\n");
         assert_eq!(listed(&[&[0x01, 0x89, 0x00, 0x21, 0x01]]), "E 10 1\n");
         let line = "AIC\n1 L 00000000 0 0 0\n";
         assert_eq!(listed(&[AIC, &[0x83, 0x00, 0x05, 0x01]]), line);
@@ -711,6 +712,9 @@ mod number_rules {
         assert_eq!(listed(&[cic, &[0x80, 0x82, 0x00], &[0x80, 0x00]]), "CIC\n");
         assert_eq!(listed(&[cic, &[0x81, 0x82, 0x00]]), "E 10 8\n");
         assert_eq!(listed(&[cic, &[0x80, 0x00]]), "E 10 8\n");
+        let indexed: &[u8] = &[0x84, 0x00, 0x81, 0x00, 0x01, 0x01, 0x80, 0x00];
+        assert_eq!(listed(&[indexed, &[0x81, 0x80, 0x00]]), "CIC\n");
+        assert_eq!(listed(&[indexed, &[0x82, 0x80, 0x00]]), "E 10 8\n");
     }
 
     #[test]

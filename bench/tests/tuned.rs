@@ -7,7 +7,7 @@ use bench::generate::{Case, Generator, Script};
 use bench::listing::listing;
 use bench::trace::{LONGEST, PROGRAM_LIMIT};
 use bench::tuned::{list, play};
-use bench::workload::{busy, workloads};
+use bench::workload::{busy, polls, workloads};
 
 /// A case with ample room.
 fn case(trace: Vec<u8>, limit: u32) -> Case {
@@ -39,18 +39,19 @@ fn it_lists_and_plays_as_the_model_does() {
 #[test]
 fn it_does_so_on_what_is_timed() {
     let timed = workloads(2_000).into_iter().chain(workloads(PROGRAM_LIMIT));
-    for workload in timed.chain(busy()) {
+    for workload in timed.chain(busy()).chain(polls(PROGRAM_LIMIT)) {
         is_the_models(&case(workload.trace, PROGRAM_LIMIT));
     }
 }
 
 /// A short trace of each kind: a step of each sort, and then one that is refused.
-fn short_traces() -> [Script; 4] {
+fn short_traces() -> [Script; 5] {
     let mut traces = [
         Script::new(0, &[1, 2]),
         Script::new(1, &[8, 32, 0, 1]),
         Script::new(2, &[1_024, 256, 256, 7]),
         Script::new(3, &[]),
+        Script::new(4, &[1_024, 256, 256, 7, 1]),
     ];
     for script in &mut traces {
         script.read(0);
@@ -88,7 +89,7 @@ fn every_number_of_a_step_is_counted() {
 /// The figure that is made from all state tells states apart, so that no part of a play can be left out.
 #[test]
 fn the_state_is_in_the_figure() {
-    let changes: [&[(u32, u32)]; 4] = [
+    let changes: [&[(u32, u32)]; 5] = [
         &[
             (0x04, 0x63),
             (0x84, 1),
@@ -115,6 +116,7 @@ fn the_state_is_in_the_figure() {
             (0x90, 5),
             (0x100, 4),
         ],
+        &[(0x004, 0), (0x200, 1), (0x300, 2), (0x400, 3), (0x800, 4)],
     ];
     for (script, changes) in short_traces().into_iter().zip(changes) {
         let mut states = vec![play(&script.bytes, 99).state];
@@ -138,6 +140,6 @@ fn the_differential_test_asks_it() {
             .output();
         run.expect("the differential test runs").status.code()
     };
-    assert_eq!(status(&["--tuned", "--count", "600"]), Some(0));
+    assert_eq!(status(&["--tuned", "--count", "900"]), Some(0));
     assert_eq!(status(&["--tuned", "--stack"]), Some(2));
 }

@@ -9,7 +9,7 @@ use bench::digits::Digits;
 use bench::listing::Text;
 use bench::trace::{play, PROGRAM_LIMIT};
 use bench::tuned;
-use bench::workload::{busy, workloads, Workload};
+use bench::workload::{busy, polls, workloads, Workload};
 
 const NOTES: &str = "\
 Nanoseconds per step in the fastest of several rounds; a round is one play of the whole trace by each side in turn.
@@ -17,7 +17,7 @@ Nanoseconds per step in the fastest of several rounds; a round is one play of th
 - proved: the proved library through its C functions; plain: its loops over a controller of any kind.
 - model: the plain Rust model, its listing with digits made by hand; std text: with the standard library's formatting, as
   the differential test has it.
-- tuned: the Rust player that is tuned by hand.
+- tuned: the Rust player that is tuned by hand; a CIC with indices is not tuned there, and goes by the model's steps.
 - Listing is play and listing. Play is the steps alone, with no text and no outputs after each step.
 
 Buffers: each side writes its listing into one buffer that is kept from round to round and not cleared. The proved library
@@ -51,6 +51,13 @@ fn main() {
         head("trace bytes | listing bytes", true)
     );
     for workload in busy() {
+        println!("{}", listing_row(&workload, &measure(&workload, rounds)));
+    }
+    println!(
+        "\nListing of polls of a full CIC with indices:\n\n{}",
+        head("trace bytes | listing bytes", true)
+    );
+    for workload in polls(PROGRAM_LIMIT) {
         println!("{}", listing_row(&workload, &measure(&workload, rounds)));
     }
     if let Some(peak) = peak_memory() {

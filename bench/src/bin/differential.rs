@@ -29,7 +29,7 @@ differential --trace N [--stack] [--seed N]
   --stack         typed tables and their stack lines, instead of traces and their listings
   --trace N       writes the trace (or table) of case N to standard output
   --seed N        other traces for another seed (1)
-  --count N       how many (600 for --program, else 100000)
+  --count N       how many (900 for --program, else 100000)
   --first N       the number of the first one (0); coverage is judged only from 0 on
   --table         prints how often each listed item was reached
   -- ARGUMENTS    what the program is called with
@@ -66,7 +66,7 @@ impl Way {
 
     fn usual_count(self) -> usize {
         match self {
-            Way::Program => 600,
+            Way::Program => 900,
             Way::Batch | Way::Exports | Way::Tuned => 100_000,
         }
     }
@@ -223,7 +223,7 @@ impl Reported for Case {
 
     fn amount(summary: &Summary) -> String {
         let steps = summary.coverage.steps();
-        let started = |kind: Kind| format!("{} {}", kind.name(), summary.coverage.started(kind));
+        let started = |kind: Kind| format!("{} {}", kind.told(), summary.coverage.started(kind));
         let started = Kind::ALL.map(started).join(", ");
         format!(
             "{steps} steps, {} bytes of listing, started: {started}",

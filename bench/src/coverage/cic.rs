@@ -1,5 +1,7 @@
 //! What is to be reached on the CIC: every register at every place of its group, limits, sizes and asserted hosts.
 
+pub(super) mod indexed;
+
 use super::{Coverage, Item, Outcome, Spot, Way};
 use crate::model::cic::{Cic, Register};
 use crate::model::{Answer, Controller, Refusal, Step};
@@ -276,9 +278,9 @@ const GROUPS: [&str; 7] = [
     "host enable",
 ];
 
-/// The registers with all that can come of an access to each.
-fn registers() -> Vec<Item> {
-    let single = |group, outcome| Item::Cic(group, Spot::Single, outcome);
+/// The registers with all that can come of an access to each, as items of a kind of CIC.
+fn registers(item: fn(&'static str, Spot, Outcome) -> Item) -> Vec<Item> {
+    let single = |group, outcome| item(group, Spot::Single, outcome);
     let mut items = vec![
         single("revision", Outcome::Read),
         single("revision", Outcome::Refused(Refusal::ReadOnly)),
@@ -298,21 +300,21 @@ fn registers() -> Vec<Item> {
             Spot::LastWithSpare,
         ];
         for spot in spots {
-            items.push(Item::Cic(group, spot, Outcome::Read));
-            items.push(Item::Cic(group, spot, Outcome::Written));
+            items.push(item(group, spot, Outcome::Read));
+            items.push(item(group, spot, Outcome::Written));
             if group.ends_with("map") {
                 let refused = Outcome::Refused(Refusal::OutOfRange);
-                items.push(Item::Cic(group, spot, refused));
+                items.push(item(group, spot, refused));
             }
         }
         let refused = Outcome::Refused(Refusal::NoRegister);
-        items.push(Item::Cic(group, Spot::Beyond, refused));
+        items.push(item(group, Spot::Beyond, refused));
     }
     items
 }
 
 pub(super) fn wanted() -> Vec<Item> {
-    let mut items = registers();
+    let mut items = registers(Item::Cic);
     items.extend([1, 32, 33, 1_023, 1_024].map(|count| Item::Count("systems", count)));
     items.extend([1, 2, 255, 256].map(|count| Item::Count("channels", count)));
     items.extend([1, 2, 33, 255, 256].map(|count| Item::Count("hosts", count)));

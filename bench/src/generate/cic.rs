@@ -3,15 +3,15 @@
 use super::{bad_line, odd_access, Script};
 use crate::random::Random;
 
-const GLOBAL: u32 = 0x010;
-const RAW_SET: u32 = 0x200;
-const ENABLED_CLEAR: u32 = 0x280;
-const ENABLE_SET: u32 = 0x300;
-const ENABLE_CLEAR: u32 = 0x380;
-const CHANNEL_MAP: u32 = 0x400;
-const HOST_MAP: u32 = 0x800;
-const HOST_ENABLE: u32 = 0x1500;
-const END: u32 = 0x1520;
+pub const GLOBAL: u32 = 0x010;
+pub const RAW_SET: u32 = 0x200;
+pub const ENABLED_CLEAR: u32 = 0x280;
+pub const ENABLE_SET: u32 = 0x300;
+pub const ENABLE_CLEAR: u32 = 0x380;
+pub const CHANNEL_MAP: u32 = 0x400;
+pub const HOST_MAP: u32 = 0x800;
+pub const HOST_ENABLE: u32 = 0x1500;
+pub const END: u32 = 0x1520;
 
 /// Single registers, and places that 01 leaves out or 001 reserves.
 const SINGLE: [u32; 16] = [
@@ -23,30 +23,19 @@ const SYSTEMS: [u32; 14] = [1, 2, 4, 5, 31, 32, 33, 63, 64, 65, 97, 160, 1_023, 
 const CHANNELS: [u32; 10] = [1, 1, 2, 3, 4, 5, 33, 64, 255, 256];
 const HOSTS: [u32; 10] = [1, 2, 3, 8, 31, 32, 33, 65, 255, 256];
 
-/// A tour as it goes on: the sizes, and what is written.
-struct Tour<'a> {
-    random: &'a mut Random,
-    script: Script,
-    systems: u32,
-    channels: u32,
-    hosts: u32,
-    favourites: Vec<u32>,
+/// A tour as it goes on: the sizes, what is written, and the systems it likes.
+pub struct Tour<'a> {
+    pub random: &'a mut Random,
+    pub script: Script,
+    pub systems: u32,
+    pub channels: u32,
+    pub hosts: u32,
+    pub favourites: Vec<u32>,
 }
 
 /// A sound CIC trace of about so many steps.
 pub fn tour(random: &mut Random, steps: u32) -> Script {
-    let systems = size(random, &SYSTEMS, 1_024);
-    let channels = size(random, &CHANNELS, 256);
-    let hosts = size(random, &HOSTS, 256);
-    let configuration = [systems, channels, hosts, random.word()];
-    let mut tour = Tour {
-        script: Script::new(2, &configuration),
-        systems,
-        channels,
-        hosts,
-        favourites: (0..6).map(|_| end_or_any(random, systems)).collect(),
-        random,
-    };
+    let mut tour = Tour::new(random, 2, &[]);
     if steps > 8 {
         tour.prepare();
     }
@@ -65,7 +54,7 @@ fn size(random: &mut Random, edges: &[u32], most: u32) -> u32 {
 }
 
 /// A number below the count, and often the first or the last one.
-fn end_or_any(random: &mut Random, count: u32) -> u32 {
+pub fn end_or_any(random: &mut Random, count: u32) -> u32 {
     match random.below(4) {
         0 => 0,
         1 => count - 1,
@@ -73,9 +62,25 @@ fn end_or_any(random: &mut Random, count: u32) -> u32 {
     }
 }
 
-impl Tour<'_> {
+impl<'a> Tour<'a> {
+    /// A tour of any size that has only its configuration yet; of a kind that is no plain CIC more numbers follow.
+    pub fn new(random: &'a mut Random, kind: u32, more: &[u32]) -> Tour<'a> {
+        let systems = size(random, &SYSTEMS, 1_024);
+        let channels = size(random, &CHANNELS, 256);
+        let hosts = size(random, &HOSTS, 256);
+        let configuration = [systems, channels, hosts, random.word()];
+        Tour {
+            script: Script::new(kind, &[&configuration, more].concat()),
+            systems,
+            channels,
+            hosts,
+            favourites: (0..6).map(|_| end_or_any(random, systems)).collect(),
+            random,
+        }
+    }
+
     /// Opens what stands between a line and its host, for most of the favourite systems.
-    fn prepare(&mut self) {
+    pub fn prepare(&mut self) {
         if !self.random.one_in(8) {
             self.script.write(GLOBAL, 1);
         }
@@ -98,7 +103,7 @@ impl Tour<'_> {
         self.write_host_map(0);
     }
 
-    fn act(&mut self) {
+    pub fn act(&mut self) {
         match self.random.below(40) {
             0..=11 => {
                 let system = self.system();
@@ -132,7 +137,7 @@ impl Tour<'_> {
         }
     }
 
-    fn system(&mut self) -> u32 {
+    pub fn system(&mut self) -> u32 {
         if self.random.one_in(6) {
             self.random.below(self.systems)
         } else {

@@ -19,11 +19,12 @@ pub fn damaged(random: &mut Random, mut script: Script) -> Vec<u8> {
 
 /// Any bytes, of which the first few often look like the beginning of a trace.
 pub fn noise(random: &mut Random) -> Vec<u8> {
-    let mut bytes = match random.below(5) {
+    let mut bytes = match random.below(6) {
         0 => vec![],
         1 => vec![0, 0, 0],
         2 => vec![1, 8, 32, 0, 1],
         3 => vec![2, 33, 4, 4, 0],
+        4 => vec![4, 33, 4, 4, 0, 1],
         _ => vec![3],
     };
     let most = random.pick(&[0x100, 0x80, 0x08, 0x04]);
@@ -34,8 +35,8 @@ pub fn noise(random: &mut Random) -> Vec<u8> {
 }
 
 /// Numbers at and just beyond the limits of kinds, configurations, privileges and lines.
-const NEAR_LIMITS: [u32; 16] = [
-    0, 1, 2, 3, 4, 8, 9, 32, 33, 127, 128, 255, 256, 257, 1_024, 1_025,
+const NEAR_LIMITS: [u32; 17] = [
+    0, 1, 2, 3, 4, 5, 8, 9, 32, 33, 127, 128, 255, 256, 257, 1_024, 1_025,
 ];
 
 fn spoil_a_number(random: &mut Random, script: &mut Script) {
@@ -46,7 +47,7 @@ fn spoil_a_number(random: &mut Random, script: &mut Script) {
             exchange(script, place, random.word(), any_width);
         }
         1 | 2 => {
-            let among_first = random.below(5) as usize % script.numbers.len();
+            let among_first = random.below(6) as usize % script.numbers.len();
             let value = random.pick(&NEAR_LIMITS);
             exchange(script, among_first, value, width(random));
         }

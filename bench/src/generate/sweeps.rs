@@ -5,7 +5,7 @@ mod levels;
 mod marks;
 
 use super::damage::spoil;
-use super::{long, Script, AINTC};
+use super::{indexed, long, Script, AINTC, INDEXED};
 use crate::model::Kind;
 use crate::random::Random;
 use crate::trace::{Defect, LONGEST, NUMBER_BYTES, PROGRAM_LIMIT};
@@ -19,6 +19,7 @@ pub fn all() -> Vec<Script> {
     sweeps.extend(levels::situations());
     sweeps.extend(core_situations());
     sweeps.extend(cic_situations());
+    sweeps.extend(indexed::situations());
     sweeps.push(line_limits(AINTC, &[], 128));
     sweeps.extend(aintc::situations());
     sweeps.extend(forms());
@@ -63,15 +64,23 @@ fn registers() -> Vec<Script> {
         Script::new(1, &core[0]),
         Script::new(2, &cic[0]),
         Script::new(AINTC, &[]),
+        prioritised(&cic[0], 1),
     ];
     scripts.extend(sizes.map(far_offsets));
-    for configuration in cic {
-        let script = Script::new(2, &configuration);
+    let plain = cic.map(|configuration| Script::new(2, &configuration));
+    let indexed = cic.map(|configuration| prioritised(&configuration, 1));
+    let without = prioritised(&cic[2], 0);
+    for script in plain.into_iter().chain(indexed).chain([without]) {
         scripts.push(every_offset(script.clone(), 0..0x110));
         scripts.push(every_word(script.clone(), 0x1F0..0xD10));
         scripts.push(every_word(script, 0x14F0..0x1530));
     }
     scripts
+}
+
+/// A CIC of the kind that says whether it is prioritised.
+fn prioritised(configuration: &[u32], choice: u32) -> Script {
+    Script::new(INDEXED, &[configuration, &[choice]].concat())
 }
 
 fn every_offset(mut script: Script, offsets: std::ops::Range<u32>) -> Script {
@@ -231,8 +240,8 @@ fn waiting() -> Script {
         script.line(source, 1);
     }
     script.read(0x100);
-    script.read(0x100);
     script.write(4 * 4, 0x62);
+    script.read(0x100);
     script.read(0x100);
     script.line(7, 1);
     script.write(0x138, 2);
@@ -345,17 +354,26 @@ fn cic_situations() -> Vec<Script> {
     ];
     for [systems, channels, hosts] in sizes {
         let configuration = [systems, channels, hosts, 7];
-        scripts.push(line_limits(2, &configuration, systems));
-        scripts.push(index_limits(&configuration));
-        scripts.push(map_limits(&configuration));
-        scripts.push(one_host_each(&configuration));
+        scripts.extend(cic_limits(2, &configuration));
+        scripts.extend(cic_limits(INDEXED, &[systems, channels, hosts, 7, 1]));
     }
+    scripts.extend(cic_limits(INDEXED, &[33, 5, 33, 7, 0]));
     scripts
 }
 
+/// The limits of a CIC of either kind.
+fn cic_limits(kind: u32, configuration: &[u32]) -> [Script; 4] {
+    [
+        line_limits(kind, configuration, configuration[0]),
+        index_limits(kind, configuration),
+        map_limits(kind, configuration),
+        one_host_each(kind, configuration),
+    ]
+}
+
 /// Each index register at its last index, at the first that is refused, and with the first of the high bits.
-fn index_limits(configuration: &[u32]) -> Script {
-    let mut script = Script::new(2, configuration);
+fn index_limits(kind: u32, configuration: &[u32]) -> Script {
+    let mut script = Script::new(kind, configuration);
     for offset in [0x020, 0x024, 0x028, 0x02C, 0x034, 0x038] {
         let count = configuration[if offset < 0x030 { 0 } else { 2 }];
         for index in [0, count - 1, count, 0x400, 0x8000_0000, u32::MAX] {
@@ -367,8 +385,8 @@ fn index_limits(configuration: &[u32]) -> Script {
 }
 
 /// The first and last register of both maps: the largest byte, the first that is refused, and spare bytes.
-fn map_limits(configuration: &[u32]) -> Script {
-    let mut script = Script::new(2, configuration);
+fn map_limits(kind: u32, configuration: &[u32]) -> Script {
+    let mut script = Script::new(kind, configuration);
     let maps = [
         (0x400, configuration[0], configuration[1]),
         (0x800, configuration[1], configuration[2]),
@@ -391,9 +409,9 @@ fn map_limits(configuration: &[u32]) -> Script {
 }
 
 /// Systems mapped each to a channel and a host of its own where there are enough, raised, cleared, masked, unmasked.
-fn one_host_each(configuration: &[u32]) -> Script {
+fn one_host_each(kind: u32, configuration: &[u32]) -> Script {
     let (systems, channels, hosts) = (configuration[0], configuration[1], configuration[2]);
-    let mut script = Script::new(2, configuration);
+    let mut script = Script::new(kind, configuration);
     let entries = |count: u32, limit: u32, register: u32| {
         let byte = |place| {
             let entry = 4 * register + place;
@@ -450,6 +468,7 @@ fn short_traces() -> Vec<Script> {
         Script::new(1, &[8, 32, 1, 0]),
         Script::new(2, &[33, 2, 2, 0x4E82_0000]),
         Script::new(AINTC, &[]),
+        Script::new(INDEXED, &[33, 2, 2, 0x4E82_0000, 1]),
     ];
     for script in &mut scripts {
         script.read(0x10);
@@ -482,12 +501,13 @@ fn forms() -> Vec<Script> {
 }
 
 /// A trace of each kind with two values wherever a number has no limit; what is kept of them is read back.
-fn of_values(least: u32, most: u32) -> [Script; 4] {
+fn of_values(least: u32, most: u32) -> [Script; 5] {
     let kinds = [
         (Script::new(0, &[least, most]), 0x134),
         (Script::new(1, &[8, 32, 1, 0]), 0x20),
         (Script::new(2, &[33, 2, 2, most]), 0x300),
         (Script::new(AINTC, &[]), 0x84),
+        (Script::new(INDEXED, &[33, 2, 2, most, 1]), 0x300),
     ];
     kinds.map(|(mut script, register)| {
         for value in [least, most] {
@@ -522,11 +542,11 @@ fn defects() -> Vec<Script> {
 /// Unknown kinds and steps, and configuration numbers just beyond their limits and far beyond; in longer forms too.
 fn unknown_and_beyond() -> Vec<Script> {
     let mut scripts = Vec::new();
-    for kind in [4, 0x83, 0x84, u32::MAX] {
+    for kind in [5, 0x83, 0x84, u32::MAX] {
         scripts.push(Script::new(kind, &[0, 0, 0, 0]));
     }
     for width in 2..=NUMBER_BYTES {
-        scripts.push(Script::new(4, &[0, 0, 0, 0]).rewritten(|| width));
+        scripts.push(Script::new(5, &[0, 0, 0, 0]).rewritten(|| width));
         for step in [0, 4] {
             let mut script = papers_example();
             script.number(step);
@@ -539,18 +559,22 @@ fn unknown_and_beyond() -> Vec<Script> {
             scripts.push(script);
         }
     }
-    let sound = [(1, [8, 32, 1, 1]), (2, [1_024, 256, 256, u32::MAX])];
+    let sound: [(u32, &[u32]); 3] = [
+        (1, &[8, 32, 1, 1]),
+        (2, &[1_024, 256, 256, u32::MAX]),
+        (INDEXED, &[1_024, 256, 256, u32::MAX, 1]),
+    ];
     for (kind, most) in sound {
-        scripts.push(Script::new(kind, &most));
-        for place in 0..4 {
-            for number in [0, most[place].wrapping_add(1), u32::MAX] {
-                let mut configuration = most;
+        scripts.push(Script::new(kind, most));
+        for place in 0..most.len() {
+            let with = |number: u32| {
+                let mut configuration = most.to_vec();
                 configuration[place] = number;
-                scripts.push(Script::new(kind, &configuration));
-            }
-            let mut configuration = most;
-            configuration[place] = configuration[place].wrapping_add(1);
-            scripts.push(Script::new(kind, &configuration).rewritten(|| NUMBER_BYTES - place));
+                Script::new(kind, &configuration)
+            };
+            let beyond = most[place].wrapping_add(1);
+            scripts.extend([0, beyond, u32::MAX].map(with));
+            scripts.push(with(beyond).rewritten(|| NUMBER_BYTES - place % 4));
         }
     }
     scripts

@@ -62,7 +62,7 @@ impl Register {
 }
 
 /// A row of bits, 32 to a word, of which only the first `count` exist: the others read 0 and cannot be set.
-#[derive(Clone, Debug, PartialEq, Eq)]
+#[derive(Clone, Debug, PartialEq, Eq, Hash)]
 pub struct Bits<const WORDS: usize> {
     words: [u32; WORDS],
     count: usize,
@@ -121,7 +121,7 @@ impl<const WORDS: usize> Bits<WORDS> {
 }
 
 /// The whole controller. The lengths of the two maps are the numbers of systems and of channels.
-#[derive(Clone, Debug, PartialEq, Eq)]
+#[derive(Clone, Debug, PartialEq, Eq, Hash)]
 pub struct Cic {
     revision: u32,
     global_enable: bool,
@@ -178,6 +178,27 @@ impl Cic {
 
     pub fn host_enable(&self) -> &Bits<8> {
         &self.host_enable
+    }
+
+    /// The channel that a system is mapped to.
+    pub fn channel_of(&self, system: usize) -> usize {
+        usize::from(self.channel_of_system[system])
+    }
+
+    /// The host that a channel is mapped to.
+    pub fn host_of(&self, channel: usize) -> usize {
+        usize::from(self.host_of_channel[channel])
+    }
+
+    /// The systems that are set and enabled, the lowest first.
+    pub fn active(&self) -> impl Iterator<Item = usize> + '_ {
+        let words = 0..self.systems().div_ceil(32);
+        words.flat_map(|word| {
+            let requests = self.status.word(word) & self.enable.word(word);
+            let bits = if requests == 0 { 0..0 } else { 0..32 };
+            let set = bits.filter(move |bit| requests >> bit & 1 == 1);
+            set.map(move |bit| 32 * word + bit)
+        })
     }
 
     /// The hosts that some set and enabled system reaches through its channel. No host enable is asked.

@@ -4,11 +4,13 @@ pub mod aic;
 pub mod aintc;
 pub mod cic;
 pub mod core;
+pub mod indexed;
 
 use self::aic::Aic;
 use self::aintc::Aintc;
 use self::cic::Cic;
 use self::core::CoreInterrupt;
+use self::indexed::Indexed;
 
 /// One step of a trace: a register is read or written, or an input line takes a level (01, house trace).
 #[derive(Clone, Copy, Debug, PartialEq, Eq)]
@@ -119,25 +121,34 @@ pub trait Controller {
     }
 }
 
-/// The kinds of controller that a trace can name (01, house trace; 02, 2/12).
+/// The kinds of controller that a trace can name (01, house trace; 02, 2/12 and 6/12).
 #[derive(Clone, Copy, Debug, PartialEq, Eq, PartialOrd, Ord, Hash)]
 pub enum Kind {
     Aic,
     Core,
     Cic,
     Aintc,
+    Indexed,
 }
 
 impl Kind {
-    pub const ALL: [Kind; 4] = [Kind::Aic, Kind::Core, Kind::Cic, Kind::Aintc];
+    pub const ALL: [Kind; 5] = [Kind::Aic, Kind::Core, Kind::Cic, Kind::Aintc, Kind::Indexed];
 
-    /// The name that opens the listing.
+    /// The name that opens the listing; a CIC is one with prioritised indices too (02, 6/12).
     pub fn name(self) -> &'static str {
         match self {
             Kind::Aic => "AIC",
             Kind::Core => "COREINTERRUPT",
-            Kind::Cic => "CIC",
+            Kind::Cic | Kind::Indexed => "CIC",
             Kind::Aintc => "AINTC",
+        }
+    }
+
+    /// The name in a report, by which every kind can be told from the others.
+    pub fn told(self) -> &'static str {
+        match self {
+            Kind::Indexed => "CIC with indices",
+            other => other.name(),
         }
     }
 
@@ -154,6 +165,7 @@ pub enum Machine {
     Core(CoreInterrupt),
     Cic(Box<Cic>),
     Aintc(Box<Aintc>),
+    Indexed(Box<Indexed>),
 }
 
 impl Machine {
@@ -163,6 +175,7 @@ impl Machine {
             Machine::Core(_) => Kind::Core,
             Machine::Cic(_) => Kind::Cic,
             Machine::Aintc(_) => Kind::Aintc,
+            Machine::Indexed(_) => Kind::Indexed,
         }
     }
 
@@ -172,6 +185,7 @@ impl Machine {
             Machine::Core(core) => core.step(recorded.step),
             Machine::Cic(cic) => cic.step(recorded.step),
             Machine::Aintc(aintc) => aintc.recorded(recorded),
+            Machine::Indexed(indexed) => indexed.step(recorded.step),
         }
     }
 
@@ -181,6 +195,7 @@ impl Machine {
             Machine::Core(core) => core.shown(),
             Machine::Cic(cic) => cic.shown(),
             Machine::Aintc(aintc) => aintc.shown(),
+            Machine::Indexed(indexed) => indexed.shown(),
         }
     }
 }

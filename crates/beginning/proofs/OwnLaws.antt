@@ -1,4 +1,4 @@
--- A machine at its beginning holds nothing but the record of its kind: the record alone gives it back.
+-- A machine at its beginning holds nothing but the record of its kind: of a kind with a loop of its own the record alone gives it back.
 use Prim.Native.Nat.{ℕ}
 use mathlib.Core.Path.{_≡_, refl, subst}
 use mathlib.Core.List.{List}
@@ -6,12 +6,13 @@ use native.Mathlib.Omega.{arith}
 use Rattle.aic_record.specs.declared.Aic.{Aic}
 use Rattle.aintc_record.specs.declared.Aintc.{Aintc}
 use Rattle.cic_record.specs.declared.Cic.{Cic}
+use Rattle.cic_held.specs.declared.Prioritised.{Prioritised}
 use Rattle.coreinterrupt.specs.declared.Core.{Core}
 use Rattle.kinds.specs.declared.Configuration.{Configuration}
 use Rattle.kinds.specs.Kinds.{aicKind, coreKind, cicKind, aintcKind}
-use Rattle.kinds.proofs.KindLaws.{KindOf, isAic, isCore, isCic, isAintc, isNone, kind-of, at-aic, at-core, at-cic, at-aintc, at-none}
+use Rattle.kinds.proofs.KindLaws.{KindOf, isAic, isCore, isCic, isAintc, isIndexed, isNone, kind-of, at-aic, at-core, at-cic, at-aintc, at-indexed, at-none}
 use Rattle.machine_record.specs.declared.Machine.{Machine}
-use Rattle.machine_record.specs.Machine.{blank, ofAic, ofCore, ofCic, ofAintc, start}
+use Rattle.machine_record.specs.Machine.{blank, ofAic, ofCore, ofCic, ofAintc, ofIndexed, start}
 use Rattle.beginning.specs.declared.Begun.{Begun}
 use Rattle.beginning.specs.Begin.{beginOf}
 use Rattle.beginning.proofs.BeginningLaws.{Beginning, overlong, damagedAt, noKind, beyondAt, configured, beginning}
@@ -36,6 +37,11 @@ own-cic c = record { aic = λ k. absurd (omega arith); core = λ k. absurd (omeg
 own-aintc : (a : Aintc) → Own (ofAintc a)
 own-aintc a = record { aic = λ k. absurd (omega arith); core = λ k. absurd (omega arith); cic = λ k. absurd (omega arith); aintc = λ k. refl }
 
+-- a CIC with prioritised indices is none of these: its machine goes through the loop over any machine
+own-indexed : (p : Prioritised) → Own (ofIndexed p)
+own-indexed p =
+    record { aic = λ k. absurd (omega arith); core = λ k. absurd (omega arith); cic = λ k. absurd (omega arith); aintc = λ k. absurd (omega arith) }
+
 own-blank : Own blank
 own-blank = own-aic (blank .aic)
 
@@ -50,7 +56,8 @@ own-start kind c = go (kind-of kind)
     go (isCore k) = subst Own (at-core kind _ k) (own-core _)
     go (isCic k) = subst Own (at-cic kind _ k) (own-cic _)
     go (isAintc k) = subst Own (at-aintc kind _ k) (own-aintc _)
-    go (isNone a b c d) = subst Own (at-none kind _ a b c d) own-blank
+    go (isIndexed k) = subst Own (at-indexed kind _ k) (own-indexed _)
+    go (isNone a b c d e) = subst Own (at-none kind _ a b c d e) own-blank
 
 pub begun-own : (s : List ℕ) (b : Begun) → b ≡ beginOf s → Own (b .machine)
 begun-own s b e = go b (rw e (beginning s))

@@ -9,6 +9,6 @@ use Rattle.kinds.specs.declared.Configuration.{Configuration}
 use Rattle.kinds.specs.Configuration.{withNumber}
 
 -- past the last number nothing changes
-pub number-past : (c : Configuration) (nth v : ℕ) → length (c .numbers) ≡ 4 → 4 ≤ nth → c ≡ withNumber c nth v
+pub number-past : (c : Configuration) (nth v : ℕ) → length (c .numbers) ≡ 5 → 5 ≤ nth → c ≡ withNumber c nth v
 unfolding withNumber
 number-past c nth v h l = ap (λ (ns : List ℕ). record { numbers = ns }) (sym (set-out (c .numbers) nth v (omega arith)))

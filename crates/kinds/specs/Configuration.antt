@@ -6,7 +6,7 @@ use Rattle.kinds.specs.declared.Configuration.{Configuration}
 
 -- none yet
 abbrev pub noNumbers : Configuration
-noNumbers = record { numbers = 0 ∷ 0 ∷ 0 ∷ 0 ∷ [] }
+noNumbers = record { numbers = 0 ∷ 0 ∷ 0 ∷ 0 ∷ 0 ∷ [] }
 
 -- the nth put anew
 unfoldable pub withNumber : Configuration → ℕ → ℕ → Configuration

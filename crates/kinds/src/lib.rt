@@ -1,5 +1,5 @@
 // The kinds of controller: the number and the name of each, the numbers that configure it, and whether its steps tell a privilege. What a kind does is
-// `machine`'s; above it only `player` and `listing` tell one kind from another, to choose its loop (01, "House trace"; 02, 2/12).
+// `machine`'s; above it only `player` and `listing` tell one kind from another, to choose its loop (01, "House trace"; 02, 2/12 and 6/12).
 ghost use mathlib.Core.Path.{_≡_};
 ghost use Rattle.text.specs.Text.{write};
 ghost use Rattle.kinds.specs.Kinds.{isKind, wanted, within, tellsPrivilege, name};
@@ -7,7 +7,7 @@ ghost use Rattle.kinds.specs.Configuration.{noNumbers, withNumber};
 
 // The numbers of a configuration in their order; one that was not put yet is 0.
 pub struct Configuration {
-    pub numbers: [u32; 4],
+    pub numbers: [u32; 5],
 }
 
 pub const AIC: u32 = 0;
@@ -18,13 +18,16 @@ pub const CIC: u32 = 2;
 
 pub const AINTC: u32 = 3;
 
+// A CIC with prioritised indices.
+pub const INDEXED: u32 = 4;
+
 // ---- kinds
 
 // Whether there is a controller of this kind.
 pub fn is_kind(kind: u32) -> bool
     ensures { λ r. ⌜ r ≡ isKind kind ⌝ }
 {
-    (kind == AIC) | (kind == CORE) | (kind == CIC) | (kind == AINTC)
+    (kind == AIC) | (kind == CORE) | (kind == CIC) | (kind == AINTC) | (kind == INDEXED)
 }
 
 // How many numbers configure a kind; an AINTC has none.
@@ -39,6 +42,9 @@ pub fn wanted(kind: u32) -> u32
     }
     if kind == CIC {
         return 4;
+    }
+    if kind == INDEXED {
+        return 5;
     }
     0
 }
@@ -56,6 +62,9 @@ pub fn within(kind: u32, nth: u32, value: u32) -> bool
     if kind == CIC {
         return cic::within(nth, value);
     }
+    if kind == INDEXED {
+        return cic_prioritised::within(nth, value);
+    }
     false
 }
 
@@ -66,7 +75,7 @@ pub fn tells_privilege(kind: u32) -> bool
     kind == AINTC
 }
 
-// The line with the name of a kind; nothing for any other number.
+// The line with the name of a kind, that of the CIC with or without prioritised indices; nothing for any other number.
 pub fn put_name(out: &mut [u8], at: usize, kind: u32) -> usize
     ensures { λ r. ⌜ (now (out .exit), r) ≡ write (now (out .entry), at) (name kind) ⌝ }
 {
@@ -82,6 +91,9 @@ pub fn put_name(out: &mut [u8], at: usize, kind: u32) -> usize
     if kind == AINTC {
         return text::put_all(out, at, b"AINTC\n");
     }
+    if kind == INDEXED {
+        return text::put_all(out, at, b"CIC\n");
+    }
     at
 }
 
@@ -91,14 +103,14 @@ pub fn put_name(out: &mut [u8], at: usize, kind: u32) -> usize
 pub fn no_numbers() -> Configuration
     ensures { λ r. ⌜ r ≡ noNumbers ⌝ }
 {
-    Configuration { numbers: [0; 4] }
+    Configuration { numbers: [0; 5] }
 }
 
 // A configuration with its nth number put anew. Past the last one nothing changes.
 pub fn with_number(c: Configuration, nth: u32, v: u32) -> Configuration
     ensures { λ r. ⌜ r ≡ withNumber c nth v ⌝ }
 {
-    if 4 <= nth {
+    if 5 <= nth {
         return c;
     }
     let at = nth as usize;

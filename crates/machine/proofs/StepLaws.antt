@@ -1,7 +1,7 @@
 -- Steps of a machine by its kind: what they are, that they keep it sound, and what a refused one answers.
 use Prim.Native.Nat.{ℕ}
 use mathlib.Core.Path.{_≡_, refl, sym, ap, _∙_}
-use mathlib.Core.Bool.{false}
+use mathlib.Core.Bool.{true, false}
 use mathlib.Core.Logic.{_↔_, _≢_}
 use native.Mathlib.Omega.{arith}
 use Rattle.steps.specs.declared.Recorded.{Recorded}
@@ -16,17 +16,21 @@ use Rattle.coreinterrupt.proofs.Promises.{kept as core}
 use Rattle.cic_record.specs.Sound.{sound as cicSound}
 use Rattle.cic_steps.specs.Model.{step as cicStep, stepAs}
 use Rattle.cic.proofs.Promises.{kept as cic}
+use Rattle.cic_held.specs.declared.Prioritised.{Prioritised}
+use Rattle.cic_held.specs.Held.{sound as indexedSound}
+use Rattle.cic_prioritised.specs.Model.{step as indexedStep}
+use Rattle.cic_indexed.proofs.Promises.{kept as prioritised}
 use Rattle.aintc_choice.specs.Settle.{sound as aintcSound}
 use Rattle.aintc.specs.Model.{step as aintcStep}
 use Rattle.aintc.proofs.Promises.{kept as aintc}
 use Rattle.machine.specs.declared.Answer.{Answer}
 use Rattle.machine_record.specs.declared.Machine.{Machine}
-use Rattle.kinds.specs.Kinds.{aicKind, coreKind, cicKind, aintcKind}
-use Rattle.machine_record.specs.Machine.{sound}
-use Rattle.machine.specs.Steps.{afterAic, afterCore, afterCic, afterAintc, refused, step}
+use Rattle.kinds.specs.Kinds.{aicKind, coreKind, cicKind, aintcKind, indexedKind}
+use Rattle.machine_record.specs.Machine.{indexed, sound}
+use Rattle.machine.specs.Steps.{afterAic, afterCore, afterCic, afterAintc, afterIndexed, refused, step}
 use Rattle.machine_record.specs.Promises.{Ready}
-use Rattle.kinds.proofs.KindLaws.{KindOf, isAic, isCore, isCic, isAintc, isNone, kind-of, at-aic, at-core, at-cic, at-aintc, at-none}
-use Rattle.machine_record.proofs.MachineLaws.{sound-aic, sound-core, sound-cic, sound-aintc, sound-none}
+use Rattle.kinds.proofs.KindLaws.{KindOf, isAic, isCore, isCic, isAintc, isIndexed, isNone, kind-of, at-aic, at-core, at-cic, at-aintc, at-indexed, at-none}
+use Rattle.machine_record.proofs.MachineLaws.{sound-aic, sound-core, sound-cic, sound-aintc, sound-indexed, sound-none}
 
 -- ---- the step of each kind
 
@@ -47,9 +51,17 @@ module _ (m : Machine) (x : Recorded) where
   unfolding step
   aintc-steps e = sym (at-aintc (m .kind) _ e)
 
-  pub no-steps : m .kind ≢ aicKind → m .kind ≢ coreKind → m .kind ≢ cicKind → m .kind ≢ aintcKind → step m x ≡ refused m unsound
+  pub indexed-steps : m .kind ≡ indexedKind → step m x ≡ afterIndexed m (indexedStep (indexed m) (x .step))
   unfolding step
-  no-steps e f g h = sym (at-none (m .kind) _ e f g h)
+  indexed-steps e = sym (at-indexed (m .kind) _ e)
+
+  -- with the choice off it is that of a CIC
+  pub indexed-off : m .kind ≡ indexedKind → sound m ≡ true → m .held .choice ≡ 0 → step m x ≡ afterCic m (cicStep (m .cic) (x .step))
+  indexed-off k s e = indexed-steps k ∙ ap (afterIndexed m) (prioritised .off (indexed m) (x .step) (sound-indexed m k ∙ s) e)
+
+  pub no-steps : m .kind ≢ aicKind → m .kind ≢ coreKind → m .kind ≢ cicKind → m .kind ≢ aintcKind → m .kind ≢ indexedKind → step m x ≡ refused m unsound
+  unfolding step
+  no-steps e f g h i = sym (at-none (m .kind) _ e f g h i)
 
   -- ---- soundness
 
@@ -65,7 +77,8 @@ module _ (m : Machine) (x : Recorded) where
       go (isCore k) = rw (core-steps k) (sym (sound-core _ k) ∙ core .stepSound (m .core) (x .step) (sound-core m k ∙ r .0), r .1)
       go (isCic k) = rw (cic-steps k) (sym (sound-cic _ k) ∙ cic .stepSound (m .cic) (x .step) (sound-cic m k ∙ r .0), r .1)
       go (isAintc k) = rw (aintc-steps k) (sym (sound-aintc _ k) ∙ aintc .stepSound (m .aintc) (x .privilege) (x .step) (sound-aintc m k ∙ r .0), r .1)
-      go (isNone a b c d) = rw (no-steps a b c d) r
+      go (isIndexed k) = rw (indexed-steps k) (sym (sound-indexed _ k) ∙ prioritised .stepSound (indexed m) (x .step) (sound-indexed m k ∙ r .0), r .1)
+      go (isNone a b c d e) = rw (no-steps a b c d e) r
 
   pub step-kind : step m x .machine .kind ≡ m .kind
   step-kind = go (kind-of (m .kind))
@@ -75,7 +88,8 @@ module _ (m : Machine) (x : Recorded) where
       go (isCore k) = ap (λ (a : Answer). a .machine .kind) (core-steps k)
       go (isCic k) = ap (λ (a : Answer). a .machine .kind) (cic-steps k)
       go (isAintc k) = ap (λ (a : Answer). a .machine .kind) (aintc-steps k)
-      go (isNone a b c d) = ap (λ (r : Answer). r .machine .kind) (no-steps a b c d)
+      go (isIndexed k) = ap (λ (a : Answer). a .machine .kind) (indexed-steps k)
+      go (isNone a b c d e) = ap (λ (r : Answer). r .machine .kind) (no-steps a b c d e)
 
   -- ---- refusals
 
@@ -90,7 +104,8 @@ module _ (m : Machine) (x : Recorded) where
       go (isCore k) = rw (core-steps k) (λ z. ap (afterCore m) (core .refusedSame (m .core) (x .step) z))
       go (isCic k) = rw (cic-steps k) (λ z. ap (afterCic m) (cic .refusedSame (m .cic) (x .step) z))
       go (isAintc k) = rw (aintc-steps k) (λ z. ap (afterAintc m) (aintc .refusedSame (m .aintc) (x .privilege) (x .step) z))
-      go (isNone a b c d) = rw (no-steps a b c d) (λ z. refl)
+      go (isIndexed k) = rw (indexed-steps k) (λ z. ap (afterIndexed m) (prioritised .refusedSame (indexed m) (x .step) z))
+      go (isNone a b c d e) = rw (no-steps a b c d e) (λ z. refl)
 
 -- ---- 12
 
@@ -115,6 +130,11 @@ aintc-twelve m p (Read o) = aintc .readNumbers (m .aintc) p o .twelve
 aintc-twelve m p (Write o v) = aintc .writeNumbers (m .aintc) p o v .twelve
 aintc-twelve m p (Line k l) = aintc .lineNumbers (m .aintc) k l .twelve
 
+indexed-twelve : (p : Prioritised) (x : Step) → (indexedStep p x .refusal ≡ unsound) ↔ (indexedSound p ≡ false)
+indexed-twelve p (Read o) = prioritised .readNumbers p o .twelve
+indexed-twelve p (Write o v) = prioritised .writeNumbers p o v .twelve
+indexed-twelve p (Line k l) = prioritised .lineNumbers p k l .twelve
+
 pub twelve : (m : Machine) (x : Recorded) → (step m x .refusal ≡ unsound) ↔ (sound m ≡ false)
 twelve m x = go (kind-of (m .kind))
   where
@@ -123,7 +143,8 @@ twelve m x = go (kind-of (m .kind))
     go (isCore k) = rw (core-steps m x k) (rw (sym (sound-core m k)) (core-twelve m (x .step)))
     go (isCic k) = rw (cic-steps m x k) (rw (sym (sound-cic m k)) (cic-twelve m (x .step)))
     go (isAintc k) = rw (aintc-steps m x k) (rw (sym (sound-aintc m k)) (aintc-twelve m (x .privilege) (x .step)))
-    go (isNone a b c d) = rw (no-steps m x a b c d) (λ z. sym (sound-none m a b c d), λ z. refl)
+    go (isIndexed k) = rw (indexed-steps m x k) (rw (sym (sound-indexed m k)) (indexed-twelve (indexed m) (x .step)))
+    go (isNone a b c d e) = rw (no-steps m x a b c d e) (λ z. sym (sound-none m a b c d e), λ z. refl)
 
 -- a machine that is not sound refuses every step by 12
 pub unsound-step : (m : Machine) (x : Recorded) → sound m ≡ false → refused m unsound ≡ step m x

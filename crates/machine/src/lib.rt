@@ -1,5 +1,6 @@
 // The steps of one controller of any kind. What a new kind does comes here, its record, start and columns to `machine_record`, its number, name and
-// configuration to `kinds`; of the crates above `player` and `listing` may choose a loop for it, and play it without one (01, "House trace"; 02, 2/12).
+// configuration to `kinds`; of the crates above `player` and `listing` may choose a loop for it, and play it without one (01, "House trace"; 02, 2/12
+// and 6/12).
 ghost use mathlib.Core.Path.{_≡_};
 ghost use mathlib.Core.Bool.{true};
 ghost use Rattle.aic_record.specs.Sound.{sound as aicSound};
@@ -7,10 +8,12 @@ ghost use Rattle.aic.specs.Model.{step as aicStep};
 ghost use Rattle.coreinterrupt.specs.Model.{sound as coreSound, step as coreStep};
 ghost use Rattle.cic_record.specs.Sound.{sound as cicSound};
 ghost use Rattle.cic_steps.specs.Model.{step as cicStep};
+ghost use Rattle.cic_held.specs.Held.{sound as indexedSound};
+ghost use Rattle.cic_prioritised.specs.Model.{step as indexedStep};
 ghost use Rattle.aintc_choice.specs.Settle.{sound as aintcSound};
 ghost use Rattle.aintc.specs.Model.{step as aintcStep};
-ghost use Rattle.machine_record.specs.Machine.{sound};
-ghost use Rattle.machine.specs.Steps.{afterAic, afterCore, afterCic, afterAintc, step};
+ghost use Rattle.machine_record.specs.Machine.{indexed, sound};
+ghost use Rattle.machine.specs.Steps.{afterAic, afterCore, afterCic, afterAintc, afterIndexed, step};
 use machine_record::Machine;
 use steps::Recorded;
 
@@ -90,6 +93,27 @@ fn aintc_step(m: Machine, x: Recorded) -> Answer
     }
 }
 
+// The CIC and what is held beside it are both put back.
+fn indexed_step(m: Machine, x: Recorded) -> Answer
+    requires { ⌜ indexedSound (indexed m) ≡ true ⌝ }
+    ensures { λ r. ⌜ r ≡ afterIndexed m (indexedStep (indexed m) (x .step)) ⌝ }
+{
+    let s = machine_record::indexed(m);
+    let y = x.step;
+    let a = cic_prioritised::step_sound(s, y);
+    let t = a.prioritised;
+    let c = t.cic;
+    let h = t.held;
+    let mut n = m;
+    n.cic = c;
+    n.held = h;
+    Answer {
+        refusal: a.refusal,
+        value: a.value,
+        machine: n,
+    }
+}
+
 // A step of a machine that is known to be sound, as after a start and after every step: it is not looked at again.
 pub fn step_sound(m: Machine, x: Recorded) -> Answer
     requires { ⌜ sound m ≡ true ⌝ }
@@ -105,7 +129,10 @@ pub fn step_sound(m: Machine, x: Recorded) -> Answer
     if kind == kinds::CIC {
         return cic_step(m, x);
     }
-    aintc_step(m, x)
+    if kind == kinds::AINTC {
+        return aintc_step(m, x);
+    }
+    indexed_step(m, x)
 }
 
 // A step of any machine; one that is not sound is refused by 12.

@@ -6,6 +6,7 @@ use mathlib.Core.List.{List, [], _∷_}
 use mathlib.Core.Logic.{_≢_, ⊎-elim}
 use native.Mathlib.Omega.{arith}
 use lib.ListN.{length}
+use borrow.Author.Tests.{eq-eqb}
 use Rattle.words.specs.Choice.{pick}
 use Rattle.words.proofs.ChoiceLaws.{pick-true}
 use Rattle.words.proofs.TruthLaws.{and-both}
@@ -21,16 +22,19 @@ use Rattle.cic_record.specs.declared.Begun.{Begun as CicBegun}
 use Rattle.cic_record.specs.Sound.{within as cicWithin, sound as cicSound}
 use Rattle.cic_record.specs.Start.{fresh, configured, start as cicStart}
 use Rattle.cic_record.proofs.Promises.{kept as cic}
+use Rattle.cic_held.specs.declared.Begun.{Begun as IndexedBegun}
+use Rattle.cic_held.specs.Held.{within as indexedWithin, sound as indexedSound, start as indexedStart}
+use Rattle.cic_held.proofs.Promises.{kept as held}
 use Rattle.aintc_choice.specs.Settle.{sound as aintcSound}
 use Rattle.aintc.specs.Model.{start as aintcStart}
 use Rattle.aintc.proofs.Promises.{kept as aintc}
 use Rattle.kinds.specs.Configuration.{withNumber, filled}
-use Rattle.kinds.specs.Kinds.{aicKind, coreKind, cicKind, aintcKind, byKind, isKind, wanted, within}
+use Rattle.kinds.specs.Kinds.{aicKind, coreKind, cicKind, aintcKind, indexedKind, byKind, isKind, wanted, within}
 use Rattle.kinds.specs.Promises.{Within}
-use Rattle.kinds.proofs.KindLaws.{KindOf, isAic, isCore, isCic, isAintc, isNone, kind-of, at-aic, at-core, at-cic, at-aintc, at-none, known}
+use Rattle.kinds.proofs.KindLaws.{KindOf, isAic, isCore, isCic, isAintc, isIndexed, isNone, kind-of, at-aic, at-core, at-cic, at-aintc, at-indexed, at-none, known}
 use Rattle.kinds.proofs.Promises.{kept as kinds}
 use Rattle.machine_record.specs.declared.Machine.{Machine}
-use Rattle.machine_record.specs.Machine.{ofAic, ofCore, ofCic, ofAintc, start, sound}
+use Rattle.machine_record.specs.Machine.{ofAic, ofCore, ofCic, ofAintc, ofIndexed, indexed, start, sound}
 use Rattle.machine_record.specs.Promises.{startWith, Ready}
 
 -- ---- records of zeros
@@ -60,20 +64,25 @@ pub sound-aintc : (m : Machine) → m .kind ≡ aintcKind → aintcSound (m .ain
 unfolding sound
 sound-aintc m e = at-aintc (m .kind) _ e
 
-pub sound-none : (m : Machine) → m .kind ≢ aicKind → m .kind ≢ coreKind → m .kind ≢ cicKind → m .kind ≢ aintcKind → false ≡ sound m
+pub sound-indexed : (m : Machine) → m .kind ≡ indexedKind → indexedSound (indexed m) ≡ sound m
 unfolding sound
-sound-none m e f g h = at-none (m .kind) _ e f g h
+sound-indexed m e = at-indexed (m .kind) _ e
 
--- a sound machine that is none of the first three kinds is of the fourth
-pub fourth-kind : (m : Machine) → sound m ≡ true → m .kind ≢ aicKind → m .kind ≢ coreKind → m .kind ≢ cicKind → m .kind ≡ aintcKind
-fourth-kind m s e f g = go (kind-of (m .kind))
+pub sound-none : (m : Machine) → m .kind ≢ aicKind → m .kind ≢ coreKind → m .kind ≢ cicKind → m .kind ≢ aintcKind → m .kind ≢ indexedKind → false ≡ sound m
+unfolding sound
+sound-none m e f g h i = at-none (m .kind) _ e f g h i
+
+-- a sound machine that is none of the first four kinds is of the fifth
+pub fifth-kind : (m : Machine) → sound m ≡ true → m .kind ≢ aicKind → m .kind ≢ coreKind → m .kind ≢ cicKind → m .kind ≢ aintcKind → m .kind ≡ indexedKind
+fifth-kind m s e f g h = go (kind-of (m .kind))
   where
-    go : KindOf (m .kind) → m .kind ≡ aintcKind
+    go : KindOf (m .kind) → m .kind ≡ indexedKind
     go (isAic k) = absurd (e k)
     go (isCore k) = absurd (f k)
     go (isCic k) = absurd (g k)
-    go (isAintc k) = k
-    go (isNone a b c d) = absurd (false≢true (sound-none m a b c d ∙ s))
+    go (isAintc k) = absurd (h k)
+    go (isIndexed k) = k
+    go (isNone a b c d i) = absurd (false≢true (sound-none m a b c d i ∙ s))
 
 -- ---- starts
 
@@ -93,6 +102,10 @@ pub aintc-starts : startWith aintcKind [] ≡ ofAintc (aintcStart .aintc)
 unfolding start filled withNumber byKind pick
 aintc-starts = refl
 
+pub indexed-starts : (a b c d e : ℕ) → startWith indexedKind (a ∷ b ∷ c ∷ d ∷ e ∷ []) ≡ ofIndexed (indexedStart a b c d e .prioritised)
+unfolding start filled withNumber byKind pick
+indexed-starts a b c d e = refl
+
 aic-ready : (ns : List ℕ) → length ns ≡ 2 → Ready (startWith aicKind ns)
 aic-ready [] l = absurd (omega arith)
 aic-ready (a ∷ []) l = absurd (omega arith)
@@ -109,12 +122,13 @@ core-ready (a ∷ b ∷ c ∷ d ∷ []) l =
 core-ready (a ∷ b ∷ c ∷ d ∷ e ∷ ns) l = absurd (omega arith)
 
 -- numbers within their limits start a CIC
-cic-start-sound : (a b c d : ℕ) → cicWithin 0 a ≡ true → cicWithin 1 b ≡ true → cicWithin 2 c ≡ true → cicWithin 3 d ≡ true
-    → cicSound (cicStart a b c d .cic) ≡ true
+cic-start-taken : (a b c d : ℕ) → cicWithin 0 a ≡ true → cicWithin 1 b ≡ true → cicWithin 2 c ≡ true → cicWithin 3 d ≡ true
+    → cicStart a b c d .refusal ≡ carriedOut
 unfolding cicStart configured
-cic-start-sound a b c d e f g h =
-    let z : cicStart a b c d .refusal ≡ carriedOut = ap (λ (r : CicBegun). r .refusal) (sym (pick-true _ (and-both e (and-both f (and-both g h))))) in
-    cic .startSound a b c d (cic .startTaken a b c d .0 z) .0
+cic-start-taken a b c d e f g h = ap (λ (r : CicBegun). r .refusal) (sym (pick-true _ (and-both e (and-both f (and-both g h)))))
+
+cic-start-sound : (a b c d : ℕ) → cicStart a b c d .refusal ≡ carriedOut → cicSound (cicStart a b c d .cic) ≡ true
+cic-start-sound a b c d z = cic .startSound a b c d (cic .startTaken a b c d .0 z) .0
 
 cic-ready : (ns : List ℕ) → length ns ≡ 4 → Within cicKind 0 ns → Ready (startWith cicKind ns)
 unfolding within byKind pick
@@ -124,7 +138,7 @@ cic-ready (a ∷ b ∷ []) l w = absurd (omega arith)
 cic-ready (a ∷ b ∷ c ∷ []) l w = absurd (omega arith)
 cic-ready (a ∷ b ∷ c ∷ d ∷ []) l w =
     rw (cic-starts a b c d) (
-      sym (sound-cic (ofCic (cicStart a b c d .cic)) refl) ∙ cic-start-sound a b c d (w .0) (w .1 .0) (w .1 .1 .0) (w .1 .1 .1 .0),
+      sym (sound-cic (ofCic (cicStart a b c d .cic)) refl) ∙ cic-start-sound a b c d (cic-start-taken a b c d (w .0) (w .1 .0) (w .1 .1 .0) (w .1 .1 .1 .0)),
       record-kept .resetShaped 0 0,
     )
 cic-ready (a ∷ b ∷ c ∷ d ∷ e ∷ ns) l w = absurd (omega arith)
@@ -132,6 +146,31 @@ cic-ready (a ∷ b ∷ c ∷ d ∷ e ∷ ns) l w = absurd (omega arith)
 aintc-ready : (ns : List ℕ) → length ns ≡ 0 → Ready (startWith aintcKind ns)
 aintc-ready [] l = rw aintc-starts (sym (sound-aintc (ofAintc (aintcStart .aintc)) refl) ∙ aintc .startSound .0, record-kept .resetShaped 0 0)
 aintc-ready (a ∷ ns) l = absurd (omega arith)
+
+-- numbers within their limits start a CIC with prioritised indices
+indexed-start-taken : (a b c d e : ℕ) → cicWithin 0 a ≡ true → cicWithin 1 b ≡ true → cicWithin 2 c ≡ true → cicWithin 3 d ≡ true → indexedWithin 4 e ≡ true
+    → indexedStart a b c d e .refusal ≡ carriedOut
+unfolding indexedStart
+indexed-start-taken a b c d e f g h i j =
+    ap (λ (r : IndexedBegun). r .refusal) (sym (pick-true _ (and-both (eq-eqb _ _ (cic-start-taken a b c d f g h i)) j)))
+
+indexed-start-sound : (a b c d e : ℕ) → indexedStart a b c d e .refusal ≡ carriedOut → indexedSound (indexedStart a b c d e .prioritised) ≡ true
+indexed-start-sound a b c d e z = held .startSound a b c d e (held .startTaken a b c d e .0 z)
+
+indexed-ready : (ns : List ℕ) → length ns ≡ 5 → Within indexedKind 0 ns → Ready (startWith indexedKind ns)
+unfolding within byKind pick indexedWithin
+indexed-ready [] l w = absurd (omega arith)
+indexed-ready (a ∷ []) l w = absurd (omega arith)
+indexed-ready (a ∷ b ∷ []) l w = absurd (omega arith)
+indexed-ready (a ∷ b ∷ c ∷ []) l w = absurd (omega arith)
+indexed-ready (a ∷ b ∷ c ∷ d ∷ []) l w = absurd (omega arith)
+indexed-ready (a ∷ b ∷ c ∷ d ∷ e ∷ []) l w =
+    rw (indexed-starts a b c d e) (
+      sym (sound-indexed (ofIndexed (indexedStart a b c d e .prioritised)) refl)
+          ∙ indexed-start-sound a b c d e (indexed-start-taken a b c d e (w .0) (w .1 .0) (w .1 .1 .0) (w .1 .1 .1 .0) (w .1 .1 .1 .1 .0)),
+      record-kept .resetShaped 0 0,
+    )
+indexed-ready (a ∷ b ∷ c ∷ d ∷ e ∷ f ∷ ns) l w = absurd (omega arith)
 
 -- the start of numbers within their limits is sound
 pub start-ready : (kind : ℕ) (ns : List ℕ) → isKind kind ≡ true → length ns ≡ wanted kind → Within kind 0 ns → Ready (startWith kind ns)
@@ -142,4 +181,5 @@ start-ready kind ns i l w = go (kind-of kind)
     go (isCore k) = rw k (core-ready ns (l ∙ ap wanted k ∙ kinds .coreNumbers))
     go (isCic k) = rw k (cic-ready ns (l ∙ ap wanted k ∙ kinds .cicNumbers) (rw (sym k) w))
     go (isAintc k) = rw k (aintc-ready ns (l ∙ ap wanted k ∙ kinds .aintcNumbers))
-    go (isNone a b c d) = absurd (⊎-elim a (⊎-elim b (⊎-elim c d)) (known kind .0 i))
+    go (isIndexed k) = rw k (indexed-ready ns (l ∙ ap wanted k ∙ kinds .indexedNumbers) (rw (sym k) w))
+    go (isNone a b c d e) = absurd (⊎-elim a (⊎-elim b (⊎-elim c (⊎-elim d e))) (known kind .0 i))

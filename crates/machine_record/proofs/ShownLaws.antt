@@ -5,7 +5,7 @@ use mathlib.Core.Bool.{Bool, true, false}
 use mathlib.Core.Logic.{_≢_, _⊎_, inl, inr}
 use native.Mathlib.Omega.{arith}
 use Rattle.words.specs.Counting.{one}
-use Rattle.words.proofs.ChoiceLaws.{pick-false}
+use Rattle.words.proofs.ChoiceLaws.{pick-true, pick-false}
 use Rattle.words.proofs.CountingLaws.{count-le}
 use Rattle.words.proofs.TruthLaws.{told}
 use Rattle.aic_record.proofs.Promises.{kept as record-kept}
@@ -15,21 +15,40 @@ use Rattle.aic.specs.Model.{outputs as aicOutputs}
 use Rattle.aic.proofs.Promises.{kept as aic}
 use Rattle.coreinterrupt.specs.Model.{outputs as coreOutputs}
 use Rattle.coreinterrupt.proofs.Promises.{kept as core}
+use Rattle.cic_record.specs.declared.Cic.{Cic}
 use Rattle.cic_record.specs.Kinds.{hostNumber}
+use Rattle.cic_record.specs.Sound.{sound as cicSound}
 use Rattle.cic_hosts.specs.Hosts.{asserted, outputs as cicOutputs, shown as cicShown}
 use Rattle.cic_hosts.proofs.Promises.{kept as hosts}
+use Rattle.cic_held.specs.declared.Prioritised.{Prioritised}
+use Rattle.cic_held.specs.Held.{sound as indexedSound}
+use Rattle.cic_held.proofs.Promises.{kept as held}
+use Rattle.cic_prioritised.specs.Model.{outputs as indexedOutputs}
 use Rattle.aintc_record.specs.declared.Chosen.{Chosen}
 use Rattle.aintc_record.specs.Promises.{Bounds}
 use Rattle.aintc_choice.proofs.Promises.{kept as choice}
 use Rattle.aintc.specs.Model.{outputs as aintcOutputs}
 use Rattle.aintc.proofs.Promises.{kept as aintc}
 use Rattle.machine_record.specs.declared.Machine.{Machine}
-use Rattle.kinds.specs.Kinds.{aicKind, coreKind, cicKind, aintcKind}
-use Rattle.machine_record.specs.Machine.{sound}
+use Rattle.kinds.specs.Kinds.{aicKind, coreKind, cicKind, aintcKind, indexedKind}
+use Rattle.machine_record.specs.Machine.{indexed, sound}
 use Rattle.machine_record.specs.Shown.{aicColumns, coreColumns, cicColumns, aintcColumns, noColumns, shown}
 use Rattle.machine_record.specs.Promises.{Small}
-use Rattle.kinds.proofs.KindLaws.{KindOf, isAic, isCore, isCic, isAintc, isNone, kind-of, at-aic, at-core, at-cic, at-aintc, at-none}
-use Rattle.machine_record.proofs.MachineLaws.{sound-aic, sound-core, sound-cic, sound-aintc}
+use Rattle.kinds.proofs.KindLaws.{KindOf, isAic, isCore, isCic, isAintc, isIndexed, isNone, kind-of, at-aic, at-core, at-cic, at-aintc, at-indexed, at-none}
+use Rattle.machine_record.proofs.MachineLaws.{sound-aic, sound-core, sound-cic, sound-aintc, sound-indexed}
+
+-- ---- a CIC, with prioritised indices or without
+
+-- no number that it shows is over 256
+cic-small : (c : Cic) → cicSound c ≡ true → Small (cicColumns (cicOutputs c))
+cic-small c e = (rw (hosts .outputsSound c e) (count-le 256 (λ h. asserted c (hostNumber h))), hosts .lowestMost c e, omega arith)
+
+-- what is held changes no output
+outputs-same : (p : Prioritised) → indexedSound p ≡ true → indexedOutputs p ≡ cicOutputs (p .cic)
+unfolding indexedOutputs cicOutputs
+outputs-same p s = sym (pick-true _ s) ∙ pick-true _ (held .soundIs p .0 s .cic)
+
+-- ---- by kind
 
 module _ (m : Machine) where
   pub aic-shows : m .kind ≡ aicKind → shown m ≡ aicColumns (aicOutputs (m .aic))
@@ -48,13 +67,21 @@ module _ (m : Machine) where
   unfolding shown
   aintc-shows e = sym (at-aintc (m .kind) _ e)
 
-  no-shows : m .kind ≢ aicKind → m .kind ≢ coreKind → m .kind ≢ cicKind → m .kind ≢ aintcKind → shown m ≡ noColumns
+  pub indexed-shows : m .kind ≡ indexedKind → shown m ≡ cicColumns (indexedOutputs (indexed m))
   unfolding shown
-  no-shows e f g h = sym (at-none (m .kind) _ e f g h)
+  indexed-shows e = sym (at-indexed (m .kind) _ e)
+
+  -- of a sound one those are the outputs of its CIC
+  pub indexed-seen : m .kind ≡ indexedKind → sound m ≡ true → shown m ≡ cicColumns (cicOutputs (m .cic))
+  indexed-seen k s = indexed-shows k ∙ ap cicColumns (outputs-same (indexed m) (sound-indexed m k ∙ s))
+
+  no-shows : m .kind ≢ aicKind → m .kind ≢ coreKind → m .kind ≢ cicKind → m .kind ≢ aintcKind → m .kind ≢ indexedKind → shown m ≡ noColumns
+  unfolding shown
+  no-shows e f g h i = sym (at-none (m .kind) _ e f g h i)
 
   -- a machine that is not sound shows nothing
   pub unsound-shown : sound m ≡ false → noColumns ≡ shown m
-  unfolding cicOutputs
+  unfolding cicOutputs indexedOutputs
   unsound-shown s = sym (go (kind-of (m .kind)))
     where
       go : KindOf (m .kind) → shown m ≡ noColumns
@@ -62,7 +89,8 @@ module _ (m : Machine) where
       go (isCore k) = core-shows k ∙ ap coreColumns (core .outputsUnsound (m .core) (sound-core m k ∙ s))
       go (isCic k) = cic-shows k ∙ ap cicColumns (sym (pick-false (cicShown (m .cic)) (sound-cic m k ∙ s)))
       go (isAintc k) = aintc-shows k ∙ ap aintcColumns (aintc .outputsUnsound (m .aintc) (sound-aintc m k ∙ s))
-      go (isNone a b c d) = no-shows a b c d
+      go (isIndexed k) = indexed-shows k ∙ ap cicColumns (sym (pick-false (cicShown (m .cic)) (sound-indexed m k ∙ s)))
+      go (isNone a b c d e) = no-shows a b c d e
 
   one-small : (t : Bool) → one t ≤ 256
   one-small true = omega arith
@@ -85,12 +113,11 @@ module _ (m : Machine) where
           let e = sound-aic m k ∙ s in
           rw (aic-shows k) (rw (aic .outputsSound (m .aic) e) (one-small (irq (m .aic)), one-small (fiq (m .aic)), omega (arith, record-kept .soundIs (m .aic) .0 e .entries)))
       go (isCore k) = rw (core-shows k) (one-small (coreOutputs (m .core) .irq), one-small (coreOutputs (m .core) .fiq), omega arith)
-      go (isCic k) =
-          let e = sound-cic m k ∙ s in
-          rw (cic-shows k) (rw (hosts .outputsSound (m .cic) e) (count-le 256 (λ h. asserted (m .cic) (hostNumber h))), hosts .lowestMost (m .cic) e, omega arith)
+      go (isCic k) = rw (cic-shows k) (cic-small (m .cic) (sound-cic m k ∙ s))
       go (isAintc k) =
           let e = sound-aintc m k ∙ s in
           rw (aintc-shows k)
           (rw (aintc .outputsSound (m .aintc) e)
           (one-small (m .aintc .irq .active), one-small (m .aintc .fiq .active), number-small (m .aintc .irq) (choice .soundIs (m .aintc) .0 e .irq)))
-      go (isNone a b c d) = rw (no-shows a b c d) (omega arith, omega arith, omega arith)
+      go (isIndexed k) = rw (indexed-seen k s) (cic-small (m .cic) (held .soundIs (indexed m) .0 (sound-indexed m k ∙ s) .cic))
+      go (isNone a b c d e) = rw (no-shows a b c d e) (omega arith, omega arith, omega arith)

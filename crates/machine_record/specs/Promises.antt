@@ -12,6 +12,8 @@ use Rattle.coreinterrupt.specs.Model.{start as coreStart, sound as coreSound, o
 use Rattle.cic_record.specs.Sound.{sound as cicSound}
 use Rattle.cic_record.specs.Start.{start as cicStart}
 use Rattle.cic_hosts.specs.Hosts.{outputs as cicOutputs}
+use Rattle.cic_held.specs.Held.{start as indexedStart, sound as indexedSound}
+use Rattle.cic_prioritised.specs.Model.{outputs as indexedOutputs}
 use Rattle.aintc_choice.specs.Settle.{sound as aintcSound}
 use Rattle.aintc.specs.Model.{start as aintcStart, outputs as aintcOutputs}
 use Rattle.kinds.specs.declared.Configuration.{Configuration}
@@ -56,27 +58,35 @@ pub record Promises : Type 0 where
       ≡ record { systems = 0; channels = 0; hosts = 0; revision = 0; global = 0; lines = replicate 32 0; status = replicate 32 0; enable = replicate 32 0; channel = replicate 1024 0; host = replicate 256 0; allow = replicate 8 0 }
   pub blankAintc : blank .aintc
       ≡ record { lines = replicate 4 0; soft = replicate 4 0; masks = replicate 4 0; routes = replicate 128 0; threshold = 0; revision = 0; guarded = false; autoidle = false; turbo = false; funcidle = false; irq = record { active = false; number = 0; priority = 0 }; fiq = record { active = false; number = 0; priority = 0 } }
+  pub blankHeld : blank .held ≡ record { choice = 0; hold = 0; global = 0; host = replicate 256 0 }
   -- ---- start
 
   -- a start is that of the model, with the numbers in their order; the records of the other kinds are all 0 (01, House trace)
   pub aicStarts : (c : Configuration)
-      → start 0 c ≡ record { kind = 0; aic = aicStart (getD (c .numbers) 0 0) (getD (c .numbers) 1 0) .aic; core = blank .core; cic = blank .cic; aintc = blank .aintc }
+      → start 0 c ≡ record { kind = 0; aic = aicStart (getD (c .numbers) 0 0) (getD (c .numbers) 1 0) .aic; core = blank .core; cic = blank .cic; aintc = blank .aintc; held = blank .held }
   pub coreStarts : (c : Configuration)
       → start 1 c
-      ≡ record { kind = 1; aic = blank .aic; core = coreStart (getD (c .numbers) 0 0) (getD (c .numbers) 1 0) (getD (c .numbers) 2 0) (getD (c .numbers) 3 0) .core; cic = blank .cic; aintc = blank .aintc }
+      ≡ record { kind = 1; aic = blank .aic; core = coreStart (getD (c .numbers) 0 0) (getD (c .numbers) 1 0) (getD (c .numbers) 2 0) (getD (c .numbers) 3 0) .core; cic = blank .cic; aintc = blank .aintc; held = blank .held }
   pub cicStarts : (c : Configuration)
       → start 2 c
-      ≡ record { kind = 2; aic = blank .aic; core = blank .core; cic = cicStart (getD (c .numbers) 0 0) (getD (c .numbers) 1 0) (getD (c .numbers) 2 0) (getD (c .numbers) 3 0) .cic; aintc = blank .aintc }
+      ≡ record { kind = 2; aic = blank .aic; core = blank .core; cic = cicStart (getD (c .numbers) 0 0) (getD (c .numbers) 1 0) (getD (c .numbers) 2 0) (getD (c .numbers) 3 0) .cic; aintc = blank .aintc; held = blank .held }
   -- that of an AINTC asks for no number (02, 2/12)
-  pub aintcStarts : (c : Configuration) → start 3 c ≡ record { kind = 3; aic = blank .aic; core = blank .core; cic = blank .cic; aintc = aintcStart .aintc }
+  pub aintcStarts : (c : Configuration) → start 3 c ≡ record { kind = 3; aic = blank .aic; core = blank .core; cic = blank .cic; aintc = aintcStart .aintc; held = blank .held }
+  -- that of a CIC with prioritised indices asks for a fifth number, the choice, and gives both its parts (02, 6/12)
+  pub indexedStarts : (c : Configuration)
+      → start 4 c
+      ≡ record { kind = 4; aic = blank .aic; core = blank .core; cic = indexedStart (getD (c .numbers) 0 0) (getD (c .numbers) 1 0) (getD (c .numbers) 2 0) (getD (c .numbers) 3 0) (getD (c .numbers) 4 0) .prioritised .cic; aintc = blank .aintc; held = indexedStart (getD (c .numbers) 0 0) (getD (c .numbers) 1 0) (getD (c .numbers) 2 0) (getD (c .numbers) 3 0) (getD (c .numbers) 4 0) .prioritised .held }
   pub noStarts : (kind : ℕ) (c : Configuration) → isKind kind ≡ false → start kind c ≡ blank
   -- the same of a list of numbers (01, House trace)
-  pub aicFrom : (a b : ℕ) → startWith 0 (a ∷ b ∷ []) ≡ record { kind = 0; aic = aicStart a b .aic; core = blank .core; cic = blank .cic; aintc = blank .aintc }
+  pub aicFrom : (a b : ℕ) → startWith 0 (a ∷ b ∷ []) ≡ record { kind = 0; aic = aicStart a b .aic; core = blank .core; cic = blank .cic; aintc = blank .aintc; held = blank .held }
   pub coreFrom : (a b c d : ℕ)
-      → startWith 1 (a ∷ b ∷ c ∷ d ∷ []) ≡ record { kind = 1; aic = blank .aic; core = coreStart a b c d .core; cic = blank .cic; aintc = blank .aintc }
+      → startWith 1 (a ∷ b ∷ c ∷ d ∷ []) ≡ record { kind = 1; aic = blank .aic; core = coreStart a b c d .core; cic = blank .cic; aintc = blank .aintc; held = blank .held }
   pub cicFrom : (a b c d : ℕ)
-      → startWith 2 (a ∷ b ∷ c ∷ d ∷ []) ≡ record { kind = 2; aic = blank .aic; core = blank .core; cic = cicStart a b c d .cic; aintc = blank .aintc }
-  pub aintcFrom : startWith 3 [] ≡ record { kind = 3; aic = blank .aic; core = blank .core; cic = blank .cic; aintc = aintcStart .aintc }
+      → startWith 2 (a ∷ b ∷ c ∷ d ∷ []) ≡ record { kind = 2; aic = blank .aic; core = blank .core; cic = cicStart a b c d .cic; aintc = blank .aintc; held = blank .held }
+  pub aintcFrom : startWith 3 [] ≡ record { kind = 3; aic = blank .aic; core = blank .core; cic = blank .cic; aintc = aintcStart .aintc; held = blank .held }
+  pub indexedFrom : (a b c d e : ℕ)
+      → startWith 4 (a ∷ b ∷ c ∷ d ∷ e ∷ [])
+      ≡ record { kind = 4; aic = blank .aic; core = blank .core; cic = indexedStart a b c d e .prioritised .cic; aintc = blank .aintc; held = indexedStart a b c d e .prioritised .held }
   -- the start of numbers within their limits is sound (01, Numbers, 12)
   pub startReady : (kind : ℕ) (ns : List ℕ) → isKind kind ≡ true → length ns ≡ wanted kind → Within kind 0 ns → Ready (startWith kind ns)
   -- ---- soundness
@@ -86,6 +96,7 @@ pub record Promises : Type 0 where
   pub coreSoundIs : (m : Machine) → m .kind ≡ 1 → sound m ≡ coreSound (m .core)
   pub cicSoundIs : (m : Machine) → m .kind ≡ 2 → sound m ≡ cicSound (m .cic)
   pub aintcSoundIs : (m : Machine) → m .kind ≡ 3 → sound m ≡ aintcSound (m .aintc)
+  pub indexedSoundIs : (m : Machine) → m .kind ≡ 4 → sound m ≡ indexedSound (record { cic = m .cic; held = m .held })
   pub noneSound : (m : Machine) → isKind (m .kind) ≡ false → sound m ≡ false
   -- ---- what is shown
 
@@ -101,6 +112,13 @@ pub record Promises : Type 0 where
   -- an AINTC: IRQ active, FIQ active, the number of the input that is active for IRQ, 0 with none (02, 2/12)
   pub aintcShows : (m : Machine) → m .kind ≡ 3
       → Tells (shown m .first) (aintcOutputs (m .aintc) .irq) × Tells (shown m .second) (aintcOutputs (m .aintc) .fiq) × (shown m .third ≡ aintcOutputs (m .aintc) .number)
+  -- a CIC with prioritised indices: what a CIC shows (02, 6/12)
+  pub indexedShows : (m : Machine) → m .kind ≡ 4
+      → (shown m .first ≡ indexedOutputs (record { cic = m .cic; held = m .held }) .hosts)
+      × (shown m .second ≡ indexedOutputs (record { cic = m .cic; held = m .held }) .lowest) × (shown m .third ≡ 0)
+  -- whatever is held (02, 6/12)
+  pub indexedShowsCic : (m : Machine) → m .kind ≡ 4 → sound m ≡ true
+      → (shown m .first ≡ cicOutputs (m .cic) .hosts) × (shown m .second ≡ cicOutputs (m .cic) .lowest) × (shown m .third ≡ 0)
   -- a machine that is not sound, so one of no kind too: three zeros (01, Numbers, 12)
   pub shownUnsound : (m : Machine) → sound m ≡ false → shown m ≡ record { first = 0; second = 0; third = 0 }
   -- of a sound machine none of them is over 256, the number that stands for no asserted host (01, House trace)

@@ -1,4 +1,4 @@
--- The three numbers that a listing shows of a machine (01, "House trace"; 02, 2/12).
+-- The three numbers that a listing shows of a machine (01, "House trace"; 02, 2/12 and 6/12).
 use Rattle.words.specs.Counting.{one}
 use Rattle.aic.specs.declared.Signals.{Signals as AicSignals}
 use Rattle.aic.specs.Model.{outputs as aicOutputs}
@@ -6,11 +6,13 @@ use Rattle.coreinterrupt.specs.declared.Signals.{Signals as CoreSignals}
 use Rattle.coreinterrupt.specs.Model.{outputs as coreOutputs}
 use Rattle.cic_record.specs.declared.Signals.{Signals as CicSignals}
 use Rattle.cic_hosts.specs.Hosts.{outputs as cicOutputs}
+use Rattle.cic_prioritised.specs.Model.{outputs as indexedOutputs}
 use Rattle.aintc.specs.declared.Signals.{Signals as AintcSignals}
 use Rattle.aintc.specs.Model.{outputs as aintcOutputs}
 use Rattle.kinds.specs.Kinds.{byKind}
 use Rattle.machine_record.specs.declared.Columns.{Columns}
 use Rattle.machine_record.specs.declared.Machine.{Machine}
+use Rattle.machine_record.specs.Machine.{indexed}
 
 -- IRQ active, FIQ active, entries open (01, House trace; 02, 3/12)
 abbrev pub aicColumns : AicSignals → Columns
@@ -20,7 +22,7 @@ aicColumns o = record { first = one (o .irq); second = one (o .fiq); third = o .
 abbrev pub coreColumns : CoreSignals → Columns
 coreColumns o = record { first = one (o .irq); second = one (o .fiq); third = 0 }
 
--- asserted hosts, the lowest of them or 256, 0 (01, House trace)
+-- asserted hosts, the lowest of them or 256, 0; with prioritised indices or without (01, House trace; 02, 6/12)
 abbrev pub cicColumns : CicSignals → Columns
 cicColumns o = record { first = o .hosts; second = o .lowest; third = 0 }
 
@@ -40,5 +42,6 @@ shown m =
       core = coreColumns (coreOutputs (m .core));
       cic = cicColumns (cicOutputs (m .cic));
       aintc = aintcColumns (aintcOutputs (m .aintc));
+      indexed = cicColumns (indexedOutputs (indexed m));
       none = noColumns;
     })

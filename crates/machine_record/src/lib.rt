@@ -1,23 +1,27 @@
 // One controller of any kind, before and after its start, when it is sound, and the three numbers that it shows; its steps are `machine`'s (01, "House
-// trace"; 02, 2/12).
+// trace"; 02, 2/12 and 6/12).
 ghost use mathlib.Core.Path.{_≡_};
 ghost use mathlib.Core.Bool.{true};
 ghost use Rattle.words.specs.Counting.{one};
-ghost use Rattle.machine_record.specs.Machine.{blank, ofAic, ofCore, ofCic, ofAintc, start, sound};
+ghost use Rattle.machine_record.specs.Machine.{blank, ofAic, ofCore, ofCic, ofAintc, ofIndexed, indexed, start, sound};
 ghost use Rattle.machine_record.specs.Shown.{aicColumns, coreColumns, cicColumns, aintcColumns, shown};
 use aic_record::Aic;
 use aintc_record::Aintc;
+use cic_held::Held;
+use cic_held::Prioritised;
 use cic_record::Cic;
 use coreinterrupt::Core;
 use kinds::Configuration;
 
-// The record of each kind; only that of the machine's own kind is ever used.
+// The record of each kind; only that of the machine's own kind is ever used. A CIC with prioritised indices has its own in two parts: `cic`, and in
+// `held` what is held beside it.
 pub struct Machine {
     pub kind: u32,
     pub aic: Aic,
     pub core: Core,
     pub cic: Cic,
     pub aintc: Aintc,
+    pub held: Held,
 }
 
 // The three numbers of a listing's line.
@@ -39,12 +43,14 @@ pub fn empty() -> Machine
     let core = b.core;
     let cic = c.cic;
     let d = aintc_record::blank();
+    let held = cic_held::nothing_held(0, 0);
     Machine {
         kind: kinds::AIC,
         aic: a,
         core,
         cic,
         aintc: d,
+        held,
     }
 }
 
@@ -84,6 +90,25 @@ pub fn of_aintc(a: Aintc) -> Machine
     m
 }
 
+pub fn of_indexed(p: Prioritised) -> Machine
+    ensures { λ r. ⌜ r ≡ ofIndexed p ⌝ }
+{
+    let c = p.cic;
+    let h = p.held;
+    let mut m = empty();
+    m.kind = kinds::INDEXED;
+    m.cic = c;
+    m.held = h;
+    m
+}
+
+// The CIC with prioritised indices of a machine, its two parts together.
+pub fn indexed(m: Machine) -> Prioritised
+    ensures { λ r. ⌜ r ≡ indexed m ⌝ }
+{
+    cic_held::join(m.cic, m.held)
+}
+
 // The machine of a kind with these numbers; one that starts from a number beyond its limit is not sound or has a record of zeros.
 pub fn start(kind: u32, c: Configuration) -> Machine
     ensures { λ r. ⌜ r ≡ start kind c ⌝ }
@@ -109,6 +134,10 @@ pub fn start(kind: u32, c: Configuration) -> Machine
         let b = aintc::start();
         return of_aintc(b.aintc);
     }
+    if kind == kinds::INDEXED {
+        let b = cic_prioritised::start(first, second, third, fourth, n[4]);
+        return of_indexed(b.prioritised);
+    }
     empty()
 }
 
@@ -132,6 +161,9 @@ pub fn is_sound(m: Machine) -> bool
     if kind == kinds::AINTC {
         let s = m.aintc;
         return aintc_choice::is_sound(s);
+    }
+    if kind == kinds::INDEXED {
+        return cic_prioritised::is_sound(indexed(m));
     }
     false
 }
@@ -169,7 +201,7 @@ pub fn core_columns(o: coreinterrupt::Signals) -> Columns
     }
 }
 
-// Asserted hosts, the lowest of them, 0.
+// Asserted hosts, the lowest of them, 0; with prioritised indices or without.
 pub fn cic_columns(o: cic_record::Signals) -> Columns
     ensures { λ r. ⌜ r ≡ cicColumns o ⌝ }
 {
@@ -209,8 +241,11 @@ pub fn shown_sound(m: Machine) -> Columns
         let s = m.cic;
         return cic_columns(cic::outputs_sound(s));
     }
-    let s = m.aintc;
-    aintc_columns(aintc::outputs_sound(s))
+    if kind == kinds::AINTC {
+        let s = m.aintc;
+        return aintc_columns(aintc::outputs_sound(s));
+    }
+    cic_columns(cic_prioritised::outputs_sound(indexed(m)))
 }
 
 // The three numbers of any machine, all 0 where it is not sound.

@@ -3,7 +3,7 @@ use mathlib.Core.Path.{ap, _∙_}
 use Rattle.text.proofs.WriteLaws.{nothing}
 use Rattle.text.specs.Text.{write}
 use Rattle.kinds.specs.Kinds.{name}
-use Rattle.kinds.proofs.KindLaws.{at-aic, at-core, at-cic, at-aintc, at-none}
+use Rattle.kinds.proofs.KindLaws.{at-aic, at-core, at-cic, at-aintc, at-indexed, at-none}
 use borrow.Author.Needs.{needs}
 use Rattle.kinds.proofs.put_name.Statement.{statement}
 use Rattle.kinds.proofs.put_name.Tie as tie
@@ -26,9 +26,13 @@ returns-4 c = c .before .before .put-all4 .ensures ∙ ap (write _) (at-aintc _ 
 
 returns-5 : tie.Need-returns-5
 unfolding name
-returns-5 c =
-    let p = c .before in
-    nothing _ ∙ ap (write _) (at-none _ _ (p .before .before .if1 .left) (p .before .if2 .left) (p .if3 .left) (c .if4 .left))
+returns-5 c = c .before .before .put-all5 .ensures ∙ ap (write _) (at-indexed _ _ (c .before .before .before .before .before .if5 .taken))
+
+returns-6 : tie.Need-returns-6
+unfolding name
+returns-6 c =
+    let p = c .before .before in
+    nothing _ ∙ ap (write _) (at-none _ _ (p .before .before .if1 .left) (p .before .if2 .left) (p .if3 .left) (c .before .if4 .left) (c .if5 .left))
 
 pub put-name-spec : {M : Type 1} → statement M
 put-name-spec =
@@ -50,4 +54,8 @@ put-name-spec =
     (λ c κs. search needs)
     (λ c. search needs)
     returns-4
-    returns-5)
+    (λ c. search needs)
+    (λ c κs. search needs)
+    (λ c. search needs)
+    returns-5
+    returns-6)

@@ -7,8 +7,8 @@ use Rattle.machine_record.proofs.empty.Statement.{statement}
 use Rattle.machine_record.proofs.empty.Tie as tie
 
 returns : tie.Need-returns
-returns c = let b = c .before .before .before in
-    rw (b .before .before .reset-to .ensures, b .before .start .ensures, b .start2 .ensures, c .blank .ensures) (rw (blank-core, blank-cic) refl)
+returns c = let b = c .before .before .before .before in
+    rw (b .before .before .reset-to .ensures, b .before .start .ensures, b .start2 .ensures, c .before .blank .ensures, c .nothing-held .ensures) (rw (blank-core, blank-cic) refl)
 
 pub empty-spec : {M : Type 1} → statement M
-empty-spec = tie.close (tie.spec (λ c κs. search needs) (λ c κs. search needs) (λ c κs. search needs) (λ c κs. search needs) returns)
+empty-spec = tie.close (tie.spec (λ c κs. search needs) (λ c κs. search needs) (λ c κs. search needs) (λ c κs. search needs) (λ c κs. search needs) returns)

@@ -1,6 +1,7 @@
 -- That `is_sound` of src/lib.rt keeps its contract.
-use mathlib.Core.Path.{_∙_}
-use Rattle.machine_record.proofs.MachineLaws.{sound-aic, sound-core, sound-cic, sound-aintc, sound-none}
+use mathlib.Core.Path.{ap, _∙_}
+use Rattle.cic_held.specs.Held.{sound as indexedSound}
+use Rattle.machine_record.proofs.MachineLaws.{sound-aic, sound-core, sound-cic, sound-aintc, sound-indexed, sound-none}
 use Rattle.cic_record.proofs.is_sound.Reads as is-sound-reads′
 use borrow.Author.Needs.{needs}
 use Rattle.machine_record.proofs.is_sound.Statement.{statement}
@@ -19,8 +20,11 @@ returns-4 : tie.Need-returns-4
 returns-4 c = c .is-sound4 .ensures ∙ sound-aintc _ (c .before .before .if4 .taken)
 
 returns-5 : tie.Need-returns-5
-returns-5 c = let p = c .before in
-    sound-none _ (p .before .before .if1 .left) (p .before .if2 .left) (p .if3 .left) (c .if4 .left)
+returns-5 c = c .is-sound5 .ensures ∙ ap indexedSound (c .before .indexed .ensures) ∙ sound-indexed _ (c .before .before .if5 .taken)
+
+returns-6 : tie.Need-returns-6
+returns-6 c = let p = c .before .before in
+    sound-none _ (p .before .before .if1 .left) (p .before .if2 .left) (p .if3 .left) (c .before .if4 .left) (c .if5 .left)
 
 pub is-sound-spec : {M : Type 1} → statement M
 is-sound-spec =
@@ -34,4 +38,7 @@ is-sound-spec =
     returns-3
     (λ c κs. search needs)
     returns-4
-    returns-5)
+    (λ c κs. search needs)
+    (λ c κs. search needs)
+    returns-5
+    returns-6)

@@ -1,8 +1,10 @@
 -- That `shown_sound` of src/lib.rt keeps its contract.
 use mathlib.Core.Path.{ap, sym, _∙_}
+use Rattle.cic_held.specs.Held.{sound as indexedSound}
+use Rattle.cic_prioritised.specs.Model.{outputs as indexedOutputs}
 use Rattle.machine_record.specs.Shown.{aicColumns, coreColumns, cicColumns, aintcColumns}
-use Rattle.machine_record.proofs.MachineLaws.{sound-aic, sound-core, sound-cic, sound-aintc, fourth-kind}
-use Rattle.machine_record.proofs.ShownLaws.{aic-shows, core-shows, cic-shows, aintc-shows}
+use Rattle.machine_record.proofs.MachineLaws.{sound-aic, sound-core, sound-cic, sound-aintc, sound-indexed, fifth-kind}
+use Rattle.machine_record.proofs.ShownLaws.{aic-shows, core-shows, cic-shows, aintc-shows, indexed-shows}
 use Rattle.coreinterrupt.proofs.outputs_sound.Reads as outputs-sound-reads′′
 use Rattle.cic.proofs.outputs_sound.Reads as outputs-sound-reads′
 use borrow.Author.Needs.{needs}
@@ -28,14 +30,21 @@ returns-3 : tie.Need-returns-3
 returns-3 c = c .cic-columns .ensures ∙ ap cicColumns (c .before .outputs-sound3 .ensures) ∙ sym (cic-shows _ (c .before .before .before .if3 .taken))
 
 outputs-sound-requires-4 : tie.Need-outputs-sound-requires-4
-outputs-sound-requires-4 c κs = let b = c .before in
-    let p = b .before .before .before .pre in
-    sound-aintc _ (fourth-kind _ p (b .before .before .if1 .left) (b .before .if2 .left) (b .if3 .left)) ∙ p
+outputs-sound-requires-4 c κs = sound-aintc _ (c .before .if4 .taken) ∙ c .before .before .before .before .before .pre
 
 returns-4 : tie.Need-returns-4
-returns-4 c = let b = c .before .before .before in
-    let k = fourth-kind _ (b .before .before .before .pre) (b .before .before .if1 .left) (b .before .if2 .left) (b .if3 .left) in
-    c .aintc-columns .ensures ∙ ap aintcColumns (c .before .outputs-sound4 .ensures) ∙ sym (aintc-shows _ k)
+returns-4 c = c .aintc-columns .ensures ∙ ap aintcColumns (c .before .outputs-sound4 .ensures) ∙ sym (aintc-shows _ (c .before .before .before .if4 .taken))
+
+outputs-sound-requires-5 : tie.Need-outputs-sound-requires-5
+outputs-sound-requires-5 c κs = let b = c .before in
+    let p = b .before .before .before .before .pre in
+    ap indexedSound (c .indexed .ensures) ∙ sound-indexed _ (fifth-kind _ p (b .before .before .before .if1 .left) (b .before .before .if2 .left) (b .before .if3 .left) (b .if4 .left)) ∙ p
+
+returns-5 : tie.Need-returns-5
+returns-5 c = let i = c .before .before in
+    let b = i .before in
+    let k = fifth-kind _ (b .before .before .before .before .pre) (b .before .before .before .if1 .left) (b .before .before .if2 .left) (b .before .if3 .left) (b .if4 .left) in
+    c .cic-columns2 .ensures ∙ ap cicColumns (c .before .outputs-sound5 .ensures ∙ ap indexedOutputs (i .indexed .ensures)) ∙ sym (indexed-shows _ k)
 
 pub shown-sound-spec : {M : Type 1} → statement M
 shown-sound-spec =
@@ -52,4 +61,8 @@ shown-sound-spec =
     returns-3
     outputs-sound-requires-4
     (λ c κs. search needs)
-    returns-4)
+    returns-4
+    (λ c κs. search needs)
+    outputs-sound-requires-5
+    (λ c κs. search needs)
+    returns-5)

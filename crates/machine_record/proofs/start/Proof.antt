@@ -2,10 +2,11 @@
 use mathlib.Core.Path.{ap, _∙_}
 use Rattle.aic.specs.declared.Begun.{Begun}
 use Rattle.coreinterrupt.specs.declared.Begun.{Begun as CoreBegun}
+use Rattle.cic_held.specs.declared.Begun.{Begun as IndexedBegun}
 use Rattle.cic_record.specs.declared.Begun.{Begun as CicBegun}
 use Rattle.aintc.specs.declared.Begun.{Begun as AintcBegun}
-use Rattle.kinds.proofs.KindLaws.{at-aic, at-core, at-cic, at-aintc, at-none}
-use Rattle.machine_record.specs.Machine.{start, ofAic, ofCore, ofCic, ofAintc}
+use Rattle.kinds.proofs.KindLaws.{at-aic, at-core, at-cic, at-aintc, at-indexed, at-none}
+use Rattle.machine_record.specs.Machine.{start, ofAic, ofCore, ofCic, ofAintc, ofIndexed}
 use borrow.Author.Needs.{needs}
 use Rattle.machine_record.proofs.start.Statement.{statement}
 use Rattle.machine_record.proofs.start.Tie as tie
@@ -28,8 +29,12 @@ returns-4 c = c .of-aintc .ensures ∙ ap (λ (b : AintcBegun). ofAintc (b .aint
 
 returns-5 : tie.Need-returns-5
 unfolding start
-returns-5 c = let p = c .before in
-    c .empty .ensures ∙ at-none _ _ (p .before .before .before .if1 .left) (p .before .before .if2 .left) (p .before .if3 .left) (p .if4 .left)
+returns-5 c = c .of-indexed .ensures ∙ ap (λ (b : IndexedBegun). ofIndexed (b .prioritised)) (c .before .start5 .ensures) ∙ at-indexed _ _ (c .before .before .if5 .taken)
+
+returns-6 : tie.Need-returns-6
+unfolding start
+returns-6 c = let p = c .before in
+    c .empty .ensures ∙ at-none _ _ (p .before .before .before .before .if1 .left) (p .before .before .before .if2 .left) (p .before .before .if3 .left) (p .before .if4 .left) (p .if5 .left)
 
 pub start-spec : {M : Type 1} → statement M
 start-spec =
@@ -51,5 +56,9 @@ start-spec =
     (λ c κs. search needs)
     (λ c κs. search needs)
     returns-4
+    (λ c. search needs)
     (λ c κs. search needs)
-    returns-5)
+    (λ c κs. search needs)
+    returns-5
+    (λ c κs. search needs)
+    returns-6)

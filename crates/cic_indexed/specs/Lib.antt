@@ -1,0 +1,3 @@
+-- What is promised of the CIC with prioritised indices.
+pub mod Promises
+pub mod Tables

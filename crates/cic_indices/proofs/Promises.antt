@@ -1,0 +1,158 @@
+-- The promises of the indices are kept.
+use mathlib.Core.Path.{_≡_, refl, sym, ap, _∙_}
+use mathlib.Core.Bool.{Bool, true, false, _&&_, _||_}
+use mathlib.Core.Logic.{_↔_, _≢_, _⊎_, inl, inr, ⊎-elim}
+use Prim.Native.Nat.{ℕ, _/_, _%_, _^_, _<_}
+use native.Mathlib.Decide.{decLt}
+use native.Mathlib.Omega.{arith}
+use borrow.Author.Tests.{lt-ltb, ltb-true, eq-eqb, eqb-true}
+use lib.Dec.{eqb, ltb}
+use lib.ListN.{getD}
+use Rattle.words.specs.Array.{bitAt}
+use Rattle.words.specs.Word.{bit}
+use Rattle.words.proofs.TruthLaws.{and-left, and-right, and-both, or-either, or-left, or-right}
+use Rattle.words.proofs.WordLaws.{bit-alone}
+use Rattle.cic_record.specs.declared.Channel.{Channel}
+use Rattle.cic_record.specs.declared.Cic.{Cic}
+use Rattle.cic_record.specs.declared.Host.{Host}
+use Rattle.cic_record.specs.declared.System.{System}
+use Rattle.cic_record.specs.Kinds.{system, channelOf, hostOf}
+use Rattle.cic_record.specs.Sound.{sound}
+use Rattle.cic_indices.specs.Order.{noneWord, pendingIn, leads, indexOf, comesBefore}
+use Rattle.cic_indices.specs.Promises.{Meets, MeetsFor, Promises}
+use Rattle.cic_indices.proofs.NamedLaws.{MeetsBy, none, names, first, not-before}
+
+-- ---- an index over every channel, and over those of a host
+
+-- over every channel no more is asked
+by-every : (c : Cic) (h : Host) (s : ℕ) → Meets c s → MeetsBy c (leads c true h) s
+by-every c h s m = (m, refl)
+
+by-host : (c : Cic) (h : Host) (s : ℕ) → MeetsFor c h s → MeetsBy c (leads c false h) s
+by-host c h s m = (m .0, eq-eqb (hostOf c (channelOf c (system s)) .0) (h .0) (m .1))
+
+for-host : (c : Cic) (h : Host) (s : ℕ) → MeetsBy c (leads c false h) s → MeetsFor c h s
+for-host c h s m = (m .0, eqb-true (hostOf c (channelOf c (system s)) .0) (h .0) (m .1))
+
+module _ (c : Cic) (h : Host) (e : sound c ≡ true) where
+  global-none : (indexOf c true h ≡ noneWord) ↔ ((s : ℕ) → Meets c s → ⊥)
+  unfolding indexOf
+  global-none = let n = none c (leads c true h) e in (λ q s m. n .0 q s (by-every c h s m), λ f. n .1 (λ s m. f s (m .0)))
+
+  global-names : indexOf c true h ≢ noneWord → Meets c (indexOf c true h)
+  unfolding indexOf
+  global-names d = names c (leads c true h) e d .0
+
+  global-some : (indexOf c true h ≢ noneWord) ↔ ((s : ℕ) × Meets c s)
+  global-some = (λ d. (indexOf c true h, global-names d), λ x q. global-none .0 q (x .0) (x .1))
+
+  global-first : indexOf c true h ≢ noneWord → (s : ℕ) → Meets c s → comesBefore c (system s) (system (indexOf c true h)) ≡ false
+  unfolding indexOf
+  global-first d s m = first c (leads c true h) e d s (by-every c h s m)
+
+  host-none : (indexOf c false h ≡ noneWord) ↔ ((s : ℕ) → MeetsFor c h s → ⊥)
+  unfolding indexOf
+  host-none = let n = none c (leads c false h) e in (λ q s m. n .0 q s (by-host c h s m), λ f. n .1 (λ s m. f s (for-host c h s m)))
+
+  host-names : indexOf c false h ≢ noneWord → MeetsFor c h (indexOf c false h)
+  unfolding indexOf
+  host-names d = for-host c h _ (names c (leads c false h) e d)
+
+  host-some : (indexOf c false h ≢ noneWord) ↔ ((s : ℕ) × MeetsFor c h s)
+  host-some = (λ d. (indexOf c false h, host-names d), λ x q. host-none .0 q (x .0) (x .1))
+
+  host-first : indexOf c false h ≢ noneWord → (s : ℕ) → MeetsFor c h s → comesBefore c (system s) (system (indexOf c false h)) ≡ false
+  unfolding indexOf
+  host-first d s m = first c (leads c false h) e d s (by-host c h s m)
+
+-- ---- the order
+
+-- channel first, then number
+abbrev Before : ℕ → ℕ → ℕ → ℕ → Type 0
+Before x y a b = (x < y) ⊎ ((x ≡ y) × (a < b))
+
+before-is : (c : Cic) (a b : System) → (comesBefore c a b ≡ true) ↔ Before (channelOf c a .0) (channelOf c b .0) (a .0) (b .0)
+unfolding comesBefore
+before-is c a b = (there, back)
+  where
+    x : ℕ
+    x = channelOf c a .0
+
+    y : ℕ
+    y = channelOf c b .0
+
+    same : (eqb x y && ltb (a .0) (b .0)) ≡ true → (x ≡ y) × (a .0 < b .0)
+    same e = (eqb-true x y (and-left (eqb x y) (ltb (a .0) (b .0)) e), ltb-true (a .0) (b .0) (and-right (eqb x y) (ltb (a .0) (b .0)) e))
+
+    there : (ltb x y || (eqb x y && ltb (a .0) (b .0))) ≡ true → Before x y (a .0) (b .0)
+    there e = ⊎-elim (λ (l : ltb x y ≡ true). inl (ltb-true x y l)) (λ (r : (eqb x y && ltb (a .0) (b .0)) ≡ true). inr (same r)) (or-either (ltb x y) (eqb x y && ltb (a .0) (b .0)) e)
+
+    back : Before x y (a .0) (b .0) → (ltb x y || (eqb x y && ltb (a .0) (b .0))) ≡ true
+    back (inl l) = or-left (eqb x y && ltb (a .0) (b .0)) (lt-ltb x y l)
+    back (inr r) = or-right (ltb x y) (and-both (eq-eqb x y (r .0)) (lt-ltb (a .0) (b .0) (r .1)))
+
+before-not-self : (c : Cic) (a : System) → comesBefore c a a ≡ false
+before-not-self c a = not-before c (a .0) (a .0) (omega arith) (λ _. omega arith)
+
+third : (x y z a b d : ℕ) → Before x y a b → Before y z b d → Before x z a d
+third x y z a b d (inl l) (inl m) = inl (omega (arith, l, m))
+third x y z a b d (inl l) (inr m) = inl (omega (arith, l, m .0))
+third x y z a b d (inr l) (inl m) = inl (omega (arith, l .0, m))
+third x y z a b d (inr l) (inr m) = inr (l .0 ∙ m .0, omega (arith, l .1, m .1))
+
+before-third : (c : Cic) (a b d : System) → comesBefore c a b ≡ true → comesBefore c b d ≡ true → comesBefore c a d ≡ true
+before-third c a b d e f =
+    before-is c a d .1
+    (third (channelOf c a .0) (channelOf c b .0) (channelOf c d .0) (a .0) (b .0) (d .0) (before-is c a b .0 e) (before-is c b d .0 f))
+
+either-way : (x y a b : ℕ) → a ≢ b → Before x y a b ⊎ Before y x b a
+either-way x y a b d = go (decLt x y) (decLt y x) (decLt a b)
+  where
+    go : Dec (x < y) → Dec (y < x) → Dec (a < b) → Before x y a b ⊎ Before y x b a
+    go (yes l) m n = inl (inl l)
+    go (no l) (yes m) n = inr (inl m)
+    go (no l) (no m) (yes n) = inl (inr (omega (arith, l, m), n))
+    go (no l) (no m) (no n) = inr (inr (omega (arith, l, m), omega (arith, n, d)))
+
+before-either : (c : Cic) (a b : System) → a .0 ≢ b .0 → (comesBefore c a b ≡ true) ⊎ (comesBefore c b a ≡ true)
+before-either c a b d =
+    ⊎-elim (λ (l : Before (channelOf c a .0) (channelOf c b .0) (a .0) (b .0)). inl (before-is c a b .1 l))
+    (λ (r : Before (channelOf c b .0) (channelOf c a .0) (b .0) (a .0)). inr (before-is c b a .1 r)) (either-way (channelOf c a .0) (channelOf c b .0) (a .0) (b .0) d)
+
+-- ---- words
+
+none-is : (j : ℕ) → (bit noneWord j ≡ true) ↔ (j ≡ 31)
+none-is j =
+    let at : noneWord ≡ 2 ^ 31 = refl in
+    let is = ap (λ (w : ℕ). bit w j) at ∙ bit-alone 31 j in
+    (λ e. eqb-true j 31 (sym is ∙ e), λ e. is ∙ eq-eqb j 31 e)
+
+pending-is : (c : Cic) (k : Channel) (s : System) → (pendingIn c k s ≡ true)
+    ↔ ((bit (getD (c .status) (s .0 / 32) 0) (s .0 % 32) ≡ true) × (bit (getD (c .enable) (s .0 / 32) 0) (s .0 % 32) ≡ true) × (getD (c .channel) (s .0) 0 ≡ k .0))
+unfolding pendingIn bitAt
+pending-is c k s =
+    let a = bit (getD (c .status) (s .0 / 32) 0) (s .0 % 32) in
+    let b = bit (getD (c .enable) (s .0 / 32) 0) (s .0 % 32) in
+    let x = getD (c .channel) (s .0) 0 in (
+      λ e. (and-left a (b && eqb x (k .0)) e, and-left b (eqb x (k .0)) (and-right a (b && eqb x (k .0)) e), eqb-true x (k .0) (and-right b (eqb x (k .0)) (and-right a (b && eqb x (k .0)) e))),
+      λ r. and-both (r .0) (and-both (r .1) (eq-eqb x (k .0) (r .2))),
+    )
+
+pub kept : Promises
+kept =
+    record {
+      globalNone = global-none;
+      globalSome = global-some;
+      globalNames = global-names;
+      globalFirst = global-first;
+      hostNone = host-none;
+      hostSome = host-some;
+      hostNames = host-names;
+      hostFirst = host-first;
+      beforeIs = before-is;
+      beforeNotSelf = before-not-self;
+      beforeThird = before-third;
+      beforeEither = before-either;
+      noneIs = none-is;
+      pendingIs = pending-is;
+    }

@@ -1,0 +1,14 @@
+-- That `outputs_sound` of src/lib.rt keeps its contract.
+use mathlib.Core.Path.{_∙_}
+use Rattle.words.proofs.ChoiceLaws.{pick-true}
+use Rattle.cic_prioritised.specs.Model.{outputs}
+use borrow.Author.Needs.{needs}
+use Rattle.cic_prioritised.proofs.outputs_sound.Statement.{statement}
+use Rattle.cic_prioritised.proofs.outputs_sound.Tie as tie
+
+returns : tie.Need-returns
+unfolding outputs
+returns c = c .shown .ensures ∙ pick-true _ (c .before .pre)
+
+pub outputs-sound-spec : {M : Type 1} → statement M
+outputs-sound-spec = tie.close (tie.spec (λ c κs. search needs) returns)

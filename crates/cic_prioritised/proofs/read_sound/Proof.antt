@@ -1,0 +1,36 @@
+-- That `read_sound` of src/lib.rt keeps its contract.
+use mathlib.Core.Bool.{true}
+use mathlib.Core.Path.{sym, ap, _∙_}
+use Rattle.cic_steps.specs.Model.{stepAs}
+use Rattle.cic_index_registers.specs.declared.Own.{Own}
+use Rattle.cic_prioritised.specs.Model.{readAs}
+use borrow.Author.Needs.{needs}
+use Rattle.cic_prioritised.proofs.read_sound.Statement.{statement}
+use Rattle.cic_prioritised.proofs.read_sound.Tie as tie
+
+returns : tie.Need-returns
+unfolding readAs stepAs
+returns c =
+    let a = c .before .before .before .before .args in
+    c .elsewhere .ensures ∙ ap (λ (o : Own). readAs true (a .p) (a .offset) o) (sym (c .before .enum-told .given .1) ∙ c .before .before .before .own-at .ensures)
+
+returns-2 : tie.Need-returns-2
+unfolding readAs
+returns-2 c =
+    let a = c .before .before .before .before .args in
+    c .read-control .ensures ∙ ap (λ (o : Own). readAs true (a .p) (a .offset) o) (sym (c .before .enum-told2 .given .1) ∙ c .before .before .before .own-at .ensures)
+
+returns-3 : tie.Need-returns-3
+unfolding readAs
+returns-3 c =
+    let a = c .before .before .before .before .args in
+    c .read-global .ensures ∙ ap (λ (o : Own). readAs true (a .p) (a .offset) o) (sym (c .before .enum-told3 .given .1) ∙ c .before .before .before .own-at .ensures)
+
+returns-4 : tie.Need-returns-4
+unfolding readAs
+returns-4 c =
+    let a = c .before .before .before .before .before .args in
+    c .read-host .ensures ∙ ap (λ (o : Own). readAs true (a .p) (a .offset) o) (sym (c .before .before .h .given .1) ∙ c .before .before .before .before .own-at .ensures)
+
+pub read-sound-spec : {M : Type 1} → statement M
+read-sound-spec = tie.close (tie.spec (λ c κs. search needs) (λ c. search needs) (λ c κs. search needs) (λ c. search needs) (λ c κs. search needs) (λ c. search needs) (λ c κs. search needs) (λ c. search needs) (λ c κs. search needs) returns returns-2 returns-3 returns-4)
