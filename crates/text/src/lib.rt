@@ -8,25 +8,6 @@ pub const SPACE: u8 = b' ';
 
 pub const NEWLINE: u8 = b'\n';
 
-const DIGITS: [u8; 16] = [
-    b'0',
-    b'1',
-    b'2',
-    b'3',
-    b'4',
-    b'5',
-    b'6',
-    b'7',
-    b'8',
-    b'9',
-    b'A',
-    b'B',
-    b'C',
-    b'D',
-    b'E',
-    b'F',
-];
-
 // One byte where the next one goes; answers where the one after it goes.
 pub fn put(out: &mut [u8], at: usize, b: u8) -> usize
     ensures { λ r. ⌜ (now (out .exit), r) ≡ write (now (out .entry), at) (b ∷ []) ⌝ }
@@ -169,5 +150,5 @@ pub fn digit(d: usize) -> u8
     requires { ⌜ d < 16 ⌝ }
     ensures { λ r. ⌜ r ≡ hexDigit d ⌝ }
 {
-    DIGITS[d]
+    if d < 10 { 48 + d as u8 } else { 55 + d as u8 }
 }
