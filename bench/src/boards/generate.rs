@@ -262,13 +262,17 @@ fn grow(random: &mut Random, script: &mut Script, there: &mut u32) {
     *there += 1;
 }
 
-/// Wires each controller to the one below it, used inputs or not.
+/// Wires each controller to the one below it, used inputs or not, and raises the lowest by a pin.
 fn link(random: &mut Random, script: &mut Script, there: u32) {
     for controller in 1..there {
-        let side = random.pick(&[Side::Irq, Side::Irq, Side::Fiq]);
-        let input = random.pick(&[0, 0, 0, 1, 32, 39]);
+        let side = random.pick(&[Side::Irq, Side::Irq, Side::Irq, Side::Fiq]);
+        let input = random.pick(&[0, 0, 0, 0, 0, 0, 1, 32, 39]);
         script.connect(controller, input, Wire::Output(side, controller - 1));
     }
+    script.connect(0, 0, Wire::Pin(0));
+    script.connect(0, 32, Wire::Pin(0));
+    script.pin(0, 1);
+    script.ask_all(there);
 }
 
 /// Mostly a controller that is there.
