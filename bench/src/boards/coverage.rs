@@ -263,12 +263,12 @@ impl Coverage {
         if let ([(limit, far)], 6) = (faults.as_slice(), number) {
             self.reach(Item::Beyond(call.sort(), *limit, *far));
         }
-        let later = number == 6;
+        let six = number == 6;
         match *call {
             Call::Add { .. } => {
                 let bad = configured_beyond(call);
                 self.fact_if(
-                    later && !bad.is_empty(),
+                    six && !bad.is_empty(),
                     "6 of a ninth, whose configuration is bad",
                 );
                 if let ([nth], 10) = (bad.as_slice(), number) {
@@ -280,24 +280,21 @@ impl Coverage {
                 input,
                 wire: Wire::Output(side, other),
             } if other >= controller => {
-                self.fact_if(later, "6 of a wire that does not lead to a lower number");
+                let there = (other as usize) < board.controllers();
+                self.fact_if(six && there, "6 of an input, with a wire that leads up");
                 if number == 15 {
                     let spot = Spot::of(board, controller as usize, input as usize);
-                    let up = if other == controller {
-                        Up::Same
-                    } else {
-                        Up::Higher
-                    };
+                    let up = [Up::Higher, Up::Same][usize::from(other == controller)];
                     self.reach(Item::NotLower(side, up, spot));
                 }
             }
             Call::Read { offset, .. } | Call::Write { offset, .. } => {
                 self.fact_if(
-                    later && offset % 4 != 0,
+                    six && offset % 4 != 0,
                     "6 of a controller, with a misaligned offset",
                 );
                 self.fact_if(
-                    later && offset % 4 == 0 && Register::at(offset).is_none(),
+                    six && offset % 4 == 0 && Register::at(offset).is_none(),
                     "6 of a controller, with no register at the offset",
                 );
                 self.accessed(call, number);

@@ -142,7 +142,7 @@ fn registers() -> Vec<Item> {
 
 const FACTS: &[&str] = &[
     "6 of a ninth, whose configuration is bad",
-    "6 of a wire that does not lead to a lower number",
+    "6 of an input, with a wire that leads up",
     "6 of a controller, with a misaligned offset",
     "6 of a controller, with no register at the offset",
     "input 0 is wired",
