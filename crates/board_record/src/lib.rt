@@ -1,7 +1,6 @@
 // Which boards are sound (02, 8/12).
 ghost use mathlib.Core.Path.{_≡_};
 ghost use lib.Dec.{leb};
-ghost use Rattle.board_record.specs.Record.{empty};
 ghost use Rattle.board_record.specs.Sound.{low, zeroSide, zeroCore, coreRule, lower, wireRule, coresSound, wiresSound, pinsSound, sound};
 use board_wires::Board;
 use board_wires::Wire;
@@ -13,22 +12,6 @@ pub const CONTROLLER_LIMIT: u32 = 8;
 pub const INPUT_LIMIT: u32 = 40;
 
 pub const PIN_LIMIT: u32 = 320;
-
-// A board with no controller, every input wired to nothing and every pin low.
-pub fn empty() -> Board
-    ensures { λ r. ⌜ r ≡ empty ⌝ }
-{
-    let none = Core {
-        fiq: coreinterrupt_side::idle(0, 0),
-        irq: coreinterrupt_side::idle(0, 0),
-    };
-    Board {
-        controllers: 0,
-        wire: [0; 320],
-        pin: [0; 320],
-        core: [none; 8],
-    }
-}
 
 // Whether the lines of a controller are low in the record.
 fn is_low(k: Core) -> bool

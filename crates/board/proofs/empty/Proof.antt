@@ -1,8 +1,8 @@
 -- That `empty` of src/lib.rt keeps its contract.
 use Rattle.board_record.specs.Record.{empty}
 use borrow.Author.Needs.{needs}
-use Rattle.board_record.proofs.empty.Statement.{statement}
-use Rattle.board_record.proofs.empty.Tie as tie
+use Rattle.board.proofs.empty.Statement.{statement}
+use Rattle.board.proofs.empty.Tie as tie
 
 returns : tie.Need-returns
 unfolding empty
