@@ -4,8 +4,8 @@ ghost use Prim.Native.Nat.{_<_, _≤_, _+_, max};
 ghost use lib.Dec.{ltb};
 ghost use Rattle.words.specs.Choice.{pick};
 ghost use Rattle.coreinterrupt.specs.Model.{side};
-ghost use Rattle.board_wires.specs.Wires.{wireOf, wireNumber, wireIn, wireAt, pinIn, coreAt, inputsOf, placeOf, wired, sideIn, sideBy, activity, inputValue, wiredCore};
-ghost use Rattle.board_wires.specs.Chain.{leadsTo, feedsIn, lowerOf, chain};
+ghost use Rattle.board_wires.specs.Wires.{wireOf, wireNumber, wireIn, wireAt, pinIn, pinOf, coreAt, inputsOf, placeOf, wired, sideIn, sideBy, activity, inputValue, wiredCore};
+ghost use Rattle.board_wires.specs.Chain.{leadsTo, feedsIn, feeds, lowerOf, chain};
 ghost use Rattle.board_wires.specs.Table.{tells, withTold, toldTo};
 use coreinterrupt::Core;
 use coreinterrupt_side::Side;
@@ -109,6 +109,13 @@ fn pin_in(pin: &[u8; 320], p: u32) -> bool
     false
 }
 
+// Whether pin p is high.
+fn pin_at(b: Board, p: u32) -> bool
+    ensures { λ r. ⌜ r ≡ pinOf b p ⌝ }
+{
+    pin_in(&b.pin, p)
+}
+
 // Controller c as the record holds it; one with no sources beyond the eight.
 pub fn core_at(b: Board, c: u32) -> Core
     ensures { λ r. ⌜ r ≡ coreAt b c ⌝ }
@@ -161,7 +168,7 @@ pub fn input_value(b: Board, c: u32, i: u32) -> bool
     let w = wire_at(b, c, i);
     match w {
         Wire::Nothing => false,
-        Wire::Pin(p) => pin_in(&b.pin, p),
+        Wire::Pin(p) => pin_at(b, p),
         Wire::Irq(d) => {
             if d < c {
                 return activity(b, d, false);
@@ -221,7 +228,14 @@ fn carried(pin: &[u8; 320], t: Told, c: u32, w: Wire) -> bool
 }
 
 // A side of controller c with its inputs at what their wires carry, by the table.
-fn side_in<'a>(wire: &'a [u16; 320], pin: &'a [u8; 320], t: Told, c: u32, fast: bool, s: Side) -> Side
+fn side_in<'a>(
+    wire: &'a [u16; 320],
+    pin: &'a [u8; 320],
+    t: Told,
+    c: u32,
+    fast: bool,
+    s: Side,
+) -> Side
     ensures { λ r. ⌜ r ≡ sideIn (now (wire .entry)) (now (pin .entry)) (tells t) c fast s (inputsOf fast) ⌝ }
 {
     let mut x = s;
@@ -307,8 +321,8 @@ fn leads(w: Wire, d: u32) -> bool
     }
 }
 
-// Whether some input of controller c, used or not, is wired to an output of d.
-fn is_fed(wire: &[u16; 320], c: u32, d: u32) -> bool
+// Whether some input of controller c, used or not, is wired to an output of d, in the lent table of wires.
+fn is_fed_in(wire: &[u16; 320], c: u32, d: u32) -> bool
     ensures { λ r. ⌜ r ≡ feedsIn (now (wire .entry)) c d ⌝ }
 {
     let mut on = false;
@@ -318,6 +332,12 @@ fn is_fed(wire: &[u16; 320], c: u32, d: u32) -> bool
         i = i + 1;
     }
     on
+}
+
+fn is_fed(b: Board, c: u32, d: u32) -> bool
+    ensures { λ r. ⌜ r ≡ feeds b c d ⌝ }
+{
+    is_fed_in(&b.wire, c, d)
 }
 
 fn larger(a: u32, b: u32) -> u32
@@ -356,7 +376,7 @@ pub fn chain(b: Board, c: u32) -> u32
     let mut d: u32 = 0;
     while d < n {
         let below = chain(b, d);
-        most = larger(most, counted(is_fed(&b.wire, c, d), below));
+        most = larger(most, counted(is_fed(b, c, d), below));
         d = d + 1;
     }
     most
