@@ -1,0 +1,1 @@
+-- The laws of a board, and that the promises are kept.

@@ -1,0 +1,2 @@
+-- The laws of the record, and that the promises are kept.
+pub mod RecordLaws

@@ -1,0 +1,3 @@
+-- The record of a board, which boards are sound, and what is promised of both.
+pub mod Record
+pub mod Sound
