@@ -1,2 +1,3 @@
 -- The laws of the record, and that the promises are kept.
 pub mod RecordLaws
+pub mod SoundLaws
