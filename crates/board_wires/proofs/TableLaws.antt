@@ -6,7 +6,7 @@ use native.Mathlib.Omega.{arith}
 use native.Mathlib.Decide.{ℕ-discrete, decLt}
 use native.Mathlib.Numerals.{add-one}
 use lib.Dec.{ltb}
-use lib.ListN.{set, length, length-set, replicate}
+use lib.ListN.{getD, set, length, length-set, replicate}
 use lib.Seq.{getD-set-same, getD-set-other}
 use borrow.Author.Tests.{lt-ltb}
 use Rattle.words.specs.Choice.{pick}
@@ -17,14 +17,24 @@ use Rattle.board_wires.specs.declared.Board.{Board}
 use Rattle.board_wires.specs.declared.Told.{Told}
 use Rattle.board_wires.specs.declared.Wire.{Wire}
 use Rattle.board_wires.specs.declared.Wire.the-variants.{Nothing}
-use Rattle.board_wires.specs.Wires.{wireIn, wireAt, coreAt, inputsOf, wired, sideBy, activeBy, below, activity, inputValue, wiredCore}
+use Rattle.board_wires.specs.Wires.{wireIn, wireAt, coreAt, inputsOf, placeOf, wired, sideBy, activeBy, below, activity, inputValue, wiredCore}
 use Rattle.board_wires.specs.Table.{tells, withTold, toldTo}
-use Rattle.board_wires.proofs.WireLaws.{no-wire, below-is, wired-same, side-same}
+use Rattle.board_wires.proofs.WireLaws.{below-is, wired-same}
+use Rattle.board_wires.proofs.NumberLaws.{no-wire}
+use Rattle.board_wires.proofs.InputLaws.{side-used}
 
-told-lengths : (b : Board) (n : ℕ) → (length (toldTo b n .irq) ≡ 8) × (length (toldTo b n .fiq) ≡ 8)
+pub told-lengths : (b : Board) (n : ℕ) → (length (toldTo b n .irq) ≡ 8) × (length (toldTo b n .fiq) ≡ 8)
 unfolding toldTo
 told-lengths b zero = (refl, refl)
 told-lengths b (suc n) = (length-set (toldTo b n .irq) n _ ∙ told-lengths b n .0, length-set (toldTo b n .fiq) n _ ∙ told-lengths b n .1)
+
+tells-irq : (t : Told) (d : ℕ) → d < 8 → tells t d false ≡ getD (t .irq) d false
+unfolding tells pick
+tells-irq t d l = rw (lt-ltb d 8 l)
+
+tells-fiq : (t : Told) (d : ℕ) → d < 8 → tells t d true ≡ getD (t .fiq) d false
+unfolding tells pick
+tells-fiq t d l = rw (lt-ltb d 8 l)
 
 -- ---- the place just filled, and the others
 
@@ -44,7 +54,7 @@ active-same : (b : Board) (g h : ℕ → Bool → Bool) (c : ℕ) (fast : Bool) 
 unfolding activeBy
 active-same b g h c fast e =
     ap active
-    (side-same (b .wire) (b .pin) g h c fast (side (coreAt b c) fast) (inputsOf fast) (λ i. wired-same (b .pin) g h c (wireAt b c i) e))
+    (side-used (b .wire) (b .wire) (b .pin) (b .pin) g h c fast (side (coreAt b c) fast) (inputsOf fast) (λ k l. wired-same (b .pin) g h c (wireAt b c (placeOf fast k)) e))
 
 told-new : (b : Board) (n : ℕ) (fast : Bool) → ((d : ℕ) (f : Bool) → d < n → tells (toldTo b n) d f ≡ activity b d f) → activeBy b (tells (toldTo b n)) n fast ≡ activity b n fast
 unfolding activity
@@ -67,6 +77,13 @@ wired-none : (b : Board) (c : ℕ) → wired (b .pin) (tells (toldTo b 8)) c Not
 unfolding wired
 wired-none b c = refl
 
+-- so the arrays of the whole table hold
+pub told-irq : (b : Board) (d : ℕ) → d < 8 → getD (toldTo b 8 .irq) d false ≡ activity b d false
+told-irq b d l = sym (tells-irq (toldTo b 8) d l) ∙ told-is b 8 d false (omega arith) l
+
+pub told-fiq : (b : Board) (d : ℕ) → d < 8 → getD (toldTo b 8 .fiq) d false ≡ activity b d true
+told-fiq b d l = sym (tells-fiq (toldTo b 8) d l) ∙ told-is b 8 d true (omega arith) l
+
 -- the whole table serves for every input of every controller
 pub wired-told : (b : Board) (c i : ℕ) → wired (b .pin) (tells (toldTo b 8)) c (wireAt b c i) ≡ wired (b .pin) (below b c) c (wireAt b c i)
 wired-told b c i = go (decLt 8 c)
@@ -78,7 +95,9 @@ wired-told b c i = go (decLt 8 c)
         (λ d f k. told-is b 8 d f (omega arith) (omega arith) ∙ sym (below-is b c d f k))
 
 pub side-told : (b : Board) (c : ℕ) (fast : Bool) (n : ℕ) → sideBy b (tells (toldTo b 8)) c fast n ≡ sideBy b (below b c) c fast n
-side-told b c fast n = side-same (b .wire) (b .pin) (tells (toldTo b 8)) (below b c) c fast (side (coreAt b c) fast) n (λ i. wired-told b c i)
+side-told b c fast n =
+    side-used (b .wire) (b .wire) (b .pin) (b .pin) (tells (toldTo b 8)) (below b c) c fast (side (coreAt b c) fast) n
+    (λ k l. wired-told b c (placeOf fast k))
 
 -- ---- the table, one controller after the other
 

@@ -1,15 +1,16 @@
--- Laws of what the wires carry: wires beyond the board, the activities of the lower numbers, an input, and the inputs of a side in turn.
+-- Laws of what the wires carry: the activities of the lower numbers, an input by its wire, and the inputs of a side in turn.
 use Prim.Native.Nat.{ℕ, zero, suc, _+_, _≤_, _<_}
 use mathlib.Core.Path.{_≡_, refl, sym, ap, _∙_}
 use mathlib.Core.Bool.{Bool, true, false, _&&_}
 use mathlib.Core.List.{List}
+use mathlib.Core.Logic.{_↔_}
 use native.Mathlib.Omega.{arith}
 use native.Mathlib.Decide.{ℕ-discrete, decLt}
 use lib.Dec.{eqb, ltb}
 use borrow.Author.Tests.{lt-ltb, le-ltb, eq-eqb, ne-eqb}
 use Rattle.words.specs.Choice.{pick}
-use Rattle.words.specs.Counting.{upto}
 use Rattle.words.proofs.CountingLaws.{upto-none, upto-more, at-end}
+use Rattle.words.proofs.TruthLaws.{clash}
 use Rattle.coreinterrupt_side.specs.declared.Side.{Side}
 use Rattle.coreinterrupt_side.specs.Side.{active, moved}
 use Rattle.coreinterrupt.specs.Model.{side}
@@ -17,11 +18,6 @@ use Rattle.board_wires.specs.declared.Board.{Board}
 use Rattle.board_wires.specs.declared.Wire.{Wire}
 use Rattle.board_wires.specs.declared.Wire.the-variants.{Nothing, Pin, Irq, Fiq}
 use Rattle.board_wires.specs.Wires.{wireIn, wireAt, pinOf, coreAt, inputsOf, placeOf, wired, sideIn, sideBy, activeBy, below, activity, inputValue}
-
--- a controller beyond the eight has no wire
-pub no-wire : (ws : List ℕ) (c i : ℕ) → 8 ≤ c → wireIn ws c i ≡ Nothing
-unfolding wireIn pick
-no-wire ws c i l = rw (le-ltb c 8 l)
 
 -- what is told of the numbers below n is their activity
 pub below-is : (b : Board) (n d : ℕ) (fast : Bool) → d < n → below b n d fast ≡ activity b d fast
@@ -109,8 +105,21 @@ wired-same ps g h c (Pin p) e = refl
 wired-same ps g h c (Irq d) e = lower-same g h c d false e
 wired-same ps g h c (Fiq d) e = lower-same g h c d true e
 
-pub side-same : (ws ps : List ℕ) (g h : ℕ → Bool → Bool) (c : ℕ) (fast : Bool) (s : Side) (n : ℕ)
-    → ((i : ℕ) → wired ps g c (wireIn ws c i) ≡ wired ps h c (wireIn ws c i)) → sideIn ws ps g c fast s n ≡ sideIn ws ps h c fast s n
-unfolding sideIn upto
-side-same ws ps g h c fast s zero e = refl
-side-same ws ps g h c fast s (suc n) e = rw (side-same ws ps g h c fast s n e, e (placeOf fast n))
+-- ---- the value of an input, exactly
+
+lower-value : (v a : Bool) (d c : ℕ) → (d < c → a ≡ v) → (c ≤ d → false ≡ v) → (v ≡ true) ↔ ((d < c) × (a ≡ true))
+lower-value v a d c f g = ((λ e. there e (decLt d c)), (λ h. sym (f (h .0)) ∙ h .1))
+  where
+    there : v ≡ true → Dec (d < c) → (d < c) × (a ≡ true)
+    there e (yes l) = (l, f l ∙ e)
+    there e (no l) = clash e (sym (g (omega arith)))
+
+pub irq-value : (b : Board) (c i d : ℕ) → wireAt b c i ≡ Irq d → (inputValue b c i ≡ true) ↔ ((d < c) × (activity b d false ≡ true))
+irq-value b c i d e =
+    lower-value (inputValue b c i) (activity b d false) d c (λ l. from-irq b c i (wireAt b c i) refl d (activity b d false) e l refl)
+    (irq-above b c i (wireAt b c i) refl d e)
+
+pub fiq-value : (b : Board) (c i d : ℕ) → wireAt b c i ≡ Fiq d → (inputValue b c i ≡ true) ↔ ((d < c) × (activity b d true ≡ true))
+fiq-value b c i d e =
+    lower-value (inputValue b c i) (activity b d true) d c (λ l. from-fiq b c i (wireAt b c i) refl d (activity b d true) e l refl)
+    (fiq-above b c i (wireAt b c i) refl d e)
