@@ -114,7 +114,7 @@ fn upward_refusal(c: u32, w: Wire) -> u32
     steps::UPWARD
 }
 
-// ---- the board with one part put anew; a number beyond the array's end puts nothing
+// ---- the board with one part put anew; beyond the end of the wires and of the pins nothing is put
 
 fn with_controller(b: Board, k: Core) -> Board
     requires { ⌜ b .controllers < 8 ⌝ }
@@ -128,15 +128,12 @@ fn with_controller(b: Board, k: Core) -> Board
 }
 
 fn with_core(b: Board, c: u32, k: Core) -> Board
+    requires { ⌜ c < 8 ⌝ }
     ensures { λ r. ⌜ r ≡ withCore b c k ⌝ }
 {
-    let at = c as usize;
-    if at < 8 {
-        let mut d = b;
-        d.core[at] = k;
-        return d;
-    }
-    b
+    let mut d = b;
+    d.core[c as usize] = k;
+    d
 }
 
 fn with_wire(b: Board, c: u32, i: u32, w: Wire) -> Board
@@ -207,7 +204,11 @@ pub fn connect(b: Board, c: u32, i: u32, w: Wire) -> Answer
 pub fn put_pin(b: Board, p: u32, level: u32) -> Answer
     ensures { λ r. ⌜ r ≡ putPin b p level ⌝ }
 {
-    let n = checked(b, (p < board_record::PIN_LIMIT) & (level <= 1), steps::CARRIED_OUT);
+    let n = checked(
+        b,
+        (p < board_record::PIN_LIMIT) & (level <= 1),
+        steps::CARRIED_OUT,
+    );
     if n == steps::CARRIED_OUT {
         return answer_of(with_pin(b, p, level as u8), 0);
     }
@@ -231,7 +232,10 @@ pub fn write(b: Board, c: u32, offset: u32, value: u32) -> Answer
 {
     let a = coreinterrupt::write(board_wires::core_at(b, c), offset, value);
     let n = checked(b, is_there(b, c), a.refusal);
-    unless_refused(b, n, answer_of(with_core(b, c, a.core), a.value))
+    if n == steps::CARRIED_OUT {
+        return answer_of(with_core(b, c, a.core), a.value);
+    }
+    refusal_of(b, n)
 }
 
 // ---- what a board answers
@@ -267,7 +271,11 @@ fn number_of(high: bool) -> u32
 pub fn input(b: Board, c: u32, i: u32) -> Reply
     ensures { λ r. ⌜ r ≡ input b c i ⌝ }
 {
-    let n = checked(b, is_there(b, c) & (i < board_record::INPUT_LIMIT), steps::CARRIED_OUT);
+    let n = checked(
+        b,
+        is_there(b, c) & (i < board_record::INPUT_LIMIT),
+        steps::CARRIED_OUT,
+    );
     reply_of(n, number_of(board_wires::value_of_input(b, c, i)))
 }
 

@@ -1,2 +1,4 @@
--- The laws of the record, and that the promises are kept.
+-- The laws of the record of a board, and that its promises are kept.
+pub mod Promises
 pub mod RecordLaws
+pub mod SoundLaws

@@ -1,5 +1,5 @@
 -- That `cores_kept` of src/lib.rt keeps its contract.
-use Rattle.board_record.proofs.RecordLaws.{core-at}
+use Rattle.board_wires.proofs.NumberLaws.{core-there}
 use Rattle.board_record.specs.Sound.{coresSound, coreRule}
 use Rattle.board_wires.specs.Wires.{coreAt}
 use mathlib.Core.Path.{_≡_, sym, ap, _∙_}
@@ -22,7 +22,7 @@ loop-holds : tie.Need-loop-holds Inv-loop μ-loop
 loop-holds c = (omega arith, all-none-yet _)
 
 loop-again : tie.Need-loop-again Inv-loop μ-loop
-loop-again c = let b = c .before .before .before .before .args .t1 in (omega arith, all-more (λ j. coreRule (b .controllers) j (coreAt b j)) (c .before .before .before .loop .c) (c .before .before .before .loop .inv .1) (c .core-kept .ensures ∙ ap (coreRule (b .controllers) (c .before .before .before .loop .c)) (sym (core-at b (c .before .before .before .loop .c) (c .before .before .loop-test .taken)))))
+loop-again c = let b = c .before .before .before .before .args .t1 in (omega arith, all-more (λ j. coreRule (b .controllers) j (coreAt b j)) (c .before .before .before .loop .c) (c .before .before .before .loop .inv .1) (c .core-kept .ensures ∙ ap (coreRule (b .controllers) (c .before .before .before .loop .c)) (sym (core-there b (c .before .before .before .loop .c) (c .before .before .loop-test .taken)))))
 
 returns : tie.Need-returns Inv-loop μ-loop
 unfolding coresSound
