@@ -31,8 +31,8 @@ pub(crate) fn input(seed: u64) -> u32 {
         1 => below(s, 40),
         2 => below(s, 40),
         3 => one_of(s, 31, 39, 31, 39),
-        4 => 32 + below(s, 3),
-        5 => 32 + below(s, 3),
+        4 => one_of(s, 32, 33, 34, 35),
+        5 => one_of(s, 32, 32, 33, 34),
         _ => below(s, 4),
     }
 }
@@ -78,7 +78,7 @@ pub(crate) fn offset(seed: u64) -> u32 {
     match below(seed, 12) {
         0 => below(s, 0x40),
         1 => one_of(s, 0x30, 0x34, 0x100, 0xFFFFFFFC),
-        _ => 4 * below(s, 12),
+        _ => 4 * (s / 65536 % 12) as u32,
     }
 }
 
@@ -88,12 +88,14 @@ pub(crate) fn written(seed: u64) -> u32 {
     if below(seed, 6) == 0 {
         return offset(s);
     }
-    let own = one_of(s, 0x00, 0x04, 0x08, 0x0C);
-    own + 0x18 * below(next(s), 2)
+    if below(next(s), 2) == 0 {
+        return one_of(s, 0x00, 0x04, 0x08, 0x0C);
+    }
+    one_of(s, 0x18, 0x1C, 0x20, 0x24)
 }
 
-// So many sources of at most so many.
-pub(crate) fn sources(seed: u64, most: u32) -> u32 {
+// So many sources, at most the last number, of which the one before it is one less.
+pub(crate) fn sources(seed: u64, less: u32, most: u32) -> u32 {
     let s = next(seed);
     match below(seed, 8) {
         0 => 0,
@@ -101,7 +103,15 @@ pub(crate) fn sources(seed: u64, most: u32) -> u32 {
         2 => below(s, most),
         3 => below(s, most),
         4 => one_of(s, 1, 2, 3, 4),
-        5 => most - 1,
+        5 => less,
         _ => most,
     }
+}
+
+// The controller below.
+pub(crate) fn lower(c: u32) -> u32 {
+    if c == 0 {
+        return 0;
+    }
+    c - 1
 }

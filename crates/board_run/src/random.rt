@@ -19,7 +19,8 @@ pub(crate) fn below(seed: u64, n: u32) -> u32 {
     if n == 0 {
         return 0;
     }
-    (seed / 65536 % (n as u64)) as u32
+    let x = (seed / 65536 % 65536) as u32;
+    x % n
 }
 
 // A word of 32 bits.

@@ -175,6 +175,10 @@ fn named(out: &mut [u8], at: usize, name: &[u8], n: u32) -> usize {
 // Ends the line and prints it.
 fn end(out: &mut [u8], at: usize) {
     let n = text::put(out, at, text::NEWLINE);
+    print(out, n);
+}
+
+fn print(out: &[u8], n: usize) {
     if n <= out.len() {
         io::write_all(1, &out[..n]);
     }

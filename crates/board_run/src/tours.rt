@@ -7,7 +7,6 @@ use super::random::skip;
 use super::random::word;
 use super::say;
 use board_wires::Board;
-use board_wires::Wire;
 
 // A board, and the seed of what comes next.
 struct Tour {
@@ -25,16 +24,17 @@ fn spoilt(draw: u32, nth: u32, n: u32, beyond: u32) -> u32 {
 
 // A controller is added, or is not; where it would stand, most of its sources are enabled.
 fn grow(t: Tour) -> Tour {
+    let mut x = t.board;
+    let at = x.controllers;
     let a = skip(t.seed);
     let b = skip(a);
     let c = skip(b);
     let d = skip(c);
     let draw = below(d, 48);
-    let at = t.board.controllers;
-    let mut x = say::add(
-        t.board,
-        spoilt(draw, 0, numbers::sources(a, 8), 9),
-        spoilt(draw, 1, numbers::sources(b, 32), 33),
+    x = say::add(
+        x,
+        spoilt(draw, 0, numbers::sources(a, 7, 8), 9),
+        spoilt(draw, 1, numbers::sources(b, 31, 32), 33),
         spoilt(draw, 2, below(c, 2), 2),
         spoilt(draw, 3, below(c / 4, 2), 0xFFFFFFFF),
     );
@@ -53,13 +53,14 @@ fn grow(t: Tour) -> Tour {
 
 // An input is wired, and asked.
 fn wired(t: Tour) -> Tour {
+    let mut x = t.board;
+    let n = x.controllers;
     let a = skip(t.seed);
     let b = skip(a);
     let d = skip(b);
-    let n = t.board.controllers;
     let c = numbers::controller(a, n);
     let i = numbers::input(b);
-    let x = say::connect(t.board, c, i, numbers::wire(d, n, c));
+    x = say::connect(x, c, i, numbers::wire(d, n, c));
     say::input(x, c, i);
     Tour {
         seed: skip(d),
@@ -68,10 +69,11 @@ fn wired(t: Tour) -> Tour {
 }
 
 fn moved(t: Tour) -> Tour {
+    let mut x = t.board;
     let a = skip(t.seed);
     let b = skip(a);
-    let x = say::pin(
-        t.board,
+    x = say::pin(
+        x,
         numbers::pin(a),
         numbers::one_of(b, 0, 1, 1, below(b / 4, 4)),
     );
@@ -82,12 +84,13 @@ fn moved(t: Tour) -> Tour {
 }
 
 fn written(t: Tour) -> Tour {
+    let mut x = t.board;
     let a = skip(t.seed);
     let b = skip(a);
     let d = skip(b);
-    let c = numbers::controller(a, t.board.controllers);
-    let x = say::write(
-        t.board,
+    let c = numbers::controller(a, x.controllers);
+    x = say::write(
+        x,
         c,
         numbers::written(b),
         numbers::one_of(d, word(d), below(d / 4, 16), 1, 3),
@@ -98,42 +101,49 @@ fn written(t: Tour) -> Tour {
     }
 }
 
+fn question(b: Board, kind: u32, c: u32, seed: u64) {
+    if kind == 0 {
+        say::read(b, c, numbers::offset(seed));
+        return;
+    }
+    if kind == 1 {
+        say::outputs(b, c);
+        return;
+    }
+    if kind == 2 {
+        say::chain(b, c);
+        return;
+    }
+    say::input(b, c, numbers::input(seed));
+}
+
 fn asked(t: Tour) -> Tour {
+    let x = t.board;
     let a = skip(t.seed);
     let b = skip(a);
-    let c = numbers::controller(a, t.board.controllers);
-    match below(t.seed, 4) {
-        0 => say::read(t.board, c, numbers::offset(b)),
-        1 => say::outputs(t.board, c),
-        2 => say::chain(t.board, c),
-        _ => say::input(t.board, c, numbers::input(b)),
-    }
+    let d = skip(b);
+    question(x, below(d, 4), numbers::controller(a, x.controllers), b);
     Tour {
-        seed: skip(b),
-        board: t.board,
+        seed: skip(d),
+        board: x,
     }
 }
 
 fn step(t: Tour) -> Tour {
-    let s = skip(t.seed);
-    let k = below(s, 32);
-    let u = Tour {
-        seed: skip(s),
-        board: t.board,
-    };
+    let k = below(t.seed, 32);
     if k < 10 {
-        return wired(u);
+        return wired(t);
     }
     if k < 15 {
-        return moved(u);
+        return moved(t);
     }
     if k < 20 {
-        return written(u);
+        return written(t);
     }
     if k < 31 {
-        return asked(u);
+        return asked(t);
     }
-    grow(u)
+    grow(t)
 }
 
 // ---- the parts of a tour
@@ -148,22 +158,31 @@ fn grown(t: Tour, n: u32) -> Tour {
     u
 }
 
-// Where the draw says so each controller is wired to the one below, by an input that may be unused.
-fn linked(t: Tour) -> Tour {
-    let mut s = skip(t.seed);
-    let mut b = t.board;
-    let mut c: u32 = 1;
-    while c < b.controllers {
-        b = say::connect(
-            b,
-            c,
-            numbers::one_of(s, 0, 1, 32, 39),
-            numbers::output(skip(s), c - 1),
-        );
-        s = skip(s);
-        c = c + 1;
+// Controller c is wired to the one below, by an input that may be unused.
+fn link(t: Tour, c: u32) -> Tour {
+    let mut x = t.board;
+    let a = skip(t.seed);
+    let b = skip(a);
+    x = say::connect(
+        x,
+        c,
+        numbers::one_of(a, 0, 1, 32, 39),
+        numbers::output(b, numbers::lower(c)),
+    );
+    Tour {
+        seed: skip(b),
+        board: x,
     }
-    Tour { seed: s, board: b }
+}
+
+fn linked(t: Tour, n: u32) -> Tour {
+    let mut u = t;
+    let mut k: u32 = 0;
+    while k < n {
+        u = link(u, k);
+        k = k + 1;
+    }
+    u
 }
 
 fn stepped(t: Tour, n: u32) -> Tour {
@@ -176,35 +195,45 @@ fn stepped(t: Tour, n: u32) -> Tour {
     u
 }
 
-// The outputs and the chain of every controller.
-fn told(b: Board) {
-    let mut c: u32 = 0;
-    while c < b.controllers {
-        say::outputs(b, c);
-        say::chain(b, c);
-        c = c + 1;
+// The outputs and the chain of n controllers.
+fn told(b: Board, n: u32) {
+    let mut k: u32 = 0;
+    while k < n {
+        say::outputs(b, k);
+        say::chain(b, k);
+        k = k + 1;
     }
 }
 
-fn tour(k: u32) {
+fn opened(k: u32) -> Tour {
     let s = seed_of(k);
-    let a = skip(s);
-    let mut t = Tour {
-        seed: skip(a),
+    Tour {
+        seed: skip(s),
         board: say::numbered(k),
-    };
-    t = grown(t, 1 + below(s, 9));
-    if below(a, 3) == 0 {
-        t = linked(t);
     }
-    t = stepped(t, 8 + below(s / 16, 60));
-    told(t.board);
+}
+
+// One tour in three has its controllers linked.
+fn links(seed: u64) -> u32 {
+    if below(seed, 3) == 0 {
+        return 8;
+    }
+    0
+}
+
+fn played(k: u32) {
+    let mut t = opened(k);
+    t = grown(t, 1 + (t.seed / 65536 % 9) as u32);
+    t = linked(t, links(t.seed));
+    t = stepped(t, 8 + (t.seed / 65536 % 60) as u32);
+    let b = t.board;
+    told(b, b.controllers);
 }
 
 pub(crate) fn all(n: u32) {
     let mut k: u32 = 0;
     while k < n {
-        tour(k);
+        played(k);
         k = k + 1;
     }
 }

@@ -3,43 +3,59 @@ use super::say;
 use board_wires::Board;
 use board_wires::Wire;
 
+fn ask_one(b: Board, c: u32) {
+    say::outputs(b, c);
+    say::chain(b, c);
+}
+
 // The outputs and the chain of every controller.
 fn ask(b: Board) {
-    let mut c: u32 = 0;
-    while c < 8 {
-        say::outputs(b, c);
-        say::chain(b, c);
-        c = c + 1;
-    }
+    ask_one(b, 0);
+    ask_one(b, 1);
+    ask_one(b, 2);
+    ask_one(b, 3);
+    ask_one(b, 4);
+    ask_one(b, 5);
+    ask_one(b, 6);
+    ask_one(b, 7);
 }
 
-// Controller c of one FIQ and one IRQ source, both enabled; the active level of FIQ is 0 and 1 by turns, that of IRQ 1 and 0.
-fn small(b: Board, c: u32) -> Board {
-    let d = say::add(b, 1, 1, c % 2, (c + 1) % 2);
-    let e = say::write(d, c, 0x08, 1);
-    say::write(e, c, 0x20, 1)
+// Controller c of one FIQ and one IRQ source, both enabled.
+fn small(b: Board, c: u32, fiqlevel: u32, irqlevel: u32) -> Board {
+    let mut d = say::add(b, 1, 1, fiqlevel, irqlevel);
+    d = say::write(d, c, 0x08, 1);
+    say::write(d, c, 0x20, 1)
 }
 
+// The active level of FIQ is 0 and 1 by turns, that of IRQ 1 and 0.
 fn smalls(title: &[u8]) -> Board {
     let mut b = say::board(title);
-    let mut c: u32 = 0;
-    while c < 8 {
-        b = small(b, c);
-        c = c + 1;
-    }
-    b
+    b = small(b, 0, 0, 1);
+    b = small(b, 1, 1, 0);
+    b = small(b, 2, 0, 1);
+    b = small(b, 3, 1, 0);
+    b = small(b, 4, 0, 1);
+    b = small(b, 5, 1, 0);
+    b = small(b, 6, 0, 1);
+    small(b, 7, 1, 0)
 }
 
-// IRQ input 0 of each controller goes to the IRQ of the one below, of the lowest to pin 0. Then the middle one is disabled, and raised by software; then the
-// highest is wired past it to the lowest.
-fn by_irq() {
+// IRQ input 0 of each controller goes to the IRQ of the one below, of the lowest to pin 0.
+fn linked() -> Board {
     let mut b = smalls(b"a chain of eight by IRQ");
     b = say::connect(b, 0, 0, Wire::Pin(0));
-    let mut c: u32 = 1;
-    while c < 8 {
-        b = say::connect(b, c, 0, Wire::Irq(c - 1));
-        c = c + 1;
-    }
+    b = say::connect(b, 1, 0, Wire::Irq(0));
+    b = say::connect(b, 2, 0, Wire::Irq(1));
+    b = say::connect(b, 3, 0, Wire::Irq(2));
+    b = say::connect(b, 4, 0, Wire::Irq(3));
+    b = say::connect(b, 5, 0, Wire::Irq(4));
+    b = say::connect(b, 6, 0, Wire::Irq(5));
+    say::connect(b, 7, 0, Wire::Irq(6))
+}
+
+// The pin rises; the middle one is disabled; the pin falls and the middle one is raised by software; the highest is wired past it to the lowest.
+fn by_irq() {
+    let mut b = linked();
     ask(b);
     b = say::pin(b, 0, 1);
     ask(b);
@@ -53,16 +69,16 @@ fn by_irq() {
     ask(b);
 }
 
-// The FIQ of each controller is raised by the IRQ of the one below by turns with its FIQ, so that only what is read right goes up.
+// IRQ and FIQ by turns raise one another, so that only what is read right goes up.
 fn by_turns() {
     let mut b = smalls(b"a chain of eight by FIQ and IRQ in turn");
     b = say::connect(b, 0, 32, Wire::Pin(319));
-    let mut c: u32 = 1;
-    while c < 7 {
-        b = say::connect(b, c, 0, Wire::Fiq(c - 1));
-        b = say::connect(b, c + 1, 32, Wire::Irq(c));
-        c = c + 2;
-    }
+    b = say::connect(b, 1, 0, Wire::Fiq(0));
+    b = say::connect(b, 2, 32, Wire::Irq(1));
+    b = say::connect(b, 3, 0, Wire::Fiq(2));
+    b = say::connect(b, 4, 32, Wire::Irq(3));
+    b = say::connect(b, 5, 0, Wire::Fiq(4));
+    b = say::connect(b, 6, 32, Wire::Irq(5));
     b = say::connect(b, 7, 0, Wire::Fiq(6));
     ask(b);
     b = say::pin(b, 319, 1);
@@ -105,12 +121,13 @@ fn larges() -> Board {
     b = say::add(b, 8, 32, 1, 0);
     b = say::write(b, 0, 0x08, 0x80);
     b = say::write(b, 0, 0x20, 0x80000000);
-    let mut c: u32 = 1;
-    while c < 8 {
-        b = large(b, c, c - 1);
-        c = c + 1;
-    }
-    b
+    b = large(b, 1, 0);
+    b = large(b, 2, 1);
+    b = large(b, 3, 2);
+    b = large(b, 4, 3);
+    b = large(b, 5, 4);
+    b = large(b, 6, 5);
+    large(b, 7, 6)
 }
 
 // The last IRQ source of the lowest is raised by a pin, then its last FIQ source by another, then the first falls.
