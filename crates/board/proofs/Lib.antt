@@ -1,0 +1,2 @@
+-- The laws of a board, and that the promises are kept.
+pub mod AnswerLaws

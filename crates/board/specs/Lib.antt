@@ -1,0 +1,2 @@
+-- A board of CoreInterrupts: what is done to it, what it answers, and what is promised of it.
+pub mod Model

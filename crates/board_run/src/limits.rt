@@ -1,0 +1,117 @@
+// Both sides of every refusal: 10 and 6 of a controller added, 6 before 15 of a wire, 6 of a pin, 6 before the controller's own 1 to 4, 6 of a question.
+use super::say;
+use board_wires::Board;
+use board_wires::Wire;
+
+const FAR: u32 = 0xFFFFFFFF;
+
+// Each number of a configuration at its limit and beyond it; a ninth controller, 6 before its 10.
+fn adding() {
+    let mut b = say::board(b"controllers added");
+    say::outputs(b, 0);
+    say::chain(b, 0);
+    b = say::add(b, 9, 32, 1, 1);
+    b = say::add(b, 8, 33, 1, 1);
+    b = say::add(b, 8, 32, 2, 1);
+    b = say::add(b, 8, 32, 1, 2);
+    b = say::add(b, FAR, FAR, FAR, FAR);
+    b = say::add(b, 8, 32, 1, 1);
+    b = say::add(b, 0, 0, 0, 0);
+    b = say::add(b, 0, 32, 0, 1);
+    b = say::add(b, 8, 0, 1, 0);
+    b = say::add(b, 1, 1, 1, 1);
+    b = say::add(b, 1, 1, 1, 1);
+    b = say::add(b, 1, 1, 1, 1);
+    say::outputs(b, 7);
+    b = say::add(b, 1, 1, 1, 1);
+    say::outputs(b, 7);
+    b = say::add(b, 1, 1, 1, 1);
+    b = say::add(b, 9, 1, 1, 1);
+    say::outputs(b, 8);
+}
+
+fn three(title: &[u8]) -> Board {
+    let mut b = say::board(title);
+    b = say::add(b, 2, 3, 1, 1);
+    b = say::add(b, 2, 3, 0, 1);
+    say::add(b, 0, 3, 1, 1)
+}
+
+// On a board of three: a wire to a number that is not there is 6, one to the same or a higher number 15, also on an unused input.
+fn wires() {
+    let mut b = three(b"wires of a board of three");
+    b = say::connect(b, 2, 0, Wire::Irq(1));
+    b = say::connect(b, 2, 0, Wire::Irq(2));
+    b = say::connect(b, 2, 0, Wire::Fiq(3));
+    b = say::connect(b, 1, 0, Wire::Irq(3));
+    b = say::connect(b, 1, 0, Wire::Irq(2));
+    b = say::connect(b, 1, 0, Wire::Fiq(1));
+    b = say::connect(b, 1, 20, Wire::Fiq(2));
+    b = say::connect(b, 1, 39, Wire::Irq(1));
+    b = say::connect(b, 0, 0, Wire::Irq(0));
+    b = say::connect(b, 0, 0, Wire::Fiq(7));
+    b = say::connect(b, 0, 0, Wire::Irq(FAR));
+    b = say::connect(b, 3, 0, Wire::Irq(0));
+    b = say::connect(b, 3, 0, Wire::Nothing);
+    b = say::connect(b, FAR, 0, Wire::Nothing);
+    b = say::connect(b, 2, 39, Wire::Nothing);
+    b = say::connect(b, 2, 40, Wire::Nothing);
+    b = say::connect(b, 1, 40, Wire::Irq(1));
+    b = say::connect(b, 0, FAR, Wire::Pin(0));
+    b = say::connect(b, 0, 0, Wire::Pin(319));
+    b = say::connect(b, 0, 0, Wire::Pin(320));
+    b = say::connect(b, 0, 0, Wire::Pin(FAR));
+    b = say::pin(b, 319, 1);
+    b = say::pin(b, 320, 1);
+    b = say::pin(b, FAR, 0);
+    b = say::pin(b, 0, 2);
+    b = say::pin(b, 0, FAR);
+    say::input(b, 0, 0);
+    say::chain(b, 2);
+}
+
+// A controller that is not there before a misaligned offset, that before one with no register, a clear read and a status written.
+fn registers() {
+    let mut b = three(b"registers of a board of three");
+    say::read(b, 3, 1);
+    say::read(b, FAR, 0);
+    say::read(b, 2, 1);
+    say::read(b, 2, 0x31);
+    say::read(b, 2, 0x2C);
+    say::read(b, 2, 0x30);
+    say::read(b, 0, 0x04);
+    say::read(b, 2, 0x04);
+    say::read(b, 2, 0x1C);
+    b = say::write(b, 3, 0x10, 1);
+    b = say::write(b, 2, 0x12, 1);
+    b = say::write(b, 2, 0x30, 1);
+    b = say::write(b, 2, 0x10, 1);
+    b = say::write(b, 2, 0x2C, 1);
+    b = say::write(b, 2, 0x18, 0xFF);
+    say::read(b, 2, 0x18);
+    b = say::write(b, 2, 0x1C, 2);
+    say::read(b, 2, 0x18);
+    say::read(b, 2, 0x28);
+    say::read(b, 2, 0x2C);
+}
+
+fn questions() {
+    let b = three(b"questions to a board of three");
+    say::outputs(b, 2);
+    say::outputs(b, 3);
+    say::outputs(b, FAR);
+    say::input(b, 2, 39);
+    say::input(b, 2, 40);
+    say::input(b, 3, 0);
+    say::input(b, 0, FAR);
+    say::chain(b, 2);
+    say::chain(b, 3);
+    say::chain(b, 8);
+}
+
+pub(crate) fn all() {
+    adding();
+    wires();
+    registers();
+    questions();
+}
