@@ -110,10 +110,13 @@ pub is-there : (b : Board) (c : ℕ) → c < b .controllers → isThere b c ≡ 
 unfolding isThere
 is-there b c l = lt-ltb c (b .controllers) l
 
+pub there-is : (b : Board) (c : ℕ) → isThere b c ≡ true → c < b .controllers
+unfolding isThere
+there-is b c e = ltb-true c (b .controllers) e
+
 -- a controller of a sound board is one of the eight
 pub there-below : (b : Board) (c : ℕ) → sound b ≡ true → isThere b c ≡ true → c < 8
-unfolding isThere
-there-below b c s e = omega (arith, ltb-true c (b .controllers) e, sound-parts b s .counted)
+there-below b c s e = omega (arith, there-is b c e, sound-parts b s .counted)
 
 -- ---- the checks
 
