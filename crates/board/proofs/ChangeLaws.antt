@@ -3,7 +3,7 @@ use Prim.Native.Nat.{ℕ, _+_, _*_, _<_, _≤_}
 use mathlib.Core.Path.{_≡_, refl, sym, ap, ap₂, _∙_}
 use mathlib.Core.Bool.{Bool, true, false, _&&_}
 use mathlib.Core.Logic.{_≢_, _⊎_, inl, inr}
-use native.Mathlib.Decide.{decLt, decLe, ℕ-discrete}
+use native.Mathlib.Decide.{decLt, decLe}
 use native.Mathlib.Omega.{arith}
 use borrow.Author.Tests.{ltb-true, leb-true}
 use lib.Dec.{ltb, leb}
@@ -11,9 +11,7 @@ use lib.ListN.{getD, length, length-set}
 use lib.Seq.{getD-set-same, getD-set-other}
 use Rattle.words.specs.Choice.{pick}
 use Rattle.words.proofs.TruthLaws.{and-left, and-right}
-use Rattle.steps.specs.declared.Step.the-variants.{Write}
 use Rattle.steps.specs.Refusals.{carriedOut, upward}
-use Rattle.coreinterrupt.specs.declared.Answer as alone
 use Rattle.coreinterrupt.specs.declared.Begun.{Begun}
 use Rattle.coreinterrupt.specs.declared.Core.{Core}
 use Rattle.coreinterrupt.specs.Model as CoreInterrupt
@@ -21,20 +19,18 @@ use Rattle.coreinterrupt.proofs.Promises.{kept as alone-kept}
 use Rattle.board_wires.specs.declared.Board.{Board}
 use Rattle.board_wires.specs.declared.Wire.{Wire}
 use Rattle.board_wires.specs.declared.Wire.the-variants.{Nothing, Pin, Irq, Fiq}
-use Rattle.board_wires.specs.Wires.{wireOf, wireNumber, wireAt, coreAt, wiredCore}
+use Rattle.board_wires.specs.Wires.{wireOf, wireNumber, wireAt}
 use Rattle.board_wires.proofs.NumberLaws.{of-nothing, of-pin, of-irq, of-fiq, number-nothing, number-pin, number-irq, number-fiq, wire-there, no-input}
 use Rattle.board_record.specs.Promises.{Shaped}
-use Rattle.board_record.specs.Record.{withController, withCore, withWire, withPin}
+use Rattle.board_record.specs.Record.{withController, withWire, withPin}
 use Rattle.board_record.specs.Sound.{low, sound, lower}
 use Rattle.board_record.proofs.RecordLaws.{core-put, core-other, core-more, wire-put, wire-other}
-use Rattle.board_record.proofs.SoundLaws.{sound-parts, sound-rules, lines-low, number-rule, pin-sound, wire-sound, core-sound, controller-sound}
+use Rattle.board_record.proofs.SoundLaws.{sound-parts, sound-rules, lines-low, number-rule, pin-sound, wire-sound, controller-sound}
 use Rattle.board.specs.declared.Answer.{Answer}
-use Rattle.board.specs.Model.{answered, refused, checked, isThere, isNamed, upwardRefusal, add, connect, putPin, write}
+use Rattle.board.specs.Model.{answered, checked, isThere, isNamed, upwardRefusal, add, connect, putPin}
 use Rattle.board.specs.Tables.{Misconfigured, Adds, Wires, Pins}
-use Rattle.board.proofs.AnswerLaws.{carried, stopped, either-way, done, none-given, there-is}
-use Rattle.board.proofs.LineLaws.{lined, write-lined, write-counts, write-lines}
+use Rattle.board.proofs.AnswerLaws.{either-way, done, none-given, there-is}
 use Rattle.board.proofs.NumberLaws.{configured}
-use Rattle.board.proofs.WiredLaws.{lines-low-all, wired-sound, wired-lined, irq-same-lines, fiq-same-lines, same-below}
 
 -- ---- a controller is added
 

@@ -62,8 +62,8 @@ module _ (f i fl il : ℕ) where
       (record {
         twelve = checks-twelve b t n later;
         six =
-          let six = checks-six b t n later (8 ≤ b .controllers) told in
-          ((λ e. let z = six .0 e in (z .0, omega (arith, z .1, sound-parts b (z .0) .counted))), (λ z. six .1 (z .0, omega (arith, z .1))));
+            let six = checks-six b t n later (8 ≤ b .controllers) told in
+            ((λ e. let z = six .0 e in (z .0, omega (arith, z .1, sound-parts b (z .0) .counted))), (λ z. six .1 (z .0, omega (arith, z .1))));
         ten = instead (checks-else b t n 10 (8 ≤ b .controllers) (Misconfigured f i fl il) (omega arith) (omega arith) told (alone .startRefused f i fl il)) under over;
         none = instead (checks-else b t n 0 (8 ≤ b .controllers) (Misconfigured f i fl il → ⊥) (omega arith) (omega arith) told configured) under over;
       })
