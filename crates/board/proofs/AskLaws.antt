@@ -1,12 +1,12 @@
 -- What a board answers of a controller: its registers, its outputs, its inputs and the chain below it.
-use Prim.Native.Nat.{ℕ, _+_, _*_, _<_, _≤_}
-use mathlib.Core.Path.{_≡_, refl, sym, ap, _∙_}
+use Prim.Native.Nat.{ℕ, _+_, _*_, _<_}
+use mathlib.Core.Path.{_≡_, sym, ap, _∙_}
 use mathlib.Core.Bool.{Bool, true, false, _&&_}
-use mathlib.Core.Logic.{_↔_, _≢_, _⊎_, inl, inr}
+use mathlib.Core.Logic.{_↔_, _≢_}
 use native.Mathlib.Decide.{decLt, ℕ-discrete}
 use native.Mathlib.Omega.{arith}
 use borrow.Author.Tests.{eq-eqb, ne-eqb, lt-ltb}
-use lib.Dec.{eqb, ltb}
+use lib.Dec.{ltb}
 use lib.ListN.{getD}
 use Rattle.words.specs.Counting.{one}
 use Rattle.words.proofs.ChoiceLaws.{pick-true, pick-false}
@@ -28,7 +28,7 @@ use Rattle.board_record.specs.Sound.{sound}
 use Rattle.board_record.proofs.SoundLaws.{sound-rules}
 use Rattle.board.specs.declared.Answer.{Answer}
 use Rattle.board.specs.declared.Reply.{Reply}
-use Rattle.board.specs.Model.{answered, refused, checked, isThere, read, silent, outputs, input, chain}
+use Rattle.board.specs.Model.{answered, checked, isThere, read, silent, outputs, input, chain}
 use Rattle.board.proofs.AnswerLaws.{carried, stopped, is-there, through, reply-done}
 use Rattle.board.proofs.NumberLaws.{outputs-number}
 use Rattle.board.proofs.WiredLaws.{wired-sound}

@@ -1,13 +1,13 @@
 -- What is changed where nothing is refused, and that a sound board stays sound.
 use Prim.Native.Nat.{ℕ, _+_, _*_, _<_, _≤_}
-use mathlib.Core.Path.{_≡_, refl, sym, ap, ap₂, _∙_}
+use mathlib.Core.Path.{_≡_, refl, ap, _∙_}
 use mathlib.Core.Bool.{Bool, true, false, _&&_}
-use mathlib.Core.Logic.{_≢_, _⊎_, inl, inr}
+use mathlib.Core.Logic.{inl, inr}
 use native.Mathlib.Decide.{decLt, decLe}
 use native.Mathlib.Omega.{arith}
 use borrow.Author.Tests.{ltb-true, leb-true}
 use lib.Dec.{ltb, leb}
-use lib.ListN.{getD, length, length-set}
+use lib.ListN.{length-set}
 use lib.Seq.{getD-set-same, getD-set-other}
 use Rattle.words.specs.Choice.{pick}
 use Rattle.words.proofs.TruthLaws.{and-left, and-right}
@@ -28,7 +28,7 @@ use Rattle.board_record.proofs.RecordLaws.{core-put, core-other, core-more, wir
 use Rattle.board_record.proofs.SoundLaws.{sound-parts, sound-rules, lines-low, number-rule, pin-sound, wire-sound, controller-sound}
 use Rattle.board.specs.declared.Answer.{Answer}
 use Rattle.board.specs.Model.{answered, checked, isThere, isNamed, upwardRefusal, add, connect, putPin}
-use Rattle.board.specs.Tables.{Misconfigured, Adds, Wires, Pins}
+use Rattle.board.specs.Tables.{Adds, Wires, Pins}
 use Rattle.board.proofs.AnswerLaws.{either-way, done, none-given, there-is}
 use Rattle.board.proofs.NumberLaws.{configured}
 

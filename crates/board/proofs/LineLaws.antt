@@ -1,11 +1,10 @@
 -- A write to CoreInterrupt and its lines: neither touches the other.
 use Prim.Native.Nat.{ℕ, zero, suc}
-use mathlib.Core.Path.{_≡_, refl, sym, ap, ap₂, _∙_}
+use mathlib.Core.Path.{_≡_, refl, sym, ap, _∙_}
 use mathlib.Core.Bool.{Bool, true, false}
 use native.Mathlib.Omega.{arith}
 use lib.Dec.{eqb}
 use Rattle.words.specs.Choice.{pick}
-use Rattle.steps.specs.declared.Access.{Access}
 use Rattle.steps.specs.Refusals.{writeRefusal}
 use Rattle.coreinterrupt_side.specs.declared.Side.{Side}
 use Rattle.coreinterrupt_side.specs.Side.{withInputs, clearAccess, sideAccess, sideWrite}

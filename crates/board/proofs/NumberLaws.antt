@@ -1,9 +1,9 @@
 -- Each number is given exactly when the tables say.
 use Prim.Native.Nat.{ℕ, _%_, _<_, _≤_}
 use mathlib.Core.Path.{_≡_, refl, sym, ap, _∙_}
-use mathlib.Core.Bool.{Bool, true, false, _&&_}
+use mathlib.Core.Bool.{Bool, true, _&&_}
 use mathlib.Core.Logic.{_↔_, _≢_, _⊎_, inl, inr, ⊎-elim}
-use native.Mathlib.Decide.{decLt, decLe, ℕ-discrete}
+use native.Mathlib.Decide.{decLt, ℕ-discrete}
 use native.Mathlib.Omega.{arith}
 use borrow.Author.Tests.{eqb-true, lt-ltb, ltb-true, le-leb, leb-true}
 use lib.Dec.{eqb, ltb, leb}
@@ -22,9 +22,9 @@ use Rattle.board_wires.specs.declared.Board.{Board}
 use Rattle.board_wires.specs.declared.Wire.{Wire}
 use Rattle.board_wires.specs.declared.Wire.the-variants.{Nothing, Pin, Irq, Fiq}
 use Rattle.board_wires.specs.Wires.{coreAt, wiredCore}
-use Rattle.board_record.specs.Sound.{sound, lower}
+use Rattle.board_record.specs.Sound.{lower}
 use Rattle.board_record.proofs.SoundLaws.{sound-parts, sound-rules}
-use Rattle.board.specs.Model.{checked, isThere, isNamed, upwardRefusal, add, connect, putPin, read, write, silent, outputs, input, chain}
+use Rattle.board.specs.Model.{checked, isThere, isNamed, upwardRefusal, add, connect, putPin, read, write, outputs, input, chain}
 use Rattle.board.specs.Tables.{Misconfigured, Missing, Upward, Absent, AddTable, WireTable, PinTable, OwnTable, InputTable}
 use Rattle.board.proofs.AnswerLaws.{number-is, reply-number, Told, told-true, told-both, told-lt, told-le, told-there, is-there, none-given, through, Later, checks-twelve, checks-six, checks-else, there-is}
 use Rattle.board.proofs.WiredLaws.{wired-sound}

@@ -1,14 +1,10 @@
 -- Controllers with the wired values as their lines: told by the wires, the pins and the controllers of lower numbers.
-use Prim.Native.Nat.{ℕ, zero, suc, _+_, _^_, _<_, _≤_}
+use Prim.Native.Nat.{ℕ, zero, suc, _+_, _<_}
 use mathlib.Core.Path.{_≡_, refl, sym, ap, ap₂, _∙_}
-use mathlib.Core.Bool.{Bool, true, false, _&&_}
-use mathlib.Core.Logic.{_≢_}
+use mathlib.Core.Bool.{true, false}
 use mathlib.Core.List.{List}
-use native.Mathlib.Decide.{decLt, ℕ-discrete}
+use native.Mathlib.Decide.{decLt}
 use native.Mathlib.Omega.{arith}
-use lib.Dec.{ltb}
-use Rattle.words.specs.Choice.{pick}
-use Rattle.words.specs.Word.{bit}
 use Rattle.words.proofs.TruthLaws.{same-test}
 use Rattle.words.proofs.WordLaws.{same-word}
 use Rattle.coreinterrupt_side.specs.Side.{active}

@@ -5,7 +5,7 @@ use mathlib.Core.Bool.{true}
 use mathlib.Core.Logic.{_≢_}
 use native.Mathlib.Decide.{ℕ-discrete}
 use native.Mathlib.Omega.{arith}
-use lib.ListN.{length, length-set}
+use lib.ListN.{length-set}
 use Rattle.steps.specs.declared.Step.the-variants.{Write}
 use Rattle.coreinterrupt.specs.declared.Answer as alone
 use Rattle.coreinterrupt.specs.declared.Core.{Core}
@@ -21,7 +21,7 @@ use Rattle.board_record.proofs.SoundLaws.{sound-parts, sound-rules, lines-low, 
 use Rattle.board.specs.declared.Answer.{Answer}
 use Rattle.board.specs.Model.{answered, checked, isThere, write}
 use Rattle.board.specs.Tables.{OwnTable}
-use Rattle.board.proofs.AnswerLaws.{carried, stopped, either-way, number-is, is-there, there-is, none-given, through}
+use Rattle.board.proofs.AnswerLaws.{carried, stopped, either-way, is-there, there-is, none-given, through}
 use Rattle.board.proofs.LineLaws.{lined, write-lined, write-counts, write-lines}
 use Rattle.board.proofs.NumberLaws.{write-table}
 use Rattle.board.proofs.WiredLaws.{lines-low-all, wired-sound, wired-lined, irq-same-lines, fiq-same-lines, same-below}

@@ -1,11 +1,10 @@
 -- What is promised of a board, one field for each sentence (02, 8/12).
-use Prim.Native.Nat.{ℕ, _+_, _<_, _≤_}
+use Prim.Native.Nat.{ℕ, _+_, _<_}
 use mathlib.Core.Path.{_≡_}
 use mathlib.Core.Bool.{true, false}
 use mathlib.Core.Logic.{_↔_, _≢_}
 use lib.ListN.{getD}
 use Rattle.words.specs.Counting.{one}
-use Rattle.steps.specs.Refusals.{carriedOut}
 use Rattle.coreinterrupt.specs.Model as CoreInterrupt
 use Rattle.board_wires.specs.declared.Board.{Board}
 use Rattle.board_wires.specs.declared.Wire.{Wire}
@@ -16,7 +15,7 @@ use Rattle.board_wires.specs.Wires.{wireAt, coreAt, inputValue, wiredCore}
 use Rattle.board_record.specs.Promises.{Shaped}
 use Rattle.board_record.specs.Sound.{sound}
 use Rattle.board.specs.declared.Answer.{Answer}
-use Rattle.board.specs.Model.{answered, refused, silent, add, connect, putPin, read, write, outputs, input, chain}
+use Rattle.board.specs.Model.{add, connect, putPin, read, write, outputs, input, chain}
 use Rattle.board.specs.Tables.{AddTable, WireTable, PinTable, OwnTable, InputTable, Adds, Wires, Pins}
 
 -- the change is carried out, or answers its number, the value 0 and the same board (02, 8/12; 01, Numbers)
