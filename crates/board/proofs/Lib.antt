@@ -1,9 +1,2 @@
--- The laws of a board, and that the promises are kept.
+-- The laws of what a board answers, for its functions and for the promises.
 pub mod AnswerLaws
-pub mod AskLaws
-pub mod ChangeLaws
-pub mod LineLaws
-pub mod NumberLaws
-pub mod Promises
-pub mod WiredLaws
-pub mod WriteLaws
