@@ -1,2 +1,2 @@
--- The laws of a board, and that the promises are kept.
+-- The laws of what a board answers, for its functions and for the promises.
 pub mod AnswerLaws

@@ -67,7 +67,7 @@ add b fiqs irqs fiqLevel irqLevel =
 -- input i of controller c is wired to w: 6 for a controller, an input or a pin that there is not, then 15 (02, 8/12)
 unfoldable pub connect : Board → ℕ → ℕ → Wire → Answer
 connect b c i w =
-    unlessRefused b (checked b (isThere b c && (ltb i inputLimit && isNamed b w)) (upwardRefusal c w)) (answered (withWire b c i w) 0)
+    unlessRefused b (checked b (isThere b c && ltb i inputLimit && isNamed b w) (upwardRefusal c w)) (answered (withWire b c i w) 0)
 
 -- pin p is put to a level (02, 8/12)
 unfoldable pub putPin : Board → ℕ → ℕ → Answer

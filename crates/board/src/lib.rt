@@ -195,7 +195,7 @@ pub fn add(b: Board, fiqs: u32, irqs: u32, fiqlevel: u32, irqlevel: u32) -> Answ
 pub fn connect(b: Board, c: u32, i: u32, w: Wire) -> Answer
     ensures { λ r. ⌜ r ≡ connect b c i w ⌝ }
 {
-    let within = is_there(b, c) & ((i < board_record::INPUT_LIMIT) & is_named(b, w));
+    let within = is_there(b, c) & (i < board_record::INPUT_LIMIT) & is_named(b, w);
     let n = checked(b, within, upward_refusal(c, w));
     unless_refused(b, n, answer_of(with_wire(b, c, i, w), 0))
 }

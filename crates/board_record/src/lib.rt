@@ -1,4 +1,4 @@
-// Which boards are sound (02, 8/12).
+// Which boards are sound, defined in specs/Sound.antt (02, 8/12).
 ghost use mathlib.Core.Path.{_≡_};
 ghost use lib.Dec.{leb};
 ghost use Rattle.board_record.specs.Sound.{low, zeroSide, zeroCore, coreRule, lower, wireRule, coresSound, wiresSound, pinsSound, sound};
@@ -7,6 +7,7 @@ use board_wires::Wire;
 use coreinterrupt::Core;
 use coreinterrupt_side::Side;
 
+// How many controllers a board has at most, how many inputs each of them, and how many pins the board.
 pub const CONTROLLER_LIMIT: u32 = 8;
 
 pub const INPUT_LIMIT: u32 = 40;
@@ -20,13 +21,14 @@ fn is_low(k: Core) -> bool
     (k.fiq.inputs == 0) & (k.irq.inputs == 0)
 }
 
+// Whether a side has zeros only.
 fn is_zero_side(s: Side) -> bool
     ensures { λ r. ⌜ r ≡ zeroSide s ⌝ }
 {
     (s.count == 0) & ((s.level == 0) & ((s.inputs == 0) & ((s.soft == 0) & (s.enable == 0))))
 }
 
-// Whether a record has zeros only.
+// Whether a controller has zeros only.
 fn is_zero(k: Core) -> bool
     ensures { λ r. ⌜ r ≡ zeroCore k ⌝ }
 {
@@ -91,6 +93,7 @@ fn wires_kept(b: Board) -> bool
     ok
 }
 
+// Whether a level is 0 or 1.
 fn is_level(level: u8) -> bool
     ensures { λ r. ⌜ r ≡ leb level 1 ⌝ }
 {

@@ -5,8 +5,8 @@ use board_wires::Wire;
 
 const FAR: u32 = 0xFFFFFFFF;
 
-// Each number of a configuration at its limit and beyond it; a ninth controller, 6 before its 10.
-fn adding() {
+// Each number of a configuration beyond its limit.
+fn misconfigured() -> Board {
     let mut b = say::board(b"controllers added");
     say::outputs(b, 0);
     say::chain(b, 0);
@@ -14,14 +14,23 @@ fn adding() {
     b = say::add(b, 8, 33, 1, 1);
     b = say::add(b, 8, 32, 2, 1);
     b = say::add(b, 8, 32, 1, 2);
-    b = say::add(b, FAR, FAR, FAR, FAR);
+    say::add(b, FAR, FAR, FAR, FAR)
+}
+
+// And at its limits; a ninth controller is 6 before its 10.
+fn adding() {
+    let mut b = misconfigured();
     b = say::add(b, 8, 32, 1, 1);
     b = say::add(b, 0, 0, 0, 0);
     b = say::add(b, 0, 32, 0, 1);
     b = say::add(b, 8, 0, 1, 0);
     b = say::add(b, 1, 1, 1, 1);
     b = say::add(b, 1, 1, 1, 1);
-    b = say::add(b, 1, 1, 1, 1);
+    ninth(say::add(b, 1, 1, 1, 1));
+}
+
+fn ninth(seven: Board) {
+    let mut b = seven;
     say::outputs(b, 7);
     b = say::add(b, 1, 1, 1, 1);
     say::outputs(b, 7);
@@ -38,7 +47,7 @@ fn three(title: &[u8]) -> Board {
 }
 
 // On a board of three: a wire to a number that is not there is 6, one to the same or a higher number 15, also on an unused input.
-fn wires() {
+fn upward() -> Board {
     let mut b = three(b"wires of a board of three");
     b = say::connect(b, 2, 0, Wire::Irq(1));
     b = say::connect(b, 2, 0, Wire::Irq(2));
@@ -47,7 +56,12 @@ fn wires() {
     b = say::connect(b, 1, 0, Wire::Irq(2));
     b = say::connect(b, 1, 0, Wire::Fiq(1));
     b = say::connect(b, 1, 20, Wire::Fiq(2));
-    b = say::connect(b, 1, 39, Wire::Irq(1));
+    say::connect(b, 1, 39, Wire::Irq(1))
+}
+
+// A controller, an input or a pin beyond its limit is 6 before 15.
+fn beyond(first: Board) -> Board {
+    let mut b = first;
     b = say::connect(b, 0, 0, Wire::Irq(0));
     b = say::connect(b, 0, 0, Wire::Fiq(7));
     b = say::connect(b, 0, 0, Wire::Irq(FAR));
@@ -57,7 +71,11 @@ fn wires() {
     b = say::connect(b, 2, 39, Wire::Nothing);
     b = say::connect(b, 2, 40, Wire::Nothing);
     b = say::connect(b, 1, 40, Wire::Irq(1));
-    b = say::connect(b, 0, FAR, Wire::Pin(0));
+    say::connect(b, 0, FAR, Wire::Pin(0))
+}
+
+fn wires() {
+    let mut b = beyond(upward());
     b = say::connect(b, 0, 0, Wire::Pin(319));
     b = say::connect(b, 0, 0, Wire::Pin(320));
     b = say::connect(b, 0, 0, Wire::Pin(FAR));
@@ -71,8 +89,7 @@ fn wires() {
 }
 
 // A controller that is not there before a misaligned offset, that before one with no register, a clear read and a status written.
-fn registers() {
-    let mut b = three(b"registers of a board of three");
+fn reads(b: Board) {
     say::read(b, 3, 1);
     say::read(b, FAR, 0);
     say::read(b, 2, 1);
@@ -82,12 +99,22 @@ fn registers() {
     say::read(b, 0, 0x04);
     say::read(b, 2, 0x04);
     say::read(b, 2, 0x1C);
+}
+
+fn writes(first: Board) -> Board {
+    let mut b = first;
     b = say::write(b, 3, 0x10, 1);
     b = say::write(b, 2, 0x12, 1);
     b = say::write(b, 2, 0x30, 1);
     b = say::write(b, 2, 0x10, 1);
     b = say::write(b, 2, 0x2C, 1);
-    b = say::write(b, 2, 0x18, 0xFF);
+    say::write(b, 2, 0x18, 0xFF)
+}
+
+fn registers() {
+    let mut b = three(b"registers of a board of three");
+    reads(b);
+    b = writes(b);
     say::read(b, 2, 0x18);
     b = say::write(b, 2, 0x1C, 2);
     say::read(b, 2, 0x18);

@@ -43,7 +43,7 @@ fn grow(t: Tour) -> Tour {
         x,
         at,
         0x20,
-        numbers::one_of(d / 8, 0, 3, 0xFFFFFFFF, 0xFFFFFFFF),
+        numbers::one_of(d / 8, 1, 3, 0xFFFFFFFF, 0xFFFFFFFF),
     );
     Tour {
         seed: skip(d),
@@ -75,7 +75,7 @@ fn moved(t: Tour) -> Tour {
     x = say::pin(
         x,
         numbers::pin(a),
-        numbers::one_of(b, 0, 1, 1, below(b / 4, 4)),
+        numbers::one_of(b, 0, 1, 1, numbers::one_of(b / 4, 1, 0, 1, 2)),
     );
     Tour {
         seed: skip(b),
@@ -102,15 +102,15 @@ fn written(t: Tour) -> Tour {
 }
 
 fn question(b: Board, kind: u32, c: u32, seed: u64) {
-    if kind == 0 {
+    if kind < 2 {
         say::read(b, c, numbers::offset(seed));
         return;
     }
-    if kind == 1 {
+    if kind == 2 {
         say::outputs(b, c);
         return;
     }
-    if kind == 2 {
+    if kind == 3 {
         say::chain(b, c);
         return;
     }
@@ -122,7 +122,7 @@ fn asked(t: Tour) -> Tour {
     let a = skip(t.seed);
     let b = skip(a);
     let d = skip(b);
-    question(x, below(d, 4), numbers::controller(a, x.controllers), b);
+    question(x, below(d, 5), numbers::controller(a, x.controllers), b);
     Tour {
         seed: skip(d),
         board: x,

@@ -30,8 +30,8 @@ fn shown(b: Board) {
     say::outputs(b, 1);
 }
 
-// Inputs 1 and 33 of controller 1 are beyond its counts: they have values, raise nothing and make its chain.
-fn unused() {
+// Inputs 1 and 33 of controller 1 are beyond its counts, and high.
+fn spare() -> Board {
     let mut b = say::board(b"unused inputs");
     b = say::add(b, 0, 1, 1, 1);
     b = say::add(b, 1, 1, 1, 1);
@@ -41,7 +41,11 @@ fn unused() {
     b = say::write(b, 0, 0x20, 1);
     b = say::write(b, 1, 0x20, 0xFFFFFFFF);
     b = say::write(b, 1, 0x08, 0xFFFFFFFF);
-    b = say::pin(b, 7, 1);
+    say::pin(b, 7, 1)
+}
+
+// They have values, raise nothing and make the chain of controller 1.
+fn silent(b: Board) {
     say::outputs(b, 0);
     say::input(b, 1, 1);
     say::input(b, 1, 33);
@@ -50,6 +54,12 @@ fn unused() {
     say::read(b, 1, 0x10);
     say::outputs(b, 1);
     say::chain(b, 1);
+}
+
+// Wired to input 0, which is used, the same output raises; unwired, there is no chain. Controller 0 has no FIQ source: a clear reads 0.
+fn unused() {
+    let mut b = spare();
+    silent(b);
     b = say::connect(b, 1, 0, Wire::Irq(0));
     say::read(b, 1, 0x2C);
     say::outputs(b, 1);
@@ -61,8 +71,8 @@ fn unused() {
     say::read(b, 0, 0x14);
 }
 
-// One input is wired anew: pin 4, pin 5, the IRQ and the FIQ of controller 0, nothing; the last wire counts. Pin 5 and the FIQ are high.
-fn replaced() {
+// Of controller 0 the FIQ is active, and pin 5 is high.
+fn raised() -> Board {
     let mut b = say::board(b"the last wire counts");
     b = say::add(b, 8, 32, 1, 1);
     b = say::add(b, 8, 32, 1, 1);
@@ -70,20 +80,25 @@ fn replaced() {
     b = say::write(b, 0, 0x00, 0x80);
     b = say::pin(b, 5, 1);
     say::input(b, 1, 31);
+    b
+}
+
+// One input is wired to pin 4, to pin 5, to the IRQ and the FIQ of controller 0, to nothing: the last wire counts.
+fn replaced() {
+    let mut b = raised();
     b = say::connect(b, 1, 31, Wire::Pin(4));
     say::input(b, 1, 31);
     b = say::connect(b, 1, 31, Wire::Pin(5));
-    say::input(b, 1, 31);
-    say::read(b, 1, 0x28);
-    say::chain(b, 1);
+    last(b);
     b = say::connect(b, 1, 31, Wire::Irq(0));
-    say::input(b, 1, 31);
-    say::read(b, 1, 0x28);
-    say::chain(b, 1);
+    last(b);
     b = say::connect(b, 1, 31, Wire::Fiq(0));
-    say::input(b, 1, 31);
-    say::read(b, 1, 0x28);
+    last(b);
     b = say::connect(b, 1, 31, Wire::Nothing);
+    last(b);
+}
+
+fn last(b: Board) {
     say::input(b, 1, 31);
     say::read(b, 1, 0x28);
     say::chain(b, 1);

@@ -1,7 +1,7 @@
 -- That `with_wire` of src/lib.rt keeps its contract.
 use Rattle.board_record.specs.Record.{withWire}
 use lib.ListN.{length}
-use mathlib.Core.Path.{_≡_, refl}
+use mathlib.Core.Path.{_≡_}
 use native.Mathlib.Omega.{arith}
 use Rattle.board_record.proofs.RecordLaws.{wire-out}
 use borrow.Author.Needs.{needs}

@@ -1,5 +1,4 @@
 -- That `write` of src/lib.rt keeps its contract.
-use Prim.Native.Nat.{ℕ}
 use mathlib.Core.Path.{sym, ap, ap₂, _∙_}
 use mathlib.Core.Bool.{Bool}
 use Rattle.coreinterrupt.specs.declared.Answer as alone
