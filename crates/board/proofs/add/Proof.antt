@@ -2,8 +2,8 @@
 use lib.Dec.{ltb}
 use Rattle.coreinterrupt.specs.declared.Begun.{Begun}
 use Rattle.board_wires.specs.declared.Board.{Board}
-use Rattle.board_record.specs.Record.{withController}
-use Rattle.board.specs.Model.{answered, checked, add}
+use Rattle.board_record.specs.Record.{withController, answered}
+use Rattle.board.specs.Model.{checked, add}
 use Rattle.board.proofs.AnswerLaws.{taken, left, none-given}
 use mathlib.Core.Path.{sym, ap, _∙_}
 use borrow.Author.Tests.{ltb-true}

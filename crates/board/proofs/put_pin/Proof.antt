@@ -3,7 +3,8 @@ use Prim.Native.Nat.{_≤_}
 use lib.Dec.{ltb, leb}
 use Rattle.words.proofs.TruthLaws.{and-right}
 use Rattle.board_wires.specs.declared.Board.{Board}
-use Rattle.board.specs.Model.{answered, putPin}
+use Rattle.board_record.specs.Record.{answered}
+use Rattle.board.specs.Model.{putPin}
 use Rattle.board.proofs.AnswerLaws.{taken, left, none-given}
 use mathlib.Core.Path.{sym, ap, _∙_}
 use borrow.Author.Tests.{leb-true}

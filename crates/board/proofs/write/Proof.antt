@@ -4,8 +4,8 @@ use mathlib.Core.Bool.{Bool}
 use Rattle.coreinterrupt.specs.declared.Answer as alone
 use Rattle.coreinterrupt.specs.declared.Core.{Core}
 use Rattle.coreinterrupt.specs.Model as CoreInterrupt
-use Rattle.board_record.specs.Record.{withCore}
-use Rattle.board.specs.Model.{answered, checked, write}
+use Rattle.board_record.specs.Record.{withCore, answered}
+use Rattle.board.specs.Model.{checked, write}
 use Rattle.board.proofs.AnswerLaws.{taken, left, none-given, there-below}
 use borrow.Author.Needs.{needs}
 use Rattle.board.proofs.write.Statement.{statement}
