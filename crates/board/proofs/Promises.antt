@@ -2,14 +2,14 @@
 use mathlib.Core.Path.{refl, sym, _∙_}
 use Rattle.coreinterrupt.proofs.Promises.{kept as alone}
 use Rattle.board_wires.specs.Wires.{wiredCore}
 use Rattle.board.specs.Model.{add, connect, putPin, read, write, input, chain}
-use Rattle.board_promised.specs.Promises.{Promises}
+use Rattle.board.specs.Promises.{Promises}
 use Rattle.board.proofs.AnswerLaws.{refused-is, reply-refused}
-use Rattle.board_promised.proofs.AskLaws.{read-is, outputs-is, outputs-refused, irq-active, fiq-active, chain-is, input-is, value-nothing, value-pin, value-irq, value-fiq, unused-same}
-use Rattle.board_promised.proofs.ChangeLaws.{add-sound, add-shaped, add-does, connect-sound, connect-shaped, connect-does, pin-put-sound, pin-shaped, pin-does}
-use Rattle.board_promised.proofs.NumberLaws.{add-table, connect-table, pin-table, read-table, outputs-table, chain-table, input-table}
-use Rattle.board_promised.proofs.WiredLaws.{wired-sound}
-use Rattle.board_promised.proofs.WriteLaws.{write-own, write-value, write-sound, write-shaped, write-else, write-does}
+use Rattle.board.proofs.AskLaws.{read-is, outputs-is, outputs-refused, irq-active, fiq-active, chain-is, input-is, value-nothing, value-pin, value-irq, value-fiq, unused-same}
+use Rattle.board.proofs.ChangeLaws.{add-sound, add-shaped, add-does, connect-sound, connect-shaped, connect-does, pin-put-sound, pin-shaped, pin-does}
+use Rattle.board.proofs.NumberLaws.{add-table, connect-table, pin-table, read-table, outputs-table, chain-table, input-table}
+use Rattle.board.proofs.WiredLaws.{wired-sound}
+use Rattle.board.proofs.WriteLaws.{write-own, write-value, write-sound, write-shaped, write-else, write-does}
 
 pub kept : Promises
 unfolding add connect putPin read write input chain

@@ -1,12 +1,12 @@
 -- That `with_wire` of src/lib.rt keeps its contract.
 use Rattle.board_record.specs.Record.{withWire}
 use lib.ListN.{length}
 use mathlib.Core.Path.{_≡_}
 use native.Mathlib.Omega.{arith}
 use Rattle.board_record.proofs.RecordLaws.{wire-out}
 use borrow.Author.Needs.{needs}
-use Rattle.board.proofs.with_wire.Statement.{statement}
-use Rattle.board.proofs.with_wire.Tie as tie
+use Rattle.board_record.proofs.with_wire.Statement.{statement}
+use Rattle.board_record.proofs.with_wire.Tie as tie
 
 returns : tie.Need-returns
 unfolding withWire

@@ -14,17 +14,17 @@ use Rattle.coreinterrupt.proofs.Promises.{kept as alone-kept}
 use Rattle.board_wires.specs.declared.Board.{Board}
 use Rattle.board_wires.specs.Wires.{coreAt, wiredCore}
 use Rattle.board_record.specs.Promises.{Shaped}
-use Rattle.board_record.specs.Record.{withCore}
+use Rattle.board_record.specs.Record.{withCore, answered}
 use Rattle.board_record.specs.Sound.{sound}
 use Rattle.board_record.proofs.RecordLaws.{core-put, core-other}
 use Rattle.board_record.proofs.SoundLaws.{sound-parts, sound-rules, lines-low, core-sound}
-use Rattle.board.specs.declared.Answer.{Answer}
-use Rattle.board.specs.Model.{answered, checked, isThere, write}
-use Rattle.board_promised.specs.Tables.{OwnTable}
+use Rattle.board_record.specs.declared.Answer.{Answer}
+use Rattle.board.specs.Model.{checked, isThere, write}
+use Rattle.board.specs.Tables.{OwnTable}
 use Rattle.board.proofs.AnswerLaws.{carried, stopped, either-way, is-there, there-is, none-given, through}
-use Rattle.board_promised.proofs.LineLaws.{lined, write-lined, write-counts, write-lines}
-use Rattle.board_promised.proofs.NumberLaws.{write-table}
-use Rattle.board_promised.proofs.WiredLaws.{lines-low-all, wired-sound, wired-lined, irq-same-lines, fiq-same-lines, same-below}
+use Rattle.board.proofs.LineLaws.{lined, write-lined, write-counts, write-lines}
+use Rattle.board.proofs.NumberLaws.{write-table}
+use Rattle.board.proofs.WiredLaws.{lines-low-all, wired-sound, wired-lined, irq-same-lines, fiq-same-lines, same-below}
 
 module _ (b : Board) (c o v : ℕ) where
   -- what CoreInterrupt makes of the controller in the record

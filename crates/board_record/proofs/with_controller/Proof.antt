@@ -1,9 +1,9 @@
 -- That `with_controller` of src/lib.rt keeps its contract.
 use Rattle.board_record.specs.Record.{withController}
 use mathlib.Core.Path.{refl}
 use borrow.Author.Needs.{needs}
-use Rattle.board.proofs.with_controller.Statement.{statement}
-use Rattle.board.proofs.with_controller.Tie as tie
+use Rattle.board_record.proofs.with_controller.Statement.{statement}
+use Rattle.board_record.proofs.with_controller.Tie as tie
 
 returns : tie.Need-returns
 unfolding withController

@@ -24,10 +24,10 @@ use Rattle.board_wires.specs.declared.Wire.the-variants.{Nothing, Pin, Irq, Fiq
 use Rattle.board_wires.specs.Wires.{coreAt, wiredCore}
 use Rattle.board_record.specs.Sound.{lower}
 use Rattle.board_record.proofs.SoundLaws.{sound-parts, sound-rules}
 use Rattle.board.specs.Model.{checked, isThere, isNamed, upwardRefusal, add, connect, putPin, read, write, outputs, input, chain}
-use Rattle.board_promised.specs.Tables.{Misconfigured, Missing, Upward, Absent, AddTable, WireTable, PinTable, OwnTable, InputTable}
+use Rattle.board.specs.Tables.{Misconfigured, Missing, Upward, Absent, AddTable, WireTable, PinTable, OwnTable, InputTable}
 use Rattle.board.proofs.AnswerLaws.{number-is, reply-number, Told, told-true, told-both, told-lt, told-le, told-there, is-there, none-given, through, Later, checks-twelve, checks-six, checks-else, there-is}
-use Rattle.board_promised.proofs.WiredLaws.{wired-sound}
+use Rattle.board.proofs.WiredLaws.{wired-sound}
 
 -- a sentence that says the same in the place of another
 instead : {A S P Q R : Type 0} → A ↔ (S × (P × R)) → (P → Q) → (Q → P) → A ↔ (S × (Q × R))

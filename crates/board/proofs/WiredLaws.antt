@@ -17,7 +17,7 @@ use Rattle.board_wires.specs.Wires.{wireIn, wireAt, pinIn, coreAt, activity, in
 use Rattle.board_wires.proofs.Promises.{kept as wired}
 use Rattle.board_record.specs.Sound.{sound}
 use Rattle.board_record.proofs.SoundLaws.{sound-rules}
-use Rattle.board_promised.proofs.LineLaws.{lined}
+use Rattle.board.proofs.LineLaws.{lined}
 
 -- ---- of a sound board
 

@@ -26,12 +26,13 @@ use Rattle.board_wires.specs.Wires.{wireOf, wireNumber, wireAt, pinOf, coreAt, 
 use Rattle.board_wires.proofs.Promises.{kept as wired}
 use Rattle.board_record.specs.Sound.{sound}
 use Rattle.board_record.proofs.SoundLaws.{sound-rules}
-use Rattle.board.specs.declared.Answer.{Answer}
+use Rattle.board_record.specs.declared.Answer.{Answer}
 use Rattle.board.specs.declared.Reply.{Reply}
-use Rattle.board.specs.Model.{answered, checked, isThere, read, silent, outputs, input, chain}
+use Rattle.board_record.specs.Record.{answered}
+use Rattle.board.specs.Model.{checked, isThere, read, silent, outputs, input, chain}
 use Rattle.board.proofs.AnswerLaws.{carried, stopped, is-there, through, reply-done}
-use Rattle.board_promised.proofs.NumberLaws.{outputs-number}
-use Rattle.board_promised.proofs.WiredLaws.{wired-sound}
+use Rattle.board.proofs.NumberLaws.{outputs-number}
+use Rattle.board.proofs.WiredLaws.{wired-sound}
 
 -- ---- a read
 

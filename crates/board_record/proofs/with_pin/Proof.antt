@@ -1,12 +1,12 @@
 -- That `with_pin` of src/lib.rt keeps its contract.
 use Rattle.board_record.specs.Record.{withPin}
 use lib.ListN.{length}
 use mathlib.Core.Path.{_≡_, refl}
 use native.Mathlib.Omega.{arith}
 use Rattle.board_record.proofs.RecordLaws.{pin-out}
 use borrow.Author.Needs.{needs}
-use Rattle.board.proofs.with_pin.Statement.{statement}
-use Rattle.board.proofs.with_pin.Tie as tie
+use Rattle.board_record.proofs.with_pin.Statement.{statement}
+use Rattle.board_record.proofs.with_pin.Tie as tie
 
 returns : tie.Need-returns
 unfolding withPin

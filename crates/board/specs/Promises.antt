@@ -14,9 +14,9 @@ use Rattle.board_wires.specs.Promises.{Raised, Alike}
 use Rattle.board_wires.specs.Wires.{wireAt, coreAt, inputValue, wiredCore}
 use Rattle.board_record.specs.Promises.{Shaped}
 use Rattle.board_record.specs.Sound.{sound}
-use Rattle.board.specs.declared.Answer.{Answer}
+use Rattle.board_record.specs.declared.Answer.{Answer}
 use Rattle.board.specs.Model.{add, connect, putPin, read, write, outputs, input, chain}
-use Rattle.board_promised.specs.Tables.{AddTable, WireTable, PinTable, OwnTable, InputTable, Adds, Wires, Pins}
+use Rattle.board.specs.Tables.{AddTable, WireTable, PinTable, OwnTable, InputTable, Adds, Wires, Pins}
 
 -- the change is carried out, or answers its number, the value 0 and the same board (02, 8/12; 01, Numbers)
 abbrev pub Same : Board → Answer → Type 0

@@ -1,9 +1,9 @@
 -- That `with_core` of src/lib.rt keeps its contract.
 use Rattle.board_record.specs.Record.{withCore}
 use mathlib.Core.Path.{refl}
 use borrow.Author.Needs.{needs}
-use Rattle.board.proofs.with_core.Statement.{statement}
-use Rattle.board.proofs.with_core.Tie as tie
+use Rattle.board_record.proofs.with_core.Statement.{statement}
+use Rattle.board_record.proofs.with_core.Tie as tie
 
 returns : tie.Need-returns
 unfolding withCore
