@@ -1,17 +1,17 @@
--- That `grown` of src/tours.rt ends.
+-- That `fiq_inputs` of src/towers.rt ends.
 use Prim.Native.Nat.{_≤_, _-_}
 use borrow.Author.Needs.{needs}
-use Rattle.board_run.proofs.tours.grown.Statement.{statement}
-use Rattle.board_run.proofs.tours.grown.Tie as tie
+use Rattle.board_cases.proofs.towers.fiq_inputs.Statement.{statement}
+use Rattle.board_cases.proofs.towers.fiq_inputs.Tie as tie
 
 abbrev Inv-loop : tie.InvT-loop
-Inv-loop n u₀ k₀ u k = k ≤ n
+Inv-loop c d e₀ i₀ e i = i ≤ 40
 
 abbrev μ-loop : tie.MeasureT-loop
-μ-loop n u₀ k₀ u k = n - k
+μ-loop c d e₀ i₀ e i = 40 - i
 
-pub grown-spec : {M : Type 1} → statement M
-grown-spec =
+pub fiq-inputs-spec : {M : Type 1} → statement M
+fiq-inputs-spec =
     tie.close
     (tie.spec
     Inv-loop

@@ -1,17 +1,17 @@
--- That `irq_inputs` of src/towers.rt ends.
+-- That `grown` of src/tours.rt ends.
 use Prim.Native.Nat.{_≤_, _-_}
 use borrow.Author.Needs.{needs}
-use Rattle.board_run.proofs.towers.irq_inputs.Statement.{statement}
-use Rattle.board_run.proofs.towers.irq_inputs.Tie as tie
+use Rattle.board_tours.proofs.tours.grown.Statement.{statement}
+use Rattle.board_tours.proofs.tours.grown.Tie as tie
 
 abbrev Inv-loop : tie.InvT-loop
-Inv-loop c d e₀ i₀ e i = i ≤ 32
+Inv-loop n u₀ k₀ u k = k ≤ n
 
 abbrev μ-loop : tie.MeasureT-loop
-μ-loop c d e₀ i₀ e i = 32 - i
+μ-loop n u₀ k₀ u k = n - k
 
-pub irq-inputs-spec : {M : Type 1} → statement M
-irq-inputs-spec =
+pub grown-spec : {M : Type 1} → statement M
+grown-spec =
     tie.close
     (tie.spec
     Inv-loop

@@ -1,17 +1,17 @@
--- That `fiq_inputs` of src/towers.rt ends.
+-- That `all` of src/tours.rt ends.
 use Prim.Native.Nat.{_≤_, _-_}
 use borrow.Author.Needs.{needs}
-use Rattle.board_run.proofs.towers.fiq_inputs.Statement.{statement}
-use Rattle.board_run.proofs.towers.fiq_inputs.Tie as tie
+use Rattle.board_tours.proofs.tours.all.Statement.{statement}
+use Rattle.board_tours.proofs.tours.all.Tie as tie
 
 abbrev Inv-loop : tie.InvT-loop
-Inv-loop c d e₀ i₀ e i = i ≤ 40
+Inv-loop n k₀ k = k ≤ n
 
 abbrev μ-loop : tie.MeasureT-loop
-μ-loop c d e₀ i₀ e i = 40 - i
+μ-loop n k₀ k = n - k
 
-pub fiq-inputs-spec : {M : Type 1} → statement M
-fiq-inputs-spec =
+pub all-spec : {M : Type 1} → statement M
+all-spec =
     tie.close
     (tie.spec
     Inv-loop

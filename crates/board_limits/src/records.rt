@@ -1,5 +1,4 @@
 // Records that break a rule of a board, each by one number: every call is refused by 12.
-use super::say;
 use board_wires::Board;
 use coreinterrupt::Core;
 use coreinterrupt_side::Side;
@@ -15,10 +14,10 @@ fn three() -> Board {
 fn controllers() {
     let mut b = three();
     b.controllers = 9;
-    say::unsound(b"nine controllers", b);
+    board_lines::unsound(b"nine controllers", b);
     let mut d = three();
     d.controllers = 2;
-    say::unsound(b"a third controller not counted", d);
+    board_lines::unsound(b"a third controller not counted", d);
 }
 
 fn wire(title: &[u8], at: usize, number: u16) {
@@ -26,7 +25,7 @@ fn wire(title: &[u8], at: usize, number: u16) {
     if at < 320 {
         b.wire[at] = number;
     }
-    say::unsound(title, b);
+    board_lines::unsound(title, b);
 }
 
 fn wires() {
@@ -42,10 +41,10 @@ fn wires() {
 fn pins() {
     let mut b = three();
     b.pin[0] = 2;
-    say::unsound(b"pin 0 at 2", b);
+    board_lines::unsound(b"pin 0 at 2", b);
     let mut d = three();
     d.pin[319] = 255;
-    say::unsound(b"pin 319 at 255", d);
+    board_lines::unsound(b"pin 319 at 255", d);
 }
 
 fn side(count: u32, level: u32, inputs: u32, soft: u32, enable: u32) -> Side {
@@ -64,7 +63,7 @@ fn core(title: &[u8], c: usize, fiq: Side, irq: Side) {
     if c < 8 {
         b.core[c] = Core { fiq: fiq, irq: irq };
     }
-    say::unsound(title, b);
+    board_lines::unsound(title, b);
 }
 
 fn cores() {

@@ -1,8 +1,8 @@
--- That `stepped` of src/tours.rt ends.
+-- That `linked` of src/tours.rt ends.
 use Prim.Native.Nat.{_≤_, _-_}
 use borrow.Author.Needs.{needs}
-use Rattle.board_run.proofs.tours.stepped.Statement.{statement}
-use Rattle.board_run.proofs.tours.stepped.Tie as tie
+use Rattle.board_tours.proofs.tours.linked.Statement.{statement}
+use Rattle.board_tours.proofs.tours.linked.Tie as tie
 
 abbrev Inv-loop : tie.InvT-loop
 Inv-loop n u₀ k₀ u k = k ≤ n
@@ -10,8 +10,8 @@ Inv-loop n u₀ k₀ u k = k ≤ n
 abbrev μ-loop : tie.MeasureT-loop
 μ-loop n u₀ k₀ u k = n - k
 
-pub stepped-spec : {M : Type 1} → statement M
-stepped-spec =
+pub linked-spec : {M : Type 1} → statement M
+linked-spec =
     tie.close
     (tie.spec
     Inv-loop

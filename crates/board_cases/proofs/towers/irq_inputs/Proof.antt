@@ -1,23 +1,22 @@
--- That `told` of src/tours.rt ends.
+-- That `irq_inputs` of src/towers.rt ends.
 use Prim.Native.Nat.{_≤_, _-_}
 use borrow.Author.Needs.{needs}
-use Rattle.board_run.proofs.tours.told.Statement.{statement}
-use Rattle.board_run.proofs.tours.told.Tie as tie
+use Rattle.board_cases.proofs.towers.irq_inputs.Statement.{statement}
+use Rattle.board_cases.proofs.towers.irq_inputs.Tie as tie
 
 abbrev Inv-loop : tie.InvT-loop
-Inv-loop b n k₀ k = k ≤ n
+Inv-loop c d e₀ i₀ e i = i ≤ 32
 
 abbrev μ-loop : tie.MeasureT-loop
-μ-loop b n k₀ k = n - k
+μ-loop c d e₀ i₀ e i = 32 - i
 
-pub told-spec : {M : Type 1} → statement M
-told-spec =
+pub irq-inputs-spec : {M : Type 1} → statement M
+irq-inputs-spec =
     tie.close
     (tie.spec
     Inv-loop
     μ-loop
     (λ c. search needs)
-    (λ c κs. search needs)
     (λ c κs. search needs)
     (λ c. search needs)
     (λ c. search needs)

@@ -1,9 +1,9 @@
--- That `print` of src/say.rt lends no more than there is.
+-- That `print` of src/lib.rt lends no more than there is.
 use mathlib.Core.Path.{sym}
 use lib.Seq.{length-take-le}
 use borrow.Author.Needs.{needs}
-use Rattle.board_run.proofs.say.print.Statement.{statement}
-use Rattle.board_run.proofs.say.print.Tie as tie
+use Rattle.board_lines.proofs.print.Statement.{statement}
+use Rattle.board_lines.proofs.print.Tie as tie
 
 slice-aggregate-write-all : tie.Need-slice-aggregate-write-all
 slice-aggregate-write-all c = sym (length-take-le _ _ (c .before .if1 .taken))

@@ -5,7 +5,6 @@ use super::random::below;
 use super::random::seed_of;
 use super::random::skip;
 use super::random::word;
-use super::say;
 use board_wires::Board;
 
 // A board, and the seed of what comes next.
@@ -31,15 +30,15 @@ fn grow(t: Tour) -> Tour {
     let c = skip(b);
     let d = skip(c);
     let draw = below(d, 48);
-    x = say::add(
+    x = board_lines::add(
         x,
         spoilt(draw, 0, numbers::sources(a, 7, 8), 9),
         spoilt(draw, 1, numbers::sources(b, 31, 32), 33),
         spoilt(draw, 2, below(c, 2), 2),
         spoilt(draw, 3, below(c / 4, 2), 0xFFFFFFFF),
     );
-    x = say::write(x, at, 0x08, numbers::one_of(c / 8, 1, 3, 0xFF, 0xFFFFFFFF));
-    x = say::write(
+    x = board_lines::write(x, at, 0x08, numbers::one_of(c / 8, 1, 3, 0xFF, 0xFFFFFFFF));
+    x = board_lines::write(
         x,
         at,
         0x20,
@@ -60,8 +59,8 @@ fn wired(t: Tour) -> Tour {
     let d = skip(b);
     let c = numbers::controller(a, n);
     let i = numbers::input(b);
-    x = say::connect(x, c, i, numbers::wire(d, n, c));
-    say::input(x, c, i);
+    x = board_lines::connect(x, c, i, numbers::wire(d, n, c));
+    board_lines::input(x, c, i);
     Tour {
         seed: skip(d),
         board: x,
@@ -72,7 +71,7 @@ fn moved(t: Tour) -> Tour {
     let mut x = t.board;
     let a = skip(t.seed);
     let b = skip(a);
-    x = say::pin(
+    x = board_lines::pin(
         x,
         numbers::pin(a),
         numbers::one_of(b, 0, 1, 1, numbers::one_of(b / 4, 1, 0, 1, 2)),
@@ -89,7 +88,7 @@ fn written(t: Tour) -> Tour {
     let b = skip(a);
     let d = skip(b);
     let c = numbers::controller(a, x.controllers);
-    x = say::write(
+    x = board_lines::write(
         x,
         c,
         numbers::written(b),
@@ -103,18 +102,18 @@ fn written(t: Tour) -> Tour {
 
 fn question(b: Board, kind: u32, c: u32, seed: u64) {
     if kind < 2 {
-        say::read(b, c, numbers::offset(seed));
+        board_lines::read(b, c, numbers::offset(seed));
         return;
     }
     if kind == 2 {
-        say::outputs(b, c);
+        board_lines::outputs(b, c);
         return;
     }
     if kind == 3 {
-        say::chain(b, c);
+        board_lines::chain(b, c);
         return;
     }
-    say::input(b, c, numbers::input(seed));
+    board_lines::input(b, c, numbers::input(seed));
 }
 
 fn asked(t: Tour) -> Tour {
@@ -163,7 +162,7 @@ fn link(t: Tour, c: u32) -> Tour {
     let mut x = t.board;
     let a = skip(t.seed);
     let b = skip(a);
-    x = say::connect(
+    x = board_lines::connect(
         x,
         c,
         numbers::one_of(a, 0, 1, 32, 39),
@@ -199,8 +198,8 @@ fn stepped(t: Tour, n: u32) -> Tour {
 fn told(b: Board, n: u32) {
     let mut k: u32 = 0;
     while k < n {
-        say::outputs(b, k);
-        say::chain(b, k);
+        board_lines::outputs(b, k);
+        board_lines::chain(b, k);
         k = k + 1;
     }
 }
@@ -209,7 +208,7 @@ fn opened(k: u32) -> Tour {
     let s = seed_of(k);
     Tour {
         seed: skip(s),
-        board: say::numbered(k),
+        board: board_lines::numbered(k),
     }
 }
 
