@@ -1,6 +1,7 @@
 //! An independent model of documents 01 and 02 in plain Rust, and what compares the proved program with it.
 
 pub mod batch;
+pub mod boards;
 pub mod compare;
 pub mod coverage;
 pub mod digits;

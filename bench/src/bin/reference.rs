@@ -1,16 +1,18 @@
 //! The model as a program: a trace on standard input, its listing on standard output; with `--stack` a typed table and
-//! its line; with `--batch` many of both.
+//! its line; with `--batch` many of both; with `--boards` a number on standard input, and a transcript of so many boards.
 
 use std::io::{self, BufReader, BufWriter, Read, Write};
 use std::process::ExitCode;
 
 use bench::batch::{serve, Asked, Reply, Request};
+use bench::boards::generate::{script, unsound};
 use bench::listing::listing;
 use bench::stack;
 use bench::trace::PROGRAM_LIMIT;
 
 const USAGE: &str = "\
-reference [--stack | --batch]: lists the trace on standard input, or says the stack of the table there, or many (batch.c)
+reference [--stack | --batch | --boards]: lists the trace on standard input, or says the stack of the table there, or many
+(batch.c), or prints a transcript of as many boards as the number there says
 ";
 
 fn main() -> ExitCode {
@@ -19,6 +21,7 @@ fn main() -> ExitCode {
         [] => print_one(|trace| listing(trace, PROGRAM_LIMIT)),
         [word] if word == "--stack" => print_one(stack::line),
         [word] if word == "--batch" => print_many(),
+        [word] if word == "--boards" => print_one(boards),
         _ => {
             eprint!("{USAGE}");
             return ExitCode::from(2);
@@ -33,6 +36,14 @@ fn print_one(text: impl Fn(&[u8]) -> Vec<u8>) {
     let _ = io::stdin().read_to_end(&mut input);
     // A reader that has gone away wants no more.
     let _ = io::stdout().write_all(&text(&input));
+}
+
+/// The calls on so many generated boards, each with the model's answer. What is no number asks for none.
+fn boards(input: &[u8]) -> Vec<u8> {
+    let number = std::str::from_utf8(input).ok();
+    let count = number.and_then(|number| number.trim().parse().ok());
+    let transcripts = (0..count.unwrap_or(0)).map(|number| script(1, number).right());
+    (transcripts.collect::<String>() + &unsound()).into_bytes()
 }
 
 fn print_many() {

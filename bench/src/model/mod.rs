@@ -2,6 +2,7 @@
 
 pub mod aic;
 pub mod aintc;
+pub mod board;
 pub mod cic;
 pub mod core;
 pub mod indexed;
@@ -30,7 +31,7 @@ pub struct Recorded {
     pub privilege: u32,
 }
 
-/// Why a step, a trace or a table is not carried out, with the number that 01's table or 02's request gives it.
+/// Why a step, a trace, a table or a call on a board is not carried out, with the number that 01's table or 02's request gives it.
 ///
 /// Number 12 is missing: it is about a record that somebody hands in, and these models keep their state to themselves.
 #[derive(Clone, Copy, Debug, PartialEq, Eq, PartialOrd, Ord, Hash)]
@@ -48,6 +49,7 @@ pub enum Refusal {
     TraceTooLong = 11,
     Unprivileged = 13,
     BeyondTable = 14,
+    NotLower = 15,
 }
 
 impl Refusal {

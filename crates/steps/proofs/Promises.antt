@@ -217,6 +217,7 @@ the-numbers =
       eleven = refl;
       thirteen = refl;
       fourteen = refl;
+      fifteen = refl;
     }
 
 pub kept : Promises

@@ -30,7 +30,7 @@ unwritable = 4
 abbrev pub protecting : ℕ
 protecting = 5
 
--- a line number, a line level, an index or a map byte is beyond its limit
+-- a line number, a line level, an index or a map byte is beyond its limit (01, Numbers), or a number or a level of a board (02, 8/12)
 abbrev pub beyond : ℕ
 beyond = 6
 
@@ -65,6 +65,10 @@ unprivileged = 13
 -- a number of a stack table is beyond its limit (02, 4/12)
 abbrev pub oversized : ℕ
 oversized = 14
+
+-- a wire of a board to the controller's own number or to a higher one (02, 8/12)
+abbrev pub upward : ℕ
+upward = 15
 
 -- ---- privilege
 

@@ -55,6 +55,8 @@ pub const UNPRIVILEGED: u32 = 13;
 
 pub const OVERSIZED: u32 = 14;
 
+pub const UPWARD: u32 = 15;
+
 // The refusal of a read that is aligned, 0 where it may be read.
 fn read_access(access: Access) -> u32
     ensures { λ r. ⌜ r ≡ readAccess access ⌝ }

@@ -1,0 +1,162 @@
+//! Everything that a transcript has to reach.
+
+use super::{Far, Item, Lead, Limit, Spot, Up};
+use crate::boards::Sort;
+use crate::model::board::CONTROLLERS;
+use crate::model::core::{Register, Role, Side};
+
+const BOTH: [bool; 2] = [false, true];
+const SIDES: [Side; 2] = [Side::Irq, Side::Fiq];
+
+pub fn wanted() -> Vec<Item> {
+    let mut items: Vec<Item> = (0..=CONTROLLERS).map(Item::Controllers).collect();
+    items.extend((0..CONTROLLERS as u32).map(Item::Chain));
+    items.extend((0..CONTROLLERS).map(Item::Through));
+    items.push(Item::Unsound);
+    items.extend(answers());
+    items.extend(limits());
+    items.extend(configurations());
+    items.extend(wires());
+    items.extend(values());
+    items.extend(registers());
+    items.extend(FACTS.iter().copied().map(Item::Fact));
+    items
+}
+
+/// The numbers that each sort of call can be answered by.
+fn answers() -> Vec<Item> {
+    let mut items = Vec::new();
+    for sort in Sort::ALL {
+        let numbers: &[u32] = match sort {
+            Sort::Add => &[0, 6, 10],
+            Sort::Connect => &[0, 6, 15],
+            Sort::Write => &[0, 6, 1, 2, 4],
+            Sort::Read => &[0, 6, 1, 2, 3],
+            Sort::Pin | Sort::Outputs | Sort::Input | Sort::Chain => &[0, 6],
+        };
+        items.extend(numbers.iter().map(|&number| Item::Answered(sort, number)));
+    }
+    items
+}
+
+/// The limits of each sort of call, from both sides.
+fn limits() -> Vec<Item> {
+    let mut items = vec![
+        Item::Beyond(Sort::Add, Limit::Room, Far::First),
+        Item::Last(Sort::Add, Limit::Room),
+    ];
+    for sort in Sort::ALL {
+        let limits: &[Limit] = match sort {
+            Sort::Add => &[],
+            Sort::Connect => &[Limit::Controller, Limit::Input, Limit::Pin],
+            Sort::Pin => &[Limit::Pin, Limit::Level],
+            Sort::Input => &[Limit::Controller, Limit::Input],
+            Sort::Write | Sort::Read | Sort::Outputs | Sort::Chain => &[Limit::Controller],
+        };
+        for &limit in limits {
+            items.push(Item::Beyond(sort, limit, Far::First));
+            items.push(Item::Beyond(sort, limit, Far::Further));
+            items.push(Item::Last(sort, limit));
+            if limit == Limit::Controller {
+                items.push(Item::Beyond(sort, limit, Far::Absent));
+            }
+        }
+    }
+    // No wire from the last controller is ever carried out: there is none above it.
+    let fars = [Far::First, Far::Absent, Far::Further];
+    items.extend(fars.map(|far| Item::Beyond(Sort::Connect, Limit::Other, far)));
+    items
+}
+
+fn configurations() -> Vec<Item> {
+    let mut items: Vec<Item> = (0..4).map(Item::Configuration).collect();
+    items.extend([0, 1, 8].map(|count| Item::Sources(Side::Fiq, count)));
+    items.extend([0, 1, 31, 32].map(|count| Item::Sources(Side::Irq, count)));
+    for fiq in BOTH {
+        items.extend(BOTH.map(|irq| Item::Levels(fiq, irq)));
+    }
+    items
+}
+
+/// The four places that an input can have.
+fn spots() -> Vec<Spot> {
+    let used = |side| BOTH.map(|used| Spot { side, used });
+    SIDES.into_iter().flat_map(used).collect()
+}
+
+fn wires() -> Vec<Item> {
+    let mut items = Vec::new();
+    for lead in Lead::ALL {
+        items.extend(Lead::ALL.map(|new| Item::Replaced(lead, new)));
+        for spot in spots() {
+            items.push(Item::Wired(lead, spot));
+            items.push(Item::Asked(lead, spot, false));
+            if lead != Lead::Nothing {
+                items.push(Item::Asked(lead, spot, true));
+            }
+        }
+    }
+    for side in SIDES {
+        for spot in spots() {
+            items.extend([Up::Same, Up::Higher].map(|up| Item::NotLower(side, up, spot)));
+        }
+    }
+    items
+}
+
+/// Activities, levels and what they move.
+fn values() -> Vec<Item> {
+    let mut items = Vec::new();
+    for side in SIDES {
+        for level in BOTH {
+            items.extend(BOTH.map(|active| Item::Activity(side, level, active)));
+            items.extend(BOTH.map(|active| Item::Output(side, level, active)));
+        }
+    }
+    for sort in [Sort::Connect, Sort::Pin, Sort::Write] {
+        items.extend(BOTH.map(|on| Item::Moved(sort, on)));
+    }
+    items
+}
+
+/// Every register with what an access to it can be answered.
+fn registers() -> Vec<Item> {
+    let mut items = Vec::new();
+    for register in (0..0x30).step_by(4).filter_map(Register::at) {
+        items.push(Item::Accessed(register, true, 0));
+        match register.role {
+            Role::Raw | Role::Status => {
+                items.push(Item::Accessed(register, false, 4));
+                let leads = [Lead::Pin, Lead::Irq, Lead::Fiq];
+                items.extend(leads.map(|lead| Item::Shown(register, lead)));
+            }
+            Role::SoftClear | Role::EnableClear => {
+                items.push(Item::Accessed(register, true, 3));
+                items.push(Item::Accessed(register, false, 0));
+            }
+            Role::Soft | Role::Enable => items.push(Item::Accessed(register, false, 0)),
+        }
+    }
+    items
+}
+
+const FACTS: &[&str] = &[
+    "6 of a ninth, whose configuration is bad",
+    "6 of an input, with a wire that leads up",
+    "6 of a controller, with a misaligned offset",
+    "6 of a controller, with no register at the offset",
+    "input 0 is wired",
+    "input 31 is wired",
+    "input 32 is wired",
+    "an input is wired to pin 0",
+    "a wire to the next lower number",
+    "a wire from controller 0 to controller 7",
+    "a second wire from one output to one controller",
+    "a clear of a side with no sources is read",
+    "a side is inactive though an unused input is high",
+    "a chain shorter than the controllers below",
+    "a chain longer than the controllers that are wired",
+    "a chain that does not go by the lowest number wired",
+    "a chain that does not go by the highest number wired",
+    "a chain by an unused input alone",
+];

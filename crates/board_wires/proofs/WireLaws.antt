@@ -1,0 +1,125 @@
+-- Laws of what the wires carry: the activities of the lower numbers, an input by its wire, and the inputs of a side in turn.
+use Prim.Native.Nat.{ℕ, zero, suc, _+_, _≤_, _<_}
+use mathlib.Core.Path.{_≡_, refl, sym, ap, _∙_}
+use mathlib.Core.Bool.{Bool, true, false, _&&_}
+use mathlib.Core.List.{List}
+use mathlib.Core.Logic.{_↔_}
+use native.Mathlib.Omega.{arith}
+use native.Mathlib.Decide.{ℕ-discrete, decLt}
+use lib.Dec.{eqb, ltb}
+use borrow.Author.Tests.{lt-ltb, le-ltb, eq-eqb, ne-eqb}
+use Rattle.words.specs.Choice.{pick}
+use Rattle.words.proofs.CountingLaws.{upto-none, upto-more, at-end}
+use Rattle.words.proofs.TruthLaws.{clash}
+use Rattle.coreinterrupt_side.specs.declared.Side.{Side}
+use Rattle.coreinterrupt_side.specs.Side.{active, moved}
+use Rattle.coreinterrupt.specs.Model.{side}
+use Rattle.board_wires.specs.declared.Board.{Board}
+use Rattle.board_wires.specs.declared.Wire.{Wire}
+use Rattle.board_wires.specs.declared.Wire.the-variants.{Nothing, Pin, Irq, Fiq}
+use Rattle.board_wires.specs.Wires.{wireIn, wireAt, pinOf, coreAt, inputsOf, placeOf, wired, sideIn, sideBy, activeBy, below, activity, inputValue}
+
+-- what is told of the numbers below n is their activity
+pub below-is : (b : Board) (n d : ℕ) (fast : Bool) → d < n → below b n d fast ≡ activity b d fast
+unfolding below activity pick
+below-is b zero d fast l = absurd (omega arith)
+below-is b (suc n) d fast l = go (ℕ-discrete d n) (below-is b n d fast)
+  where
+    go : Dec (d ≡ n) → (d < n → below b n d fast ≡ activity b d fast) → pick (eqb d n) (activeBy b (below b n) n fast) (below b n d fast) ≡ activeBy b (below b d) d fast
+    go (yes e) ih = rw (eq-eqb d n e, e)
+    go (no e) ih = rw (ne-eqb d n e) (unfold activity in (ih (omega arith)))
+
+-- ---- the value of an input by its wire
+
+module _ (b : Board) (c i : ℕ) (w : Wire) (at : w ≡ wireAt b c i) where
+  pub from-nothing : w ≡ Nothing → false ≡ inputValue b c i
+  unfolding inputValue wired
+  from-nothing e = rw (← at, e)
+
+  pub from-pin : (p : ℕ) (x : Bool) → w ≡ Pin p → x ≡ pinOf b p → x ≡ inputValue b c i
+  unfolding inputValue wired
+  from-pin p x e h = rw (← at, e) h
+
+  pub from-irq : (d : ℕ) (x : Bool) → w ≡ Irq d → d < c → x ≡ activity b d false → x ≡ inputValue b c i
+  unfolding inputValue wired
+  from-irq d x e l h = rw (← at, e, lt-ltb d c l, below-is b c d false l) h
+
+  pub from-fiq : (d : ℕ) (x : Bool) → w ≡ Fiq d → d < c → x ≡ activity b d true → x ≡ inputValue b c i
+  unfolding inputValue wired
+  from-fiq d x e l h = rw (← at, e, lt-ltb d c l, below-is b c d true l) h
+
+  pub irq-above : (d : ℕ) → w ≡ Irq d → c ≤ d → false ≡ inputValue b c i
+  unfolding inputValue wired
+  irq-above d e l = rw (← at, e, le-ltb d c l)
+
+  pub fiq-above : (d : ℕ) → w ≡ Fiq d → c ≤ d → false ≡ inputValue b c i
+  unfolding inputValue wired
+  fiq-above d e l = rw (← at, e, le-ltb d c l)
+
+-- ---- the inputs of a side, one after the other, where g tells the activities of the lower numbers
+
+module _ (ws ps : List ℕ) (g : ℕ → Bool → Bool) (c : ℕ) (fast : Bool) (s : Side) where
+  pub none-yet : s ≡ sideIn ws ps g c fast s 0
+  unfolding sideIn
+  none-yet = upto-none (λ x i. moved x i (wired ps g c (wireIn ws c (placeOf fast i)))) s
+
+  pub one-more : (x r : Side) (v : Bool) (i p : ℕ) → x ≡ sideIn ws ps g c fast s i → v ≡ wired ps g c (wireIn ws c p) → p ≡ placeOf fast i → r ≡ moved x i v
+      → r ≡ sideIn ws ps g c fast s (i + 1)
+  unfolding sideIn
+  one-more x r v i p e f j h =
+      upto-more (λ x i. moved x i (wired ps g c (wireIn ws c (placeOf fast i)))) s i e
+      (h ∙ ap (moved x i) (f ∙ ap (λ (k : ℕ). wired ps g c (wireIn ws c k)) j))
+
+  pub all-in : (x : Side) (i n : ℕ) → i ≤ n → n ≤ i → n ≡ inputsOf fast → x ≡ sideIn ws ps g c fast s i → x ≡ sideIn ws ps g c fast s (inputsOf fast)
+  all-in x i n l m e f = at-end (sideIn ws ps g c fast s) i n l m f ∙ ap (sideIn ws ps g c fast s) e
+
+-- the same, asked of the inputs themselves
+module _ (b : Board) (c : ℕ) (fast : Bool) where
+  pub first-input : (s : Side) → s ≡ side (coreAt b c) fast → s ≡ sideBy b (below b c) c fast 0
+  first-input s e = e ∙ none-yet (b .wire) (b .pin) (below b c) c fast (side (coreAt b c) fast)
+
+  pub one-input : (x r : Side) (v : Bool) (i p : ℕ) → x ≡ sideBy b (below b c) c fast i → v ≡ inputValue b c p → p ≡ placeOf fast i → r ≡ moved x i v
+      → r ≡ sideBy b (below b c) c fast (i + 1)
+  unfolding inputValue
+  one-input x r v i p e f j h = one-more (b .wire) (b .pin) (below b c) c fast (side (coreAt b c) fast) x r v i p e f j h
+
+  pub all-inputs : (x : Side) (r : Bool) (i n : ℕ) → i ≤ n → n ≤ i → n ≡ inputsOf fast → x ≡ sideBy b (below b c) c fast i → r ≡ active x → r ≡ activity b c fast
+  unfolding activity activeBy
+  all-inputs x r i n l m e f h = h ∙ ap active (all-in (b .wire) (b .pin) (below b c) c fast (side (coreAt b c) fast) x i n l m e f)
+
+-- ---- two tellers that agree on what is asked
+
+-- what is not below c is not asked
+lower-same : (g h : ℕ → Bool → Bool) (c d : ℕ) (fast : Bool) → ((d : ℕ) (fast : Bool) → d < c → g d fast ≡ h d fast) → (ltb d c && g d fast) ≡ (ltb d c && h d fast)
+lower-same g h c d fast e = go (decLt d c)
+  where
+    go : Dec (d < c) → (ltb d c && g d fast) ≡ (ltb d c && h d fast)
+    go (yes l) = rw (e d fast l)
+    go (no l) = rw (le-ltb d c (omega arith))
+
+-- a wire asks only the lower numbers
+pub wired-same : (ps : List ℕ) (g h : ℕ → Bool → Bool) (c : ℕ) (w : Wire) → ((d : ℕ) (fast : Bool) → d < c → g d fast ≡ h d fast) → wired ps g c w ≡ wired ps h c w
+unfolding wired
+wired-same ps g h c Nothing e = refl
+wired-same ps g h c (Pin p) e = refl
+wired-same ps g h c (Irq d) e = lower-same g h c d false e
+wired-same ps g h c (Fiq d) e = lower-same g h c d true e
+
+-- ---- the value of an input, exactly
+
+lower-value : (v a : Bool) (d c : ℕ) → (d < c → a ≡ v) → (c ≤ d → false ≡ v) → (v ≡ true) ↔ ((d < c) × (a ≡ true))
+lower-value v a d c f g = ((λ e. there e (decLt d c)), (λ h. sym (f (h .0)) ∙ h .1))
+  where
+    there : v ≡ true → Dec (d < c) → (d < c) × (a ≡ true)
+    there e (yes l) = (l, f l ∙ e)
+    there e (no l) = clash e (sym (g (omega arith)))
+
+pub irq-value : (b : Board) (c i d : ℕ) → wireAt b c i ≡ Irq d → (inputValue b c i ≡ true) ↔ ((d < c) × (activity b d false ≡ true))
+irq-value b c i d e =
+    lower-value (inputValue b c i) (activity b d false) d c (λ l. from-irq b c i (wireAt b c i) refl d (activity b d false) e l refl)
+    (irq-above b c i (wireAt b c i) refl d e)
+
+pub fiq-value : (b : Board) (c i d : ℕ) → wireAt b c i ≡ Fiq d → (inputValue b c i ≡ true) ↔ ((d < c) × (activity b d true ≡ true))
+fiq-value b c i d e =
+    lower-value (inputValue b c i) (activity b d true) d c (λ l. from-fiq b c i (wireAt b c i) refl d (activity b d true) e l refl)
+    (fiq-above b c i (wireAt b c i) refl d e)
