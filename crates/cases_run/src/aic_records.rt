@@ -156,30 +156,19 @@ fn seen(s: Aic, debug: u32, what: u32, source: u8, level: u8, vector: u32) {
     cases_lines::four(what, source as u32, level as u32, vector, look(t));
 }
 
-// Outside protect mode, masked or not.
-fn outside() {
+// Outside protect mode; in it, with no entry open, each field at its limits.
+fn remembered() {
     let s = fresh();
-    seen(s, 0, 0, 0, 0, 0);
-    seen(s, 2, 0, 0, 0, 0);
-    seen(s, 0, 1, 9, 3, 7);
     seen(s, 2, 1, 9, 3, 7);
     seen(s, 0, 2, 0, 0, 0);
     seen(s, 0, 0, 0, 0, 7);
-}
-
-// In it, with no entry open: each field at its limits.
-fn inside() {
-    let s = fresh();
-    seen(s, 1, 0, 0, 0, 0);
     seen(s, 1, 0, 9, 0, 0);
     seen(s, 1, 0, 0, 3, 0);
-    seen(s, 1, 0, 0, 0, 7);
     seen(s, 1, 1, 1, 0, 7);
     seen(s, 3, 1, 31, 7, 0xFFFFFFFF);
     seen(s, 1, 1, 0, 3, 0);
     seen(s, 1, 1, 32, 3, 0);
     seen(s, 1, 1, 9, 8, 0);
-    seen(s, 1, 1, 9, 255, 0);
     seen(s, 1, 2, 0, 0, 0);
     seen(s, 1, 2, 9, 0, 0);
     seen(s, 1, 2, 0, 3, 0);
@@ -187,29 +176,22 @@ fn inside() {
     seen(s, 1, 3, 0, 0, 0);
 }
 
-// Over a handler of source 31 at level 3, a mark on it, and a mark alone.
-fn over() {
+// At and above the level of the last entry, and over a mark that has none; with seven entries open room for a source, with eight only for none.
+fn remembered_over(seven: Aic, eight: Aic) {
     let s = aic_record::put_handler(fresh(), 0, 31, 3, 1);
-    seen(s, 1, 1, 9, 2, 0);
     seen(s, 1, 1, 9, 3, 0);
     seen(s, 1, 1, 9, 4, 0);
-    seen(s, 1, 1, 31, 4, 0);
-    seen(s, 1, 2, 0, 0, 0);
-    let t = aic_record::put_handler(s, 1, 0, 3, 2);
-    seen(t, 1, 1, 9, 3, 0);
-    seen(t, 1, 1, 9, 4, 0);
-    let m = aic_record::put_handler(fresh(), 0, 0, 255, 1);
-    seen(m, 1, 1, 9, 0, 0);
-    seen(m, 1, 1, 9, 8, 0);
-}
-
-// With seven entries open there is room for a source, with eight only for none.
-fn room(seven: Aic, eight: Aic) {
+    seen(
+        aic_record::put_handler(fresh(), 0, 0, 255, 1),
+        1,
+        1,
+        9,
+        0,
+        0,
+    );
     seen(seven, 1, 1, 9, 7, 0);
     seen(eight, 1, 1, 9, 7, 0);
     seen(eight, 1, 2, 0, 0, 0);
-    seen(eight, 0, 2, 0, 0, 0);
-    seen(eight, 1, 0, 0, 0, 0);
 }
 
 // Of an unsound record 12 stands before every other number, and its outputs are refused too.
@@ -240,8 +222,6 @@ pub(crate) fn all() {
     words();
     first_of_all();
     cases_lines::heading(b"remembered, source, level, vector\n");
-    outside();
-    inside();
-    over();
-    room(seven, eight);
+    remembered();
+    remembered_over(seven, eight);
 }

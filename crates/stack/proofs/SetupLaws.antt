@@ -256,7 +256,7 @@ module _ (t : Table) (u : Aic) (r : Ready t 32 u) where
       }
 
   begins : Set t u
-  begins = record { none = r .empty; remembered = r .remembered; levels = λ i l. r .modes i l .0; types = λ i l. r .modes i l .1; forcings = r .forcings }
+  begins = record { none = r .empty; remembered = omega (arith, r .remembered); levels = λ i l. r .modes i l .0; types = λ i l. r .modes i l .1; forcings = r .forcings }
 
 joined : (t : Table) (s : Settled t (prepared t)) → Climbed t (run (prepared t) (s .steps)) → Reached t
 unfolding run
