@@ -10,7 +10,7 @@ use lib.Dec.{eqb, ltb}
 use borrow.Author.Tests.{eq-eqb, ne-eqb, ltb-true, lt-ltb, not-true}
 use Rattle.words.specs.Choice.{pick}
 use Rattle.words.specs.Counting.{one, sumBelow}
-use Rattle.words.proofs.ChoiceLaws.{pick-true, pick-cases}
+use Rattle.words.proofs.ChoiceLaws.{pick-true}
 use Rattle.words.proofs.TruthLaws.{and-left, and-right, and-both, clash, told}
 use Rattle.words.proofs.CountingLaws.{sum-le, sum-add, sum-at, one-le}
 use Rattle.steps.specs.declared.Step.{Step}
@@ -24,7 +24,7 @@ use Rattle.aic.specs.Model.{step}
 use Rattle.aic_runs.specs.Counted.{starts, startedBy, recalls, carries, startsOf, startsOther, strays, closes, rewrites, steady, waits}
 use Rattle.aic_runs.specs.Runs.{run, count, always, EachStart, owed, received, sumOver}
 use Rattle.aic_runs.specs.Promises.{EdgeTriggered, rivalOf}
-use Rattle.aic_runs.proofs.StepLaws.{modes-law, depth-law, demand, demand-owed, owed-law, lost, stray-law, stray-who, edge-modes, ahead-modes, fast-forcing}
+use Rattle.aic_runs.proofs.StepLaws.{modes-law, depth-law, demand, demand-owed, demand-law, lost, stray-law, stray-who, edge-modes, ahead-modes, fast-forcing}
 
 -- ---- the open entries
 
@@ -47,7 +47,7 @@ source-law i l s (x ∷ xs) e h =
     let r = not-rewritten s x (and-left (steady s x) _ h) in
     omega (
       arith,
-      owed-law s i l e x r,
+      demand-law s i l e x r,
       source-law i l (step s x .aic) xs (edge-modes s (step s x .aic) i (modes-law s x r .0) ∙ e) (and-right (steady s x) _ h),
     )
 
@@ -78,26 +78,13 @@ over-le t f g h = sum-le 32 (λ i. pick (t i) (f i) 0) (λ i. pick (t i) (g i) 0
     go i l true e = h i l e
     go i l false e = omega arith
 
-over-add : (t : ℕ → Bool) (f g : ℕ → ℕ) → sumOver t f + sumOver t g ≤ sumOver t (λ i. f i + g i)
+over-add : (t : ℕ → Bool) (f g : ℕ → ℕ) → sumOver t (λ i. f i + g i) ≡ sumOver t f + sumOver t g
 unfolding sumOver pick
-over-add t f g = rw (← sum-add) (sum-le 32 _ _ (λ i l. go i (t i)))
+over-add t f g = ap (sumBelow 32) (λ i k. go k (t k) i) ∙ sum-add 32 _ _
   where
-    go : (i : ℕ) (b : Bool) → pick b (f i) 0 + pick b (g i) 0 ≤ pick b (f i + g i) 0
-    go i true = omega arith
-    go i false = omega arith
-
-over-split : (t : ℕ → Bool) (f g : ℕ → ℕ) → sumOver t (λ i. f i + g i) ≤ sumOver t f + sumOver t g
-unfolding sumOver pick
-over-split t f g = rw (← sum-add) (sum-le 32 _ _ (λ i l. go i (t i)))
-  where
-    go : (i : ℕ) (b : Bool) → pick b (f i + g i) 0 ≤ pick b (f i) 0 + pick b (g i) 0
-    go i true = omega arith
-    go i false = omega arith
-
-sum-zero : (n : ℕ) → sumBelow n (λ i. 0) ≡ 0
-unfolding sumBelow
-sum-zero zero = refl
-sum-zero (suc n) = omega (arith, sum-zero n)
+    go : (k : ℕ) (b : Bool) → pick b (f k + g k) 0 ≡ pick b (f k) 0 + pick b (g k) 0
+    go k true = refl
+    go k false = refl
 
 over-at : (t : ℕ → Bool) (f : ℕ → ℕ) (j : ℕ) → j < 32 → t j ≡ true → f j ≤ sumOver t f
 unfolding sumOver
@@ -154,19 +141,19 @@ module _ (k : ℕ) (t : ℕ → Bool) where
       go (yes e) h = (λ l. absurd (omega arith), omega (arith, h .0 (omega arith), some (t n), ap (λ (i : ℕ). one (t i)) e))
       go (no d) h = (λ l. omega (arith, h .0 (omega arith), none (t n) (ne-eqb n j d)), omega (arith, h .1, none (t n) (ne-eqb n j d)))
 
+  nothing : (n : ℕ) → sumBelow n (λ i. pick (t i) 0 0) ≡ 0
+  unfolding sumBelow pick
+  nothing zero = refl
+  nothing (suc n) = go (t n) (nothing n)
+    where
+      go : (b : Bool) → sumBelow n (λ i. pick (t i) 0 0) ≡ 0 → sumBelow n (λ i. pick (t i) 0 0) + pick b 0 0 ≡ 0
+      go true e = omega arith
+      go false e = omega arith
+
   remembered-once : (s : Aic) → t k ≡ false → sumOver t (λ i. one (recalls i s)) + one (lost t k s) ≤ one (carries k s)
   unfolding recalls lost carries sumOver
   remembered-once s z = go (eqb (s .seen .what) 1)
     where
-      j : ℕ
-      j = s .seen .source
-
-      zeros : sumBelow 32 (λ i. pick (t i) 0 0) ≤ sumBelow 32 (λ i. 0)
-      zeros = sum-le 32 (λ i. pick (t i) 0 0) (λ i. 0) (λ i l. pick-cases (λ (n : ℕ). n ≤ 0) (t i) (λ _. omega arith) (λ _. omega arith))
-
-      nought : (n : ℕ) → sumBelow n (λ i. 0) ≡ 0
-      nought n = sum-zero n
-
       last : Dec (k ≡ s .seen .source) → (b : Bool) → t (s .seen .source) ≡ b → one b + one (not (eqb k (s .seen .source)) && not b) ≤ one (not (eqb k (s .seen .source)))
       last (yes e) true f = clash f (ap t (sym e) ∙ z)
       last (yes e) false f = rw (eq-eqb k (s .seen .source) e) (omega arith)
@@ -176,7 +163,7 @@ module _ (k : ℕ) (t : ℕ → Bool) where
       go : (b : Bool) → sumBelow 32 (λ i. pick (t i) (one (b && eqb i (s .seen .source))) 0) + one (b && (not (eqb k (s .seen .source)) && not (t (s .seen .source))))
           ≤ one (b && not (eqb k (s .seen .source)))
       go true = omega (arith, once 32 (s .seen .source) .1, last (ℕ-discrete k (s .seen .source)) (t (s .seen .source)) refl)
-      go false = omega (arith, zeros, nought 32)
+      go false = omega (arith, nothing 32)
 
   -- and each source starts no more than it is owed and receives, and one more if it is remembered
   pub bound-over : (s : Aic) (xs : List Step) → t k ≡ false → count (strays t k) s xs ≤ one (lost t k s) → always steady s xs ≡ true → EdgeTriggered s t
@@ -187,7 +174,7 @@ module _ (k : ℕ) (t : ℕ → Bool) where
         h,
         starts-over s xs,
         remembered-once s z,
-        over-split t (λ i. owed s i + received i s xs) (λ i. one (recalls i s)),
+        over-add t (λ i. owed s i + received i s xs) (λ i. one (recalls i s)),
         over-le t (λ i. count (startsOf i) s xs) (λ i. owed s i + received i s xs + one (recalls i s))
             (λ i l p. omega (arith, source-law i l s xs (e i l p) a, demand-owed s i (e i l p) .1)),
       )

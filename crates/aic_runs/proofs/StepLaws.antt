@@ -67,10 +67,6 @@ not-ivr : (o : ℕ) → (o ≡ ffer) ⊎ (o ≡ ffdr) → o ≢ ivr
 not-ivr o (inl e) = omega arith
 not-ivr o (inr e) = omega arith
 
--- what is remembered of a sound record finds room
-seen-room : (s : Aic) → sound s ≡ true → s .seen .what ≡ 1 → s .depth < 8
-seen-room s ok w = seen-sound s ok .room w
-
 not-eoicr : (o : ℕ) → (o ≡ ffer) ⊎ (o ≡ ffdr) → o ≢ eoicr
 not-eoicr o (inl e) = omega arith
 not-eoicr o (inr e) = omega arith
@@ -91,7 +87,7 @@ depth-law s =
       look = λ ok i c. rw (look-start s i, read-close s ivr);
       lookNone = λ ok i n. rw (look-start s i, read-close s ivr);
       begin = λ v ok i w.
-          rw (started-is s (s .seen .source) (s .seen .level), begin-start s v ok i (omega arith) (seen-room s ok w), other-close s ivr v (omega arith)) (omega arith);
+          rw (started-is s (s .seen .source) (s .seen .level), begin-start s v ok i (omega arith) (seen-sound s ok .room w), other-close s ivr v (omega arith)) (omega arith);
       beginMark = λ v ok i z w l. rw (begin-start s v ok i z l, other-close s ivr v (omega arith)) (omega arith);
       close = λ v ok d. rw (write-start s eoicr v (omega arith), close-close s v ok d) (omega arith);
       command = λ v ok. rw (write-start s iscr v (omega arith), other-close s iscr v (omega arith));
@@ -177,7 +173,7 @@ other-law s =
       mark = λ ok i n l a c. clash (take-start s ok i l) a;
       look = λ ok i d a c. (refl, refl, refl);
       lookNone = λ ok i n a c. (refl, refl, refl);
-      begin = λ v ok i w a c. clash (begin-start s v ok i (omega arith) (seen-room s ok w)) a;
+      begin = λ v ok i w a c. clash (begin-start s v ok i (omega arith) (seen-sound s ok .room w)) a;
       beginMark = λ v ok i z w l a c. clash (begin-start s v ok i z l) a;
       close = λ v ok d a c. clash (close-close s v ok d) c;
       command = λ v ok a c. (refl, refl, refl);
@@ -235,7 +231,7 @@ unfoldable pub demand : Aic → ℕ → Bool
 demand s i = bit (s .memory) i || recalls i s
 
 module _ (s : Aic) (i : ℕ) (small : i < 32) (edgy : edge s i ≡ true) where
-  -- the memory after, and a start, are paid by the memory before, an edge or a command
+  -- what it may start after, and a start, are paid by what it might before, an edge or a command
   abbrev Paid : Step → Aic → Type 0
   Paid x t = one (demand t i) + one (startsOf i s x) ≤ one (demand s i) + (one (edges i s x) + one (commands i s x))
 
@@ -299,7 +295,7 @@ module _ (s : Aic) (i : ℕ) (small : i < 32) (edgy : edge s i ≡ true) where
       )
       (omega (arith, one-turned (bit (s .memory) i) (eqb i k) (edge s k) (turns s k (eqb l 1)) (recalls i s)))
 
-  demand-law : (x : Step) → rewrites s x ≡ false → Paid x (step s x .aic)
+  pub demand-law : (x : Step) → rewrites s x ≡ false → Paid x (step s x .aic)
   unfolding opened closedLast recalls demand
   demand-law =
       kinds s (λ x t. rewrites s x ≡ false → Paid x t)
@@ -349,11 +345,6 @@ demand-owed s i e = rw (owed-memory s i e) (go (bit (s .memory) i) (recalls i s)
     go : (m c : Bool) → (one m ≤ one (m || c)) × (one (m || c) ≤ one m + one c)
     go true c = (omega arith, omega arith)
     go false c = (omega arith, omega arith)
-
--- what it may start after a step, and a start, are paid by what it might, an edge or a set command
-pub owed-law : (s : Aic) (i : ℕ) → i < 32 → edge s i ≡ true → (x : Step) → rewrites s x ≡ false
-    → one (demand (step s x .aic) i) + one (startsOf i s x) ≤ one (demand s i) + (one (edges i s x) + one (commands i s x))
-owed-law s i l e x r = demand-law s i l e x r
 
 -- ---- what is remembered and is neither k nor passes a test
 
