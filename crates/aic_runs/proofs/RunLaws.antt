@@ -17,7 +17,7 @@ use Rattle.steps.specs.declared.Step.{Step}
 use Rattle.aic_record.specs.declared.Aic.{Aic}
 use Rattle.aic_record.specs.Mode.{edge}
 use Rattle.aic_sources.specs.Fast.{fast}
-use Rattle.aic_sources.specs.Normal.{waiting, ahead, candidates, chosen}
+use Rattle.aic_sources.specs.Normal.{waiting, candidates, chosen}
 use Rattle.aic_sources.proofs.HandlerLaws.{candidate-waits, waiting-is}
 use Rattle.aic_sources.proofs.OrderLaws.{chosen-is, chosen-ahead}
 use Rattle.aic.specs.Model.{step}

@@ -18,7 +18,7 @@ use Rattle.aic_registers.specs.Map.{access}
 use Rattle.aic_registers.specs.Handlers.{spent, opened, startedAt, marked, closedLast, ended, ivrTaken, ivrLooked, ivrRead, begun, ivrWritten}
 use Rattle.aic_registers.specs.Effects.{moded, enabledBy, setBy, debugBy, turns, moved}
 use Rattle.aic_registers.specs.Registers.{readAt, writtenAt}
-use Rattle.aic.specs.Model.{readNumber, writeNumber, lineNumber, read, write, line, step}
+use Rattle.aic.specs.Model.{readNumber, writeNumber, lineNumber, read, write, line}
 use Rattle.aic_runs.specs.Counted.{carried, takes, begins, starts, startedBy, carries, startsOf, startsOther, closes, rises, edges, commands, rewrites, steady, waits}
 use Rattle.aic_runs.specs.Runs.{run, count, always, owed, received, sumOver}
 use Rattle.aic_runs.specs.Worked.{ready, tower, crowded, outset, wait, stale, staleWait}
