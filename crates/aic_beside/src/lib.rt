@@ -6,6 +6,7 @@ ghost use Prim.Native.Nat.{ℕ, _<_, _≤_};
 ghost use lib.Dec.{eqb};
 ghost use lib.ListN.{length, getD, set};
 ghost use Rattle.words.specs.Word.{wordOf, both, withBit};
+ghost use Rattle.aic_record.specs.declared.Seen.{Seen};
 ghost use Rattle.aic_sources.specs.Pending.{pendingWord, edgeWord};
 ghost use Rattle.aic_sources.specs.Normal.{waiting};
 ghost use Rattle.aic_beside.specs.Parts.{aicOf};
@@ -15,14 +16,14 @@ ghost use Rattle.aic_beside.specs.Kept.{lowWord, classWord};
 
 // The pending sources: an edge source by its memory, a level source by its line.
 pub fn pending_of(lines: u32, memory: u32, edges: u32, low: u32) -> u32
-    ensures { λ r. ⌜ ((external enabled forced spurious mask depth : ℕ) (mode vector source level : List ℕ) → edges ≡ edgeWord (aicOf external lines enabled memory forced spurious mask mode vector source level depth) → low ≡ lowWord (aicOf external lines enabled memory forced spurious mask mode vector source level depth) → r ≡ pendingWord (aicOf external lines enabled memory forced spurious mask mode vector source level depth)) ⌝ }
+    ensures { λ r. ⌜ ((external enabled forced spurious debug depth : ℕ) (mode vector source level : List ℕ) (seen : Seen) → edges ≡ edgeWord (aicOf external lines enabled memory forced spurious debug mode vector source level depth seen) → low ≡ lowWord (aicOf external lines enabled memory forced spurious debug mode vector source level depth seen) → r ≡ pendingWord (aicOf external lines enabled memory forced spurious debug mode vector source level depth seen)) ⌝ }
 {
     aic_sources::blend(edges, memory, aic_sources::active_word(low, lines))
 }
 
 // The sources that wait: pending, enabled and not fast.
 pub fn waiting_of(lines: u32, enabled: u32, memory: u32, forced: u32, edges: u32, low: u32) -> u32
-    ensures { λ r. ⌜ ((external spurious mask depth : ℕ) (mode vector source level : List ℕ) → edges ≡ edgeWord (aicOf external lines enabled memory forced spurious mask mode vector source level depth) → low ≡ lowWord (aicOf external lines enabled memory forced spurious mask mode vector source level depth) → r ≡ wordOf 32 (waiting (aicOf external lines enabled memory forced spurious mask mode vector source level depth))) ⌝ }
+    ensures { λ r. ⌜ ((external spurious debug depth : ℕ) (mode vector source level : List ℕ) (seen : Seen) → edges ≡ edgeWord (aicOf external lines enabled memory forced spurious debug mode vector source level depth seen) → low ≡ lowWord (aicOf external lines enabled memory forced spurious debug mode vector source level depth seen) → r ≡ wordOf 32 (waiting (aicOf external lines enabled memory forced spurious debug mode vector source level depth seen))) ⌝ }
 {
     let asks = words::meet(pending_of(lines, memory, edges, low), enabled);
     words::drop_bits(asks, words::join(1, forced))
@@ -71,7 +72,7 @@ pub fn renew_levels<'a>(class: &'a [u32; 8], words: &'a mut [u32; 8], any: &'a m
 
 // The sources whose active level is low. Bit 6 of a mode tells the types whose active level is high even of an external source.
 pub fn low_of(external: u32, mode: &[u8; 32]) -> u32
-    ensures { λ r. ⌜ ((lines enabled memory forced spurious mask depth : ℕ) (vector source level : List ℕ) → r ≡ lowWord (aicOf external lines enabled memory forced spurious mask (now (mode .entry)) vector source level depth)) ⌝ }
+    ensures { λ r. ⌜ ((lines enabled memory forced spurious debug depth : ℕ) (vector source level : List ℕ) (seen : Seen) → r ≡ lowWord (aicOf external lines enabled memory forced spurious debug (now (mode .entry)) vector source level depth seen)) ⌝ }
 {
     words::drop_bits(external, aic_sources::mode_word(mode, 6))
 }

@@ -36,7 +36,7 @@ fn step_agreed(s: Aic, l: Levels, x: Step) -> Answer
     let mut memory = s.memory;
     let mut forced = s.forced;
     let mut spurious = s.spurious;
-    let mut mask = s.mask;
+    let mut debug = s.debug;
     let mut mode = s.mode;
     let mut vector = s.vector;
     let mut source = s.source;
@@ -54,7 +54,7 @@ fn step_agreed(s: Aic, l: Levels, x: Step) -> Answer
         &mut memory,
         &mut forced,
         &mut spurious,
-        &mut mask,
+        &mut debug,
         &mut mode,
         &mut vector,
         &mut source,
@@ -74,7 +74,7 @@ fn step_agreed(s: Aic, l: Levels, x: Step) -> Answer
         memory: memory,
         forced: forced,
         spurious: spurious,
-        mask: mask,
+        debug: debug,
         mode: mode,
         vector: vector,
         source: source,

@@ -6,6 +6,7 @@ ghost use mathlib.Core.Logic.{_≢_};
 ghost use Prim.Native.Nat.{ℕ, _%_, _≤_, _<_};
 ghost use Rattle.words.specs.Word.{bit, both};
 ghost use Rattle.steps.specs.Refusals.{protecting};
+ghost use Rattle.aic_record.specs.declared.Seen.{Seen};
 ghost use Rattle.aic_record.specs.Sound.{sound};
 ghost use Rattle.aic_registers.specs.Registers.{writtenAt};
 ghost use Rattle.aic.specs.Model.{write};
@@ -33,7 +34,7 @@ pub fn write_table<'a>(
     value: u32,
 )
     requires { ⌜ offset < 0x100 ⌝ }
-    ensures { λ _. ⌜ ((spurious mask depth : ℕ) (source level : List ℕ) → Kept (aicOf external lines enabled (now (memory .entry)) forced spurious mask (now (mode .entry)) (now (vector .entry)) source level depth) (now (words .entry)) (now (any .entry)) (now (edges .entry)) (now (low .entry)) (now (class .entry)) → ((aicOf external lines enabled (now (memory .exit)) forced spurious mask (now (mode .exit)) (now (vector .exit)) source level depth) ≡ writtenAt (aicOf external lines enabled (now (memory .entry)) forced spurious mask (now (mode .entry)) (now (vector .entry)) source level depth) offset value) × Kept (aicOf external lines enabled (now (memory .exit)) forced spurious mask (now (mode .exit)) (now (vector .exit)) source level depth) (now (words .exit)) (now (any .exit)) (now (edges .exit)) (now (low .exit)) (now (class .exit))) ⌝ }
+    ensures { λ _. ⌜ ((spurious debug depth : ℕ) (source level : List ℕ) → Kept (aicOf external lines enabled (now (memory .entry)) forced spurious debug (now (mode .entry)) (now (vector .entry)) source level depth) (now (words .entry)) (now (any .entry)) (now (edges .entry)) (now (low .entry)) (now (class .entry)) → ((aicOf external lines enabled (now (memory .exit)) forced spurious debug (now (mode .exit)) (now (vector .exit)) source level depth) ≡ writtenAt (aicOf external lines enabled (now (memory .entry)) forced spurious debug (now (mode .entry)) (now (vector .entry)) source level depth) offset value) × Kept (aicOf external lines enabled (now (memory .exit)) forced spurious debug (now (mode .exit)) (now (vector .exit)) source level depth) (now (words .exit)) (now (any .exit)) (now (edges .exit)) (now (low .exit)) (now (class .exit))) ⌝ }
 {
     let k = offset / 4 % 32;
     if offset < map::SVR {
@@ -73,7 +74,7 @@ fn command<'a>(
     v: u32,
 ) -> Reply
     requires { ⌜ (offset % 4 ≡ 0 → 0x100 ≤ offset) × (offset ≢ 0x100) × (offset ≢ 0x130) × (offset ≢ 0x134) × (offset ≢ 0x138) ⌝ }
-    ensures { λ r. ⌜ ((external spurious mask depth : ℕ) (mode vector source level : List ℕ) → sound (aicOf external lines (now (enabled .entry)) (now (memory .entry)) (now (forced .entry)) spurious mask mode vector source level depth) ≡ true → Kept (aicOf external lines (now (enabled .entry)) (now (memory .entry)) (now (forced .entry)) spurious mask mode vector source level depth) (now (words .entry)) (now (any .entry)) edges low (now (class .entry)) → (answerOf r (aicOf external lines (now (enabled .exit)) (now (memory .exit)) (now (forced .exit)) spurious mask mode vector source level depth) ≡ write (aicOf external lines (now (enabled .entry)) (now (memory .entry)) (now (forced .entry)) spurious mask mode vector source level depth) offset v) × Kept (aicOf external lines (now (enabled .exit)) (now (memory .exit)) (now (forced .exit)) spurious mask mode vector source level depth) (now (words .exit)) (now (any .exit)) edges low (now (class .entry))) ⌝ }
+    ensures { λ r. ⌜ ((external spurious debug depth : ℕ) (mode vector source level : List ℕ) → sound (aicOf external lines (now (enabled .entry)) (now (memory .entry)) (now (forced .entry)) spurious debug mode vector source level depth) ≡ true → Kept (aicOf external lines (now (enabled .entry)) (now (memory .entry)) (now (forced .entry)) spurious debug mode vector source level depth) (now (words .entry)) (now (any .entry)) edges low (now (class .entry)) → (answerOf r (aicOf external lines (now (enabled .exit)) (now (memory .exit)) (now (forced .exit)) spurious debug mode vector source level depth) ≡ write (aicOf external lines (now (enabled .entry)) (now (memory .entry)) (now (forced .entry)) spurious debug mode vector source level depth) offset v) × Kept (aicOf external lines (now (enabled .exit)) (now (memory .exit)) (now (forced .exit)) spurious debug mode vector source level depth) (now (words .exit)) (now (any .exit)) edges low (now (class .entry))) ⌝ }
 {
     let on = *enabled;
     let seen = *memory;
@@ -112,15 +113,15 @@ fn command<'a>(
     }
 }
 
-// A write of debug control: bit 0, protect mode, is refused; of the others bit 1 is kept, the mask.
-fn write_debug<'a>(mask: &'a mut u32, v: u32) -> Reply
-    ensures refused { λ r. ⌜ (bit v 0 ≡ true → (r ≡ refusedReply protecting) × (now (mask .exit) ≡ now (mask .entry))) ⌝ }
-    ensures taken { λ r. ⌜ (bit v 0 ≡ false → (r ≡ answeredReply 0) × (now (mask .exit) ≡ both v 2)) ⌝ }
+// A write of debug control: bit 0, protect mode, is refused; of the others bit 1 is kept, the debug.
+fn write_debug<'a>(debug: &'a mut u32, v: u32) -> Reply
+    ensures refused { λ r. ⌜ (bit v 0 ≡ true → (r ≡ refusedReply protecting) × (now (debug .exit) ≡ now (debug .entry))) ⌝ }
+    ensures taken { λ r. ⌜ (bit v 0 ≡ false → (r ≡ answeredReply 0) × (now (debug .exit) ≡ both v 2)) ⌝ }
 {
     if words::has(v, 0) {
         return aic_replies::refuse(steps::PROTECTING);
     }
-    *mask = words::meet(v, 2);
+    *debug = words::meet(v, 2);
     aic_replies::carry_out(0)
 }
 
@@ -131,7 +132,7 @@ pub fn write_single<'a>(
     memory: &'a mut u32,
     forced: &'a mut u32,
     spurious: &'a mut u32,
-    mask: &'a mut u32,
+    debug: &'a mut u32,
     source: &'a mut [u8; 8],
     level: &'a mut [u8; 8],
     depth: &'a mut u32,
@@ -144,7 +145,7 @@ pub fn write_single<'a>(
     v: u32,
 ) -> Reply
     requires { ⌜ (offset % 4 ≡ 0 → 0x100 ≤ offset) ⌝ }
-    ensures { λ r. ⌜ ((external : ℕ) (mode vector : List ℕ) → sound (aicOf external lines (now (enabled .entry)) (now (memory .entry)) (now (forced .entry)) (now (spurious .entry)) (now (mask .entry)) mode vector (now (source .entry)) (now (level .entry)) (now (depth .entry))) ≡ true → Kept (aicOf external lines (now (enabled .entry)) (now (memory .entry)) (now (forced .entry)) (now (spurious .entry)) (now (mask .entry)) mode vector (now (source .entry)) (now (level .entry)) (now (depth .entry))) (now (words .entry)) (now (any .entry)) edges low (now (class .entry)) → (answerOf r (aicOf external lines (now (enabled .exit)) (now (memory .exit)) (now (forced .exit)) (now (spurious .exit)) (now (mask .exit)) mode vector (now (source .exit)) (now (level .exit)) (now (depth .exit))) ≡ write (aicOf external lines (now (enabled .entry)) (now (memory .entry)) (now (forced .entry)) (now (spurious .entry)) (now (mask .entry)) mode vector (now (source .entry)) (now (level .entry)) (now (depth .entry))) offset v) × Kept (aicOf external lines (now (enabled .exit)) (now (memory .exit)) (now (forced .exit)) (now (spurious .exit)) (now (mask .exit)) mode vector (now (source .exit)) (now (level .exit)) (now (depth .exit))) (now (words .exit)) (now (any .exit)) edges low (now (class .entry))) ⌝ }
+    ensures { λ r. ⌜ ((external : ℕ) (mode vector : List ℕ) → sound (aicOf external lines (now (enabled .entry)) (now (memory .entry)) (now (forced .entry)) (now (spurious .entry)) (now (debug .entry)) mode vector (now (source .entry)) (now (level .entry)) (now (depth .entry))) ≡ true → Kept (aicOf external lines (now (enabled .entry)) (now (memory .entry)) (now (forced .entry)) (now (spurious .entry)) (now (debug .entry)) mode vector (now (source .entry)) (now (level .entry)) (now (depth .entry))) (now (words .entry)) (now (any .entry)) edges low (now (class .entry)) → (answerOf r (aicOf external lines (now (enabled .exit)) (now (memory .exit)) (now (forced .exit)) (now (spurious .exit)) (now (debug .exit)) mode vector (now (source .exit)) (now (level .exit)) (now (depth .exit))) ≡ write (aicOf external lines (now (enabled .entry)) (now (memory .entry)) (now (forced .entry)) (now (spurious .entry)) (now (debug .entry)) mode vector (now (source .entry)) (now (level .entry)) (now (depth .entry))) offset v) × Kept (aicOf external lines (now (enabled .exit)) (now (memory .exit)) (now (forced .exit)) (now (spurious .exit)) (now (debug .exit)) mode vector (now (source .exit)) (now (level .exit)) (now (depth .exit))) (now (words .exit)) (now (any .exit)) edges low (now (class .entry))) ⌝ }
 {
     match offset {
         map::IVR => aic_replies::carry_out(0),
@@ -156,7 +157,7 @@ pub fn write_single<'a>(
             *spurious = v;
             aic_replies::carry_out(0)
         }
-        map::DCR => write_debug(mask, v),
+        map::DCR => write_debug(debug, v),
         _ => command(
             lines,
             enabled,

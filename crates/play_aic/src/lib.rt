@@ -20,7 +20,7 @@ pub fn play_steps(trace: &[u8], limit: u32, start: usize, first: Aic) -> Played
     let mut memory = first.memory;
     let mut forced = first.forced;
     let mut spurious = first.spurious;
-    let mut mask = first.mask;
+    let mut debug = first.debug;
     let mut mode = first.mode;
     let mut vector = first.vector;
     let mut source = first.source;
@@ -45,7 +45,7 @@ pub fn play_steps(trace: &[u8], limit: u32, start: usize, first: Aic) -> Played
                 memory,
                 forced,
                 spurious,
-                mask,
+                debug,
                 mode,
                 vector,
                 source,
@@ -66,7 +66,7 @@ pub fn play_steps(trace: &[u8], limit: u32, start: usize, first: Aic) -> Played
             &mut memory,
             &mut forced,
             &mut spurious,
-            &mut mask,
+            &mut debug,
             &mut mode,
             &mut vector,
             &mut source,

@@ -13,9 +13,9 @@ write-table-requires c κs = in-table (c .before .before .before .before .before
 returns : tie.Need-returns
 returns c ok h =
     let a = c .before .before .before .before .before .before .before .before .before .before .before .before .before .args in
-    let s = aicOf (a .external) (a .lines) (a .enabled .now) (a .memory .now) (a .forced .now) (a .spurious .now) (a .mask .now) (a .mode .now) (a .vector .now) (a .source .now) (a .level .now) (a .depth .now) in
+    let s = aicOf (a .external) (a .lines) (a .enabled .now) (a .memory .now) (a .forced .now) (a .spurious .now) (a .debug .now) (a .mode .now) (a .vector .now) (a .source .now) (a .level .now) (a .depth .now) in
     let i = in-table (a .offset) (c .before .before .before .before .before .before .before .before .before .before .before .before .if1 .taken) in
-    let w = c .before .write-table .ensures (a .spurious .now) (a .mask .now) (a .depth .now) (a .source .now) (a .level .now) h in
+    let w = c .before .write-table .ensures (a .spurious .now) (a .debug .now) (a .depth .now) (a .source .now) (a .level .now) h in
     (write-arm s _ _ _ (a .offset) (a .offset) (a .value) (c .carry-out .ensures) (w .0) (table-written s (a .offset) (a .value) ok (i .1) (i .0)) refl, w .1)
 
 write-single-requires : tie.Need-write-single-requires

@@ -12,14 +12,14 @@ use Rattle.list_aic.proofs.list_steps.Statement.{statement}
 use Rattle.list_aic.proofs.list_steps.Tie as tie
 
 abbrev Inv-loop : tie.InvT-loop
-Inv-loop trace limit start out₀ from external lines₀ enabled₀ memory₀ forced₀ spurious₀ mask₀ mode₀ vector₀ source₀ level₀ depth₀ words₀ any₀ edges₀ low₀ class₀ place₀ more₀ number₀ to₀ out lines enabled memory forced spurious mask mode vector source level depth words any edges low class place more number to =
-    Going trace limit start (aicOf external lines₀ enabled₀ memory₀ forced₀ spurious₀ mask₀ mode₀ vector₀ source₀ level₀ depth₀) (out₀, from) number more place (out, to)
-    (aicOf external lines enabled memory forced spurious mask mode vector source level depth)
+Inv-loop trace limit start out₀ from external lines₀ enabled₀ memory₀ forced₀ spurious₀ debug₀ mode₀ vector₀ source₀ level₀ depth₀ words₀ any₀ edges₀ low₀ class₀ place₀ more₀ number₀ to₀ out lines enabled memory forced spurious debug mode vector source level depth words any edges low class place more number to =
+    Going trace limit start (aicOf external lines₀ enabled₀ memory₀ forced₀ spurious₀ debug₀ mode₀ vector₀ source₀ level₀ depth₀) (out₀, from) number more place (out, to)
+    (aicOf external lines enabled memory forced spurious debug mode vector source level depth)
     words any edges low class
     × (length out ≡ length out₀)
 
 abbrev μ-loop : tie.MeasureT-loop
-μ-loop trace limit start out₀ from external lines₀ enabled₀ memory₀ forced₀ spurious₀ mask₀ mode₀ vector₀ source₀ level₀ depth₀ words₀ any₀ edges₀ low₀ class₀ place₀ more₀ number₀ to₀ out lines enabled memory forced spurious mask mode vector source level depth words any edges low class place more number to = more
+μ-loop trace limit start out₀ from external lines₀ enabled₀ memory₀ forced₀ spurious₀ debug₀ mode₀ vector₀ source₀ level₀ depth₀ words₀ any₀ edges₀ low₀ class₀ place₀ more₀ number₀ to₀ out lines enabled memory forced spurious debug mode vector source level depth words any edges low class place more number to = more
 
 loop-holds : tie.Need-loop-holds Inv-loop μ-loop
 loop-holds c = (record { listing = refl; counted = omega arith; ready = c .before .before .before .before .before .before .before .before .before .pre; kept = c .before .before .begin .ensures }, refl)
@@ -52,7 +52,7 @@ loop-again c = let p = c .before .before in
     let i = a .before .before .before .before .before .before .before .before .before .before .before .before .before .before .before .before .before in
     let s = i .before .before in
     let l = s .before .before .loop in (
-      goes-on _ _ _ _ _ _ _ _ _ (aicOf _ (l .lines) (l .enabled) (l .memory) (l .forced) (l .spurious) (l .mask) (l .mode) (l .vector) (l .source) (l .level) (l .depth)) (l .words) (l .any) (l .edges) (l .low) (l .class) _ _ _ _ _ _ _ _ _ _ _ _ (l .inv .0) (s .sure .ensures .0) (i .if1 .left) (a .take .ensures)
+      goes-on _ _ _ _ _ _ _ _ _ (aicOf _ (l .lines) (l .enabled) (l .memory) (l .forced) (l .spurious) (l .debug) (l .mode) (l .vector) (l .source) (l .level) (l .depth)) (l .words) (l .any) (l .edges) (l .low) (l .class) _ _ _ _ _ _ _ _ _ _ _ _ (l .inv .0) (s .sure .ensures .0) (i .if1 .left) (a .take .ensures)
           refl refl (o .columns .ensures _ _ _ _ _ _ _) (p .put-step .ensures),
       search needs,
     )

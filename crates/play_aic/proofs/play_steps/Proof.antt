@@ -10,13 +10,13 @@ use Rattle.play_aic.proofs.play_steps.Statement.{statement}
 use Rattle.play_aic.proofs.play_steps.Tie as tie
 
 abbrev Inv-loop : tie.InvT-loop
-Inv-loop trace limit start external lines₀ enabled₀ memory₀ forced₀ spurious₀ mask₀ mode₀ vector₀ source₀ level₀ depth₀ words₀ any₀ edges₀ low₀ class₀ at₀ left₀ count₀ lines enabled memory forced spurious mask mode vector source level depth words any edges low class at left count =
-    Going trace limit start (aicOf external lines₀ enabled₀ memory₀ forced₀ spurious₀ mask₀ mode₀ vector₀ source₀ level₀ depth₀) count left at
-    (aicOf external lines enabled memory forced spurious mask mode vector source level depth)
+Inv-loop trace limit start external lines₀ enabled₀ memory₀ forced₀ spurious₀ debug₀ mode₀ vector₀ source₀ level₀ depth₀ words₀ any₀ edges₀ low₀ class₀ at₀ left₀ count₀ lines enabled memory forced spurious debug mode vector source level depth words any edges low class at left count =
+    Going trace limit start (aicOf external lines₀ enabled₀ memory₀ forced₀ spurious₀ debug₀ mode₀ vector₀ source₀ level₀ depth₀) count left at
+    (aicOf external lines enabled memory forced spurious debug mode vector source level depth)
     words any edges low class
 
 abbrev μ-loop : tie.MeasureT-loop
-μ-loop trace limit start external lines₀ enabled₀ memory₀ forced₀ spurious₀ mask₀ mode₀ vector₀ source₀ level₀ depth₀ words₀ any₀ edges₀ low₀ class₀ at₀ left₀ count₀ lines enabled memory forced spurious mask mode vector source level depth words any edges low class at left count = left
+μ-loop trace limit start external lines₀ enabled₀ memory₀ forced₀ spurious₀ debug₀ mode₀ vector₀ source₀ level₀ depth₀ words₀ any₀ edges₀ low₀ class₀ at₀ left₀ count₀ lines enabled memory forced spurious debug mode vector source level depth words any edges low class at left count = left
 
 loop-holds : tie.Need-loop-holds Inv-loop μ-loop
 loop-holds c = record { reported = refl; counted = omega arith; ready = c .before .before .before .before .before .before .before .before .pre; kept = c .before .before .begin .ensures }
