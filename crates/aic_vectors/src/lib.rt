@@ -13,7 +13,7 @@ ghost use Rattle.aic_sources.specs.Pending.{edgeWord};
 ghost use Rattle.aic_sources.specs.Fast.{fastAsks, fiq};
 ghost use Rattle.aic_sources.specs.Normal.{irq};
 ghost use Rattle.aic_sources.specs.Search.{leastOf};
-ghost use Rattle.aic_registers.specs.Handlers.{answered, spent, ivrRead, fvrRead};
+ghost use Rattle.aic_registers.specs.Handlers.{answered, spent, ivrTaken, fvrRead};
 ghost use Rattle.aic_levels.specs.Levels.{anyOf, highestOf};
 ghost use Rattle.aic_beside.specs.Parts.{aicOf};
 ghost use Rattle.aic_beside.specs.Kept.{lowWord, Kept};
@@ -84,7 +84,7 @@ pub fn output_bits(
 // ---- the vector reads
 
 // The memory of source k, of priority p, is cleared if it is edge-triggered, and its level put anew.
-fn spend<'a>(
+pub fn spend<'a>(
     lines: u32,
     enabled: u32,
     memory: &'a mut u32,
@@ -107,7 +107,7 @@ fn spend<'a>(
 }
 
 // The lowest source of a word, below 32 even of one that has none.
-fn first_of(w: u32) -> u32
+pub fn first_of(w: u32) -> u32
     ensures { λ r. ⌜ r ≡ lowestBelow 32 (bit w) % 32 ⌝ }
 {
     words::lowest(w) % 32
@@ -131,7 +131,7 @@ fn start<'a>(
     p: u32,
 ) -> u32
     requires { ⌜ (now depth < 8) × (p < 8) ⌝ }
-    ensures { λ r. ⌜ ((external spurious debug : ℕ) (mode : List ℕ) (seen : Seen) → p ≡ highestOf (now (any .entry)) → leastOf (aicOf external lines enabled (now (memory .entry)) forced spurious debug mode (now (vector .entry)) (now (source .entry)) (now (level .entry)) (now (depth .entry)) seen) ≤ p → Kept (aicOf external lines enabled (now (memory .entry)) forced spurious debug mode (now (vector .entry)) (now (source .entry)) (now (level .entry)) (now (depth .entry)) seen) (now (words .entry)) (now (any .entry)) edges low (now (class .entry)) → (answered (aicOf external lines enabled (now (memory .exit)) forced spurious debug mode (now (vector .entry)) (now (source .exit)) (now (level .exit)) (now (depth .exit)) seen) r ≡ ivrRead (aicOf external lines enabled (now (memory .entry)) forced spurious debug mode (now (vector .entry)) (now (source .entry)) (now (level .entry)) (now (depth .entry)) seen)) × Kept (aicOf external lines enabled (now (memory .exit)) forced spurious debug mode (now (vector .entry)) (now (source .exit)) (now (level .exit)) (now (depth .exit)) seen) (now (words .exit)) (now (any .exit)) edges low (now (class .entry))) ⌝ }
+    ensures { λ r. ⌜ ((external spurious debug : ℕ) (mode : List ℕ) (seen : Seen) → p ≡ highestOf (now (any .entry)) → leastOf (aicOf external lines enabled (now (memory .entry)) forced spurious debug mode (now (vector .entry)) (now (source .entry)) (now (level .entry)) (now (depth .entry)) seen) ≤ p → Kept (aicOf external lines enabled (now (memory .entry)) forced spurious debug mode (now (vector .entry)) (now (source .entry)) (now (level .entry)) (now (depth .entry)) seen) (now (words .entry)) (now (any .entry)) edges low (now (class .entry)) → (answered (aicOf external lines enabled (now (memory .exit)) forced spurious debug mode (now (vector .entry)) (now (source .exit)) (now (level .exit)) (now (depth .exit)) seen) r ≡ ivrTaken (aicOf external lines enabled (now (memory .entry)) forced spurious debug mode (now (vector .entry)) (now (source .entry)) (now (level .entry)) (now (depth .entry)) seen)) × Kept (aicOf external lines enabled (now (memory .exit)) forced spurious debug mode (now (vector .entry)) (now (source .exit)) (now (level .exit)) (now (depth .exit)) seen) (now (words .exit)) (now (any .exit)) edges low (now (class .entry))) ⌝ }
 {
     let at = p as usize;
     let k = first_of(words[at]);
@@ -153,8 +153,8 @@ fn start<'a>(
     vector[of]
 }
 
-// A read of IVR: the lowest source of the highest level starts if that level may; else SPU, and a mark is opened.
-pub fn read_ivr<'a>(
+// A read of IVR outside protect mode: the lowest source of the highest level starts if that level may; else SPU, and a mark is opened.
+pub fn take_ivr<'a>(
     lines: u32,
     enabled: u32,
     memory: &'a mut u32,
@@ -170,7 +170,7 @@ pub fn read_ivr<'a>(
     low: u32,
     class: &'a [u32; 8],
 ) -> u32
-    ensures { λ r. ⌜ ((external debug : ℕ) (mode : List ℕ) (seen : Seen) → Kept (aicOf external lines enabled (now (memory .entry)) forced spurious debug mode (now (vector .entry)) (now (source .entry)) (now (level .entry)) (now (depth .entry)) seen) (now (words .entry)) (now (any .entry)) edges low (now (class .entry)) → (answered (aicOf external lines enabled (now (memory .exit)) forced spurious debug mode (now (vector .entry)) (now (source .exit)) (now (level .exit)) (now (depth .exit)) seen) r ≡ ivrRead (aicOf external lines enabled (now (memory .entry)) forced spurious debug mode (now (vector .entry)) (now (source .entry)) (now (level .entry)) (now (depth .entry)) seen)) × Kept (aicOf external lines enabled (now (memory .exit)) forced spurious debug mode (now (vector .entry)) (now (source .exit)) (now (level .exit)) (now (depth .exit)) seen) (now (words .exit)) (now (any .exit)) edges low (now (class .entry))) ⌝ }
+    ensures { λ r. ⌜ ((external debug : ℕ) (mode : List ℕ) (seen : Seen) → Kept (aicOf external lines enabled (now (memory .entry)) forced spurious debug mode (now (vector .entry)) (now (source .entry)) (now (level .entry)) (now (depth .entry)) seen) (now (words .entry)) (now (any .entry)) edges low (now (class .entry)) → (answered (aicOf external lines enabled (now (memory .exit)) forced spurious debug mode (now (vector .entry)) (now (source .exit)) (now (level .exit)) (now (depth .exit)) seen) r ≡ ivrTaken (aicOf external lines enabled (now (memory .entry)) forced spurious debug mode (now (vector .entry)) (now (source .entry)) (now (level .entry)) (now (depth .entry)) seen)) × Kept (aicOf external lines enabled (now (memory .exit)) forced spurious debug mode (now (vector .entry)) (now (source .exit)) (now (level .exit)) (now (depth .exit)) seen) (now (words .exit)) (now (any .exit)) edges low (now (class .entry))) ⌝ }
 {
     let p = aic_levels::highest((*any % 256) as u8) as u32;
     let least = aic_levels::least(level, *depth);

@@ -24,7 +24,7 @@ returns c external spurious debug mode seen e m h =
     let i : j ≡ k = c .before .before .before .before .before .before .before .before .before .first-of .ensures ∙ l in
     let w = c .before .before .before .before .before .spend .ensures external spurious debug (a .depth .now) mode (a .vector .now) (a .source .now) (a .level .now) seen (omega (arith, i, t .source)) (ap (priority s) i ∙ t .at) h in (
       started-answer s _ _ (a .p) k j _ t i (w .0) (c .before .open-entry .ensures external (a .lines) (a .enabled) _ (a .forced) spurious debug mode (a .vector .now) seen) refl,
-      entries-kept external (a .lines) (a .enabled) _ (a .forced) spurious spurious debug debug (a .depth .now) _ _ (a .edges) (a .low) mode (a .vector .now) (a .vector .now) (a .source .now) _ (a .level .now) _ _ (a .class .now) (w .1),
+      entries-kept external (a .lines) (a .enabled) _ (a .forced) spurious spurious debug debug (a .depth .now) _ _ (a .edges) (a .low) mode (a .vector .now) (a .vector .now) (a .source .now) _ (a .level .now) _ _ (a .class .now) seen seen (w .1),
     )
 
 pub start-spec : {M : Type 1} → statement M
