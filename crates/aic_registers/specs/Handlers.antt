@@ -1,4 +1,5 @@
--- Opening and closing entries, and the two vector reads (01, AIC, Fast side and Normal side; 02, 3/12; 003, 27.7.3.4, 27.7.4.3 and 27.7.4.5).
+-- Opening and closing entries, the two vector reads, and the write of IVR (01, AIC, Fast side and Normal side; 02, 3/12 and 9/12; 003, 27.7.3.4,
+-- 27.7.4.3, 27.7.4.5 and 27.7.5).
 use Prim.Native.Nat.{ℕ, _+_, _-_}
 use mathlib.Core.Bool.{false}
 use lib.Dec.{eqb, ltb}
@@ -56,6 +57,7 @@ abbrev pub vectorAt : Aic → ℕ → ℕ
 vectorAt s k = getD (s .vector) k 0
 
 -- a read of IVR outside protect mode: the candidate ahead of all others starts, at the priority that it has now; without one SPU, and a mark is opened
+-- (02, 3/12)
 unfoldable pub ivrTaken : Aic → Answer
 ivrTaken s =
     pick (candidates s)
@@ -76,11 +78,12 @@ ivrLooked s =
     (answered (withSeen s (sourceSeen s (chosen s))) (vectorAt s (chosen s)))
     (answered (withSeen s noneSeen) (s .spurious))
 
--- a read of IVR
+-- a read of IVR: in protect mode it only looks; the mask plays no part (02, 9/12)
 unfoldable pub ivrRead : Aic → Answer
 ivrRead s = pick (protects s) (ivrLooked s) (ivrTaken s)
 
--- what is remembered is started, a source at the level that it was remembered at, or a mark, and it is forgotten; if nothing is, nothing
+-- what is remembered is started, a source at the level that it was remembered at, its memory cleared if it is edge-triggered now, or a mark; and it
+-- is forgotten; with nothing remembered nothing changes (02, 9/12)
 unfoldable pub begun : Aic → Aic
 begun s =
     pick (eqb (s .seen .what) 0) s
