@@ -9,8 +9,9 @@ ghost use Rattle.words.specs.Word.{wordOf, both, withBit};
 ghost use Rattle.aic_record.specs.declared.Seen.{Seen};
 ghost use Rattle.aic_sources.specs.Pending.{pendingWord, edgeWord};
 ghost use Rattle.aic_sources.specs.Normal.{waiting};
-ghost use Rattle.aic_beside.specs.Parts.{aicOf};
+ghost use Rattle.aic_beside.specs.Parts.{aicOf, seenOf};
 ghost use Rattle.aic_beside.specs.Kept.{lowWord, classWord};
+use aic_record::Seen;
 
 // ---- from the words
 
@@ -91,4 +92,25 @@ pub fn class_of(mode: &[u8; 32]) -> [u32; 8]
         k = k + 1;
     }
     class
+}
+
+// ---- what is remembered
+
+// What is remembered, as the four words that are lent.
+pub fn seen_words(n: Seen) -> [u32; 4]
+    ensures { λ r. ⌜ seenOf r ≡ n ⌝ }
+{
+    [n.what, n.source as u32, n.level as u32, n.vector]
+}
+
+// What is remembered, from the four words. In a sound record source and level are bytes.
+pub fn seen_of(w: [u32; 4]) -> Seen
+    ensures { λ r. ⌜ (seenOf w .source < 256 → seenOf w .level < 256 → r ≡ seenOf w) ⌝ }
+{
+    Seen {
+        what: w[0],
+        source: (w[1] % 256) as u8,
+        level: (w[2] % 256) as u8,
+        vector: w[3],
+    }
 }

@@ -42,6 +42,7 @@ fn step_agreed(s: Aic, l: Levels, x: Step) -> Answer
     let mut source = s.source;
     let mut level = s.level;
     let mut depth = s.depth;
+    let mut seen = aic_beside::seen_words(s.seen);
     let mut words = l.words;
     let mut any = l.any as u32;
     let mut edges = aic_sources::mode_word(&mode, 5);
@@ -60,6 +61,7 @@ fn step_agreed(s: Aic, l: Levels, x: Step) -> Answer
         &mut source,
         &mut level,
         &mut depth,
+        &mut seen,
         &mut words,
         &mut any,
         &mut edges,
@@ -80,6 +82,7 @@ fn step_agreed(s: Aic, l: Levels, x: Step) -> Answer
         source: source,
         level: level,
         depth: depth,
+        seen: aic_beside::seen_of(seen),
     };
     answer_of(r.refusal, r.value, aic, words, any)
 }

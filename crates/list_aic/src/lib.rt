@@ -30,7 +30,7 @@ fn columns(
     edges: u32,
     low: u32,
 ) -> Columns
-    ensures { λ r. ⌜ ((external spurious : ℕ) (mode vector source words class : List ℕ) → Ready (ofAic (aicOf external lines enabled memory forced spurious debug mode vector source (now (level .entry)) depth)) → Kept (aicOf external lines enabled memory forced spurious debug mode vector source (now (level .entry)) depth) words any edges low class → r ≡ shown (ofAic (aicOf external lines enabled memory forced spurious debug mode vector source (now (level .entry)) depth))) ⌝ }
+    ensures { λ r. ⌜ ((external spurious : ℕ) (mode vector source words class : List ℕ) (seen : Seen) → Ready (ofAic (aicOf external lines enabled memory forced spurious debug mode vector source (now (level .entry)) depth seen)) → Kept (aicOf external lines enabled memory forced spurious debug mode vector source (now (level .entry)) depth seen) words any edges low class → r ≡ shown (ofAic (aicOf external lines enabled memory forced spurious debug mode vector source (now (level .entry)) depth seen))) ⌝ }
 {
     machine_record::aic_columns(Signals {
         refusal: steps::CARRIED_OUT,
@@ -64,6 +64,7 @@ pub fn list_steps(
     let mut source = first.source;
     let mut level = first.level;
     let mut depth = first.depth;
+    let mut seen = aic_beside::seen_words(first.seen);
     let kept = aic_taken::begin(first);
     let mut words = kept.words;
     let mut any = kept.any;
@@ -98,6 +99,7 @@ pub fn list_steps(
             &mut source,
             &mut level,
             &mut depth,
+            &mut seen,
             &mut words,
             &mut any,
             &mut edges,

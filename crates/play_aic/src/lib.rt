@@ -26,6 +26,7 @@ pub fn play_steps(trace: &[u8], limit: u32, start: usize, first: Aic) -> Played
     let mut source = first.source;
     let mut level = first.level;
     let mut depth = first.depth;
+    let mut seen = aic_beside::seen_words(first.seen);
     let kept = aic_taken::begin(first);
     let mut words = kept.words;
     let mut any = kept.any;
@@ -51,6 +52,7 @@ pub fn play_steps(trace: &[u8], limit: u32, start: usize, first: Aic) -> Played
                 source,
                 level,
                 depth,
+                seen: aic_beside::seen_of(seen),
             });
             return Played {
                 steps: count,
@@ -72,6 +74,7 @@ pub fn play_steps(trace: &[u8], limit: u32, start: usize, first: Aic) -> Played
             &mut source,
             &mut level,
             &mut depth,
+            &mut seen,
             &mut words,
             &mut any,
             &mut edges,

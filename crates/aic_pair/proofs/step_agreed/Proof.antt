@@ -13,7 +13,7 @@ returns c =
     let s = first .args .s in
     let l = first .args .l in
     let kept = kept-first s l _ _ _ (first .pre) (search (needs, first .good .1 .0)) (modes .before .before .before .before .mode-word .ensures)
-    (modes .before .before .low-of .ensures (s .lines) (s .enabled) (s .memory) (s .forced) (s .spurious) (s .debug) (s .depth) (s .vector) (s .source) (s .level))
+    (modes .before .before .low-of .ensures (s .lines) (s .enabled) (s .memory) (s .forced) (s .spurious) (s .debug) (s .depth) (s .vector) (s .source) (s .level) (s .seen))
     (modes .class-of .ensures .0) (modes .class-of .ensures .1) in
     let after = c .before .step .ensures (and-left _ _ (first .pre)) kept in
     c .answer-of .ensures ∙ answer-last s _ l (first .args .x) _ _ _ _ _ _ _ (first .pre) (after .0) (after .1)
