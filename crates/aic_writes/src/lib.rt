@@ -80,11 +80,33 @@ fn command<'a>(
     let fast = *forced;
     match offset {
         map::IECR => {
-            aic_commands::enable(lines, enabled, known, fast, words, any, edges, low, class, v);
+            aic_commands::enable(
+                lines,
+                enabled,
+                known,
+                fast,
+                words,
+                any,
+                edges,
+                low,
+                class,
+                v,
+            );
             aic_replies::carry_out(0)
         }
         map::IDCR => {
-            aic_commands::disable(lines, enabled, known, fast, words, any, edges, low, class, v);
+            aic_commands::disable(
+                lines,
+                enabled,
+                known,
+                fast,
+                words,
+                any,
+                edges,
+                low,
+                class,
+                v,
+            );
             aic_replies::carry_out(0)
         }
         map::ICCR => {

@@ -11,7 +11,7 @@ use Rattle.aic_beside.proofs.seen_of.Tie as tie
 
 returns : tie.Need-returns
 unfolding seenOf
-returns c l m = let w = c .args .w in
+returns c l m = let w = c .args .t1 in
     ap₂ (λ (x y : ℕ). record { what = getD w 0 0; source = x; level = y; vector = getD w 3 0 }) (mod-eq-of-lt l) (mod-eq-of-lt m)
 
 pub seen-of-spec : {M : Type 1} → statement M
