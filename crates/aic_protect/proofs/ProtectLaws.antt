@@ -4,10 +4,10 @@ use mathlib.Core.Bool.{Bool, true, false, not, _&&_, _||_}
 use Prim.Native.Nat.{ℕ, _<_}
 use native.Mathlib.Decide.{ℕ-discrete}
 use native.Mathlib.Omega.{arith}
-use borrow.Author.Tests.{eq-eqb, ne-eqb, lt-ltb}
+use borrow.Author.Tests.{eq-eqb, ne-eqb, ltb-true, lt-ltb}
 use lib.Dec.{eqb, ltb, leb}
 use Rattle.words.specs.Choice.{pick}
-use Rattle.words.proofs.TruthLaws.{and-both, clash}
+use Rattle.words.proofs.TruthLaws.{and-left, and-right, and-both, clash}
 use Rattle.aic_record.specs.declared.Aic.{Aic}
 use Rattle.aic_record.specs.declared.Seen.{Seen}
 use Rattle.aic_record.specs.Record.{nothingSeen, withSeen}
@@ -44,6 +44,15 @@ look-nothing s n any least h e f g t m =
 pub begun-at : (s t u : Aic) (k p : ℕ) → t ≡ spent s k → u ≡ opened t k p → u ≡ startedAt s k p
 unfolding startedAt
 begun-at s t u k p e f = f ∙ ap (λ (x : Aic). opened x k p) e
+
+-- what the tests of a remembered source tell
+pub source-passes : (w k p d : ℕ) → (((eqb w 1 && ltb k 32) && ltb p 256) && ltb d 8) ≡ true → (d < 8) × (k < 32) × (p < 256)
+source-passes w k p d t =
+    let x = and-left ((eqb w 1 && ltb k 32) && ltb p 256) (ltb d 8) t in (
+      ltb-true d 8 (and-right ((eqb w 1 && ltb k 32) && ltb p 256) (ltb d 8) t),
+      ltb-true k 32 (and-right (eqb w 1) (ltb k 32) (and-left (eqb w 1 && ltb k 32) (ltb p 256) x)),
+      ltb-true p 256 (and-right (eqb w 1 && ltb k 32) (ltb p 256) x),
+    )
 
 -- a sound record passes the tests of every source that it remembers
 pub source-told : (s : Aic) → sound s ≡ true
