@@ -22,10 +22,10 @@ read-single-requires c κs = let r = c .before .before .before .before .before .
 
 returns-2 : tie.Need-returns-2
 returns-2 c ok h =
-    let a = c .before .before .before .before .before .before .before .before .before .before .args in
+    let a = c .before .before .before .before .before .before .before .before .before .before .before .args in
     let s = aicOf (a .external) (a .lines) (a .enabled) (a .memory .now) (a .forced) (a .spurious) (a .debug) (a .mode .now) (a .vector .now) (a .source .now) (a .level .now) (a .depth .now) (seenOf (a .seen .now)) in
     let w = c .before .read-ivr .ensures (a .external) (a .mode .now) h in
-    (vector-arm s _ _ _ (a .offset) 0x100 _ (c .carry-out2 .ensures) (w .0) (ivr-done s ok) (c .before .before .before .before .before .before .before .before .match .keys1), w .1)
+    (vector-arm s _ _ _ (a .offset) 0x100 _ (c .carry-out2 .ensures) (w .0) (ivr-done s ok) (c .before .before .before .before .before .before .before .before .before .match .keys1), w .1)
 
 returns-3 : tie.Need-returns-3
 returns-3 c ok h =

@@ -19,11 +19,11 @@ returns c ok h =
     (write-arm s _ _ _ (a .offset) (a .offset) (a .value) (c .carry-out .ensures) (w .0) (table-written s (a .offset) (a .value) ok (i .1) (i .0)) refl, w .1)
 
 write-single-requires : tie.Need-write-single-requires
-write-single-requires c κs = off-table (c .before .before .before .before .before .before .before .before .before .before .before .before .before .before .args .offset) (c .before .before .before .before .before .before .before .before .before .before .before .before .before .if1 .left)
+write-single-requires c κs = off-table (c .before .before .before .before .before .before .before .before .before .before .before .before .before .before .before .before .args .offset) (c .before .before .before .before .before .before .before .before .before .before .before .before .before .before .before .if1 .left)
 
 returns-2 : tie.Need-returns-2
 returns-2 c ok h =
-    let a = c .before .before .before .before .before .before .before .before .before .before .before .before .before .before .before .args in
+    let a = c .before .before .before .before .before .before .before .before .before .before .before .before .before .before .before .before .before .args in
     c .write-single .ensures (a .external) (a .vector .now) ok h
 
 pub write-spec : {M : Type 1} → statement M
