@@ -49,6 +49,8 @@ enum Act {
     Protect,
     Handshake,
     Meddle,
+    Rouse,
+    Unwind,
     Spurious,
     AnyRegister,
     OddAccess,
@@ -148,24 +150,23 @@ const LEVELS: [(u32, Act); 12] = [
     (2, Act::Crowd),
 ];
 
-const PROTECTED: [(u32, Act); 17] = [
-    (14, Act::Line),
+const PROTECTED: [(u32, Act); 16] = [
+    (10, Act::Line),
     (4, Act::Mode),
-    (4, Act::Command(ENABLE)),
+    (3, Act::Command(ENABLE)),
     (1, Act::Command(DISABLE)),
-    (6, Act::Command(SET)),
-    (1, Act::Command(CLEAR)),
+    (4, Act::Command(SET)),
     (1, Act::Command(FFER)),
     (3, Act::Command(FFDR)),
-    (6, Act::ReadIvr),
-    (6, Act::WriteIvr),
-    (16, Act::Handshake),
-    (8, Act::Meddle),
-    (12, Act::Close),
-    (10, Act::ReadStatus),
+    (5, Act::ReadIvr),
+    (5, Act::WriteIvr),
+    (18, Act::Handshake),
+    (16, Act::Rouse),
+    (4, Act::Meddle),
+    (14, Act::Close),
+    (3, Act::Unwind),
+    (8, Act::ReadStatus),
     (3, Act::Protect),
-    (1, Act::ReadFvr),
-    (2, Act::Nest),
 ];
 
 /// What a tour is mostly about.
@@ -181,14 +182,14 @@ enum Mood {
 }
 
 impl Mood {
-    const ALL: [Mood; 7] = [
-        Mood::Mixed,
-        Mood::Nesting,
-        Mood::Marks,
-        Mood::Fast,
-        Mood::Edges,
-        Mood::Levels,
-        Mood::Protected,
+    const ALL: [(u32, Mood); 7] = [
+        (1, Mood::Mixed),
+        (1, Mood::Nesting),
+        (1, Mood::Marks),
+        (1, Mood::Fast),
+        (1, Mood::Edges),
+        (1, Mood::Levels),
+        (2, Mood::Protected),
     ];
 
     fn acts(self) -> &'static [(u32, Act)] {
@@ -218,7 +219,7 @@ struct Tour<'a> {
 
 /// A sound AIC trace of about so many steps.
 pub fn tour(random: &mut Random, steps: u32) -> Script {
-    let mood = random.pick(&Mood::ALL);
+    let mood = random.weighted(&Mood::ALL);
     // Marks alone stand only where nothing has been pending.
     let (external, levels) = match mood {
         Mood::Marks if random.one_in(2) => (0, 0),
@@ -299,6 +300,8 @@ impl Tour<'_> {
             Act::Protect => self.protect(),
             Act::Handshake => self.handshake(),
             Act::Meddle => self.meddle(),
+            Act::Rouse => self.rouse(),
+            Act::Unwind => self.unwind(),
             Act::Spurious => self.script.write(SPU, self.random.word()),
             Act::AnyRegister => self.any_register(),
             Act::OddAccess => odd_access(self.random, &mut self.script, END),
@@ -441,6 +444,21 @@ impl Tour<'_> {
         }
         self.script.write(IVR, self.random.below(2));
         self.script.read(self.random.pick(&STATUS));
+    }
+
+    /// Makes a favourite source a normal one that is enabled and pending, mostly by its memory.
+    fn rouse(&mut self) {
+        if self.random.one_in(4) {
+            let priority = self.random.below(8);
+            self.raise(priority);
+            return;
+        }
+        let source = self.source();
+        let priority = self.random.below(8);
+        self.script.write(4 * source, RISING_EDGE | priority);
+        self.script.write(FFDR, 1 << source);
+        self.script.write(ENABLE, 1 << source);
+        self.script.write(SET, 1 << source);
     }
 
     /// Does something to the source that is remembered, or else to any; to what is open, or to the mode.
