@@ -22,8 +22,9 @@ const fn write(offset: u32, value: u32) -> Step {
 /// A controller that goes wrong in one way, made of the right one: what is slipped is said before or after its step.
 struct Wrong {
     aic: Aic,
-    /// Whether the source of the last look was edge-triggered then.
+    /// Whether the source of the last look was edge-triggered then, and the level of the last entry.
     edge_then: bool,
+    last_then: Option<u8>,
 }
 
 impl Wrong {
@@ -88,7 +89,7 @@ impl Wrong {
 
 type Slip = fn(&mut Wrong, Step) -> Answer;
 
-const SLIPS: [(&str, Slip); 26] = [
+const SLIPS: [(&str, Slip); 27] = [
     (
         "the write starts the best candidate of now",
         |wrong, step| {
@@ -264,6 +265,26 @@ const SLIPS: [(&str, Slip); 26] = [
         Step::Write { offset: DCR, value } => wrong.right(write(DCR, value & !1)),
         _ => wrong.right(step),
     }),
+    // An entry of source 0 reads as a mark does, and can be put at any level.
+    ("a mark has the level of the read", |wrong, step| {
+        let zero = wrong.aic.sources()[0].memory;
+        if wrong.looks(step) {
+            wrong.last_then = wrong.aic.last_level();
+        }
+        match wrong.last_then {
+            Some(level) if wrong.marks(step) && !wrong.aic.is_full() => {
+                wrong.aic.remember_instead(Some(Selection::Source {
+                    number: 0,
+                    vector: 0,
+                    level,
+                }));
+                let answer = wrong.right(step);
+                wrong.right(write(SET, u32::from(zero)))?;
+                answer
+            }
+            _ => wrong.right(step),
+        }
+    }),
     BEFORE,
 ];
 
@@ -320,6 +341,7 @@ impl Observer for Beside {
         let wrong = || Wrong {
             aic: Aic::clone(aic),
             edge_then: false,
+            last_then: None,
         };
         self.wrong = self.slips.iter().map(|_| Some(wrong())).collect();
         self.differs = vec![false; self.slips.len()];
