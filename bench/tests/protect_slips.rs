@@ -1,6 +1,6 @@
-//! Wrong ways to build the AIC's protect mode (02, 9/12), each put beside the model: the sweeps alone tell it apart, and so
-//! do some thousand random traces. The one that refuses bit 0 of DCR, as it was before, differs exactly where a trace
-//! writes it.
+//! Wrong ways to build the AIC's protect mode (02, 9/12), each put beside the model: the sweeps alone tell it apart,
+//! and so do some thousand random traces. The one that refuses bit 0 of DCR, as it was before, differs exactly where a
+//! trace writes it.
 
 use bench::generate::Generator;
 use bench::model::aic::{Aic, Selection};
@@ -397,7 +397,8 @@ fn random_traces_find_each() {
     all_found(&beside);
 }
 
-/// A trace that never writes bit 0 of DCR answers and shows as before, step by step; one that does differs from there on.
+/// A trace that never writes bit 0 of DCR answers and shows as before, step by step; one that does differs from there
+/// on.
 #[test]
 fn without_the_mode_everything_is_as_before() {
     let (mut same, mut other) = (0, 0);

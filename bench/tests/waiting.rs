@@ -1,10 +1,10 @@
 //! How long a source of the AIC waits (demand 3, second and third sentence; 02, 9/12), on the model.
 //!
-//! A source other than 0 waits while it is pending, enabled and unforced, and nobody rewrites a mode or the forcing. Of the
-//! handlers of other sources that start meanwhile all but at most one belong to sources ahead of it, and that one is of the
-//! source that was remembered at the outset. If all those ahead are edge-triggered, there are at most as many as were
-//! pending at the outset, and edges and set commands that they received, and one more if a source other than the waiting
-//! one was remembered at the outset. A start is a read of IVR outside protect mode and a write in it.
+//! A source other than 0 waits while it is pending, enabled and unforced, and nobody rewrites a mode or the forcing. Of
+//! the handlers of other sources that start meanwhile all but at most one belong to sources ahead of it, and that one
+//! is of the source that was remembered at the outset. If all those ahead are edge-triggered, there are at most as many
+//! as were pending at the outset, and edges and set commands that they received, and one more if a source other than
+//! the waiting one was remembered at the outset. A start is a read of IVR outside protect mode and a write in it.
 
 use std::collections::{HashMap, HashSet};
 

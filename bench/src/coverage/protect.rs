@@ -1,5 +1,5 @@
-//! What is to be reached of the AIC's protect mode (02, 9/12): what a read of IVR remembers, what comes between it and the
-//! write, and what the write then opens.
+//! What is to be reached of the AIC's protect mode (02, 9/12): what a read of IVR remembers, what comes between it and
+//! the write, and what the write then opens.
 
 use super::aic::{marks, top};
 use super::{Coverage, Entered, Item, Seen, Since};

@@ -1,7 +1,7 @@
-//! Tours of an AIC, in several moods: a bit of everything, deep nesting, marks, the fast side, single edges, sources that
-//! change their level, protect mode. Outside protect mode every IVR read opens an entry while there is room, so that a
-//! mood with such reads needs closes as often; that of levels has fewer, since levels are to change with eight entries
-//! open too. That of protect mode plays along on the model, to meddle with the very source that is remembered.
+//! Tours of an AIC, in several moods: a bit of everything, deep nesting, marks, the fast side, single edges, sources
+//! that change their level, protect mode. Outside protect mode every IVR read opens an entry while there is room, so
+//! that a mood with such reads needs closes as often; that of levels has fewer, since levels are to change with eight
+//! entries open too. That of protect mode plays along on the model, to meddle with the very source that is remembered.
 
 use super::{bad_line, odd_access, Script};
 use crate::model::aic::{Aic, Selection};

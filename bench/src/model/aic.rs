@@ -175,8 +175,8 @@ impl Source {
     }
 }
 
-/// What a read of IVR, or in protect mode a write, opened and no EOICR write has closed: a handler or a spurious mark (02,
-/// 3/12 and 9/12).
+/// What a read of IVR, or in protect mode a write, opened and no EOICR write has closed: a handler or a spurious mark
+/// (02, 3/12 and 9/12).
 #[derive(Clone, Copy, Debug, PartialEq, Eq)]
 pub struct Entry {
     /// The source of a handler; a mark has none.
@@ -191,7 +191,8 @@ impl Entry {
     }
 }
 
-/// What a read of IVR finds: what it starts outside protect mode, and in the mode remembers for a write of IVR (02, 9/12).
+/// What a read of IVR finds: what it starts outside protect mode, and in the mode remembers for a write of IVR (02,
+/// 9/12).
 #[derive(Clone, Copy, Debug, PartialEq, Eq)]
 pub enum Selection {
     /// The candidate ahead of all others, with its vector and its priority at the read.
@@ -352,8 +353,8 @@ impl Aic {
         }
     }
 
-    /// In protect mode opens what is remembered, whatever has become of it since, and forgets it (02, 9/12). Outside the
-    /// mode it does nothing (01, AIC, map).
+    /// In protect mode opens what is remembered, whatever has become of it since, and forgets it (02, 9/12). Outside
+    /// the mode it does nothing (01, AIC, map).
     fn write_ivr(&mut self) {
         if !self.protected {
             return;

@@ -300,8 +300,8 @@ struct Watch {
 }
 
 impl Watch {
-    /// Only a read of IVR outside protect mode, or a write in it of what was remembered, opens an entry, and only a write
-    /// of EOICR closes one, while there is room and something open.
+    /// Only a read of IVR outside protect mode, or a write in it of what was remembered, opens an entry, and only a
+    /// write of EOICR closes one, while there is room and something open.
     fn counts(&mut self, before: &Aic, after: &Aic, step: Step) {
         let (were, are) = (before.entries(), after.entries());
         match step {

@@ -1,6 +1,6 @@
-//! The sweeps of the AIC's protect mode (02, 9/12): each thing that can come between the read of IVR and its write, with a
-//! source remembered and with none; every tower of entries opened by handshakes; each level remembered against each
-//! priority at the write; every write of DCR.
+//! The sweeps of the AIC's protect mode (02, 9/12): each thing that can come between the read of IVR and its write,
+//! with a source remembered and with none; every tower of entries opened by handshakes; each level remembered against
+//! each priority at the write; every write of DCR.
 
 use super::marks::{opening, source, towers, Opens};
 use crate::generate::aic::{
@@ -189,7 +189,8 @@ const BETWEEN: [Between; 25] = [
     },
 ];
 
-/// Every source as the cases want it, a handler of source 1 open at level 0 and one of source 2 above it, and DCR as said.
+/// Every source as the cases want it, a handler of source 1 open at level 0 and one of source 2 above it, and DCR as
+/// said.
 fn prepare(script: &mut Script, kind: u32, debug: u32, level: u32) {
     script.write(DCR, 0);
     for _ in 0..6 {
@@ -245,8 +246,8 @@ fn source_then(kind: u32, debug: u32) -> Script {
     script
 }
 
-/// None is remembered, with handlers of levels 0 and 4 open, while source 9 of priority 4 has to wait, by edge and by level.
-/// Another step than those: source 9 is made a candidate by its mode, or is none any more.
+/// None is remembered, with handlers of levels 0 and 4 open, while source 9 of priority 4 has to wait, by edge and by
+/// level. Another step than those: source 9 is made a candidate by its mode, or is none any more.
 fn nobody_then(debug: u32) -> Script {
     let mut script = opening();
     let modes: [Between; 3] = [
