@@ -1,7 +1,7 @@
 -- The promises of the controller, kept.
 use Prim.Native.Nat.{ℕ, _%_}
 use mathlib.Core.Path.{_≡_, refl, sym, _∙_}
-use mathlib.Core.Bool.{true, _&&_}
+use mathlib.Core.Bool.{_&&_}
 use mathlib.Core.Logic.{_≢_}
 use native.Mathlib.Omega.{arith}
 use lib.Dec.{eqb, ltb, leb}
@@ -21,7 +21,7 @@ use Rattle.aic_record.proofs.Promises as record-promises
 use Rattle.aic_sources.specs.Fast.{fastAsks}
 use Rattle.aic_sources.specs.Normal.{candidates}
 use Rattle.aic_registers.specs.declared.Answer.{Answer}
-use Rattle.aic_registers.specs.Map.{ivr, fvr, dcr, access}
+use Rattle.aic_registers.specs.Map.{ivr, fvr, access}
 use Rattle.aic_registers.specs.Handlers.{answered, refused, ivrLooked, ivrTaken, ivrRead, fvrRead}
 use Rattle.aic_registers.specs.Effects.{moved}
 use Rattle.aic_registers.specs.Registers.{readAt, writtenAt}

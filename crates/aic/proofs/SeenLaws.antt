@@ -13,7 +13,6 @@ use Rattle.words.proofs.CountingLaws.{some-any, any-none}
 use Rattle.words.proofs.WordLaws.{bit-cleared-if}
 use Rattle.steps.specs.Refusals.{writeRefusal}
 use Rattle.aic_record.specs.declared.Aic.{Aic}
-use Rattle.aic_record.specs.declared.Seen.{Seen}
 use Rattle.aic_record.specs.Record.{nothingSeen, withMemory, withHandlers, withSeen}
 use Rattle.aic_record.specs.Mode.{edge}
 use Rattle.aic_record.specs.Sound.{levelBelow, protects, sound}

@@ -46,7 +46,7 @@ Plain s (Read o) = (sound s ≡ false) ⊎ ((o ≢ ivr) ⊎ ((protects s ≡ tru
 Plain s (Write o v) = (sound s ≡ false) ⊎ (((o ≢ eoicr) × (o ≢ iscr) × Idle s o) ⊎ ((o ≡ eoicr) × (s .depth ≡ 0)))
 Plain s (Line k l) = (sound s ≡ false) ⊎ ((ltb k 32 && leb l 1) ≡ false)
 
--- the record with other enables, SPU, mask and vectors
+-- the record with other enables, SPU, debug control and vectors
 abbrev pub withStore : Aic → ℕ → ℕ → ℕ → List ℕ → Aic
 withStore s e u m vs = withVector (withDebug (withSpurious (withEnabled s e) u) m) vs
 
@@ -85,9 +85,9 @@ pub record Kinds (s : Aic) (P : Step → Aic → Type 0) : Type 0 where
   -- a line step
   pub move : (k l : ℕ) → sound s ≡ true → k < 32 → l ≤ 1 → P (Line k l) (moved s k (eqb l 1))
 
--- debug control keeps bits 1 and 0
-debug-kept : (v : ℕ) → bit (kept 2 v) 0 ≡ bit v 0
-debug-kept v = bit-kept 2 v 0 ∙ and-true (bit v 0)
+-- of debug control bit 0, protect mode, is kept
+protect-kept : (v : ℕ) → bit (kept 2 v) 0 ≡ bit v 0
+protect-kept v = bit-kept 2 v 0 ∙ and-true (bit v 0)
 
 -- ---- what a step of an offset is refused for
 
@@ -153,7 +153,7 @@ module _ (s : Aic) (P : Step → Aic → Type 0) (k : Kinds s P) where
       let ns : o ≢ iscr = eqb-false o iscr n in
       pick-cases A (eqb o spu) (λ _. keep nc ns ne (s .enabled) v (s .vector) refl) (λ _.
       pick-cases A (eqb o dcr) (λ _. pick-cases A (bit v 0)
-      (λ h. k .store o v (s .enabled) (s .spurious) (kept 2 v) (s .vector) ok (inr (inl (nc, ns, inl ne))) (kept-lt 2 v, λ _. debug-kept v ∙ h) refl)
+      (λ h. k .store o v (s .enabled) (s .spurious) (kept 2 v) (s .vector) ok (inr (inl (nc, ns, inl ne))) (kept-lt 2 v, λ _. protect-kept v ∙ h) refl)
       (λ h. k .drop o v (kept 2 v) ok (inr (inl (nc, ns, inl ne))) (kept-lt 2 v))) (λ _.
       pick-cases A (eqb o ffer) (λ h. k .reforce o v _ ok (inl (eqb-true o ffer h)) forced) (λ _.
       pick-cases A (eqb o ffdr) (λ h. k .reforce o v _ ok (inr (eqb-true o ffdr h)) unforced) (λ _.

@@ -1,5 +1,4 @@
 -- That `reset_to` of src/lib.rt keeps its contract.
-use mathlib.Core.Path.{refl}
 use Rattle.aic_record.specs.Record.{reset}
 use borrow.Author.Needs.{needs}
 use Rattle.aic_record.proofs.reset_to.Statement.{statement}
