@@ -12,20 +12,12 @@ use Rattle.board_wires.specs.declared.Wire.{Wire}
 use Rattle.board_wires.specs.declared.Wire.the-variants.{Nothing, Pin, Irq, Fiq}
 use Rattle.board_wires.specs.Chain.{chain as chainBelow}
 use Rattle.board_wires.specs.Wires.{coreAt, inputValue, wiredCore}
-use Rattle.board_record.specs.Record.{controllerLimit, inputLimit, pinLimit, withController, withCore, withWire, withPin}
+use Rattle.board_record.specs.Record.{controllerLimit, inputLimit, pinLimit, withController, withCore, withWire, withPin, answered, refused}
 use Rattle.board_record.specs.Sound.{sound, lower}
-use Rattle.board.specs.declared.Answer.{Answer}
+use Rattle.board_record.specs.declared.Answer.{Answer}
 use Rattle.board.specs.declared.Reply.{Reply}
 
 -- ---- answers
-
--- what is carried out
-abbrev pub answered : Board → ℕ → Answer
-answered b v = record { refusal = carriedOut; value = v; board = b }
-
--- what is refused: its number, the value 0 and the same board (02, 8/12; 01, Numbers)
-abbrev pub refused : Board → ℕ → Answer
-refused b n = record { refusal = n; value = 0; board = b }
 
 -- the refusal n, or the answer a where nothing is refused
 unfoldable pub unlessRefused : Board → ℕ → Answer → Answer
@@ -67,7 +59,7 @@ add b fiqs irqs fiqLevel irqLevel =
 -- input i of controller c is wired to w: 6 for a controller, an input or a pin that there is not, then 15 (02, 8/12)
 unfoldable pub connect : Board → ℕ → ℕ → Wire → Answer
 connect b c i w =
-    unlessRefused b (checked b (isThere b c && (ltb i inputLimit && isNamed b w)) (upwardRefusal c w)) (answered (withWire b c i w) 0)
+    unlessRefused b (checked b (isThere b c && ltb i inputLimit && isNamed b w) (upwardRefusal c w)) (answered (withWire b c i w) 0)
 
 -- pin p is put to a level (02, 8/12)
 unfoldable pub putPin : Board → ℕ → ℕ → Answer

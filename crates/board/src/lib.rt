@@ -1,47 +1,18 @@
 // A board of up to eight CoreInterrupts by value: what is done to it and what it answers is defined in specs/Model.antt (02, 8/12).
 ghost use mathlib.Core.Path.{_≡_};
-ghost use Prim.Native.Nat.{_<_};
 ghost use Rattle.words.specs.Counting.{one};
-ghost use Rattle.board_record.specs.Record.{empty, withController, withCore, withWire, withPin};
-ghost use Rattle.board.specs.Model.{answered, refused, unlessRefused, replied, checked, isThere, isNamed, upwardRefusal, add, connect, putPin, read, write, silent, outputs, input, chain};
+ghost use Rattle.board_record.specs.Record.{empty};
+ghost use Rattle.board.specs.Model.{unlessRefused, replied, checked, isThere, isNamed, upwardRefusal, add, connect, putPin, read, write, silent, outputs, input, chain};
+use board_record::Answer;
 use board_wires::Board;
 use board_wires::Wire;
 use coreinterrupt::Core;
 use coreinterrupt::Signals;
 
-// What a change or a register access answers.
-pub struct Answer {
-    pub refusal: u32,
-    pub value: u32,
-    pub board: Board,
-}
-
 // What a question answers that changes nothing.
 pub struct Reply {
     pub refusal: u32,
     pub value: u32,
-}
-
-// The answer of what is carried out.
-fn answer_of(b: Board, value: u32) -> Answer
-    ensures { λ r. ⌜ r ≡ answered b value ⌝ }
-{
-    Answer {
-        refusal: steps::CARRIED_OUT,
-        value: value,
-        board: b,
-    }
-}
-
-// The answer of what is refused: its number, the value 0, the same board.
-fn refusal_of(b: Board, n: u32) -> Answer
-    ensures { λ r. ⌜ r ≡ refused b n ⌝ }
-{
-    Answer {
-        refusal: n,
-        value: 0,
-        board: b,
-    }
 }
 
 // The answer a, or the refusal n with the board as it was.
@@ -51,7 +22,7 @@ fn unless_refused(b: Board, n: u32, a: Answer) -> Answer
     if n == steps::CARRIED_OUT {
         return a;
     }
-    refusal_of(b, n)
+    board_record::refusal_of(b, n)
 }
 
 // The value of a question, or the refusal n.
@@ -114,53 +85,6 @@ fn upward_refusal(c: u32, w: Wire) -> u32
     steps::UPWARD
 }
 
-// ---- the board with one part put anew; beyond the end of the wires and of the pins nothing is put
-
-fn with_controller(b: Board, k: Core) -> Board
-    requires { ⌜ b .controllers < 8 ⌝ }
-    ensures { λ r. ⌜ r ≡ withController b k ⌝ }
-{
-    let mut d = b;
-    let n = b.controllers;
-    d.core[n as usize] = k;
-    d.controllers = n + 1;
-    d
-}
-
-fn with_core(b: Board, c: u32, k: Core) -> Board
-    requires { ⌜ c < 8 ⌝ }
-    ensures { λ r. ⌜ r ≡ withCore b c k ⌝ }
-{
-    let mut d = b;
-    d.core[c as usize] = k;
-    d
-}
-
-fn with_wire(b: Board, c: u32, i: u32, w: Wire) -> Board
-    ensures { λ r. ⌜ r ≡ withWire b c i w ⌝ }
-{
-    let at = 40 * (c as usize) + i as usize;
-    let n = board_wires::wire_number(w);
-    if at < 320 {
-        let mut d = b;
-        d.wire[at] = n;
-        return d;
-    }
-    b
-}
-
-fn with_pin(b: Board, p: u32, level: u8) -> Board
-    ensures { λ r. ⌜ r ≡ withPin b p level ⌝ }
-{
-    let at = p as usize;
-    if at < 320 {
-        let mut d = b;
-        d.pin[at] = level;
-        return d;
-    }
-    b
-}
-
 // ---- how a board is made
 
 // A board with no controller, every input wired to nothing and every pin low.
@@ -186,18 +110,19 @@ pub fn add(b: Board, fiqs: u32, irqs: u32, fiqlevel: u32, irqlevel: u32) -> Answ
     let s = coreinterrupt::start(fiqs, irqs, fiqlevel, irqlevel);
     let n = checked(b, b.controllers < board_record::CONTROLLER_LIMIT, s.refusal);
     if n == steps::CARRIED_OUT {
-        return answer_of(with_controller(b, s.core), b.controllers);
+        return board_record::answer_of(board_record::with_controller(b, s.core), b.controllers);
     }
-    refusal_of(b, n)
+    board_record::refusal_of(b, n)
 }
 
 // Input i of controller c is wired to w: 6 for a controller, an input or a pin that there is not, then 15.
 pub fn connect(b: Board, c: u32, i: u32, w: Wire) -> Answer
     ensures { λ r. ⌜ r ≡ connect b c i w ⌝ }
 {
-    let within = is_there(b, c) & ((i < board_record::INPUT_LIMIT) & is_named(b, w));
+    let within = is_there(b, c) & (i < board_record::INPUT_LIMIT) & is_named(b, w);
     let n = checked(b, within, upward_refusal(c, w));
-    unless_refused(b, n, answer_of(with_wire(b, c, i, w), 0))
+    let wired = board_record::with_wire(b, c, i, w);
+    unless_refused(b, n, board_record::answer_of(wired, 0))
 }
 
 // Pin p is put to a level.
@@ -210,9 +135,9 @@ pub fn put_pin(b: Board, p: u32, level: u32) -> Answer
         steps::CARRIED_OUT,
     );
     if n == steps::CARRIED_OUT {
-        return answer_of(with_pin(b, p, level as u8), 0);
+        return board_record::answer_of(board_record::with_pin(b, p, level as u8), 0);
     }
-    refusal_of(b, n)
+    board_record::refusal_of(b, n)
 }
 
 // ---- the registers of a controller
@@ -223,7 +148,7 @@ pub fn read(b: Board, c: u32, offset: u32) -> Answer
 {
     let a = coreinterrupt::read(board_wires::wired_core(b, c), offset);
     let n = checked(b, is_there(b, c), a.refusal);
-    unless_refused(b, n, answer_of(b, a.value))
+    unless_refused(b, n, board_record::answer_of(b, a.value))
 }
 
 // A write of a value to the register at an offset of controller c.
@@ -233,9 +158,9 @@ pub fn write(b: Board, c: u32, offset: u32, value: u32) -> Answer
     let a = coreinterrupt::write(board_wires::core_at(b, c), offset, value);
     let n = checked(b, is_there(b, c), a.refusal);
     if n == steps::CARRIED_OUT {
-        return answer_of(with_core(b, c, a.core), a.value);
+        return board_record::answer_of(board_record::with_core(b, c, a.core), a.value);
     }
-    refusal_of(b, n)
+    board_record::refusal_of(b, n)
 }
 
 // ---- what a board answers

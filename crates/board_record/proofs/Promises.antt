@@ -16,4 +16,6 @@ kept =
       corePut = λ b c k. (refl, refl, refl, refl);
       wirePut = λ b c i w. (refl, refl, refl, refl);
       pinPut = λ b p l. (refl, refl, refl, refl);
+      answeredIs = λ b v. refl;
+      refusedIs = λ b n. refl;
     }

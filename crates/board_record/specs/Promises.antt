@@ -11,7 +11,7 @@ use Rattle.board_wires.specs.declared.Board.{Board}
 use Rattle.board_wires.specs.declared.Wire.{Wire}
 use Rattle.board_wires.specs.declared.Wire.the-variants.{Irq, Fiq}
 use Rattle.board_wires.specs.Wires.{wireNumber, wireAt, coreAt}
-use Rattle.board_record.specs.Record.{empty, withController, withCore, withWire, withPin}
+use Rattle.board_record.specs.Record.{empty, withController, withCore, withWire, withPin, answered, refused}
 use Rattle.board_record.specs.Sound.{sound}
 
 -- the arrays of a board have the lengths that the language gives them; a list in a definition has any length
@@ -60,3 +60,6 @@ pub record Promises : Type 0 where
   pub wirePut : (b : Board) (c i : ℕ) (w : Wire)
       → Holds (withWire b c i w) (b .controllers) (set (b .wire) (40 * c + i) (wireNumber w)) (b .pin) (b .core)
   pub pinPut : (b : Board) (p l : ℕ) → Holds (withPin b p l) (b .controllers) (b .wire) (set (b .pin) p l) (b .core)
+  -- what is carried out answers 0, a value and a board; what is refused its number, the value 0 and the same board (02, 8/12; 01, Numbers)
+  pub answeredIs : (b : Board) (v : ℕ) → answered b v ≡ record { refusal = 0; value = v; board = b }
+  pub refusedIs : (b : Board) (n : ℕ) → refused b n ≡ record { refusal = n; value = 0; board = b }

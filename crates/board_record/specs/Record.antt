@@ -1,12 +1,14 @@
 -- The record of a board, written out once for each part that moves (02, 8/12).
 use Prim.Native.Nat.{ℕ, _+_, _*_}
 use lib.ListN.{set, replicate}
+use Rattle.steps.specs.Refusals.{carriedOut}
 use Rattle.coreinterrupt_side.specs.Side.{idle}
 use Rattle.coreinterrupt.specs.declared.Core.{Core}
 use Rattle.coreinterrupt.specs.Model.{coreOf}
 use Rattle.board_wires.specs.declared.Board.{Board}
 use Rattle.board_wires.specs.declared.Wire.{Wire}
 use Rattle.board_wires.specs.Wires.{wireNumber}
+use Rattle.board_record.specs.declared.Answer.{Answer}
 
 -- controllers at most (02, 8/12)
 abbrev pub controllerLimit : ℕ
@@ -40,3 +42,13 @@ withWire b c i w =
 -- the board with pin p at a level
 unfoldable pub withPin : Board → ℕ → ℕ → Board
 withPin b p l = record { controllers = b .controllers; wire = b .wire; pin = set (b .pin) p l; core = b .core }
+
+-- ---- answers
+
+-- what is carried out
+abbrev pub answered : Board → ℕ → Answer
+answered b v = record { refusal = carriedOut; value = v; board = b }
+
+-- what is refused: its number, the value 0 and the same board (02, 8/12; 01, Numbers)
+abbrev pub refused : Board → ℕ → Answer
+refused b n = record { refusal = n; value = 0; board = b }

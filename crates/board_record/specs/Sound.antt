@@ -18,6 +18,7 @@ use Rattle.board_record.specs.Record.{controllerLimit, pinLimit}
 unfoldable pub low : Core → Bool
 low k = eqb (k .fiq .inputs) 0 && eqb (k .irq .inputs) 0
 
+-- a side of zeros
 unfoldable pub zeroSide : Side → Bool
 zeroSide s = eqb (s .count) 0 && (eqb (s .level) 0 && (eqb (s .inputs) 0 && (eqb (s .soft) 0 && eqb (s .enable) 0)))
 

@@ -1,17 +1,98 @@
-// Which boards are sound (02, 8/12).
+// The record of a board, what is answered with it, and which boards are sound: defined in specs/Record.antt and Sound.antt (02, 8/12).
 ghost use mathlib.Core.Path.{_≡_};
+ghost use Prim.Native.Nat.{_<_};
 ghost use lib.Dec.{leb};
+ghost use Rattle.board_record.specs.Record.{answered, refused, withController, withCore, withWire, withPin};
 ghost use Rattle.board_record.specs.Sound.{low, zeroSide, zeroCore, coreRule, lower, wireRule, coresSound, wiresSound, pinsSound, sound};
 use board_wires::Board;
 use board_wires::Wire;
 use coreinterrupt::Core;
 use coreinterrupt_side::Side;
 
+// How many controllers a board has at most, how many inputs each of them, and how many pins the board.
 pub const CONTROLLER_LIMIT: u32 = 8;
 
 pub const INPUT_LIMIT: u32 = 40;
 
 pub const PIN_LIMIT: u32 = 320;
+
+// What a change or a register access answers.
+pub struct Answer {
+    pub refusal: u32,
+    pub value: u32,
+    pub board: Board,
+}
+
+// The answer of what is carried out.
+pub fn answer_of(b: Board, value: u32) -> Answer
+    ensures { λ r. ⌜ r ≡ answered b value ⌝ }
+{
+    Answer {
+        refusal: steps::CARRIED_OUT,
+        value: value,
+        board: b,
+    }
+}
+
+// The answer of what is refused: its number, the value 0, the same board.
+pub fn refusal_of(b: Board, n: u32) -> Answer
+    ensures { λ r. ⌜ r ≡ refused b n ⌝ }
+{
+    Answer {
+        refusal: n,
+        value: 0,
+        board: b,
+    }
+}
+
+// ---- the board with one part put anew; beyond the end of the wires and of the pins nothing is put
+
+pub fn with_controller(b: Board, k: Core) -> Board
+    requires { ⌜ b .controllers < 8 ⌝ }
+    ensures { λ r. ⌜ r ≡ withController b k ⌝ }
+{
+    let mut d = b;
+    let n = b.controllers;
+    d.core[n as usize] = k;
+    d.controllers = n + 1;
+    d
+}
+
+pub fn with_core(b: Board, c: u32, k: Core) -> Board
+    requires { ⌜ c < 8 ⌝ }
+    ensures { λ r. ⌜ r ≡ withCore b c k ⌝ }
+{
+    let mut d = b;
+    d.core[c as usize] = k;
+    d
+}
+
+pub fn with_wire(b: Board, c: u32, i: u32, w: Wire) -> Board
+    ensures { λ r. ⌜ r ≡ withWire b c i w ⌝ }
+{
+    let at = 40 * (c as usize) + i as usize;
+    let n = board_wires::wire_number(w);
+    if at < 320 {
+        let mut d = b;
+        d.wire[at] = n;
+        return d;
+    }
+    b
+}
+
+pub fn with_pin(b: Board, p: u32, level: u8) -> Board
+    ensures { λ r. ⌜ r ≡ withPin b p level ⌝ }
+{
+    let at = p as usize;
+    if at < 320 {
+        let mut d = b;
+        d.pin[at] = level;
+        return d;
+    }
+    b
+}
+
+// ---- which boards are sound
 
 // Whether the lines of a controller are low in the record.
 fn is_low(k: Core) -> bool
@@ -20,13 +101,14 @@ fn is_low(k: Core) -> bool
     (k.fiq.inputs == 0) & (k.irq.inputs == 0)
 }
 
+// Whether a side has zeros only.
 fn is_zero_side(s: Side) -> bool
     ensures { λ r. ⌜ r ≡ zeroSide s ⌝ }
 {
     (s.count == 0) & ((s.level == 0) & ((s.inputs == 0) & ((s.soft == 0) & (s.enable == 0))))
 }
 
-// Whether a record has zeros only.
+// Whether a controller has zeros only.
 fn is_zero(k: Core) -> bool
     ensures { λ r. ⌜ r ≡ zeroCore k ⌝ }
 {
@@ -91,6 +173,7 @@ fn wires_kept(b: Board) -> bool
     ok
 }
 
+// Whether a level is 0 or 1.
 fn is_level(level: u8) -> bool
     ensures { λ r. ⌜ r ≡ leb level 1 ⌝ }
 {

@@ -10,7 +10,7 @@ use native.Mathlib.Numerals.{add-one}
 use lib.Dec.{eqb}
 use borrow.Author.Tests.{lt-ltb, eq-eqb, ne-eqb, eqb-true}
 use Rattle.words.specs.Choice.{pick}
-use Rattle.words.proofs.ChoiceLaws.{pick-true, pick-false}
+use Rattle.words.proofs.ChoiceLaws.{pick-true}
 use Rattle.words.proofs.CountingLaws.{any-some, some-any, any-none, at-end}
 use Rattle.words.proofs.TruthLaws.{told}
 use Rattle.board_wires.specs.declared.Board.{Board}

@@ -3,7 +3,7 @@ use Prim.Native.Nat.{ℕ, zero, suc, _+_, _^_, _≤_, _<_}
 use mathlib.Core.Path.{_≡_, refl, sym, ap, ap₂, _∙_}
 use mathlib.Core.Bool.{Bool, true, false, _&&_, _||_}
 use mathlib.Core.List.{List}
-use mathlib.Core.Logic.{_↔_, _⊎_, inl, inr, ⊎-elim}
+use mathlib.Core.Logic.{_↔_, ⊎-elim}
 use native.Mathlib.Omega.{arith}
 use native.Mathlib.Decide.{ℕ-discrete, decLt}
 use lib.Dec.{eqb, ltb}
@@ -11,7 +11,7 @@ use borrow.Author.Tests.{lt-ltb, le-ltb, eq-eqb, ne-eqb}
 use Rattle.words.specs.Choice.{pick}
 use Rattle.words.specs.Counting.{upto}
 use Rattle.words.specs.Word.{bit}
-use Rattle.words.proofs.ChoiceLaws.{pick-true, pick-false}
+use Rattle.words.proofs.ChoiceLaws.{pick-true}
 use Rattle.words.proofs.TruthLaws.{and-both, or-either, or-left, or-right}
 use Rattle.coreinterrupt_side.specs.declared.Side.{Side}
 use Rattle.coreinterrupt_side.specs.Side.{withInputs, raw, active, moved, sideSound}
@@ -21,7 +21,7 @@ use Rattle.coreinterrupt_side.proofs.Promises.{kept as side-kept}
 use Rattle.coreinterrupt.specs.Model.{side, sound}
 use Rattle.coreinterrupt.proofs.ModelLaws.{fiq-sound, irq-sound, sound-is}
 use Rattle.board_wires.specs.declared.Board.{Board}
-use Rattle.board_wires.specs.Wires.{wireIn, wireAt, coreAt, inputsOf, placeOf, wired, sideIn, sideBy, activeBy, below, activity, inputValue, wiredCore}
+use Rattle.board_wires.specs.Wires.{wireIn, wireAt, coreAt, placeOf, wired, sideIn, activeBy, below, activity, inputValue, wiredCore}
 use Rattle.board_wires.specs.Promises.{Raised}
 
 -- ---- a side after its inputs are put, one after the other

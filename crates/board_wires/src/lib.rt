@@ -158,8 +158,8 @@ fn place(fast: bool, i: u32) -> u32
     i
 }
 
-// ---- the values, each asked anew: 32 times as long for each controller of a chain, minutes for a chain of eight.
-// They end because a wire is followed only to a lower number. All else goes by the table below, which tells the same.
+// ---- the values, each wire asked anew. They end because a wire is followed only to a lower number. Where every input is wired to the controller below
+// they take 32 times as long for each controller of the chain; so all else goes by the table below, which tells the same.
 
 // The value of input i of controller c.
 pub fn input_value(b: Board, c: u32, i: u32) -> bool

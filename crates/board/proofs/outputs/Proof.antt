@@ -11,11 +11,17 @@ use Rattle.board.proofs.outputs.Tie as tie
 
 returns : tie.Need-returns
 unfolding outputs
-returns c = let a = c .before .before .before .before .before .args in c .outputs .ensures ∙ ap CoreInterrupt.outputs (c .before .wired-core .ensures) ∙ pick-true _ (eq-eqb _ _ (sym (c .before .before .before .checked .ensures ∙ ap (λ (t : Bool). checked (a .b) t 0) (c .before .before .before .before .is-there .ensures)) ∙ c .before .before .if1 .taken))
+returns c =
+    let a = c .before .before .before .before .before .args in
+    let n = c .before .before .before .checked .ensures ∙ ap (λ (t : Bool). checked (a .b) t 0) (c .before .before .before .before .is-there .ensures) in
+    c .outputs .ensures ∙ ap CoreInterrupt.outputs (c .before .wired-core .ensures) ∙ pick-true _ (eq-eqb _ _ (sym n ∙ c .before .before .if1 .taken))
 
 returns-2 : tie.Need-returns-2
 unfolding outputs
-returns-2 c = let a = c .before .before .before .args in let e = c .before .checked .ensures ∙ ap (λ (t : Bool). checked (a .b) t 0) (c .before .before .is-there .ensures) in ap silent e ∙ pick-false _ (ne-eqb _ _ (λ z. c .if1 .left (e ∙ z)))
+returns-2 c =
+    let a = c .before .before .before .args in
+    let n = c .before .checked .ensures ∙ ap (λ (t : Bool). checked (a .b) t 0) (c .before .before .is-there .ensures) in
+    ap silent n ∙ pick-false _ (ne-eqb _ _ (λ z. c .if1 .left (n ∙ z)))
 
 pub outputs-spec : {M : Type 1} → statement M
 outputs-spec =

@@ -3,8 +3,7 @@ use Rattle.board_wires.proofs.NumberLaws.{core-there}
 use Rattle.board_record.specs.Sound.{coresSound, coreRule}
 use Rattle.board_wires.specs.Wires.{coreAt}
 use mathlib.Core.Path.{_≡_, sym, ap, _∙_}
-use Prim.Native.Nat.{_≤_, _-_, _/_}
-use lib.ListN.{getD}
+use Prim.Native.Nat.{_≤_, _-_}
 use native.Mathlib.Omega.{arith}
 use Rattle.words.specs.Counting.{allBelow}
 use Rattle.words.proofs.CountingLaws.{all-none-yet, all-more, at-end}

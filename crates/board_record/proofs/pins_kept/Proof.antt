@@ -2,7 +2,7 @@
 use Rattle.board_record.specs.Sound.{pinsSound}
 use lib.Dec.{leb}
 use mathlib.Core.Path.{_≡_}
-use Prim.Native.Nat.{_≤_, _-_, _/_}
+use Prim.Native.Nat.{_≤_, _-_}
 use lib.ListN.{getD}
 use native.Mathlib.Omega.{arith}
 use Rattle.words.specs.Counting.{allBelow}

@@ -1,7 +1,6 @@
 -- That `wire_kept` of src/lib.rt keeps its contract.
 use Rattle.board_record.specs.Sound.{wireRule, lower}
 use Rattle.words.proofs.ChoiceLaws.{pick-true, pick-false}
-use Rattle.words.proofs.TruthLaws.{and-parts}
 use borrow.Author.Tests.{lt-ltb, le-ltb}
 use mathlib.Core.Path.{ap, _∙_}
 use mathlib.Core.Bool.{Bool, _&&_}

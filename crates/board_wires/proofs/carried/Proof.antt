@@ -1,7 +1,5 @@
 -- That `carried` of src/lib.rt keeps its contract.
 use Rattle.board_wires.specs.Wires.{wired}
-use mathlib.Core.Path.{ap}
-use mathlib.Core.Bool.{Bool, _&&_}
 use borrow.Author.Needs.{needs}
 use Rattle.board_wires.proofs.carried.Statement.{statement}
 use Rattle.board_wires.proofs.carried.Tie as tie

@@ -5,7 +5,7 @@ use Rattle.board_wires.specs.Wires.{wireIn}
 use Rattle.board_wires.specs.Chain.{leadsTo, feedsIn}
 use Rattle.words.proofs.CountingLaws.{any-none-yet, any-more, at-end}
 use native.Mathlib.Omega.{arith}
-use Prim.Native.Nat.{ℕ, _≤_, _-_}
+use Prim.Native.Nat.{_≤_, _-_}
 use mathlib.Core.Path.{_≡_, ap, _∙_}
 use borrow.Author.Needs.{needs}
 use Rattle.board_wires.proofs.is_fed_in.Statement.{statement}

@@ -2,7 +2,6 @@
 use Rattle.words.specs.Choice.{pick}
 use Rattle.board_wires.specs.Wires.{wireIn}
 use borrow.Author.Tests.{lt-ltb, le-ltb}
-use mathlib.Core.Bool.{and-false}
 use borrow.Author.Needs.{needs}
 use Rattle.board_wires.proofs.wire_in.Statement.{statement}
 use Rattle.board_wires.proofs.wire_in.Tie as tie
