@@ -1,8 +1,5 @@
 -- That `write_debug` of src/effects.rt keeps its contract.
 use mathlib.Core.Path.{ap, ap₂, _∙_}
-use Prim.Native.Nat.{ℕ}
-use Rattle.aic_record.specs.declared.Aic.{Aic}
-use Rattle.aic_record.specs.declared.Seen.{Seen}
 use Rattle.aic_record.specs.Record.{withDebug, withSeen}
 use Rattle.words.proofs.ChoiceLaws.{by-true, by-false}
 use Rattle.aic_registers.specs.Effects.{debugBy}

@@ -1,7 +1,6 @@
 -- That `look_ivr` of src/handlers.rt keeps its contract.
-use mathlib.Core.Path.{ap, ap₂, _∙_}
+use mathlib.Core.Path.{ap, _∙_}
 use Rattle.aic_record.specs.declared.Aic.{Aic}
-use Prim.Native.Nat.{ℕ}
 use Rattle.aic_registers.specs.Handlers.{answered}
 use Rattle.aic_registers.proofs.CallLaws.{look-some, look-none}
 use borrow.Author.Needs.{needs}
