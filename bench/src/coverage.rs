@@ -5,6 +5,7 @@ mod aintc;
 mod cic;
 mod core;
 mod levels;
+mod protect;
 
 use std::collections::HashMap;
 
@@ -71,6 +72,20 @@ pub enum Item {
     Against(Option<u8>, Option<u8>),
     /// IVR started a source at a level, and a higher number of the same level waited too; the level is given first.
     LowerNumber(u8, u8),
+    /// DCR answered this.
+    Debug(u8),
+    /// DCR was written and its two bits went from the first to the second.
+    DebugTurns(u8, u8),
+    /// IVR was read in protect mode and found this, over such a last entry.
+    Look(Seen, Option<Entered>),
+    /// A second read in protect mode put the second in the place of the first, and a write followed.
+    Replaced(Seen, Seen),
+    /// IVR was written, and since the read in protect mode that found this something else had come.
+    WrittenAfter(Seen, Since),
+    /// A write of IVR started a source that was remembered at a level, given first, and has this priority now.
+    LevelThen(u8, u8),
+    /// A write of IVR opened an entry and left so many, the marks among them given by a word whose bit 0 is the first.
+    Handshakes(usize, u8),
     /// CISR answered this.
     Cisr(u32),
     /// A CoreInterrupt side was configured with so many sources.
@@ -92,6 +107,74 @@ pub enum Item {
 pub enum Entered {
     Handler,
     Mark,
+}
+
+/// What a read of IVR in protect mode found.
+#[derive(Clone, Copy, Debug, PartialEq, Eq, PartialOrd, Ord, Hash)]
+pub enum Seen {
+    Source,
+    Nobody,
+}
+
+/// What came between that read and a write of IVR. Of a selected source only what concerns it counts, where nobody was
+/// selected what concerns any source.
+#[derive(Clone, Copy, Debug, PartialEq, Eq, PartialOrd, Ord, Hash)]
+pub enum Since {
+    Nothing,
+    /// Its memory was cleared by command.
+    Cleared,
+    Set,
+    Disabled,
+    Forced,
+    Retyped,
+    Reordered,
+    /// Its line took it away.
+    Gone,
+    Vector,
+    Spurious,
+    /// FVR was read.
+    Fast,
+    /// At the write another candidate is ahead of it.
+    Overtaken,
+    /// An entry was closed.
+    Closed,
+    /// At the write seven entries are open.
+    LastRoom,
+    /// At the write eight entries are open.
+    Full,
+    ReadAgain,
+    /// DCR was written with bit 0 set: the mask was turned, or not.
+    Masked,
+    Stayed,
+    /// The mode was left, and the write came outside it.
+    Left,
+    /// The mode was left and entered again.
+    Reentered,
+}
+
+impl Since {
+    pub const ALL: [Since; 20] = [
+        Since::Nothing,
+        Since::Cleared,
+        Since::Set,
+        Since::Disabled,
+        Since::Forced,
+        Since::Retyped,
+        Since::Reordered,
+        Since::Gone,
+        Since::Vector,
+        Since::Spurious,
+        Since::Fast,
+        Since::Overtaken,
+        Since::Closed,
+        Since::LastRoom,
+        Since::Full,
+        Since::ReadAgain,
+        Since::Masked,
+        Since::Stayed,
+        Since::Left,
+        Since::Reentered,
+    ];
 }
 
 /// What became of a level of the AIC.
@@ -118,7 +201,10 @@ pub enum Cause {
     Clear,
     Force,
     Unforce,
+    /// A read of IVR outside protect mode.
     Start,
+    /// A write of IVR in protect mode.
+    Handshake,
 }
 
 /// What came of an access to a register.
@@ -220,6 +306,8 @@ pub struct Coverage {
     forms: Vec<Item>,
     /// The AIC, the AINTC or the CIC with indices before the present step; of a CIC only what its rules need.
     aic_before: Option<aic::Before>,
+    /// The last read of IVR in protect mode that no write has followed.
+    looked: Option<protect::Looked>,
     aintc_before: Option<Aintc>,
     indexed_before: Option<Indexed>,
     cic_before: Option<cic::Before>,
@@ -309,7 +397,8 @@ impl Observer for Coverage {
     fn started(&mut self, machine: &Machine) {
         self.reach_forms();
         match machine {
-            Machine::Aic(_) | Machine::Aintc(_) => {}
+            Machine::Aic(_) => self.looked = None,
+            Machine::Aintc(_) => {}
             Machine::Core(core) => self.core_started(core),
             Machine::Cic(cic) => self.cic_started(cic),
             Machine::Indexed(indexed) => self.indexed_started(indexed),

@@ -1,10 +1,13 @@
 //! The model against the worked cases of document 01, and against the points that can be read in two ways; those of the
-//! spurious marks are in rules/marks.rs, those of the sources by level in rules/levels.rs, the AINTC's in aintc.rs.
+//! spurious marks are in rules/marks.rs, those of the sources by level in rules/levels.rs, those of protect mode in
+//! rules/protect.rs, the AINTC's in aintc.rs.
 
 #[path = "rules/levels.rs"]
 mod levels;
 #[path = "rules/marks.rs"]
 mod marks;
+#[path = "rules/protect.rs"]
+mod protect;
 
 use bench::listing::listing;
 use bench::model::aic::Aic;
@@ -355,15 +358,7 @@ mod aic_rules {
     }
 
     #[test]
-    fn protect_mode_is_refused_whole() {
-        let mut aic = aic();
-        let (offset, value) = (DCR, 3);
-        let step = Step::Write { offset, value };
-        assert_eq!(refused(&mut aic, step), ProtectMode);
-    }
-
-    #[test]
-    fn a_write_to_ivr_does_nothing() {
+    fn outside_protect_mode_a_write_to_ivr_does_nothing() {
         let mut aic = aic();
         raise(&mut aic, 9, 3);
         let before = aic.clone();

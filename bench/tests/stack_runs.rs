@@ -1,18 +1,19 @@
 //! What the figure of a table means (02, 4/12), on the model of the AIC: over all runs of small tables the largest sum of
 //! open frames is the figure, and a run made for a table of any size ends with it.
 //!
-//! A run starts with no entry open and the table's modes and forcings, and makes no mode or forcing write. All else is
-//! free at the start; what is not searched from there is reached by steps of the run itself.
+//! A run starts with no entry open, the table's modes and forcings and nothing remembered (02, 9/12), and makes no mode or
+//! forcing write. All else is free at the start; what is not searched from there is reached by steps of the run itself.
 
 use std::collections::HashSet;
 
-use bench::model::aic::{Aic, ENTRIES, SOURCES};
+use bench::model::aic::{Aic, Selection, ENTRIES, SOURCES};
 use bench::model::{Controller, Step};
 use bench::random::Random;
 use bench::stack::generate::any_table;
 use bench::stack::{text, Row, Table, LEVELS};
 
 const IVR: Step = Step::Read { offset: 0x100 };
+const WRITE_IVR: Step = write(0x100, 0);
 const FVR: Step = Step::Read { offset: 0x104 };
 const EOICR: Step = write(0x130, 0);
 const ENABLE: u32 = 0x120;
@@ -66,8 +67,8 @@ impl Small {
         self.table.bytes().expect("the table is within its limits")
     }
 
-    /// Every step of a run that can change what is kept of these sources, the entries or the mask.
-    fn steps(&self, mask: bool) -> Vec<Step> {
+    /// Every step of a run that can change what is kept of these sources, the entries, the mask or protect mode.
+    fn steps(&self, debug: &[u32]) -> Vec<Step> {
         let mut steps = vec![IVR, EOICR, FVR];
         for &source in &self.moved {
             let line = |level| Step::Line {
@@ -77,24 +78,32 @@ impl Small {
             steps.extend([0, 1].map(line));
             steps.extend([ENABLE, DISABLE, SET, CLEAR].map(|offset| write(offset, 1 << source)));
         }
-        if mask {
-            steps.extend([write(DCR, 2), write(DCR, 0)]);
+        steps.extend(debug.iter().map(|&value| write(DCR, value)));
+        if debug.iter().any(|value| value & 1 == 1) {
+            steps.push(WRITE_IVR);
         }
         steps
     }
 
     /// All that such a step can change, in one number: the entries by their sources, then three bits for each source
-    /// that is moved, and the mask. Levels and modes stay what the table says.
-    fn key(&self, aic: &Aic) -> u64 {
-        let source = |entry: &bench::model::aic::Entry| entry.source.map_or(32, u64::from);
+    /// that is moved, what is remembered by its source, and DCR. Levels and modes stay what the table says.
+    fn key(&self, aic: &Aic) -> u128 {
+        let source = |entry: &bench::model::aic::Entry| entry.source.map_or(32, u128::from);
         let entries = aic.entries().iter();
         let mut key = entries.fold(1, |key, entry| key << 6 | source(entry));
         for &source in &self.moved {
             let source = aic.sources()[source];
             let bits = [source.line, source.enabled, source.memory];
-            key = bits.iter().fold(key, |key, &bit| key << 1 | u64::from(bit));
+            key = bits
+                .iter()
+                .fold(key, |key, &bit| key << 1 | u128::from(bit));
         }
-        key << 1 | u64::from(aic.masked())
+        let remembered = match aic.remembered() {
+            Some(Selection::Source { number, .. }) => u128::from(number),
+            Some(Selection::Nobody) => 32,
+            None => 0,
+        };
+        key << 8 | remembered << 2 | u128::from(aic.masked()) << 1 | u128::from(aic.protected())
     }
 
     /// The largest sum of open frames over all records that the steps reach, and how many records there are.
@@ -166,7 +175,8 @@ fn over_all_runs_of_two_sources_the_largest_sum_is_the_figure() {
             ];
             variant += 37;
             let small = small(&sources, FRAMES[mark], variant);
-            let (most, seen) = small.search(&small.steps(tables % 8 == 0));
+            let debug: &[u32] = if tables % 8 == 0 { &[0, 2] } else { &[] };
+            let (most, seen) = small.search(&small.steps(debug));
             assert_eq!(most, small.figure(), "{sources:?}, mark {}", FRAMES[mark]);
             tables += 1;
             records += seen;
@@ -174,6 +184,49 @@ fn over_all_runs_of_two_sources_the_largest_sum_is_the_figure() {
     }
     assert_eq!(tables, 384);
     assert!(records > 1_000_000, "{records} records");
+}
+
+/// The mode on and off, and the handshake of a read and a write between which anything may happen.
+#[test]
+fn over_all_runs_with_protect_mode_the_largest_sum_is_the_figure() {
+    let mut records = 0;
+    for number in 0..48 {
+        let [one, other, mark] = ORDERS[number % 6];
+        let priorities = [number * 5 % 8, number / 6].map(|priority| priority as u32);
+        let sources = [
+            (3, priorities[0], FRAMES[one]),
+            (17, priorities[1], FRAMES[other]),
+        ];
+        let small = small(&sources, FRAMES[mark], 29 * number as u32);
+        let (most, seen) = small.search(&small.steps(&[0, 1]));
+        assert_eq!(most, small.figure(), "{sources:?}, mark {}", FRAMES[mark]);
+        records += seen;
+    }
+    println!("{records} records");
+    assert!(records > 500_000, "{records} records");
+}
+
+/// What a run may not start with: a source that was remembered at another level is open twice.
+#[test]
+fn with_something_remembered_at_the_start_more_is_open_than_the_figure() {
+    let small = small(&[(4, 3, FRAMES[3])], 0, 1);
+    let mut aic = set_up(&small.table, 0);
+    let mode = 1 << 5;
+    for step in [
+        write(DCR, 1),
+        write(ENABLE, 1 << 4),
+        write(4 * 4, mode),
+        write(SET, 1 << 4),
+        IVR,
+        write(4 * 4, mode | 3),
+    ] {
+        put(&mut aic, step);
+    }
+    assert!(aic.entries().is_empty() && aic.remembered().is_some());
+    for step in [WRITE_IVR, write(SET, 1 << 4), IVR, WRITE_IVR] {
+        put(&mut aic, step);
+    }
+    assert_eq!(open_bytes(&small.table, &aic), 2 * small.figure());
 }
 
 /// Three sources, on levels that are all the same, two the same, or apart; the mark below, between and above them.
@@ -189,7 +242,7 @@ fn over_all_runs_of_three_sources_the_largest_sum_is_the_figure() {
         let source = |place: usize| ([1, 2, 31][place], levels[place], frame(place));
         let sources = [0, 1, 2].map(source);
         let small = small(&sources, frame(3), 0x5B * number as u32);
-        let (most, _) = small.search(&small.steps(false));
+        let (most, _) = small.search(&small.steps(&[]));
         assert_eq!(most, small.figure(), "{sources:?}, mark {}", frame(3));
     }
 }
@@ -201,7 +254,7 @@ fn ties_and_noughts() {
         for frames in [[0, 0, 0], [5, 5, 0], [5, 0, 5], [6, 5, 5]] {
             let sources = [(1, 5, frames[0]), (2, 5, frames[1]), (31, 0, frames[2])];
             let small = small(&sources, mark, 0);
-            let (most, _) = small.search(&small.steps(false));
+            let (most, _) = small.search(&small.steps(&[]));
             assert_eq!(most, small.figure(), "{frames:?}, mark {mark}");
         }
     }
@@ -214,7 +267,7 @@ fn fast_sources_never_count() {
         let sources = [(0, 7, 50_000), (9, 6, 40_000), (12, 2, FRAMES[1])];
         let mut small = small(&sources, mark, 0x3F);
         small.table.forced |= 1 << 9;
-        let (most, _) = small.search(&small.steps(false));
+        let (most, _) = small.search(&small.steps(&[]));
         assert_eq!(most, small.figure());
         assert!(most < 40_000);
     }
@@ -318,16 +371,15 @@ fn no_run_has_more_open_than_the_figure() {
 /// A step that is no mode or forcing write, or one that is refused.
 fn any_step(random: &mut Random) -> Step {
     let source = random.below(32);
-    match random.below(12) {
-        0..=3 => IVR,
+    match random.below(13) {
+        0 | 1 => IVR,
+        2 | 3 => WRITE_IVR,
         4 | 5 => EOICR,
         6 => FVR,
         7 => write(ENABLE, random.word()),
         8 => write(random.pick(&[DISABLE, SET, CLEAR]), 1 << source),
-        9 => write(
-            random.pick(&[DCR, 0x134, 0x80, 4 * source + 1, FFER + 2]),
-            0,
-        ),
+        9 => write(random.pick(&[0x134, 0x80, 4 * source + 1, FFER + 2]), 0),
+        10 => write(DCR, random.below(4)),
         _ => Step::Line {
             line: source,
             level: random.below(2),

@@ -33,7 +33,7 @@ pub(super) fn marks(entries: &[Entry]) -> u8 {
 }
 
 /// What the last entry is, and what lies below it.
-fn top(aic: &Aic) -> (Option<Entered>, Option<Entered>) {
+pub(super) fn top(aic: &Aic) -> (Option<Entered>, Option<Entered>) {
     let mut entries = aic.entries().iter().rev().map(|entry| match entry.source {
         Some(_) => Entered::Handler,
         None => Entered::Mark,
@@ -48,6 +48,7 @@ impl Coverage {
         self.aic_register(step, answer);
         if answer.is_ok() {
             self.aic_levels(&before, aic, step);
+            self.aic_protect(&before, aic, step);
         }
         match (step, answer) {
             (Step::Read { offset }, Ok(value)) => self.aic_read(&before, aic, offset, value),
@@ -77,7 +78,7 @@ impl Coverage {
 
     fn aic_read(&mut self, before: &Aic, after: &Aic, offset: u32, value: u32) {
         match Register::at(offset) {
-            Some(Register::Ivr) => self.ivr(before, after, value),
+            Some(Register::Ivr) if !before.protected() => self.ivr(before, after, value),
             Some(Register::Fvr) => self.fvr(before, value),
             Some(Register::Ipr) => self.ipr(after),
             Some(Register::Isr) => self.isr(after),
@@ -362,11 +363,6 @@ impl Coverage {
                 let n = usize::from(n);
                 self.mode_write(&before.sources()[n], &after.sources()[n], value);
             }
-            Some(Register::Ivr) => {
-                let waiting = before.best().is_some();
-                self.fact_if(waiting, "IVR written while a candidate waits");
-                self.fact_if(!waiting, "IVR written with no candidate");
-            }
             Some(Register::Eoicr) => self.eoicr(before, after),
             Some(Register::Dcr) => {
                 let masked = after.masked();
@@ -506,8 +502,6 @@ fn registers() -> Vec<Item> {
         items.push(Item::Aic(register, first));
         items.push(Item::Aic(register, second));
     }
-    let protect = Outcome::Refused(Refusal::ProtectMode);
-    items.push(Item::Aic(Register::Dcr, protect));
     items
 }
 
@@ -528,6 +522,7 @@ pub(super) fn wanted() -> Vec<Item> {
         }
     }
     items.extend(super::levels::wanted());
+    items.extend(super::protect::wanted());
     items.extend(FACTS.iter().copied().map(Item::Fact));
     items
 }
@@ -574,8 +569,6 @@ const FACTS: &[&str] = &[
     "IVR where today's mode of the open source would mislead",
     "IVR on a mark where today's mode of the source below would mislead",
     "IVR on a mark where the mode of source 0 would mislead",
-    "IVR written while a candidate waits",
-    "IVR written with no candidate",
     "FVR answers SPU",
     "FVR answers a SPU that is not 0",
     "FVR answers SPU while source 0 is disabled",

@@ -18,14 +18,15 @@ fn levels(aic: &Aic) -> [u32; LEVELS as usize] {
 }
 
 /// What a step can do to the levels; others do nothing to them.
-fn cause(step: Step) -> Option<Cause> {
+fn cause(before: &Aic, step: Step) -> Option<Cause> {
     Some(match step {
         Step::Line { .. } => Cause::Line,
         Step::Read { offset } => match Register::at(offset)? {
-            Register::Ivr => Cause::Start,
+            Register::Ivr if !before.protected() => Cause::Start,
             _ => return None,
         },
         Step::Write { offset, .. } => match Register::at(offset)? {
+            Register::Ivr if before.protected() => Cause::Handshake,
             Register::Mode(_) => Cause::Mode,
             Register::Enable => Cause::Enable,
             Register::Disable => Cause::Disable,
@@ -52,7 +53,7 @@ fn turn(was: u32, is: u32) -> Option<Turn> {
 impl Coverage {
     /// Counts what a step on the AIC does to its levels, and what a vector read finds in them.
     pub(super) fn aic_levels(&mut self, before: &Aic, after: &Aic, step: Step) {
-        let Some(cause) = cause(step) else {
+        let Some(cause) = cause(before, step) else {
             return;
         };
         let (were, are) = (levels(before), levels(after));
@@ -171,6 +172,7 @@ pub(super) fn wanted() -> Vec<Item> {
             Cause::Clear,
             Cause::Force,
             Cause::Start,
+            Cause::Handshake,
         ];
         for cause in going {
             items.extend([Turn::Left, Turn::Emptied].map(|turn| Item::Level(level, turn, cause)));

@@ -1,16 +1,20 @@
-//! Tours of an AIC, in several moods: a bit of everything, deep nesting, marks, the fast side, single edges, sources that
-//! change their level. Every IVR read opens an entry while there is room, so that a mood with such reads needs closes as
-//! often; the last has fewer, since levels are to change with eight entries open too.
+//! Tours of an AIC, in several moods: a bit of everything, deep nesting, marks, the fast side, single edges, sources
+//! that change their level, protect mode. Outside protect mode every IVR read opens an entry while there is room, so
+//! that a mood with such reads needs closes as often; that of levels has fewer, since levels are to change with eight
+//! entries open too. That of protect mode plays along on the model, to meddle with the very source that is remembered.
 
 use super::{bad_line, odd_access, Script};
+use crate::model::aic::{Aic, Selection};
+use crate::model::Controller;
 use crate::random::Random;
 
 pub const VECTORS: u32 = 0x80;
 pub const IVR: u32 = 0x100;
 pub const FVR: u32 = 0x104;
 pub const ISR: u32 = 0x108;
+pub const IPR: u32 = 0x10C;
 pub const CISR: u32 = 0x114;
-const STATUS: [u32; 7] = [ISR, ISR, 0x10C, 0x10C, 0x110, CISR, 0x148];
+const STATUS: [u32; 7] = [ISR, ISR, IPR, IPR, 0x110, CISR, 0x148];
 pub const ENABLE: u32 = 0x120;
 pub const DISABLE: u32 = 0x124;
 pub const CLEAR: u32 = 0x128;
@@ -42,13 +46,18 @@ enum Act {
     Tower,
     Crowd,
     Mask,
+    Protect,
+    Handshake,
+    Meddle,
+    Rouse,
+    Unwind,
     Spurious,
     AnyRegister,
     OddAccess,
     BadLine,
 }
 
-const MIXED: [(u32, Act); 19] = [
+const MIXED: [(u32, Act); 20] = [
     (24, Act::Line),
     (12, Act::Mode),
     (4, Act::Vector),
@@ -59,11 +68,12 @@ const MIXED: [(u32, Act); 19] = [
     (2, Act::Command(FFER)),
     (2, Act::Command(FFDR)),
     (10, Act::ReadIvr),
-    (1, Act::WriteIvr),
+    (2, Act::WriteIvr),
     (4, Act::ReadFvr),
     (10, Act::ReadStatus),
     (11, Act::Close),
     (2, Act::Mask),
+    (1, Act::Protect),
     (2, Act::Spurious),
     (3, Act::AnyRegister),
     (3, Act::OddAccess),
@@ -140,6 +150,25 @@ const LEVELS: [(u32, Act); 12] = [
     (2, Act::Crowd),
 ];
 
+const PROTECTED: [(u32, Act); 16] = [
+    (10, Act::Line),
+    (4, Act::Mode),
+    (3, Act::Command(ENABLE)),
+    (1, Act::Command(DISABLE)),
+    (4, Act::Command(SET)),
+    (1, Act::Command(FFER)),
+    (3, Act::Command(FFDR)),
+    (5, Act::ReadIvr),
+    (5, Act::WriteIvr),
+    (18, Act::Handshake),
+    (16, Act::Rouse),
+    (4, Act::Meddle),
+    (14, Act::Close),
+    (3, Act::Unwind),
+    (8, Act::ReadStatus),
+    (3, Act::Protect),
+];
+
 /// What a tour is mostly about.
 #[derive(Clone, Copy, PartialEq, Eq)]
 enum Mood {
@@ -149,16 +178,18 @@ enum Mood {
     Fast,
     Edges,
     Levels,
+    Protected,
 }
 
 impl Mood {
-    const ALL: [Mood; 6] = [
-        Mood::Mixed,
-        Mood::Nesting,
-        Mood::Marks,
-        Mood::Fast,
-        Mood::Edges,
-        Mood::Levels,
+    const ALL: [(u32, Mood); 7] = [
+        (1, Mood::Mixed),
+        (1, Mood::Nesting),
+        (1, Mood::Marks),
+        (1, Mood::Fast),
+        (1, Mood::Edges),
+        (1, Mood::Levels),
+        (2, Mood::Protected),
     ];
 
     fn acts(self) -> &'static [(u32, Act)] {
@@ -169,14 +200,18 @@ impl Mood {
             Mood::Fast => &FAST,
             Mood::Edges => &EDGES,
             Mood::Levels => &LEVELS,
+            Mood::Protected => &PROTECTED,
         }
     }
 }
 
-/// A tour as it goes on: what is written, the levels of the lines, the sources it likes, the next level to nest.
+/// A tour as it goes on: what is written, how many of its numbers the model has played, the levels of the lines, the
+/// sources it likes, the next level to nest.
 struct Tour<'a> {
     random: &'a mut Random,
     script: Script,
+    model: Aic,
+    played: usize,
     levels: u32,
     sources: Vec<u32>,
     next_level: u32,
@@ -184,14 +219,17 @@ struct Tour<'a> {
 
 /// A sound AIC trace of about so many steps.
 pub fn tour(random: &mut Random, steps: u32) -> Script {
-    let mood = random.pick(&Mood::ALL);
+    let mood = random.weighted(&Mood::ALL);
     // Marks alone stand only where nothing has been pending.
     let (external, levels) = match mood {
         Mood::Marks if random.one_in(2) => (0, 0),
         _ => (random.word(), random.word()),
     };
+    let script = Script::new(0, &[external, levels]);
     let mut tour = Tour {
-        script: Script::new(0, &[external, levels]),
+        model: Aic::new(external, levels),
+        played: script.numbers.len(),
+        script,
         levels,
         sources: favourites(random, mood),
         next_level: 0,
@@ -199,6 +237,9 @@ pub fn tour(random: &mut Random, steps: u32) -> Script {
     };
     if steps > 8 {
         tour.prepare();
+    }
+    if mood == Mood::Protected {
+        tour.script.write(DCR, 1);
     }
     for _ in 0..steps {
         let act = tour.random.weighted(mood.acts());
@@ -256,6 +297,11 @@ impl Tour<'_> {
             Act::Tower => self.tower(),
             Act::Crowd => self.crowd(),
             Act::Mask => self.mask(),
+            Act::Protect => self.protect(),
+            Act::Handshake => self.handshake(),
+            Act::Meddle => self.meddle(),
+            Act::Rouse => self.rouse(),
+            Act::Unwind => self.unwind(),
             Act::Spurious => self.script.write(SPU, self.random.word()),
             Act::AnyRegister => self.any_register(),
             Act::OddAccess => odd_access(self.random, &mut self.script, END),
@@ -369,13 +415,111 @@ impl Tour<'_> {
         self.next_level = self.random.below(3);
     }
 
-    /// The mask on or off; with bit 0 it is refused, other bits are dropped.
+    /// The mask on or off, now and then with protect mode; other bits are dropped.
     fn mask(&mut self) {
-        let value = match self.random.below(5) {
-            0 => self.random.word(),
-            other => other & 3,
+        let mask = match self.random.below(5) {
+            0 => self.random.word() & !1,
+            other => other & 2,
         };
-        self.script.write(DCR, value);
+        self.script
+            .write(DCR, mask | u32::from(self.random.one_in(8)));
+    }
+
+    /// Protect mode on or off, twice as often on, with the mask or without.
+    fn protect(&mut self) {
+        let mode = u32::from(!self.random.one_in(3));
+        let mask = match self.random.below(5) {
+            0 => self.random.word() & !1,
+            1 => 2,
+            _ => 0,
+        };
+        self.script.write(DCR, mask | mode);
+    }
+
+    /// The read and the write of IVR, with something between them or not.
+    fn handshake(&mut self) {
+        self.script.read(IVR);
+        for _ in 0..self.random.pick(&[0, 0, 1, 1, 2, 3]) {
+            self.meddle();
+        }
+        self.script.write(IVR, self.random.below(2));
+        self.script.read(self.random.pick(&STATUS));
+    }
+
+    /// Makes a favourite source a normal one that is enabled and pending, mostly by its memory.
+    fn rouse(&mut self) {
+        if self.random.one_in(4) {
+            let priority = self.random.below(8);
+            self.raise(priority);
+            return;
+        }
+        let source = self.source();
+        let priority = self.random.below(8);
+        self.script.write(4 * source, RISING_EDGE | priority);
+        self.script.write(FFDR, 1 << source);
+        self.script.write(ENABLE, 1 << source);
+        self.script.write(SET, 1 << source);
+    }
+
+    /// Does something to the source that is remembered, or else to any; to what is open, or to the mode.
+    fn meddle(&mut self) {
+        self.catch_up();
+        let source = match self.model.remembered() {
+            Some(Selection::Source { number, .. }) => u32::from(number),
+            _ => self.source(),
+        };
+        let now = self.model.sources()[source as usize];
+        let (kind, priority) = (u32::from(now.kind), u32::from(now.priority));
+        match self.random.below(20) {
+            0 => self.script.write(CLEAR, 1 << source),
+            1 => self.script.write(SET, 1 << source),
+            2 => self.script.write(DISABLE, 1 << source),
+            3 => self.script.write(FFER, 1 << source),
+            4 | 5 => {
+                let priority = self.random.below(8);
+                self.script.write(4 * source, kind << 5 | priority);
+            }
+            6 => self.script.write(4 * source, (kind ^ 1) << 5 | priority),
+            7 => {
+                self.script.write(4 * source, 3 << 5 | priority);
+                self.script.write(SET, 1 << source);
+            }
+            8 | 9 => self.raise(7),
+            10 | 11 => self.script.write(EOICR, 0),
+            12 => self.script.read(IVR),
+            13 => self.set_level(source, self.levels >> source & 1 ^ 1),
+            14 => self.script.write(DCR, 1 | self.random.below(2) << 1),
+            15 => {
+                self.script.write(DCR, self.random.below(2) << 1);
+                if self.random.one_in(2) {
+                    self.script.write(DCR, 1);
+                }
+            }
+            16 => self.script.write(VECTORS + 4 * source, self.random.word()),
+            17 => self.script.read(FVR),
+            18 => self.fill(),
+            _ => self.protect(),
+        }
+    }
+
+    /// Marks up to eight entries or nearly so, whatever was remembered.
+    fn fill(&mut self) {
+        self.script.write(DISABLE, u32::MAX);
+        for _ in 0..self.random.within(6, 9) {
+            self.script.read(IVR);
+            self.script.write(IVR, 0);
+        }
+        self.script.read(IVR);
+        self.script.write(ENABLE, u32::MAX);
+    }
+
+    /// Plays on the model what was written since the last time.
+    fn catch_up(&mut self) {
+        for step in self.script.steps_from(self.played) {
+            // Refused or not, the model is where the trace is.
+            let _ = self.model.step(step);
+        }
+        self.played = self.script.numbers.len();
     }
 
     fn any_register(&mut self) {

@@ -3,6 +3,7 @@
 mod aintc;
 mod levels;
 mod marks;
+mod protect;
 
 use super::damage::spoil;
 use super::{indexed, long, Script, AINTC, INDEXED};
@@ -17,6 +18,7 @@ pub fn all() -> Vec<Script> {
     sweeps.extend(aic_situations());
     sweeps.extend(marks::situations());
     sweeps.extend(levels::situations());
+    sweeps.extend(protect::situations());
     sweeps.extend(core_situations());
     sweeps.extend(cic_situations());
     sweeps.extend(indexed::situations());

@@ -1,4 +1,5 @@
-//! The AIC: 32 sources, eight levels, a fast side and spurious marks (01, AIC; 02, 3/12; 003, sections 27.7 and 27.8).
+//! The AIC: 32 sources, eight levels, a fast side, spurious marks and protect mode (01, AIC; 02, 3/12 and 9/12; 003,
+//! sections 27.7 and 27.8).
 
 use super::{Access, Controller, Refusal};
 
@@ -58,7 +59,8 @@ impl Register {
         })
     }
 
-    /// Who may do what. IVR counts as writable, though a write does nothing (01, AIC, map; 003, 27.7.5).
+    /// Who may do what. IVR counts as writable, though outside protect mode a write does nothing (01, AIC, map; 003,
+    /// 27.7.5).
     pub fn access(self) -> Access {
         match self {
             Register::Mode(_)
@@ -173,7 +175,8 @@ impl Source {
     }
 }
 
-/// What an IVR read opened and no EOICR write has closed: a handler or a spurious mark (02, 3/12).
+/// What a read of IVR, or in protect mode a write, opened and no EOICR write has closed: a handler or a spurious mark
+/// (02, 3/12 and 9/12).
 #[derive(Clone, Copy, Debug, PartialEq, Eq)]
 pub struct Entry {
     /// The source of a handler; a mark has none.
@@ -188,6 +191,16 @@ impl Entry {
     }
 }
 
+/// What a read of IVR finds: what it starts outside protect mode, and in the mode remembers for a write of IVR (02,
+/// 9/12).
+#[derive(Clone, Copy, Debug, PartialEq, Eq)]
+pub enum Selection {
+    /// The candidate ahead of all others, with its vector and its priority at the read.
+    Source { number: u8, vector: u32, level: u8 },
+    /// There was no candidate.
+    Nobody,
+}
+
 /// The whole controller.
 #[derive(Clone, Debug, PartialEq, Eq)]
 pub struct Aic {
@@ -196,6 +209,10 @@ pub struct Aic {
     entries: Vec<Entry>,
     spurious: u32,
     masked: bool,
+    /// Bit 0 of DCR.
+    protected: bool,
+    /// What the last read of IVR in protect mode found, until a write of IVR takes it or the mode is left.
+    remembered: Option<Selection>,
 }
 
 impl Aic {
@@ -211,6 +228,8 @@ impl Aic {
             entries: Vec::with_capacity(ENTRIES),
             spurious: 0,
             masked: false,
+            protected: false,
+            remembered: None,
         }
     }
 
@@ -224,6 +243,20 @@ impl Aic {
 
     pub fn masked(&self) -> bool {
         self.masked
+    }
+
+    /// Whether protect mode is on.
+    pub fn protected(&self) -> bool {
+        self.protected
+    }
+
+    pub fn remembered(&self) -> Option<Selection> {
+        self.remembered
+    }
+
+    /// Puts something else in the place of what is remembered. No step does that: tests make wrong models with it.
+    pub fn remember_instead(&mut self, remembered: Option<Selection>) {
+        self.remembered = remembered;
     }
 
     /// Source 0 is always on the fast side, another one if it is forced there (01, AIC, fast side).
@@ -293,27 +326,56 @@ impl Aic {
         !self.masked && self.fast_request()
     }
 
-    /// Starts the best candidate and answers its vector, or opens a mark and answers SPU; the mask plays no part (01,
-    /// AIC, normal side; 02, 3/12).
-    fn read_ivr(&mut self) -> u32 {
+    /// The best candidate as it is now, if there is one; the mask plays no part (01, AIC, normal side).
+    pub fn selection(&self) -> Selection {
         match self.best() {
-            Some(number) => self.start(number),
-            None => {
-                self.open_mark();
-                self.spurious
-            }
+            Some(number) => Selection::Source {
+                number: number as u8,
+                vector: self.sources[number].vector,
+                level: self.sources[number].priority,
+            },
+            None => Selection::Nobody,
         }
     }
 
-    /// Opens a handler of a source at the priority it has now, and answers its vector.
-    fn start(&mut self, number: usize) -> u32 {
-        let source = &mut self.sources[number];
-        source.forget();
-        self.entries.push(Entry {
-            source: Some(number as u8),
-            level: Some(source.priority),
-        });
-        source.vector
+    /// Answers the vector of what it finds, or SPU. Outside protect mode that is opened at once, in the mode only
+    /// remembered, in the place of what was (01, AIC, normal side; 02, 3/12 and 9/12).
+    fn read_ivr(&mut self) -> u32 {
+        let selection = self.selection();
+        if self.protected {
+            self.remembered = Some(selection);
+        } else {
+            self.open(selection);
+        }
+        match selection {
+            Selection::Source { vector, .. } => vector,
+            Selection::Nobody => self.spurious,
+        }
+    }
+
+    /// In protect mode opens what is remembered, whatever has become of it since, and forgets it (02, 9/12). Outside
+    /// the mode it does nothing (01, AIC, map).
+    fn write_ivr(&mut self) {
+        if !self.protected {
+            return;
+        }
+        if let Some(selection) = self.remembered.take() {
+            self.open(selection);
+        }
+    }
+
+    /// Opens a handler of a source, whose edge it spends, or else a mark.
+    fn open(&mut self, selection: Selection) {
+        match selection {
+            Selection::Source { number, level, .. } => {
+                self.sources[usize::from(number)].forget();
+                self.entries.push(Entry {
+                    source: Some(number),
+                    level: Some(level),
+                });
+            }
+            Selection::Nobody => self.open_mark(),
+        }
     }
 
     /// Opens a mark at the level of the entry below it, if there is room (02, 3/12).
@@ -361,13 +423,14 @@ impl Aic {
         }
     }
 
-    /// Bit 0 would be protect mode, which is not built; bit 1 is the mask, the rest is dropped (01, AIC).
-    fn write_dcr(&mut self, value: u32) -> Result<(), Refusal> {
-        if bit(value, 0) {
-            return Err(Refusal::ProtectMode);
-        }
+    /// Bit 0 is protect mode, which forgets what is remembered when it is left; bit 1 is the mask, the rest is dropped
+    /// (02, 9/12; 003, 27.8.17).
+    fn write_dcr(&mut self, value: u32) {
+        self.protected = bit(value, 0);
         self.masked = bit(value, 1);
-        Ok(())
+        if !self.protected {
+            self.remembered = None;
+        }
     }
 }
 
@@ -393,7 +456,7 @@ impl Controller for Aic {
             Register::Imr => self.word(|source| source.enabled),
             Register::Cisr => u32::from(self.irq()) << 1 | u32::from(self.fiq()),
             Register::Spu => self.spurious,
-            Register::Dcr => u32::from(self.masked) << 1,
+            Register::Dcr => u32::from(self.masked) << 1 | u32::from(self.protected),
             Register::Ffsr => self.word(|source| source.forced),
             Register::Enable
             | Register::Disable
@@ -409,7 +472,7 @@ impl Controller for Aic {
         match register {
             Register::Mode(n) => self.sources[usize::from(n)].set_mode(value),
             Register::Vector(n) => self.sources[usize::from(n)].vector = value,
-            Register::Ivr => {}
+            Register::Ivr => self.write_ivr(),
             Register::Enable => self.command(value, |source| source.enabled = true),
             Register::Disable => self.command(value, |source| source.enabled = false),
             Register::Clear => self.command(value, Source::forget),
@@ -417,7 +480,7 @@ impl Controller for Aic {
             // One write closes the last entry whatever its value, and none is fine too (02, 3/12; 003, 27.8.15).
             Register::Eoicr => drop(self.entries.pop()),
             Register::Spu => self.spurious = value,
-            Register::Dcr => self.write_dcr(value)?,
+            Register::Dcr => self.write_dcr(value),
             // Source 0 cannot be forced: its bit is dropped (01, AIC, fast side).
             Register::Ffer => self.command(value & !1, |source| source.forced = true),
             Register::Ffdr => self.command(value, |source| source.forced = false),

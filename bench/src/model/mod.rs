@@ -40,6 +40,7 @@ pub enum Refusal {
     NoRegister = 2,
     WriteOnly = 3,
     ReadOnly = 4,
+    /// Never given since 02, 9/12.
     ProtectMode = 5,
     OutOfRange = 6,
     StepLimit = 7,
@@ -93,7 +94,7 @@ pub trait Controller {
     /// The three numbers that end a line of the listing (01, house trace).
     fn shown(&self) -> [u32; 3];
 
-    /// Carries out a step, checked in 01's order: 1, 2, 3 or 4, then 5 or 6; a line step only against 6.
+    /// Carries out a step, checked in 01's order: 1, 2, 3 or 4, then 6; a line step only against 6.
     fn step(&mut self, step: Step) -> Answer {
         match step {
             Step::Read { offset } => match self.found(offset)? {

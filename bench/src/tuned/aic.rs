@@ -1,4 +1,5 @@
-//! The AIC in words with a bit for each source; a step looks at no source but its own (01, AIC; 02, 3/12; 003).
+//! The AIC in words with a bit for each source; a step looks at no source but its own (01, AIC; 02, 3/12 and
+//! 9/12; 003).
 
 use super::reader::{Fault, Reader};
 use super::text::{show_few, Line};
@@ -7,6 +8,10 @@ use crate::model::{Answer, Kind, Refusal};
 
 /// With so many entries open nothing more opens (02, 3/12).
 const ENTRIES: u32 = 8;
+
+/// What a read of IVR in protect mode remembers of a source: this, its number, and its floor eight bits higher; of none
+/// this alone.
+const REMEMBERED: u32 = 1 << 16;
 
 /// The state, and below it what is worked out from it whenever it changes.
 pub struct Aic {
@@ -22,6 +27,9 @@ pub struct Aic {
     /// Without source 0, which cannot be forced.
     forced: u32,
     masked: bool,
+    /// Protect mode, and what is remembered in it, 0 for nothing.
+    protected: bool,
+    remembered: u32,
     spurious: u32,
     /// The 32 modes and behind them the 32 vectors, as they are read.
     registers: [u32; 64],
@@ -51,6 +59,8 @@ impl Aic {
             enabled: 0,
             forced: 0,
             masked: false,
+            protected: false,
+            remembered: 0,
             spurious: 0,
             registers: [0; 64],
             sources: 0,
@@ -135,21 +145,49 @@ impl Aic {
         self.renew();
     }
 
-    /// Starts the first candidate, or opens a mark at the level of the entry below it if there is room.
+    /// Starts the first candidate, or opens a mark; in protect mode the one or the other is only remembered.
     #[inline(always)]
     fn read_ivr(&mut self) -> u32 {
         let candidates = self.candidates();
         if candidates == 0 {
-            if self.depth < ENTRIES {
-                self.open(0, self.floors & 0xFF);
+            if self.protected {
+                self.remembered = REMEMBERED;
+            } else {
+                self.open_mark();
             }
             return self.spurious;
         }
         let source = self.first(candidates);
-        self.memory &= !(1 << source);
-        let priority = self.registers[source as usize] & 7;
-        self.open(source, u64::from(priority + 1));
+        let floor = (self.registers[source as usize] & 7) + 1;
+        if self.protected {
+            self.remembered = REMEMBERED | floor << 8 | source;
+        } else {
+            self.start(source, floor);
+        }
         self.registers[32 + source as usize]
+    }
+
+    #[inline(always)]
+    fn start(&mut self, source: u32, floor: u32) {
+        self.memory &= !(1 << source);
+        self.open(source, u64::from(floor));
+    }
+
+    /// At the level of the entry below it, if there is room.
+    #[inline(always)]
+    fn open_mark(&mut self) {
+        if self.depth < ENTRIES {
+            self.open(0, self.floors & 0xFF);
+        }
+    }
+
+    /// Opens what is remembered and forgets it; outside protect mode nothing is.
+    fn write_ivr(&mut self) {
+        match std::mem::take(&mut self.remembered) {
+            0 => {}
+            REMEMBERED => self.open_mark(),
+            source => self.start(source % 32, source >> 8 & 0xFF),
+        }
     }
 
     /// Source 0's edge is forgotten only while nothing is forced.
@@ -180,12 +218,13 @@ impl Aic {
         self.renew();
     }
 
-    fn write_dcr(&mut self, value: u32) -> Done {
-        if value & 1 != 0 {
-            return Err(Refusal::ProtectMode);
-        }
+    /// Leaving protect mode forgets.
+    fn write_dcr(&mut self, value: u32) {
+        self.protected = value & 1 != 0;
         self.masked = value & 2 != 0;
-        Ok(())
+        if !self.protected {
+            self.remembered = 0;
+        }
     }
 
     /// The words of sources that a command changes, and what follows from them.
@@ -211,7 +250,7 @@ impl Device for Aic {
             0x110 => self.enabled,
             0x114 => u32::from(self.irq()) << 1 | u32::from(self.fiq()),
             0x134 => self.spurious,
-            0x138 => u32::from(self.masked) << 1,
+            0x138 => u32::from(self.masked) << 1 | u32::from(self.protected),
             0x148 => self.forced,
             0x120 | 0x124 | 0x128 | 0x12C | 0x130 | 0x140 | 0x144 => {
                 return Err(Refusal::WriteOnly)
@@ -227,15 +266,14 @@ impl Device for Aic {
                 source @ 0..32 => self.write_mode(source, value),
                 vector => self.registers[vector as usize % 64] = value,
             },
-            // A write of IVR does nothing.
-            0x100 => {}
+            0x100 => self.write_ivr(),
             0x120 => self.command(|aic| aic.enabled |= value),
             0x124 => self.command(|aic| aic.enabled &= !value),
             0x128 => self.memory &= !value,
             0x12C => self.memory |= value & self.edge,
             0x130 => self.close(),
             0x134 => self.spurious = value,
-            0x138 => self.write_dcr(value)?,
+            0x138 => self.write_dcr(value),
             0x140 => self.command(|aic| aic.forced |= value & !1),
             0x144 => self.command(|aic| aic.forced &= !value),
             0x104 | 0x108 | 0x10C | 0x110 | 0x114 | 0x148 => return Err(Refusal::ReadOnly),
@@ -271,6 +309,8 @@ impl Device for Aic {
             self.enabled,
             self.forced,
             u32::from(self.masked),
+            u32::from(self.protected),
+            self.remembered,
             self.spurious,
             self.depth,
             self.normal,

@@ -4,7 +4,7 @@
 use super::*;
 
 use bench::generate::Generator;
-use bench::model::aic::{Register, SOURCES};
+use bench::model::aic::{Register, Selection, SOURCES};
 use bench::model::{Machine, Recorded};
 use bench::trace::{play, Observer};
 
@@ -61,11 +61,15 @@ impl Watch {
         Some(match step {
             _ if answer.is_err() => vec![],
             Step::Line { line, .. } => vec![now(line as usize)],
-            Step::Read { offset: IVR } => {
+            Step::Read { offset: IVR } if !before.protected() => {
                 let edge = |&n: &usize| before.sources()[n].edge_triggered();
                 before.best().filter(edge).map(now).into_iter().collect()
             }
             Step::Read { .. } => vec![],
+            Step::Write { offset: IVR, .. } => match before.remembered() {
+                Some(Selection::Source { number, .. }) => vec![now(usize::from(number))],
+                _ => vec![],
+            },
             Step::Write { offset, .. } => match Register::at(offset)? {
                 Register::Mode(n) => {
                     let n = usize::from(n);
@@ -91,10 +95,16 @@ impl Watch {
             "{are:?}"
         );
         if let (Step::Read { offset: IVR }, Some(source)) = (step, were.first(before)) {
-            let opened = after.entries().last().expect("an entry was opened");
-            assert_eq!(opened.source.map(usize::from), Some(source));
-            assert_eq!(opened.level, Some(were.highest()));
             assert_eq!(answer, Ok(before.sources()[source].vector));
+            let (number, level) = match after.remembered() {
+                Some(Selection::Source { number, level, .. }) => (Some(number), Some(level)),
+                _ => {
+                    let opened = after.entries().last().expect("an entry was opened");
+                    (opened.source, opened.level)
+                }
+            };
+            assert_eq!(number.map(usize::from), Some(source));
+            assert_eq!(level, Some(were.highest()));
             self.started += 1;
         }
         if let Some(touched) = Watch::touched(before, after, step, answer) {

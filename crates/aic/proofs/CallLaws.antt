@@ -17,7 +17,7 @@ use Rattle.aic_record.specs.Sound.{sound}
 use Rattle.aic_sources.specs.Fast.{fiq}
 use Rattle.aic_sources.specs.Normal.{irq}
 use Rattle.aic_registers.specs.declared.Answer.{Answer}
-use Rattle.aic_registers.specs.Map.{access, valueRefusal}
+use Rattle.aic_registers.specs.Map.{access}
 use Rattle.aic_registers.specs.Handlers.{refused}
 use Rattle.aic.specs.Model.{readNumber, writeNumber, lineNumber, read, write, line, step, outputs}
 
@@ -27,9 +27,9 @@ pub read-number : (s : Aic) (o n : ℕ) (a : Access) → sound s ≡ true → a 
 unfolding readNumber
 read-number s o n a h e f = f ∙ ap₂ (λ (b : Bool) (x : Access). readRefusal b o x) (sym h) e
 
-pub write-number : (s : Aic) (o v n r : ℕ) (a : Access) → sound s ≡ true → a ≡ access o → r ≡ valueRefusal o v → n ≡ writeRefusal true o a r → n ≡ writeNumber s o v
+pub write-number : (s : Aic) (o v n : ℕ) (a : Access) → sound s ≡ true → a ≡ access o → n ≡ writeRefusal true o a carriedOut → n ≡ writeNumber s o v
 unfolding writeNumber
-write-number s o v n r a h e g f = f ∙ ap₂ (λ (b : Bool) (x : Access). writeRefusal b o x r) (sym h) e ∙ ap (writeRefusal (sound s) o (access o)) g
+write-number s o v n a h e f = f ∙ ap₂ (λ (b : Bool) (x : Access). writeRefusal b o x carriedOut) (sym h) e
 
 pub line-number : (s : Aic) (k l n : ℕ) → sound s ≡ true → n ≡ lineRefusal true 32 k l → n ≡ lineNumber s k l
 unfolding lineNumber

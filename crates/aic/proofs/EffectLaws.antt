@@ -1,7 +1,7 @@
 -- What each read and each write does to a sound record, register by register.
 use Prim.Native.Nat.{ℕ, _+_, _-_, _*_, _/_, _%_, _<_}
-use mathlib.Core.Path.{_≡_, refl, _∙_}
-use mathlib.Core.Bool.{true, false, not, _&&_}
+use mathlib.Core.Path.{_≡_, refl, sym, _∙_}
+use mathlib.Core.Bool.{true, false, not, _&&_, and-true}
 use mathlib.Core.Logic.{_≢_, _⊎_, inl, inr}
 use native.Mathlib.Omega.{arith}
 use native.Mathlib.Decide.{ℕ-discrete}
@@ -9,7 +9,7 @@ use lib.Dec.{eqb, ltb, leb}
 use lib.ListN.{set}
 use borrow.Author.Tests.{eqb-false, eq-eqb, ne-eqb, lt-ltb, le-ltb, le-leb, lt-leb, ltb-true, leb-false}
 use Rattle.words.specs.Choice.{pick}
-use Rattle.words.specs.Word.{bit, either, both, without, withBit}
+use Rattle.words.specs.Word.{bit, kept, either, both, without, withBit}
 use Rattle.words.proofs.ChoiceLaws.{pick-cases}
 use Rattle.words.proofs.WordLaws.{bit-wordOf, bit-alone, bit-either, bit-both, bit-without}
 use Rattle.steps.specs.declared.Access.{Access}
@@ -20,39 +20,55 @@ use Rattle.aic_record.specs.Record.{withMemory, withMode}
 use Rattle.aic_record.specs.Mode.{typeOf, keptMode, kind, edge}
 use Rattle.aic_record.specs.Sound.{sound}
 use Rattle.aic_sources.specs.Pending.{edgeWord}
-use Rattle.aic_registers.specs.Map.{svr, ivr, fvr, cisr, iecr, eoicr, dcr, ffer, ffdr, ffsr, access, valueRefusal}
-use Rattle.aic_registers.specs.Handlers.{answered, current, closedLast, ended}
-use Rattle.aic_registers.specs.Effects.{moded, vectored, enabledBy, disabledBy, setBy, clearedBy, maskedBy, forcedBy, unforcedBy}
+use Rattle.aic_registers.specs.Map.{svr, ivr, fvr, cisr, iecr, eoicr, dcr, ffer, ffdr, ffsr, access}
+use Rattle.aic_registers.specs.Handlers.{answered, ivrWritten, current, closedLast, ended}
+use Rattle.aic_registers.specs.Effects.{moded, vectored, enabledBy, disabledBy, setBy, clearedBy, debugBy, forcedBy, unforcedBy}
 use Rattle.aic_registers.specs.Registers.{outputBits, stored, readAt, writtenAt}
 use Rattle.aic.specs.Model.{readNumber, writeNumber, read, write}
 use Rattle.aic.specs.Tables.{Sets, MapTable, Reads, Writes}
-use Rattle.words.proofs.WordLaws.{both-alone, bit-cleared, either-lt, without-lt, withBit-lt}
+use Rattle.words.proofs.WordLaws.{same-word, bit-kept, kept-lt, bit-cleared, either-lt, without-lt, withBit-lt}
+
+-- the two bits of debug control that are kept
+kept-is : (v n : ℕ) → n < 4 → bit n 0 ≡ bit v 0 → bit n 1 ≡ bit v 1 → kept 2 v ≡ n
+kept-is v n l p q = same-word 2 (kept 2 v) n (kept-lt 2 v) l (λ k m. bits k m (ℕ-discrete k 0))
+  where
+    bits : (k : ℕ) → k < 2 → Dec (k ≡ 0) → bit (kept 2 v) k ≡ bit n k
+    bits k m (yes e) = rw e (bit-kept 2 v 0 ∙ and-true (bit v 0) ∙ sym p)
+    bits k m (no d) = let e : k ≡ 1 = omega arith in rw e (bit-kept 2 v 1 ∙ and-true (bit v 1) ∙ sym q)
+
+kept-on : (v : ℕ) → bit v 0 ≡ true → kept 2 v ≡ pick (bit v 1) 3 1
+kept-on v e =
+    pick-cases (λ (n : ℕ). kept 2 v ≡ n) (bit v 1) (λ h. kept-is v 3 (omega arith) (rw e (unfold bit in refl)) (rw h (unfold bit in refl)))
+    (λ h. kept-is v 1 (omega arith) (rw e (unfold bit in refl)) (rw h (unfold bit in refl)))
+
+kept-off : (v : ℕ) → bit v 0 ≡ false → kept 2 v ≡ pick (bit v 1) 2 0
+kept-off v e =
+    pick-cases (λ (n : ℕ). kept 2 v ≡ n) (bit v 1) (λ h. kept-is v 2 (omega arith) (rw e (unfold bit in refl)) (rw h (unfold bit in refl)))
+    (λ h. kept-is v 0 (omega arith) (rw e (unfold bit in refl)) (rw h (unfold bit in refl)))
 
 module _ (s : Aic) (ok : sound s ≡ true) where
   -- ---- writes
 
   mode-write : (k v : ℕ) → k < 32 → write s (k * 4) v ≡ answered (moded s k v) 0
-  unfolding write writeNumber writeRefusal access valueRefusal writtenAt pick
+  unfolding write writeNumber writeRefusal access writtenAt pick
   mode-write k v l =
       let e : k * 4 / 4 ≡ k = omega arith in
       rw (
         ok,
         eq-eqb (k * 4 % 4) 0 (omega arith),
         le-leb (k * 4) ivr (omega arith),
-        ne-eqb (k * 4) dcr (omega arith),
         lt-ltb (k * 4) svr (omega arith),
         e,
       )
 
   vector-write : (k v : ℕ) → k < 32 → write s (svr + k * 4) v ≡ answered (vectored s k v) 0
-  unfolding write writeNumber writeRefusal access valueRefusal writtenAt pick
+  unfolding write writeNumber writeRefusal access writtenAt pick
   vector-write k v l =
       let e : (svr + k * 4) / 4 - 32 ≡ k = omega arith in
       rw (
         ok,
         eq-eqb ((svr + k * 4) % 4) 0 (omega arith),
         le-leb (svr + k * 4) ivr (omega arith),
-        ne-eqb (svr + k * 4) dcr (omega arith),
         le-ltb (svr + k * 4) svr (omega arith),
         lt-ltb (svr + k * 4) ivr (omega arith),
         e,
@@ -82,14 +98,14 @@ module _ (s : Aic) (ok : sound s ≡ true) where
     bits-force k l = bit-without v 1 k l ∙ rw (bit-alone 0 k)
 
     pub writes-of : Writes s v
-    unfolding write writeNumber writeRefusal access valueRefusal writtenAt pick
-        vectored enabledBy disabledBy setBy clearedBy forcedBy unforcedBy maskedBy ended closedLast
+    unfolding write writeNumber writeRefusal access writtenAt pick
+        vectored enabledBy disabledBy setBy clearedBy forcedBy unforcedBy debugBy ivrWritten ended closedLast
     writes-of =
         record {
           retyped = λ k l d. retyped k v l d;
           reranked = λ k l e. reranked k v l e;
           vectors = λ k l. vector-write k v l;
-          ignored = rw ok;
+          ignored = λ o. rw (ok, o);
           enables = record { word = either (s .enabled) v; done = rw ok; bits = bit-either (s .enabled) v; below = λ _. either-lt (s .enabled) v };
           disables = record { word = without (s .enabled) v; done = rw ok; bits = bit-without (s .enabled) v; below = λ _. without-lt (s .enabled) v };
           sets =
@@ -109,7 +125,8 @@ module _ (s : Aic) (ok : sound s ≡ true) where
           closes = λ d. rw (ok, ne-eqb (s .depth) 0 d);
           closesNone = λ e. rw (ok, eq-eqb (s .depth) 0 e);
           spurious = rw ok;
-          debug = λ e. rw (ok, e, both-alone v 1 (omega arith));
+          protecting = λ e. rw (ok, e, kept-on v e);
+          leaving = λ e. rw (ok, e, kept-off v e);
           forces =
               record {
                 word = either (s .forced) (without v 1);

@@ -16,7 +16,7 @@ use Rattle.steps.specs.Refusals.{readRefusal, lineRefusal}
 use Rattle.aic_record.specs.declared.Aic.{Aic}
 use Rattle.aic_record.specs.Record.{withLines, withMemory, withMode, withHandlers}
 use Rattle.aic_record.specs.Mode.{typeOf, keptMode, priority, kind, edge}
-use Rattle.aic_record.specs.Sound.{levelBelow, sound}
+use Rattle.aic_record.specs.Sound.{levelBelow, protects, sound}
 use Rattle.aic_sources.specs.Pending.{pending, activeLow, activeAt, active}
 use Rattle.aic_sources.specs.Fast.{fast, fastAsks}
 use Rattle.aic_sources.specs.Normal.{candidate, candidates, chosen}
@@ -26,7 +26,7 @@ use Rattle.aic_sources.proofs.HandlerLaws.{candidate-waits, waiting-is, candida
 use Rattle.aic_sources.proofs.OrderLaws.{chosen-is, chosen-one}
 use Rattle.aic_registers.specs.declared.Answer.{Answer}
 use Rattle.aic_registers.specs.Map.{ivr, fvr, access}
-use Rattle.aic_registers.specs.Handlers.{answered, forgotten, spent, opened, startedAt, marked, vectorAt, ivrRead, fastSpent, fvrRead}
+use Rattle.aic_registers.specs.Handlers.{answered, forgotten, spent, opened, startedAt, marked, vectorAt, ivrTaken, ivrLooked, ivrRead, fastSpent, fvrRead}
 use Rattle.aic_registers.specs.Effects.{moded, turns, moved}
 use Rattle.aic_registers.specs.Registers.{readAt}
 use Rattle.aic.specs.Model.{readNumber, lineNumber, read, line}
@@ -80,44 +80,50 @@ unfolding startedAt opened
 started-is s k p = rw (spent-is s k)
 
 -- a word of 32 bits stays one where one of its bits may be put anew
-put-below : (w k : ℕ) (b t : Bool) → w < 2 ^ 32 → pick t (withBit w k b) w < 2 ^ 32
+pub put-below : (w k : ℕ) (b t : Bool) → w < 2 ^ 32 → pick t (withBit w k b) w < 2 ^ 32
 put-below w k b t l = pick-cases (λ (n : ℕ). n < 2 ^ 32) t (λ _. withBit-lt w k b) (λ _. l)
 
--- ---- reads of IVR and FVR
+-- ---- reads of IVR outside protect mode
 
 module _ (s : Aic) (ok : sound s ≡ true) where
-  ivr-done : read s ivr ≡ ivrRead s
+  pub ivr-done : read s ivr ≡ ivrRead s
   unfolding read readNumber readRefusal access readAt pick
   ivr-done = rw ok
+
+  ivr-taken : protects s ≡ false → read s ivr ≡ ivrTaken s
+  unfolding ivrRead pick
+  ivr-taken o = ivr-done ∙ rw o
 
   fvr-done : read s fvr ≡ fvrRead s
   unfolding read readNumber readRefusal access readAt pick
   fvr-done = rw ok
 
-  pub vector-read : (k : ℕ) → k < 32 → candidate s k ≡ true → AheadOfOthers s k
+  pub vector-read : (k : ℕ) → protects s ≡ false → k < 32 → candidate s k ≡ true → AheadOfOthers s k
       → Sets (read s ivr) (vectorAt s k) (s .memory)
       (λ w. withHandlers (withMemory s w) (set (s .source) (s .depth) k) (set (s .level) (s .depth) (priority s k)) (s .depth + 1))
       (λ j. bit (s .memory) j && not (eqb j k && edge s k))
-  unfolding ivrRead candidates pick
-  vector-read k l c h =
+  unfolding ivrTaken candidates pick
+  vector-read k o l c h =
       record {
         word = pick (edge s k) (withBit (s .memory) k false) (s .memory);
-        done = ivr-done
+        done = ivr-taken o
             ∙ rw (some-any 32 (candidate s) k l c, chosen-one s k (record { below = l; fit = c; first = h }), started-is s k (priority s k));
         bits = bit-cleared-if (s .memory) k (edge s k);
         below = put-below (s .memory) k false (edge s k);
       }
 
-  pub vector-spurious : s .depth < 8 → ((k : ℕ) → k < 32 → candidate s k ≡ false)
+  pub vector-spurious : protects s ≡ false → s .depth < 8 → ((k : ℕ) → k < 32 → candidate s k ≡ false)
       → read s ivr ≡ answered (withHandlers s (set (s .source) (s .depth) 0) (set (s .level) (s .depth) (levelBelow (s .level) (s .depth))) (s .depth + 1)) (s .spurious)
-  unfolding ivrRead candidates marked opened pick
-  vector-spurious l h = ivr-done ∙ rw (any-none 32 (candidate s) h, lt-ltb (s .depth) 8 l)
+  unfolding ivrTaken candidates marked opened pick
+  vector-spurious o l h = ivr-taken o ∙ rw (any-none 32 (candidate s) h, lt-ltb (s .depth) 8 l)
 
-  pub vector-full : 8 ≤ s .depth → read s ivr ≡ answered s (s .spurious)
-  unfolding ivrRead candidates marked pick
-  vector-full l =
-      ivr-done
+  pub vector-full : protects s ≡ false → 8 ≤ s .depth → read s ivr ≡ answered s (s .spurious)
+  unfolding ivrTaken candidates marked pick
+  vector-full o l =
+      ivr-taken o
       ∙ rw (any-none 32 (candidate s) (λ k m. not-holds (candidate s k) (λ c. omega (arith, candidate-room s k c))), le-ltb (s .depth) 8 l)
+
+  -- ---- reads of FVR
 
   pub fast-read : (k : ℕ) → k < 32 → fast s k ≡ true → pending s k ≡ true → bit (s .enabled) k ≡ true
       → Sets (read s fvr) (vectorAt s 0) (s .memory) (withMemory s) (λ j. bit (s .memory) j && not (eqb j 0 && (edge s 0 && eqb (s .forced) 0)))
@@ -163,10 +169,11 @@ started-forced s j l b c =
     other e = clash (or-right (eqb (chosen s) 0) (ap (bit (s .forced)) (sym e) ∙ b)) normal
 
 pub vector-forced : (s : Aic) (j : ℕ) → j < 32 → bit (s .forced) j ≡ true → bit (read s ivr .aic .memory) j ≡ bit (s .memory) j
-unfolding read readAt ivrRead marked opened pick
+unfolding read readAt ivrRead ivrLooked ivrTaken marked opened pick
 vector-forced s j l b =
     pick-cases A (eqb (readNumber s ivr) 0)
-    (λ _. pick-cases A (candidates s) (started-forced s j l b) (λ _. pick-cases (λ (t : Aic). bit (t .memory) j ≡ bit (s .memory) j) (ltb (s .depth) 8) (λ _. refl) (λ _. refl)))
+    (λ _. pick-cases A (protects s) (λ _. pick-cases A (candidates s) (λ _. refl) (λ _. refl))
+    (λ _. pick-cases A (candidates s) (started-forced s j l b) (λ _. pick-cases (λ (t : Aic). bit (t .memory) j ≡ bit (s .memory) j) (ltb (s .depth) 8) (λ _. refl) (λ _. refl))))
     (λ _. refl)
   where
     A : Answer → Type 0

@@ -2,8 +2,9 @@
 pub mod CallLaws
 pub mod EffectLaws
 pub mod HandlerLaws
+pub mod IdleLaws
 pub mod MarkLaws
-pub mod MaskLaws
 pub mod Promises
+pub mod SeenLaws
 pub mod SoundLaws
 pub mod StepKindLaws

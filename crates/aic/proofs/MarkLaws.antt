@@ -10,7 +10,7 @@ use lib.Seq.{getD-set-other, set-getD, set-set}
 use Rattle.steps.specs.declared.Step.the-variants.{Read}
 use Rattle.aic_record.specs.declared.Aic.{Aic}
 use Rattle.aic_record.specs.Record.{withHandlers}
-use Rattle.aic_record.specs.Sound.{sourceAt, levelAt, levelBelow, sound}
+use Rattle.aic_record.specs.Sound.{sourceAt, levelAt, levelBelow, protects, sound}
 use Rattle.aic_record.specs.Promises.{Shaped}
 use Rattle.aic_record.proofs.SoundLaws.{sound-is}
 use Rattle.aic_sources.specs.Normal.{candidate}
@@ -39,9 +39,9 @@ module _ (s : Aic) (ok : sound s ≡ true) where
   abbrev over : Aic
   over = withHandlers s (set (s .source) (s .depth) 0) (set (s .level) (s .depth) (levelBelow (s .level) (s .depth))) (s .depth + 1)
 
-  pub spurious-ended : (v : ℕ) → Shaped s → s .depth < 8 → ((k : ℕ) → k < 32 → candidate s k ≡ false) → write (read s ivr .aic) eoicr v ≡ answered s 0
-  spurious-ended v h l none =
-      rw (vector-spurious s ok l none) (writes-of over (rw (vector-spurious s ok l none) at (step-sound s (Read ivr) h ok)) v .closes (omega arith) ∙ ap (λ (t : Aic). answered t 0) back)
+  pub spurious-ended : (v : ℕ) → Shaped s → protects s ≡ false → s .depth < 8 → ((k : ℕ) → k < 32 → candidate s k ≡ false) → write (read s ivr .aic) eoicr v ≡ answered s 0
+  spurious-ended v h o l none =
+      rw (vector-spurious s ok o l none) (writes-of over (rw (vector-spurious s ok o l none) at (step-sound s (Read ivr) h ok)) v .closes (omega arith) ∙ ap (λ (t : Aic). answered t 0) back)
     where
       e : s .depth + 1 - 1 ≡ s .depth
       e = omega arith

@@ -1,28 +1,28 @@
 -- The promises of the controller, kept.
-use Prim.Native.Nat.{ℕ}
+use Prim.Native.Nat.{ℕ, _%_}
 use mathlib.Core.Path.{_≡_, refl, sym, _∙_}
-use mathlib.Core.Bool.{true, _&&_}
-use mathlib.Core.Logic.{_↔_, _≢_, _⊎_, inl, inr}
+use mathlib.Core.Bool.{_&&_}
+use mathlib.Core.Logic.{_≢_}
 use native.Mathlib.Omega.{arith}
-use lib.Dec.{eqb}
-use borrow.Author.Tests.{eqb-true, eq-eqb, ltb-true, lt-ltb}
+use lib.Dec.{eqb, ltb, leb}
+use borrow.Author.Tests.{eqb-true, ltb-true, lt-ltb}
 use Rattle.words.specs.Choice.{pick}
-use Rattle.words.specs.Word.{bit}
-use Rattle.words.proofs.ChoiceLaws.{pick-true, pick-cases}
-use Rattle.words.proofs.TruthLaws.{and-left, and-right, and-both}
+use Rattle.words.proofs.ChoiceLaws.{pick-cases}
+use Rattle.steps.specs.declared.Access.{Access}
+use Rattle.steps.specs.declared.Access.the-variants.{NoRegister, ReadOnly, WriteOnly, ReadWrite}
 use Rattle.steps.specs.declared.Step.{Step}
 use Rattle.steps.specs.declared.Step.the-variants.{Read, Write, Line}
-use Rattle.steps.specs.Refusals.{carriedOut, protecting}
+use Rattle.steps.specs.Refusals.{carriedOut, readAccess, readRefusal, lineRefusal}
 use Rattle.steps.specs.Tables.{ReadTable, WriteTable, LineTable}
 use Rattle.steps.proofs.Promises.{read-table, write-table, line-table}
 use Rattle.aic_record.specs.declared.Aic.{Aic}
-use Rattle.aic_record.specs.Sound.{sound}
+use Rattle.aic_record.specs.Sound.{protects, sound}
 use Rattle.aic_record.proofs.Promises as record-promises
 use Rattle.aic_sources.specs.Fast.{fastAsks}
 use Rattle.aic_sources.specs.Normal.{candidates}
 use Rattle.aic_registers.specs.declared.Answer.{Answer}
-use Rattle.aic_registers.specs.Map.{ivr, fvr, dcr, access, valueRefusal}
-use Rattle.aic_registers.specs.Handlers.{answered, refused, ivrRead, fvrRead}
+use Rattle.aic_registers.specs.Map.{ivr, fvr, access}
+use Rattle.aic_registers.specs.Handlers.{answered, refused, ivrLooked, ivrTaken, ivrRead, fvrRead}
 use Rattle.aic_registers.specs.Effects.{moved}
 use Rattle.aic_registers.specs.Registers.{readAt, writtenAt}
 use Rattle.aic.specs.Model.{within, start, readNumber, writeNumber, lineNumber, read, write, line, step, outputs}
@@ -32,14 +32,16 @@ use Rattle.aic.proofs.SoundLaws.{step-sound, step-shaped}
 use Rattle.aic.proofs.EffectLaws.{the-map, reads-of, writes-of}
 use Rattle.aic.proofs.HandlerLaws.{vector-read, vector-spurious, vector-full, vector-forced, fast-read, fast-spurious, fast-forced, line-moves, line-repeated, edge-falls, edge-rises}
 use Rattle.aic.proofs.MarkLaws.{isr-mark, close-last, spurious-ended}
-use Rattle.aic.proofs.MaskLaws.{mask-idle}
+use Rattle.aic.proofs.SeenLaws.{look-source, look-none, begin-source, begin-none, begin-full, begin-nothing, leave-forgets, stay-keeps}
+use Rattle.aic.proofs.IdleLaws.{mask-idle, look-again, seen-kept, seen-idle, seen-outputs}
 
 -- ---- refusals
 
 read-carried : (s : Aic) (o : ℕ) → readAt s o .refusal ≡ carriedOut
-unfolding readAt ivrRead fvrRead
+unfolding readAt ivrRead ivrLooked ivrTaken fvrRead
 read-carried s o =
-    pick-cases A (eqb o ivr) (λ _. pick-cases A (candidates s) (λ _. refl) (λ _. refl))
+    pick-cases A (eqb o ivr)
+    (λ _. pick-cases A (protects s) (λ _. pick-cases A (candidates s) (λ _. refl) (λ _. refl)) (λ _. pick-cases A (candidates s) (λ _. refl) (λ _. refl)))
     (λ _. pick-cases A (eqb o fvr) (λ _. pick-cases A (fastAsks s) (λ _. refl) (λ _. refl)) (λ _. refl))
   where
     A : Answer → Type 0
@@ -64,9 +66,9 @@ reads-table : (s : Aic) (o : ℕ) → ReadTable (sound s) o (access o) (read s o
 unfolding read readNumber
 reads-table s o = rw (number-given s (readNumber s o) (readAt s o) (read-carried s o)) (read-table (sound s) o (access o))
 
-writes-table : (s : Aic) (o v : ℕ) → WriteTable (sound s) o (access o) (valueRefusal o v) (write s o v .refusal)
+writes-table : (s : Aic) (o v : ℕ) → WriteTable (sound s) o (access o) carriedOut (write s o v .refusal)
 unfolding write writeNumber
-writes-table s o v = rw (number-given s (writeNumber s o v) (answered (writtenAt s o v) 0) refl) (write-table (valueRefusal o v) (value-number o v) (sound s) o (access o))
+writes-table s o v = rw (number-given s (writeNumber s o v) (answered (writtenAt s o v) 0) refl) (write-table carriedOut value-number (sound s) o (access o))
 
 lines-table : (s : Aic) (k l : ℕ) → LineTable (sound s) 32 k l (line s k l .refusal)
 unfolding line lineNumber
@@ -80,17 +82,28 @@ line-value : (s : Aic) (k l : ℕ) → line s k l .value ≡ 0
 unfolding line
 line-value s k l = pick-cases (λ (a : Answer). a .value ≡ 0) (eqb (lineNumber s k l) carriedOut) (λ _. refl) (λ _. refl)
 
-value-five : (o v : ℕ) → (valueRefusal o v ≡ protecting) ↔ ((o ≡ dcr) × (bit v 0 ≡ true))
-unfolding valueRefusal
-value-five o v = (
-  pick-cases (λ (n : ℕ). n ≡ protecting → (o ≡ dcr) × (bit v 0 ≡ true)) (eqb o dcr && bit v 0)
-      (λ e _. (eqb-true o dcr (and-left _ (bit v 0) e), and-right (eqb o dcr) _ e)) (λ _ e. absurd (omega arith)),
-  λ (e, b). sym (pick-true carriedOut (and-both (eq-eqb o dcr e) b)),
-)
+-- 5 is no number of a read, of a line step, or of a write whose value is not refused
+access-five : (a : Access) → readAccess a ≢ 5
+access-five NoRegister e = omega arith
+access-five ReadOnly e = omega arith
+access-five WriteOnly e = omega arith
+access-five ReadWrite e = omega arith
 
-value-else : (o v : ℕ) → (valueRefusal o v ≡ carriedOut) ⊎ (valueRefusal o v ≡ protecting)
-unfolding valueRefusal
-value-else o v = pick-cases (λ (n : ℕ). (n ≡ carriedOut) ⊎ (n ≡ protecting)) (eqb o dcr && bit v 0) (λ _. inr refl) (λ _. inl refl)
+never-five : (s : Aic) (x : Step) → step s x .refusal ≢ 5
+unfolding read line readNumber lineNumber readRefusal lineRefusal
+never-five s (Read o) =
+    rw (number-given s (readNumber s o) (readAt s o) (read-carried s o))
+    (pick-cases A (sound s) (λ _. pick-cases A (eqb (o % 4) 0) (λ _. access-five (access o)) (λ _ e. omega arith)) (λ _ e. omega arith))
+  where
+    A : ℕ → Type 0
+    A n = n ≢ 5
+never-five s (Write o v) = λ e. let h = writes-table s o v .five .0 e in omega (arith, h .1 .1 .1)
+never-five s (Line k l) =
+    rw (number-given s (lineNumber s k l) (answered (moved s k (eqb l 1)) 0) refl)
+    (pick-cases A (sound s) (λ _. pick-cases A (ltb k 32 && leb l 1) (λ _ e. omega arith) (λ _ e. omega arith)) (λ _ e. omega arith))
+  where
+    A : ℕ → Type 0
+    A n = n ≢ 5
 
 pub kept : Promises
 unfolding within start outputs pick
@@ -104,6 +117,7 @@ kept =
       answeredIs = λ s v. refl;
       refusedIs = λ s n. refl;
       vectorIs = λ s k. refl;
+      protectsIs = λ s. refl;
       stepSound = step-sound;
       stepShaped = step-shaped;
       refusedSame = step-refused;
@@ -112,14 +126,25 @@ kept =
       readNumbers = reads-table;
       writeNumbers = writes-table;
       lineNumbers = lines-table;
-      valueFive = value-five;
-      valueElse = value-else;
+      neverFive = never-five;
       map = the-map;
       reads = reads-of;
       writes = λ s v ok. writes-of s ok v;
       vectorRead = λ s k ok. vector-read s ok k;
       vectorSpurious = vector-spurious;
       vectorFull = vector-full;
+      lookSource = λ s k ok. look-source s ok k;
+      lookNone = look-none;
+      lookAgain = look-again;
+      beginSource = λ s v ok. begin-source s ok v;
+      beginNone = λ s v ok. begin-none s ok v;
+      beginFull = λ s v ok. begin-full s ok v;
+      beginNothing = λ s v ok. begin-nothing s ok v;
+      leaveForgets = λ s v ok. leave-forgets s ok v;
+      stayKeeps = λ s v ok. stay-keeps s ok v;
+      seenKept = seen-kept;
+      seenIdle = λ s n x ok also f. seen-idle s x ok f n also;
+      seenOutputs = seen-outputs;
       vectorForced = vector-forced;
       isrMark = isr-mark;
       closeLast = λ s v ok. close-last s ok v;
@@ -131,7 +156,7 @@ kept =
       edgeFalls = edge-falls;
       edgeRises = edge-rises;
       lineRepeated = line-repeated;
-      maskIdle = λ s m x ok e. mask-idle s m ok e x;
+      maskIdle = λ s m x ok l e. mask-idle s m ok l e x;
       outputsSound = λ s ok. rw ok;
       outputsUnsound = λ s e. rw e;
     }

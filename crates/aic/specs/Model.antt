@@ -14,7 +14,7 @@ use Rattle.aic_sources.specs.Normal.{irq}
 use Rattle.aic.specs.declared.Begun.{Begun}
 use Rattle.aic_registers.specs.declared.Answer.{Answer}
 use Rattle.aic.specs.declared.Signals.{Signals}
-use Rattle.aic_registers.specs.Map.{access, valueRefusal}
+use Rattle.aic_registers.specs.Map.{access}
 use Rattle.aic_registers.specs.Handlers.{answered, refused}
 use Rattle.aic_registers.specs.Effects.{moved}
 use Rattle.aic_registers.specs.Registers.{readAt, writtenAt}
@@ -26,12 +26,13 @@ within nth value = ltb nth 2
 unfoldable pub start : ℕ → ℕ → Begun
 start external lines = record { refusal = carriedOut; aic = reset external lines }
 
--- by which number a read, a write or a line step is refused, 0 for none; lines 0 to 31 are the inputs (01, Numbers)
+-- by which number a read, a write or a line step is refused, 0 for none; a register that is written takes any value, and lines 0 to 31 are the
+-- inputs (01, Numbers; 02, 9/12)
 unfoldable pub readNumber : Aic → ℕ → ℕ
 readNumber s o = readRefusal (sound s) o (access o)
 
 unfoldable pub writeNumber : Aic → ℕ → ℕ → ℕ
-writeNumber s o v = writeRefusal (sound s) o (access o) (valueRefusal o v)
+writeNumber s o v = writeRefusal (sound s) o (access o) carriedOut
 
 unfoldable pub lineNumber : Aic → ℕ → ℕ → ℕ
 lineNumber s k l = lineRefusal (sound s) 32 k l

@@ -1,7 +1,7 @@
 -- The map, the reads and the writes as sentences, register by register: the promises are made of these.
 use Prim.Native.Nat.{ℕ, _+_, _-_, _*_, _%_, _^_, _<_}
 use mathlib.Core.Path.{_≡_}
-use mathlib.Core.Bool.{Bool, false, not, _&&_, _||_}
+use mathlib.Core.Bool.{Bool, true, false, not, _&&_, _||_}
 use mathlib.Core.Logic.{_↔_, _≢_, _⊎_}
 use lib.Dec.{eqb}
 use lib.ListN.{set}
@@ -10,9 +10,9 @@ use Rattle.words.specs.Counting.{one}
 use Rattle.words.specs.Word.{bit}
 use Rattle.steps.specs.declared.Access.the-variants.{NoRegister, ReadOnly, WriteOnly, ReadWrite}
 use Rattle.aic_record.specs.declared.Aic.{Aic}
-use Rattle.aic_record.specs.Record.{withEnabled, withMemory, withForced, withSpurious, withMask, withMode, withVector, withHandlers}
+use Rattle.aic_record.specs.Record.{nothingSeen, withEnabled, withMemory, withForced, withSpurious, withDebug, withMode, withVector, withHandlers, withSeen}
 use Rattle.aic_record.specs.Mode.{modeAt, typeOf, keptMode, kind, edge}
-use Rattle.aic_record.specs.Sound.{sourceAt}
+use Rattle.aic_record.specs.Sound.{sourceAt, protects}
 use Rattle.aic_sources.specs.Pending.{pendingWord}
 use Rattle.aic_sources.specs.Fast.{fiq}
 use Rattle.aic_sources.specs.Normal.{irq}
@@ -60,7 +60,7 @@ pub record Reads (s : Aic) : Type 0 where
   pub outputs : read s 0x114 ≡ answered s (one (fiq s) + 2 * one (irq s))
   -- SPU and DCR
   pub spurious : read s 0x134 ≡ answered s (s .spurious)
-  pub debug : read s 0x138 ≡ answered s (s .mask)
+  pub debug : read s 0x138 ≡ answered s (s .debug)
   -- FFSR: the forced sources (003, 27.8.20)
   pub forced : read s 0x148 ≡ answered s (s .forced)
 
@@ -72,8 +72,8 @@ pub record Writes (s : Aic) (v : ℕ) : Type 0 where
   -- a mode that alters the priority alone clears none
   pub reranked : (k : ℕ) → k < 32 → kind s k ≡ typeOf v → write s (k * 4) v ≡ answered (withMode s (set (s .mode) k (keptMode v))) 0
   pub vectors : (k : ℕ) → k < 32 → write s (0x80 + k * 4) v ≡ answered (withVector s (set (s .vector) k v)) 0
-  -- a write of IVR does nothing (003, 27.7.5)
-  pub ignored : write s 0x100 v ≡ answered s 0
+  -- outside protect mode a write of IVR does nothing (003, 27.7.5)
+  pub ignored : protects s ≡ false → write s 0x100 v ≡ answered s 0
   -- each bit written as 1 enables, or disables, its source (003, 27.7.1.2)
   pub enables : Sets (write s 0x120 v) 0 (s .enabled) (withEnabled s) (λ k. bit (s .enabled) k || bit v k)
   pub disables : Sets (write s 0x124 v) 0 (s .enabled) (withEnabled s) (λ k. bit (s .enabled) k && not (bit v k))
@@ -86,8 +86,10 @@ pub record Writes (s : Aic) (v : ℕ) : Type 0 where
   pub closesNone : s .depth ≡ 0 → write s 0x130 v ≡ answered s 0
   -- SPU is stored whole (003, 27.8.16)
   pub spurious : write s 0x134 v ≡ answered (withSpurious s v) 0
-  -- of debug control bit 1 is kept; with bit 0 it is refused (003, 27.7.7)
-  pub debug : bit v 0 ≡ false → write s 0x138 v ≡ answered (withMask s (pick (bit v 1) 2 0)) 0
+  -- of debug control bits 0 and 1 are kept: with bit 0, protect mode entered or kept, what is remembered stays; without it that is forgotten
+  -- (02, 9/12; 003, 27.7.5 and 27.7.7)
+  pub protecting : bit v 0 ≡ true → write s 0x138 v ≡ answered (withDebug s (pick (bit v 1) 3 1)) 0
+  pub leaving : bit v 0 ≡ false → write s 0x138 v ≡ answered (withSeen (withDebug s (pick (bit v 1) 2 0)) nothingSeen) 0
   -- each bit written as 1 forces its source, save source 0, or no longer forces it (003, 27.7.4.5)
   pub forces : Sets (write s 0x140 v) 0 (s .forced) (withForced s) (λ k. bit (s .forced) k || (bit v k && not (eqb k 0)))
   pub unforces : Sets (write s 0x144 v) 0 (s .forced) (withForced s) (λ k. bit (s .forced) k && not (bit v k))

@@ -8,7 +8,6 @@ use aic_registers::Answer;
 use aic_registers::answer_of;
 use aic_registers::effects::move_line;
 use aic_registers::map::access_of;
-use aic_registers::map::value_refusal;
 use aic_registers::refusal_of;
 use aic_registers::registers::read_at;
 use aic_registers::registers::write_at;
@@ -63,12 +62,7 @@ fn write_sound(s: Aic, offset: u32, value: u32) -> Answer
     requires { ⌜ sound s ≡ true ⌝ }
     ensures { λ r. ⌜ r ≡ write s offset value ⌝ }
 {
-    let n = steps::write_refusal(
-        true,
-        offset,
-        access_of(offset),
-        value_refusal(offset, value),
-    );
+    let n = steps::write_refusal(true, offset, access_of(offset), steps::CARRIED_OUT);
     if n == steps::CARRIED_OUT {
         return answer_of(write_at(s, offset, value), 0);
     }

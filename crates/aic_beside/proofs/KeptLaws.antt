@@ -13,6 +13,7 @@ use Rattle.words.specs.Choice.{pick}
 use Rattle.words.specs.Word.{bit, wordOf, both, withBit}
 use Rattle.words.proofs.WordLaws.{bit-wordOf, wordOf-same, word-is, bit-withBit, withBit-narrow, wordOf-lt}
 use Rattle.aic_record.specs.declared.Aic.{Aic}
+use Rattle.aic_record.specs.declared.Seen.{Seen}
 use Rattle.aic_record.specs.Mode.{typeOf, edgeOf, priority, kind, edge}
 use Rattle.aic_record.specs.Record.{withLines, withMemory}
 use Rattle.aic_sources.specs.Pending.{activeLow, activeAt, active, pending, asking, edgeWord}
@@ -159,12 +160,12 @@ begun-kept s words new class some edges low waits n m c e l w h a =
 
 -- ---- where nothing of it changes
 
--- other vectors, entries, spurious vector and debug control
-pub entries-kept : (external lines enabled memory forced spurious spurious′ mask mask′ depth depth′ any edges low : ℕ) (mode vector vector′ source source′ level level′ words class : List ℕ)
-    → Kept (aicOf external lines enabled memory forced spurious mask mode vector source level depth) words any edges low class
-    → Kept (aicOf external lines enabled memory forced spurious′ mask′ mode vector′ source′ level′ depth′) words any edges low class
+-- other vectors, entries, spurious vector, debug control and something else remembered
+pub entries-kept : (external lines enabled memory forced spurious spurious′ debug debug′ depth depth′ any edges low : ℕ) (mode vector vector′ source source′ level level′ words class : List ℕ) (seen seen′ : Seen)
+    → Kept (aicOf external lines enabled memory forced spurious debug mode vector source level depth seen) words any edges low class
+    → Kept (aicOf external lines enabled memory forced spurious′ debug′ mode vector′ source′ level′ depth′ seen′) words any edges low class
 unfolding edgeWord edge lowWord activeLow kind anyOf levelWord waiting asking pending active activeAt fast priority
-entries-kept external lines enabled memory forced spurious spurious′ mask mask′ depth depth′ any edges low mode vector vector′ source source′ level level′ words class k =
+entries-kept external lines enabled memory forced spurious spurious′ debug debug′ depth depth′ any edges low mode vector vector′ source source′ level level′ words class seen seen′ k =
     record { eight = k .eight; levels = k .levels; some = k .some; edgeTriggered = k .edgeTriggered; activeLow = k .activeLow; classes = k .classes }
 
 -- another memory and another line of source k alone: the words of all levels but that of its priority stay

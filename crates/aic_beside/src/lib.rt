@@ -6,23 +6,25 @@ ghost use Prim.Native.Nat.{ℕ, _<_, _≤_};
 ghost use lib.Dec.{eqb};
 ghost use lib.ListN.{length, getD, set};
 ghost use Rattle.words.specs.Word.{wordOf, both, withBit};
+ghost use Rattle.aic_record.specs.declared.Seen.{Seen};
 ghost use Rattle.aic_sources.specs.Pending.{pendingWord, edgeWord};
 ghost use Rattle.aic_sources.specs.Normal.{waiting};
-ghost use Rattle.aic_beside.specs.Parts.{aicOf};
+ghost use Rattle.aic_beside.specs.Parts.{aicOf, seenOf};
 ghost use Rattle.aic_beside.specs.Kept.{lowWord, classWord};
+use aic_record::Seen;
 
 // ---- from the words
 
 // The pending sources: an edge source by its memory, a level source by its line.
 pub fn pending_of(lines: u32, memory: u32, edges: u32, low: u32) -> u32
-    ensures { λ r. ⌜ ((external enabled forced spurious mask depth : ℕ) (mode vector source level : List ℕ) → edges ≡ edgeWord (aicOf external lines enabled memory forced spurious mask mode vector source level depth) → low ≡ lowWord (aicOf external lines enabled memory forced spurious mask mode vector source level depth) → r ≡ pendingWord (aicOf external lines enabled memory forced spurious mask mode vector source level depth)) ⌝ }
+    ensures { λ r. ⌜ ((external enabled forced spurious debug depth : ℕ) (mode vector source level : List ℕ) (seen : Seen) → edges ≡ edgeWord (aicOf external lines enabled memory forced spurious debug mode vector source level depth seen) → low ≡ lowWord (aicOf external lines enabled memory forced spurious debug mode vector source level depth seen) → r ≡ pendingWord (aicOf external lines enabled memory forced spurious debug mode vector source level depth seen)) ⌝ }
 {
     aic_sources::blend(edges, memory, aic_sources::active_word(low, lines))
 }
 
 // The sources that wait: pending, enabled and not fast.
 pub fn waiting_of(lines: u32, enabled: u32, memory: u32, forced: u32, edges: u32, low: u32) -> u32
-    ensures { λ r. ⌜ ((external spurious mask depth : ℕ) (mode vector source level : List ℕ) → edges ≡ edgeWord (aicOf external lines enabled memory forced spurious mask mode vector source level depth) → low ≡ lowWord (aicOf external lines enabled memory forced spurious mask mode vector source level depth) → r ≡ wordOf 32 (waiting (aicOf external lines enabled memory forced spurious mask mode vector source level depth))) ⌝ }
+    ensures { λ r. ⌜ ((external spurious debug depth : ℕ) (mode vector source level : List ℕ) (seen : Seen) → edges ≡ edgeWord (aicOf external lines enabled memory forced spurious debug mode vector source level depth seen) → low ≡ lowWord (aicOf external lines enabled memory forced spurious debug mode vector source level depth seen) → r ≡ wordOf 32 (waiting (aicOf external lines enabled memory forced spurious debug mode vector source level depth seen))) ⌝ }
 {
     let asks = words::meet(pending_of(lines, memory, edges, low), enabled);
     words::drop_bits(asks, words::join(1, forced))
@@ -71,7 +73,7 @@ pub fn renew_levels<'a>(class: &'a [u32; 8], words: &'a mut [u32; 8], any: &'a m
 
 // The sources whose active level is low. Bit 6 of a mode tells the types whose active level is high even of an external source.
 pub fn low_of(external: u32, mode: &[u8; 32]) -> u32
-    ensures { λ r. ⌜ ((lines enabled memory forced spurious mask depth : ℕ) (vector source level : List ℕ) → r ≡ lowWord (aicOf external lines enabled memory forced spurious mask (now (mode .entry)) vector source level depth)) ⌝ }
+    ensures { λ r. ⌜ ((lines enabled memory forced spurious debug depth : ℕ) (vector source level : List ℕ) (seen : Seen) → r ≡ lowWord (aicOf external lines enabled memory forced spurious debug (now (mode .entry)) vector source level depth seen)) ⌝ }
 {
     words::drop_bits(external, aic_sources::mode_word(mode, 6))
 }
@@ -90,4 +92,25 @@ pub fn class_of(mode: &[u8; 32]) -> [u32; 8]
         k = k + 1;
     }
     class
+}
+
+// ---- what is remembered
+
+// What is remembered, as the four words that are lent.
+pub fn seen_words(n: Seen) -> [u32; 4]
+    ensures { λ r. ⌜ seenOf r ≡ n ⌝ }
+{
+    [n.what, n.source as u32, n.level as u32, n.vector]
+}
+
+// What is remembered, from the four words. In a sound record source and level are bytes.
+pub fn seen_of(w: [u32; 4]) -> Seen
+    ensures { λ r. ⌜ (seenOf w .source < 256 → seenOf w .level < 256 → r ≡ seenOf w) ⌝ }
+{
+    Seen {
+        what: w[0],
+        source: (w[1] % 256) as u8,
+        level: (w[2] % 256) as u8,
+        vector: w[3],
+    }
 }

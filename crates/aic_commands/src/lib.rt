@@ -4,6 +4,7 @@ ghost use mathlib.Core.Path.{_≡_};
 ghost use mathlib.Core.List.{List};
 ghost use Prim.Native.Nat.{ℕ};
 ghost use Rattle.aic_record.specs.declared.Aic.{Aic};
+ghost use Rattle.aic_record.specs.declared.Seen.{Seen};
 ghost use Rattle.aic_registers.specs.Effects.{enabledBy, disabledBy, clearedBy, setBy, forcedBy, unforcedBy};
 ghost use Rattle.aic_beside.specs.Kept.{Kept};
 ghost use Rattle.aic_beside.specs.Parts.{aicOf};
@@ -20,7 +21,7 @@ fn renew<'a>(
     low: u32,
     class: &'a [u32; 8],
 )
-    ensures { λ _. ⌜ ((external spurious mask depth : ℕ) (mode vector source level : List ℕ) (s : Aic) → external ≡ s .external → mode ≡ s .mode → Kept s (now (words .entry)) (now (any .entry)) edges low (now (class .entry)) → Kept (aicOf external lines enabled memory forced spurious mask mode vector source level depth) (now (words .exit)) (now (any .exit)) edges low (now (class .entry))) ⌝ }
+    ensures { λ _. ⌜ ((external spurious debug depth : ℕ) (mode vector source level : List ℕ) (seen : Seen) (s : Aic) → external ≡ s .external → mode ≡ s .mode → Kept s (now (words .entry)) (now (any .entry)) edges low (now (class .entry)) → Kept (aicOf external lines enabled memory forced spurious debug mode vector source level depth seen) (now (words .exit)) (now (any .exit)) edges low (now (class .entry))) ⌝ }
 {
     let waits = aic_beside::waiting_of(lines, enabled, memory, forced, edges, low);
     aic_beside::renew_levels(class, words, any, waits);
@@ -39,7 +40,7 @@ pub fn enable<'a>(
     class: &'a [u32; 8],
     v: u32,
 )
-    ensures { λ _. ⌜ ((external spurious mask depth : ℕ) (mode vector source level : List ℕ) → Kept (aicOf external lines (now (enabled .entry)) memory forced spurious mask mode vector source level depth) (now (words .entry)) (now (any .entry)) edges low (now (class .entry)) → (aicOf external lines (now (enabled .exit)) memory forced spurious mask mode vector source level depth ≡ enabledBy (aicOf external lines (now (enabled .entry)) memory forced spurious mask mode vector source level depth) v) × Kept (aicOf external lines (now (enabled .exit)) memory forced spurious mask mode vector source level depth) (now (words .exit)) (now (any .exit)) edges low (now (class .entry))) ⌝ }
+    ensures { λ _. ⌜ ((external spurious debug depth : ℕ) (mode vector source level : List ℕ) (seen : Seen) → Kept (aicOf external lines (now (enabled .entry)) memory forced spurious debug mode vector source level depth seen) (now (words .entry)) (now (any .entry)) edges low (now (class .entry)) → (aicOf external lines (now (enabled .exit)) memory forced spurious debug mode vector source level depth seen ≡ enabledBy (aicOf external lines (now (enabled .entry)) memory forced spurious debug mode vector source level depth seen) v) × Kept (aicOf external lines (now (enabled .exit)) memory forced spurious debug mode vector source level depth seen) (now (words .exit)) (now (any .exit)) edges low (now (class .entry))) ⌝ }
 {
     *enabled = words::join(*enabled, v);
     renew(
@@ -68,7 +69,7 @@ pub fn disable<'a>(
     class: &'a [u32; 8],
     v: u32,
 )
-    ensures { λ _. ⌜ ((external spurious mask depth : ℕ) (mode vector source level : List ℕ) → Kept (aicOf external lines (now (enabled .entry)) memory forced spurious mask mode vector source level depth) (now (words .entry)) (now (any .entry)) edges low (now (class .entry)) → (aicOf external lines (now (enabled .exit)) memory forced spurious mask mode vector source level depth ≡ disabledBy (aicOf external lines (now (enabled .entry)) memory forced spurious mask mode vector source level depth) v) × Kept (aicOf external lines (now (enabled .exit)) memory forced spurious mask mode vector source level depth) (now (words .exit)) (now (any .exit)) edges low (now (class .entry))) ⌝ }
+    ensures { λ _. ⌜ ((external spurious debug depth : ℕ) (mode vector source level : List ℕ) (seen : Seen) → Kept (aicOf external lines (now (enabled .entry)) memory forced spurious debug mode vector source level depth seen) (now (words .entry)) (now (any .entry)) edges low (now (class .entry)) → (aicOf external lines (now (enabled .exit)) memory forced spurious debug mode vector source level depth seen ≡ disabledBy (aicOf external lines (now (enabled .entry)) memory forced spurious debug mode vector source level depth seen) v) × Kept (aicOf external lines (now (enabled .exit)) memory forced spurious debug mode vector source level depth seen) (now (words .exit)) (now (any .exit)) edges low (now (class .entry))) ⌝ }
 {
     *enabled = words::drop_bits(*enabled, v);
     renew(
@@ -97,7 +98,7 @@ pub fn clear<'a>(
     class: &'a [u32; 8],
     v: u32,
 )
-    ensures { λ _. ⌜ ((external spurious mask depth : ℕ) (mode vector source level : List ℕ) → Kept (aicOf external lines enabled (now (memory .entry)) forced spurious mask mode vector source level depth) (now (words .entry)) (now (any .entry)) edges low (now (class .entry)) → (aicOf external lines enabled (now (memory .exit)) forced spurious mask mode vector source level depth ≡ clearedBy (aicOf external lines enabled (now (memory .entry)) forced spurious mask mode vector source level depth) v) × Kept (aicOf external lines enabled (now (memory .exit)) forced spurious mask mode vector source level depth) (now (words .exit)) (now (any .exit)) edges low (now (class .entry))) ⌝ }
+    ensures { λ _. ⌜ ((external spurious debug depth : ℕ) (mode vector source level : List ℕ) (seen : Seen) → Kept (aicOf external lines enabled (now (memory .entry)) forced spurious debug mode vector source level depth seen) (now (words .entry)) (now (any .entry)) edges low (now (class .entry)) → (aicOf external lines enabled (now (memory .exit)) forced spurious debug mode vector source level depth seen ≡ clearedBy (aicOf external lines enabled (now (memory .entry)) forced spurious debug mode vector source level depth seen) v) × Kept (aicOf external lines enabled (now (memory .exit)) forced spurious debug mode vector source level depth seen) (now (words .exit)) (now (any .exit)) edges low (now (class .entry))) ⌝ }
 {
     *memory = words::drop_bits(*memory, words::meet(v, edges));
     renew(
@@ -126,7 +127,7 @@ pub fn set<'a>(
     class: &'a [u32; 8],
     v: u32,
 )
-    ensures { λ _. ⌜ ((external spurious mask depth : ℕ) (mode vector source level : List ℕ) → Kept (aicOf external lines enabled (now (memory .entry)) forced spurious mask mode vector source level depth) (now (words .entry)) (now (any .entry)) edges low (now (class .entry)) → (aicOf external lines enabled (now (memory .exit)) forced spurious mask mode vector source level depth ≡ setBy (aicOf external lines enabled (now (memory .entry)) forced spurious mask mode vector source level depth) v) × Kept (aicOf external lines enabled (now (memory .exit)) forced spurious mask mode vector source level depth) (now (words .exit)) (now (any .exit)) edges low (now (class .entry))) ⌝ }
+    ensures { λ _. ⌜ ((external spurious debug depth : ℕ) (mode vector source level : List ℕ) (seen : Seen) → Kept (aicOf external lines enabled (now (memory .entry)) forced spurious debug mode vector source level depth seen) (now (words .entry)) (now (any .entry)) edges low (now (class .entry)) → (aicOf external lines enabled (now (memory .exit)) forced spurious debug mode vector source level depth seen ≡ setBy (aicOf external lines enabled (now (memory .entry)) forced spurious debug mode vector source level depth seen) v) × Kept (aicOf external lines enabled (now (memory .exit)) forced spurious debug mode vector source level depth seen) (now (words .exit)) (now (any .exit)) edges low (now (class .entry))) ⌝ }
 {
     *memory = words::join(*memory, words::meet(v, edges));
     renew(
@@ -155,7 +156,7 @@ pub fn force<'a>(
     class: &'a [u32; 8],
     v: u32,
 )
-    ensures { λ _. ⌜ ((external spurious mask depth : ℕ) (mode vector source level : List ℕ) → Kept (aicOf external lines enabled memory (now (forced .entry)) spurious mask mode vector source level depth) (now (words .entry)) (now (any .entry)) edges low (now (class .entry)) → (aicOf external lines enabled memory (now (forced .exit)) spurious mask mode vector source level depth ≡ forcedBy (aicOf external lines enabled memory (now (forced .entry)) spurious mask mode vector source level depth) v) × Kept (aicOf external lines enabled memory (now (forced .exit)) spurious mask mode vector source level depth) (now (words .exit)) (now (any .exit)) edges low (now (class .entry))) ⌝ }
+    ensures { λ _. ⌜ ((external spurious debug depth : ℕ) (mode vector source level : List ℕ) (seen : Seen) → Kept (aicOf external lines enabled memory (now (forced .entry)) spurious debug mode vector source level depth seen) (now (words .entry)) (now (any .entry)) edges low (now (class .entry)) → (aicOf external lines enabled memory (now (forced .exit)) spurious debug mode vector source level depth seen ≡ forcedBy (aicOf external lines enabled memory (now (forced .entry)) spurious debug mode vector source level depth seen) v) × Kept (aicOf external lines enabled memory (now (forced .exit)) spurious debug mode vector source level depth seen) (now (words .exit)) (now (any .exit)) edges low (now (class .entry))) ⌝ }
 {
     *forced = words::join(*forced, words::drop_bits(v, 1));
     renew(
@@ -184,7 +185,7 @@ pub fn unforce<'a>(
     class: &'a [u32; 8],
     v: u32,
 )
-    ensures { λ _. ⌜ ((external spurious mask depth : ℕ) (mode vector source level : List ℕ) → Kept (aicOf external lines enabled memory (now (forced .entry)) spurious mask mode vector source level depth) (now (words .entry)) (now (any .entry)) edges low (now (class .entry)) → (aicOf external lines enabled memory (now (forced .exit)) spurious mask mode vector source level depth ≡ unforcedBy (aicOf external lines enabled memory (now (forced .entry)) spurious mask mode vector source level depth) v) × Kept (aicOf external lines enabled memory (now (forced .exit)) spurious mask mode vector source level depth) (now (words .exit)) (now (any .exit)) edges low (now (class .entry))) ⌝ }
+    ensures { λ _. ⌜ ((external spurious debug depth : ℕ) (mode vector source level : List ℕ) (seen : Seen) → Kept (aicOf external lines enabled memory (now (forced .entry)) spurious debug mode vector source level depth seen) (now (words .entry)) (now (any .entry)) edges low (now (class .entry)) → (aicOf external lines enabled memory (now (forced .exit)) spurious debug mode vector source level depth seen ≡ unforcedBy (aicOf external lines enabled memory (now (forced .entry)) spurious debug mode vector source level depth seen) v) × Kept (aicOf external lines enabled memory (now (forced .exit)) spurious debug mode vector source level depth seen) (now (words .exit)) (now (any .exit)) edges low (now (class .entry))) ⌝ }
 {
     *forced = words::drop_bits(*forced, v);
     renew(

@@ -2,6 +2,7 @@
 ghost use mathlib.Core.Path.{_≡_};
 ghost use mathlib.Core.List.{List};
 ghost use Prim.Native.Nat.{ℕ, _≤_, _<_};
+ghost use Rattle.aic_record.specs.declared.Seen.{Seen};
 ghost use Rattle.aic_record.specs.Sound.{levelBelow};
 ghost use Rattle.aic_registers.specs.Handlers.{opened, marked, ended, current};
 ghost use Rattle.aic_beside.specs.Parts.{aicOf};
@@ -27,7 +28,7 @@ pub fn open_entry<'a>(
     p: u8,
 )
     requires { ⌜ now depth < 8 ⌝ }
-    ensures { λ _. ⌜ ((external lines enabled memory forced spurious mask : ℕ) (mode vector : List ℕ) → (aicOf external lines enabled memory forced spurious mask mode vector (now (source .exit)) (now (level .exit)) (now (depth .exit))) ≡ opened (aicOf external lines enabled memory forced spurious mask mode vector (now (source .entry)) (now (level .entry)) (now (depth .entry))) k p) ⌝ }
+    ensures { λ _. ⌜ ((external lines enabled memory forced spurious debug : ℕ) (mode vector : List ℕ) (seen : Seen) → (aicOf external lines enabled memory forced spurious debug mode vector (now (source .exit)) (now (level .exit)) (now (depth .exit)) seen) ≡ opened (aicOf external lines enabled memory forced spurious debug mode vector (now (source .entry)) (now (level .entry)) (now (depth .entry)) seen) k p) ⌝ }
 {
     let entries = *depth;
     let at = entries as usize;
@@ -38,7 +39,7 @@ pub fn open_entry<'a>(
 
 // A spurious mark is opened, with the level of the last entry. With eight entries open nothing changes.
 pub fn open_mark<'a>(source: &'a mut [u8; 8], level: &'a mut [u8; 8], depth: &'a mut u32)
-    ensures { λ _. ⌜ ((external lines enabled memory forced spurious mask : ℕ) (mode vector : List ℕ) → (aicOf external lines enabled memory forced spurious mask mode vector (now (source .exit)) (now (level .exit)) (now (depth .exit))) ≡ marked (aicOf external lines enabled memory forced spurious mask mode vector (now (source .entry)) (now (level .entry)) (now (depth .entry)))) ⌝ }
+    ensures { λ _. ⌜ ((external lines enabled memory forced spurious debug : ℕ) (mode vector : List ℕ) (seen : Seen) → (aicOf external lines enabled memory forced spurious debug mode vector (now (source .exit)) (now (level .exit)) (now (depth .exit)) seen) ≡ marked (aicOf external lines enabled memory forced spurious debug mode vector (now (source .entry)) (now (level .entry)) (now (depth .entry)) seen)) ⌝ }
 {
     let entries = *depth;
     if 8 <= entries {
@@ -50,7 +51,7 @@ pub fn open_mark<'a>(source: &'a mut [u8; 8], level: &'a mut [u8; 8], depth: &'a
 
 // A write of EOICR: the last entry is closed, mark or handler. With none open nothing changes. No sound record has more than eight.
 pub fn close<'a>(source: &'a mut [u8; 8], level: &'a mut [u8; 8], depth: &'a mut u32)
-    ensures { λ _. ⌜ ((external lines enabled memory forced spurious mask : ℕ) (mode vector : List ℕ) → now (depth .entry) ≤ 8 → (aicOf external lines enabled memory forced spurious mask mode vector (now (source .exit)) (now (level .exit)) (now (depth .exit))) ≡ ended (aicOf external lines enabled memory forced spurious mask mode vector (now (source .entry)) (now (level .entry)) (now (depth .entry)))) ⌝ }
+    ensures { λ _. ⌜ ((external lines enabled memory forced spurious debug : ℕ) (mode vector : List ℕ) (seen : Seen) → now (depth .entry) ≤ 8 → (aicOf external lines enabled memory forced spurious debug mode vector (now (source .exit)) (now (level .exit)) (now (depth .exit)) seen) ≡ ended (aicOf external lines enabled memory forced spurious debug mode vector (now (source .entry)) (now (level .entry)) (now (depth .entry)) seen)) ⌝ }
 {
     let entries = *depth;
     if (entries == 0) | (8 < entries) {
@@ -71,7 +72,7 @@ pub fn wide(b: u8) -> u32
 
 // ISR: the source of the last entry, 0 if that is a mark or none is open.
 pub fn current(source: &[u8; 8], depth: u32) -> u32
-    ensures { λ r. ⌜ ((external lines enabled memory forced spurious mask : ℕ) (mode vector level : List ℕ) → depth ≤ 8 → r ≡ current (aicOf external lines enabled memory forced spurious mask mode vector (now (source .entry)) level depth)) ⌝ }
+    ensures { λ r. ⌜ ((external lines enabled memory forced spurious debug : ℕ) (mode vector level : List ℕ) (seen : Seen) → depth ≤ 8 → r ≡ current (aicOf external lines enabled memory forced spurious debug mode vector (now (source .entry)) level depth seen)) ⌝ }
 {
     if (depth == 0) | (8 < depth) {
         return 0;

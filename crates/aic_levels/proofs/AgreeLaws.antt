@@ -58,7 +58,7 @@ found-some s l h =
     ap (λ (k : ℕ). ltb k 32) (chosen-same s (l .words) (l .any) (a .0) (a .1)) ∙ chosen-some s
 
 -- the outputs from the least priority that may start and the byte
-pub outputs-by : (s : Aic) (l : Levels) (least : ℕ) (mask cleared fast : Bool) → (sound s && agrees s l) ≡ true → mask ≡ bit (s .mask) 1 → least ≡ leastOf s
+pub outputs-by : (s : Aic) (l : Levels) (least : ℕ) (mask cleared fast : Bool) → (sound s && agrees s l) ≡ true → mask ≡ bit (s .debug) 1 → least ≡ leastOf s
     → cleared ≡ clean least (l .any) → fast ≡ fastAsks s
     → record { refusal = carriedOut; irq = not mask && not cleared; fiq = not mask && fast; entries = s .depth } ≡ outputsWith s l
 unfolding outputsWith masked fiq

@@ -156,7 +156,7 @@ fn outputs_agreed(s: Aic, l: Levels) -> Signals
     requires { ⌜ (sound s && agrees s l) ≡ true ⌝ }
     ensures { λ r. ⌜ r ≡ outputsWith s l ⌝ }
 {
-    let clear = !words::has(s.mask, 1);
+    let clear = !words::has(s.debug, 1);
     let some = !words::is_clean(least(&s.level, s.depth), l.any as u32);
     Signals {
         refusal: steps::CARRIED_OUT,

@@ -8,6 +8,7 @@ ghost use lib.Dec.{eqb, ltb};
 ghost use lib.ListN.{getD, set};
 ghost use Rattle.words.specs.Choice.{pick};
 ghost use Rattle.words.specs.Word.{bit, both, withBit};
+ghost use Rattle.aic_record.specs.declared.Seen.{Seen};
 ghost use Rattle.aic_record.specs.Mode.{priorityOf, typeOf, edgeOf};
 ghost use Rattle.aic_registers.specs.Effects.{moded, moved};
 ghost use Rattle.aic_beside.specs.Kept.{Kept};
@@ -54,7 +55,7 @@ pub fn move_line<'a>(
     k: u32,
     high: bool,
 )
-    ensures done { λ _. ⌜ (k < 32 → (external spurious mask depth : ℕ) (vector source level : List ℕ) → Kept (aicOf external (now (lines .entry)) enabled (now (memory .entry)) forced spurious mask (now (mode .entry)) vector source level depth) (now (words .entry)) (now (any .entry)) edges low (now (class .entry)) → (aicOf external (now (lines .exit)) enabled (now (memory .exit)) forced spurious mask (now (mode .entry)) vector source level depth ≡ moved (aicOf external (now (lines .entry)) enabled (now (memory .entry)) forced spurious mask (now (mode .entry)) vector source level depth) k high) × Kept (aicOf external (now (lines .exit)) enabled (now (memory .exit)) forced spurious mask (now (mode .entry)) vector source level depth) (now (words .exit)) (now (any .exit)) edges low (now (class .entry))) ⌝ }
+    ensures done { λ _. ⌜ (k < 32 → (external spurious debug depth : ℕ) (vector source level : List ℕ) (seen : Seen) → Kept (aicOf external (now (lines .entry)) enabled (now (memory .entry)) forced spurious debug (now (mode .entry)) vector source level depth seen) (now (words .entry)) (now (any .entry)) edges low (now (class .entry)) → (aicOf external (now (lines .exit)) enabled (now (memory .exit)) forced spurious debug (now (mode .entry)) vector source level depth seen ≡ moved (aicOf external (now (lines .entry)) enabled (now (memory .entry)) forced spurious debug (now (mode .entry)) vector source level depth seen) k high) × Kept (aicOf external (now (lines .exit)) enabled (now (memory .exit)) forced spurious debug (now (mode .entry)) vector source level depth seen) (now (words .exit)) (now (any .exit)) edges low (now (class .entry))) ⌝ }
     ensures past { λ _. ⌜ (32 ≤ k → (now (lines .exit) ≡ now (lines .entry)) × (now (memory .exit) ≡ now (memory .entry)) × (now (words .exit) ≡ now (words .entry)) × (now (any .exit) ≡ now (any .entry))) ⌝ }
 {
     if 32 <= k {
@@ -131,7 +132,7 @@ pub fn write_mode<'a>(
     k: u32,
     v: u32,
 )
-    ensures done { λ _. ⌜ (k < 32 → (spurious mask depth : ℕ) (vector source level : List ℕ) → Kept (aicOf external lines enabled (now (memory .entry)) forced spurious mask (now (mode .entry)) vector source level depth) (now (words .entry)) (now (any .entry)) (now (edges .entry)) (now (low .entry)) (now (class .entry)) → (aicOf external lines enabled (now (memory .exit)) forced spurious mask (now (mode .exit)) vector source level depth ≡ moded (aicOf external lines enabled (now (memory .entry)) forced spurious mask (now (mode .entry)) vector source level depth) k v) × Kept (aicOf external lines enabled (now (memory .exit)) forced spurious mask (now (mode .exit)) vector source level depth) (now (words .exit)) (now (any .exit)) (now (edges .exit)) (now (low .exit)) (now (class .exit))) ⌝ }
+    ensures done { λ _. ⌜ (k < 32 → (spurious debug depth : ℕ) (vector source level : List ℕ) (seen : Seen) → Kept (aicOf external lines enabled (now (memory .entry)) forced spurious debug (now (mode .entry)) vector source level depth seen) (now (words .entry)) (now (any .entry)) (now (edges .entry)) (now (low .entry)) (now (class .entry)) → (aicOf external lines enabled (now (memory .exit)) forced spurious debug (now (mode .exit)) vector source level depth seen ≡ moded (aicOf external lines enabled (now (memory .entry)) forced spurious debug (now (mode .entry)) vector source level depth seen) k v) × Kept (aicOf external lines enabled (now (memory .exit)) forced spurious debug (now (mode .exit)) vector source level depth seen) (now (words .exit)) (now (any .exit)) (now (edges .exit)) (now (low .exit)) (now (class .exit))) ⌝ }
     ensures past { λ _. ⌜ (32 ≤ k → (now (memory .exit) ≡ now (memory .entry)) × (now (mode .exit) ≡ now (mode .entry)) × (now (words .exit) ≡ now (words .entry)) × (now (any .exit) ≡ now (any .entry)) × (now (edges .exit) ≡ now (edges .entry)) × (now (low .exit) ≡ now (low .entry)) × (now (class .exit) ≡ now (class .entry))) ⌝ }
 {
     if 32 <= k {

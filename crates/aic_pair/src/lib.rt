@@ -36,12 +36,13 @@ fn step_agreed(s: Aic, l: Levels, x: Step) -> Answer
     let mut memory = s.memory;
     let mut forced = s.forced;
     let mut spurious = s.spurious;
-    let mut mask = s.mask;
+    let mut debug = s.debug;
     let mut mode = s.mode;
     let mut vector = s.vector;
     let mut source = s.source;
     let mut level = s.level;
     let mut depth = s.depth;
+    let mut seen = aic_beside::seen_words(s.seen);
     let mut words = l.words;
     let mut any = l.any as u32;
     let mut edges = aic_sources::mode_word(&mode, 5);
@@ -54,12 +55,13 @@ fn step_agreed(s: Aic, l: Levels, x: Step) -> Answer
         &mut memory,
         &mut forced,
         &mut spurious,
-        &mut mask,
+        &mut debug,
         &mut mode,
         &mut vector,
         &mut source,
         &mut level,
         &mut depth,
+        &mut seen,
         &mut words,
         &mut any,
         &mut edges,
@@ -74,12 +76,13 @@ fn step_agreed(s: Aic, l: Levels, x: Step) -> Answer
         memory: memory,
         forced: forced,
         spurious: spurious,
-        mask: mask,
+        debug: debug,
         mode: mode,
         vector: vector,
         source: source,
         level: level,
         depth: depth,
+        seen: aic_beside::seen_of(seen),
     };
     answer_of(r.refusal, r.value, aic, words, any)
 }

@@ -4,6 +4,7 @@ ghost use mathlib.Core.Bool.{true};
 ghost use mathlib.Core.List.{List};
 ghost use mathlib.Core.Logic.{_≢_};
 ghost use Prim.Native.Nat.{ℕ, _%_, _≤_, _<_};
+ghost use Rattle.aic_record.specs.declared.Seen.{Seen};
 ghost use Rattle.aic_record.specs.Sound.{sound};
 ghost use Rattle.aic_registers.specs.Registers.{stored};
 ghost use Rattle.aic.specs.Model.{read};
@@ -16,7 +17,7 @@ use aic_replies::Reply;
 // A mode or a vector: the register of a source.
 pub fn read_table<'a>(mode: &'a [u8; 32], vector: &'a [u32; 32], offset: u32) -> u32
     requires { ⌜ offset < 0x100 ⌝ }
-    ensures { λ r. ⌜ ((external lines enabled memory forced spurious mask depth : ℕ) (source level : List ℕ) → r ≡ stored (aicOf external lines enabled memory forced spurious mask (now (mode .entry)) (now (vector .entry)) source level depth) offset) ⌝ }
+    ensures { λ r. ⌜ ((external lines enabled memory forced spurious debug depth : ℕ) (source level : List ℕ) (seen : Seen) → r ≡ stored (aicOf external lines enabled memory forced spurious debug (now (mode .entry)) (now (vector .entry)) source level depth seen) offset) ⌝ }
 {
     let k = (offset / 4 % 32) as usize;
     if offset < map::SVR {
@@ -32,7 +33,7 @@ pub fn read_single<'a>(
     memory: u32,
     forced: u32,
     spurious: u32,
-    mask: u32,
+    debug: u32,
     source: &'a [u8; 8],
     level: &'a [u8; 8],
     depth: u32,
@@ -42,7 +43,7 @@ pub fn read_single<'a>(
     offset: u32,
 ) -> Reply
     requires { ⌜ (offset % 4 ≡ 0 → 0x100 ≤ offset) × (offset ≢ 0x100) × (offset ≢ 0x104) ⌝ }
-    ensures { λ r. ⌜ ((external : ℕ) (mode vector words class : List ℕ) → sound (aicOf external lines enabled memory forced spurious mask mode vector (now (source .entry)) (now (level .entry)) depth) ≡ true → Kept (aicOf external lines enabled memory forced spurious mask mode vector (now (source .entry)) (now (level .entry)) depth) words any edges low class → answerOf r (aicOf external lines enabled memory forced spurious mask mode vector (now (source .entry)) (now (level .entry)) depth) ≡ read (aicOf external lines enabled memory forced spurious mask mode vector (now (source .entry)) (now (level .entry)) depth) offset) ⌝ }
+    ensures { λ r. ⌜ ((external : ℕ) (mode vector words class : List ℕ) (seen : Seen) → sound (aicOf external lines enabled memory forced spurious debug mode vector (now (source .entry)) (now (level .entry)) depth seen) ≡ true → Kept (aicOf external lines enabled memory forced spurious debug mode vector (now (source .entry)) (now (level .entry)) depth seen) words any edges low class → answerOf r (aicOf external lines enabled memory forced spurious debug mode vector (now (source .entry)) (now (level .entry)) depth seen) ≡ read (aicOf external lines enabled memory forced spurious debug mode vector (now (source .entry)) (now (level .entry)) depth seen) offset) ⌝ }
 {
     match offset {
         map::ISR => aic_replies::carry_out(aic_entries::current(source, depth)),
@@ -53,7 +54,7 @@ pub fn read_single<'a>(
             enabled,
             memory,
             forced,
-            mask,
+            debug,
             level,
             depth,
             any,
@@ -61,7 +62,7 @@ pub fn read_single<'a>(
             low,
         )),
         map::SPU => aic_replies::carry_out(spurious),
-        map::DCR => aic_replies::carry_out(mask),
+        map::DCR => aic_replies::carry_out(debug),
         map::FFSR => aic_replies::carry_out(forced),
         _ => aic_replies::refuse(steps::read_refusal(true, offset, map::access_of(offset))),
     }

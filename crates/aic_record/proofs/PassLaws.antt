@@ -17,7 +17,7 @@ use Rattle.words.proofs.CountingLaws.{all-same}
 use Rattle.aic_record.specs.declared.Aic.{Aic}
 use Rattle.aic_record.specs.Mode.{modeAt, keptMode, edge, edgeOf}
 use Rattle.aic_record.specs.Passes.{floorOver, slotSound, modeSound}
-use Rattle.aic_record.specs.Sound.{noLevel, levelBelow, over, entryFits, entrySound, freeSound, entriesSound, memorySound, storedSound, sound}
+use Rattle.aic_record.specs.Sound.{noLevel, levelBelow, over, entryFits, entrySound, freeSound, entriesSound, memorySound, storedSound, protects, seenFits, seenSound, sound}
 use Rattle.words.proofs.CountingLaws.{all-and}
 
 -- a slot by the level that the pass has come to
@@ -59,11 +59,16 @@ regroup true m k q n = ap (λ (b : Bool). b && n) (and-assoc m k q)
 regroup false m k q n = refl
 
 -- what the check gathers is the rule
-pub sound-by : (s : Aic) (p m f : Bool) → p ≡ allBelow 8 (slotSound (s .source) (s .level) (s .depth)) → m ≡ allBelow 32 (modeSound (s .mode) (s .memory))
-    → f ≡ bit (s .forced) 0
-    → ((((leb (s .depth) 8 && p) && m) && (eqb (s .mask) 0 || eqb (s .mask) 2)) && not f) ≡ sound s
+pub sound-by : (s : Aic) (p m f n : Bool) → p ≡ allBelow 8 (slotSound (s .source) (s .level) (s .depth)) → m ≡ allBelow 32 (modeSound (s .mode) (s .memory))
+    → f ≡ bit (s .forced) 0 → n ≡ seenSound s
+    → (((((leb (s .depth) 8 && p) && m) && ltb (s .debug) 4) && not f) && n) ≡ sound s
 unfolding sound entriesSound storedSound
-sound-by s p m f e g h =
-    rw (e, g, h, slots-are s, modes-are s)
-    (regroup (leb (s .depth) 8 && allBelow 8 (λ i. pick (ltb i (s .depth)) (entrySound s i) (freeSound s i))) (memorySound s)
-    (allBelow 32 (λ k. eqb (keptMode (modeAt s k)) (modeAt s k))) (eqb (s .mask) 0 || eqb (s .mask) 2) (not (bit (s .forced) 0)))
+sound-by s p m f n e g h q =
+    rw (e, g, h, q, slots-are s, modes-are s)
+    (ap (λ (b : Bool). b && seenSound s) (regroup (leb (s .depth) 8 && allBelow 8 (λ i. pick (ltb i (s .depth)) (entrySound s i) (freeSound s i))) (memorySound s)
+    (allBelow 32 (λ k. eqb (keptMode (modeAt s k)) (modeAt s k))) (ltb (s .debug) 4) (not (bit (s .forced) 0))))
+
+-- what is remembered, by the mode and the level that the check has read
+pub seen-by : (s : Aic) (r on : Bool) (below : ℕ) → on ≡ protects s → below ≡ levelBelow (s .level) (s .depth) → r ≡ seenFits on (s .seen) below (s .depth) → r ≡ seenSound s
+unfolding seenSound
+seen-by s r on below e f g = rw (sym e, sym f) g

@@ -16,7 +16,7 @@ use Rattle.aic_record.specs.declared.Aic.{Aic}
 use Rattle.aic_record.specs.Record.{reset}
 use Rattle.aic_record.specs.Mode.{typeOf, keptMode, modeAt, priority, kind, edge}
 use Rattle.aic_record.specs.Promises.{Rules, Fresh, Setters, Promises}
-use Rattle.aic_record.proofs.SoundLaws.{below-none, below-next, sound-is, is-sound, rising}
+use Rattle.aic_record.proofs.SoundLaws.{below-none, below-next, sound-is, is-sound, nothing-fits, rising}
 
 zeros : (n i : ℕ) → _≡_ {A = ℕ} (getD (replicate n 0) i 0) 0
 zeros zero i = refl
@@ -75,7 +75,8 @@ reset-rules external lines =
       unused = λ i l m. (zeros 8 i, zeros 8 i);
       memory = λ k l n. bit-none k;
       modes = λ k l. rw (zeros 32 k);
-      mask = inl refl;
+      debug = omega arith;
+      seen = nothing-fits _ _ _;
       forced = bit-none 0;
     }
 
@@ -89,6 +90,7 @@ fresh external lines =
       vectors = zeros 32;
       slots = λ i. (zeros 8 i, zeros 8 i);
       noneOpen = refl;
+      nothing = refl;
     }
 
 setters : (s : Aic) → Setters s
@@ -99,10 +101,11 @@ setters s =
       memory = λ w. refl;
       forced = λ w. refl;
       spurious = λ w. refl;
-      mask = λ w. refl;
+      debug = λ w. refl;
       mode = λ l. refl;
       vector = λ l. refl;
       handlers = λ sources levels n. refl;
+      seen = λ n. refl;
     }
 
 pub kept : Promises
@@ -110,6 +113,7 @@ unfolding reset priority kind
 kept =
     record {
       resetIs = fresh;
+      nothingIs = refl;
       setters = setters;
       modeIs = λ s k. refl;
       slotIs = λ s i. (refl, refl);

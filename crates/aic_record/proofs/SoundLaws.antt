@@ -1,9 +1,9 @@
 -- The rules of a sound record, taken apart and put together again, and the levels of the handlers.
 use Prim.Native.Nat.{ℕ, zero, suc, _+_, _-_, _≤_, _<_}
 use mathlib.Core.Path.{_≡_, refl, sym, ap, _∙_}
-use mathlib.Core.Bool.{true, false, not, _&&_, _||_}
+use mathlib.Core.Bool.{Bool, true, false, not, _&&_, _||_}
 use mathlib.Core.List.{List}
-use mathlib.Core.Logic.{_≢_, _⊎_, inl, inr, ⊎-elim}
+use mathlib.Core.Logic.{_≢_, inl, inr, ⊎-elim}
 use native.Mathlib.Omega.{arith}
 use native.Mathlib.Decide.{ℕ-discrete}
 use lib.Dec.{eqb, ltb, leb}
@@ -15,9 +15,11 @@ use Rattle.words.proofs.ChoiceLaws.{pick-true, pick-false, pick-cases}
 use Rattle.words.proofs.TruthLaws.{and-left, and-right, and-both, or-either, or-left, or-right, clash, told}
 use Rattle.words.proofs.CountingLaws.{all-at, at-all}
 use Rattle.aic_record.specs.declared.Aic.{Aic}
+use Rattle.aic_record.specs.declared.Seen.{Seen}
+use Rattle.aic_record.specs.Record.{nothingSeen}
 use Rattle.aic_record.specs.Mode.{modeAt, keptMode, edge}
-use Rattle.aic_record.specs.Sound.{sourceAt, levelAt, noLevel, levelBelow, over, entryFits, entrySound, freeSound, entriesSound, memorySound, storedSound, sound}
-use Rattle.aic_record.specs.Promises.{Over, Rules}
+use Rattle.aic_record.specs.Sound.{sourceAt, levelAt, noLevel, levelBelow, over, entryFits, entrySound, freeSound, entriesSound, memorySound, storedSound, protects, seenFits, seenSound, sound}
+use Rattle.aic_record.specs.Promises.{Over, SeenFits, Rules}
 
 -- ---- levels
 
@@ -45,6 +47,67 @@ is-over l p (inl z) = or-left (ltb l p) (eq-eqb l noLevel z)
 is-over l p (inr g) = or-right (eqb l noLevel) (lt-ltb l p g)
 
 -- ---- apart
+
+-- what is remembered, apart and together
+module _ (on : Bool) (n : Seen) (below depth : ℕ) where
+  pub seen-is : seenFits on n below depth ≡ true → SeenFits on n below depth
+  unfolding seenFits
+  seen-is = pick-cases (λ t. t ≡ true → SeenFits on n below depth) (eqb (n .what) 1)
+      (λ w h. let z = eqb-true (n .what) 1 w in
+      record {
+        few = omega arith;
+        mode = λ _. search (and-left, and-right);
+        bare = λ d. absurd (d z);
+        source = λ _. (leb-true 1 (n .source) (search (and-left, and-right)), leb-true (n .source) 31 (search (and-left, and-right)));
+        level = λ _. (leb-true (n .level) 7 (search (and-left, and-right)), over-is below (n .level) (search (and-left, and-right)));
+        room = λ _. ltb-true depth 8 (search (and-left, and-right));
+      })
+      (λ w h. let d = eqb-false (n .what) 1 w in
+      let e = or-either (eqb (n .what) 0) (on && eqb (n .what) 2) (search and-right) in
+      record {
+        few = ⊎-elim (λ (z : eqb (n .what) 0 ≡ true). omega (arith, eqb-true (n .what) 0 z)) (λ (z : (on && eqb (n .what) 2) ≡ true). omega (arith, eqb-true (n .what) 2 (and-right on _ z))) e;
+        mode = λ p. ⊎-elim (λ (z : eqb (n .what) 0 ≡ true). absurd (p (eqb-true (n .what) 0 z))) (λ (z : (on && eqb (n .what) 2) ≡ true). and-left on _ z) e;
+        bare = λ _. (eqb-true (n .source) 0 (search (and-left, and-right)), eqb-true (n .level) 0 (search (and-left, and-right)), eqb-true (n .vector) 0 (search (and-left, and-right)));
+        source = λ z. absurd (d z);
+        level = λ z. absurd (d z);
+        room = λ z. absurd (d z);
+      })
+
+  pub is-seen : SeenFits on n below depth → seenFits on n below depth ≡ true
+  unfolding seenFits
+  is-seen f =
+      pick-cases (λ t. t ≡ true) (eqb (n .what) 1)
+      (λ w. let z = eqb-true (n .what) 1 w in
+      and-both (and-both (and-both (and-both (and-both (f .mode (omega arith)) (le-leb 1 (n .source) (f .source z .0))) (le-leb (n .source) 31 (f .source z .1))) (le-leb (n .level) 7 (f .level z .0)))
+      (lt-ltb depth 8 (f .room z))) (is-over below (n .level) (f .level z .1)))
+      (λ w. let d = eqb-false (n .what) 1 w in
+      let b = f .bare d in
+      and-both (and-both (and-both (eq-eqb (n .source) 0 (b .0)) (eq-eqb (n .level) 0 (b .1))) (eq-eqb (n .vector) 0 (b .2))) (rest d (ℕ-discrete (n .what) 0)))
+    where
+      rest : n .what ≢ 1 → Dec (n .what ≡ 0) → (eqb (n .what) 0 || (on && eqb (n .what) 2)) ≡ true
+      rest d (yes z) = or-left (on && eqb (n .what) 2) (eq-eqb (n .what) 0 z)
+      rest d (no z) = or-right (eqb (n .what) 0) (and-both (f .mode z) (eq-eqb (n .what) 2 (omega (arith, f .few))))
+
+-- nothing remembered fits everywhere
+pub seen-nothing : (on o : Bool) (n : Seen) (below depth b d : ℕ) → SeenFits on n below depth → n .what ≡ 0 → SeenFits o n b d
+seen-nothing on o n below depth b d f z =
+    record { few = f .few; mode = λ p. absurd (p z); bare = f .bare; source = λ w. absurd (omega arith); level = λ w. absurd (omega arith); room = λ w. absurd (omega arith) }
+
+-- outside protect mode nothing is remembered
+pub seen-outside : (on : Bool) (n : Seen) (below depth : ℕ) → SeenFits on n below depth → on ≡ false → n .what ≡ 0
+seen-outside on n below depth f e = go (ℕ-discrete (n .what) 0)
+  where
+    go : Dec (n .what ≡ 0) → n .what ≡ 0
+    go (yes z) = z
+    go (no z) = clash (f .mode z) e
+
+-- the same, where protect mode is at least as much on
+pub seen-mode : (on o : Bool) (n : Seen) (below depth : ℕ) → SeenFits on n below depth → (on ≡ true → o ≡ true) → SeenFits o n below depth
+seen-mode on o n below depth f h = record { few = f .few; mode = λ p. h (f .mode p); bare = f .bare; source = f .source; level = f .level; room = f .room }
+
+pub nothing-fits : (on : Bool) (below depth : ℕ) → SeenFits on nothingSeen below depth
+nothing-fits on below depth =
+    record { few = omega arith; mode = λ p. absurd (p refl); bare = λ _. (refl, refl, refl); source = λ w. absurd (omega arith); level = λ w. absurd (omega arith); room = λ w. absurd (omega arith) }
 
 module _ (s : Aic) (ok : sound s ≡ true) where
   slot : (i : ℕ) → i < 8 → pick (ltb i (s .depth)) (entrySound s i) (freeSound s i) ≡ true
@@ -95,11 +158,13 @@ module _ (s : Aic) (ok : sound s ≡ true) where
   unfolding sound storedSound
   modes-kept k l = eqb-true (keptMode (modeAt s k)) (modeAt s k) (all-at 32 (λ k. eqb (keptMode (modeAt s k)) (modeAt s k)) (search (and-left, and-right)) k l)
 
-  pub mask-sound : (s .mask ≡ 0) ⊎ (s .mask ≡ 2)
+  pub debug-sound : s .debug < 4
   unfolding sound storedSound
-  mask-sound =
-      ⊎-elim (λ (e : eqb (s .mask) 0 ≡ true). inl (eqb-true (s .mask) 0 e)) (λ (e : eqb (s .mask) 2 ≡ true). inr (eqb-true (s .mask) 2 e))
-      (or-either (eqb (s .mask) 0) (eqb (s .mask) 2) (search (and-left, and-right)))
+  debug-sound = ltb-true (s .debug) 4 (search (and-left, and-right))
+
+  pub seen-sound : SeenFits (protects s) (s .seen) (levelBelow (s .level) (s .depth)) (s .depth)
+  unfolding sound seenSound
+  seen-sound = seen-is (protects s) (s .seen) (levelBelow (s .level) (s .depth)) (s .depth) (search and-right)
 
   pub forced-sound : bit (s .forced) 0 ≡ false
   unfolding sound
@@ -116,7 +181,8 @@ sound-is s ok =
       unused = free s ok;
       memory = quiet s ok;
       modes = modes-kept s ok;
-      mask = mask-sound s ok;
+      debug = debug-sound s ok;
+      seen = seen-sound s ok;
       forced = forced-sound s ok;
     }
 
@@ -140,19 +206,18 @@ module _ (s : Aic) (r : Rules s) where
   quiets : (k : ℕ) → k < 32 → (edge s k || not (bit (s .memory) k)) ≡ true
   quiets k l = ⊎-elim (or-left (not (bit (s .memory) k))) (λ (n : edge s k ≡ false). or-right (edge s k) (ap not (r .memory k l n))) (told (edge s k))
 
-  masks : (eqb (s .mask) 0 || eqb (s .mask) 2) ≡ true
-  masks = ⊎-elim (λ (e : s .mask ≡ 0). or-left (eqb (s .mask) 2) (eq-eqb (s .mask) 0 e)) (λ (e : s .mask ≡ 2). or-right (eqb (s .mask) 0) (eq-eqb (s .mask) 2 e)) (r .mask)
-
 pub is-sound : (s : Aic) → Rules s → sound s ≡ true
-unfolding sound entriesSound memorySound storedSound
+unfolding sound entriesSound memorySound storedSound seenSound
 is-sound s r =
     and-both
     (and-both
     (and-both
+    (and-both
     (and-both (le-leb (s .depth) 8 (r .entries)) (at-all 8 (λ i. pick (ltb i (s .depth)) (entrySound s i) (freeSound s i)) (slots s r)))
     (at-all 32 (λ k. edge s k || not (bit (s .memory) k)) (quiets s r)))
-    (and-both (at-all 32 (λ k. eqb (keptMode (modeAt s k)) (modeAt s k)) (λ k l. eq-eqb (keptMode (modeAt s k)) (modeAt s k) (r .modes k l))) (masks s r)))
-    (ap not (r .forced))
+    (and-both (at-all 32 (λ k. eqb (keptMode (modeAt s k)) (modeAt s k)) (λ k l. eq-eqb (keptMode (modeAt s k)) (modeAt s k) (r .modes k l))) (lt-ltb (s .debug) 4 (r .debug))))
+    (ap not (r .forced)))
+    (is-seen (protects s) (s .seen) (levelBelow (s .level) (s .depth)) (s .depth) (r .seen))
 
 -- ---- the levels of the handlers rise
 

@@ -8,6 +8,7 @@ use Rattle.words.specs.Choice.{pick}
 use Rattle.words.specs.Counting.{allBelow}
 use Rattle.words.specs.Word.{bit}
 use Rattle.aic_record.specs.declared.Aic.{Aic}
+use Rattle.aic_record.specs.declared.Seen.{Seen}
 use Rattle.aic_record.specs.Mode.{modeAt, keptMode, edge}
 
 -- the source and the level of the entry in slot i
@@ -52,8 +53,24 @@ memorySound s = allBelow 32 (λ k. edge s k || not (bit (s .memory) k))
 
 -- no dropped bit of a mode or of the debug control is stored
 unfoldable pub storedSound : Aic → Bool
-storedSound s = allBelow 32 (λ k. eqb (keptMode (modeAt s k)) (modeAt s k)) && (eqb (s .mask) 0 || eqb (s .mask) 2)
+storedSound s = allBelow 32 (λ k. eqb (keptMode (modeAt s k)) (modeAt s k)) && ltb (s .debug) 4
+
+-- bit 0 of debug control: protect mode (02, 9/12)
+abbrev pub protects : Aic → Bool
+protects s = bit (s .debug) 0
+
+-- what is remembered, over a last entry of the level `below` with `depth` entries open: a source only in protect mode, from 1 to 31, at a level of
+-- at most 7 that is above the last entry's, with room for its handler; else all is 0, and "none" only in protect mode (02, 9/12)
+unfoldable pub seenFits : Bool → Seen → ℕ → ℕ → Bool
+seenFits on n below depth =
+    pick (eqb (n .what) 1)
+    (on && leb 1 (n .source) && leb (n .source) 31 && leb (n .level) 7 && ltb depth 8 && over below (n .level))
+    (eqb (n .source) 0 && eqb (n .level) 0 && eqb (n .vector) 0 && (eqb (n .what) 0 || (on && eqb (n .what) 2)))
+
+-- that over the last entry of the record
+unfoldable pub seenSound : Aic → Bool
+seenSound s = seenFits (protects s) (s .seen) (levelBelow (s .level) (s .depth)) (s .depth)
 
 -- the whole: with source 0 not forced
 unfoldable pub sound : Aic → Bool
-sound s = entriesSound s && memorySound s && storedSound s && not (bit (s .forced) 0)
+sound s = entriesSound s && memorySound s && storedSound s && not (bit (s .forced) 0) && seenSound s

@@ -6,9 +6,9 @@ ghost use lib.ListN.{getD, set};
 ghost use Rattle.words.specs.Choice.{pick};
 ghost use Rattle.words.specs.Counting.{allBelow};
 ghost use Rattle.aic_record.specs.Mode.{priorityOf, typeOf, keptMode, edgeOf, modeAt};
-ghost use Rattle.aic_record.specs.Record.{withLines, withEnabled, withMemory, withForced, withSpurious, withMask, withMode, withVector, withHandlers};
-ghost use Rattle.aic_record.specs.Record.{reset};
-ghost use Rattle.aic_record.specs.Sound.{sourceAt, levelAt, levelBelow, over, entryFits, sound};
+ghost use Rattle.aic_record.specs.Record.{withLines, withEnabled, withMemory, withForced, withSpurious, withDebug, withMode, withVector, withHandlers, withSeen};
+ghost use Rattle.aic_record.specs.Record.{reset, nothingSeen};
+ghost use Rattle.aic_record.specs.Sound.{sourceAt, levelAt, levelBelow, over, entryFits, seenFits, sound};
 ghost use Rattle.aic_record.specs.Passes.{floorOver, slotSound, modeSound};
 
 // One word has a bit for each of the 32 sources. `source` and `level` hold the open entries, the last one at `depth - 1`: handlers, and
@@ -20,12 +20,21 @@ pub struct Aic {
     pub memory: u32,
     pub forced: u32,
     pub spurious: u32,
-    pub mask: u32,
+    pub debug: u32,
     pub mode: [u8; 32],
     pub vector: [u32; 32],
     pub source: [u8; 8],
     pub level: [u8; 8],
     pub depth: u32,
+    pub seen: Seen,
+}
+
+// What a read of IVR in protect mode remembers: nothing (0), a source (1) with the priority and the vector that it had then, or that there was none (2).
+pub struct Seen {
+    pub what: u32,
+    pub source: u8,
+    pub level: u8,
+    pub vector: u32,
 }
 
 // What stands for no level.
@@ -42,12 +51,25 @@ pub fn reset_to(external: u32, lines: u32) -> Aic
         memory: 0,
         forced: 0,
         spurious: 0,
-        mask: 0,
+        debug: 0,
         mode: [0; 32],
         vector: [0; 32],
         source: [0; 8],
         level: [0; 8],
         depth: 0,
+        seen: nothing_seen(),
+    }
+}
+
+// Nothing remembered.
+pub fn nothing_seen() -> Seen
+    ensures { λ r. ⌜ r ≡ nothingSeen ⌝ }
+{
+    Seen {
+        what: 0,
+        source: 0,
+        level: 0,
+        vector: 0,
     }
 }
 
@@ -93,11 +115,19 @@ pub fn with_spurious(s: Aic, v: u32) -> Aic
     t
 }
 
-pub fn with_mask(s: Aic, v: u32) -> Aic
-    ensures { λ r. ⌜ r ≡ withMask s v ⌝ }
+pub fn with_debug(s: Aic, v: u32) -> Aic
+    ensures { λ r. ⌜ r ≡ withDebug s v ⌝ }
 {
     let mut t = s;
-    t.mask = v;
+    t.debug = v;
+    t
+}
+
+pub fn with_seen(s: Aic, n: Seen) -> Aic
+    ensures { λ r. ⌜ r ≡ withSeen s n ⌝ }
+{
+    let mut t = s;
+    t.seen = n;
     t
 }
 
@@ -302,14 +332,33 @@ fn modes_sound(mode: &[u8; 32], memory: u32) -> bool
     ok
 }
 
+// Whether this may be remembered over a last entry of the level `below`, with `depth` entries open: nothing outside protect mode, and a source
+// only at a level above that entry's and with room for its handler.
+fn seen_fits(on: bool, n: Seen, below: u8, depth: u32) -> bool
+    ensures { λ r. ⌜ r ≡ seenFits on n below depth ⌝ }
+{
+    let source = n.source;
+    let level = n.level;
+    if n.what == 1 {
+        return on
+            & (1 <= source)
+            & (source <= 31)
+            & (level <= 7)
+            & (depth < 8)
+            & is_over(below, level);
+    }
+    (source == 0) & (level == 0) & (n.vector == 0) & ((n.what == 0) | (on & (n.what == 2)))
+}
+
 // Whether the record breaks no rule.
 pub fn is_sound(s: Aic) -> bool
     ensures { λ r. ⌜ r ≡ sound s ⌝ }
 {
-    let mask = s.mask;
+    let seen = s.seen;
     (s.depth <= 8)
         & slots_sound(s.source, s.level, s.depth)
         & modes_sound(&s.mode, s.memory)
-        & ((mask == 0) | (mask == 2))
+        & (s.debug < 4)
         & !words::has(s.forced, 0)
+        & seen_fits(words::has(s.debug, 0), seen, last_level(s), s.depth)
 }

@@ -10,13 +10,14 @@ use Rattle.words.specs.Choice.{pick}
 use Rattle.words.specs.Word.{bit, either, both, without, withBit}
 use Rattle.words.proofs.ChoiceLaws.{pick-true, pick-false}
 use Rattle.aic_record.specs.declared.Aic.{Aic}
-use Rattle.aic_record.specs.Record.{withLines, withMemory, withForced, withMode, withHandlers}
+use Rattle.aic_record.specs.declared.Seen.{Seen}
+use Rattle.aic_record.specs.Record.{withLines, withMemory, withForced, withMode, withHandlers, withSeen}
 use Rattle.aic_record.specs.Mode.{priorityOf, typeOf, keptMode, edgeOf, modeAt, priority, kind, edge}
 use Rattle.aic_record.specs.Sound.{levelBelow}
 use Rattle.aic_sources.specs.Pending.{activeAt, active, edgeWord}
 use Rattle.aic_sources.specs.Normal.{chosen}
 use Rattle.aic_sources.proofs.SearchLaws.{chosen-some}
-use Rattle.aic_registers.specs.Handlers.{answered, forgotten, spent, opened, startedAt, marked, vectorAt, ivrRead}
+use Rattle.aic_registers.specs.Handlers.{answered, forgotten, spent, opened, startedAt, marked, vectorAt, ivrTaken, sourceSeen, noneSeen, ivrLooked}
 use Rattle.aic_registers.specs.Effects.{moded, setBy, clearedBy, forcedBy, turns, moved}
 
 -- ---- entries
@@ -54,18 +55,37 @@ marked-by s l m e =
     ∙ pick-true s (lt-ltb (s .depth) 8 m)
 
 -- a vector read that finds a source, and one that finds none
-pub ivr-some : (s : Aic) (k : ℕ) → k ≡ chosen s → k < 32 → answered (startedAt s k (priority s k)) (vectorAt s k) ≡ ivrRead s
-unfolding ivrRead
+pub ivr-some : (s : Aic) (k : ℕ) → k ≡ chosen s → k < 32 → answered (startedAt s k (priority s k)) (vectorAt s k) ≡ ivrTaken s
+unfolding ivrTaken
 ivr-some s k e l =
     ap (λ (j : ℕ). answered (startedAt s j (priority s j)) (vectorAt s j)) e
     ∙ pick-true (answered (marked s) (s .spurious)) (sym (chosen-some s) ∙ ap (λ (j : ℕ). ltb j 32) (sym e) ∙ lt-ltb k 32 l)
 
-pub ivr-none : (s t : Aic) (k : ℕ) → k ≡ chosen s → 32 ≤ k → t ≡ marked s → answered t (s .spurious) ≡ ivrRead s
-unfolding ivrRead
+pub ivr-none : (s t : Aic) (k : ℕ) → k ≡ chosen s → 32 ≤ k → t ≡ marked s → answered t (s .spurious) ≡ ivrTaken s
+unfolding ivrTaken
 ivr-none s t k e l m =
     ap (λ (u : Aic). answered u (s .spurious)) m
     ∙ pick-false (answered (startedAt s (chosen s) (priority s (chosen s))) (vectorAt s (chosen s)))
     (sym (chosen-some s) ∙ ap (λ (j : ℕ). ltb j 32) (sym e) ∙ le-ltb k 32 l)
+
+-- what a read in protect mode remembers of a source, and its answer with one and without
+pub seen-from : (s : Aic) (k m p v : ℕ) → m ≡ modeAt s k → p ≡ priorityOf m → v ≡ vectorAt s k
+    → _≡_ {A = Seen} (record { what = 1; source = k; level = p; vector = v }) (sourceSeen s k)
+unfolding priority
+seen-from s k m p v e f g = ap₂ (λ (l w : ℕ). record { what = 1; source = k; level = l; vector = w }) (f ∙ ap priorityOf e) g
+
+pub look-some : (s : Aic) (k v : ℕ) (n : Seen) → k ≡ chosen s → k < 32 → n ≡ sourceSeen s k → v ≡ vectorAt s k → answered (withSeen s n) v ≡ ivrLooked s
+unfolding ivrLooked
+look-some s k v n e l f g =
+    ap₂ (λ (m : Seen) (w : ℕ). answered (withSeen s m) w) f g
+    ∙ ap (λ (j : ℕ). answered (withSeen s (sourceSeen s j)) (vectorAt s j)) e
+    ∙ pick-true _ (sym (chosen-some s) ∙ ap (λ (j : ℕ). ltb j 32) (sym e) ∙ lt-ltb k 32 l)
+
+pub look-none : (s : Aic) (k : ℕ) (n : Seen) → k ≡ chosen s → 32 ≤ k → n ≡ noneSeen → answered (withSeen s n) (s .spurious) ≡ ivrLooked s
+unfolding ivrLooked
+look-none s k n e l f =
+    ap (λ (m : Seen). answered (withSeen s m) (s .spurious)) f
+    ∙ pick-false _ (sym (chosen-some s) ∙ ap (λ (j : ℕ). ltb j 32) (sym e) ∙ le-ltb k 32 l)
 
 -- ---- effects
 

@@ -4,9 +4,9 @@ use mathlib.Core.Bool.{Bool, true, not, _&&_}
 use lib.Dec.{eqb}
 use lib.ListN.{set}
 use Rattle.words.specs.Choice.{pick}
-use Rattle.words.specs.Word.{either, both, without, withBit}
+use Rattle.words.specs.Word.{bit, kept, either, both, without, withBit}
 use Rattle.aic_record.specs.declared.Aic.{Aic}
-use Rattle.aic_record.specs.Record.{withLines, withEnabled, withMemory, withForced, withMask, withMode, withVector}
+use Rattle.aic_record.specs.Record.{nothingSeen, withLines, withEnabled, withMemory, withForced, withDebug, withMode, withVector, withSeen}
 use Rattle.aic_record.specs.Mode.{typeOf, keptMode, kind, edge}
 use Rattle.aic_sources.specs.Pending.{activeAt, active, edgeWord}
 use Rattle.aic_registers.specs.Handlers.{forgotten}
@@ -33,9 +33,9 @@ setBy s v = withMemory s (either (s .memory) (both v (edgeWord s)))
 unfoldable pub clearedBy : Aic → ℕ → Aic
 clearedBy s v = withMemory s (without (s .memory) (both v (edgeWord s)))
 
--- of debug control bit 1 is kept, the mask (01, AIC, DCR)
-unfoldable pub maskedBy : Aic → ℕ → Aic
-maskedBy s v = withMask s (both v 2)
+-- of debug control bits 1 and 0 are kept, the mask and protect mode; a write without bit 0 forgets what is remembered (02, 9/12; 003, 27.7.5)
+unfoldable pub debugBy : Aic → ℕ → Aic
+debugBy s v = pick (bit v 0) (withDebug s (kept 2 v)) (withSeen (withDebug s (kept 2 v)) nothingSeen)
 
 -- each bit written as 1 forces its source, save source 0, or no longer forces it (01, AIC, Fast side; 003, 27.7.4.5)
 unfoldable pub forcedBy : Aic → ℕ → Aic

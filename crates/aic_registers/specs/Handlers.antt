@@ -1,4 +1,5 @@
--- Opening and closing entries, and the two vector reads (01, AIC, Fast side and Normal side; 02, 3/12; 003, 27.7.3.4, 27.7.4.3 and 27.7.4.5).
+-- Opening and closing entries, the two vector reads, and the write of IVR (01, AIC, Fast side and Normal side; 02, 3/12 and 9/12; 003, 27.7.3.4,
+-- 27.7.4.3, 27.7.4.5 and 27.7.5).
 use Prim.Native.Nat.{ℕ, _+_, _-_}
 use mathlib.Core.Bool.{false}
 use lib.Dec.{eqb, ltb}
@@ -7,9 +8,10 @@ use Rattle.words.specs.Choice.{pick}
 use Rattle.words.specs.Word.{withBit}
 use Rattle.steps.specs.Refusals.{carriedOut}
 use Rattle.aic_record.specs.declared.Aic.{Aic}
-use Rattle.aic_record.specs.Record.{withMemory, withHandlers}
+use Rattle.aic_record.specs.declared.Seen.{Seen}
+use Rattle.aic_record.specs.Record.{nothingSeen, withMemory, withHandlers, withSeen}
 use Rattle.aic_record.specs.Mode.{priority, edge}
-use Rattle.aic_record.specs.Sound.{sourceAt, levelBelow}
+use Rattle.aic_record.specs.Sound.{sourceAt, levelBelow, protects}
 use Rattle.aic_sources.specs.Fast.{fastAsks}
 use Rattle.aic_sources.specs.Normal.{candidates, chosen}
 use Rattle.aic_registers.specs.declared.Answer.{Answer}
@@ -54,12 +56,42 @@ ended s = pick (eqb (s .depth) 0) s (closedLast s)
 abbrev pub vectorAt : Aic → ℕ → ℕ
 vectorAt s k = getD (s .vector) k 0
 
--- a read of IVR: the candidate ahead of all others starts, at the priority that it has now; without one SPU, and a mark is opened (02, 3/12)
-unfoldable pub ivrRead : Aic → Answer
-ivrRead s =
+-- a read of IVR outside protect mode: the candidate ahead of all others starts, at the priority that it has now; without one SPU, and a mark is opened
+-- (02, 3/12)
+unfoldable pub ivrTaken : Aic → Answer
+ivrTaken s =
     pick (candidates s)
     (answered (startedAt s (chosen s) (priority s (chosen s))) (vectorAt s (chosen s)))
     (answered (marked s) (s .spurious))
+
+-- what a read of IVR in protect mode remembers: source k, with the priority and the vector that it has now; or that there is none (02, 9/12)
+abbrev pub sourceSeen : Aic → ℕ → Seen
+sourceSeen s k = record { what = 1; source = k; level = priority s k; vector = vectorAt s k }
+
+abbrev pub noneSeen : Seen
+noneSeen = record { what = 2; source = 0; level = 0; vector = 0 }
+
+-- a read of IVR in protect mode: it answers the same, remembers what it answers for, and changes nothing else (02, 9/12; 003, 27.7.5)
+unfoldable pub ivrLooked : Aic → Answer
+ivrLooked s =
+    pick (candidates s)
+    (answered (withSeen s (sourceSeen s (chosen s))) (vectorAt s (chosen s)))
+    (answered (withSeen s noneSeen) (s .spurious))
+
+-- a read of IVR: in protect mode it only looks; the mask plays no part (02, 9/12)
+unfoldable pub ivrRead : Aic → Answer
+ivrRead s = pick (protects s) (ivrLooked s) (ivrTaken s)
+
+-- what is remembered is started, a source at the level that it was remembered at, its memory cleared if it is edge-triggered now, or a mark; and it
+-- is forgotten; with nothing remembered nothing changes (02, 9/12)
+unfoldable pub begun : Aic → Aic
+begun s =
+    pick (eqb (s .seen .what) 0) s
+    (withSeen (pick (eqb (s .seen .what) 1) (startedAt s (s .seen .source) (s .seen .level)) (marked s)) nothingSeen)
+
+-- a write of IVR, of any value: outside protect mode it does nothing (02, 9/12; 003, 27.7.5)
+unfoldable pub ivrWritten : Aic → Aic
+ivrWritten s = pick (protects s) (begun s) s
 
 -- the fast vector read clears the memory of source 0 if that is edge-triggered and no source is forced
 unfoldable pub fastSpent : Aic → Aic

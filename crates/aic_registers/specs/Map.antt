@@ -1,12 +1,9 @@
 -- The register map (01, AIC, Map; 003, table 27-2): offsets under the maker's names, and what each register allows.
 use Prim.Native.Nat.{ℕ}
-use mathlib.Core.Bool.{_&&_}
 use lib.Dec.{eqb, ltb, leb}
 use Rattle.words.specs.Choice.{pick}
-use Rattle.words.specs.Word.{bit}
 use Rattle.steps.specs.declared.Access.{Access}
 use Rattle.steps.specs.declared.Access.the-variants.{NoRegister, ReadOnly, WriteOnly, ReadWrite}
-use Rattle.steps.specs.Refusals.{carriedOut, protecting}
 
 -- the first of the 32 source vectors; the 32 source modes stand before it, from offset 0
 abbrev pub svr : ℕ
@@ -64,7 +61,7 @@ ffdr = 0x144
 abbrev pub ffsr : ℕ
 ffsr = 0x148
 
--- IVR is read-only in table 27-2, yet a write to it is accepted and does nothing (01, AIC, Map; 003, 27.7.5)
+-- IVR is read-only in table 27-2, yet a write to it is accepted (01, AIC, Map; 02, 9/12; 003, 27.7.5)
 unfoldable pub access : ℕ → Access
 access o =
     pick (leb o ivr) ReadWrite
@@ -75,7 +72,3 @@ access o =
     (pick (ltb o ffer) NoRegister
     (pick (leb o ffdr) WriteOnly
     (pick (eqb o ffsr) ReadOnly NoRegister)))))))
-
--- debug control refuses bit 0, protect mode; every other register takes any value (01, Numbers, 5)
-unfoldable pub valueRefusal : ℕ → ℕ → ℕ
-valueRefusal o v = pick (eqb o dcr && bit v 0) protecting carriedOut

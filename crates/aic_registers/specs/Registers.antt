@@ -11,8 +11,8 @@ use Rattle.aic_sources.specs.Fast.{fiq}
 use Rattle.aic_sources.specs.Normal.{irq}
 use Rattle.aic_registers.specs.declared.Answer.{Answer}
 use Rattle.aic_registers.specs.Map.{svr, ivr, fvr, isr, ipr, imr, cisr, iecr, idcr, iccr, iscr, eoicr, spu, dcr, ffer, ffdr, ffsr}
-use Rattle.aic_registers.specs.Handlers.{answered, vectorAt, ivrRead, fvrRead, current, ended}
-use Rattle.aic_registers.specs.Effects.{moded, vectored, enabledBy, disabledBy, setBy, clearedBy, maskedBy, forcedBy, unforcedBy}
+use Rattle.aic_registers.specs.Handlers.{answered, vectorAt, ivrRead, ivrWritten, fvrRead, current, ended}
+use Rattle.aic_registers.specs.Effects.{moded, vectored, enabledBy, disabledBy, setBy, clearedBy, debugBy, forcedBy, unforcedBy}
 
 -- CISR: bit 0 the FIQ output, bit 1 the IRQ output (01, AIC; 003, 27.8.10)
 unfoldable pub outputBits : Aic → ℕ
@@ -28,24 +28,25 @@ stored s o =
     (pick (eqb o imr) (s .enabled)
     (pick (eqb o cisr) (outputBits s)
     (pick (eqb o spu) (s .spurious)
-    (pick (eqb o dcr) (s .mask)
+    (pick (eqb o dcr) (s .debug)
     (pick (eqb o ffsr) (s .forced) 0))))))))
 
 -- a read: the two vectors change the record, the others do not
 unfoldable pub readAt : Aic → ℕ → Answer
 readAt s o = pick (eqb o ivr) (ivrRead s) (pick (eqb o fvr) (fvrRead s) (answered s (stored s o)))
 
--- a write: of IVR it does nothing
+-- a write of any value
 unfoldable pub writtenAt : Aic → ℕ → ℕ → Aic
 writtenAt s o v =
     pick (ltb o svr) (moded s (o / 4) v)
     (pick (ltb o ivr) (vectored s (o / 4 - 32) v)
+    (pick (eqb o ivr) (ivrWritten s)
     (pick (eqb o iecr) (enabledBy s v)
     (pick (eqb o idcr) (disabledBy s v)
     (pick (eqb o iccr) (clearedBy s v)
     (pick (eqb o iscr) (setBy s v)
     (pick (eqb o eoicr) (ended s)
     (pick (eqb o spu) (withSpurious s v)
-    (pick (eqb o dcr) (maskedBy s v)
+    (pick (eqb o dcr) (debugBy s v)
     (pick (eqb o ffer) (forcedBy s v)
-    (pick (eqb o ffdr) (unforcedBy s v) s))))))))))
+    (pick (eqb o ffdr) (unforcedBy s v) s)))))))))))

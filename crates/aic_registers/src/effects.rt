@@ -7,7 +7,7 @@ ghost use Rattle.words.specs.Word.{withBit};
 ghost use Rattle.aic_record.specs.Record.{withMemory};
 ghost use Rattle.aic_record.specs.Mode.{typeOf, kind, edge};
 ghost use Rattle.aic_registers.specs.Handlers.{forgotten};
-ghost use Rattle.aic_registers.specs.Effects.{moded, setBy, clearedBy, forcedBy, turns, moved};
+ghost use Rattle.aic_registers.specs.Effects.{moded, setBy, clearedBy, debugBy, forcedBy, turns, moved};
 use super::handlers::forget;
 use aic_record::Aic;
 
@@ -47,6 +47,17 @@ pub(crate) fn clear_memory(s: Aic, v: u32) -> Aic
         s,
         words::drop_bits(s.memory, words::meet(v, aic_sources::edge_word(s))),
     )
+}
+
+// A write of debug control. Without protect mode what is remembered is forgotten.
+pub(crate) fn write_debug(s: Aic, v: u32) -> Aic
+    ensures { λ r. ⌜ r ≡ debugBy s v ⌝ }
+{
+    let t = aic_record::with_debug(s, words::keep(2, v));
+    if words::has(v, 0) {
+        return t;
+    }
+    aic_record::with_seen(t, aic_record::nothing_seen())
 }
 
 // Each source whose bit is 1 is forced to the fast side, save source 0.

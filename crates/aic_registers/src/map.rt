@@ -1,6 +1,6 @@
 // The register map: offsets under the maker's names, and what each register allows.
 ghost use mathlib.Core.Path.{_≡_};
-ghost use Rattle.aic_registers.specs.Map.{access, valueRefusal};
+ghost use Rattle.aic_registers.specs.Map.{access};
 use steps::Access;
 
 pub const SVR: u32 = 0x80;
@@ -37,7 +37,7 @@ pub const FFDR: u32 = 0x144;
 
 pub const FFSR: u32 = 0x148;
 
-// What the register at an aligned offset may be used for. IVR takes writes, which do nothing.
+// What the register at an aligned offset may be used for. IVR takes writes.
 pub fn access_of(offset: u32) -> Access
     ensures { λ r. ⌜ r ≡ access offset ⌝ }
 {
@@ -66,14 +66,4 @@ pub fn access_of(offset: u32) -> Access
         return Access::ReadOnly;
     }
     Access::NoRegister
-}
-
-// By which number the value written is refused: debug control does not take bit 0, protect mode.
-pub fn value_refusal(offset: u32, value: u32) -> u32
-    ensures { λ r. ⌜ r ≡ valueRefusal offset value ⌝ }
-{
-    if (offset == DCR) & words::has(value, 0) {
-        return steps::PROTECTING;
-    }
-    steps::CARRIED_OUT
 }

@@ -7,11 +7,13 @@ use super::answer_of;
 use super::effects::clear_memory;
 use super::effects::force;
 use super::effects::set_memory;
+use super::effects::write_debug;
 use super::effects::write_mode;
 use super::handlers::current_source;
 use super::handlers::end_last;
 use super::handlers::read_fvr;
 use super::handlers::read_ivr;
+use super::handlers::write_ivr;
 use super::map;
 use aic_record::Aic;
 
@@ -31,7 +33,7 @@ fn read_stored(s: Aic, offset: u32) -> u32
         map::IMR => s.enabled,
         map::CISR => aic_sources::output_bits(s),
         map::SPU => s.spurious,
-        map::DCR => s.mask,
+        map::DCR => s.debug,
         map::FFSR => s.forced,
         _ => 0,
     }
@@ -51,6 +53,7 @@ pub fn read_at(s: Aic, offset: u32) -> Answer
 
 // A write of a register that takes the value.
 pub fn write_at(s: Aic, offset: u32, v: u32) -> Aic
+    requires { ⌜ s .depth ≤ 8 ⌝ }
     ensures { λ r. ⌜ r ≡ writtenAt s offset v ⌝ }
 {
     if offset < map::SVR {
@@ -60,13 +63,14 @@ pub fn write_at(s: Aic, offset: u32, v: u32) -> Aic
         return aic_record::put_vector(s, offset / 4 - 32, v);
     }
     match offset {
+        map::IVR => write_ivr(s),
         map::IECR => aic_record::with_enabled(s, words::join(s.enabled, v)),
         map::IDCR => aic_record::with_enabled(s, words::drop_bits(s.enabled, v)),
         map::ICCR => clear_memory(s, v),
         map::ISCR => set_memory(s, v),
         map::EOICR => end_last(s),
         map::SPU => aic_record::with_spurious(s, v),
-        map::DCR => aic_record::with_mask(s, words::meet(v, 2)),
+        map::DCR => write_debug(s, v),
         map::FFER => force(s, v),
         map::FFDR => aic_record::with_forced(s, words::drop_bits(s.forced, v)),
         _ => s,

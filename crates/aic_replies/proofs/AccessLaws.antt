@@ -15,16 +15,16 @@ use Rattle.words.proofs.ChoiceLaws.{pick-true, pick-false, pick-cases}
 use Rattle.words.proofs.TruthLaws.{and-left, and-right, and-both, clash}
 use Rattle.steps.specs.declared.Access.{Access}
 use Rattle.steps.specs.declared.Access.the-variants.{ReadWrite}
-use Rattle.steps.specs.Refusals.{carriedOut, protecting, readAccess, writeAccess, readRefusal, writeRefusal}
+use Rattle.steps.specs.Refusals.{carriedOut, readAccess, writeAccess, readRefusal, writeRefusal}
 use Rattle.aic_record.specs.declared.Aic.{Aic}
 use Rattle.aic_record.specs.Record.{withSpurious, withVector}
 use Rattle.aic_record.specs.Sound.{sound}
 use Rattle.aic_sources.specs.Pending.{pendingWord}
 use Rattle.aic_sources.specs.Fast.{fiq}
 use Rattle.aic_sources.specs.Normal.{irq}
-use Rattle.aic_registers.specs.Map.{access, valueRefusal}
-use Rattle.aic_registers.specs.Handlers.{answered, refused, ivrRead, fvrRead, current, ended}
-use Rattle.aic_registers.specs.Effects.{moded, vectored, enabledBy, disabledBy, clearedBy, setBy, maskedBy, forcedBy, unforcedBy}
+use Rattle.aic_registers.specs.Map.{access}
+use Rattle.aic_registers.specs.Handlers.{answered, refused, ivrRead, ivrWritten, fvrRead, current, ended}
+use Rattle.aic_registers.specs.Effects.{moded, vectored, enabledBy, disabledBy, clearedBy, setBy, debugBy, forcedBy, unforcedBy}
 use Rattle.aic_registers.specs.Registers.{outputBits, stored, readAt, writtenAt}
 use Rattle.aic.specs.Model.{readNumber, writeNumber, read, write}
 use Rattle.aic.proofs.CallLaws.{done, stopped, read-number, write-number}
@@ -110,7 +110,7 @@ unfolding readRefusal access readAt stored pick
 spu-done s ok = read-done s 0x134 ok refl
 
 -- DCR
-pub dcr-done : (s : Aic) → sound s ≡ true → answered s (s .mask) ≡ read s 0x138
+pub dcr-done : (s : Aic) → sound s ≡ true → answered s (s .debug) ≡ read s 0x138
 unfolding readRefusal access readAt stored pick
 dcr-done s ok = read-done s 0x138 ok refl
 
@@ -192,79 +192,68 @@ read-refused s o n x ok p q h a b c d e f g i j =
 -- ---- writes
 
 -- a write that nothing refuses does what its register does
-write-done : (s : Aic) (o v : ℕ) → sound s ≡ true → writeRefusal true o (access o) (valueRefusal o v) ≡ carriedOut → answered (writtenAt s o v) 0 ≡ write s o v
+write-done : (s : Aic) (o v : ℕ) → sound s ≡ true → writeRefusal true o (access o) carriedOut ≡ carriedOut → answered (writtenAt s o v) 0 ≡ write s o v
 unfolding write
-write-done s o v ok e =
-    done carriedOut (writeNumber s o v) (answered (writtenAt s o v) 0) s (write-number s o v carriedOut (valueRefusal o v) (access o) ok refl refl (sym e)) refl
+write-done s o v ok e = done carriedOut (writeNumber s o v) (answered (writtenAt s o v) 0) s (write-number s o v carriedOut (access o) ok refl (sym e)) refl
 
--- a value for any register but debug control
-value-taken : (o v : ℕ) → o ≢ 0x138 → valueRefusal o v ≡ carriedOut
-unfolding valueRefusal
-value-taken o v d = sym (pick-false protecting (ap (λ (b : Bool). b && bit v 0) (ne-eqb o 0x138 d)))
-
--- IVR: a write does nothing
-pub ivr-written : (s : Aic) (v : ℕ) → sound s ≡ true → answered s 0 ≡ write s 0x100 v
+-- IVR
+pub ivr-written : (s : Aic) (v : ℕ) → sound s ≡ true → answered (ivrWritten s) 0 ≡ write s 0x100 v
 unfolding writeRefusal access writtenAt pick
-ivr-written s v ok = write-done s 0x100 v ok (value-taken 0x100 v (λ z. absurd (omega (arith, z))))
+ivr-written s v ok = write-done s 0x100 v ok refl
 
 -- EOICR
 pub eoicr-written : (s : Aic) (v : ℕ) → sound s ≡ true → answered (ended s) 0 ≡ write s 0x130 v
 unfolding writeRefusal access writtenAt pick
-eoicr-written s v ok = write-done s 0x130 v ok (value-taken 0x130 v (λ z. absurd (omega (arith, z))))
+eoicr-written s v ok = write-done s 0x130 v ok refl
 
 -- SPU
 pub spu-written : (s : Aic) (v : ℕ) → sound s ≡ true → answered (withSpurious s v) 0 ≡ write s 0x134 v
 unfolding writeRefusal access writtenAt pick
-spu-written s v ok = write-done s 0x134 v ok (value-taken 0x134 v (λ z. absurd (omega (arith, z))))
+spu-written s v ok = write-done s 0x134 v ok refl
 
 -- IECR
 pub iecr-written : (s : Aic) (v : ℕ) → sound s ≡ true → answered (enabledBy s v) 0 ≡ write s 0x120 v
 unfolding writeRefusal access writtenAt pick
-iecr-written s v ok = write-done s 0x120 v ok (value-taken 0x120 v (λ z. absurd (omega (arith, z))))
+iecr-written s v ok = write-done s 0x120 v ok refl
 
 -- IDCR
 pub idcr-written : (s : Aic) (v : ℕ) → sound s ≡ true → answered (disabledBy s v) 0 ≡ write s 0x124 v
 unfolding writeRefusal access writtenAt pick
-idcr-written s v ok = write-done s 0x124 v ok (value-taken 0x124 v (λ z. absurd (omega (arith, z))))
+idcr-written s v ok = write-done s 0x124 v ok refl
 
 -- ICCR
 pub iccr-written : (s : Aic) (v : ℕ) → sound s ≡ true → answered (clearedBy s v) 0 ≡ write s 0x128 v
 unfolding writeRefusal access writtenAt pick
-iccr-written s v ok = write-done s 0x128 v ok (value-taken 0x128 v (λ z. absurd (omega (arith, z))))
+iccr-written s v ok = write-done s 0x128 v ok refl
 
 -- ISCR
 pub iscr-written : (s : Aic) (v : ℕ) → sound s ≡ true → answered (setBy s v) 0 ≡ write s 0x12C v
 unfolding writeRefusal access writtenAt pick
-iscr-written s v ok = write-done s 0x12C v ok (value-taken 0x12C v (λ z. absurd (omega (arith, z))))
+iscr-written s v ok = write-done s 0x12C v ok refl
 
 -- FFER
 pub ffer-written : (s : Aic) (v : ℕ) → sound s ≡ true → answered (forcedBy s v) 0 ≡ write s 0x140 v
 unfolding writeRefusal access writtenAt pick
-ffer-written s v ok = write-done s 0x140 v ok (value-taken 0x140 v (λ z. absurd (omega (arith, z))))
+ffer-written s v ok = write-done s 0x140 v ok refl
 
 -- FFDR
 pub ffdr-written : (s : Aic) (v : ℕ) → sound s ≡ true → answered (unforcedBy s v) 0 ≡ write s 0x144 v
 unfolding writeRefusal access writtenAt pick
-ffdr-written s v ok = write-done s 0x144 v ok (value-taken 0x144 v (λ z. absurd (omega (arith, z))))
+ffdr-written s v ok = write-done s 0x144 v ok refl
 
--- debug control takes a value without bit 0
-pub dcr-written : (s : Aic) (v : ℕ) → sound s ≡ true → bit v 0 ≡ false → answered (maskedBy s v) 0 ≡ write s 0x138 v
-unfolding writeRefusal access valueRefusal writtenAt pick
-dcr-written s v ok e = write-done s 0x138 v ok (rw e)
-
--- it refuses one with it
-pub dcr-refused : (s : Aic) (v : ℕ) → sound s ≡ true → bit v 0 ≡ true → refused s protecting ≡ write s 0x138 v
-unfolding write writeRefusal access valueRefusal pick
-dcr-refused s v ok e = stopped protecting (writeNumber s 0x138 v) _ s (write-number s 0x138 v protecting (valueRefusal 0x138 v) (access 0x138) ok refl refl (rw e)) (λ z. absurd (omega (arith, z)))
+-- DCR
+pub dcr-written : (s : Aic) (v : ℕ) → sound s ≡ true → answered (debugBy s v) 0 ≡ write s 0x138 v
+unfolding writeRefusal access writtenAt pick
+dcr-written s v ok = write-done s 0x138 v ok refl
 
 -- nothing refuses a write of a mode or of a vector
-table-write : (o v : ℕ) → o % 4 ≡ 0 → o < 0x100 → writeRefusal true o (access o) (valueRefusal o v) ≡ carriedOut
+table-write : (o : ℕ) → o % 4 ≡ 0 → o < 0x100 → writeRefusal true o (access o) carriedOut ≡ carriedOut
 unfolding writeRefusal pick
-table-write o v e l = ap₂ (λ (b : Bool) (a : Access). pick b (writeAccess a (valueRefusal o v)) 1) (eq-eqb (o % 4) 0 e) (table-access o l) ∙ value-taken o v (omega arith)
+table-write o e l = ap₂ (λ (b : Bool) (a : Access). pick b (writeAccess a carriedOut) 1) (eq-eqb (o % 4) 0 e) (table-access o l)
 
 -- a write of a mode or of a vector
 pub table-written : (s : Aic) (o v : ℕ) → sound s ≡ true → o % 4 ≡ 0 → o < 0x100 → answered (writtenAt s o v) 0 ≡ write s o v
-table-written s o v ok e l = write-done s o v ok (table-write o v e l)
+table-written s o v ok e l = write-done s o v ok (table-write o e l)
 
 -- a write of any other offset is refused, whatever the value
 unwritten : (o v : ℕ) → (o % 4 ≡ 0 → 0x100 ≤ o) → o ≢ 0x100 → o ≢ 0x130 → o ≢ 0x134 → o ≢ 0x138 → o ≢ 0x120 → o ≢ 0x124 → o ≢ 0x128 → o ≢ 0x12C → o ≢ 0x140 → o ≢ 0x144
@@ -293,5 +282,5 @@ pub write-refused : (s : Aic) (o v n : ℕ) (x : Access) → sound s ≡ true �
     → o ≢ 0x100 → o ≢ 0x130 → o ≢ 0x134 → o ≢ 0x138 → o ≢ 0x120 → o ≢ 0x124 → o ≢ 0x128 → o ≢ 0x12C → o ≢ 0x140 → o ≢ 0x144 → refused s n ≡ write s o v
 unfolding write
 write-refused s o v n x ok p q h a b c d e f g i j k =
-    stopped n (writeNumber s o v) (answered (writtenAt s o v) 0) s (write-number s o v n carriedOut x ok p (sym (value-taken o v d)) q)
+    stopped n (writeNumber s o v) (answered (writtenAt s o v) 0) s (write-number s o v n x ok p q)
     (λ z. unwritten o carriedOut h a b c d e f g i j k (sym (q ∙ ap (λ (y : Access). writeRefusal true o y carriedOut) p) ∙ z))

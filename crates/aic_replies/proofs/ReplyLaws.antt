@@ -1,21 +1,12 @@
 -- A reply with the record after it is the answer of the step by value: what each arm of a match comes to.
 use mathlib.Core.Path.{_≡_, sym, ap, ap₂, _∙_}
-use mathlib.Core.Bool.{true, false}
-use mathlib.Core.Logic.{_⊎_, inl, inr}
 use Prim.Native.Nat.{ℕ}
-use Rattle.words.specs.Word.{bit, both}
-use Rattle.words.proofs.TruthLaws.{told}
-use Rattle.steps.specs.Refusals.{protecting}
 use Rattle.aic_record.specs.declared.Aic.{Aic}
-use Rattle.aic_record.specs.Record.{withMask}
-use Rattle.aic_record.specs.Sound.{sound}
 use Rattle.aic_registers.specs.declared.Answer.{Answer}
 use Rattle.aic_registers.specs.Handlers.{answered}
-use Rattle.aic_registers.specs.Effects.{maskedBy}
 use Rattle.aic.specs.Model.{read, write}
 use Rattle.aic_replies.specs.declared.Reply.{Reply}
-use Rattle.aic_replies.specs.Reply.{answerOf, answeredReply, refusedReply}
-use Rattle.aic_replies.proofs.AccessLaws.{dcr-written, dcr-refused}
+use Rattle.aic_replies.specs.Reply.{answerOf, answeredReply}
 
 -- a read that answers x and leaves the record as it is
 pub read-arm : (s : Aic) (r : Reply) (w x o k : ℕ) → r ≡ answeredReply w → w ≡ x → answered s x ≡ read s k → o ≡ k → answerOf r s ≡ read s o
@@ -28,13 +19,3 @@ vector-arm s t r w o k a e f g h = ap (λ (y : Reply). answerOf y t) e ∙ f ∙
 -- a write after which the record is t
 pub write-arm : (s t u : Aic) (r : Reply) (o k v : ℕ) → r ≡ answeredReply 0 → t ≡ u → answered u 0 ≡ write s k v → o ≡ k → answerOf r t ≡ write s o v
 write-arm s t u r o k v e f g h = ap₂ answerOf e f ∙ g ∙ sym (ap (λ (y : ℕ). write s y v) h)
-
--- a write of debug control, taken or refused
-pub debug-arm : (s : Aic) (r : Reply) (m v : ℕ) → sound s ≡ true → (bit v 0 ≡ true → (r ≡ refusedReply protecting) × (m ≡ s .mask))
-    → (bit v 0 ≡ false → (r ≡ answeredReply 0) × (m ≡ both v 2)) → answerOf r (withMask s m) ≡ write s 0x138 v
-unfolding maskedBy
-debug-arm s r m v ok f g = go (told (bit v 0))
-  where
-    go : (bit v 0 ≡ true) ⊎ (bit v 0 ≡ false) → answerOf r (withMask s m) ≡ write s 0x138 v
-    go (inl e) = ap₂ (λ (y : Reply) (n : ℕ). answerOf y (withMask s n)) (f e .0) (f e .1) ∙ dcr-refused s v ok e
-    go (inr e) = ap₂ (λ (y : Reply) (n : ℕ). answerOf y (withMask s n)) (g e .0) (g e .1) ∙ dcr-written s v ok e

@@ -1,29 +1,29 @@
--- The three worked runs, computed from the definitions.
+-- The four worked runs, computed from the definitions.
 use Prim.Native.Nat.{_+_}
 use mathlib.Core.Path.{_≡_, refl}
 use mathlib.Core.Bool.{true, false, not, _||_}
 use mathlib.Core.List.{[], _∷_}
 use Rattle.words.specs.Choice.{pick}
 use Rattle.words.specs.Counting.{anyBelow, allBelow, lowestBelow, sumBelow}
-use Rattle.words.specs.Word.{bit, wordOf, either, both, without, withBit}
+use Rattle.words.specs.Word.{bit, kept, wordOf, either, both, without, withBit}
 use Rattle.steps.specs.declared.Step.the-variants.{Read, Write}
 use Rattle.steps.specs.Refusals.{readRefusal, writeRefusal, lineRefusal}
 use Rattle.aic_record.specs.Record.{reset}
 use Rattle.aic_record.specs.Mode.{priority, kind, edge}
-use Rattle.aic_record.specs.Sound.{levelBelow, over, entryFits, entrySound, freeSound, entriesSound, memorySound, storedSound, sound}
+use Rattle.aic_record.specs.Sound.{levelBelow, over, entryFits, entrySound, freeSound, entriesSound, memorySound, storedSound, seenFits, seenSound, sound}
 use Rattle.aic_sources.specs.Pending.{activeLow, activeAt, active, pending, asking, edgeWord}
 use Rattle.aic_sources.specs.Fast.{fast, masked}
 use Rattle.aic_sources.specs.Normal.{waiting, above, candidate, ahead, foremost, candidates, chosen, irq}
-use Rattle.aic_registers.specs.Map.{access, valueRefusal}
-use Rattle.aic_registers.specs.Handlers.{spent, opened, startedAt, marked, closedLast, ended, ivrRead}
-use Rattle.aic_registers.specs.Effects.{moded, enabledBy, setBy, turns, moved}
+use Rattle.aic_registers.specs.Map.{access}
+use Rattle.aic_registers.specs.Handlers.{spent, opened, startedAt, marked, closedLast, ended, ivrTaken, ivrLooked, ivrRead, begun, ivrWritten}
+use Rattle.aic_registers.specs.Effects.{moded, enabledBy, setBy, debugBy, turns, moved}
 use Rattle.aic_registers.specs.Registers.{readAt, writtenAt}
-use Rattle.aic.specs.Model.{readNumber, writeNumber, lineNumber, read, write, line, step}
-use Rattle.aic_runs.specs.Counted.{carried, vectorRead, starts, startedBy, startsOf, startsOther, closes, rises, edges, commands, rewrites, steady, waits}
+use Rattle.aic.specs.Model.{readNumber, writeNumber, lineNumber, read, write, line}
+use Rattle.aic_runs.specs.Counted.{carried, takes, begins, starts, startedBy, carries, startsOf, startsOther, closes, rises, edges, commands, rewrites, steady, waits}
 use Rattle.aic_runs.specs.Runs.{run, count, always, owed, received, sumOver}
-use Rattle.aic_runs.specs.Worked.{ready, tower, crowded, outset, wait}
+use Rattle.aic_runs.specs.Worked.{ready, tower, crowded, outset, wait, stale, staleWait}
 
--- what the three runs come to
+-- what the first three runs come to
 pub record Worked : Type 0 where
   pub eight : run (reset 0 0) (tower 8) .depth ≡ 8
   pub levels : run (reset 0 0) (tower 8) .level ≡ 0 ∷ 1 ∷ 2 ∷ 3 ∷ 4 ∷ 5 ∷ 6 ∷ 7 ∷ []
@@ -34,7 +34,7 @@ pub record Worked : Type 0 where
   pub highest : priority crowded 1 ≡ 7
   pub quiet : irq crowded ≡ false
   pub stopped : starts crowded (Read 0x100) ≡ false
-  pub same : step crowded (Read 0x100) .aic ≡ crowded
+  pub outside : bit (crowded .debug) 0 ≡ false
   pub loud : irq (run crowded (Write 0x130 0 ∷ [])) ≡ true
   pub next : startedBy (run crowded (Write 0x130 0 ∷ [])) (Read 0x100) ≡ 1
   pub waited : always (waits 9) outset wait ≡ true
@@ -48,5 +48,17 @@ pub record Worked : Type 0 where
   pub left : run outset wait .depth ≡ 1
 
 pub worked : Worked
-unfolding pick anyBelow allBelow lowestBelow sumBelow bit wordOf either both without withBit readRefusal writeRefusal lineRefusal reset priority kind edge levelBelow over entryFits entrySound freeSound entriesSound memorySound storedSound sound activeLow activeAt active pending asking edgeWord fast masked waiting above candidate ahead foremost candidates chosen irq access valueRefusal spent opened startedAt marked closedLast ended ivrRead moded enabledBy setBy turns moved readAt writtenAt readNumber writeNumber lineNumber read write line carried vectorRead starts startedBy startsOf startsOther closes rises edges commands rewrites steady waits run count always owed received sumOver ready tower crowded outset wait
-worked = record { eight = refl; levels = refl; depth = refl; marks = refl; none = refl; behind = refl; highest = refl; quiet = refl; stopped = refl; same = refl; loud = refl; next = refl; waited = refl; edged = refl; started = refl; allowed = refl; pended = refl; turned = refl; commanded = refl; closed = refl; left = refl }
+unfolding pick anyBelow allBelow lowestBelow sumBelow bit kept wordOf either both without withBit readRefusal writeRefusal lineRefusal reset priority kind edge levelBelow over entryFits entrySound freeSound entriesSound memorySound storedSound seenFits seenSound sound activeLow activeAt active pending asking edgeWord fast masked waiting above candidate ahead foremost candidates chosen irq access spent opened startedAt marked closedLast ended ivrTaken ivrLooked ivrRead begun ivrWritten moded enabledBy setBy debugBy turns moved readAt writtenAt readNumber writeNumber lineNumber read write line carried takes begins starts startedBy startsOf startsOther closes rises edges commands rewrites steady waits run count always owed received sumOver ready tower crowded outset wait
+worked = record { eight = refl; levels = refl; depth = refl; marks = refl; none = refl; behind = refl; highest = refl; quiet = refl; stopped = refl; outside = refl; loud = refl; next = refl; waited = refl; edged = refl; started = refl; allowed = refl; pended = refl; turned = refl; commanded = refl; closed = refl; left = refl }
+
+-- and the fourth
+pub record Recalled : Type 0 where
+  pub waited : always (waits 9) stale staleWait ≡ true
+  pub edged : allBelow 32 (λ i. not (ahead stale i 9) || edge stale i) ≡ true
+  pub started : count (startsOther 9) stale staleWait ≡ 1
+  pub allowed : sumOver (λ i. ahead stale i 9) (λ i. owed stale i + received i stale staleWait) ≡ 0
+  pub carried : carries 9 stale ≡ true
+
+pub recalled : Recalled
+unfolding pick anyBelow allBelow lowestBelow sumBelow bit kept wordOf either both without withBit readRefusal writeRefusal lineRefusal reset priority kind edge levelBelow over entryFits entrySound freeSound entriesSound memorySound storedSound seenFits seenSound sound activeLow activeAt active pending asking edgeWord fast waiting above candidate ahead foremost candidates chosen access spent opened startedAt marked closedLast ended ivrTaken ivrLooked ivrRead begun ivrWritten moded enabledBy setBy debugBy turns moved readAt writtenAt readNumber writeNumber lineNumber read write line carried takes begins startedBy startsOf startsOther closes rises edges commands rewrites steady waits run count always owed received sumOver ready stale staleWait carries
+recalled = record { waited = refl; edged = refl; started = refl; allowed = refl; carried = refl }

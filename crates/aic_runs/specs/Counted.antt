@@ -8,7 +8,8 @@ use Rattle.steps.specs.declared.Step.{Step}
 use Rattle.steps.specs.declared.Step.the-variants.{Read, Write, Line}
 use Rattle.steps.specs.Refusals.{carriedOut}
 use Rattle.aic_record.specs.declared.Aic.{Aic}
-use Rattle.aic_record.specs.Mode.{edge}
+use Rattle.aic_record.specs.Mode.{priority, edge}
+use Rattle.aic_record.specs.Sound.{protects}
 use Rattle.aic_sources.specs.Normal.{waiting, chosen}
 use Rattle.aic_registers.specs.Map.{svr, ivr, iscr, eoicr, ffer, ffdr}
 use Rattle.aic_registers.specs.Effects.{turns}
@@ -18,20 +19,38 @@ use Rattle.aic.specs.Model.{step}
 unfoldable pub carried : Aic → Step → Bool
 carried s x = eqb (step s x .refusal) carriedOut
 
--- a vector read: a read of IVR that is carried out
-unfoldable pub vectorRead : Aic → Step → Bool
-vectorRead s (Read o) = carried s (Read o) && eqb o ivr
-vectorRead s (Write o v) = false
-vectorRead s (Line k l) = false
+-- a read of IVR outside protect mode that is carried out (01, AIC, Normal side)
+unfoldable pub takes : Aic → Step → Bool
+takes s (Read o) = carried s (Read o) && eqb o ivr && not (protects s)
+takes s (Write o v) = false
+takes s (Line k l) = false
 
--- a start: a vector read that finds fewer than eight entries open opens one, a handler or a mark (01, AIC, Normal side; 02, 3/12; 003, 27.7.3.1)
+-- a write of IVR in protect mode that is carried out, with something remembered (02, 9/12)
+unfoldable pub begins : Aic → Step → Bool
+begins s (Read o) = false
+begins s (Write o v) = carried s (Write o v) && eqb o ivr && protects s && not (eqb (s .seen .what) 0)
+begins s (Line k l) = false
+
+-- a start: either of them, where it finds fewer than eight entries open, opens one, a handler or a mark
+-- (01, AIC, Normal side; 02, 3/12 and 9/12; 003, 27.7.3.1 and 27.7.5)
 unfoldable pub starts : Aic → Step → Bool
-starts s x = vectorRead s x && ltb (s .depth) 8
+starts s x = (takes s x || begins s x) && ltb (s .depth) 8
 
--- the source whose handler the step starts, 32 where it opens a mark or nothing: a vector read starts the candidate ahead of all others
--- (01, AIC, Normal side; 003, 27.7.3.1)
+-- the source whose handler the step starts, 32 where it opens a mark or nothing: a read starts the candidate ahead of all others, a write in
+-- protect mode the source that is remembered (01, AIC, Normal side; 02, 9/12; 003, 27.7.3.1 and 27.7.5)
 unfoldable pub startedBy : Aic → Step → ℕ
-startedBy s x = pick (vectorRead s x) (chosen s) 32
+startedBy s x = pick (takes s x) (chosen s) (pick (begins s x && eqb (s .seen .what) 1) (s .seen .source) 32)
+
+-- and at which level: at its priority then, or at the level that is remembered (02, 9/12)
+unfoldable pub levelOf : Aic → Step → ℕ
+levelOf s x = pick (takes s x) (priority s (chosen s)) (s .seen .level)
+
+-- source i is remembered; a source other than k is (02, 9/12)
+unfoldable pub recalls : ℕ → Aic → Bool
+recalls i s = eqb (s .seen .what) 1 && eqb i (s .seen .source)
+
+unfoldable pub carries : ℕ → Aic → Bool
+carries k s = eqb (s .seen .what) 1 && not (eqb k (s .seen .source))
 
 -- a start of source i
 unfoldable pub startsOf : ℕ → Aic → Step → Bool
@@ -40,6 +59,10 @@ startsOf i s x = eqb i (startedBy s x)
 -- a start of another source than k
 unfoldable pub startsOther : ℕ → Aic → Step → Bool
 startsOther k s x = ltb (startedBy s x) 32 && not (startsOf k s x)
+
+-- a start of another source than k that does not pass a test
+unfoldable pub strays : (ℕ → Bool) → ℕ → Aic → Step → Bool
+strays t k s x = startsOther k s x && not (t (startedBy s x))
 
 -- a close that finds an entry open, mark or handler: a write of EOICR, of any value (01, AIC, Normal side; 02, 3/12; 003, 27.8.15)
 unfoldable pub closes : Aic → Step → Bool

@@ -2,4 +2,5 @@
 pub mod Counted
 pub mod Promises
 pub mod Runs
+pub mod Tables
 pub mod Worked

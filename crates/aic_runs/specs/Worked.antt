@@ -1,11 +1,12 @@
--- Three runs from reset, worked through: eight handlers open at once, eight marks, and a source that waits as long as the bound allows.
+-- Four runs from reset, worked through: eight handlers open at once, eight marks, a source that waits as long as the bound allows, and one that
+-- waits for what is remembered.
 use Prim.Native.Nat.{ℕ, zero, suc, _+_, _*_, _^_}
 use mathlib.Core.List.{List, [], _∷_, _++_}
 use Rattle.steps.specs.declared.Step.{Step}
 use Rattle.steps.specs.declared.Step.the-variants.{Read, Write, Line}
 use Rattle.aic_record.specs.declared.Aic.{Aic}
 use Rattle.aic_record.specs.Record.{reset}
-use Rattle.aic_registers.specs.Map.{ivr, iecr, iscr, eoicr}
+use Rattle.aic_registers.specs.Map.{ivr, iecr, iscr, eoicr, dcr}
 use Rattle.aic_runs.specs.Runs.{run}
 
 -- source k is made edge-triggered (type 3) at priority p, and enabled
@@ -36,3 +37,11 @@ wait =
     ∷ Write eoicr 0 ∷ Read ivr ∷ Write eoicr 0 ∷ Write eoicr 0
     -- one write commands 4 and 6; a read that is refused; 4 is started once more, and after its close 6
     ∷ Write iscr (2 ^ 4 + 2 ^ 6) ∷ Read (ivr + 1) ∷ Read ivr ∷ Write eoicr 0 ∷ Read ivr ∷ []
+
+-- in protect mode source 2 at priority 1 is remembered, then source 9 at priority 3 is pending (02, 9/12)
+unfoldable pub stale : Aic
+stale = run (reset 0 0) (ready 2 1 ++ (ready 9 3 ++ (Write dcr 1 ∷ Line 2 1 ∷ Read ivr ∷ Line 9 1 ∷ [])))
+
+-- the write starts source 2, though 9 is ahead of it; after its close 9 is looked at, and waits on: the edge that it remembers stays when its line falls
+unfoldable pub staleWait : List Step
+staleWait = Write ivr 0 ∷ Write eoicr 0 ∷ Read ivr ∷ Line 9 0 ∷ []

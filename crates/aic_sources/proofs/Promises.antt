@@ -25,7 +25,7 @@ some : (s : Aic) → SomeCandidate s → candidates s ≡ true
 unfolding candidates
 some s (k, l, c) = some-any 32 (candidate s) k l c
 
-irq-is : (s : Aic) → (irq s ≡ true) ↔ ((bit (s .mask) 1 ≡ false) × SomeCandidate s)
+irq-is : (s : Aic) → (irq s ≡ true) ↔ ((bit (s .debug) 1 ≡ false) × SomeCandidate s)
 unfolding irq candidates masked
 irq-is s = (
   λ e. (not-true (masked s) (and-left _ (candidates s) e), any-some 32 (candidate s) (and-right (not (masked s)) _ e)),
@@ -33,7 +33,7 @@ irq-is s = (
 )
 
 fiq-is : (s : Aic) → (fiq s ≡ true)
-    ↔ ((bit (s .mask) 1 ≡ false) × ((k : ℕ) × (k < 32) × (fast s k ≡ true) × (pending s k ≡ true) × (bit (s .enabled) k ≡ true)))
+    ↔ ((bit (s .debug) 1 ≡ false) × ((k : ℕ) × (k < 32) × (fast s k ≡ true) × (pending s k ≡ true) × (bit (s .enabled) k ≡ true)))
 unfolding fiq masked
 fiq-is s = (
   λ e. (not-true (masked s) (and-left _ (fastAsks s) e), fast-some s (and-right (not (masked s)) _ e)),

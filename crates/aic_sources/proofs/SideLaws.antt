@@ -25,11 +25,11 @@ unfolding Sees
 chosen-from s f a w l r e g h i found =
     chosen-by s w r (λ k m. waits-are s w k (h ∙ ap₂ without g e) m) (rw i at found)
 
-pub irq-from : (s : Aic) (h : Bool) (r : ℕ) → h ≡ bit (s .mask) 1 → r ≡ chosen s → (not h && ltb r 32) ≡ irq s
+pub irq-from : (s : Aic) (h : Bool) (r : ℕ) → h ≡ bit (s .debug) 1 → r ≡ chosen s → (not h && ltb r 32) ≡ irq s
 unfolding irq masked
 irq-from s h r e f = ap₂ (λ (a b : Bool). not a && b) e (ap (λ (n : ℕ). ltb n 32) f ∙ chosen-some s)
 
-pub fiq-from : (s : Aic) (h f : Bool) → h ≡ bit (s .mask) 1 → f ≡ fastAsks s → (not h && f) ≡ fiq s
+pub fiq-from : (s : Aic) (h f : Bool) → h ≡ bit (s .debug) 1 → f ≡ fastAsks s → (not h && f) ≡ fiq s
 unfolding fiq masked
 fiq-from s h f e g = ap₂ (λ (a b : Bool). not a && b) e g
 

@@ -17,7 +17,7 @@ fastAsks s = anyBelow 32 (λ k. fast s k && asking s k)
 
 -- bit 1 of the debug control masks both outputs (01, AIC, DCR; 003, 27.7.7)
 unfoldable pub masked : Aic → Bool
-masked s = bit (s .mask) 1
+masked s = bit (s .debug) 1
 
 -- FIQ is active if nothing masks it and some fast source is pending and enabled
 unfoldable pub fiq : Aic → Bool

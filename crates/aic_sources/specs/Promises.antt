@@ -28,10 +28,10 @@ pub record Promises : Type 0 where
   pub lowActive : (s : Aic) (k : ℕ) → bit (s .external) k ≡ true → kind s k < 2 → active s k ≡ not (bit (s .lines) k)
   pub highActive : (s : Aic) (k : ℕ) → (bit (s .external) k ≡ false) ⊎ (2 ≤ kind s k) → active s k ≡ bit (s .lines) k
   -- IRQ is active exactly if bit 1 of debug control does not mask it and there is a candidate (01, AIC, Normal side; 003, 27.7.3 and 27.7.7)
-  pub irqIs : (s : Aic) → (irq s ≡ true) ↔ ((bit (s .mask) 1 ≡ false) × SomeCandidate s)
+  pub irqIs : (s : Aic) → (irq s ≡ true) ↔ ((bit (s .debug) 1 ≡ false) × SomeCandidate s)
   -- FIQ is active exactly if that bit does not mask it and there is a fast source, pending and enabled (01, AIC, Fast side; 003, 27.7.4 and 27.7.7)
   pub fiqIs : (s : Aic) → (fiq s ≡ true)
-      ↔ ((bit (s .mask) 1 ≡ false) × ((k : ℕ) × (k < 32) × (fast s k ≡ true) × (pending s k ≡ true) × (bit (s .enabled) k ≡ true)))
+      ↔ ((bit (s .debug) 1 ≡ false) × ((k : ℕ) × (k < 32) × (fast s k ≡ true) × (pending s k ≡ true) × (bit (s .enabled) k ≡ true)))
   -- a source is fast exactly if it is source 0 or forced (01, AIC, Fast side; 003, 27.7.4.1 and 27.7.4.5)
   pub fastIs : (s : Aic) (k : ℕ) → (fast s k ≡ true) ↔ ((k ≡ 0) ⊎ (bit (s .forced) k ≡ true))
   -- a source is a candidate exactly if it is pending, enabled and not fast, fewer than eight entries are open, and its priority is strictly above

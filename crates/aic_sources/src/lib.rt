@@ -179,7 +179,7 @@ pub fn output_bits(s: Aic) -> u32
     ensures { λ r. ⌜ r ≡ one (fiq s) + 2 * one (irq s) ⌝ }
 {
     let asks = asking_word(s);
-    let clear = !words::has(s.mask, 1);
+    let clear = !words::has(s.debug, 1);
     let fast = one_of(clear & fast_among(s, asks));
     let normal = one_of(clear & (chosen_among(s, asks) < 32));
     fast + 2 * normal

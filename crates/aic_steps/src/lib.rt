@@ -3,7 +3,7 @@ ghost use mathlib.Core.Path.{_≡_};
 ghost use mathlib.Core.Bool.{true};
 ghost use Rattle.aic_record.specs.Sound.{sound};
 ghost use Rattle.aic.specs.Model.{step};
-ghost use Rattle.aic_beside.specs.Parts.{aicOf};
+ghost use Rattle.aic_beside.specs.Parts.{aicOf, seenOf};
 ghost use Rattle.aic_beside.specs.Kept.{Kept};
 ghost use Rattle.aic_replies.specs.Reply.{answerOf};
 use aic_replies::Reply;
@@ -17,12 +17,13 @@ pub fn step<'a>(
     memory: &'a mut u32,
     forced: &'a mut u32,
     spurious: &'a mut u32,
-    mask: &'a mut u32,
+    debug: &'a mut u32,
     mode: &'a mut [u8; 32],
     vector: &'a mut [u32; 32],
     source: &'a mut [u8; 8],
     level: &'a mut [u8; 8],
     depth: &'a mut u32,
+    seen: &'a mut [u32; 4],
     words: &'a mut [u32; 8],
     any: &'a mut u32,
     edges: &'a mut u32,
@@ -30,7 +31,7 @@ pub fn step<'a>(
     class: &'a mut [u32; 8],
     x: Step,
 ) -> Reply
-    ensures { λ r. ⌜ (sound (aicOf external (now (lines .entry)) (now (enabled .entry)) (now (memory .entry)) (now (forced .entry)) (now (spurious .entry)) (now (mask .entry)) (now (mode .entry)) (now (vector .entry)) (now (source .entry)) (now (level .entry)) (now (depth .entry))) ≡ true → Kept (aicOf external (now (lines .entry)) (now (enabled .entry)) (now (memory .entry)) (now (forced .entry)) (now (spurious .entry)) (now (mask .entry)) (now (mode .entry)) (now (vector .entry)) (now (source .entry)) (now (level .entry)) (now (depth .entry))) (now (words .entry)) (now (any .entry)) (now (edges .entry)) (now (low .entry)) (now (class .entry)) → (answerOf r (aicOf external (now (lines .exit)) (now (enabled .exit)) (now (memory .exit)) (now (forced .exit)) (now (spurious .exit)) (now (mask .exit)) (now (mode .exit)) (now (vector .exit)) (now (source .exit)) (now (level .exit)) (now (depth .exit))) ≡ step (aicOf external (now (lines .entry)) (now (enabled .entry)) (now (memory .entry)) (now (forced .entry)) (now (spurious .entry)) (now (mask .entry)) (now (mode .entry)) (now (vector .entry)) (now (source .entry)) (now (level .entry)) (now (depth .entry))) x) × Kept (aicOf external (now (lines .exit)) (now (enabled .exit)) (now (memory .exit)) (now (forced .exit)) (now (spurious .exit)) (now (mask .exit)) (now (mode .exit)) (now (vector .exit)) (now (source .exit)) (now (level .exit)) (now (depth .exit))) (now (words .exit)) (now (any .exit)) (now (edges .exit)) (now (low .exit)) (now (class .exit))) ⌝ }
+    ensures { λ r. ⌜ (sound (aicOf external (now (lines .entry)) (now (enabled .entry)) (now (memory .entry)) (now (forced .entry)) (now (spurious .entry)) (now (debug .entry)) (now (mode .entry)) (now (vector .entry)) (now (source .entry)) (now (level .entry)) (now (depth .entry)) (seenOf (now (seen .entry)))) ≡ true → Kept (aicOf external (now (lines .entry)) (now (enabled .entry)) (now (memory .entry)) (now (forced .entry)) (now (spurious .entry)) (now (debug .entry)) (now (mode .entry)) (now (vector .entry)) (now (source .entry)) (now (level .entry)) (now (depth .entry)) (seenOf (now (seen .entry)))) (now (words .entry)) (now (any .entry)) (now (edges .entry)) (now (low .entry)) (now (class .entry)) → (answerOf r (aicOf external (now (lines .exit)) (now (enabled .exit)) (now (memory .exit)) (now (forced .exit)) (now (spurious .exit)) (now (debug .exit)) (now (mode .exit)) (now (vector .exit)) (now (source .exit)) (now (level .exit)) (now (depth .exit)) (seenOf (now (seen .exit)))) ≡ step (aicOf external (now (lines .entry)) (now (enabled .entry)) (now (memory .entry)) (now (forced .entry)) (now (spurious .entry)) (now (debug .entry)) (now (mode .entry)) (now (vector .entry)) (now (source .entry)) (now (level .entry)) (now (depth .entry)) (seenOf (now (seen .entry)))) x) × Kept (aicOf external (now (lines .exit)) (now (enabled .exit)) (now (memory .exit)) (now (forced .exit)) (now (spurious .exit)) (now (debug .exit)) (now (mode .exit)) (now (vector .exit)) (now (source .exit)) (now (level .exit)) (now (depth .exit)) (seenOf (now (seen .exit)))) (now (words .exit)) (now (any .exit)) (now (edges .exit)) (now (low .exit)) (now (class .exit))) ⌝ }
 {
     match x {
         Step::Read(offset) => aic_parts::read(
@@ -40,12 +41,13 @@ pub fn step<'a>(
             memory,
             *forced,
             *spurious,
-            *mask,
+            *debug,
             mode,
             vector,
             source,
             level,
             depth,
+            seen,
             words,
             any,
             *edges,
@@ -60,12 +62,13 @@ pub fn step<'a>(
             memory,
             forced,
             spurious,
-            mask,
+            debug,
             mode,
             vector,
             source,
             level,
             depth,
+            seen,
             words,
             any,
             edges,

@@ -40,7 +40,7 @@ abbrev row : Bool → Bool → ℕ → Columns
 row i f n = record { first = one i; second = one f; third = n }
 
 -- the outputs of the record, and its entries, are what the machine shows
-pub seen : (s : Aic) (i f : Bool) → i ≡ irq s → f ≡ fiq s → Ready (ofAic s) → row i f (s .depth) ≡ shown (ofAic s)
-seen s i f e g ready =
+pub shows : (s : Aic) (i f : Bool) → i ≡ irq s → f ≡ fiq s → Ready (ofAic s) → row i f (s .depth) ≡ shown (ofAic s)
+shows s i f e g ready =
     ap (λ (t : Bool). row t f (s .depth)) e ∙ ap (λ (t : Bool). row (irq s) t (s .depth)) g ∙ sym (ap aicColumns (aic .outputsSound s (its-sound s ready)))
     ∙ sym (aic-shows (ofAic s) refl)

@@ -4,7 +4,7 @@ ghost use mathlib.Core.Bool.{true};
 ghost use Rattle.turns.specs.Turns.{stepOf};
 ghost use Rattle.aic_record.specs.Sound.{sound};
 ghost use Rattle.aic.specs.Model.{step};
-ghost use Rattle.aic_beside.specs.Parts.{aicOf};
+ghost use Rattle.aic_beside.specs.Parts.{aicOf, seenOf};
 ghost use Rattle.aic_beside.specs.Kept.{Kept};
 ghost use Rattle.aic_replies.specs.Reply.{answerOf};
 use aic_record::Aic;
@@ -19,12 +19,13 @@ pub fn take<'a>(
     memory: &'a mut u32,
     forced: &'a mut u32,
     spurious: &'a mut u32,
-    mask: &'a mut u32,
+    debug: &'a mut u32,
     mode: &'a mut [u8; 32],
     vector: &'a mut [u32; 32],
     source: &'a mut [u8; 8],
     level: &'a mut [u8; 8],
     depth: &'a mut u32,
+    seen: &'a mut [u32; 4],
     words: &'a mut [u32; 8],
     any: &'a mut u32,
     edges: &'a mut u32,
@@ -34,7 +35,7 @@ pub fn take<'a>(
     x: u32,
     y: u32,
 ) -> Reply
-    ensures { λ r. ⌜ (sound (aicOf external (now (lines .entry)) (now (enabled .entry)) (now (memory .entry)) (now (forced .entry)) (now (spurious .entry)) (now (mask .entry)) (now (mode .entry)) (now (vector .entry)) (now (source .entry)) (now (level .entry)) (now (depth .entry))) ≡ true → Kept (aicOf external (now (lines .entry)) (now (enabled .entry)) (now (memory .entry)) (now (forced .entry)) (now (spurious .entry)) (now (mask .entry)) (now (mode .entry)) (now (vector .entry)) (now (source .entry)) (now (level .entry)) (now (depth .entry))) (now (words .entry)) (now (any .entry)) (now (edges .entry)) (now (low .entry)) (now (class .entry)) → (answerOf r (aicOf external (now (lines .exit)) (now (enabled .exit)) (now (memory .exit)) (now (forced .exit)) (now (spurious .exit)) (now (mask .exit)) (now (mode .exit)) (now (vector .exit)) (now (source .exit)) (now (level .exit)) (now (depth .exit))) ≡ step (aicOf external (now (lines .entry)) (now (enabled .entry)) (now (memory .entry)) (now (forced .entry)) (now (spurious .entry)) (now (mask .entry)) (now (mode .entry)) (now (vector .entry)) (now (source .entry)) (now (level .entry)) (now (depth .entry))) (stepOf kind x y)) × Kept (aicOf external (now (lines .exit)) (now (enabled .exit)) (now (memory .exit)) (now (forced .exit)) (now (spurious .exit)) (now (mask .exit)) (now (mode .exit)) (now (vector .exit)) (now (source .exit)) (now (level .exit)) (now (depth .exit))) (now (words .exit)) (now (any .exit)) (now (edges .exit)) (now (low .exit)) (now (class .exit))) ⌝ }
+    ensures { λ r. ⌜ (sound (aicOf external (now (lines .entry)) (now (enabled .entry)) (now (memory .entry)) (now (forced .entry)) (now (spurious .entry)) (now (debug .entry)) (now (mode .entry)) (now (vector .entry)) (now (source .entry)) (now (level .entry)) (now (depth .entry)) (seenOf (now (seen .entry)))) ≡ true → Kept (aicOf external (now (lines .entry)) (now (enabled .entry)) (now (memory .entry)) (now (forced .entry)) (now (spurious .entry)) (now (debug .entry)) (now (mode .entry)) (now (vector .entry)) (now (source .entry)) (now (level .entry)) (now (depth .entry)) (seenOf (now (seen .entry)))) (now (words .entry)) (now (any .entry)) (now (edges .entry)) (now (low .entry)) (now (class .entry)) → (answerOf r (aicOf external (now (lines .exit)) (now (enabled .exit)) (now (memory .exit)) (now (forced .exit)) (now (spurious .exit)) (now (debug .exit)) (now (mode .exit)) (now (vector .exit)) (now (source .exit)) (now (level .exit)) (now (depth .exit)) (seenOf (now (seen .exit)))) ≡ step (aicOf external (now (lines .entry)) (now (enabled .entry)) (now (memory .entry)) (now (forced .entry)) (now (spurious .entry)) (now (debug .entry)) (now (mode .entry)) (now (vector .entry)) (now (source .entry)) (now (level .entry)) (now (depth .entry)) (seenOf (now (seen .entry)))) (stepOf kind x y)) × Kept (aicOf external (now (lines .exit)) (now (enabled .exit)) (now (memory .exit)) (now (forced .exit)) (now (spurious .exit)) (now (debug .exit)) (now (mode .exit)) (now (vector .exit)) (now (source .exit)) (now (level .exit)) (now (depth .exit)) (seenOf (now (seen .exit)))) (now (words .exit)) (now (any .exit)) (now (edges .exit)) (now (low .exit)) (now (class .exit))) ⌝ }
 {
     aic_steps::step(
         external,
@@ -43,12 +44,13 @@ pub fn take<'a>(
         memory,
         forced,
         spurious,
-        mask,
+        debug,
         mode,
         vector,
         source,
         level,
         depth,
+        seen,
         words,
         any,
         edges,

@@ -24,7 +24,7 @@ use Rattle.aic_sources.specs.Fast.{fast}
 use Rattle.aic_sources.specs.Normal.{waiting, chosen}
 use Rattle.aic_sources.specs.Search.{leastOf}
 use Rattle.aic_sources.proofs.PendingLaws.{bit-edges}
-use Rattle.aic_registers.specs.Handlers.{answered, spent, forgotten, opened, startedAt, marked, vectorAt, ivrRead, fastSpent}
+use Rattle.aic_registers.specs.Handlers.{answered, spent, forgotten, opened, startedAt, marked, vectorAt, ivrTaken, fastSpent}
 use Rattle.aic_registers.proofs.CallLaws.{ivr-some, ivr-none}
 use Rattle.aic_levels.specs.Levels.{levelWord, anyOf, highestOf}
 use Rattle.aic_levels.proofs.HighestLaws.{highest-is}
@@ -88,14 +88,14 @@ started-is s words class any edges low p k l e m f h =
     some-found s words any (leastOf s) p k (h .levels) (h .some) refl e (and-both (level-told any p e ∙ lt-ltb p 8 l) (le-leb (leastOf s) p m)) f
 
 -- a handler of it is opened over the record with its memory spent
-pub started-answer : (s t u : Aic) (p k j v : ℕ) → Started s p k → j ≡ k → t ≡ spent s j → u ≡ opened t j p → v ≡ vectorAt s j → answered u v ≡ ivrRead s
+pub started-answer : (s t u : Aic) (p k j v : ℕ) → Started s p k → j ≡ k → t ≡ spent s j → u ≡ opened t j p → v ≡ vectorAt s j → answered u v ≡ ivrTaken s
 unfolding startedAt
 started-answer s t u p k j v h i e f g =
     ap₂ answered (f ∙ ap₂ (λ (x : Aic) (y : ℕ). opened x y p) e i ∙ ap (λ (y : ℕ). opened (spent s y) k p) i ∙ ap (opened (spent s k) k) (sym (h .at))) (g ∙ ap (vectorAt s) i)
     ∙ ivr-some s k (h .is) (h .source)
 
 -- no level may start: a mark is opened
-pub mark-answer : (s t : Aic) (any least h : ℕ) → any ≡ anyOf s → least ≡ leastOf s → h ≡ highestOf any → (ltb h 8 && leb least h) ≡ false → t ≡ marked s → answered t (s .spurious) ≡ ivrRead s
+pub mark-answer : (s t : Aic) (any least h : ℕ) → any ≡ anyOf s → least ≡ leastOf s → h ≡ highestOf any → (ltb h 8 && leb least h) ≡ false → t ≡ marked s → answered t (s .spurious) ≡ ivrTaken s
 mark-answer s t any least h e f g n m =
     ivr-none s t (chosen s) refl
     (omega (arith, none-found s any least h e f g (ap (λ (b : Bool). b && leb least h) (level-told any h g) ∙ n) .1)) m

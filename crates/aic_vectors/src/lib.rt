@@ -7,12 +7,13 @@ ghost use lib.Dec.{eqb};
 ghost use Rattle.words.specs.Choice.{pick};
 ghost use Rattle.words.specs.Counting.{one, lowestBelow};
 ghost use Rattle.words.specs.Word.{bit, withBit};
+ghost use Rattle.aic_record.specs.declared.Seen.{Seen};
 ghost use Rattle.aic_record.specs.Mode.{priority};
 ghost use Rattle.aic_sources.specs.Pending.{edgeWord};
 ghost use Rattle.aic_sources.specs.Fast.{fastAsks, fiq};
 ghost use Rattle.aic_sources.specs.Normal.{irq};
 ghost use Rattle.aic_sources.specs.Search.{leastOf};
-ghost use Rattle.aic_registers.specs.Handlers.{answered, spent, ivrRead, fvrRead};
+ghost use Rattle.aic_registers.specs.Handlers.{answered, spent, ivrTaken, fvrRead};
 ghost use Rattle.aic_levels.specs.Levels.{anyOf, highestOf};
 ghost use Rattle.aic_beside.specs.Parts.{aicOf};
 ghost use Rattle.aic_beside.specs.Kept.{lowWord, Kept};
@@ -20,16 +21,16 @@ ghost use Rattle.aic_beside.specs.Kept.{lowWord, Kept};
 // ---- the two outputs
 
 // IRQ: some level that may start has any, and nothing masks it.
-pub fn is_irq(mask: u32, level: &[u8; 8], depth: u32, any: u32) -> bool
-    ensures { λ r. ⌜ ((external lines enabled memory forced spurious : ℕ) (mode vector source : List ℕ) → any ≡ anyOf (aicOf external lines enabled memory forced spurious mask mode vector source (now (level .entry)) depth) → r ≡ irq (aicOf external lines enabled memory forced spurious mask mode vector source (now (level .entry)) depth)) ⌝ }
+pub fn is_irq(debug: u32, level: &[u8; 8], depth: u32, any: u32) -> bool
+    ensures { λ r. ⌜ ((external lines enabled memory forced spurious : ℕ) (mode vector source : List ℕ) (seen : Seen) → any ≡ anyOf (aicOf external lines enabled memory forced spurious debug mode vector source (now (level .entry)) depth seen) → r ≡ irq (aicOf external lines enabled memory forced spurious debug mode vector source (now (level .entry)) depth seen)) ⌝ }
 {
     let least = aic_levels::least(level, depth);
-    !words::has(mask, 1) & !words::is_clean(least, any)
+    !words::has(debug, 1) & !words::is_clean(least, any)
 }
 
 // Whether some fast source is pending and enabled: source 0, or a forced one.
 fn fast_asks(lines: u32, enabled: u32, memory: u32, forced: u32, edges: u32, low: u32) -> bool
-    ensures { λ r. ⌜ ((external spurious mask depth : ℕ) (mode vector source level : List ℕ) → edges ≡ edgeWord (aicOf external lines enabled memory forced spurious mask mode vector source level depth) → low ≡ lowWord (aicOf external lines enabled memory forced spurious mask mode vector source level depth) → r ≡ fastAsks (aicOf external lines enabled memory forced spurious mask mode vector source level depth)) ⌝ }
+    ensures { λ r. ⌜ ((external spurious debug depth : ℕ) (mode vector source level : List ℕ) (seen : Seen) → edges ≡ edgeWord (aicOf external lines enabled memory forced spurious debug mode vector source level depth seen) → low ≡ lowWord (aicOf external lines enabled memory forced spurious debug mode vector source level depth seen) → r ≡ fastAsks (aicOf external lines enabled memory forced spurious debug mode vector source level depth seen)) ⌝ }
 {
     let asks = words::meet(aic_beside::pending_of(lines, memory, edges, low), enabled);
     words::meet(words::join(1, forced), asks) != 0
@@ -41,13 +42,13 @@ pub fn is_fiq(
     enabled: u32,
     memory: u32,
     forced: u32,
-    mask: u32,
+    debug: u32,
     edges: u32,
     low: u32,
 ) -> bool
-    ensures { λ r. ⌜ ((external spurious depth : ℕ) (mode vector source level : List ℕ) → edges ≡ edgeWord (aicOf external lines enabled memory forced spurious mask mode vector source level depth) → low ≡ lowWord (aicOf external lines enabled memory forced spurious mask mode vector source level depth) → r ≡ fiq (aicOf external lines enabled memory forced spurious mask mode vector source level depth)) ⌝ }
+    ensures { λ r. ⌜ ((external spurious depth : ℕ) (mode vector source level : List ℕ) (seen : Seen) → edges ≡ edgeWord (aicOf external lines enabled memory forced spurious debug mode vector source level depth seen) → low ≡ lowWord (aicOf external lines enabled memory forced spurious debug mode vector source level depth seen) → r ≡ fiq (aicOf external lines enabled memory forced spurious debug mode vector source level depth seen)) ⌝ }
 {
-    !words::has(mask, 1) & fast_asks(lines, enabled, memory, forced, edges, low)
+    !words::has(debug, 1) & fast_asks(lines, enabled, memory, forced, edges, low)
 }
 
 // A test as a number.
@@ -66,24 +67,24 @@ pub fn output_bits(
     enabled: u32,
     memory: u32,
     forced: u32,
-    mask: u32,
+    debug: u32,
     level: &[u8; 8],
     depth: u32,
     any: u32,
     edges: u32,
     low: u32,
 ) -> u32
-    ensures { λ r. ⌜ ((external spurious : ℕ) (mode vector source words class : List ℕ) → Kept (aicOf external lines enabled memory forced spurious mask mode vector source (now (level .entry)) depth) words any edges low class → r ≡ one (fiq (aicOf external lines enabled memory forced spurious mask mode vector source (now (level .entry)) depth)) + 2 * one (irq (aicOf external lines enabled memory forced spurious mask mode vector source (now (level .entry)) depth))) ⌝ }
+    ensures { λ r. ⌜ ((external spurious : ℕ) (mode vector source words class : List ℕ) (seen : Seen) → Kept (aicOf external lines enabled memory forced spurious debug mode vector source (now (level .entry)) depth seen) words any edges low class → r ≡ one (fiq (aicOf external lines enabled memory forced spurious debug mode vector source (now (level .entry)) depth seen)) + 2 * one (irq (aicOf external lines enabled memory forced spurious debug mode vector source (now (level .entry)) depth seen))) ⌝ }
 {
-    let fast = one_of(is_fiq(lines, enabled, memory, forced, mask, edges, low));
-    let normal = one_of(is_irq(mask, level, depth, any));
+    let fast = one_of(is_fiq(lines, enabled, memory, forced, debug, edges, low));
+    let normal = one_of(is_irq(debug, level, depth, any));
     fast + 2 * normal
 }
 
 // ---- the vector reads
 
 // The memory of source k, of priority p, is cleared if it is edge-triggered, and its level put anew.
-fn spend<'a>(
+pub fn spend<'a>(
     lines: u32,
     enabled: u32,
     memory: &'a mut u32,
@@ -96,7 +97,7 @@ fn spend<'a>(
     k: u32,
     p: u32,
 )
-    ensures { λ _. ⌜ ((external spurious mask depth : ℕ) (mode vector source level : List ℕ) → k < 32 → priority (aicOf external lines enabled (now (memory .entry)) forced spurious mask mode vector source level depth) k ≡ p → Kept (aicOf external lines enabled (now (memory .entry)) forced spurious mask mode vector source level depth) (now (words .entry)) (now (any .entry)) edges low (now (class .entry)) → ((aicOf external lines enabled (now (memory .exit)) forced spurious mask mode vector source level depth) ≡ spent (aicOf external lines enabled (now (memory .entry)) forced spurious mask mode vector source level depth) k) × Kept (aicOf external lines enabled (now (memory .exit)) forced spurious mask mode vector source level depth) (now (words .exit)) (now (any .exit)) edges low (now (class .entry))) ⌝ }
+    ensures { λ _. ⌜ ((external spurious debug depth : ℕ) (mode vector source level : List ℕ) (seen : Seen) → k < 32 → priority (aicOf external lines enabled (now (memory .entry)) forced spurious debug mode vector source level depth seen) k ≡ p → Kept (aicOf external lines enabled (now (memory .entry)) forced spurious debug mode vector source level depth seen) (now (words .entry)) (now (any .entry)) edges low (now (class .entry)) → ((aicOf external lines enabled (now (memory .exit)) forced spurious debug mode vector source level depth seen) ≡ spent (aicOf external lines enabled (now (memory .entry)) forced spurious debug mode vector source level depth seen) k) × Kept (aicOf external lines enabled (now (memory .exit)) forced spurious debug mode vector source level depth seen) (now (words .exit)) (now (any .exit)) edges low (now (class .entry))) ⌝ }
 {
     if words::has(edges, k) {
         *memory = words::with_bit(*memory, k, false);
@@ -106,7 +107,7 @@ fn spend<'a>(
 }
 
 // The lowest source of a word, below 32 even of one that has none.
-fn first_of(w: u32) -> u32
+pub fn first_of(w: u32) -> u32
     ensures { λ r. ⌜ r ≡ lowestBelow 32 (bit w) % 32 ⌝ }
 {
     words::lowest(w) % 32
@@ -130,7 +131,7 @@ fn start<'a>(
     p: u32,
 ) -> u32
     requires { ⌜ (now depth < 8) × (p < 8) ⌝ }
-    ensures { λ r. ⌜ ((external spurious mask : ℕ) (mode : List ℕ) → p ≡ highestOf (now (any .entry)) → leastOf (aicOf external lines enabled (now (memory .entry)) forced spurious mask mode (now (vector .entry)) (now (source .entry)) (now (level .entry)) (now (depth .entry))) ≤ p → Kept (aicOf external lines enabled (now (memory .entry)) forced spurious mask mode (now (vector .entry)) (now (source .entry)) (now (level .entry)) (now (depth .entry))) (now (words .entry)) (now (any .entry)) edges low (now (class .entry)) → (answered (aicOf external lines enabled (now (memory .exit)) forced spurious mask mode (now (vector .entry)) (now (source .exit)) (now (level .exit)) (now (depth .exit))) r ≡ ivrRead (aicOf external lines enabled (now (memory .entry)) forced spurious mask mode (now (vector .entry)) (now (source .entry)) (now (level .entry)) (now (depth .entry)))) × Kept (aicOf external lines enabled (now (memory .exit)) forced spurious mask mode (now (vector .entry)) (now (source .exit)) (now (level .exit)) (now (depth .exit))) (now (words .exit)) (now (any .exit)) edges low (now (class .entry))) ⌝ }
+    ensures { λ r. ⌜ ((external spurious debug : ℕ) (mode : List ℕ) (seen : Seen) → p ≡ highestOf (now (any .entry)) → leastOf (aicOf external lines enabled (now (memory .entry)) forced spurious debug mode (now (vector .entry)) (now (source .entry)) (now (level .entry)) (now (depth .entry)) seen) ≤ p → Kept (aicOf external lines enabled (now (memory .entry)) forced spurious debug mode (now (vector .entry)) (now (source .entry)) (now (level .entry)) (now (depth .entry)) seen) (now (words .entry)) (now (any .entry)) edges low (now (class .entry)) → (answered (aicOf external lines enabled (now (memory .exit)) forced spurious debug mode (now (vector .entry)) (now (source .exit)) (now (level .exit)) (now (depth .exit)) seen) r ≡ ivrTaken (aicOf external lines enabled (now (memory .entry)) forced spurious debug mode (now (vector .entry)) (now (source .entry)) (now (level .entry)) (now (depth .entry)) seen)) × Kept (aicOf external lines enabled (now (memory .exit)) forced spurious debug mode (now (vector .entry)) (now (source .exit)) (now (level .exit)) (now (depth .exit)) seen) (now (words .exit)) (now (any .exit)) edges low (now (class .entry))) ⌝ }
 {
     let at = p as usize;
     let k = first_of(words[at]);
@@ -152,8 +153,8 @@ fn start<'a>(
     vector[of]
 }
 
-// A read of IVR: the lowest source of the highest level starts if that level may; else SPU, and a mark is opened.
-pub fn read_ivr<'a>(
+// A read of IVR outside protect mode: the lowest source of the highest level starts if that level may; else SPU, and a mark is opened.
+pub fn take_ivr<'a>(
     lines: u32,
     enabled: u32,
     memory: &'a mut u32,
@@ -169,7 +170,7 @@ pub fn read_ivr<'a>(
     low: u32,
     class: &'a [u32; 8],
 ) -> u32
-    ensures { λ r. ⌜ ((external mask : ℕ) (mode : List ℕ) → Kept (aicOf external lines enabled (now (memory .entry)) forced spurious mask mode (now (vector .entry)) (now (source .entry)) (now (level .entry)) (now (depth .entry))) (now (words .entry)) (now (any .entry)) edges low (now (class .entry)) → (answered (aicOf external lines enabled (now (memory .exit)) forced spurious mask mode (now (vector .entry)) (now (source .exit)) (now (level .exit)) (now (depth .exit))) r ≡ ivrRead (aicOf external lines enabled (now (memory .entry)) forced spurious mask mode (now (vector .entry)) (now (source .entry)) (now (level .entry)) (now (depth .entry)))) × Kept (aicOf external lines enabled (now (memory .exit)) forced spurious mask mode (now (vector .entry)) (now (source .exit)) (now (level .exit)) (now (depth .exit))) (now (words .exit)) (now (any .exit)) edges low (now (class .entry))) ⌝ }
+    ensures { λ r. ⌜ ((external debug : ℕ) (mode : List ℕ) (seen : Seen) → Kept (aicOf external lines enabled (now (memory .entry)) forced spurious debug mode (now (vector .entry)) (now (source .entry)) (now (level .entry)) (now (depth .entry)) seen) (now (words .entry)) (now (any .entry)) edges low (now (class .entry)) → (answered (aicOf external lines enabled (now (memory .exit)) forced spurious debug mode (now (vector .entry)) (now (source .exit)) (now (level .exit)) (now (depth .exit)) seen) r ≡ ivrTaken (aicOf external lines enabled (now (memory .entry)) forced spurious debug mode (now (vector .entry)) (now (source .entry)) (now (level .entry)) (now (depth .entry)) seen)) × Kept (aicOf external lines enabled (now (memory .exit)) forced spurious debug mode (now (vector .entry)) (now (source .exit)) (now (level .exit)) (now (depth .exit)) seen) (now (words .exit)) (now (any .exit)) edges low (now (class .entry))) ⌝ }
 {
     let p = aic_levels::highest((*any % 256) as u8) as u32;
     let least = aic_levels::least(level, *depth);
@@ -216,7 +217,7 @@ pub fn read_fvr<'a>(
     edges: u32,
     low: u32,
 ) -> u32
-    ensures { λ r. ⌜ ((external mask depth any : ℕ) (mode source level words class : List ℕ) → Kept (aicOf external lines enabled (now (memory .entry)) forced spurious mask mode (now (vector .entry)) source level depth) words any edges low class → (answered (aicOf external lines enabled (now (memory .exit)) forced spurious mask mode (now (vector .entry)) source level depth) r ≡ fvrRead (aicOf external lines enabled (now (memory .entry)) forced spurious mask mode (now (vector .entry)) source level depth)) × Kept (aicOf external lines enabled (now (memory .exit)) forced spurious mask mode (now (vector .entry)) source level depth) words any edges low class) ⌝ }
+    ensures { λ r. ⌜ ((external debug depth any : ℕ) (mode source level words class : List ℕ) (seen : Seen) → Kept (aicOf external lines enabled (now (memory .entry)) forced spurious debug mode (now (vector .entry)) source level depth seen) words any edges low class → (answered (aicOf external lines enabled (now (memory .exit)) forced spurious debug mode (now (vector .entry)) source level depth seen) r ≡ fvrRead (aicOf external lines enabled (now (memory .entry)) forced spurious debug mode (now (vector .entry)) source level depth seen)) × Kept (aicOf external lines enabled (now (memory .exit)) forced spurious debug mode (now (vector .entry)) source level depth seen) words any edges low class) ⌝ }
 {
     if fast_asks(lines, enabled, *memory, forced, edges, low) {
         *memory = spend_fast(*memory, forced, edges);

@@ -14,8 +14,8 @@ use Rattle.steps.specs.declared.Step.the-variants.{Read, Write}
 use Rattle.steps.specs.Refusals.{carriedOut, readRefusal, writeRefusal}
 use Rattle.aic_record.specs.Record.{reset}
 use Rattle.aic_record.specs.Mode.{kind, edge}
-use Rattle.aic_record.specs.Sound.{levelBelow, over, entryFits, entrySound, freeSound, entriesSound, memorySound, storedSound, sound}
-use Rattle.aic_registers.specs.Map.{access, valueRefusal}
+use Rattle.aic_record.specs.Sound.{levelBelow, over, entryFits, entrySound, freeSound, entriesSound, memorySound, storedSound, seenFits, seenSound, sound}
+use Rattle.aic_registers.specs.Map.{access}
 use Rattle.aic_registers.specs.Effects.{moded}
 use Rattle.aic_registers.specs.Registers.{stored, readAt, writtenAt}
 use Rattle.aic.specs.Model.{start, readNumber, writeNumber, read, write}
@@ -55,7 +55,7 @@ no-cheat d m r x y o w keeps = subst⁻¹ (λ e. NoCheat e r) (λ i s z. keeps s
 
 -- AIC: the mode of source 1 is written, and written again
 pub aic-moves : Moves aicModel (start 0 0 .aic) (Write 4 0x61) (Write 4 0x62) 4
-unfolding aicModel pick allBelow bit wordOf withBit readRefusal writeRefusal reset kind edge levelBelow over entryFits entrySound freeSound entriesSound memorySound storedSound sound access valueRefusal moded stored readAt writtenAt readNumber writeNumber read write start
+unfolding aicModel pick allBelow bit wordOf withBit readRefusal writeRefusal reset kind edge levelBelow over entryFits entrySound freeSound entriesSound memorySound storedSound seenFits seenSound sound access moded stored readAt writtenAt readNumber writeNumber read write start
 aic-moves = record { taken = refl; first = refl; second = refl }
 
 -- CoreInterrupt: two IRQ sources are enabled, one after the other

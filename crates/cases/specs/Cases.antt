@@ -68,8 +68,9 @@ sameList (x ∷ xs) (y ∷ ys) = eqb x y && sameList xs ys
 unfoldable pub same : Aic → Aic → Bool
 same s t =
     eqb (s .external) (t .external) && eqb (s .lines) (t .lines) && eqb (s .enabled) (t .enabled) && eqb (s .memory) (t .memory)
-    && eqb (s .forced) (t .forced) && eqb (s .spurious) (t .spurious) && eqb (s .mask) (t .mask) && sameList (s .mode) (t .mode)
+    && eqb (s .forced) (t .forced) && eqb (s .spurious) (t .spurious) && eqb (s .debug) (t .debug) && sameList (s .mode) (t .mode)
     && sameList (s .vector) (t .vector) && sameList (s .source) (t .source) && sameList (s .level) (t .level) && eqb (s .depth) (t .depth)
+    && eqb (s .seen .what) (t .seen .what) && eqb (s .seen .source) (t .seen .source) && eqb (s .seen .level) (t .seen .level) && eqb (s .seen .vector) (t .seen .vector)
 
 -- ---- the cases: AIC
 

@@ -106,8 +106,8 @@ fn first_of_all(byte: u8) {
     l.any = byte;
     let r = aic_pair::step(s, l, Step::Read(0x119));
     cases_lines::one(0x119, r.refusal);
-    let w = aic_pair::step(s, l, Step::Write(0x138, 1));
-    cases_lines::one(0x138, w.refusal);
+    let w = aic_pair::step(s, l, Step::Write(0x108, 1));
+    cases_lines::one(0x108, w.refusal);
     let i = aic_pair::step(s, l, Step::Line(32, 1));
     cases_lines::one(32, i.refusal);
     let o = aic_levels::outputs(s, l);

@@ -205,6 +205,26 @@ fn eight_marks() {
     see(a, Step::Read(0x100), 7, 0);
 }
 
+// Source 3, by level, of priority 2, and source 9, by edge, of priority 5, in protect mode (02, 9/12): a look changes no level, nor does the mark of one
+// that finds none; source 9 is started by the write, at the level of the look, and leaves the level to which it has moved since.
+fn protected() {
+    cases_lines::heading(b"protect mode: 2, 5\n");
+    let mut a = with_source(fresh(), 0x0C, 0x42, 0x8C, 0xA3);
+    a = with_source(a, 0x24, 0x65, 0xA4, 0xA9);
+    a = on(a, Step::Line(3, 1));
+    a = on(a, Step::Write(0x138, 1));
+    a = see(a, Step::Write(0x12C, 0x200), 2, 5);
+    a = see(a, Step::Read(0x100), 2, 5);
+    a = see(a, Step::Write(0x24, 0x66), 2, 5);
+    a = see(a, Step::Write(0x100, 0), 2, 5);
+    a = see(a, Step::Read(0x100), 2, 5);
+    a = see(a, Step::Write(0x100, 0), 2, 5);
+    a = see(a, Step::Write(0x100, 0), 2, 5);
+    a = on(a, Step::Read(0x100));
+    a = see(a, Step::Write(0x138, 0), 2, 5);
+    see(a, Step::Read(0x100), 2, 5);
+}
+
 // The heading of each says which levels its two words are.
 pub(crate) fn all() {
     cases_lines::heading(b"value, byte, two levels; IRQ, FIQ, entries, agree\n");
@@ -215,4 +235,5 @@ pub(crate) fn all() {
     moved();
     eight_handlers();
     eight_marks();
+    protected();
 }

@@ -1,5 +1,6 @@
-// AIC: no start is refused; which records are, by 12 (01, AIC, Configuration; A sound record; 02, 3/12).
+// AIC: no start is refused; which records are, by 12 (01, AIC, Configuration; A sound record; 02, 3/12 and 9/12).
 use aic_record::Aic;
+use aic_record::Seen;
 
 fn start(external: u32, lines: u32) {
     let b = aic::start(external, lines);
@@ -101,23 +102,28 @@ fn marks_over() {
     third(10, 4);
 }
 
-// Eight marks, and a ninth.
-fn eight_marks() {
+// Seven marks.
+fn seven_marks() -> Aic {
     let a = entry(fresh(), 0, 0, 255, 1);
     let b = entry(a, 1, 0, 255, 2);
     let c = entry(b, 2, 0, 255, 3);
     let d = entry(c, 3, 0, 255, 4);
     let e = entry(d, 4, 0, 255, 5);
     let f = entry(e, 5, 0, 255, 6);
-    let g = entry(f, 6, 0, 255, 7);
-    let h = entry(g, 7, 0, 255, 8);
+    entry(f, 6, 0, 255, 7)
+}
+
+// An eighth on them, and a ninth.
+fn eight_marks(seven: Aic) -> Aic {
+    let h = entry(seven, 7, 0, 255, 8);
     entry(h, 8, 0, 255, 9);
+    h
 }
 
 // With a mode of source 9, a word of memories, one of debug control and one of forced sources.
 fn stored(mode: u8, memory: u32, debug: u32, forced: u32) {
     let t = aic_record::with_memory(aic_record::put_mode(fresh(), 9, mode), memory);
-    let u = aic_record::with_forced(aic_record::with_mask(t, debug), forced);
+    let u = aic_record::with_forced(aic_record::with_debug(t, debug), forced);
     cases_lines::four(mode as u32, memory, debug, forced, look(u));
 }
 
@@ -133,8 +139,59 @@ fn words() {
     stored(0, 0, 1, 0);
     stored(0, 0, 2, 0);
     stored(0, 0, 3, 0);
+    stored(0, 0, 4, 0);
     stored(0, 0, 0, 2);
     stored(0, 0, 0, 1);
+}
+
+// With debug control, and what is remembered: nothing, a source or none; the source, its level and its vector.
+fn seen(s: Aic, debug: u32, what: u32, source: u8, level: u8, vector: u32) {
+    let n = Seen {
+        what: what,
+        source: source,
+        level: level,
+        vector: vector,
+    };
+    let t = aic_record::with_seen(aic_record::with_debug(s, debug), n);
+    cases_lines::four(what, source as u32, level as u32, vector, look(t));
+}
+
+// Outside protect mode; in it, with no entry open, each field at its limits.
+fn remembered() {
+    let s = fresh();
+    seen(s, 2, 1, 9, 3, 7);
+    seen(s, 0, 2, 0, 0, 0);
+    seen(s, 0, 0, 0, 0, 7);
+    seen(s, 1, 0, 9, 0, 0);
+    seen(s, 1, 0, 0, 3, 0);
+    seen(s, 1, 1, 1, 0, 7);
+    seen(s, 3, 1, 31, 7, 0xFFFFFFFF);
+    seen(s, 1, 1, 0, 3, 0);
+    seen(s, 1, 1, 32, 3, 0);
+    seen(s, 1, 1, 9, 8, 0);
+    seen(s, 1, 2, 0, 0, 0);
+    seen(s, 1, 2, 9, 0, 0);
+    seen(s, 1, 2, 0, 3, 0);
+    seen(s, 1, 2, 0, 0, 7);
+    seen(s, 1, 3, 0, 0, 0);
+}
+
+// At and above the level of the last entry, and over a mark that has none; with seven entries open room for a source, with eight only for none.
+fn remembered_over(seven: Aic, eight: Aic) {
+    let s = aic_record::put_handler(fresh(), 0, 31, 3, 1);
+    seen(s, 1, 1, 9, 3, 0);
+    seen(s, 1, 1, 9, 4, 0);
+    seen(
+        aic_record::put_handler(fresh(), 0, 0, 255, 1),
+        1,
+        1,
+        9,
+        0,
+        0,
+    );
+    seen(seven, 1, 1, 9, 7, 0);
+    seen(eight, 1, 1, 9, 7, 0);
+    seen(eight, 1, 2, 0, 0, 0);
 }
 
 // Of an unsound record 12 stands before every other number, and its outputs are refused too.
@@ -159,8 +216,12 @@ pub(crate) fn all() {
     handlers();
     marks_alone();
     marks_over();
-    eight_marks();
+    let seven = seven_marks();
+    let eight = eight_marks(seven);
     cases_lines::heading(b"mode, memory, debug, forced\n");
     words();
     first_of_all();
+    cases_lines::heading(b"remembered, source, level, vector\n");
+    remembered();
+    remembered_over(seven, eight);
 }

@@ -2,14 +2,16 @@
 use Prim.Native.Nat.{ℕ, _+_, _-_}
 use mathlib.Core.Bool.{true, false}
 use mathlib.Core.List.{List}
-use mathlib.Core.Path.{_≡_, _∙_}
+use mathlib.Core.Path.{_≡_, ap, _∙_}
 use native.Mathlib.Omega.{arith}
 use Rattle.text.specs.Text.{write}
-use Rattle.trace.specs.Trace.{turnAt, stepsFrom}
+use Rattle.trace.specs.Trace.{Trace, turnAt, stepsFrom}
 use Rattle.turns.specs.declared.Told.{Told}
 use Rattle.turns.specs.Turns.{endedKind, stepOf, turnOf}
 use Rattle.turns.proofs.TurnLaws.{finds, found-here}
 use Rattle.aic_record.specs.declared.Aic.{Aic}
+use Rattle.aic_record.specs.declared.Seen.{Seen}
+use Rattle.aic_record.specs.Record.{withSeen}
 use Rattle.aic_record.specs.Sound.{sound}
 use Rattle.aic.specs.Model.{step}
 use Rattle.aic_beside.specs.Kept.{Kept}
@@ -50,3 +52,7 @@ goes-on trace limit start first whole number more place part s words any edges l
       ready = ready;
       kept = a .1;
     }
+
+-- what the first record gives with what it remembers said in another way
+pub from-first : (s : Aic) (n : Seen) (whole : List ℕ × ℕ) (steps : Trace) → n ≡ s .seen → write whole (textFrom 0 (ofAic (withSeen s n)) steps) ≡ write whole (textFrom 0 (ofAic s) steps)
+from-first s n whole steps e = ap (λ (m : Seen). write whole (textFrom 0 (ofAic (withSeen s m)) steps)) e

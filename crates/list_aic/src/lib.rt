@@ -6,6 +6,7 @@ ghost use mathlib.Core.List.{List};
 ghost use Prim.Native.Nat.{ℕ};
 ghost use Rattle.text.specs.Text.{write};
 ghost use Rattle.trace.specs.Trace.{stepsFrom};
+ghost use Rattle.aic_record.specs.declared.Seen.{Seen};
 ghost use Rattle.aic_beside.specs.Parts.{aicOf};
 ghost use Rattle.aic_beside.specs.Kept.{Kept};
 ghost use Rattle.machine_record.specs.Machine.{ofAic};
@@ -22,19 +23,19 @@ fn columns(
     enabled: u32,
     memory: u32,
     forced: u32,
-    mask: u32,
+    debug: u32,
     level: &[u8; 8],
     depth: u32,
     any: u32,
     edges: u32,
     low: u32,
 ) -> Columns
-    ensures { λ r. ⌜ ((external spurious : ℕ) (mode vector source words class : List ℕ) → Ready (ofAic (aicOf external lines enabled memory forced spurious mask mode vector source (now (level .entry)) depth)) → Kept (aicOf external lines enabled memory forced spurious mask mode vector source (now (level .entry)) depth) words any edges low class → r ≡ shown (ofAic (aicOf external lines enabled memory forced spurious mask mode vector source (now (level .entry)) depth))) ⌝ }
+    ensures { λ r. ⌜ ((external spurious : ℕ) (mode vector source words class : List ℕ) (seen : Seen) → Ready (ofAic (aicOf external lines enabled memory forced spurious debug mode vector source (now (level .entry)) depth seen)) → Kept (aicOf external lines enabled memory forced spurious debug mode vector source (now (level .entry)) depth seen) words any edges low class → r ≡ shown (ofAic (aicOf external lines enabled memory forced spurious debug mode vector source (now (level .entry)) depth seen))) ⌝ }
 {
     machine_record::aic_columns(Signals {
         refusal: steps::CARRIED_OUT,
-        irq: aic_vectors::is_irq(mask, level, depth, any),
-        fiq: aic_vectors::is_fiq(lines, enabled, memory, forced, mask, edges, low),
+        irq: aic_vectors::is_irq(debug, level, depth, any),
+        fiq: aic_vectors::is_fiq(lines, enabled, memory, forced, debug, edges, low),
         entries: depth,
     })
 }
@@ -57,12 +58,13 @@ pub fn list_steps(
     let mut memory = first.memory;
     let mut forced = first.forced;
     let mut spurious = first.spurious;
-    let mut mask = first.mask;
+    let mut debug = first.debug;
     let mut mode = first.mode;
     let mut vector = first.vector;
     let mut source = first.source;
     let mut level = first.level;
     let mut depth = first.depth;
+    let mut seen = aic_beside::seen_words(first.seen);
     let kept = aic_taken::begin(first);
     let mut words = kept.words;
     let mut any = kept.any;
@@ -91,12 +93,13 @@ pub fn list_steps(
             &mut memory,
             &mut forced,
             &mut spurious,
-            &mut mask,
+            &mut debug,
             &mut mode,
             &mut vector,
             &mut source,
             &mut level,
             &mut depth,
+            &mut seen,
             &mut words,
             &mut any,
             &mut edges,
@@ -114,7 +117,7 @@ pub fn list_steps(
             enabled,
             memory,
             forced,
-            mask,
+            debug,
             &level,
             depth,
             any,

@@ -10,13 +10,13 @@ use Rattle.steps.specs.declared.Recorded.{Recorded}
 use Rattle.steps.specs.Refusals.{readRefusal, writeRefusal, lineRefusal}
 use Rattle.aic_record.specs.Record.{reset}
 use Rattle.aic_record.specs.Mode.{priority, kind, edge}
-use Rattle.aic_record.specs.Sound.{levelBelow, over, entryFits, entrySound, freeSound, entriesSound, memorySound, storedSound, sound as aicSound}
+use Rattle.aic_record.specs.Sound.{levelBelow, over, entryFits, entrySound, freeSound, entriesSound, memorySound, storedSound, seenFits, seenSound, sound as aicSound}
 use Rattle.aic_sources.specs.Pending.{activeLow, activeAt, active, pending, asking, pendingWord, edgeWord}
 use Rattle.aic_sources.specs.Fast.{fast, fastAsks, masked, fiq}
 use Rattle.aic_sources.specs.Normal.{waiting, above, candidate, ahead, foremost, candidates, chosen, irq}
-use Rattle.aic_registers.specs.Map.{access, valueRefusal}
-use Rattle.aic_registers.specs.Handlers.{spent, opened, startedAt, marked, closedLast, ended, ivrRead, fastSpent, fvrRead, current}
-use Rattle.aic_registers.specs.Effects.{moded, vectored, enabledBy, disabledBy, setBy, clearedBy, maskedBy, forcedBy, unforcedBy, turns, moved}
+use Rattle.aic_registers.specs.Map.{access}
+use Rattle.aic_registers.specs.Handlers.{spent, opened, startedAt, marked, closedLast, ended, ivrTaken, ivrLooked, ivrRead, begun, ivrWritten, fastSpent, fvrRead, current}
+use Rattle.aic_registers.specs.Effects.{moded, vectored, enabledBy, disabledBy, setBy, clearedBy, debugBy, forcedBy, unforcedBy, turns, moved}
 use Rattle.aic_registers.specs.Registers.{outputBits, stored, readAt, writtenAt}
 use Rattle.aic.specs.Model.{within as aicWithin, start as aicStart, readNumber, writeNumber, lineNumber, read, write, line, outputs as aicOutputs}
 use Rattle.coreinterrupt_side.specs.Side.{raw, status, active as sideActive, outputLevel, clearAccess, sideAccess, sideRead, setBits, clearBits, sideWrite, moved as sideMoved, sideSound}
@@ -57,7 +57,7 @@ unfolding pick upto anyBelow allBelow countBelow lowestBelow sumBelow bit wordOf
 machine-computes = tt
 
 unfoldable pub aic-computes : Unit {0}
-unfolding machine-computes reset priority kind edge levelBelow over entryFits entrySound freeSound entriesSound memorySound storedSound aicSound activeLow activeAt active pending asking pendingWord edgeWord fast fastAsks masked fiq waiting above candidate ahead foremost candidates chosen irq access valueRefusal spent opened startedAt marked closedLast ended ivrRead fastSpent fvrRead current moded vectored enabledBy disabledBy setBy clearedBy maskedBy forcedBy unforcedBy turns moved outputBits stored readAt writtenAt aicWithin aicStart readNumber writeNumber lineNumber read write line aicOutputs
+unfolding machine-computes reset priority kind edge levelBelow over entryFits entrySound freeSound entriesSound memorySound storedSound seenFits seenSound aicSound activeLow activeAt active pending asking pendingWord edgeWord fast fastAsks masked fiq waiting above candidate ahead foremost candidates chosen irq access spent opened startedAt marked closedLast ended ivrTaken ivrLooked ivrRead begun ivrWritten fastSpent fvrRead current moded vectored enabledBy disabledBy setBy clearedBy debugBy forcedBy unforcedBy turns moved outputBits stored readAt writtenAt aicWithin aicStart readNumber writeNumber lineNumber read write line aicOutputs
 aic-computes = tt
 
 unfoldable pub core-computes : Unit {0}

@@ -51,7 +51,7 @@ pub record Promises : Type 0 where
   -- every number of the machine is 0 (01, House trace; Numbers)
   pub blankKind : blank .kind ≡ 0
   pub blankAic : blank .aic
-      ≡ record { external = 0; lines = 0; enabled = 0; memory = 0; forced = 0; spurious = 0; mask = 0; mode = replicate 32 0; vector = replicate 32 0; source = replicate 8 0; level = replicate 8 0; depth = 0 }
+      ≡ record { external = 0; lines = 0; enabled = 0; memory = 0; forced = 0; spurious = 0; debug = 0; mode = replicate 32 0; vector = replicate 32 0; source = replicate 8 0; level = replicate 8 0; depth = 0; seen = record { what = 0; source = 0; level = 0; vector = 0 } }
   pub blankFiq : blank .core .fiq ≡ record { count = 0; level = 0; inputs = 0; soft = 0; enable = 0 }
   pub blankIrq : blank .core .irq ≡ record { count = 0; level = 0; inputs = 0; soft = 0; enable = 0 }
   pub blankCic : blank .cic

@@ -20,12 +20,13 @@ pub fn play_steps(trace: &[u8], limit: u32, start: usize, first: Aic) -> Played
     let mut memory = first.memory;
     let mut forced = first.forced;
     let mut spurious = first.spurious;
-    let mut mask = first.mask;
+    let mut debug = first.debug;
     let mut mode = first.mode;
     let mut vector = first.vector;
     let mut source = first.source;
     let mut level = first.level;
     let mut depth = first.depth;
+    let mut seen = aic_beside::seen_words(first.seen);
     let kept = aic_taken::begin(first);
     let mut words = kept.words;
     let mut any = kept.any;
@@ -45,12 +46,13 @@ pub fn play_steps(trace: &[u8], limit: u32, start: usize, first: Aic) -> Played
                 memory,
                 forced,
                 spurious,
-                mask,
+                debug,
                 mode,
                 vector,
                 source,
                 level,
                 depth,
+                seen: aic_beside::seen_of(seen),
             });
             return Played {
                 steps: count,
@@ -66,12 +68,13 @@ pub fn play_steps(trace: &[u8], limit: u32, start: usize, first: Aic) -> Played
             &mut memory,
             &mut forced,
             &mut spurious,
-            &mut mask,
+            &mut debug,
             &mut mode,
             &mut vector,
             &mut source,
             &mut level,
             &mut depth,
+            &mut seen,
             &mut words,
             &mut any,
             &mut edges,

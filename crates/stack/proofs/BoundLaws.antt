@@ -16,11 +16,13 @@ use Rattle.words.specs.Word.{bit}
 use Rattle.words.proofs.TruthLaws.{and-left, and-right, clash}
 use Rattle.steps.specs.declared.Step.{Step}
 use Rattle.aic_record.specs.declared.Aic.{Aic}
+use Rattle.aic_record.specs.declared.Seen.{Seen}
 use Rattle.aic_record.specs.Mode.{priority}
 use Rattle.aic_record.specs.Sound.{sourceAt, levelAt, levelBelow}
 use Rattle.aic_record.specs.Passes.{floorOver}
 use Rattle.aic_record.specs.Promises.{Shaped, Rules}
 use Rattle.aic_record.proofs.RankLaws.{floor-some, ranks-rise, ranks-small}
+use Rattle.aic_record.proofs.SoundLaws.{seen-sound}
 use Rattle.aic_sources.specs.Fast.{fast}
 use Rattle.aic_sources.specs.Normal.{candidates, chosen}
 use Rattle.aic_sources.proofs.HandlerLaws.{candidate-waits, waiting-is, candidate-room}
@@ -178,8 +180,12 @@ module _ (t : Table) (s : Aic) (h : Shaped s) (f : Fits t (s .source) (s .level)
   shut : s .depth ≢ 0 → Fits t (set (s .source) (s .depth - 1) 0) (set (s .level) (s .depth - 1) 0) (s .depth - 1)
   shut z d l = rw (getD-set-other (s .source) (s .depth - 1) d 0 0 (omega arith), getD-set-other (s .level) (s .depth - 1) d 0 0 (omega arith)) (f d (omega arith))
 
+-- a source that is remembered is a normal one at its level (02, 9/12)
+abbrev Recalled : Table → Seen → Type 0
+Recalled t n = n .what ≡ 1 → (n .source < 32) × (normal t (n .source) ≡ true) × (n .level ≡ getD (t .priority) (n .source) 0)
+
 abbrev pub Fitted : Table → Aic → Type 0
-Fitted t s = Fits t (s .source) (s .level) (s .depth)
+Fitted t s = Fits t (s .source) (s .level) (s .depth) × Recalled t (s .seen)
 
 fits-law : (t : Table) (s : Aic) (x : Step) → Shaped s → Agrees t s → Fitted t s → rewrites s x ≡ false → Fitted t (step s x .aic)
 unfolding opened closedLast setBy
@@ -191,11 +197,21 @@ fits-law t s =
       fall = λ x w ok p q h a f r. f;
       remode = λ o k v ok e l h a f r. clash (mode-rewrite s o k v ok e l) r;
       reforce = λ o v g ok e z h a f r. clash (forcing-rewrite s o v ok e) r;
-      take = λ ok c h a f r.
-          rw (started-is s (chosen s) (priority s (chosen s)))
-          (pushed t s h f (chosen s) (priority s (chosen s)) (candidate-room s (chosen s) (chosen-is s c .fit)) (λ d. (chosen-is s c .below, chosen-normal t s a c, a .levels (chosen s) (chosen-is s c .below))));
-      mark = λ ok n l h a f r. pushed t s h f 0 (levelBelow (s .level) (s .depth)) l (λ d. absurd (d refl));
-      close = λ v ok d h a f r. shut t s h f d;
+      drop = λ o v m ok p l h a f r. (f .0, λ w. absurd (omega arith));
+      take = λ ok i c h a f r.
+          rw (started-is s (chosen s) (priority s (chosen s))) (
+            pushed t s h (f .0) (chosen s) (priority s (chosen s)) (candidate-room s (chosen s) (chosen-is s c .fit))
+                (λ d. (chosen-is s c .below, chosen-normal t s a c, a .levels (chosen s) (chosen-is s c .below))),
+            f .1,
+          );
+      mark = λ ok i n l h a f r. (pushed t s h (f .0) 0 (levelBelow (s .level) (s .depth)) l (λ d. absurd (d refl)), f .1);
+      look = λ ok i c h a f r. (f .0, λ _. (chosen-is s c .below, chosen-normal t s a c, a .levels (chosen s) (chosen-is s c .below)));
+      lookNone = λ ok i n h a f r. (f .0, λ w. absurd (omega arith));
+      begin = λ v ok i w h a f r.
+          rw (started-is s (s .seen .source) (s .seen .level))
+          (pushed t s h (f .0) (s .seen .source) (s .seen .level) (seen-sound s ok .room w) (λ d. f .1 w), λ z. absurd (omega arith));
+      beginMark = λ v ok i z w l h a f r. (pushed t s h (f .0) 0 (levelBelow (s .level) (s .depth)) l (λ d. absurd (d refl)), λ z. absurd (omega arith));
+      close = λ v ok d h a f r. (shut t s h (f .0) d, f .1);
       command = λ v ok h a f r. f;
       move = λ k l ok m n h a f r. rw (moved-is s k (eqb l 1)) f;
     })

@@ -21,7 +21,7 @@ use Rattle.steps.specs.declared.Step.the-variants.{Read, Line}
 use Rattle.aic_record.specs.declared.Aic.{Aic}
 use Rattle.aic_record.specs.Record.{withLines, withMemory, withHandlers}
 use Rattle.aic_record.specs.Mode.{priority, edge}
-use Rattle.aic_record.specs.Sound.{levelBelow, sound}
+use Rattle.aic_record.specs.Sound.{levelBelow, protects, sound}
 use Rattle.aic_record.specs.Passes.{floorOver}
 use Rattle.aic_record.specs.Promises.{Shaped, Over}
 use Rattle.aic_record.proofs.PassLaws.{floor-rule}
@@ -147,12 +147,14 @@ unfolding sumBelow
 one-more t source depth j l =
     rw (add-one, getD-set-same source depth j 0 l, sum-same depth (λ d. frameOf t (getD (set source depth j) d 0)) (λ d. frameOf t (getD source d 0)) (λ d m. rw (getD-set-other source depth d j 0 (omega arith))))
 
--- ---- l entries are open, whose frames are the largest of the levels below l; nothing waits above them, and the lines of the levels from l on are low
+-- ---- outside protect mode l entries are open, whose frames are the largest of the levels below l; nothing waits above them, and the lines of the
+-- levels from l on are low
 
 pub record Tower (t : Table) (l : ℕ) (u : Aic) : Type 0 where
   pub shaped : Shaped u
   pub ok : sound u ≡ true
   pub agrees : Agrees t u
+  pub outside : protects u ≡ false
   pub inner : u .external ≡ 0
   pub lit : (i : ℕ) → i < 32 → bit (u .enabled) i ≡ true
   pub tall : u .depth ≡ l
@@ -180,18 +182,19 @@ module _ (t : Table) (l : ℕ) (v : Aic) (k p w : ℕ) where
   unfolding openBytes
   top-sum h r = one-more t (v .source) (v .depth) k (omega (arith, h .2))
 
-  raised : Shaped v → l < 8 → v .depth ≡ l → v .external ≡ 0 → ((i : ℕ) → i < 32 → bit (v .enabled) i ≡ true)
+  raised : Shaped v → l < 8 → v .depth ≡ l → protects v ≡ false → v .external ≡ 0 → ((i : ℕ) → i < 32 → bit (v .enabled) i ≡ true)
       → openBytes t v ≡ sumBelow l (levelBytes t) → frameOf t k ≡ levelBytes t l → floorOver p ≤ suc l
       → ((i : ℕ) → i < 32 → bit w i ≡ true → bit (v .memory) i ≡ true)
       → ((i : ℕ) → i < 32 → suc l ≤ priority v i → bit (v .lines) i ≡ false)
       → ((i : ℕ) → i < 32 → waiting v i ≡ true → priority v i < floorOver p)
       → Shaped Top → sound Top ≡ true → Agrees t Top → Tower t (suc l) Top
-  raised h small d inner lit s f cap fewer low calm th tok ta =
+  raised h small d out inner lit s f cap fewer low calm th tok ta =
       let e = top-rank h (omega arith) in
       record {
         shaped = th;
         ok = tok;
         agrees = ta;
+        outside = out;
         inner = inner;
         lit = lit;
         tall = omega (arith, d);
@@ -218,11 +221,11 @@ line-steady s k l = refl
 
 module _ (t : Table) (l : ℕ) (u : Aic) (small : l < 8) (w : Tower t l u) where
   marking : step u (Read ivr) .aic ≡ over-with u 0 (levelBelow (u .level) (u .depth)) (u .memory)
-  marking = ap (λ (a : Answer). a .aic) (Controller.kept .vectorSpurious u (w .ok) (omega (arith, w .tall)) (calm-none u (w .calm)))
+  marking = ap (λ (a : Answer). a .aic) (Controller.kept .vectorSpurious u (w .ok) (w .outside) (omega (arith, w .tall)) (calm-none u (w .calm)))
 
   mark-up : largest t l 32 ≡ t .mark → Tower t (suc l) (step u (Read ivr) .aic)
   mark-up e =
-      rw marking (raised t l u 0 (levelBelow (u .level) (u .depth)) (u .memory) (w .shaped) small (w .tall) (w .inner) (w .lit) (w .sum) (mark-frame t l e)
+      rw marking (raised t l u 0 (levelBelow (u .level) (u .depth)) (u .memory) (w .shaped) small (w .tall) (w .outside) (w .inner) (w .lit) (w .sum) (mark-frame t l e)
       (omega (arith, w .capped)) (λ i m z. z) (λ i m q. w .low i m (omega arith)) (w .calm)
       (subst Shaped marking (Controller.kept .stepShaped u (Read ivr) (w .shaped)))
       (subst (λ (v : Aic). sound v ≡ true) marking (Controller.kept .stepSound u (Read ivr) (w .shaped) (w .ok)))
@@ -314,7 +317,7 @@ module _ (t : Table) (l : ℕ) (u : Aic) (small : l < 8) (w : Tower t l u) (f : 
       (λ i. bit (Up .memory) i && not (eqb i J && edge Up J))
 
   takes : Takes
-  takes = Controller.kept .vectorRead Up J sound-up (f .below) fits first
+  takes = Controller.kept .vectorRead Up J sound-up (w .outside) (f .below) fits first
 
   taking : step Up (Read ivr) .aic ≡ over-with Up J (priority Up J) (takes .word)
   taking = ap (λ (a : Answer). a .aic) (takes .done)
@@ -347,7 +350,7 @@ module _ (t : Table) (l : ℕ) (u : Aic) (small : l < 8) (w : Tower t l u) (f : 
 
   taken : Tower t (suc l) (step Up (Read ivr) .aic)
   taken =
-      rw taking (raised t l Up J (priority Up J) (takes .word) shaped-up small (w .tall) (w .inner) (w .lit) frames-up frame-j
+      rw taking (raised t l Up J (priority Up J) (takes .word) shaped-up small (w .tall) (w .outside) (w .inner) (w .lit) frames-up frame-j
       (omega (arith, rank-j)) (λ i m z. and-left (bit (Up .memory) i) _ (sym (takes .bits i m) ∙ z)) still-low below-j
       (subst Shaped taking (Controller.kept .stepShaped Up (Read ivr) shaped-up))
       (subst (λ (v : Aic). sound v ≡ true) taking (Controller.kept .stepSound Up (Read ivr) shaped-up sound-up))

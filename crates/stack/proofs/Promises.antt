@@ -53,7 +53,8 @@ never-more t s xs h b q = go (told (sound s))
     go : (sound s ≡ true) ⊎ (sound s ≡ false) → sumBelow (run s xs .depth) (λ d. frameOf t (sourceAt (run s xs) d)) ≤ stackBytes t
     go (inl ok) =
         bounded t (run s xs) (sound-is (run s xs) (run-sound s xs h ok))
-        (along t s xs h (record { levels = b .levels; forcings = set-fast t s (b .forcings) }) (λ d l. absurd (omega (arith, b .none))) q)
+        (along t s xs h (record { levels = b .levels; forcings = set-fast t s (b .forcings) })
+        (λ d l. absurd (omega (arith, b .none)), λ w. absurd (omega (arith, b .remembered))) q .0)
     go (inr e) = rw (run-stays s xs e, b .none) (unfold sumBelow in (omega arith))
 
 open-is : (t : Table) (s : Aic) → openBytes t s

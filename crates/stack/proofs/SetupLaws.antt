@@ -19,7 +19,7 @@ use Rattle.steps.specs.declared.Step.the-variants.{Write}
 use Rattle.aic_record.specs.declared.Aic.{Aic}
 use Rattle.aic_record.specs.Record.{withEnabled, withMemory, withForced, withMode, reset}
 use Rattle.aic_record.specs.Mode.{priority, kind, edge, typeOf, priorityOf, keptMode}
-use Rattle.aic_record.specs.Sound.{noLevel, levelBelow, sound}
+use Rattle.aic_record.specs.Sound.{noLevel, levelBelow, protects, sound}
 use Rattle.aic_record.specs.Promises.{Shaped}
 use Rattle.aic_record.proofs.PassLaws.{floor-free}
 use Rattle.aic_record.proofs.SoundLaws.{below-none}
@@ -40,10 +40,13 @@ use Rattle.aic_record.proofs.Promises as Record
 use Rattle.aic_sources.proofs.Promises as Sources
 use Rattle.aic.proofs.Promises as Controller
 
--- no entry is open, all lines are low, nothing is remembered, all sources are enabled; the forcing is the table's, and so are the modes below n
+-- outside protect mode no entry is open, all lines are low, no edge and no source is remembered, all sources are enabled; the forcing is the
+-- table's, and so are the modes below n
 pub record Ready (t : Table) (n : ℕ) (u : Aic) : Type 0 where
   pub shaped : Shaped u
   pub ok : sound u ≡ true
+  pub outside : protects u ≡ false
+  pub remembered : u .seen .what ≡ 0
   pub inner : u .external ≡ 0
   pub dark : u .lines ≡ 0
   pub blank : (i : ℕ) → i < 32 → bit (u .memory) i ≡ false
@@ -123,6 +126,8 @@ module _ (t : Table) (n : ℕ) (u : Aic) (small : n < 32) (p : getD (t .priority
       rw (put .is) (record {
         shaped = subst Shaped (put .is) (Controller.kept .stepShaped u (Write (n * 4) Val) (r .shaped));
         ok = subst (λ (v : Aic). sound v ≡ true) (put .is) (Controller.kept .stepSound u (Write (n * 4) Val) (r .shaped) (r .ok));
+        outside = r .outside;
+        remembered = r .remembered;
         inner = r .inner;
         dark = r .dark;
         blank = blanks;
@@ -204,6 +209,8 @@ module _ (t : Table) where
       record {
         shaped = subst Shaped lit-is (Controller.kept .stepShaped F (Write iecr all) shaped-f);
         ok = subst (λ (v : Aic). sound v ≡ true) lit-is (Controller.kept .stepSound F (Write iecr all) shaped-f ok-f);
+        outside = unfold reset in (bit-none 0);
+        remembered = unfold reset in refl;
         inner = unfold reset in refl;
         dark = unfold reset in refl;
         blank = λ i l. unfold reset in (bit-none i);
@@ -238,6 +245,7 @@ module _ (t : Table) (u : Aic) (r : Ready t 32 u) where
         shaped = r .shaped;
         ok = r .ok;
         agrees = record { levels = λ i l. r .modes i l .0; forcings = set-fast t u (r .forcings) };
+        outside = r .outside;
         inner = r .inner;
         lit = r .lit;
         tall = r .empty;
@@ -248,7 +256,7 @@ module _ (t : Table) (u : Aic) (r : Ready t 32 u) where
       }
 
   begins : Set t u
-  begins = record { none = r .empty; levels = λ i l. r .modes i l .0; types = λ i l. r .modes i l .1; forcings = r .forcings }
+  begins = record { none = r .empty; remembered = omega (arith, r .remembered); levels = λ i l. r .modes i l .0; types = λ i l. r .modes i l .1; forcings = r .forcings }
 
 joined : (t : Table) (s : Settled t (prepared t)) → Climbed t (run (prepared t) (s .steps)) → Reached t
 unfolding run

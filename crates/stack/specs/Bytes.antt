@@ -65,9 +65,11 @@ frameOf t k = pick (eqb k 0) (t .mark) (getD (t .frame) k 0)
 unfoldable pub openBytes : Table → Aic → ℕ
 openBytes t s = sumBelow (s .depth) (λ d. frameOf t (sourceAt s d))
 
--- no entry is open, and the modes and forcings are those of the table; source 0 is never forced, and bit 0 of the table's word is ignored (02, 4/12)
+-- no entry is open, nothing is remembered, and the modes and forcings are those of the table; source 0 is never forced, and bit 0 of the table's
+-- word is ignored (02, 4/12 and 9/12)
 pub record Set (t : Table) (s : Aic) : Type 0 where
   pub none : s .depth ≡ 0
+  pub remembered : s .seen .what ≡ 0
   pub levels : (i : ℕ) → i < 32 → priority s i ≡ getD (t .priority) i 0
   pub types : (i : ℕ) → i < 32 → kind s i ≡ getD (t .kind) i 0
   pub forcings : (i : ℕ) → 1 ≤ i → i < 32 → bit (s .forced) i ≡ bit (t .forced) i

@@ -70,8 +70,9 @@ pub record Promises : Type 0 where
   -- the open frames are added up over the entries: the mark's frame for one of source 0, else that of its source (02, 4/12)
   pub openIs : (t : Table) (s : Aic) → openBytes t s
       ≡ sumBelow (s .depth) (λ d. pick (eqb (getD (s .source) d 0) 0) (t .mark) (getD (t .frame) (getD (s .source) d 0) 0))
-  -- in any run that starts with no entry open and those modes and forcings, and carries out no write of a mode or a forcing, the open frames
-  -- never add up to more; from any record, sound or not, whatever its lines, enables and memories (02, 4/12)
+  -- in any run that starts with no entry open, nothing remembered and those modes and forcings, and carries out no write of a mode or a forcing,
+  -- the open frames never add up to more; from any record, sound or not, in protect mode or not, whatever its lines, enables and memories
+  -- (02, 4/12 and 9/12)
   pub neverMore : (t : Table) (s : Aic) (xs : List Step) → Shaped s → Set t s → always steady s xs ≡ true → openBytes t (run s xs) ≤ stackBytes t
   -- and some such run reaches the figure, for every table within its limits (02, 4/12)
   pub reached : (t : Table) → (Beyond t → ⊥) → Reached t

@@ -26,7 +26,7 @@ unreadable = 3
 abbrev pub unwritable : ℕ
 unwritable = 4
 
--- the AIC's protect mode is asked for
+-- the AIC's protect mode is asked for: given by no model since 02, 9/12
 abbrev pub protecting : ℕ
 protecting = 5
 

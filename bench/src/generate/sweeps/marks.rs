@@ -9,7 +9,7 @@ use crate::generate::Script;
 pub fn situations() -> Vec<Script> {
     let mut scripts = vec![above_a_mark(), eight_marks(), modes_below()];
     scripts.extend([0, 2].map(each_hindrance));
-    scripts.extend((0..4).map(towers));
+    scripts.extend((0..4).map(|first| towers(first, Opens::Read)));
     scripts
 }
 
@@ -32,32 +32,42 @@ fn close(script: &mut Script) {
     script.read(ISR);
 }
 
+/// What opens an entry: a read of IVR, or in protect mode a read and a write.
+#[derive(Clone, Copy, PartialEq, Eq)]
+pub(super) enum Opens {
+    Read,
+    Handshake,
+}
+
 /// Every mix of eight entries whose first two are the marks that the two bits say.
-fn towers(first: u32) -> Script {
+pub(super) fn towers(first: u32, opens: Opens) -> Script {
     let mut script = opening();
+    if opens == Opens::Handshake {
+        script.write(DCR, 1);
+    }
     for level in 0..8 {
         source(&mut script, 1 + level, HIGH_LEVEL, level);
     }
     source(&mut script, 30, HIGH_LEVEL, 7);
     for rest in 0..64 {
-        tower(&mut script, rest << 2 | first);
+        tower(&mut script, rest << 2 | first, opens);
     }
     script
 }
 
 /// Eight entries, marks where the bit is 1, with priority 7 waiting above them; then one close more than there are.
 /// Each source stays up until its handler is closed, so that its own priority waits all the while.
-fn tower(script: &mut Script, marks: u32) {
+fn tower(script: &mut Script, marks: u32, opens: Opens) {
     let is_handler = |at: u32| marks >> at & 1 == 0;
     for at in 0..8 {
         if is_handler(at) {
             script.line(1 + at, 1);
         }
-        script.read(IVR);
+        open(script, opens);
         script.read(ISR);
     }
     script.line(30, 1);
-    script.read(IVR);
+    open(script, opens);
     script.read(CISR);
     for at in (0..8).rev() {
         close(script);
@@ -69,6 +79,13 @@ fn tower(script: &mut Script, marks: u32) {
         }
     }
     close(script);
+}
+
+fn open(script: &mut Script, opens: Opens) {
+    script.read(IVR);
+    if opens == Opens::Handshake {
+        script.write(IVR, 0);
+    }
 }
 
 /// Each thing that keeps a source from being a candidate, alone, with the mask or without: marks open all the same,

@@ -9,9 +9,9 @@ use Rattle.aic_beside.proofs.low_of.Statement.{statement}
 use Rattle.aic_beside.proofs.low_of.Tie as tie
 
 returns : tie.Need-returns
-returns c lines enabled memory forced spurious mask depth vector source level =
+returns c lines enabled memory forced spurious debug depth vector source level seen =
     let a = c .before .before .args in
-    c .drop-bits .ensures ∙ ap (λ (x : ℕ). without (a .external) x) (c .before .mode-word .ensures) ∙ low-by (aicOf (a .external) lines enabled memory forced spurious mask (a .mode .now) vector source level depth)
+    c .drop-bits .ensures ∙ ap (λ (x : ℕ). without (a .external) x) (c .before .mode-word .ensures) ∙ low-by (aicOf (a .external) lines enabled memory forced spurious debug (a .mode .now) vector source level depth seen)
 
 pub low-of-spec : {M : Type 1} → statement M
 low-of-spec = tie.close (tie.spec (λ c κs. search needs) (λ c κs. search needs) returns)

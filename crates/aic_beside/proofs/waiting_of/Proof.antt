@@ -6,10 +6,10 @@ use Rattle.aic_beside.proofs.waiting_of.Statement.{statement}
 use Rattle.aic_beside.proofs.waiting_of.Tie as tie
 
 returns : tie.Need-returns
-returns c external spurious mask depth mode vector source level e l =
+returns c external spurious debug depth mode vector source level seen e l =
     let a = c .before .before .before .before .args in
-    waiting-from (aicOf external (a .lines) (a .enabled) (a .memory) (a .forced) spurious mask mode vector source level depth) _ _ _ _
-    (c .before .before .before .pending-of .ensures external (a .enabled) (a .forced) spurious mask depth mode vector source level e l) (c .before .before .meet .ensures) (c .before .join .ensures) (c .drop-bits .ensures)
+    waiting-from (aicOf external (a .lines) (a .enabled) (a .memory) (a .forced) spurious debug mode vector source level depth seen) _ _ _ _
+    (c .before .before .before .pending-of .ensures external (a .enabled) (a .forced) spurious debug depth mode vector source level seen e l) (c .before .before .meet .ensures) (c .before .join .ensures) (c .drop-bits .ensures)
 
 pub waiting-of-spec : {M : Type 1} → statement M
 waiting-of-spec =

@@ -9,7 +9,7 @@ use Rattle.aic_entries.proofs.close.Tie as tie
 
 returns : tie.Need-returns
 unfolding ended closedLast
-returns c external lines enabled memory forced spurious mask mode vector l = pick-true _ (none-open (c .before .before .args .depth .now) (c .if1 .taken) l)
+returns c external lines enabled memory forced spurious debug mode vector seen l = pick-true _ (none-open (c .before .before .args .depth .now) (c .if1 .taken) l)
 
 sub-depth : tie.Need-sub-depth
 sub-depth c = omega (arith, some-open (c .before .before .args .depth .now) (c .if1 .left) .0)
@@ -22,7 +22,7 @@ element-write-level c = let o = some-open (c .before .before .args .depth .now) 
 
 returns-2 : tie.Need-returns-2
 unfolding ended closedLast
-returns-2 c external lines enabled memory forced spurious mask mode vector l = pick-false _ (some-open (c .before .before .args .depth .now) (c .if1 .left) .2)
+returns-2 c external lines enabled memory forced spurious debug mode vector seen l = pick-false _ (some-open (c .before .before .args .depth .now) (c .if1 .left) .2)
 
 pub close-spec : {M : Type 1} → statement M
 close-spec =

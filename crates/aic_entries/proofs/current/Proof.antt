@@ -10,7 +10,7 @@ use Rattle.aic_entries.proofs.current.Tie as tie
 
 returns : tie.Need-returns
 unfolding current
-returns c external lines enabled memory forced spurious mask mode vector level l = pick-true _ (none-open (c .before .args .depth) (c .if1 .taken) l)
+returns c external lines enabled memory forced spurious debug mode vector level seen l = pick-true _ (none-open (c .before .args .depth) (c .if1 .taken) l)
 
 sub-at : tie.Need-sub-at
 sub-at c = omega (arith, some-open (c .before .args .depth) (c .if1 .left) .0)
@@ -20,7 +20,7 @@ element-copy-out-wide c = let o = some-open (c .before .args .depth) (c .if1 .le
 
 returns-2 : tie.Need-returns-2
 unfolding current
-returns-2 c external lines enabled memory forced spurious mask mode vector level l = c .wide .ensures ∙ pick-false _ (some-open (c .before .before .before .args .depth) (c .before .before .if1 .left) .2)
+returns-2 c external lines enabled memory forced spurious debug mode vector level seen l = c .wide .ensures ∙ pick-false _ (some-open (c .before .before .before .args .depth) (c .before .before .if1 .left) .2)
 
 pub current-spec : {M : Type 1} → statement M
 current-spec =

@@ -7,7 +7,7 @@ use Rattle.aic_entries.proofs.open_entry.Tie as tie
 
 returns : tie.Need-returns
 unfolding opened
-returns c external lines enabled memory forced spurious mask mode vector = refl
+returns c external lines enabled memory forced spurious debug mode vector seen = refl
 
 pub open-entry-spec : {M : Type 1} → statement M
 open-entry-spec = tie.close (tie.spec (λ c. search needs) (λ c. search needs) (λ c. search needs) returns)

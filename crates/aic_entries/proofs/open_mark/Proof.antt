@@ -10,14 +10,14 @@ use Rattle.aic_entries.proofs.open_mark.Tie as tie
 
 returns : tie.Need-returns
 unfolding marked
-returns c external lines enabled memory forced spurious mask mode vector = pick-false _ (le-ltb _ _ (c .if1 .taken))
+returns c external lines enabled memory forced spurious debug mode vector seen = pick-false _ (le-ltb _ _ (c .if1 .taken))
 
 returns-2 : tie.Need-returns-2
 unfolding marked
-returns-2 c external lines enabled memory forced spurious mask mode vector =
+returns-2 c external lines enabled memory forced spurious debug mode vector seen =
     let a = c .before .before .before .before .before .before .before .before .args in
-    c .open-entry .ensures external lines enabled memory forced spurious mask mode vector
-    ∙ ap (opened (aicOf external lines enabled memory forced spurious mask mode vector (a .source .now) (a .level .now) (a .depth .now)) 0) (c .before .before .before .before .last-level .ensures)
+    c .open-entry .ensures external lines enabled memory forced spurious debug mode vector seen
+    ∙ ap (opened (aicOf external lines enabled memory forced spurious debug mode vector (a .source .now) (a .level .now) (a .depth .now) seen) 0) (c .before .before .before .before .last-level .ensures)
     ∙ pick-true _ (lt-ltb _ _ (c .before .before .before .before .before .before .if1 .left))
 
 pub open-mark-spec : {M : Type 1} → statement M

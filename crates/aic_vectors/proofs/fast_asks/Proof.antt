@@ -8,11 +8,11 @@ use Rattle.aic_vectors.proofs.fast_asks.Statement.{statement}
 use Rattle.aic_vectors.proofs.fast_asks.Tie as tie
 
 returns : tie.Need-returns
-returns c external spurious mask depth mode vector source level e l =
+returns c external spurious debug depth mode vector source level seen e l =
     let a = c .before .before .before .before .args in
-    let s = aicOf external (a .lines) (a .enabled) (a .memory) (a .forced) spurious mask mode vector source level depth in
+    let s = aicOf external (a .lines) (a .enabled) (a .memory) (a .forced) spurious debug mode vector source level depth seen in
     fast-from s _ _ _ (c .before .join .ensures ∙ fast-by s)
-    (asks-from s _ _ (c .before .before .before .pending-of .ensures external (a .enabled) (a .forced) spurious mask depth mode vector source level e l) (c .before .before .meet .ensures))
+    (asks-from s _ _ (c .before .before .before .pending-of .ensures external (a .enabled) (a .forced) spurious debug depth mode vector source level seen e l) (c .before .before .meet .ensures))
     (c .meet2 .ensures)
 
 pub fast-asks-spec : {M : Type 1} → statement M

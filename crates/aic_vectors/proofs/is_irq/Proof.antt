@@ -11,9 +11,9 @@ use Rattle.aic_vectors.proofs.is_irq.Tie as tie
 
 returns : tie.Need-returns
 unfolding irq masked
-returns c external lines enabled memory forced spurious mode vector source e =
+returns c external lines enabled memory forced spurious mode vector source seen e =
     let a = c .before .before .before .args in
-    let s = aicOf external lines enabled memory forced spurious (a .mask) mode vector source (a .level .now) (a .depth) in
+    let s = aicOf external lines enabled memory forced spurious (a .debug) mode vector source (a .level .now) (a .depth) seen in
     ap₂ (λ (x y : Bool). not x && y) (c .before .has .ensures)
     (ap not (c .is-clean .ensures) ∙ irq-by s _ _ (c .before .before .least .ensures s refl refl) e)
 

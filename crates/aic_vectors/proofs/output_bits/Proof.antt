@@ -14,11 +14,11 @@ add-result : tie.Need-add-result
 add-result c = omega (arith, c .one-of2 .ensures, one-le (c .before .is-irq .result), c .before .before .one-of .ensures, one-le (c .before .before .before .is-fiq .result))
 
 returns : tie.Need-returns
-returns c external spurious mode vector source words class h =
+returns c external spurious mode vector source words class seen h =
     let a = c .before .before .before .before .args in
-    bits-from (aicOf external (a .lines) (a .enabled) (a .memory) (a .forced) spurious (a .mask) mode vector source (a .level .now) (a .depth)) _ _ _ _
-    (c .before .before .before .is-fiq .ensures external spurious (a .depth) mode vector source (a .level .now) (h .edgeTriggered) (h .activeLow))
-    (c .before .is-irq .ensures external (a .lines) (a .enabled) (a .memory) (a .forced) spurious mode vector source (h .some))
+    bits-from (aicOf external (a .lines) (a .enabled) (a .memory) (a .forced) spurious (a .debug) mode vector source (a .level .now) (a .depth) seen) _ _ _ _
+    (c .before .before .before .is-fiq .ensures external spurious (a .depth) mode vector source (a .level .now) seen (h .edgeTriggered) (h .activeLow))
+    (c .before .is-irq .ensures external (a .lines) (a .enabled) (a .memory) (a .forced) spurious mode vector source seen (h .some))
     (c .before .before .one-of .ensures) (c .one-of2 .ensures)
 
 pub output-bits-spec : {M : Type 1} → statement M

@@ -10,22 +10,22 @@ use Rattle.aic_vectors.proofs.spend.Statement.{statement}
 use Rattle.aic_vectors.proofs.spend.Tie as tie
 
 returns : tie.Need-returns
-returns c external spurious mask depth mode vector source level l e h =
+returns c external spurious debug depth mode vector source level seen l e h =
     let a = c .before .before .before .before .before .before .before .before .args in
-    let s = aicOf external (a .lines) (a .enabled) (a .memory .now) (a .forced) spurious mask mode vector source level depth in
+    let s = aicOf external (a .lines) (a .enabled) (a .memory .now) (a .forced) spurious debug mode vector source level depth seen in
     let w = c .before .before .before .before .with-bit .ensures in
     let n = c .before .before .before .before .with-bit .result in
     let o = modes-same s (withMemory s n) (a .edges) (a .low) (a .class .now) refl refl (modes-of s (a .words .now) (a .class .now) (a .any .now) (a .edges) (a .low) h) in
     let r = c .renew-level .ensures .0 (omega (arith, e, priority-low s (a .k))) in (
       spent-some s (a .edges) (a .k) _ _ l (h .edgeTriggered) (c .before .before .before .before .before .before .before .has .ensures) (c .before .before .before .before .before .before .if1 .taken) w,
       spent-kept s (a .words .now) _ (a .class .now) (a .any .now) _ (a .edges) (a .low) _ (a .k) (a .p) _ e w
-          (c .before .before .before .waiting-of .ensures external spurious mask depth mode vector source level (o .edgeTriggered) (o .activeLow)) (r .0) (r .1) h,
+          (c .before .before .before .waiting-of .ensures external spurious debug depth mode vector source level seen (o .edgeTriggered) (o .activeLow)) (r .0) (r .1) h,
     )
 
 returns-2 : tie.Need-returns-2
-returns-2 c external spurious mask depth mode vector source level l e h =
+returns-2 c external spurious debug depth mode vector source level seen l e h =
     let a = c .before .before .args in
-    (spent-none (aicOf external (a .lines) (a .enabled) (a .memory .now) (a .forced) spurious mask mode vector source level depth) (a .edges) (a .k) _ l (h .edgeTriggered) (c .before .has .ensures) (c .if1 .left), h)
+    (spent-none (aicOf external (a .lines) (a .enabled) (a .memory .now) (a .forced) spurious debug mode vector source level depth seen) (a .edges) (a .k) _ l (h .edgeTriggered) (c .before .has .ensures) (c .if1 .left), h)
 
 pub spend-spec : {M : Type 1} → statement M
 spend-spec =

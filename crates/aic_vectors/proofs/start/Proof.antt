@@ -14,17 +14,17 @@ use Rattle.aic_vectors.proofs.start.Statement.{statement}
 use Rattle.aic_vectors.proofs.start.Tie as tie
 
 returns : tie.Need-returns
-returns c external spurious mask mode e m h =
+returns c external spurious debug mode seen e m h =
     let a = c .before .before .before .before .before .before .before .before .before .before .before .args in
-    let s = aicOf external (a .lines) (a .enabled) (a .memory .now) (a .forced) spurious mask mode (a .vector .now) (a .source .now) (a .level .now) (a .depth .now) in
+    let s = aicOf external (a .lines) (a .enabled) (a .memory .now) (a .forced) spurious debug mode (a .vector .now) (a .source .now) (a .level .now) (a .depth .now) seen in
     let k = lowestBelow 32 (bit (getD (a .words .now) (a .p) 0)) in
     let t = started-is s (a .words .now) (a .class .now) (a .any .now) (a .edges) (a .low) (a .p) k (c .before .before .before .before .before .before .before .before .before .before .before .pre .1) e m refl h in
     let l : k % 32 ≡ k = omega (arith, t .source) in
     let j = c .before .before .before .before .before .before .before .before .before .first-of .result in
     let i : j ≡ k = c .before .before .before .before .before .before .before .before .before .first-of .ensures ∙ l in
-    let w = c .before .before .before .before .before .spend .ensures external spurious mask (a .depth .now) mode (a .vector .now) (a .source .now) (a .level .now) (omega (arith, i, t .source)) (ap (priority s) i ∙ t .at) h in (
-      started-answer s _ _ (a .p) k j _ t i (w .0) (c .before .open-entry .ensures external (a .lines) (a .enabled) _ (a .forced) spurious mask mode (a .vector .now)) refl,
-      entries-kept external (a .lines) (a .enabled) _ (a .forced) spurious spurious mask mask (a .depth .now) _ _ (a .edges) (a .low) mode (a .vector .now) (a .vector .now) (a .source .now) _ (a .level .now) _ _ (a .class .now) (w .1),
+    let w = c .before .before .before .before .before .spend .ensures external spurious debug (a .depth .now) mode (a .vector .now) (a .source .now) (a .level .now) seen (omega (arith, i, t .source)) (ap (priority s) i ∙ t .at) h in (
+      started-answer s _ _ (a .p) k j _ t i (w .0) (c .before .open-entry .ensures external (a .lines) (a .enabled) _ (a .forced) spurious debug mode (a .vector .now) seen) refl,
+      entries-kept external (a .lines) (a .enabled) _ (a .forced) spurious spurious debug debug (a .depth .now) _ _ (a .edges) (a .low) mode (a .vector .now) (a .vector .now) (a .source .now) _ (a .level .now) _ _ (a .class .now) seen seen (w .1),
     )
 
 pub start-spec : {M : Type 1} → statement M

@@ -10,51 +10,51 @@ use Rattle.aic_writes.proofs.command.Statement.{statement}
 use Rattle.aic_writes.proofs.command.Tie as tie
 
 returns : tie.Need-returns
-returns c external spurious mask depth mode vector source level ok h =
+returns c external spurious debug depth mode vector source level seen ok h =
     let a = c .before .before .before .before .before .before .before .before .before .args in
-    let s = aicOf external (a .lines) (a .enabled .now) (a .memory .now) (a .forced .now) spurious mask mode vector source level depth in
-    let w = c .before .enable .ensures external spurious mask depth mode vector source level h in
+    let s = aicOf external (a .lines) (a .enabled .now) (a .memory .now) (a .forced .now) spurious debug mode vector source level depth seen in
+    let w = c .before .enable .ensures external spurious debug depth mode vector source level seen h in
     (write-arm s _ _ _ (a .offset) 0x120 (a .v) (c .carry-out .ensures) (w .0) (iecr-written s (a .v) ok) (c .before .before .before .before .before .match .keys1), w .1)
 
 returns-2 : tie.Need-returns-2
-returns-2 c external spurious mask depth mode vector source level ok h =
+returns-2 c external spurious debug depth mode vector source level seen ok h =
     let a = c .before .before .before .before .before .before .before .before .before .args in
-    let s = aicOf external (a .lines) (a .enabled .now) (a .memory .now) (a .forced .now) spurious mask mode vector source level depth in
-    let w = c .before .disable .ensures external spurious mask depth mode vector source level h in
+    let s = aicOf external (a .lines) (a .enabled .now) (a .memory .now) (a .forced .now) spurious debug mode vector source level depth seen in
+    let w = c .before .disable .ensures external spurious debug depth mode vector source level seen h in
     (write-arm s _ _ _ (a .offset) 0x124 (a .v) (c .carry-out2 .ensures) (w .0) (idcr-written s (a .v) ok) (c .before .before .before .before .before .match .keys2), w .1)
 
 returns-3 : tie.Need-returns-3
-returns-3 c external spurious mask depth mode vector source level ok h =
+returns-3 c external spurious debug depth mode vector source level seen ok h =
     let a = c .before .before .before .before .before .before .before .before .before .args in
-    let s = aicOf external (a .lines) (a .enabled .now) (a .memory .now) (a .forced .now) spurious mask mode vector source level depth in
-    let w = c .before .clear .ensures external spurious mask depth mode vector source level h in
+    let s = aicOf external (a .lines) (a .enabled .now) (a .memory .now) (a .forced .now) spurious debug mode vector source level depth seen in
+    let w = c .before .clear .ensures external spurious debug depth mode vector source level seen h in
     (write-arm s _ _ _ (a .offset) 0x128 (a .v) (c .carry-out3 .ensures) (w .0) (iccr-written s (a .v) ok) (c .before .before .before .before .before .match .keys3), w .1)
 
 returns-4 : tie.Need-returns-4
-returns-4 c external spurious mask depth mode vector source level ok h =
+returns-4 c external spurious debug depth mode vector source level seen ok h =
     let a = c .before .before .before .before .before .before .before .before .before .args in
-    let s = aicOf external (a .lines) (a .enabled .now) (a .memory .now) (a .forced .now) spurious mask mode vector source level depth in
-    let w = c .before .set .ensures external spurious mask depth mode vector source level h in
+    let s = aicOf external (a .lines) (a .enabled .now) (a .memory .now) (a .forced .now) spurious debug mode vector source level depth seen in
+    let w = c .before .set .ensures external spurious debug depth mode vector source level seen h in
     (write-arm s _ _ _ (a .offset) 0x12C (a .v) (c .carry-out4 .ensures) (w .0) (iscr-written s (a .v) ok) (c .before .before .before .before .before .match .keys4), w .1)
 
 returns-5 : tie.Need-returns-5
-returns-5 c external spurious mask depth mode vector source level ok h =
+returns-5 c external spurious debug depth mode vector source level seen ok h =
     let a = c .before .before .before .before .before .before .before .before .before .args in
-    let s = aicOf external (a .lines) (a .enabled .now) (a .memory .now) (a .forced .now) spurious mask mode vector source level depth in
-    let w = c .before .force .ensures external spurious mask depth mode vector source level h in
+    let s = aicOf external (a .lines) (a .enabled .now) (a .memory .now) (a .forced .now) spurious debug mode vector source level depth seen in
+    let w = c .before .force .ensures external spurious debug depth mode vector source level seen h in
     (write-arm s _ _ _ (a .offset) 0x140 (a .v) (c .carry-out5 .ensures) (w .0) (ffer-written s (a .v) ok) (c .before .before .before .before .before .match .keys5), w .1)
 
 returns-6 : tie.Need-returns-6
-returns-6 c external spurious mask depth mode vector source level ok h =
+returns-6 c external spurious debug depth mode vector source level seen ok h =
     let a = c .before .before .before .before .before .before .before .before .before .args in
-    let s = aicOf external (a .lines) (a .enabled .now) (a .memory .now) (a .forced .now) spurious mask mode vector source level depth in
-    let w = c .before .unforce .ensures external spurious mask depth mode vector source level h in
+    let s = aicOf external (a .lines) (a .enabled .now) (a .memory .now) (a .forced .now) spurious debug mode vector source level depth seen in
+    let w = c .before .unforce .ensures external spurious debug depth mode vector source level seen h in
     (write-arm s _ _ _ (a .offset) 0x144 (a .v) (c .carry-out6 .ensures) (w .0) (ffdr-written s (a .v) ok) (c .before .before .before .before .before .match .keys6), w .1)
 
 returns-7 : tie.Need-returns-7
-returns-7 c external spurious mask depth mode vector source level ok h =
+returns-7 c external spurious debug depth mode vector source level seen ok h =
     let a = c .before .before .before .before .before .before .before .args in
-    let s = aicOf external (a .lines) (a .enabled .now) (a .memory .now) (a .forced .now) spurious mask mode vector source level depth in
+    let s = aicOf external (a .lines) (a .enabled .now) (a .memory .now) (a .forced .now) spurious debug mode vector source level depth seen in
     let p = c .before .before .before .before .before .before .before .pre in
     let r = c .before .before .before .match .rest in (
       ap (λ (x : Reply). answerOf x s) (c .refuse .ensures)

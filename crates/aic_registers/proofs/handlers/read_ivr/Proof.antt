@@ -1,17 +1,18 @@
 -- That `read_ivr` of src/handlers.rt keeps its contract.
-use Rattle.aic_registers.proofs.CallLaws.{ivr-some, ivr-none}
 use mathlib.Core.Path.{_∙_}
+use Rattle.words.proofs.ChoiceLaws.{by-true, by-false}
+use Rattle.aic_registers.specs.Handlers.{ivrRead}
 use borrow.Author.Needs.{needs}
 use Rattle.aic_registers.proofs.handlers.read_ivr.Statement.{statement}
 use Rattle.aic_registers.proofs.handlers.read_ivr.Tie as tie
 
 returns : tie.Need-returns
-returns c = c .start-now .ensures ∙ ivr-some _ _ (c .before .before .chosen-source .ensures) (c .before .if1 .taken)
+unfolding ivrRead
+returns c = c .look-ivr .ensures ∙ by-true _ (c .before .before .has .ensures) (c .before .if1 .taken)
 
 returns-2 : tie.Need-returns-2
-returns-2 c = c .answer-of .ensures ∙ ivr-none _ _ _ (c .before .before .before .chosen-source .ensures) (c .before .before .if1 .left) (c .before .open-mark .ensures)
+unfolding ivrRead
+returns-2 c = c .take-ivr .ensures ∙ by-false _ (c .before .before .has .ensures) (c .before .if1 .left)
 
 pub read-ivr-spec : {M : Type 1} → statement M
-read-ivr-spec =
-    tie.close
-    (tie.spec (λ c κs. search needs) (λ c κs. search needs) returns (λ c κs. search needs) (λ c κs. search needs) returns-2)
+read-ivr-spec = tie.close (tie.spec (λ c κs. search needs) (λ c κs. search needs) returns (λ c κs. search needs) returns-2)

@@ -10,11 +10,4 @@ returns c = c .put-handler .ensures ∙ started-by _ _ _ _ (c .before .spend .en
 
 pub start-at-spec : {M : Type 1} → statement M
 start-at-spec =
-    tie.close
-    (tie.spec
-    (λ c κs. search needs)
-    (λ c. search needs)
-    (λ c. search needs)
-    (λ c. search needs)
-    (λ c κs. search needs)
-    returns)
+    tie.close (tie.spec (λ c κs. search needs) (λ c. search needs) (λ c κs. search needs) returns)

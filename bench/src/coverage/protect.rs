@@ -1,0 +1,365 @@
+//! What is to be reached of the AIC's protect mode (02, 9/12): what a read of IVR remembers, what comes between it and
+//! the write, and what the write then opens.
+
+use super::aic::{marks, top};
+use super::{Coverage, Entered, Item, Seen, Since};
+use crate::model::aic::{Aic, Register, Selection, ENTRIES, SOURCES};
+use crate::model::Step;
+
+const LEVELS: u8 = 8;
+
+/// Where a selection has got to.
+#[derive(Clone, Copy, PartialEq, Eq)]
+enum Place {
+    Remembered,
+    /// The mode was left, and with it the selection.
+    Left,
+    /// The mode was entered again after that.
+    Reentered,
+}
+
+/// A read of IVR in protect mode, and what came behind it.
+pub struct Looked {
+    selection: Selection,
+    /// Whether the source was edge-triggered then.
+    edge: bool,
+    /// The level of the last entry then.
+    last: Option<u8>,
+    place: Place,
+    since: Vec<Since>,
+    /// What the read took the place of.
+    replaced: Option<Seen>,
+}
+
+impl Seen {
+    fn of(selection: Selection) -> Seen {
+        match selection {
+            Selection::Source { .. } => Seen::Source,
+            Selection::Nobody => Seen::Nobody,
+        }
+    }
+}
+
+/// The two bits of DCR.
+fn debug(aic: &Aic) -> u8 {
+    u8::from(aic.masked()) << 1 | u8::from(aic.protected())
+}
+
+/// The number of a selected source.
+fn number(selection: Selection) -> Option<usize> {
+    match selection {
+        Selection::Source { number, .. } => Some(usize::from(number)),
+        Selection::Nobody => None,
+    }
+}
+
+/// The sources whose bits are in a word: of a selected source that one alone, else all.
+fn named(selection: Selection, word: u32) -> impl Iterator<Item = usize> {
+    let concerns = move |n: &usize| number(selection).is_none_or(|selected| selected == *n);
+    (0..SOURCES)
+        .filter(move |&n| word >> n & 1 == 1)
+        .filter(concerns)
+}
+
+/// Whether another candidate is ahead of what was selected, as it was then; where nobody was, any candidate is.
+fn overtaken(aic: &Aic, selection: Selection) -> bool {
+    let Selection::Source { number, level, .. } = selection else {
+        return aic.best().is_some();
+    };
+    let number = usize::from(number);
+    let priority = |n: usize| aic.sources()[n].priority;
+    let ahead = |n: usize| priority(n) > level || priority(n) == level && n < number;
+    (1..SOURCES).any(|n| n != number && aic.candidate(n) && ahead(n))
+}
+
+impl Coverage {
+    /// Counts what an accepted step on the AIC shows of protect mode.
+    pub(super) fn aic_protect(&mut self, before: &Aic, after: &Aic, step: Step) {
+        let register = match step {
+            Step::Read { offset } | Step::Write { offset, .. } => Register::at(offset),
+            Step::Line { .. } => None,
+        };
+        match (step, register) {
+            (Step::Read { .. }, Some(Register::Ivr)) if before.protected() => self.look(before),
+            (Step::Read { .. }, Some(Register::Ivr)) => self.looked = None,
+            (Step::Read { .. }, Some(Register::Dcr)) => self.reach(Item::Debug(debug(after))),
+            (Step::Write { .. }, Some(Register::Ivr)) => self.ivr_written(before, after),
+            (Step::Write { value, .. }, Some(Register::Dcr)) => {
+                self.reach(Item::DebugTurns(debug(before), debug(after)));
+                self.fact_if(
+                    after.protected() && value & !3 != 0,
+                    "DCR written with protect mode and bits that are dropped",
+                );
+                self.debug_since(before, after);
+            }
+            _ => self.since(before, after, step, register),
+        }
+    }
+
+    /// A read of IVR in the mode.
+    fn look(&mut self, before: &Aic) {
+        let selection = before.selection();
+        let seen = Seen::of(selection);
+        let replaced = before.remembered().map(Seen::of);
+        self.reach(Item::Look(seen, top(before).0));
+        self.fact_if(before.masked(), "a look while masked");
+        self.fact_if(before.is_full(), "a look with eight entries open");
+        if let Some(best) = number(selection) {
+            let source = &before.sources()[best];
+            let others = |n| n != best && before.candidate(n);
+            let ties = |n: usize| others(n) && before.sources()[n].priority == source.priority;
+            self.fact_if(source.edge_triggered(), "a look at an edge source");
+            self.fact_if(!source.edge_triggered(), "a look at a level source");
+            self.fact_if((1..SOURCES).any(ties), "a look breaks a tie by the number");
+            let other = before.remembered().and_then(number);
+            self.fact_if(
+                other.is_some_and(|other| other != best),
+                "a second look at another source",
+            );
+        }
+        self.looked = Some(Looked {
+            selection,
+            edge: number(selection).is_some_and(|n| before.sources()[n].edge_triggered()),
+            last: before.last_level(),
+            place: Place::Remembered,
+            since: replaced.map(|_| Since::ReadAgain).into_iter().collect(),
+            replaced,
+        });
+    }
+
+    /// What a write of DCR does to a selection.
+    fn debug_since(&mut self, before: &Aic, after: &Aic) {
+        let Some(looked) = &mut self.looked else {
+            return;
+        };
+        match (looked.place, after.protected()) {
+            (Place::Remembered, true) if before.masked() != after.masked() => {
+                looked.since.push(Since::Masked);
+            }
+            (Place::Remembered, true) => looked.since.push(Since::Stayed),
+            (_, false) => looked.place = Place::Left,
+            (_, true) => looked.place = Place::Reentered,
+        }
+    }
+
+    /// What any other step does to a selection.
+    fn since(&mut self, before: &Aic, after: &Aic, step: Step, register: Option<Register>) {
+        let Some(looked) = &mut self.looked else {
+            return;
+        };
+        let selection = looked.selection;
+        let any = |word: u32, of: &dyn Fn(usize) -> bool| named(selection, word).any(of);
+        let (were, are) = (before.sources(), after.sources());
+        let now = match (step, register) {
+            (Step::Line { line, .. }, _) => {
+                let gone = |n: usize| were[n].pending() && !are[n].pending();
+                any(1 << line, &gone).then_some(Since::Gone)
+            }
+            (Step::Read { .. }, Some(Register::Fvr)) => Some(Since::Fast),
+            (Step::Write { value, .. }, Some(register)) => match register {
+                Register::Clear => any(value, &|n| were[n].memory).then_some(Since::Cleared),
+                Register::Set => any(value, &|n| are[n].memory).then_some(Since::Set),
+                Register::Disable => any(value, &|n| were[n].enabled).then_some(Since::Disabled),
+                Register::Ffer => any(value & !1, &|_| true).then_some(Since::Forced),
+                Register::Vector(n) => any(1 << n, &|_| true).then_some(Since::Vector),
+                Register::Spu => Some(Since::Spurious),
+                Register::Eoicr => (!before.entries().is_empty()).then_some(Since::Closed),
+                Register::Mode(n) => {
+                    let word = 1 << n;
+                    if any(word, &|n| were[n].kind != are[n].kind) {
+                        looked.since.push(Since::Retyped);
+                    }
+                    let reordered = any(word, &|n| were[n].priority != are[n].priority);
+                    reordered.then_some(Since::Reordered)
+                }
+                _ => None,
+            },
+            _ => None,
+        };
+        looked.since.extend(now);
+    }
+
+    /// A write of IVR, in the mode or outside it.
+    fn ivr_written(&mut self, before: &Aic, after: &Aic) {
+        let waiting = before.best().is_some();
+        if !before.protected() {
+            self.fact_if(
+                waiting,
+                "IVR written outside the mode while a candidate waits",
+            );
+            self.fact_if(!waiting, "IVR written outside the mode with no candidate");
+            if let Some(looked) = &self.looked {
+                let seen = Seen::of(looked.selection);
+                self.reach(Item::WrittenAfter(seen, Since::Left));
+            }
+            return;
+        }
+        let looked = self.looked.take();
+        let Some(selection) = before.remembered() else {
+            self.fact_if(
+                waiting,
+                "IVR written with nothing remembered while a candidate waits",
+            );
+            self.fact_if(
+                !waiting,
+                "IVR written with nothing remembered and no candidate",
+            );
+            if let Some(looked) = looked.filter(|looked| looked.place == Place::Reentered) {
+                let seen = Seen::of(looked.selection);
+                self.reach(Item::WrittenAfter(seen, Since::Reentered));
+            }
+            return;
+        };
+        let looked = looked.expect("what is remembered was looked at");
+        self.written_after(before, &looked);
+        match number(selection) {
+            Some(source) => self.written_source(before, source, &looked),
+            None => self.written_nobody(before, &looked),
+        }
+        if after.entries().len() > before.entries().len() {
+            let entries = after.entries();
+            self.reach(Item::Handshakes(entries.len(), marks(entries)));
+        }
+    }
+
+    /// What came between the read and the write, and how things stand at the write.
+    fn written_after(&mut self, before: &Aic, looked: &Looked) {
+        let seen = Seen::of(looked.selection);
+        let mut since = looked.since.clone();
+        if overtaken(before, looked.selection) {
+            since.push(Since::Overtaken);
+        }
+        match before.entries().len() {
+            ENTRIES => since.push(Since::Full),
+            open if open + 1 == ENTRIES => since.push(Since::LastRoom),
+            _ => {}
+        }
+        if since.is_empty() {
+            since.push(Since::Nothing);
+        }
+        since.sort();
+        since.dedup();
+        for since in since {
+            self.reach(Item::WrittenAfter(seen, since));
+        }
+        if let Some(replaced) = looked.replaced {
+            self.reach(Item::Replaced(replaced, seen));
+        }
+    }
+
+    fn written_source(&mut self, before: &Aic, source: usize, looked: &Looked) {
+        let now = &before.sources()[source];
+        let Selection::Source { level, .. } = looked.selection else {
+            return;
+        };
+        self.reach(Item::LevelThen(level, now.priority));
+        let edge = now.edge_triggered();
+        self.fact_if(edge && now.memory, "IVR write spends an edge");
+        self.fact_if(
+            edge && !now.memory,
+            "IVR write starts an edge source that is idle",
+        );
+        self.fact_if(!edge && now.pending(), "IVR write starts a level source");
+        self.fact_if(
+            !edge && !now.pending(),
+            "IVR write starts a level source that is idle",
+        );
+        self.fact_if(
+            now.memory && !looked.edge,
+            "IVR write spends an edge of a source that went by level at the read",
+        );
+        self.fact_if(
+            !edge && looked.edge,
+            "IVR write starts a level source that went by edge at the read",
+        );
+        self.fact_if(
+            now.memory && now.forced,
+            "IVR write spends an edge of a source that is forced now",
+        );
+        self.fact_if(
+            now.memory && !now.enabled,
+            "IVR write spends an edge of a source that is disabled now",
+        );
+        self.fact_if(before.masked(), "IVR write starts while masked");
+        let lower = top(before).0.is_some() && before.last_level() != looked.last;
+        self.fact_if(
+            lower,
+            "IVR write starts over a lower entry than at the read",
+        );
+    }
+
+    fn written_nobody(&mut self, before: &Aic, looked: &Looked) {
+        if before.is_full() {
+            self.fact_if(true, "IVR write opens no mark with eight entries");
+            return;
+        }
+        let fact = match (top(before).0, before.last_level()) {
+            (None, _) => "IVR write opens a mark with nothing open",
+            (Some(Entered::Handler), _) => "IVR write opens a mark on a handler",
+            (Some(Entered::Mark), Some(_)) => "IVR write opens a mark on a mark with a level",
+            (Some(Entered::Mark), None) => "IVR write opens a mark on a mark without a level",
+        };
+        self.fact_if(true, fact);
+        self.fact_if(before.masked(), "IVR write opens a mark while masked");
+        self.fact_if(
+            before.last_level() != looked.last,
+            "IVR write opens a mark at another level than that of the read",
+        );
+    }
+}
+
+pub(super) fn wanted() -> Vec<Item> {
+    let mut items: Vec<Item> = (0..4).map(Item::Debug).collect();
+    for was in 0..4 {
+        items.extend((0..4).map(|is| Item::DebugTurns(was, is)));
+    }
+    for seen in [Seen::Source, Seen::Nobody] {
+        let tops = [None, Some(Entered::Handler), Some(Entered::Mark)];
+        items.extend(tops.map(|top| Item::Look(seen, top)));
+        items.extend([Seen::Source, Seen::Nobody].map(|then| Item::Replaced(seen, then)));
+        // With eight open no source is selected, and nothing but the write opens an entry meanwhile.
+        let can_be = |since: &Since| (seen, *since) != (Seen::Source, Since::Full);
+        let since = Since::ALL.into_iter().filter(can_be);
+        items.extend(since.map(|since| Item::WrittenAfter(seen, since)));
+    }
+    for level in 0..LEVELS {
+        items.extend((0..LEVELS).map(|now| Item::LevelThen(level, now)));
+    }
+    for entries in 1..=ENTRIES {
+        let mixes = 0..=u8::MAX >> (ENTRIES - entries);
+        items.extend(mixes.map(|marks| Item::Handshakes(entries, marks)));
+    }
+    items.extend(FACTS.iter().copied().map(Item::Fact));
+    items
+}
+
+const FACTS: &[&str] = &[
+    "DCR written with protect mode and bits that are dropped",
+    "a look while masked",
+    "a look with eight entries open",
+    "a look at an edge source",
+    "a look at a level source",
+    "a look breaks a tie by the number",
+    "a second look at another source",
+    "IVR written outside the mode while a candidate waits",
+    "IVR written outside the mode with no candidate",
+    "IVR written with nothing remembered while a candidate waits",
+    "IVR written with nothing remembered and no candidate",
+    "IVR write spends an edge",
+    "IVR write starts an edge source that is idle",
+    "IVR write starts a level source",
+    "IVR write starts a level source that is idle",
+    "IVR write spends an edge of a source that went by level at the read",
+    "IVR write starts a level source that went by edge at the read",
+    "IVR write spends an edge of a source that is forced now",
+    "IVR write spends an edge of a source that is disabled now",
+    "IVR write starts while masked",
+    "IVR write starts over a lower entry than at the read",
+    "IVR write opens no mark with eight entries",
+    "IVR write opens a mark with nothing open",
+    "IVR write opens a mark on a handler",
+    "IVR write opens a mark on a mark with a level",
+    "IVR write opens a mark on a mark without a level",
+    "IVR write opens a mark while masked",
+    "IVR write opens a mark at another level than that of the read",
+];

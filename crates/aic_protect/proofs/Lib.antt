@@ -1,0 +1,2 @@
+-- Laws of reads and writes of IVR in protect mode.
+pub mod ProtectLaws
