@@ -455,9 +455,9 @@ fn status(words: &[&str]) -> Option<i32> {
 fn the_exit_status_tells() {
     let reference = env!("CARGO_BIN_EXE_reference");
     let batch = |count, argument| status(&["--batch", reference, "--count", count, "--", argument]);
-    assert_eq!(batch("7000", "--batch"), Some(0));
+    assert_eq!(batch("6000", "--batch"), Some(0));
     assert_eq!(batch("3", "--batch"), Some(1), "a gap in coverage");
-    assert_eq!(batch("7000", "--nothing"), Some(1));
+    assert_eq!(batch("6000", "--nothing"), Some(1));
     assert_eq!(status(&["--program", reference]), Some(2));
     assert_eq!(status(&["--tuned"]), Some(2));
     assert_eq!(status(&["--trace", "3"]), Some(0));
