@@ -1,4 +1,4 @@
-/* A caller in C: the example of document 01 through the proved library and its header, the empty trace, traces that end at a limit and beside it, and
+/* A caller in C: the example of document 01 through the proved library and its header, the empty trace, traces that end at a limit and beside it, the
  * words that a read of a prioritised index looks at, and typed tables with a figure and with each refusal.
  * It prints what differs, and ends with 1 where something does. */
 #include "wisteria.h"
