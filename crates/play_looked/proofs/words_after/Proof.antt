@@ -7,7 +7,7 @@ use Rattle.play_looked.proofs.words_after.Statement.{statement}
 use Rattle.play_looked.proofs.words_after.Tie as tie
 
 returns : tie.Need-returns
-returns c = c .words-of .ensures ∙ ap (λ (p : Played). wordsOf (p .machine) (c .before .before .args .offset)) (c .before .play .ensures)
+returns c = c .words-of .ensures ∙ ap (λ (p : Played). wordsOf (p .machine) (c .before .before .before .args .offset)) (c .before .play .ensures)
 
 pub words-after-spec : {M : Type 1} → statement M
 words-after-spec = tie.close (tie.spec (λ c κs. search needs) (λ c κs. search needs) returns)

@@ -12,12 +12,12 @@ use Rattle.play_looked.proofs.words_of.Tie as tie
 
 returns : tie.Need-returns
 unfolding wordsOf
-returns c = pick-false _ (ne-eqb (c .before .args .m .kind) 4 (c .if1 .taken))
+returns c = pick-false _ (ne-eqb (c .before .before .args .m .kind) 4 (c .if1 .taken))
 
 returns-2 : tie.Need-returns-2
 unfolding wordsOf
 returns-2 c =
-    let a = c .before .before .before .args in
+    let a = c .before .before .before .before .args in
     ap (λ (l : Looked). l .words) (c .look-at .ensures ∙ ap (λ (p : Prioritised). lookAt p (a .offset)) (c .before .indexed .ensures))
     ∙ pick-true 0 (eq-eqb (a .m .kind) 4 (c .before .before .if1 .left))
 
