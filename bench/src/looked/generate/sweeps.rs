@@ -99,8 +99,8 @@ fn before(script: &mut Script, word: u32) {
     }
 }
 
-/// Two words, six channels and three hosts, under maps that lead none, one, some or all channels to a host: one system
-/// pending on each channel in turn, in either word, and then on all from the last to the first.
+/// Two words, six channels and three hosts, under maps that lead none, one, some or all channels to a host: a system of
+/// one channel pending, in either word, and then one of each, from the last channel to the first.
 fn channels() -> Vec<Question> {
     let maps: [[u32; 2]; 5] = [
         [0x0000_0000, 0x0000],
@@ -126,15 +126,9 @@ fn channels() -> Vec<Question> {
         let mut all = opened(0);
         for channel in (0..6).rev() {
             let mut alone = opened(0x10);
-            for (script, system) in [(&mut alone, channel), (&mut all, 34 - channel)] {
-                let place = CHANNEL_MAP + 4 * (system / 4);
-                script.read(place);
-                script.write(
-                    place,
-                    [channel, channel, channel, channel]
-                        .iter()
-                        .fold(0, |word, byte| word << 8 | byte),
-                );
+            let system = if channel % 2 == 1 { 36 } else { 4 * channel };
+            for (script, system) in [(&mut alone, system), (&mut all, 36 - 4 * channel)] {
+                script.write(CHANNEL_MAP + system, channel);
                 script.write(STATUS_SET, system);
                 questions.extend(at(script, &indices));
             }
