@@ -1,8 +1,9 @@
-/* Serves many traces and tables in one process through the proved library, for machines whose Rust cannot link its x86-64 code.
+/* Serves many traces, tables and questions in one process through the proved library, for machines whose Rust cannot link its x86-64 code.
  *
  * Standard input has requests and standard output the replies, all numbers 32 bits, lowest byte first:
- *   request: what is asked (0 the listing of a trace, 1 the stack of a table), its length, step limit (0 for a table), room, then the trace or table;
- *   reply:   bytes written, bytes changed behind them, then the bytes written.
+ *   request: what is asked (0 the listing of a trace, 1 the stack of a table, 2 the words looked at after a trace), its length, step limit (0 for a
+ *            table), room (the offset that would be read, for words looked at), then the trace or table;
+ *   reply:   bytes written, bytes changed behind them, then the bytes written; of words looked at their number in decimal and " words\n".
  * It ends with 0 at the end of the input, and with 1 at a request that it cannot serve.
  *
  * It stands alone, with no C library: three system calls, and the memory functions that compiled code calls.
@@ -13,11 +14,12 @@ typedef __UINT8_TYPE__ uint8_t;
 typedef __UINT32_TYPE__ uint32_t;
 
 enum { READ = 0, WRITE = 1, EXIT = 231, LARGEST = 1 << 22, UNTOUCHED = 0xA5 };
-enum { LISTING = 0, STACK = 1 };
+enum { LISTING = 0, STACK = 1, LOOKED = 2 };
 
 /* The proved functions: include/wisteria.h says what each number counts. */
 size_t wisteria_list(const uint8_t *trace, size_t trace_len, uint32_t limit, uint8_t *out, size_t out_len);
 size_t wisteria_stack(const uint8_t *text, size_t text_len, uint8_t *out, size_t out_len);
+uint32_t wisteria_looked(const uint8_t *trace, size_t trace_len, uint32_t limit, uint32_t offset);
 
 static uint8_t input[LARGEST];
 static uint8_t output[LARGEST];
@@ -64,10 +66,39 @@ static void put_number(uint8_t *bytes, uint32_t value)
         bytes[place] = (uint8_t)(value >> 8 * place);
 }
 
+/* Writes a number of words to the start of the output, as the model tells it, and answers how many bytes that takes. */
+static size_t tell_words(uint32_t words)
+{
+    static const char behind[] = " words\n";
+    size_t digits = 1, place = 0;
+    for (uint32_t left = words / 10; left > 0; left /= 10)
+        digits++;
+    for (size_t left = digits; left > 0; words /= 10)
+        output[--left] = (uint8_t)('0' + words % 10);
+    for (; behind[place] != 0; place++)
+        output[digits + place] = (uint8_t)behind[place];
+    return digits + place;
+}
+
+static void reply_with(size_t written, uint32_t changed, uint32_t room)
+{
+    uint8_t reply[8];
+    put_number(reply, (uint32_t)written);
+    put_number(reply + 4, changed);
+    move_all(WRITE, 1, reply, sizeof reply);
+    move_all(WRITE, 1, output, written < room ? written : room);
+}
+
 static void serve(const uint8_t *request)
 {
     uint32_t asked = number(request), length = number(request + 4), limit = number(request + 8), room = number(request + 12);
-    if (asked > STACK || length > LARGEST || room > LARGEST || move_all(READ, 0, input, length) < length)
+    if (asked > LOOKED || length > LARGEST || move_all(READ, 0, input, length) < length)
+        end(1);
+    if (asked == LOOKED) {
+        reply_with(tell_words(wisteria_looked(input, length, limit, room)), 0, LARGEST);
+        return;
+    }
+    if (room > LARGEST)
         end(1);
     for (uint32_t place = 0; place < room; place++)
         output[place] = UNTOUCHED;
@@ -75,11 +106,7 @@ static void serve(const uint8_t *request)
     uint32_t changed = 0;
     for (size_t place = written; place < room; place++)
         changed += output[place] != UNTOUCHED;
-    uint8_t reply[8];
-    put_number(reply, (uint32_t)written);
-    put_number(reply + 4, changed);
-    move_all(WRITE, 1, reply, sizeof reply);
-    move_all(WRITE, 1, output, written < room ? written : room);
+    reply_with(written, changed, room);
 }
 
 __attribute__((used)) static void batch(void)

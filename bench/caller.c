@@ -1,5 +1,5 @@
-/* A caller in C: the example of document 01 through the proved library and its header, the empty trace, traces that end at a limit and beside it, and
- * typed tables with a figure and with each refusal.
+/* A caller in C: the example of document 01 through the proved library and its header, the empty trace, traces that end at a limit and beside it, the
+ * words that a read of a prioritised index looks at, and typed tables with a figure and with each refusal.
  * It prints what differs, and ends with 1 where something does. */
 #include "wisteria.h"
 
@@ -179,11 +179,38 @@ static void typing(void)
     said("65,537 bytes", longest, sizeof longest, "E 11 65536\n");
 }
 
+static void looks(const char *what, const uint8_t *trace, size_t length, uint32_t limit, uint32_t offset, uint32_t words)
+{
+    expect(what, wisteria_looked(trace, length, limit, offset) == words);
+}
+
+/* Status words looked at (02, 10/12). 64 systems, two channels, one host: system 40 is enabled, set, and held for the global index. */
+static void words_looked_at(void)
+{
+    static const uint8_t held[] = {0x04, 0x40, 0x02, 0x01, 0x00, 0x01, 0x02, 0x28, 0x28, 0x02, 0x20, 0x28, 0x01, 0x80, 0x01};
+    looks("two channels of two words", held, sizeof held, 0, 0x080, 4);
+    looks("enabled and not set", held, sizeof held, 1, 0x080, 4);
+    looks("in the second word of the first channel", held, sizeof held, 2, 0x080, 2);
+    looks("held", held, sizeof held, 3, 0x080, 0);
+    looks("the host's index is not held", held, sizeof held, 3, 0x900, 2);
+    looks("the whole trace", held, sizeof held, WISTERIA_LIMIT, 0x900, 2);
+    looks("no such host", held, sizeof held, 2, 0x904, 0);
+    looks("a misaligned offset", held, sizeof held, 2, 0x081, 0);
+    looks("the control register", held, sizeof held, 2, 0x004, 0);
+    looks("a register that is only written", held, sizeof held, 2, 0x020, 0);
+    looks("the choice off", BYTES("\4\x40\2\1\0\0"), 1, 0x080, 0);
+    looks("the choice beyond its limit", BYTES("\4\x40\2\1\0\2"), 1, 0x080, 0);
+    looks("a CIC without indices", BYTES("\2\x40\2\1\0"), 1, 0x080, 0);
+    looks("the AIC", BYTES("\0\0\0"), 1, 0x100, 0);
+    looks("the most", BYTES("\4\x80\x08\x80\2\1\0\1"), 0, 0x900, 8192);
+}
+
 int main(void)
 {
     worked_example();
     endings();
     lengths();
+    words_looked_at();
     stacks();
     typing();
     return wrong;

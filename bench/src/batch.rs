@@ -9,6 +9,7 @@ use std::thread;
 
 use crate::compare::Outcome;
 use crate::generate::Case;
+use crate::looked::Question;
 use crate::program::{Program, PATIENCE};
 use crate::stack::generate::Typed;
 
@@ -19,9 +20,12 @@ pub enum Asked {
     Listing = 0,
     /// The line of a typed table.
     Stack = 1,
+    /// The status words that a read looks at after a trace.
+    Looked = 2,
 }
 
-/// What is asked for, the step limit (0 for a table), the room, and the trace or table.
+/// What is asked for, the step limit (0 for a table), the room or, for words looked at, the offset that is read, and the
+/// trace or table.
 pub struct Request {
     pub asked: Asked,
     pub limit: u32,
@@ -48,6 +52,15 @@ impl Request {
         }
     }
 
+    pub fn looked(question: &Question) -> Request {
+        Request {
+            asked: Asked::Looked,
+            limit: question.limit,
+            room: question.offset as usize,
+            input: question.trace.clone(),
+        }
+    }
+
     fn write(&self, to: &mut impl Write) -> io::Result<()> {
         write_number(to, self.asked as u32)?;
         write_number(to, self.input.len() as u32)?;
@@ -63,6 +76,7 @@ impl Request {
             None => return Ok(None),
             Some(0) => Asked::Listing,
             Some(1) => Asked::Stack,
+            Some(2) => Asked::Looked,
             Some(_) => return Err(io::ErrorKind::InvalidData.into()),
         };
         let mut input = vec![0; read_number(from)? as usize];

@@ -2,6 +2,7 @@
 
 use crate::compare::{written, Outcome};
 use crate::generate::Case;
+use crate::looked::{told, Question};
 use crate::stack::generate::Typed;
 
 extern "C" {
@@ -33,6 +34,9 @@ extern "C" {
 
     /// Writes the line of the lent text of a table into the lent buffer and answers the bytes written, as above.
     fn wisteria_stack(text: *const u8, text_len: usize, out: *mut u8, out_len: usize) -> usize;
+
+    /// The status words that a read of the register at the offset would look at after the play.
+    fn wisteria_looked(trace: *const u8, trace_len: usize, limit: u32, offset: u32) -> u32;
 }
 
 /// Fills the buffer with the listing of a trace and answers how many bytes of it were written.
@@ -90,6 +94,12 @@ pub fn stack_into(text: &[u8], buffer: &mut [u8]) -> usize {
     unsafe { wisteria_stack(text.as_ptr(), text.len(), buffer.as_mut_ptr(), buffer.len()) }
 }
 
+/// The status words that a read of an offset would look at after the play of a trace.
+pub fn words_looked_at(trace: &[u8], limit: u32, offset: u32) -> u32 {
+    // As for the steps.
+    unsafe { wisteria_looked(trace.as_ptr(), trace.len(), limit, offset) }
+}
+
 /// The listing of a case. The loop over a controller of any kind has to make the same of it, in listing and in play.
 pub fn list(case: &Case) -> Outcome {
     let (trace, limit) = (&case.trace, case.limit);
@@ -112,4 +122,15 @@ pub fn list(case: &Case) -> Outcome {
 /// The line of a typed table.
 pub fn stack(typed: &Typed) -> Outcome {
     written(typed.ample_room(), |buffer| stack_into(&typed.text, buffer))
+}
+
+/// The count of a question, as it is told.
+pub fn looked(question: &Question) -> Outcome {
+    let Question {
+        trace,
+        limit,
+        offset,
+        ..
+    } = question;
+    Ok(told(words_looked_at(trace, *limit, *offset)))
 }

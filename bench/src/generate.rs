@@ -132,7 +132,7 @@ fn tour(random: &mut Random) -> Script {
 }
 
 /// A sound trace of a kind, of about so many steps.
-fn tour_of(random: &mut Random, kind: Kind, steps: u32) -> Script {
+pub(crate) fn tour_of(random: &mut Random, kind: Kind, steps: u32) -> Script {
     match kind {
         Kind::Aic => aic::tour(random, steps),
         Kind::Core => core::tour(random, steps),
@@ -144,7 +144,7 @@ fn tour_of(random: &mut Random, kind: Kind, steps: u32) -> Script {
 
 /// The same trace with each number in its shortest form, each in five bytes as the recorder of 02, 1/12 writes it, or
 /// each in any form.
-fn in_any_form(random: &mut Random, script: Script) -> Script {
+pub(crate) fn in_any_form(random: &mut Random, script: Script) -> Script {
     match random.below(4) {
         0 => script,
         1 => script.rewritten(|| NUMBER_BYTES),

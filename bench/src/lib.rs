@@ -10,6 +10,7 @@ pub mod exports;
 pub mod generate;
 pub mod hex;
 pub mod listing;
+pub mod looked;
 pub mod model;
 pub mod program;
 pub mod random;

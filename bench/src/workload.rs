@@ -1,5 +1,10 @@
 //! The traces that are timed, with no step refused: for each controller a small and a full one, of any number of steps;
-//! writes to a full CIC of which every system is active; and polls of a full one with prioritised indices.
+//! writes to a full CIC of which every system is active; polls of a full one with prioritised indices; and reads of an
+//! index beside the words that they look at.
+
+mod looks;
+
+pub use looks::{looks, Look};
 
 use crate::generate::Script;
 use crate::random::Random;
@@ -359,7 +364,7 @@ mod tests {
         }
     }
 
-    fn has_its_steps_and_fits(workload: &Workload) {
+    pub fn has_its_steps_and_fits(workload: &Workload) {
         let report = play(&workload.trace, PROGRAM_LIMIT, &mut NoneRefused);
         assert_eq!(report.steps, workload.steps);
         assert_eq!(report.ending, Ok(workload.trace.len()));

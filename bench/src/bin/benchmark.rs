@@ -7,9 +7,10 @@ use std::time::Instant;
 
 use bench::digits::Digits;
 use bench::listing::Text;
+use bench::looked::looked;
 use bench::trace::{play, PROGRAM_LIMIT};
 use bench::tuned;
-use bench::workload::{busy, polls, workloads, Workload};
+use bench::workload::{busy, looks, polls, workloads, Look, Workload};
 
 const NOTES: &str = "\
 Nanoseconds per step in the fastest of several rounds; a round is one play of the whole trace by each side in turn.
@@ -24,6 +25,20 @@ Buffers: each side writes its listing into one buffer that is kept from round to
 and the tuned player get ample room; the model's vectors have grown to their size before the rounds begin. The trace is in
 memory before the clock starts.
 ";
+
+const LOOK_NOTES: &str = "\
+Status words (of 32 systems each) that a search for an index, channel by channel, looks at (a step goes by one pass),
+and nanoseconds, for a CIC with indices of 1,024 systems, 256 channels and 256 hosts, the hold mode off:
+
+- read: a step of a play of 20,000 steps, all but the first five or less of them reads of that index.
+- question: one call of `wisteria_looked` (the model's `looked`) on a trace of those first steps, less one call of
+  `wisteria_steps` (the model's play) on the same trace, each the mean of 1,000 calls in the fastest round.
+
+| channels searched | pending | words looked at | read, proved | read, model | question, proved | question, model |
+|---|---|--:|--:|--:|--:|--:|";
+
+/// How many calls of a question are timed together.
+const CALLS: u32 = 1_000;
 
 /// How often each workload is timed, unless said otherwise.
 const ROUNDS: usize = 31;
@@ -59,6 +74,10 @@ fn main() {
     );
     for workload in polls(PROGRAM_LIMIT) {
         println!("{}", listing_row(&workload, &measure(&workload, rounds)));
+    }
+    println!("\n{LOOK_NOTES}");
+    for look in looks(PROGRAM_LIMIT) {
+        println!("{}", look_row(&look, rounds));
     }
     if let Some(peak) = peak_memory() {
         println!("\nPeak memory of this process, all sides and all buffers: {peak}.");
@@ -133,6 +152,50 @@ fn measure(workload: &Workload, rounds: usize) -> Times {
     }
 }
 
+/// The words and the times of one look.
+fn look_row(look: &Look, rounds: usize) -> String {
+    let proved = Proved::new(&look.reads);
+    proved.check_words(look);
+    let (opening, offset) = (look.opening.as_slice(), look.offset);
+    let calls = |run: &dyn Fn()| nanoseconds(|| (0..CALLS).for_each(|_| run()));
+    let mut samples = [const { Vec::new() }; 6];
+    for _ in 0..rounds {
+        samples[0].push(nanoseconds(|| proved.play()));
+        samples[1].push(nanoseconds(|| play_model(&look.reads)));
+        samples[2].push(calls(&|| proved.look(opening, offset)));
+        samples[3].push(calls(&|| proved.steps(opening)));
+        samples[4].push(calls(&|| {
+            black_box(looked(black_box(opening), PROGRAM_LIMIT, offset));
+        }));
+        samples[5].push(calls(&|| {
+            black_box(play(black_box(opening), PROGRAM_LIMIT, &mut ()));
+        }));
+    }
+    let [read, read_model, asked, played, asked_model, played_model] = samples.map(fastest);
+    let question = |asked: u128, played: u128| {
+        format!("{:.0}", (asked as f64 - played as f64) / f64::from(CALLS))
+    };
+    let cells = [
+        linked(per_step(&look.reads, read)),
+        per_step(&look.reads, read_model),
+        linked(question(asked, played)),
+        question(asked_model, played_model),
+    ];
+    let (channels, pending, words) = (look.channels, look.pending, look.words);
+    format!(
+        "| {channels} | {pending} | {words} | {} |",
+        cells.join(" | ")
+    )
+}
+
+/// What is told of the proved side, where it is linked in.
+fn linked(cell: String) -> String {
+    match cfg!(feature = "exports") {
+        true => cell,
+        false => "-".to_string(),
+    }
+}
+
 fn list_by_hand(workload: &Workload, digits: &mut Digits) {
     digits.bytes.clear();
     play(black_box(&workload.trace), PROGRAM_LIMIT, digits);
@@ -196,9 +259,26 @@ impl<'a> Proved<'a> {
         black_box(&self.buffer);
     }
 
-    fn play(&mut self) {
-        let trace = black_box(self.trace);
-        black_box(bench::exports::steps_of(trace, PROGRAM_LIMIT));
+    fn play(&self) {
+        self.steps(self.trace);
+    }
+
+    fn steps(&self, trace: &[u8]) {
+        black_box(bench::exports::steps_of(black_box(trace), PROGRAM_LIMIT));
+    }
+
+    fn look(&self, trace: &[u8], offset: u32) {
+        let trace = black_box(trace);
+        let words = bench::exports::words_looked_at(trace, PROGRAM_LIMIT, offset);
+        black_box(words);
+    }
+
+    /// What is told beside the times must be what is looked at.
+    fn check_words(&self, look: &Look) {
+        for trace in [look.opening.as_slice(), self.trace] {
+            let words = bench::exports::words_looked_at(trace, PROGRAM_LIMIT, look.offset);
+            assert_eq!(words, look.words, "the words looked at differ");
+        }
     }
 
     fn list_plain(&mut self) {
@@ -236,7 +316,13 @@ impl Proved {
 
     fn list_plain(&mut self) {}
 
-    fn play(&mut self) {}
+    fn play(&self) {}
+
+    fn steps(&self, _: &[u8]) {}
+
+    fn look(&self, _: &[u8], _: u32) {}
+
+    fn check_words(&self, _: &Look) {}
 
     fn play_plain(&mut self) {}
 
@@ -278,10 +364,6 @@ fn beginning(workload: &Workload) -> String {
 /// The times of all sides, and the ratios of the proved one to the model and to the tuned player.
 fn side_by_side(workload: &Workload, sides: &Sides) -> String {
     let (model, tuned) = (sides.model, sides.tuned);
-    let linked = |cell: String| match cfg!(feature = "exports") {
-        true => cell,
-        false => "-".to_string(),
-    };
     let ratio = |other: u128| linked(format!("{:.2}", sides.proved as f64 / other as f64));
     let mut cells: Vec<String> = [sides.proved, sides.plain]
         .map(|whole| linked(per_step(workload, whole)))
