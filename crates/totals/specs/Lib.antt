@@ -1,0 +1,3 @@
+-- Totals over traces, and what is promised of them.
+pub mod Promises
+pub mod Totals
