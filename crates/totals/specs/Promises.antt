@@ -20,10 +20,10 @@ pub data EachWhole : List Totals → Type 0 where
   one : (f : Totals) (fs : List Totals) → Whole f → EachWhole fs → EachWhole (f ∷ fs)
 
 -- the three figures of source i are these
-pub record Source (t : Totals) (i started waited entries : ℕ) : Type 0 where
-  pub started : getD (t .started) i 0 ≡ started
-  pub waited : getD (t .waited) i 0 ≡ waited
-  pub entries : getD (t .entries) i 0 ≡ entries
+pub record Source (t : Totals) (i handlers most deepest : ℕ) : Type 0 where
+  pub started : getD (t .started) i 0 ≡ handlers
+  pub waited : getD (t .waited) i 0 ≡ most
+  pub entries : getD (t .entries) i 0 ≡ deepest
 
 -- the three figures of source i are the same
 abbrev pub Alike : Totals → Totals → ℕ → Type 0

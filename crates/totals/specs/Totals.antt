@@ -1,11 +1,11 @@
 -- The figures of traces, added up source by source (02, 11/12): handlers started add up, the two largest numbers stay the largest.
 use Prim.Native.Nat.{ℕ, _+_, max}
-use mathlib.Core.Bool.{Bool, true, _&&_}
+use mathlib.Core.Bool.{Bool, true, not, _&&_}
 use mathlib.Core.List.{List, [], _∷_, zipWith}
-use lib.Dec.{leb}
+use lib.Dec.{ltb}
 use lib.ListN.{getD, replicate}
 use Rattle.words.specs.Choice.{pick}
-use Rattle.words.specs.Counting.{allBelow}
+use Rattle.words.specs.Counting.{anyBelow}
 use Rattle.steps.specs.Refusals.{carriedOut, overfull}
 use Rattle.totals.specs.declared.Totals.{Totals}
 use Rattle.totals.specs.declared.Added.{Added}
@@ -16,9 +16,9 @@ zeros = record { started = replicate 32 0; waited = replicate 32 0; entries = re
 
 -- ---- one trace more
 
--- no source's sum passes 4,294,967,295 ("Totals stop at 4,294,967,295")
-unfoldable pub allFit : List ℕ → List ℕ → Bool
-allFit a b = allBelow 32 (λ i. leb (getD a i 0 + getD b i 0) 4294967295)
+-- the sum of some source would pass 4,294,967,295 ("Totals stop at 4,294,967,295")
+unfoldable pub passes : List ℕ → List ℕ → Bool
+passes a b = anyBelow 32 (λ i. ltb 4294967295 (getD a i 0 + getD b i 0))
 
 -- both together: "the handlers started, the largest number of handlers started while it waited, and the deepest nesting"
 unfoldable pub together : Totals → Totals → Totals
@@ -32,9 +32,9 @@ together t f =
 -- 16 where a total would pass the figure, and the totals as they were ("the report so far is kept and the trace is left out")
 unfoldable pub added : Totals → Totals → Added
 added t f =
-    pick (allFit (t .started) (f .started))
-    (record { refusal = carriedOut; totals = together t f })
+    pick (passes (t .started) (f .started))
     (record { refusal = overfull; totals = t })
+    (record { refusal = carriedOut; totals = together t f })
 
 -- ---- many traces, in the order in which they are named
 
@@ -45,7 +45,7 @@ addedAll t (f ∷ fs) = addedAll (added t f .totals) fs
 -- no trace is left out
 unfoldable pub allIn : Totals → List Totals → Bool
 allIn t [] = true
-allIn t (f ∷ fs) = allFit (t .started) (f .started) && allIn (added t f .totals) fs
+allIn t (f ∷ fs) = not (passes (t .started) (f .started)) && allIn (added t f .totals) fs
 
 -- the same traces in another order
 pub data Reordered : List Totals → List Totals → Type 0 where

@@ -1,9 +1,9 @@
 // Adding the figures of traces up, source by source: handlers started add up and stop at 4,294,967,295, the two largest numbers stay the largest (02, 11/12).
 ghost use mathlib.Core.Path.{_≡_};
-ghost use mathlib.Core.Bool.{true};
+ghost use mathlib.Core.Bool.{false};
 ghost use mathlib.Core.List.{zipWith};
 ghost use Prim.Native.Nat.{_+_, max};
-ghost use Rattle.totals.specs.Totals.{zeros, allFit, added};
+ghost use Rattle.totals.specs.Totals.{zeros, passes, together, added};
 
 // For each source, of one trace or of many: the handlers started, the most handlers started while it waited, and the most entries open while it was open.
 pub struct Totals {
@@ -37,46 +37,56 @@ pub fn add(t: Totals, f: Totals) -> Added
 {
     let ts = t.started;
     let fs = f.started;
-    if all_fit(ts, fs) {
-        let tw = t.waited;
-        let fw = f.waited;
-        let te = t.entries;
-        let fe = f.entries;
-        let s = sums(ts, fs);
-        let w = largest(tw, fw);
-        let e = largest(te, fe);
-        let sum = Totals {
-            started: s,
-            waited: w,
-            entries: e,
-        };
+    if any_passes(ts, fs) {
         return Added {
-            refusal: steps::CARRIED_OUT,
-            totals: sum,
+            refusal: steps::OVERFULL,
+            totals: t,
         };
     }
+    let sum = together(t, f);
     Added {
-        refusal: steps::OVERFULL,
-        totals: t,
+        refusal: steps::CARRIED_OUT,
+        totals: sum,
     }
 }
 
-// Whether no sum passes the figure.
-fn all_fit(a: [u32; 32], b: [u32; 32]) -> bool
-    ensures { λ r. ⌜ r ≡ allFit a b ⌝ }
+// Both together, where no sum passes the figure.
+fn together(t: Totals, f: Totals) -> Totals
+    requires { ⌜ passes (t .started) (f .started) ≡ false ⌝ }
+    ensures { λ r. ⌜ r ≡ together t f ⌝ }
 {
-    let mut fit = true;
+    let ts = t.started;
+    let fs = f.started;
+    let s = sums(ts, fs);
+    let tw = t.waited;
+    let fw = f.waited;
+    let w = largest(tw, fw);
+    let te = t.entries;
+    let fe = f.entries;
+    let e = largest(te, fe);
+    Totals {
+        started: s,
+        waited: w,
+        entries: e,
+    }
+}
+
+// Whether some sum would pass the figure.
+fn any_passes(a: [u32; 32], b: [u32; 32]) -> bool
+    ensures { λ r. ⌜ r ≡ passes a b ⌝ }
+{
+    let mut past = false;
     let mut i: usize = 0;
     while i < 32 {
-        fit = fit & (b[i] <= MOST - a[i]);
+        past = past | (MOST - a[i] < b[i]);
         i = i + 1;
     }
-    fit
+    past
 }
 
 // Source by source the sum of both.
 fn sums(a: [u32; 32], b: [u32; 32]) -> [u32; 32]
-    requires { ⌜ allFit a b ≡ true ⌝ }
+    requires { ⌜ passes a b ≡ false ⌝ }
     ensures { λ r. ⌜ r ≡ zipWith _+_ a b ⌝ }
 {
     let mut out = [0u32; 32];
