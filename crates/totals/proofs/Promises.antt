@@ -55,9 +55,11 @@ module _ (t f : Totals) where
       )
 
   when-0 : (added t f .refusal ≡ 0) ↔ ((i : ℕ) → i < 32 → getD (t .started) i 0 + getD (f .started) i 0 < 4294967296)
-  when-0 =
-      ((λ e i l. omega (arith, fit-at (t .started) (f .started) (told-0 e) i l)), (λ h. is-0 (not-holds (passes (t .started) (f .started)) (λ p.
-      let r = when-16 .0 (is-16 p) in absurd (omega (arith, r .2, h (r .0) (r .1)))))))
+  when-0 = (
+    (λ e i l. omega (arith, fit-at (t .started) (f .started) (told-0 e) i l)),
+    (λ h. is-0 (not-holds (passes (t .started) (f .started)) (λ p.
+        let r = when-16 .0 (is-16 p) in absurd (omega (arith, r .2, h (r .0) (r .1)))))),
+  )
 
 -- what joining leaves whole, and its figures
 whole-together : (t f : Totals) → Whole t → Whole f → Whole (together t f)
