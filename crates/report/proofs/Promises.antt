@@ -69,7 +69,7 @@ worked-trace : traceLine 7 1 0 27 (bytes "examples/first.trace") ≡ bytes "step
 unfolding traceLine counted named endedAt bytes decimalOf pick
 worked-trace = refl
 
-worked-cut : traceLine 5 0 8 24 (bytes "examples/cut-short.trace") ≡ bytes "steps played 5, steps refused 0, E 8 24: examples/cut-short.trace\n"
+worked-cut : traceLine 1 0 8 7 (bytes "examples/cut-short.trace") ≡ bytes "steps played 1, steps refused 0, E 8 7: examples/cut-short.trace\n"
 unfolding traceLine counted named endedAt field bytes decimalOf pick
 worked-cut = refl
 

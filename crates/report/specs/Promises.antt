@@ -48,7 +48,7 @@ pub record Promises : Type 0 where
   -- ---- worked lines, whole
 
   pub workedTrace : traceLine 7 1 0 27 (bytes "examples/first.trace") ≡ bytes "steps played 7, steps refused 1: examples/first.trace\n"
-  pub workedCut : traceLine 5 0 8 24 (bytes "examples/cut-short.trace") ≡ bytes "steps played 5, steps refused 0, E 8 24: examples/cut-short.trace\n"
+  pub workedCut : traceLine 1 0 8 7 (bytes "examples/cut-short.trace") ≡ bytes "steps played 1, steps refused 0, E 8 7: examples/cut-short.trace\n"
   pub workedMissing : leftOutLine 17 (bytes "missing.trace") ≡ bytes "refusal 17: missing.trace\n"
   pub workedLeftOut : leftOutLine 16 (bytes "left-out.trace") ≡ bytes "refusal 16: left-out.trace\n"
   pub workedSource : sourceLine 31 4294967295 12 8
