@@ -8,6 +8,8 @@ use native.Mathlib.Omega.{arith}
 use lib.Dec.{ltb}
 use lib.ListN.{getD, length}
 use borrow.Author.Tests.{lt-ltb, ltb-true, not-true}
+use Rattle.words.specs.Choice.{pick}
+use Rattle.words.specs.Counting.{anyBelow}
 use Rattle.words.proofs.ArrayLaws.{zeros-getD}
 use Rattle.words.proofs.ChoiceLaws.{pick-true, pick-false}
 use Rattle.words.proofs.CountingLaws.{any-some, some-any, any-none}
@@ -15,6 +17,7 @@ use Rattle.words.proofs.TruthLaws.{and-left, and-right, told, not-holds}
 use Rattle.totals.specs.declared.Totals.{Totals}
 use Rattle.totals.specs.declared.Added.{Added}
 use Rattle.totals.specs.Totals.{zeros, passes, together, added, addedAll, allIn, Reordered, none, keep, swap, then}
+use Rattle.totals.specs.Worked.{only}
 use Rattle.totals.specs.Promises.{Whole, EachWhole, nothing, one, Source, Promises}
 use Rattle.totals.proofs.TotalsLaws.{length-joined, getD-joined, fit-at}
 
@@ -134,6 +137,14 @@ no-figures : (i : ℕ) → Source zeros i 0 0 0
 unfolding zeros
 no-figures i = record { started = zeros-getD 32 i; waited = zeros-getD 32 i; entries = zeros-getD 32 i }
 
+worked-full : (added (only 4294967290) (only 5) .refusal ≡ 0) × (added (only 4294967290) (only 5) .totals ≡ only 4294967295)
+unfolding added passes anyBelow pick together zipWith only
+worked-full = (refl, refl)
+
+worked-past : (added (only 4294967290) (only 6) .refusal ≡ 16) × (added (only 4294967290) (only 6) .totals ≡ only 4294967290)
+unfolding added passes anyBelow pick only
+worked-past = (refl, refl)
+
 none-yet : (t : Totals) → addedAll t [] ≡ t
 unfolding addedAll
 none-yet t = refl
@@ -150,6 +161,8 @@ kept =
       notRefused = when-0;
       leftOut = λ t f e. ap (λ (x : Added). x .totals) (left-out t f (told-16 t f e));
       taken = λ t f w v e i l. rw (taken-in t f (told-0 t f e)) (figures-together t f w v i l);
+      workedFull = worked-full;
+      workedPast = worked-past;
       noneYet = none-yet;
       oneMore = one-more;
       anyOrder =

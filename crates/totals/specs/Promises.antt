@@ -7,6 +7,7 @@ use mathlib.Core.Logic.{_↔_}
 use lib.ListN.{getD, length}
 use Rattle.totals.specs.declared.Totals.{Totals}
 use Rattle.totals.specs.Totals.{zeros, added, addedAll, allIn, Reordered}
+use Rattle.totals.specs.Worked.{only}
 
 -- the arrays have their lengths, as those of every such record in the code do
 pub record Whole (t : Totals) : Type 0 where
@@ -41,6 +42,9 @@ pub record Promises : Type 0 where
   pub taken : (t f : Totals) → Whole t → Whole f → added t f .refusal ≡ 0 → (i : ℕ) → i < 32
       → Source (added t f .totals) i (getD (t .started) i 0 + getD (f .started) i 0) (max (getD (t .waited) i 0) (getD (f .waited) i 0))
       (max (getD (t .entries) i 0) (getD (f .entries) i 0))
+  -- a sum that reaches 4,294,967,295 is kept, and one that would pass it by one leaves the trace out (02, 11/12)
+  pub workedFull : (added (only 4294967290) (only 5) .refusal ≡ 0) × (added (only 4294967290) (only 5) .totals ≡ only 4294967295)
+  pub workedPast : (added (only 4294967290) (only 6) .refusal ≡ 16) × (added (only 4294967290) (only 6) .totals ≡ only 4294967290)
   -- traces are put to the totals one after the other
   pub noneYet : (t : Totals) → addedAll t [] ≡ t
   pub oneMore : (t f : Totals) (fs : List Totals) → addedAll t (f ∷ fs) ≡ addedAll (added t f .totals) fs
