@@ -2,6 +2,9 @@
 
 use crate::compare::{written, Outcome};
 use crate::generate::Case;
+use crate::model::aic::SOURCES;
+use crate::report::generate::told;
+use crate::report::{Counts, Figures};
 use crate::stack::generate::Typed;
 
 extern "C" {
@@ -30,6 +33,16 @@ extern "C" {
         out_len: usize,
     ) -> usize;
     fn wisteria_play_plain(trace: *const u8, trace_len: usize, limit: u32) -> u32;
+
+    /// Writes the figures of a trace into the lent numbers, 98 of them: steps played, steps refused, then for each source
+    /// the handlers started, for each the most handlers started while it waited, and for each the most entries open.
+    fn wisteria_figures(
+        trace: *const u8,
+        trace_len: usize,
+        limit: u32,
+        out: *mut u32,
+        out_len: usize,
+    );
 
     /// Writes the line of the lent text of a table into the lent buffer and answers the bytes written, as above.
     fn wisteria_stack(text: *const u8, text_len: usize, out: *mut u8, out_len: usize) -> usize;
@@ -112,4 +125,44 @@ pub fn list(case: &Case) -> Outcome {
 /// The line of a typed table.
 pub fn stack(typed: &Typed) -> Outcome {
     written(typed.ample_room(), |buffer| stack_into(&typed.text, buffer))
+}
+
+/// How many numbers the figures of a trace are.
+pub const FIGURES: usize = 2 + 3 * SOURCES;
+
+/// Fills the numbers with the figures of a trace.
+pub fn figures_into(trace: &[u8], limit: u32, numbers: &mut [u32; FIGURES]) {
+    // Both pointers come from slices of the lengths that go with them, and the two slices cannot overlap.
+    unsafe {
+        wisteria_figures(
+            trace.as_ptr(),
+            trace.len(),
+            limit,
+            numbers.as_mut_ptr(),
+            numbers.len(),
+        );
+    }
+}
+
+/// The figures of a trace.
+pub fn figures_of(trace: &[u8], limit: u32) -> Figures {
+    // No figure has this value, so that a number that is not written differs.
+    let mut numbers = [0xA5A5_A5A5; FIGURES];
+    figures_into(trace, limit, &mut numbers);
+    let counts = |source| Counts {
+        started: numbers[2 + source],
+        waited: numbers[2 + SOURCES + source],
+        entries: numbers[2 + 2 * SOURCES + source],
+    };
+    Figures {
+        steps: numbers[0],
+        refused: numbers[1],
+        sources: std::array::from_fn(counts),
+    }
+}
+
+/// The figures of a case as the report of it alone has them, with the ending that the library tells.
+pub fn figures(case: &Case) -> Outcome {
+    let figures = figures_of(&case.trace, case.limit);
+    Ok(told(&figures, ending_of(&case.trace, case.limit)))
 }
