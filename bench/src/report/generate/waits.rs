@@ -104,8 +104,12 @@ impl Tour<'_> {
         self.put(Step::Line { line, level });
     }
 
-    /// Types and priorities: few of both or all; protect mode in one tour of three.
+    /// Types and priorities: few of both or all; protect mode in one tour of three. In one of four what is pending at
+    /// reset asks from the first step on.
     fn prepare(&mut self) {
+        if self.random.one_in(4) {
+            self.write(ENABLE, u32::MAX);
+        }
         let levels = self.random.pick(&[1, 2, 3, 8]);
         let least = self.random.below(9 - levels);
         let kind = self.random.below(6);
