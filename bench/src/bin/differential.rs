@@ -28,7 +28,7 @@ differential --trace N [--stack | --figures] [--seed N]
   --exports       in this process, if it is built with the feature `exports`; step limits and room vary too
   --tuned         the tuned player, in this process, which needs no proved side; step limits and room vary too
   --stack         typed tables and their stack lines, instead of traces and their listings
-  --figures       traces and their figures for a report, with --exports alone
+  --figures       traces and their figures for a report, with --exports or --batch
   --trace N       writes the trace (or table) of case N to standard output
   --seed N        other traces for another seed (1)
   --count N       how many (900 for --program, else 100000)
@@ -123,8 +123,8 @@ fn asked<S: Reported>(options: &Options, case: impl Fn(usize) -> S) -> ExitCode 
         (None, Some(Way::Tuned)) if options.stack => {
             wrong("--tuned is about traces, not about tables")
         }
-        (None, Some(way)) if options.figures && way != Way::Exports => {
-            wrong("--figures are asked with --exports alone")
+        (None, Some(Way::Program | Way::Tuned)) if options.figures => {
+            wrong("--figures are asked with --exports or --batch")
         }
         (None, Some(way)) => differential(case, way, options),
     }
@@ -196,7 +196,7 @@ impl Other {
     fn ask<S: Subject>(&mut self, case: &S) -> Outcome {
         match self {
             Other::Program(program) => program.ask(case.input()),
-            Other::Batch(batch) => batch.ask(case.request()),
+            Other::Batch(batch) => case.heard(batch.ask(case.request())?),
             Other::Exports => in_process(case),
             Other::Tuned => case.by_tuned(),
         }

@@ -12,8 +12,8 @@ use super::coverage::Coverage;
 use super::history::History;
 use super::text::{source_lines, trace_line};
 use super::{ending, Ending, Figures};
-use crate::batch::Request;
-use crate::compare::Subject;
+use crate::batch::{figures_from_bytes, Request};
+use crate::compare::{Outcome, Subject};
 use crate::generate::damage::damaged;
 use crate::generate::{in_any_form, random_case, tour_of, Case, Generator as Listed, Script};
 use crate::model::Kind;
@@ -58,11 +58,18 @@ impl Subject for Counted {
     }
 
     fn request(&self) -> Request {
-        unreachable!("figures are numbers, and no batch is asked for them")
+        Request::figures(&self.case)
+    }
+
+    fn heard(&self, reply: Vec<u8>) -> Outcome {
+        match figures_from_bytes(&reply) {
+            Some((figures, ending)) => Ok(told(&figures, ending)),
+            None => Err(format!("{} bytes are no figures", reply.len())),
+        }
     }
 
     #[cfg(feature = "exports")]
-    fn by_library(&self) -> crate::compare::Outcome {
+    fn by_library(&self) -> Outcome {
         crate::exports::figures(&self.case)
     }
 
