@@ -13,12 +13,12 @@ use Rattle.words.specs.Counting.{anyBelow}
 use Rattle.words.proofs.ArrayLaws.{zeros-getD}
 use Rattle.words.proofs.ChoiceLaws.{pick-true, pick-false}
 use Rattle.words.proofs.CountingLaws.{any-some, some-any, any-none}
-use Rattle.words.proofs.TruthLaws.{and-left, and-right, told, not-holds}
+use Rattle.words.proofs.TruthLaws.{and-left, and-right, and-both, told, not-holds}
 use Rattle.totals.specs.declared.Totals.{Totals}
 use Rattle.totals.specs.declared.Added.{Added}
 use Rattle.totals.specs.Totals.{zeros, passes, together, added, addedAll, allIn, Reordered, none, keep, swap, then}
 use Rattle.totals.specs.Worked.{only}
-use Rattle.totals.specs.Promises.{Whole, EachWhole, nothing, one, Source, Promises}
+use Rattle.totals.specs.Promises.{Whole, Within, EachWhole, nothing, one, Source, Promises}
 use Rattle.totals.proofs.TotalsLaws.{length-joined, getD-joined, fit-at}
 
 -- ---- one trace more
@@ -109,17 +109,32 @@ still-whole xs ys (keep f us bs p) (one h hs v w) = one f bs v (still-whole us b
 still-whole xs ys (swap f g us) (one h hs v (one k ks u w)) = one g (f ∷ us) u (one f us v w)
 still-whole xs ys (then us bs cs p q) w = still-whole bs cs q (still-whole us bs p w)
 
+-- what is left where the first is in
+first-in : (t f : Totals) (fs : List Totals) → allIn t (f ∷ fs) ≡ true → passes (t .started) (f .started) ≡ false
+unfolding allIn
+first-in t f fs a = not-true (passes (t .started) (f .started)) (and-left (not (passes (t .started) (f .started))) (allIn (added t f .totals) fs) a)
+
+rest-in : (t f : Totals) (fs : List Totals) → allIn t (f ∷ fs) ≡ true → allIn (added t f .totals) fs ≡ true
+unfolding allIn
+rest-in t f fs a = and-right (not (passes (t .started) (f .started))) (allIn (added t f .totals) fs) a
+
+next-whole : (t f : Totals) → Whole t → Whole f → passes (t .started) (f .started) ≡ false → Whole (added t f .totals)
+next-whole t f w v p = rw (ap (λ (x : Added). x .totals) (taken-in t f p)) (whole-together t f w v)
+
+next-started : (t f : Totals) → Whole t → Whole f → passes (t .started) (f .started) ≡ false → (i : ℕ) → i < 32
+    → getD (added t f .totals .started) i 0 ≡ getD (t .started) i 0 + getD (f .started) i 0
+next-started t f w v p i l = ap (λ (x : Added). getD (x .totals .started) i 0) (taken-in t f p) ∙ figures-together t f w v i l .started
+
 module _ (op : ℕ → ℕ → ℕ) (get : Totals → List ℕ) (i : ℕ)
     (joins : (t f : Totals) → Whole t → Whole f → getD (get (together t f)) i 0 ≡ op (getD (get t) i 0) (getD (get f) i 0)) where
   column-is : (t : Totals) (fs : List Totals) → Whole t → EachWhole fs → allIn t fs ≡ true
       → getD (get (addedAll t fs)) i 0 ≡ joinedTo op (λ f. getD (get f) i 0) (getD (get t) i 0) fs
-  unfolding addedAll allIn joinedTo
+  unfolding addedAll joinedTo
   column-is t [] w v a = refl
   column-is t (f ∷ fs) w (one h hs u v) a =
-      let fits = not-true (passes (t .started) (f .started)) (and-left (not (passes (t .started) (f .started))) (allIn (added t f .totals) fs) a) in
-      let rest = and-right (not (passes (t .started) (f .started))) (allIn (added t f .totals) fs) a in
+      let fits = first-in t f fs a in
       let e = ap (λ (x : Added). x .totals) (taken-in t f fits) in
-      column-is (added t f .totals) fs (rw e (whole-together t f w u)) v rest
+      column-is (added t f .totals) fs (next-whole t f w u fits) v (rest-in t f fs a)
       ∙ ap (λ (n : ℕ). joinedTo op (λ x. getD (get x) i 0) n fs) (ap (λ (x : Totals). getD (get x) i 0) e ∙ joins t f w u)
 
   alike : ((z a b : ℕ) → op (op z a) b ≡ op (op z b) a) → (t : Totals) (xs ys : List Totals) → Whole t → EachWhole xs → Reordered xs ys
@@ -127,11 +142,43 @@ module _ (op : ℕ → ℕ → ℕ) (get : Totals → List ℕ) (i : ℕ)
   alike s t xs ys w v p a b =
       column-is t xs w v a ∙ same-joined op s (λ f. getD (get f) i 0) (getD (get t) i 0) xs ys p ∙ sym (column-is t ys w (still-whole xs ys p v) b)
 
+-- ---- where one order leaves no trace out, no order does: all are in exactly if no sum over all of them passes the figure
+
+sum-grows : (g : Totals → ℕ) (z : ℕ) (fs : List Totals) → z ≤ joinedTo _+_ g z fs
+unfolding joinedTo
+sum-grows g z [] = omega arith
+sum-grows g z (f ∷ fs) = omega (arith, sum-grows g (z + g f) fs)
+
+in-within : (t : Totals) (fs : List Totals) → Whole t → EachWhole fs → Within t → allIn t fs ≡ true → (i : ℕ) → i < 32
+    → joinedTo _+_ (λ f. getD (f .started) i 0) (getD (t .started) i 0) fs < 4294967296
+unfolding joinedTo
+in-within t [] w v b a i l = b i l
+in-within t (f ∷ fs) w (one h hs u v) b a i l =
+    let fits = first-in t f fs a in
+    let next : Within (added t f .totals) = λ j m. omega (arith, next-started t f w u fits j m, fit-at (t .started) (f .started) fits j m) in
+    let more = in-within (added t f .totals) fs (next-whole t f w u fits) v next (rest-in t f fs a) i l in
+    omega (arith, more, ap (λ (n : ℕ). joinedTo _+_ (λ x. getD (x .started) i 0) n fs) (next-started t f w u fits i l))
+
+within-in : (t : Totals) (fs : List Totals) → Whole t → EachWhole fs
+    → ((i : ℕ) → i < 32 → joinedTo _+_ (λ f. getD (f .started) i 0) (getD (t .started) i 0) fs < 4294967296) → allIn t fs ≡ true
+unfolding joinedTo allIn
+within-in t [] w v b = refl
+within-in t (f ∷ fs) w (one h hs u v) b =
+    let fits = told-0 t f (when-0 t f .1 (λ i l. omega (arith, b i l, sum-grows (λ x. getD (x .started) i 0) (getD (t .started) i 0 + getD (f .started) i 0) fs))) in
+    and-both (ap not fits)
+    (within-in (added t f .totals) fs (next-whole t f w u fits) v (λ i l.
+    omega (arith, b i l, ap (λ (n : ℕ). joinedTo _+_ (λ x. getD (x .started) i 0) n fs) (next-started t f w u fits i l))))
+
 sums : (z a b : ℕ) → (z + a) + b ≡ (z + b) + a
 sums z a b = omega arith
 
 largest : (z a b : ℕ) → max (max z a) b ≡ max (max z b) a
 largest z a b = omega arith
+
+no-order : (t : Totals) (xs ys : List Totals) → Whole t → Within t → EachWhole xs → Reordered xs ys → allIn t xs ≡ true → allIn t ys ≡ true
+no-order t xs ys w b v p a =
+    within-in t ys w (still-whole xs ys p v) (λ i l.
+    omega (arith, in-within t xs w v b a i l, same-joined _+_ sums (λ f. getD (f .started) i 0) (getD (t .started) i 0) xs ys p))
 
 no-figures : (i : ℕ) → Source zeros i 0 0 0
 unfolding zeros
@@ -166,10 +213,14 @@ kept =
       noneYet = none-yet;
       oneMore = one-more;
       anyOrder =
-          λ t xs ys w v p a b i l.
-          record {
-            started = alike _+_ (λ t. t .started) i (λ t f w v. figures-together t f w v i l .started) sums t xs ys w v p a b;
-            waited = alike max (λ t. t .waited) i (λ t f w v. figures-together t f w v i l .waited) largest t xs ys w v p a b;
-            entries = alike max (λ t. t .entries) i (λ t f w v. figures-together t f w v i l .entries) largest t xs ys w v p a b;
-          };
+          λ t xs ys w m v p a.
+          let b = no-order t xs ys w m v p a in (
+            b,
+            λ i l.
+                record {
+                  started = alike _+_ (λ t. t .started) i (λ t f w v. figures-together t f w v i l .started) sums t xs ys w v p a b;
+                  waited = alike max (λ t. t .waited) i (λ t f w v. figures-together t f w v i l .waited) largest t xs ys w v p a b;
+                  entries = alike max (λ t. t .entries) i (λ t f w v. figures-together t f w v i l .entries) largest t xs ys w v p a b;
+                },
+          );
     }

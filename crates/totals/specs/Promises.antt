@@ -20,6 +20,10 @@ pub data EachWhole : List Totals → Type 0 where
   nothing : EachWhole []
   one : (f : Totals) (fs : List Totals) → Whole f → EachWhole fs → EachWhole (f ∷ fs)
 
+-- the handlers started of each source are a number of 32 bits, as in the code they are
+abbrev pub Within : Totals → Type 0
+Within t = (i : ℕ) → i < 32 → getD (t .started) i 0 < 4294967296
+
 -- the three figures of source i are these
 pub record Source (t : Totals) (i handlers most deepest : ℕ) : Type 0 where
   pub started : getD (t .started) i 0 ≡ handlers
@@ -48,6 +52,6 @@ pub record Promises : Type 0 where
   -- traces are put to the totals one after the other
   pub noneYet : (t : Totals) → addedAll t [] ≡ t
   pub oneMore : (t f : Totals) (fs : List Totals) → addedAll t (f ∷ fs) ≡ addedAll (added t f .totals) fs
-  -- where no trace is left out, the same traces in another order give the same figures of every source (02, 11/12)
-  pub anyOrder : (t : Totals) (xs ys : List Totals) → Whole t → EachWhole xs → Reordered xs ys → allIn t xs ≡ true → allIn t ys ≡ true
-      → (i : ℕ) → i < 32 → Alike (addedAll t xs) (addedAll t ys) i
+  -- where no trace is left out, none is in another order, and the same traces give the same figures of every source (02, 11/12)
+  pub anyOrder : (t : Totals) (xs ys : List Totals) → Whole t → Within t → EachWhole xs → Reordered xs ys → allIn t xs ≡ true
+      → (allIn t ys ≡ true) × ((i : ℕ) → i < 32 → Alike (addedAll t xs) (addedAll t ys) i)
