@@ -13,6 +13,7 @@ pub mod listing;
 pub mod model;
 pub mod program;
 pub mod random;
+pub mod report;
 pub mod stack;
 pub mod trace;
 pub mod tuned;

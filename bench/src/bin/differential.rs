@@ -1,5 +1,5 @@
 //! Compares the texts of another side, a program or a linked library, with the model's on many generated cases: the
-//! listings of traces, or the stack lines of typed tables.
+//! listings of traces, the figures of traces for a report, or the stack lines of typed tables.
 
 use std::io::{self, Write};
 use std::process::ExitCode;
@@ -13,6 +13,7 @@ use bench::generate::{Case, Generator};
 use bench::hex;
 use bench::model::Kind;
 use bench::program::Program;
+use bench::report::generate::{Counted, Generator as Counter};
 use bench::stack::generate::{Generator as Typist, Typed};
 
 const USAGE: &str = "\
@@ -20,13 +21,14 @@ differential --program PATH [options] [-- ARGUMENTS]
 differential --batch PATH   [options] [-- ARGUMENTS]
 differential --exports      [options]
 differential --tuned        [options]
-differential --trace N [--stack] [--seed N]
+differential --trace N [--stack | --figures] [--seed N]
 
   --program PATH  a process for each trace: the trace on standard input, the listing on standard output
   --batch PATH    one process for all traces, which speaks as batch.c does; step limits and room vary too
   --exports       in this process, if it is built with the feature `exports`; step limits and room vary too
   --tuned         the tuned player, in this process, which needs no proved side; step limits and room vary too
   --stack         typed tables and their stack lines, instead of traces and their listings
+  --figures       traces and their figures for a report, with --exports or --batch
   --trace N       writes the trace (or table) of case N to standard output
   --seed N        other traces for another seed (1)
   --count N       how many (900 for --program, else 100000)
@@ -78,6 +80,7 @@ struct Options {
     path: String,
     arguments: Vec<String>,
     stack: bool,
+    figures: bool,
     trace: Option<usize>,
     seed: u64,
     count: Option<usize>,
@@ -90,9 +93,15 @@ fn main() -> ExitCode {
         Ok(options) => options,
         Err(error) => return wrong(&error),
     };
+    if options.stack && options.figures {
+        return wrong("--stack and --figures are not asked together");
+    }
     if options.stack {
         let typist = Typist::new(options.seed);
         asked(&options, |number| typist.typed(number))
+    } else if options.figures {
+        let counter = Counter::new(options.seed);
+        asked(&options, |number| counter.counted(number))
     } else {
         let generator = Generator::new(options.seed);
         asked(&options, |number| generator.case(number))
@@ -114,6 +123,9 @@ fn asked<S: Reported>(options: &Options, case: impl Fn(usize) -> S) -> ExitCode 
         (None, Some(Way::Tuned)) if options.stack => {
             wrong("--tuned is about traces, not about tables")
         }
+        (None, Some(Way::Program | Way::Tuned)) if options.figures => {
+            wrong("--figures are asked with --exports or --batch")
+        }
         (None, Some(way)) => differential(case, way, options),
     }
 }
@@ -129,6 +141,7 @@ fn options(mut words: impl Iterator<Item = String>) -> Result<Options, String> {
         path: String::new(),
         arguments: Vec::new(),
         stack: false,
+        figures: false,
         trace: None,
         seed: 1,
         count: None,
@@ -143,6 +156,7 @@ fn options(mut words: impl Iterator<Item = String>) -> Result<Options, String> {
             "--exports" => options.way = Some(Way::Exports),
             "--tuned" => options.way = Some(Way::Tuned),
             "--stack" => options.stack = true,
+            "--figures" => options.figures = true,
             "--trace" => options.trace = Some(number(&value()?)?),
             "--seed" => options.seed = number(&value()?)?,
             "--count" => options.count = Some(number(&value()?)?),
@@ -182,7 +196,7 @@ impl Other {
     fn ask<S: Subject>(&mut self, case: &S) -> Outcome {
         match self {
             Other::Program(program) => program.ask(case.input()),
-            Other::Batch(batch) => batch.ask(case.request()),
+            Other::Batch(batch) => case.heard(batch.ask(case.request())?),
             Other::Exports => in_process(case),
             Other::Tuned => case.by_tuned(),
         }
@@ -254,6 +268,25 @@ impl Reported for Typed {
 
     fn told(&self) -> String {
         format!("text: {}", start(&self.text).escape_ascii())
+    }
+}
+
+impl Reported for Counted {
+    const MANY: &'static str = "traces";
+
+    fn amount(summary: &Summary<Counted>) -> String {
+        let [steps, handlers, waits] = summary.coverage.amounts();
+        let started = |kind: Kind| format!("{} {}", kind.told(), summary.coverage.started(kind));
+        let started = Kind::ALL.map(started).join(", ");
+        format!("{steps} steps, {handlers} handlers started, {waits} waits, started: {started}")
+    }
+
+    fn items(coverage: &Self::Coverage) -> Vec<(u64, String)> {
+        named(coverage.table())
+    }
+
+    fn told(&self) -> String {
+        self.case.told()
     }
 }
 

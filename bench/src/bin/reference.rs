@@ -4,9 +4,10 @@
 use std::io::{self, BufReader, BufWriter, Read, Write};
 use std::process::ExitCode;
 
-use bench::batch::{serve, Asked, Reply, Request};
+use bench::batch::{figures_to_bytes, serve, Asked, Reply, Request};
 use bench::boards::generate::{script, unsound};
 use bench::listing::listing;
+use bench::report;
 use bench::stack;
 use bench::trace::PROGRAM_LIMIT;
 
@@ -57,6 +58,10 @@ fn reply(request: &Request) -> Reply {
     let mut text = match request.asked {
         Asked::Listing => listing(&request.input, request.limit),
         Asked::Stack => stack::line(&request.input),
+        Asked::Figures => {
+            let (figures, ending) = report::figures(&request.input, request.limit);
+            figures_to_bytes(&figures, ending)
+        }
     };
     text.truncate(request.room);
     Reply { changed: 0, text }
