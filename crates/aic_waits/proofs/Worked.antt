@@ -23,7 +23,7 @@ use Rattle.aic_waits.specs.Worked.{busy}
 pub record Worked : Type 0 where
   pub handlers : (startedOf 2 (reset 0 0) busy ≡ 2) × (startedOf 4 (reset 0 0) busy ≡ 2) × (startedOf 7 (reset 0 0) busy ≡ 0) × (startedOf 9 (reset 0 0) busy ≡ 0)
   pub longest : (waitedOf 2 (reset 0 0) busy ≡ 1) × (waitedOf 4 (reset 0 0) busy ≡ 0) × (waitedOf 7 (reset 0 0) busy ≡ 4) × (waitedOf 9 (reset 0 0) busy ≡ 0)
-  pub deepest : (entriesOf 2 (reset 0 0) busy ≡ 2) × (entriesOf 4 (reset 0 0) busy ≡ 3) × (entriesOf 7 (reset 0 0) busy ≡ 0) × (entriesOf 0 (reset 0 0) busy ≡ 0)
+  pub deepest : (entriesOf 2 (reset 0 0) busy ≡ 3) × (entriesOf 4 (reset 0 0) busy ≡ 3) × (entriesOf 7 (reset 0 0) busy ≡ 0) × (entriesOf 0 (reset 0 0) busy ≡ 0)
 
 pub worked : Worked
 unfolding pick anyBelow allBelow lowestBelow bit kept wordOf either both without withBit readRefusal writeRefusal lineRefusal reset priority kind edge levelBelow over entryFits entrySound freeSound entriesSound memorySound storedSound seenFits seenSound sound activeLow activeAt active pending asking edgeWord fast waiting above candidate ahead foremost candidates chosen access spent opened startedAt marked closedLast ended ivrTaken ivrLooked ivrRead begun ivrWritten moded enabledBy forcedBy unforcedBy turns moved readAt writtenAt readNumber writeNumber lineNumber read write line carried takes begins startedBy startsOf startsOther count startedOf waitNext waitMost waitedOf isOpen entriesMost entriesOf busy

@@ -67,5 +67,5 @@ pub record Promises : Type 0 where
   -- 7 waits to the end, and four handlers are started meanwhile; 9 is fast till the end (02, 11/12)
   pub handlers : (startedOf 2 (reset 0 0) busy ≡ 2) × (startedOf 4 (reset 0 0) busy ≡ 2) × (startedOf 7 (reset 0 0) busy ≡ 0) × (startedOf 9 (reset 0 0) busy ≡ 0)
   pub longest : (waitedOf 2 (reset 0 0) busy ≡ 1) × (waitedOf 4 (reset 0 0) busy ≡ 0) × (waitedOf 7 (reset 0 0) busy ≡ 4) × (waitedOf 9 (reset 0 0) busy ≡ 0)
-  -- two entries while 2 was open, three with the marks while 4 was; the two marks are no handlers
-  pub deepest : (entriesOf 2 (reset 0 0) busy ≡ 2) × (entriesOf 4 (reset 0 0) busy ≡ 3) × (entriesOf 7 (reset 0 0) busy ≡ 0) × (entriesOf 0 (reset 0 0) busy ≡ 0)
+  -- three entries while 2 was open, those above it and a mark among them, and while 4 was, that below it and the mark; the marks are no handlers
+  pub deepest : (entriesOf 2 (reset 0 0) busy ≡ 3) × (entriesOf 4 (reset 0 0) busy ≡ 3) × (entriesOf 7 (reset 0 0) busy ≡ 0) × (entriesOf 0 (reset 0 0) busy ≡ 0)

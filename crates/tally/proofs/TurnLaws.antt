@@ -24,7 +24,7 @@ use Rattle.aic_waits.specs.Following.{Figures, startedFrom, figuresBy, followed
 use Rattle.aic_waits.proofs.TellLaws.{follow-tells}
 use Rattle.machine_record.specs.declared.Machine.{Machine}
 use Rattle.machine_record.specs.Promises.{Ready}
-use Rattle.machine_record.proofs.Promises as Record
+use Rattle.machine_record.proofs.MachineLaws.{sound-aic}
 use Rattle.machine.specs.declared.Answer.{Answer}
 use Rattle.machine.specs.Steps.{step}
 use Rattle.machine.proofs.StepLaws.{aic-steps, step-kind}
@@ -56,7 +56,7 @@ tells-step f m x r = go (ℕ-discrete (m .kind) aicKind)
         → pick (eqb (m .kind) aicKind) (figuresBy (startedFrom (m .aic .depth) (step m x .machine .aic)) (step m x .machine .aic) f) f ≡ followedBy f m x
     go (yes z) =
         sym (pick-true _ (eq-eqb (m .kind) aicKind z)) ∙ ap (λ (t : Aic). figuresBy (startedFrom (m .aic .depth) t) t f) (aic-after m x z)
-        ∙ follow-tells f (m .aic) (x .step) (r .1 .2) (sym (Record.kept .aicSoundIs m z) ∙ r .0) ∙ sym (followed-aic f m x z)
+        ∙ follow-tells f (m .aic) (x .step) (r .1 .2) (sound-aic m z ∙ r .0) ∙ sym (followed-aic f m x z)
     go (no n) = sym (pick-false _ (ne-eqb (m .kind) aicKind n)) ∙ sym (followed-other f m x n)
 
 pub tells : (f g : Figures) (m : Machine) (x : Recorded) (a : Answer) (before : ℕ) → Ready m → a ≡ step m x → before ≡ m .aic .depth

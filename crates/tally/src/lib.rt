@@ -112,6 +112,7 @@ fn tally_steps(trace: &[u8], limit: u32, told: bool, start: usize, first: Machin
     }
 }
 
+// How many entries are open.
 fn open_entries(s: Aic) -> u32
     ensures { λ r. ⌜ r ≡ s .depth ⌝ }
 {
