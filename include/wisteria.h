@@ -69,7 +69,8 @@ size_t wisteria_offset(const uint8_t *trace, size_t trace_len, uint32_t limit);
  * that the index is over, in order, up to and including the first that has a set and enabled system interrupt, the words are counted up to and
  * including the first that has one, or all of them: at most 8,192 words, 32 for each of 256 channels.
  * 0 where that read would be refused, where the index is held, where the register is another, and where the trace is of another kind or has no
- * accepted configuration. The read is not carried out. */
+ * accepted configuration. Counted channel by channel, as document 02 defines it; a step of a trace finds the same index by one pass. The read is not
+ * carried out. */
 uint32_t wisteria_looked(const uint8_t *trace, size_t trace_len, uint32_t limit, uint32_t offset);
 
 /* What each source of an AIC did over the steps played of the trace. started, waited and entries each point to 32 words, which nothing else uses and of
