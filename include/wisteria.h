@@ -1,5 +1,5 @@
-/* Lists and plays recorded traces of register accesses and line changes, says how many words a read of an index looks at, and the stack that a
- * priority table needs, for callers in C and C++.
+/* Lists and plays recorded traces of register accesses and line changes, says how many words a read of an index looks at, counts what the sources of an
+ * AIC did, and says the stack that a priority table needs, for callers in C and C++.
  *
  * The functions are those of crates/exports, proved to answer what its contracts say for every trace, limit and text. Link
  * libexports.a, which `rt staticlib exports` writes (x86-64); bench/prepare also makes it for other machines.
@@ -56,8 +56,8 @@ uint32_t wisteria_steps(const uint8_t *trace, size_t trace_len, uint32_t limit);
 /* The same number as wisteria_steps, by the loop that plays a machine of any kind. For the benchmark, which times both. */
 uint32_t wisteria_play_plain(const uint8_t *trace, size_t trace_len, uint32_t limit);
 
-/* How the trace ended: 0, or the refusal's number, 7 to 11. A step that is refused by 1 to 6 or 13 ends nothing, and the
- * listing shows it. */
+/* How the trace ended: 0, or the refusal's number, 7 to 11. A step that is refused by 1 to 4, 6 or 13 ends nothing, and
+ * the listing shows it. */
 uint32_t wisteria_refusal(const uint8_t *trace, size_t trace_len, uint32_t limit);
 
 /* Where it ended, in bytes from the start of the trace: for 8, 9 and 10 the first byte of the number at fault, for 7 that of the next step,
@@ -72,6 +72,16 @@ size_t wisteria_offset(const uint8_t *trace, size_t trace_len, uint32_t limit);
  * accepted configuration. Counted channel by channel, as document 02 defines it; a step of a trace finds the same index by one pass. The read is not
  * carried out. */
 uint32_t wisteria_looked(const uint8_t *trace, size_t trace_len, uint32_t limit, uint32_t offset);
+
+/* What each source of an AIC did over the steps played of the trace. started, waited and entries each point to 32 words, which nothing else uses and of
+ * which no two overlap; all of them are written, source 0 first:
+ *   started[i]   the handlers of source i started;
+ *   waited[i]    the most handlers of other sources started in one wait of source i. It waits from the step that makes it pending, enabled and not fast
+ *                until one of these ends or it starts; after a start, one must end before it waits again. A wait that does not end counts too;
+ *   entries[i]   the most entries (handlers and spurious marks) open at once while a handler of source i was open, itself and those below it counted.
+ * Of source 0, of another kind of controller, and where the trace has no accepted configuration, all are 0.
+ * Answers the number of steps refused among the steps played, by 1 to 4, 6 or 13. */
+uint32_t wisteria_figures(const uint8_t *trace, size_t trace_len, uint32_t limit, uint32_t *started, uint32_t *waited, uint32_t *entries);
 
 /* Writes one line about a priority table of the AIC to the start of out: how many bytes of stack the open handlers and spurious marks can take
  * at once.

@@ -33,6 +33,11 @@ pub trait Subject: Clone {
     /// The same through a process that serves many.
     fn request(&self) -> Request;
 
+    /// The text from what such a process replies, if that is no text itself.
+    fn heard(&self, reply: Vec<u8>) -> Outcome {
+        Ok(reply)
+    }
+
     /// The same by the linked library.
     #[cfg(feature = "exports")]
     fn by_library(&self) -> Outcome;

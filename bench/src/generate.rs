@@ -1,10 +1,10 @@
 //! Traces made from a seed: sweeps that visit everything once, then tours, damaged ones, noise and long ones.
 
-mod aic;
+pub(crate) mod aic;
 mod aintc;
 mod cic;
 mod core;
-mod damage;
+pub(crate) mod damage;
 mod indexed;
 mod long;
 mod sweeps;
@@ -79,7 +79,8 @@ const STYLES: [(u32, Style); 4] = [
     (2, Style::Long),
 ];
 
-fn random_case(random: &mut Random) -> Case {
+/// A case that depends on nothing but the numbers that are drawn.
+pub(crate) fn random_case(random: &mut Random) -> Case {
     let style = random.weighted(&STYLES);
     let (name, trace) = match style {
         Style::Tour => {

@@ -14,6 +14,7 @@ pub mod looked;
 pub mod model;
 pub mod program;
 pub mod random;
+pub mod report;
 pub mod stack;
 pub mod trace;
 pub mod tuned;

@@ -172,6 +172,16 @@ pub fn polls(steps: u32) -> Vec<Workload> {
     POLLS.iter().map(|plan| workload(plan, rest)).collect()
 }
 
+/// One of many traces of a full AIC for a report, with so many steps.
+pub fn year(number: u64, steps: u32) -> Vec<u8> {
+    let random = &mut Random::for_item(11, number);
+    let (mut script, opened) = aic(32);
+    for at in 0..steps - opened {
+        aic_step(random, &mut script, at, 32);
+    }
+    script.bytes
+}
+
 /// The trace of a plan; how many steps follow the opening is said by the steps that it has.
 fn workload(plan: &Plan, following: impl Fn(u32) -> u32) -> Workload {
     let random = &mut Random::new(11);
@@ -381,5 +391,14 @@ mod tests {
         }
         busy().iter().for_each(has_its_steps_and_fits);
         polls(PROGRAM_LIMIT).iter().for_each(has_its_steps_and_fits);
+        for number in 0..3 {
+            let (steps, trace) = (PROGRAM_LIMIT, year(number, PROGRAM_LIMIT));
+            has_its_steps_and_fits(&Workload {
+                controller: "AIC",
+                size: "32 sources",
+                steps,
+                trace,
+            });
+        }
     }
 }

@@ -7,6 +7,7 @@ use bench::generate::{Generator, Script};
 use bench::listing::listing;
 use bench::looked::generate::Generator as Asker;
 use bench::looked::looked;
+use bench::report::generate::Generator as Counter;
 use bench::stack::generate::Generator as Typist;
 use bench::stack::line;
 use bench::trace::play;
@@ -50,6 +51,19 @@ fn steps_and_endings_are_those_of_the_model() {
             "case {number}"
         );
         assert_eq!(ending_of(&case.trace, case.limit), ending, "case {number}");
+    }
+}
+
+#[test]
+fn the_library_counts_as_the_model_does() {
+    let generator = Counter::new(7);
+    let cases = (0..generator.sweeps() + 2_000).map(|number| (number, generator.counted(number)));
+    let summary = compare(cases, |counted| bench::exports::figures(&counted.case));
+    if let Some((number, counted)) = summary.first {
+        panic!(
+            "case {number} differs: {}",
+            expected(&counted).escape_ascii()
+        );
     }
 }
 

@@ -1,13 +1,16 @@
-//! Times play and listing, the proved one, the model and the tuned player side by side on the same traces; it reports
-//! and judges nothing.
+//! Times play and listing, the proved one, the model and the tuned player side by side on the same traces, and the
+//! figures of a trace for a report; it reports and judges nothing.
 
 use std::fs;
 use std::hint::black_box;
 use std::time::Instant;
 
 use bench::digits::Digits;
+#[cfg(feature = "exports")]
+use bench::exports::{figures_into, figures_of, Words};
 use bench::listing::Text;
 use bench::looked::looked;
+use bench::report;
 use bench::trace::{play, PROGRAM_LIMIT};
 use bench::tuned;
 use bench::workload::{busy, looks, polls, workloads, Look, Workload};
@@ -19,7 +22,8 @@ Nanoseconds per step in the fastest of several rounds; a round is one play of th
 - model: the plain Rust model, its listing with digits made by hand; std text: with the standard library's formatting, as
   the differential test has it.
 - tuned: the Rust player that is tuned by hand; a CIC with indices is not tuned there, and goes by the model's steps.
-- Listing is play and listing. Play is the steps alone, with no text and no outputs after each step.
+- Listing is play and listing. Play is the steps alone, with no text and no outputs after each step. Figures are play and
+  the count of a report, with no text.
 
 Buffers: each side writes its listing into one buffer that is kept from round to round and not cleared. The proved library
 and the tuned player get ample room; the model's vectors have grown to their size before the rounds begin. The trace is in
@@ -61,6 +65,11 @@ fn main() {
     rows().for_each(|(workload, times)| println!("{}", listing_row(workload, times)));
     println!("\nPlay:\n\n{}", head("trace bytes", false));
     rows().for_each(|(workload, times)| println!("{}", play_row(workload, times)));
+    println!("\nFigures, beside play and listing, all proved, and the figures of the model:\n");
+    println!("{FIGURES_HEAD}");
+    for (workload, times) in rows() {
+        println!("{}", figures_row(workload, times, rounds));
+    }
     println!(
         "\nListing of a full CIC, 1,024 systems active:\n\n{}",
         head("trace bytes | listing bytes", true)
@@ -241,6 +250,7 @@ struct Proved<'a> {
     trace: &'a [u8],
     buffer: Vec<u8>,
     written: usize,
+    words: Words,
 }
 
 #[cfg(feature = "exports")]
@@ -250,6 +260,7 @@ impl<'a> Proved<'a> {
             trace: &workload.trace,
             buffer: vec![0; AMPLE],
             written: 0,
+            words: Words::UNTOUCHED,
         }
     }
 
@@ -292,6 +303,18 @@ impl<'a> Proved<'a> {
         black_box(bench::exports::steps_plain_of(trace, PROGRAM_LIMIT));
     }
 
+    fn figures(&mut self) {
+        let trace = black_box(self.trace);
+        black_box(figures_into(trace, PROGRAM_LIMIT, &mut self.words));
+        black_box(&self.words);
+    }
+
+    fn check_figures(&self) {
+        let same =
+            figures_of(self.trace, PROGRAM_LIMIT) == report::figures(self.trace, PROGRAM_LIMIT).0;
+        assert!(same, "the figures differ");
+    }
+
     /// What is timed must be the same work.
     fn check(&mut self, listing: &[u8]) {
         for list in [Proved::list, Proved::list_plain] {
@@ -326,7 +349,43 @@ impl Proved {
 
     fn play_plain(&mut self) {}
 
+    fn figures(&mut self) {}
+
+    fn check_figures(&self) {}
+
     fn check(&mut self, _: &[u8]) {}
+}
+
+const FIGURES_HEAD: &str = "\
+| controller | size | steps | trace bytes | figures | play | listing | figures/play | model's figures |
+|---|---|--:|--:|--:|--:|--:|--:|--:|";
+
+/// The figures of a workload, timed by both sides in turn, beside what was timed before.
+fn figures_row(workload: &Workload, times: &Times, rounds: usize) -> String {
+    let mut proved = Proved::new(workload);
+    proved.check_figures();
+    let mut samples = [const { Vec::new() }; 2];
+    for _ in 0..rounds {
+        samples[0].push(nanoseconds(|| proved.figures()));
+        samples[1].push(nanoseconds(|| {
+            black_box(report::figures(black_box(&workload.trace), PROGRAM_LIMIT))
+        }));
+    }
+    let [figures, model] = samples.map(fastest);
+    let linked = |cell: String| match cfg!(feature = "exports") {
+        true => cell,
+        false => "-".to_string(),
+    };
+    let cells = [figures, times.play.proved, times.listing.proved];
+    let cells = cells.map(|whole| linked(per_step(workload, whole)));
+    let ratio = figures as f64 / times.play.proved as f64;
+    format!(
+        "{} | {} | {} | {} |",
+        beginning(workload),
+        cells.join(" | "),
+        linked(format!("{ratio:.2}")),
+        per_step(workload, model),
+    )
 }
 
 /// The head of a table: what a workload is, what counts its bytes, the sides, and last the standard text if it is timed.

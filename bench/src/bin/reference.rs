@@ -4,10 +4,11 @@
 use std::io::{self, BufReader, BufWriter, Read, Write};
 use std::process::ExitCode;
 
-use bench::batch::{serve, Asked, Reply, Request};
+use bench::batch::{figures_to_bytes, serve, Asked, Reply, Request};
 use bench::boards::generate::{script, unsound};
 use bench::listing::listing;
 use bench::looked::{looked, told};
+use bench::report;
 use bench::stack;
 use bench::trace::PROGRAM_LIMIT;
 
@@ -62,6 +63,10 @@ fn reply(request: &Request) -> Reply {
         Asked::Looked => {
             let text = told(looked(input, limit, room as u32));
             return Reply { changed: 0, text };
+        }
+        Asked::Figures => {
+            let (figures, ending) = report::figures(input, limit);
+            figures_to_bytes(&figures, ending)
         }
     };
     text.truncate(room);
