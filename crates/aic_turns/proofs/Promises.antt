@@ -13,13 +13,13 @@ use Rattle.steps.specs.declared.Step.{Step}
 use Rattle.aic_record.specs.declared.Aic.{Aic}
 use Rattle.aic_sources.specs.Normal.{ahead}
 use Rattle.aic_runs.specs.Runs.{always}
-use Rattle.aic_runs.specs.Promises.{aheadOf}
+use Rattle.aic_runs.specs.Promises.{aheadOf, rivalOf}
 use Rattle.aic_turns.specs.Turns.{cool, Cool}
 use Rattle.aic_turns.specs.Worked.{board, quieted, entered, rest, noisy, raised, twice}
 use Rattle.aic_turns.specs.Tables.{Steps}
 use Rattle.aic_turns.specs.Promises.{Promises}
 use Rattle.aic_turns.proofs.ObserverLaws.{counts-of, dues-of, gathered}
-use Rattle.aic_turns.proofs.TurnLaws.{per-source-any, gained-edge, gained-level, same-bound, figures, bound-normal, bound-levels}
+use Rattle.aic_turns.proofs.TurnLaws.{per-source-any, gained-edge, gained-level, cool-by-itself, same-owed, same-due, sum-owed, sum-due, figures, bound-normal, bound-levels}
 use Rattle.aic_turns.proofs.Worked.{quieted-computed, held-computed, noisy-computed, twice-computed}
 
 -- what is computed of all 32 sources holds of each
@@ -50,7 +50,8 @@ kept =
       boundLevelsNormal = bound-normal;
       boundEdges = gained-edge;
       boundTurns = gained-level;
-      boundSame = same-bound;
+      boundSame = λ s k xs a e. (cool-by-itself s (aheadOf s k) xs a e, same-owed s (aheadOf s k) xs a e, sum-owed s (aheadOf s k) xs a e);
+      boundSameNormal = λ s k xs a e. (cool-by-itself s (rivalOf s k) xs a e, same-due s (rivalOf s k) xs a e, sum-due s (rivalOf s k) xs a e);
       levelsMet = (
         quieted-computed .waited,
         cool-ahead board quieted (quieted-computed .cooled),

@@ -1,7 +1,7 @@
 -- What holds of every run where sources ahead may be level-sensitive: one induction for a source, and the sum over sources once, at the end.
 use Prim.Native.Nat.{ℕ, _+_, _≤_, _<_}
 use mathlib.Core.Path.{_≡_, refl, sym, ap, _∙_}
-use mathlib.Core.Bool.{Bool, true, false, not, _&&_, _||_, and-false}
+use mathlib.Core.Bool.{Bool, true, false, not, _&&_, _||_, and-true, and-false}
 use mathlib.Core.List.{List, [], _∷_}
 use mathlib.Core.Logic.{_≢_}
 use native.Mathlib.Omega.{arith}
@@ -100,17 +100,22 @@ cool-edge i s (x ∷ xs) e a =
 over-same : (t : ℕ → Bool) (f g : ℕ → ℕ) → ((i : ℕ) → i < 32 → t i ≡ true → f i ≡ g i) → sumOver t f ≡ sumOver t g
 over-same t f g h = omega (arith, over-le t f g (λ i l e. omega (arith, h i l e)), over-le t g f (λ i l e. omega (arith, h i l e)))
 
-pub same-bound : (s : Aic) (k : ℕ) (xs : List Step) → always steady s xs ≡ true → EdgeTriggered s (aheadOf s k)
-    → Cool s (aheadOf s k) xs × ((i : ℕ) → i < 32 → aheadOf s k i ≡ true → owed s i + gained i s xs ≡ owed s i + received i s xs)
-    × (sumOver (aheadOf s k) (λ i. owed s i + gained i s xs) ≡ sumOver (aheadOf s k) (λ i. owed s i + received i s xs))
-same-bound s k xs a e = (
-  λ i l p. cool-edge i s xs (e i l p) a,
-  each,
-  over-same (aheadOf s k) (λ i. owed s i + gained i s xs) (λ i. owed s i + received i s xs) each,
-)
-  where
-    each : (i : ℕ) → i < 32 → aheadOf s k i ≡ true → owed s i + gained i s xs ≡ owed s i + received i s xs
-    each i l p = ap (λ (n : ℕ). owed s i + n) (gained-edge s i xs (e i l p) a)
+module _ (s : Aic) (t : ℕ → Bool) (xs : List Step) (a : always steady s xs ≡ true) (e : EdgeTriggered s t) where
+  pub cool-by-itself : Cool s t xs
+  cool-by-itself i l p = cool-edge i s xs (e i l p) a
+
+  pub same-owed : (i : ℕ) → i < 32 → t i ≡ true → owed s i + gained i s xs ≡ owed s i + received i s xs
+  same-owed i l p = ap (λ (n : ℕ). owed s i + n) (gained-edge s i xs (e i l p) a)
+
+  pub same-due : (i : ℕ) → i < 32 → t i ≡ true → due s i + gained i s xs ≡ owed s i + received i s xs
+  unfolding due owed
+  same-due i l p = rw (e i l p, and-true (pending s i)) (same-owed i l p)
+
+  pub sum-owed : sumOver t (λ i. owed s i + gained i s xs) ≡ sumOver t (λ i. owed s i + received i s xs)
+  sum-owed = over-same t (λ i. owed s i + gained i s xs) (λ i. owed s i + received i s xs) same-owed
+
+  pub sum-due : sumOver t (λ i. due s i + gained i s xs) ≡ sumOver t (λ i. owed s i + received i s xs)
+  sum-due = over-same t (λ i. due s i + gained i s xs) (λ i. owed s i + received i s xs) same-due
 
 -- ---- the sum over the sources ahead
 

@@ -57,6 +57,10 @@ pub record Promises : Type 0 where
   pub boundSame : (s : Aic) (k : ℕ) (xs : List Step) → always steady s xs ≡ true → EdgeTriggered s (aheadOf s k)
       → Cool s (aheadOf s k) xs × ((i : ℕ) → i < 32 → aheadOf s k i ≡ true → owed s i + gained i s xs ≡ owed s i + received i s xs)
       × (sumOver (aheadOf s k) (λ i. owed s i + gained i s xs) ≡ sumOver (aheadOf s k) (λ i. owed s i + received i s xs))
+  -- and so is the lesser bound the old lesser one
+  pub boundSameNormal : (s : Aic) (k : ℕ) (xs : List Step) → always steady s xs ≡ true → EdgeTriggered s (rivalOf s k)
+      → Cool s (rivalOf s k) xs × ((i : ℕ) → i < 32 → rivalOf s k i ≡ true → due s i + gained i s xs ≡ owed s i + received i s xs)
+      × (sumOver (rivalOf s k) (λ i. due s i + gained i s xs) ≡ sumOver (rivalOf s k) (λ i. owed s i + received i s xs))
   -- the bound is met: sources 4, level-sensitive, and 6, edge-triggered, are ahead of source 9, which waits
   pub levelsMet : (always (waits 9) board quieted ≡ true) × Cool board (aheadOf board 9) quieted × (edge board 4 ≡ false) × (edge board 6 ≡ true)
       × (ahead board 4 9 ≡ true) × (ahead board 6 9 ≡ true) × (count (startsOther 9) board quieted ≡ 4)
