@@ -1,12 +1,12 @@
 -- What one step does to what a source is due: one lemma for each kind of step.
 use Prim.Native.Nat.{ℕ, suc, _+_, _-_, _≤_, _<_}
 use mathlib.Core.Path.{_≡_, refl, sym, ap, ap₂, _∙_}
-use mathlib.Core.Bool.{Bool, true, false, not, _&&_, _||_, and-true, and-false}
+use mathlib.Core.Bool.{Bool, true, false, not, _&&_, _||_, and-true}
 use mathlib.Core.Logic.{_≢_, _⊎_, inl, inr}
 use native.Mathlib.Omega.{arith}
 use native.Mathlib.Decide.{ℕ-discrete}
 use lib.Dec.{eqb, leb}
-use lib.ListN.{getD, set, length}
+use lib.ListN.{getD, set}
 use borrow.Author.Tests.{eqb-true, eq-eqb, ne-eqb, le-leb}
 use Rattle.words.specs.Choice.{pick}
 use Rattle.words.specs.Counting.{one}
@@ -21,7 +21,7 @@ use Rattle.aic_record.specs.Record.{nothingSeen, withMemory, withDebug, withSee
 use Rattle.aic_record.specs.declared.Seen.{Seen}
 use mathlib.Core.List.{List}
 use Rattle.aic_record.specs.Mode.{priorityOf, priority, kind, edge}
-use Rattle.aic_record.specs.Sound.{sourceAt, levelAt, levelBelow, protects, sound}
+use Rattle.aic_record.specs.Sound.{sourceAt, levelBelow, protects, sound}
 use Rattle.aic_record.specs.Promises.{Shaped}
 use Rattle.aic_record.proofs.SoundLaws.{sound-is, seen-sound}
 use Rattle.aic_sources.specs.Pending.{activeLow, activeAt, active, pending, edgeWord}
@@ -34,7 +34,7 @@ use Rattle.aic_registers.specs.Effects.{setBy, turns, moved}
 use Rattle.aic.specs.Model.{step}
 use Rattle.aic.proofs.HandlerLaws.{started-is, moved-is}
 use Rattle.aic.proofs.StepKindLaws.{withStore, kinds}
-use Rattle.aic_runs.specs.Counted.{starts, recalls, startsOf, closes, rises, edges, commands, rewrites}
+use Rattle.aic_runs.specs.Counted.{starts, recalls, startsOf, rises, edges, commands, rewrites}
 use Rattle.aic_runs.proofs.CountedLaws.{plain-start, write-start, line-start, no-start, look-start, take-chosen, mark-chosen, none-of, begin-source, begin-none, close-close, set-command, line-rise, mode-rewrite, forcing-rewrite}
 use Rattle.aic_runs.proofs.StepLaws.{unseen}
 use Rattle.aic_turns.specs.Turns.{closesOf, closesHot, gains, due}

@@ -1,7 +1,7 @@
 -- Theorems about waiting behind level-sensitive sources.
-pub mod HeldLaws
 pub mod DueLaws
-pub mod TurnLaws
+pub mod HeldLaws
 pub mod ObserverLaws
-pub mod Worked
 pub mod Promises
+pub mod TurnLaws
+pub mod Worked

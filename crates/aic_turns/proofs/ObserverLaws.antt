@@ -1,5 +1,5 @@
 -- What each count says of a step, and what makes a step count: both ways, by offset and field.
-use Prim.Native.Nat.{ℕ, _+_, _-_, _≤_, _<_}
+use Prim.Native.Nat.{ℕ, _-_, _≤_, _<_}
 use mathlib.Core.Path.{_≡_, refl, sym, ap}
 use mathlib.Core.Bool.{Bool, true, false, not, _&&_, _||_, and-true}
 use mathlib.Core.Logic.{_↔_, _≢_}
@@ -20,10 +20,9 @@ use Rattle.aic_record.specs.Sound.{sourceAt, levelAt}
 use Rattle.aic_sources.specs.Pending.{active, pending}
 use Rattle.aic_registers.specs.Effects.{turns}
 use Rattle.aic.specs.Model.{step}
-use Rattle.aic_runs.specs.Counted.{carried, closes, rises, edges, commands}
-use Rattle.aic_runs.specs.Runs.{always}
+use Rattle.aic_runs.specs.Counted.{carried, closes, rises}
 use Rattle.aic_runs.proofs.Promises as Runs
-use Rattle.aic_turns.specs.Turns.{closesOf, closesHot, cool, Cool, gains, gained, held, due}
+use Rattle.aic_turns.specs.Turns.{closesOf, closesHot, cool, gains, gained, held, due}
 use Rattle.aic_turns.specs.Tables.{Counts, Dues, Gathers}
 
 -- ---- closes

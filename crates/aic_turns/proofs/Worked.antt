@@ -4,7 +4,7 @@ use mathlib.Core.Path.{_≡_, refl}
 use mathlib.Core.Bool.{true, false, not, _&&_, _||_}
 use lib.Dec.{eqb}
 use Rattle.words.specs.Choice.{pick}
-use Rattle.words.specs.Counting.{one, anyBelow, allBelow, lowestBelow, sumBelow}
+use Rattle.words.specs.Counting.{anyBelow, allBelow, lowestBelow, sumBelow}
 use Rattle.words.specs.Word.{bit, kept, wordOf, either, both, without, withBit}
 use Rattle.steps.specs.Refusals.{readRefusal, writeRefusal, lineRefusal}
 use Rattle.aic_record.specs.Record.{reset}

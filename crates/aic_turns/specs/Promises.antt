@@ -4,7 +4,6 @@ use mathlib.Core.Path.{_≡_}
 use mathlib.Core.Bool.{Bool, true, false, not, _&&_}
 use mathlib.Core.List.{List}
 use mathlib.Core.Logic.{_≢_}
-use lib.Dec.{eqb}
 use Rattle.words.specs.Counting.{one}
 use Rattle.steps.specs.declared.Step.{Step}
 use Rattle.aic_record.specs.declared.Aic.{Aic}
