@@ -1,5 +1,5 @@
-/* A caller in C: the example of document 01 through the proved library and its header, the empty trace, traces that end at a limit and beside it, and
- * typed tables with a figure and with each refusal.
+/* A caller in C: the example of document 01 through the proved library and its header, the empty trace, traces that end at a limit and beside it, the
+ * words that a read of a prioritised index looks at, the figures of traces, and typed tables with a figure and with each refusal.
  * It prints what differs, and ends with 1 where something does. */
 #include "wisteria.h"
 
@@ -108,6 +108,47 @@ static void lengths(void)
     ends("65,537 bytes", zeros, sizeof zeros, 1, 0, WISTERIA_TRACE_TOO_LONG, WISTERIA_LONGEST);
 }
 
+/* What is counted of a source: handlers started, handlers of others started while it waited, entries open while it was open. */
+struct counted {
+    uint32_t source, started, waited, entries;
+};
+
+/* The figures of a trace: those of two sources, zeros for all others, and the steps refused. The words behind each table stay as they were. */
+static void counts(const char *what, const uint8_t *trace, size_t length, uint32_t limit, uint32_t refused, struct counted one, struct counted other)
+{
+    uint32_t words[3][33], source, table;
+    memset(words, 0xA5, sizeof words);
+    expect(what, wisteria_figures(trace, length, limit, words[0], words[1], words[2]) == refused);
+    for (source = 0; source < 32; source++) {
+        int is_one = source == one.source, is_other = source == other.source;
+        expect(what, words[0][source] == (is_one ? one.started : is_other ? other.started : 0));
+        expect(what, words[1][source] == (is_one ? one.waited : is_other ? other.waited : 0));
+        expect(what, words[2][source] == (is_one ? one.entries : is_other ? other.entries : 0));
+    }
+    for (table = 0; table < 3; table++)
+        expect(what, words[table][32] == 0xA5A5A5A5);
+}
+
+/* Source 4 by level of priority 0 asks and waits while source 6, by edge of priority 7, is set, started and closed twice; then it is started itself
+ * and a mark is opened above it (02, 3/12 and 11/12). */
+static void figures(void)
+{
+    static const uint8_t trace[] = {0, 0, 0,                                                            /* an AIC, all internal, all low */
+                                    2, 0x10, 0x40, 2, 0x18, 0x67, 2, 0xA0, 2, 0x50, 3, 4, 1,            /* two modes, enable both, line 4 */
+                                    2, 0xAC, 2, 0x40, 1, 0x80, 2, 2, 0xB0, 2, 0,                        /* source 6: set, start, close */
+                                    2, 0xAC, 2, 0x40, 1, 0x80, 2, 2, 0xB0, 2, 0,                        /* and once more */
+                                    1, 1, 1, 0x80, 2, 1, 0x80, 2};                                      /* refused; source 4; a mark */
+    static const struct counted none = {0, 0, 0, 0};
+    counts("all steps", trace, sizeof trace, 100, 1, (struct counted){4, 1, 2, 2}, (struct counted){6, 2, 0, 1});
+    counts("without the mark", trace, sizeof trace, 12, 1, (struct counted){4, 1, 2, 1}, (struct counted){6, 2, 0, 1});
+    counts("without its own start", trace, sizeof trace, 11, 1, (struct counted){4, 0, 2, 0}, (struct counted){6, 2, 0, 1});
+    counts("cut before the second start", trace, 29, 100, 0, (struct counted){4, 0, 1, 0}, (struct counted){6, 1, 0, 1});
+    counts("no start yet", trace, sizeof trace, 5, 0, none, none);
+    counts("no step", trace, sizeof trace, 0, 0, none, none);
+    counts("the empty trace", trace, 0, 100, 0, none, none);
+    counts("another kind, with a refused step", BYTES("\3\3\0\1\1\1\1"), 100, 1, none, none);
+}
+
 /* A table: a row for source 0, one for source 1, the same row for all others, the forced word and the mark's frame. Any of them may be any text. */
 static const char *table(const char *nought, const char *one, const char *others, const char *forced, const char *mark)
 {
@@ -179,11 +220,39 @@ static void typing(void)
     said("65,537 bytes", longest, sizeof longest, "E 11 65536\n");
 }
 
+static void looks(const char *what, const uint8_t *trace, size_t length, uint32_t limit, uint32_t offset, uint32_t words)
+{
+    expect(what, wisteria_looked(trace, length, limit, offset) == words);
+}
+
+/* Status words looked at (02, 10/12). 64 systems, two channels, one host: system 40 is enabled, set, and held for the global index. */
+static void words_looked_at(void)
+{
+    static const uint8_t held[] = {0x04, 0x40, 0x02, 0x01, 0x00, 0x01, 0x02, 0x28, 0x28, 0x02, 0x20, 0x28, 0x01, 0x80, 0x01};
+    looks("two channels of two words", held, sizeof held, 0, 0x080, 4);
+    looks("enabled and not set", held, sizeof held, 1, 0x080, 4);
+    looks("in the second word of the first channel", held, sizeof held, 2, 0x080, 2);
+    looks("held", held, sizeof held, 3, 0x080, 0);
+    looks("the host's index is not held", held, sizeof held, 3, 0x900, 2);
+    looks("the whole trace", held, sizeof held, WISTERIA_LIMIT, 0x900, 2);
+    looks("no such host", held, sizeof held, 2, 0x904, 0);
+    looks("a misaligned offset", held, sizeof held, 2, 0x081, 0);
+    looks("the control register", held, sizeof held, 2, 0x004, 0);
+    looks("a register that is only written", held, sizeof held, 2, 0x020, 0);
+    looks("the choice off", BYTES("\4\x40\2\1\0\0"), 1, 0x080, 0);
+    looks("the choice beyond its limit", BYTES("\4\x40\2\1\0\2"), 1, 0x080, 0);
+    looks("a CIC without indices", BYTES("\2\x40\2\1\0"), 1, 0x080, 0);
+    looks("the AIC", BYTES("\0\0\0"), 1, 0x100, 0);
+    looks("the most", BYTES("\4\x80\x08\x80\2\1\0\1"), 0, 0x900, 8192);
+}
+
 int main(void)
 {
     worked_example();
     endings();
     lengths();
+    words_looked_at();
+    figures();
     stacks();
     typing();
     return wrong;

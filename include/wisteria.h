@@ -1,4 +1,5 @@
-/* Lists and plays recorded traces of register accesses and line changes, and says the stack that a priority table needs, for callers in C and C++.
+/* Lists and plays recorded traces of register accesses and line changes, says how many words a read of an index looks at, counts what the sources of an
+ * AIC did, and says the stack that a priority table needs, for callers in C and C++.
  *
  * The functions are those of crates/exports, proved to answer what its contracts say for every trace, limit and text. Link
  * libexports.a, which `rt staticlib exports` writes (x86-64); bench/prepare also makes it for other machines.
@@ -62,6 +63,24 @@ uint32_t wisteria_refusal(const uint8_t *trace, size_t trace_len, uint32_t limit
 /* Where it ended, in bytes from the start of the trace: for 8, 9 and 10 the first byte of the number at fault, for 7 that of the next step,
  * for 11 it is 65,536, and for 0 the length of the trace. */
 size_t wisteria_offset(const uint8_t *trace, size_t trace_len, uint32_t limit);
+
+/* How many status words, of 32 system interrupts each, a read of the register at `offset` would look at after the trace, of which at most `limit`
+ * steps are played. Only a read of a prioritised index looks at any: a CIC of kind 4, with its choice on, at 0x080 and from 0x900 on. For each channel
+ * that the index is over, in order, up to and including the first that has a set and enabled system interrupt, the words are counted up to and
+ * including the first that has one, or all of them: at most 8,192 words, 32 for each of 256 channels.
+ * 0 where that read would be refused, where the index is held, where the register is another, and where the trace is of another kind or has no
+ * accepted configuration. The read is not carried out. */
+uint32_t wisteria_looked(const uint8_t *trace, size_t trace_len, uint32_t limit, uint32_t offset);
+
+/* What each source of an AIC did over the steps played of the trace. started, waited and entries each point to 32 words, which nothing else uses and of
+ * which no two overlap; all of them are written, source 0 first:
+ *   started[i]   the handlers of source i started;
+ *   waited[i]    the most handlers of other sources started in one wait of source i. It waits from the step that makes it pending, enabled and not fast
+ *                until one of these ends or it starts; after a start, one must end before it waits again. A wait that does not end counts too;
+ *   entries[i]   the most entries (handlers and spurious marks) open at once while a handler of source i was open, itself and those below it counted.
+ * Of source 0, of another kind of controller, and where the trace has no accepted configuration, all are 0.
+ * Answers the number of steps refused among the steps played, by 1 to 6 or 13. */
+uint32_t wisteria_figures(const uint8_t *trace, size_t trace_len, uint32_t limit, uint32_t *started, uint32_t *waited, uint32_t *entries);
 
 /* Writes one line about a priority table of the AIC to the start of out: how many bytes of stack the open handlers and spurious marks can take
  * at once.

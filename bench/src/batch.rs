@@ -9,7 +9,10 @@ use std::thread;
 
 use crate::compare::Outcome;
 use crate::generate::Case;
+use crate::looked::Question;
+use crate::model::aic::SOURCES;
 use crate::program::{Program, PATIENCE};
+use crate::report::{Counts, Ending, Figures};
 use crate::stack::generate::Typed;
 
 /// What is printed for the bytes of a request.
@@ -19,9 +22,14 @@ pub enum Asked {
     Listing = 0,
     /// The line of a typed table.
     Stack = 1,
+    /// The status words that a read looks at after a trace.
+    Looked = 2,
+    /// The figures of a trace, as numbers.
+    Figures = 3,
 }
 
-/// What is asked for, the step limit (0 for a table), the room, and the trace or table.
+/// What is asked for, the step limit (0 for a table), the room or, for words looked at, the offset that is read, and the
+/// trace or table.
 pub struct Request {
     pub asked: Asked,
     pub limit: u32,
@@ -39,12 +47,30 @@ impl Request {
         }
     }
 
+    pub fn figures(case: &Case) -> Request {
+        Request {
+            asked: Asked::Figures,
+            limit: case.limit,
+            room: FIGURES,
+            input: case.trace.clone(),
+        }
+    }
+
     pub fn stack(typed: &Typed) -> Request {
         Request {
             asked: Asked::Stack,
             limit: 0,
             room: typed.ample_room(),
             input: typed.text.clone(),
+        }
+    }
+
+    pub fn looked(question: &Question) -> Request {
+        Request {
+            asked: Asked::Looked,
+            limit: question.limit,
+            room: question.offset as usize,
+            input: question.trace.clone(),
         }
     }
 
@@ -63,6 +89,8 @@ impl Request {
             None => return Ok(None),
             Some(0) => Asked::Listing,
             Some(1) => Asked::Stack,
+            Some(2) => Asked::Looked,
+            Some(3) => Asked::Figures,
             Some(_) => return Err(io::ErrorKind::InvalidData.into()),
         };
         let mut input = vec![0; read_number(from)? as usize];
@@ -99,6 +127,40 @@ impl Reply {
         from.read_exact(&mut text)?;
         Ok(Reply { changed, text })
     }
+}
+
+/// How many bytes the figures of a trace are.
+const FIGURES: usize = 4 * (4 + 3 * SOURCES);
+
+/// The figures of a trace as the bytes of a reply.
+pub fn figures_to_bytes(figures: &Figures, (refusal, offset): Ending) -> Vec<u8> {
+    let mut numbers = vec![figures.steps, figures.refused, refusal, offset as u32];
+    numbers.extend(figures.sources.iter().map(|counts| counts.started));
+    numbers.extend(figures.sources.iter().map(|counts| counts.waited));
+    numbers.extend(figures.sources.iter().map(|counts| counts.entries));
+    numbers.into_iter().flat_map(u32::to_le_bytes).collect()
+}
+
+/// The figures of a trace and its ending from the bytes of a reply, if there are as many as that takes.
+pub fn figures_from_bytes(bytes: &[u8]) -> Option<(Figures, Ending)> {
+    if bytes.len() != FIGURES {
+        return None;
+    }
+    let number = |nth: usize| {
+        let bytes = &bytes[4 * nth..4 * nth + 4];
+        u32::from_le_bytes([bytes[0], bytes[1], bytes[2], bytes[3]])
+    };
+    let counts = |source| Counts {
+        started: number(4 + source),
+        waited: number(4 + SOURCES + source),
+        entries: number(4 + 2 * SOURCES + source),
+    };
+    let figures = Figures {
+        steps: number(0),
+        refused: number(1),
+        sources: std::array::from_fn(counts),
+    };
+    Some((figures, (number(2), number(3) as usize)))
 }
 
 /// Answers requests until there are no more.

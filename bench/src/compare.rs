@@ -33,6 +33,11 @@ pub trait Subject: Clone {
     /// The same through a process that serves many.
     fn request(&self) -> Request;
 
+    /// The text from what such a process replies, if that is no text itself.
+    fn heard(&self, reply: Vec<u8>) -> Outcome {
+        Ok(reply)
+    }
+
     /// The same by the linked library.
     #[cfg(feature = "exports")]
     fn by_library(&self) -> Outcome;
@@ -100,7 +105,11 @@ impl Subject for Case {
     }
 
     fn smaller(&self, time: Duration, differs: impl FnMut(&Case) -> bool) -> Case {
-        shrink(self, time, differs)
+        let with = |trace| Case {
+            trace,
+            ..self.clone()
+        };
+        shrink(self, with, time, differs)
     }
 }
 
@@ -238,18 +247,21 @@ pub fn first_difference(expected: &[u8], other: &[u8]) -> Option<Difference> {
     })
 }
 
-/// A smaller case that still differs, found by leaving out steps, many at a time and then few, while there is time.
-fn shrink(case: &Case, time: Duration, mut differs: impl FnMut(&Case) -> bool) -> Case {
+/// A smaller case that still differs, found by leaving out steps, many at a time and then few, while there is time. What
+/// is the same case with another trace is said.
+pub fn shrink<S: Subject>(
+    case: &S,
+    with: impl Fn(Vec<u8>) -> S,
+    time: Duration,
+    mut differs: impl FnMut(&S) -> bool,
+) -> S {
     let begin = Instant::now();
     let mut smallest = case.clone();
-    let mut size = pieces(&case.trace).len() / 2;
+    let mut size = pieces(case.input()).len() / 2;
     while size > 0 {
         let mut from = 1;
-        while from < pieces(&smallest.trace).len() && begin.elapsed() < time {
-            let shorter = Case {
-                trace: without(&smallest.trace, from, size),
-                ..smallest.clone()
-            };
+        while from < pieces(smallest.input()).len() && begin.elapsed() < time {
+            let shorter = with(without(smallest.input(), from, size));
             if differs(&shorter) {
                 smallest = shorter;
             } else {
@@ -299,10 +311,7 @@ mod tests {
         };
         let long = Duration::from_secs(60);
         let moves_line_7 = |case: &Case| pieces(&case.trace).contains(&[3, 7, 1].as_slice());
-        assert_eq!(shrink(&case, long, moves_line_7).trace, [0, 0, 0, 3, 7, 1]);
-        assert_eq!(
-            shrink(&case, Duration::ZERO, moves_line_7).trace,
-            case.trace
-        );
+        assert_eq!(case.smaller(long, moves_line_7).trace, [0, 0, 0, 3, 7, 1]);
+        assert_eq!(case.smaller(Duration::ZERO, moves_line_7).trace, case.trace);
     }
 }

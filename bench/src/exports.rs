@@ -2,6 +2,10 @@
 
 use crate::compare::{written, Outcome};
 use crate::generate::Case;
+use crate::looked::{self, Question};
+use crate::model::aic::SOURCES;
+use crate::report::generate::told;
+use crate::report::{Counts, Figures};
 use crate::stack::generate::Typed;
 
 extern "C" {
@@ -31,8 +35,22 @@ extern "C" {
     ) -> usize;
     fn wisteria_play_plain(trace: *const u8, trace_len: usize, limit: u32) -> u32;
 
+    /// Writes the figures of each source into the lent words, 32 of each: the handlers started, the most handlers started
+    /// while it waited, and the most entries open while it was open. Answers the number of steps refused.
+    fn wisteria_figures(
+        trace: *const u8,
+        trace_len: usize,
+        limit: u32,
+        started: *mut [u32; SOURCES],
+        waited: *mut [u32; SOURCES],
+        entries: *mut [u32; SOURCES],
+    ) -> u32;
+
     /// Writes the line of the lent text of a table into the lent buffer and answers the bytes written, as above.
     fn wisteria_stack(text: *const u8, text_len: usize, out: *mut u8, out_len: usize) -> usize;
+
+    /// The status words that a read of the register at the offset would look at after the play.
+    fn wisteria_looked(trace: *const u8, trace_len: usize, limit: u32, offset: u32) -> u32;
 }
 
 /// Fills the buffer with the listing of a trace and answers how many bytes of it were written.
@@ -90,6 +108,12 @@ pub fn stack_into(text: &[u8], buffer: &mut [u8]) -> usize {
     unsafe { wisteria_stack(text.as_ptr(), text.len(), buffer.as_mut_ptr(), buffer.len()) }
 }
 
+/// The status words that a read of an offset would look at after the play of a trace.
+pub fn words_looked_at(trace: &[u8], limit: u32, offset: u32) -> u32 {
+    // As for the steps.
+    unsafe { wisteria_looked(trace.as_ptr(), trace.len(), limit, offset) }
+}
+
 /// The listing of a case. The loop over a controller of any kind has to make the same of it, in listing and in play.
 pub fn list(case: &Case) -> Outcome {
     let (trace, limit) = (&case.trace, case.limit);
@@ -112,4 +136,72 @@ pub fn list(case: &Case) -> Outcome {
 /// The line of a typed table.
 pub fn stack(typed: &Typed) -> Outcome {
     written(typed.ample_room(), |buffer| stack_into(&typed.text, buffer))
+}
+
+/// The count of a question, as it is told.
+pub fn looked(question: &Question) -> Outcome {
+    let Question {
+        trace,
+        limit,
+        offset,
+        ..
+    } = question;
+    Ok(looked::told(words_looked_at(trace, *limit, *offset)))
+}
+
+/// What the library writes the figures of a trace into: for each source the handlers started, the most of others started
+/// while it waited, and the most entries.
+#[derive(Clone, Copy, Debug, PartialEq, Eq)]
+pub struct Words {
+    pub started: [u32; SOURCES],
+    pub waited: [u32; SOURCES],
+    pub entries: [u32; SOURCES],
+}
+
+impl Words {
+    /// No figure has this value, so that a word that is not written differs.
+    pub const UNTOUCHED: Words = {
+        let words = [0xA5A5_A5A5; SOURCES];
+        Words {
+            started: words,
+            waited: words,
+            entries: words,
+        }
+    };
+}
+
+/// Fills the words with the figures of a trace, and answers how many steps were refused.
+pub fn figures_into(trace: &[u8], limit: u32, words: &mut Words) -> u32 {
+    // The first pointer comes from a slice of the length that goes with it; the others lead to three arrays apart.
+    unsafe {
+        wisteria_figures(
+            trace.as_ptr(),
+            trace.len(),
+            limit,
+            &mut words.started,
+            &mut words.waited,
+            &mut words.entries,
+        )
+    }
+}
+
+/// The figures of a trace.
+pub fn figures_of(trace: &[u8], limit: u32) -> Figures {
+    let mut words = Words::UNTOUCHED;
+    let refused = figures_into(trace, limit, &mut words);
+    Figures {
+        steps: steps_of(trace, limit),
+        refused,
+        sources: std::array::from_fn(|source| Counts {
+            started: words.started[source],
+            waited: words.waited[source],
+            entries: words.entries[source],
+        }),
+    }
+}
+
+/// The figures of a case as the report of it alone has them, with the steps and the ending that the library tells.
+pub fn figures(case: &Case) -> Outcome {
+    let figures = figures_of(&case.trace, case.limit);
+    Ok(told(&figures, ending_of(&case.trace, case.limit)))
 }

@@ -1,10 +1,10 @@
 //! Traces made from a seed: sweeps that visit everything once, then tours, damaged ones, noise and long ones.
 
-mod aic;
+pub(crate) mod aic;
 mod aintc;
 mod cic;
 mod core;
-mod damage;
+pub(crate) mod damage;
 mod indexed;
 mod long;
 mod sweeps;
@@ -79,7 +79,8 @@ const STYLES: [(u32, Style); 4] = [
     (2, Style::Long),
 ];
 
-fn random_case(random: &mut Random) -> Case {
+/// A case that depends on nothing but the numbers that are drawn.
+pub(crate) fn random_case(random: &mut Random) -> Case {
     let style = random.weighted(&STYLES);
     let (name, trace) = match style {
         Style::Tour => {
@@ -132,7 +133,7 @@ fn tour(random: &mut Random) -> Script {
 }
 
 /// A sound trace of a kind, of about so many steps.
-fn tour_of(random: &mut Random, kind: Kind, steps: u32) -> Script {
+pub(crate) fn tour_of(random: &mut Random, kind: Kind, steps: u32) -> Script {
     match kind {
         Kind::Aic => aic::tour(random, steps),
         Kind::Core => core::tour(random, steps),
@@ -144,7 +145,7 @@ fn tour_of(random: &mut Random, kind: Kind, steps: u32) -> Script {
 
 /// The same trace with each number in its shortest form, each in five bytes as the recorder of 02, 1/12 writes it, or
 /// each in any form.
-fn in_any_form(random: &mut Random, script: Script) -> Script {
+pub(crate) fn in_any_form(random: &mut Random, script: Script) -> Script {
     match random.below(4) {
         0 => script,
         1 => script.rewritten(|| NUMBER_BYTES),

@@ -1,5 +1,10 @@
 //! The traces that are timed, with no step refused: for each controller a small and a full one, of any number of steps;
-//! writes to a full CIC of which every system is active; and polls of a full one with prioritised indices.
+//! writes to a full CIC of which every system is active; polls of a full one with prioritised indices; and reads of an
+//! index beside the words that they look at.
+
+mod looks;
+
+pub use looks::{looks, Look};
 
 use crate::generate::Script;
 use crate::random::Random;
@@ -165,6 +170,16 @@ pub fn busy() -> Vec<Workload> {
 pub fn polls(steps: u32) -> Vec<Workload> {
     let rest = |opened| steps - opened;
     POLLS.iter().map(|plan| workload(plan, rest)).collect()
+}
+
+/// One of many traces of a full AIC for a report, with so many steps.
+pub fn year(number: u64, steps: u32) -> Vec<u8> {
+    let random = &mut Random::for_item(11, number);
+    let (mut script, opened) = aic(32);
+    for at in 0..steps - opened {
+        aic_step(random, &mut script, at, 32);
+    }
+    script.bytes
 }
 
 /// The trace of a plan; how many steps follow the opening is said by the steps that it has.
@@ -359,7 +374,7 @@ mod tests {
         }
     }
 
-    fn has_its_steps_and_fits(workload: &Workload) {
+    pub fn has_its_steps_and_fits(workload: &Workload) {
         let report = play(&workload.trace, PROGRAM_LIMIT, &mut NoneRefused);
         assert_eq!(report.steps, workload.steps);
         assert_eq!(report.ending, Ok(workload.trace.len()));
@@ -376,5 +391,14 @@ mod tests {
         }
         busy().iter().for_each(has_its_steps_and_fits);
         polls(PROGRAM_LIMIT).iter().for_each(has_its_steps_and_fits);
+        for number in 0..3 {
+            let (steps, trace) = (PROGRAM_LIMIT, year(number, PROGRAM_LIMIT));
+            has_its_steps_and_fits(&Workload {
+                controller: "AIC",
+                size: "32 sources",
+                steps,
+                trace,
+            });
+        }
     }
 }

@@ -2,9 +2,12 @@
 #![cfg(feature = "exports")]
 
 use bench::compare::{compare, expected};
-use bench::exports::{ending_of, list_into, stack_into, steps_of};
-use bench::generate::Generator;
+use bench::exports::{ending_of, list_into, stack_into, steps_of, words_looked_at};
+use bench::generate::{Generator, Script};
 use bench::listing::listing;
+use bench::looked::generate::Generator as Asker;
+use bench::looked::looked;
+use bench::report::generate::Generator as Counter;
 use bench::stack::generate::Generator as Typist;
 use bench::stack::line;
 use bench::trace::play;
@@ -48,6 +51,19 @@ fn steps_and_endings_are_those_of_the_model() {
             "case {number}"
         );
         assert_eq!(ending_of(&case.trace, case.limit), ending, "case {number}");
+    }
+}
+
+#[test]
+fn the_library_counts_as_the_model_does() {
+    let generator = Counter::new(7);
+    let cases = (0..generator.sweeps() + 2_000).map(|number| (number, generator.counted(number)));
+    let summary = compare(cases, |counted| bench::exports::figures(&counted.case));
+    if let Some((number, counted)) = summary.first {
+        panic!(
+            "case {number} differs: {}",
+            expected(&counted).escape_ascii()
+        );
     }
 }
 
@@ -110,6 +126,40 @@ fn every_character_counts_as_in_the_model() {
             [first, last, behind]
                 .iter()
                 .for_each(|text| stack_line(text, 40));
+        }
+    }
+}
+
+#[test]
+fn the_library_looks_at_as_many_words_as_the_model_does() {
+    let asker = Asker::new(7);
+    let questions = (0..asker.sweeps() + 3_000).map(|number| (number, asker.question(number)));
+    let summary = compare(questions, bench::exports::looked);
+    if let Some((number, question)) = summary.first {
+        panic!("question {number} differs: {question:?}");
+    }
+}
+
+/// Every limit and every offset of a trace that holds, ends the hold and clears.
+#[test]
+fn every_limit_and_offset_is_asked_alike() {
+    let mut script = Script::new(4, &[70, 3, 2, 0, 1]);
+    script.write(0x300, u32::MAX);
+    script.write(0x308, u32::MAX);
+    script.write(0x800, 0x0000_0100);
+    script.write(0x444, 0x0000_0100);
+    script.write(0x020, 69);
+    script.read(0x080);
+    script.write(0x020, 3);
+    script.read(0x904);
+    script.write(0x080, 0);
+    script.write(0x024, 3);
+    script.write(0x004, 0);
+    for limit in 0..14 {
+        for offset in (0..0x1000).chain([0x1500, 0x1520, u32::MAX]) {
+            let words = looked(&script.bytes, limit, offset);
+            let library = words_looked_at(&script.bytes, limit, offset);
+            assert_eq!(library, words, "limit {limit}, offset {offset:#x}");
         }
     }
 }

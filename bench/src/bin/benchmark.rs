@@ -1,15 +1,19 @@
-//! Times play and listing, the proved one, the model and the tuned player side by side on the same traces; it reports
-//! and judges nothing.
+//! Times play and listing, the proved one, the model and the tuned player side by side on the same traces, and the
+//! figures of a trace for a report; it reports and judges nothing.
 
 use std::fs;
 use std::hint::black_box;
 use std::time::Instant;
 
 use bench::digits::Digits;
+#[cfg(feature = "exports")]
+use bench::exports::{figures_into, figures_of, Words};
 use bench::listing::Text;
+use bench::looked::looked;
+use bench::report;
 use bench::trace::{play, PROGRAM_LIMIT};
 use bench::tuned;
-use bench::workload::{busy, polls, workloads, Workload};
+use bench::workload::{busy, looks, polls, workloads, Look, Workload};
 
 const NOTES: &str = "\
 Nanoseconds per step in the fastest of several rounds; a round is one play of the whole trace by each side in turn.
@@ -18,12 +22,27 @@ Nanoseconds per step in the fastest of several rounds; a round is one play of th
 - model: the plain Rust model, its listing with digits made by hand; std text: with the standard library's formatting, as
   the differential test has it.
 - tuned: the Rust player that is tuned by hand; a CIC with indices is not tuned there, and goes by the model's steps.
-- Listing is play and listing. Play is the steps alone, with no text and no outputs after each step.
+- Listing is play and listing. Play is the steps alone, with no text and no outputs after each step. Figures are play and
+  the count of a report, with no text.
 
 Buffers: each side writes its listing into one buffer that is kept from round to round and not cleared. The proved library
 and the tuned player get ample room; the model's vectors have grown to their size before the rounds begin. The trace is in
 memory before the clock starts.
 ";
+
+const LOOK_NOTES: &str = "\
+Status words (of 32 systems each) that one read of an index looks at, and nanoseconds, for a CIC with indices of 1,024
+systems, 256 channels and 256 hosts, the hold mode off:
+
+- read: a step of a play of 20,000 steps, all but the first five or less of them reads of that index.
+- question: one call of `wisteria_looked` (the model's `looked`) on a trace of those first steps, less one call of
+  `wisteria_steps` (the model's play) on the same trace, each the mean of 1,000 calls in the fastest round.
+
+| channels searched | pending | words looked at | read, proved | read, model | question, proved | question, model |
+|---|---|--:|--:|--:|--:|--:|";
+
+/// How many calls of a question are timed together.
+const CALLS: u32 = 1_000;
 
 /// How often each workload is timed, unless said otherwise.
 const ROUNDS: usize = 31;
@@ -46,6 +65,11 @@ fn main() {
     rows().for_each(|(workload, times)| println!("{}", listing_row(workload, times)));
     println!("\nPlay:\n\n{}", head("trace bytes", false));
     rows().for_each(|(workload, times)| println!("{}", play_row(workload, times)));
+    println!("\nFigures, beside play and listing, all proved, and the figures of the model:\n");
+    println!("{FIGURES_HEAD}");
+    for (workload, times) in rows() {
+        println!("{}", figures_row(workload, times, rounds));
+    }
     println!(
         "\nListing of a full CIC, 1,024 systems active:\n\n{}",
         head("trace bytes | listing bytes", true)
@@ -59,6 +83,10 @@ fn main() {
     );
     for workload in polls(PROGRAM_LIMIT) {
         println!("{}", listing_row(&workload, &measure(&workload, rounds)));
+    }
+    println!("\n{LOOK_NOTES}");
+    for look in looks(PROGRAM_LIMIT) {
+        println!("{}", look_row(&look, rounds));
     }
     if let Some(peak) = peak_memory() {
         println!("\nPeak memory of this process, all sides and all buffers: {peak}.");
@@ -133,6 +161,50 @@ fn measure(workload: &Workload, rounds: usize) -> Times {
     }
 }
 
+/// The words and the times of one look.
+fn look_row(look: &Look, rounds: usize) -> String {
+    let proved = Proved::new(&look.reads);
+    proved.check_words(look);
+    let (opening, offset) = (look.opening.as_slice(), look.offset);
+    let calls = |run: &dyn Fn()| nanoseconds(|| (0..CALLS).for_each(|_| run()));
+    let mut samples = [const { Vec::new() }; 6];
+    for _ in 0..rounds {
+        samples[0].push(nanoseconds(|| proved.play()));
+        samples[1].push(nanoseconds(|| play_model(&look.reads)));
+        samples[2].push(calls(&|| proved.look(opening, offset)));
+        samples[3].push(calls(&|| proved.steps(opening)));
+        samples[4].push(calls(&|| {
+            black_box(looked(black_box(opening), PROGRAM_LIMIT, offset));
+        }));
+        samples[5].push(calls(&|| {
+            black_box(play(black_box(opening), PROGRAM_LIMIT, &mut ()));
+        }));
+    }
+    let [read, read_model, asked, played, asked_model, played_model] = samples.map(fastest);
+    let question = |asked: u128, played: u128| {
+        format!("{:.0}", (asked as f64 - played as f64) / f64::from(CALLS))
+    };
+    let cells = [
+        linked(per_step(&look.reads, read)),
+        per_step(&look.reads, read_model),
+        linked(question(asked, played)),
+        question(asked_model, played_model),
+    ];
+    let (channels, pending, words) = (look.channels, look.pending, look.words);
+    format!(
+        "| {channels} | {pending} | {words} | {} |",
+        cells.join(" | ")
+    )
+}
+
+/// What is told of the proved side, where it is linked in.
+fn linked(cell: String) -> String {
+    match cfg!(feature = "exports") {
+        true => cell,
+        false => "-".to_string(),
+    }
+}
+
 fn list_by_hand(workload: &Workload, digits: &mut Digits) {
     digits.bytes.clear();
     play(black_box(&workload.trace), PROGRAM_LIMIT, digits);
@@ -178,6 +250,7 @@ struct Proved<'a> {
     trace: &'a [u8],
     buffer: Vec<u8>,
     written: usize,
+    words: Words,
 }
 
 #[cfg(feature = "exports")]
@@ -187,6 +260,7 @@ impl<'a> Proved<'a> {
             trace: &workload.trace,
             buffer: vec![0; AMPLE],
             written: 0,
+            words: Words::UNTOUCHED,
         }
     }
 
@@ -196,9 +270,26 @@ impl<'a> Proved<'a> {
         black_box(&self.buffer);
     }
 
-    fn play(&mut self) {
-        let trace = black_box(self.trace);
-        black_box(bench::exports::steps_of(trace, PROGRAM_LIMIT));
+    fn play(&self) {
+        self.steps(self.trace);
+    }
+
+    fn steps(&self, trace: &[u8]) {
+        black_box(bench::exports::steps_of(black_box(trace), PROGRAM_LIMIT));
+    }
+
+    fn look(&self, trace: &[u8], offset: u32) {
+        let trace = black_box(trace);
+        let words = bench::exports::words_looked_at(trace, PROGRAM_LIMIT, offset);
+        black_box(words);
+    }
+
+    /// What is told beside the times must be what is looked at.
+    fn check_words(&self, look: &Look) {
+        for trace in [look.opening.as_slice(), self.trace] {
+            let words = bench::exports::words_looked_at(trace, PROGRAM_LIMIT, look.offset);
+            assert_eq!(words, look.words, "the words looked at differ");
+        }
     }
 
     fn list_plain(&mut self) {
@@ -210,6 +301,18 @@ impl<'a> Proved<'a> {
     fn play_plain(&mut self) {
         let trace = black_box(self.trace);
         black_box(bench::exports::steps_plain_of(trace, PROGRAM_LIMIT));
+    }
+
+    fn figures(&mut self) {
+        let trace = black_box(self.trace);
+        black_box(figures_into(trace, PROGRAM_LIMIT, &mut self.words));
+        black_box(&self.words);
+    }
+
+    fn check_figures(&self) {
+        let same =
+            figures_of(self.trace, PROGRAM_LIMIT) == report::figures(self.trace, PROGRAM_LIMIT).0;
+        assert!(same, "the figures differ");
     }
 
     /// What is timed must be the same work.
@@ -236,11 +339,53 @@ impl Proved {
 
     fn list_plain(&mut self) {}
 
-    fn play(&mut self) {}
+    fn play(&self) {}
+
+    fn steps(&self, _: &[u8]) {}
+
+    fn look(&self, _: &[u8], _: u32) {}
+
+    fn check_words(&self, _: &Look) {}
 
     fn play_plain(&mut self) {}
 
+    fn figures(&mut self) {}
+
+    fn check_figures(&self) {}
+
     fn check(&mut self, _: &[u8]) {}
+}
+
+const FIGURES_HEAD: &str = "\
+| controller | size | steps | trace bytes | figures | play | listing | figures/play | model's figures |
+|---|---|--:|--:|--:|--:|--:|--:|--:|";
+
+/// The figures of a workload, timed by both sides in turn, beside what was timed before.
+fn figures_row(workload: &Workload, times: &Times, rounds: usize) -> String {
+    let mut proved = Proved::new(workload);
+    proved.check_figures();
+    let mut samples = [const { Vec::new() }; 2];
+    for _ in 0..rounds {
+        samples[0].push(nanoseconds(|| proved.figures()));
+        samples[1].push(nanoseconds(|| {
+            black_box(report::figures(black_box(&workload.trace), PROGRAM_LIMIT))
+        }));
+    }
+    let [figures, model] = samples.map(fastest);
+    let linked = |cell: String| match cfg!(feature = "exports") {
+        true => cell,
+        false => "-".to_string(),
+    };
+    let cells = [figures, times.play.proved, times.listing.proved];
+    let cells = cells.map(|whole| linked(per_step(workload, whole)));
+    let ratio = figures as f64 / times.play.proved as f64;
+    format!(
+        "{} | {} | {} | {} |",
+        beginning(workload),
+        cells.join(" | "),
+        linked(format!("{ratio:.2}")),
+        per_step(workload, model),
+    )
 }
 
 /// The head of a table: what a workload is, what counts its bytes, the sides, and last the standard text if it is timed.
@@ -278,10 +423,6 @@ fn beginning(workload: &Workload) -> String {
 /// The times of all sides, and the ratios of the proved one to the model and to the tuned player.
 fn side_by_side(workload: &Workload, sides: &Sides) -> String {
     let (model, tuned) = (sides.model, sides.tuned);
-    let linked = |cell: String| match cfg!(feature = "exports") {
-        true => cell,
-        false => "-".to_string(),
-    };
     let ratio = |other: u128| linked(format!("{:.2}", sides.proved as f64 / other as f64));
     let mut cells: Vec<String> = [sides.proved, sides.plain]
         .map(|whole| linked(per_step(workload, whole)))

@@ -1,5 +1,6 @@
 //! Compares the texts of another side, a program or a linked library, with the model's on many generated cases: the
-//! listings of traces, or the stack lines of typed tables.
+//! listings of traces, the figures of traces for a report, the stack lines of typed tables, or the words that an index
+//! read looks at after a trace.
 
 use std::io::{self, Write};
 use std::process::ExitCode;
@@ -11,8 +12,11 @@ use bench::compare::{
 };
 use bench::generate::{Case, Generator};
 use bench::hex;
+use bench::looked::generate::Generator as Asker;
+use bench::looked::Question;
 use bench::model::Kind;
 use bench::program::Program;
+use bench::report::generate::{Counted, Generator as Counter};
 use bench::stack::generate::{Generator as Typist, Typed};
 
 const USAGE: &str = "\
@@ -20,13 +24,15 @@ differential --program PATH [options] [-- ARGUMENTS]
 differential --batch PATH   [options] [-- ARGUMENTS]
 differential --exports      [options]
 differential --tuned        [options]
-differential --trace N [--stack] [--seed N]
+differential --trace N [--stack | --figures | --looked] [--seed N]
 
   --program PATH  a process for each trace: the trace on standard input, the listing on standard output
   --batch PATH    one process for all traces, which speaks as batch.c does; step limits and room vary too
   --exports       in this process, if it is built with the feature `exports`; step limits and room vary too
   --tuned         the tuned player, in this process, which needs no proved side; step limits and room vary too
   --stack         typed tables and their stack lines, instead of traces and their listings
+  --figures       traces and their figures for a report, with --exports or --batch
+  --looked        questions how many status words a read looks at after a trace, instead of listings; not for --program
   --trace N       writes the trace (or table) of case N to standard output
   --seed N        other traces for another seed (1)
   --count N       how many (900 for --program, else 100000)
@@ -78,6 +84,8 @@ struct Options {
     path: String,
     arguments: Vec<String>,
     stack: bool,
+    looked: bool,
+    figures: bool,
     trace: Option<usize>,
     seed: u64,
     count: Option<usize>,
@@ -90,9 +98,23 @@ fn main() -> ExitCode {
         Ok(options) => options,
         Err(error) => return wrong(&error),
     };
-    if options.stack {
+    if [options.stack, options.figures, options.looked]
+        .iter()
+        .filter(|&&asked| asked)
+        .count()
+        > 1
+    {
+        return wrong("--stack, --figures and --looked are not asked together");
+    }
+    if options.looked {
+        let asker = Asker::new(options.seed);
+        asked(&options, |number| asker.question(number))
+    } else if options.stack {
         let typist = Typist::new(options.seed);
         asked(&options, |number| typist.typed(number))
+    } else if options.figures {
+        let counter = Counter::new(options.seed);
+        asked(&options, |number| counter.counted(number))
     } else {
         let generator = Generator::new(options.seed);
         asked(&options, |number| generator.case(number))
@@ -111,8 +133,14 @@ fn asked<S: Reported>(options: &Options, case: impl Fn(usize) -> S) -> ExitCode 
         (None, Some(Way::Exports)) if cfg!(not(feature = "exports")) => {
             wrong("--exports wants a build with the feature `exports`")
         }
-        (None, Some(Way::Tuned)) if options.stack => {
-            wrong("--tuned is about traces, not about tables")
+        (None, Some(Way::Tuned)) if options.stack || options.looked => {
+            wrong("--tuned is about the listings of traces alone")
+        }
+        (None, Some(Way::Program)) if options.looked => {
+            wrong("no program answers --looked; --exports and --batch do")
+        }
+        (None, Some(Way::Program | Way::Tuned)) if options.figures => {
+            wrong("--figures are asked with --exports or --batch")
         }
         (None, Some(way)) => differential(case, way, options),
     }
@@ -129,6 +157,8 @@ fn options(mut words: impl Iterator<Item = String>) -> Result<Options, String> {
         path: String::new(),
         arguments: Vec::new(),
         stack: false,
+        looked: false,
+        figures: false,
         trace: None,
         seed: 1,
         count: None,
@@ -143,6 +173,8 @@ fn options(mut words: impl Iterator<Item = String>) -> Result<Options, String> {
             "--exports" => options.way = Some(Way::Exports),
             "--tuned" => options.way = Some(Way::Tuned),
             "--stack" => options.stack = true,
+            "--looked" => options.looked = true,
+            "--figures" => options.figures = true,
             "--trace" => options.trace = Some(number(&value()?)?),
             "--seed" => options.seed = number(&value()?)?,
             "--count" => options.count = Some(number(&value()?)?),
@@ -182,7 +214,7 @@ impl Other {
     fn ask<S: Subject>(&mut self, case: &S) -> Outcome {
         match self {
             Other::Program(program) => program.ask(case.input()),
-            Other::Batch(batch) => batch.ask(case.request()),
+            Other::Batch(batch) => case.heard(batch.ask(case.request())?),
             Other::Exports => in_process(case),
             Other::Tuned => case.by_tuned(),
         }
@@ -254,6 +286,43 @@ impl Reported for Typed {
 
     fn told(&self) -> String {
         format!("text: {}", start(&self.text).escape_ascii())
+    }
+}
+
+impl Reported for Question {
+    const MANY: &'static str = "questions";
+
+    fn amount(summary: &Summary<Question>) -> String {
+        format!("{} words looked at", summary.coverage.words)
+    }
+
+    fn items(coverage: &Self::Coverage) -> Vec<(u64, String)> {
+        named(coverage.table())
+    }
+
+    fn told(&self) -> String {
+        let shown = hex::print(start(&self.trace));
+        let (limit, offset) = (self.limit, self.offset);
+        format!("limit {limit}, offset {offset:#x}, trace: {shown}")
+    }
+}
+
+impl Reported for Counted {
+    const MANY: &'static str = "traces";
+
+    fn amount(summary: &Summary<Counted>) -> String {
+        let [steps, handlers, waits] = summary.coverage.amounts();
+        let started = |kind: Kind| format!("{} {}", kind.told(), summary.coverage.started(kind));
+        let started = Kind::ALL.map(started).join(", ");
+        format!("{steps} steps, {handlers} handlers started, {waits} waits, started: {started}")
+    }
+
+    fn items(coverage: &Self::Coverage) -> Vec<(u64, String)> {
+        named(coverage.table())
+    }
+
+    fn told(&self) -> String {
+        self.case.told()
     }
 }
 

@@ -1,12 +1,14 @@
 //! The model as a program: a trace on standard input, its listing on standard output; with `--stack` a typed table and
-//! its line; with `--batch` many of both; with `--boards` a number on standard input, and a transcript of so many boards.
+//! its line; with `--batch` many of both and words looked at; with `--boards` a number on standard input, and a transcript of so many boards.
 
 use std::io::{self, BufReader, BufWriter, Read, Write};
 use std::process::ExitCode;
 
-use bench::batch::{serve, Asked, Reply, Request};
+use bench::batch::{figures_to_bytes, serve, Asked, Reply, Request};
 use bench::boards::generate::{script, unsound};
 use bench::listing::listing;
+use bench::looked::{looked, told};
+use bench::report;
 use bench::stack;
 use bench::trace::PROGRAM_LIMIT;
 
@@ -54,10 +56,19 @@ fn print_many() {
 }
 
 fn reply(request: &Request) -> Reply {
+    let (input, limit, room) = (&request.input, request.limit, request.room);
     let mut text = match request.asked {
-        Asked::Listing => listing(&request.input, request.limit),
-        Asked::Stack => stack::line(&request.input),
+        Asked::Listing => listing(input, limit),
+        Asked::Stack => stack::line(input),
+        Asked::Looked => {
+            let text = told(looked(input, limit, room as u32));
+            return Reply { changed: 0, text };
+        }
+        Asked::Figures => {
+            let (figures, ending) = report::figures(input, limit);
+            figures_to_bytes(&figures, ending)
+        }
     };
-    text.truncate(request.room);
+    text.truncate(room);
     Reply { changed: 0, text }
 }

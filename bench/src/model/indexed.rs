@@ -1,5 +1,5 @@
 //! The CIC with prioritised indices: a CIC, three more sorts of registers if it is so configured, and the words that
-//! are held for them (02, 6/12; 001, 1.3.5, 2.2.2, 2.2.10 and 2.2.17).
+//! are held for them (02, 6/12 and 10/12; 001, 1.3.5, 2.2.2, 2.2.10 and 2.2.17).
 
 use super::cic::{self, Cic};
 use super::{Access, Controller, Refusal};
@@ -70,11 +70,8 @@ impl Indexed {
     /// Whether a system meets the conditions of an index: it is set and enabled, and for a host's index its channel
     /// leads to that host. Neither the global enable nor the host's own is asked (001, 1.3.2 and table 1-2).
     pub fn meets(&self, index: Index, system: usize) -> bool {
-        let leads = match index {
-            Index::Global => true,
-            Index::Host(host) => self.cic.host_of(self.cic.channel_of(system)) == host,
-        };
-        leads && self.cic.status().get(system) && self.cic.enable().get(system)
+        let pending = self.cic.status().get(system) && self.cic.enable().get(system);
+        pending && self.leads(index, self.cic.channel_of(system))
     }
 
     /// The system that an index names when nothing is held: of those that meet its conditions that of the lowest
@@ -84,6 +81,35 @@ impl Indexed {
             .active()
             .filter(|&system| self.meets(index, system))
             .min_by_key(|&system| (self.cic.channel_of(system), system))
+    }
+
+    /// Whether a channel is one of an index: of the global one any, of a host's those mapped to it.
+    pub fn leads(&self, index: Index, channel: usize) -> bool {
+        match index {
+            Index::Global => true,
+            Index::Host(host) => self.cic.host_of(channel) == host,
+        }
+    }
+
+    /// The status words, of 32 systems each, that a read of an offset would look at now (02, 10/12). A read that is
+    /// refused, of what is held or of another register looks at none.
+    pub fn looked(&self, offset: u32) -> u32 {
+        match self.found(offset) {
+            Ok((Register::Index(index), _)) if self.held(index).is_none() => self.searched(index),
+            _ => 0,
+        }
+    }
+
+    /// Told by the system that would be named: of each earlier channel of the index all words were looked at, of its own
+    /// those up to its word. Where none is named it is all words of all channels of the index.
+    fn searched(&self, index: Index) -> u32 {
+        let whole = self.cic.systems().div_ceil(32);
+        let (channels, own) = match self.first(index) {
+            Some(system) => (self.cic.channel_of(system), system / 32 + 1),
+            None => (self.cic.channels(), 0),
+        };
+        let earlier = (0..channels).filter(|&channel| self.leads(index, channel));
+        (earlier.count() * whole + own) as u32
     }
 
     fn read_index(&mut self, index: Index) -> u32 {

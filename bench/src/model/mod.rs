@@ -31,7 +31,8 @@ pub struct Recorded {
     pub privilege: u32,
 }
 
-/// Why a step, a trace, a table or a call on a board is not carried out, with the number that 01's table or 02's request gives it.
+/// Why a step, a trace, a table, a call on a board or a name of a report is not carried out, with the number that 01's
+/// table or 02's request gives it.
 ///
 /// Number 12 is missing: it is about a record that somebody hands in, and these models keep their state to themselves.
 #[derive(Clone, Copy, Debug, PartialEq, Eq, PartialOrd, Ord, Hash)]
@@ -51,6 +52,10 @@ pub enum Refusal {
     Unprivileged = 13,
     BeyondTable = 14,
     NotLower = 15,
+    /// A total would pass 4,294,967,295 (02, 11/12).
+    BeyondTotal = 16,
+    /// A file cannot be opened or read (02, 11/12).
+    Unreadable = 17,
 }
 
 impl Refusal {

@@ -5,8 +5,10 @@
 fn main() {
     let mut input = [0u8; 16];
     io::read_full(0, &mut input);
+    board_towers::all();
     board_cases::all();
     board_limits::all();
+    board_unsound::all();
     board_tours::all(number(&input));
 }
 

@@ -1,8 +1,7 @@
 -- Laws of the wires of a board, and the proof of what is promised of them.
-pub mod ChainLaws
 pub mod InputLaws
 pub mod NumberLaws
 pub mod Promises
-pub mod TableLaws
+pub mod TellerLaws
 pub mod UnusedLaws
 pub mod WireLaws

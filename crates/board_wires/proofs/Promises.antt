@@ -5,10 +5,8 @@ use native.Mathlib.Omega.{arith}
 use lib.ListN.{getD}
 use Rattle.coreinterrupt.specs.declared.Core.{Core}
 use Rattle.board_wires.specs.Promises.{Promises}
-use Rattle.board_wires.proofs.ChainLaws.{chain-none, chain-over, chain-met, chain-most}
 use Rattle.board_wires.proofs.InputLaws.{irq-only, fiq-only, irq-bit, fiq-bit, lines-word, wired-sound, irq-is, fiq-is, irq-raised, fiq-raised}
 use Rattle.board_wires.proofs.NumberLaws.{of-nothing, of-pin, of-irq, of-fiq, of-else, number-nothing, number-pin, number-irq, number-fiq, no-pin, no-output, number-back, wire-there, no-wire, no-input, pin-high, core-there, core-else}
-use Rattle.board_wires.proofs.TableLaws.{told-irq, told-fiq, told-lengths}
 use Rattle.board_wires.proofs.UnusedLaws.{core-unused}
 use Rattle.board_wires.proofs.WireLaws.{from-nothing, from-pin, irq-value, fiq-value}
 
@@ -42,11 +40,5 @@ kept =
       fiqIs = fiq-is;
       irqActive = irq-raised;
       fiqActive = fiq-raised;
-      toldIs = λ b d l. (told-irq b d l, told-fiq b d l);
-      toldLong = λ b. told-lengths b 8;
       unusedSame = core-unused;
-      chainNone = chain-none;
-      chainOver = chain-over;
-      chainMet = chain-met;
-      chainMost = chain-most;
     }

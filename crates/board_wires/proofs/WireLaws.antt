@@ -17,7 +17,7 @@ use Rattle.coreinterrupt.specs.Model.{side}
 use Rattle.board_wires.specs.declared.Board.{Board}
 use Rattle.board_wires.specs.declared.Wire.{Wire}
 use Rattle.board_wires.specs.declared.Wire.the-variants.{Nothing, Pin, Irq, Fiq}
-use Rattle.board_wires.specs.Wires.{wireIn, wireAt, pinOf, coreAt, inputsOf, placeOf, wired, sideIn, sideBy, activeBy, below, activity, inputValue}
+use Rattle.board_wires.specs.Wires.{wireIn, wireAt, pinIn, pinOf, coreAt, inputsOf, placeOf, wired, sideIn, sideBy, activeBy, below, activity, inputValue}
 
 -- what is told of the numbers below n is their activity
 pub below-is : (b : Board) (n d : ℕ) (fast : Bool) → d < n → below b n d fast ≡ activity b d fast
@@ -28,6 +28,25 @@ below-is b (suc n) d fast l = go (ℕ-discrete d n) (below-is b n d fast)
     go : Dec (d ≡ n) → (d < n → below b n d fast ≡ activity b d fast) → pick (eqb d n) (activeBy b (below b n) n fast) (below b n d fast) ≡ activeBy b (below b d) d fast
     go (yes e) ih = rw (eq-eqb d n e, e)
     go (no e) ih = rw (ne-eqb d n e) (unfold activity in (ih (omega arith)))
+
+-- ---- what a wire carries, where g tells the activities of the lower numbers
+
+module _ (ps : List ℕ) (g : ℕ → Bool → Bool) (c : ℕ) (w : Wire) where
+  pub carries-nothing : w ≡ Nothing → false ≡ wired ps g c w
+  unfolding wired
+  carries-nothing e = rw e
+
+  pub carries-pin : (p : ℕ) (x : Bool) → w ≡ Pin p → x ≡ pinIn ps p → x ≡ wired ps g c w
+  unfolding wired
+  carries-pin p x e h = rw e h
+
+  pub carries-irq : (d : ℕ) (x : Bool) → w ≡ Irq d → x ≡ g d false → (ltb d c && x) ≡ wired ps g c w
+  unfolding wired
+  carries-irq d x e h = rw (e, h)
+
+  pub carries-fiq : (d : ℕ) (x : Bool) → w ≡ Fiq d → x ≡ g d true → (ltb d c && x) ≡ wired ps g c w
+  unfolding wired
+  carries-fiq d x e h = rw (e, h)
 
 -- ---- the value of an input by its wire
 

@@ -1,5 +1,3 @@
--- What the wires of a board carry, the chains they make, and what is promised of them.
-pub mod Chain
+-- What the wires of a board carry, and what is promised of them.
 pub mod Promises
-pub mod Table
 pub mod Wires

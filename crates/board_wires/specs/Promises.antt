@@ -1,10 +1,10 @@
--- What is promised of the wires of a board: what each input carries, which outputs are active, and how long the chains are (02, 8/12).
+-- What is promised of the wires of a board: what each input carries, and which outputs are active (02, 8/12).
 use Prim.Native.Nat.{ℕ, _+_, _*_, _^_, _<_, _≤_}
 use mathlib.Core.Path.{_≡_}
 use mathlib.Core.Bool.{Bool, true, false, _&&_}
-use mathlib.Core.Logic.{_↔_, _≢_, _⊎_}
+use mathlib.Core.Logic.{_↔_, _⊎_}
 use lib.Dec.{ltb}
-use lib.ListN.{getD, length}
+use lib.ListN.{getD}
 use Rattle.words.specs.Choice.{pick}
 use Rattle.words.specs.Word.{bit}
 use Rattle.coreinterrupt_side.specs.declared.Side.{Side}
@@ -13,16 +13,10 @@ use Rattle.coreinterrupt.specs.Model.{sound}
 use Rattle.board_wires.specs.declared.Board.{Board}
 use Rattle.board_wires.specs.declared.Wire.the-variants.{Nothing, Pin, Irq, Fiq}
 use Rattle.board_wires.specs.Wires.{wireOf, wireNumber, wireAt, pinOf, coreAt, activity, inputValue, wiredCore}
-use Rattle.board_wires.specs.Chain.{chain}
-use Rattle.board_wires.specs.Table.{toldTo}
 
 -- of a side whose input k has value `high k`, there is a source within the count, its input high or its soft bit set, that is enabled
 abbrev pub Raised : Side → (ℕ → Bool) → Type 0
 Raised s high = (k : ℕ) × (k < s .count) × ((high k ≡ true) ⊎ (bit (s .soft) k ≡ true)) × (bit (s .enable) k ≡ true)
-
--- some input of controller c, used or not, is wired to an output of controller d
-abbrev pub Wired : Board → ℕ → ℕ → Type 0
-Wired b c d = (i : ℕ) × (i < 40) × ((wireAt b c i ≡ Irq d) ⊎ (wireAt b c i ≡ Fiq d))
 
 -- the boards are alike but for the wires of unused inputs: those from the count of their side on
 pub record Alike (x y : Board) : Type 0 where
@@ -85,17 +79,5 @@ pub record Promises : Type 0 where
   -- of a sound controller: exactly if a source, its input high or soft, is enabled; IRQ input k is input k, FIQ input k input 32 + k (02, 8/12; 01, CoreInterrupt)
   pub irqActive : (b : Board) (c : ℕ) → sound (coreAt b c) ≡ true → (activity b c false ≡ true) ↔ Raised (coreAt b c .irq) (λ k. inputValue b c k)
   pub fiqActive : (b : Board) (c : ℕ) → sound (coreAt b c) ≡ true → (activity b c true ≡ true) ↔ Raised (coreAt b c .fiq) (λ k. inputValue b c (32 + k))
-  -- the table tells those of all eight
-  pub toldIs : (b : Board) (d : ℕ) → d < 8 → (getD (toldTo b 8 .irq) d false ≡ activity b d false) × (getD (toldTo b 8 .fiq) d false ≡ activity b d true)
-  pub toldLong : (b : Board) → (length (toldTo b 8 .irq) ≡ 8) × (length (toldTo b 8 .fiq) ≡ 8)
   -- an unused input changes nothing that a controller shows (01, CoreInterrupt; 02, 8/12)
   pub unusedSame : (x y : Board) → Alike x y → (c : ℕ) → wiredCore x c ≡ wiredCore y c
-  -- ---- the longest chain below a controller, counted in controllers
-  -- it has none exactly if no input, used or not, is wired to an output of a lower number (02, 8/12)
-  pub chainNone : (b : Board) (c : ℕ) → (chain b c ≡ 0) ↔ ((d : ℕ) → d < c → Wired b c d → ⊥)
-  -- it is longer by one than that below any controller it is wired to, at least (02, 8/12)
-  pub chainOver : (b : Board) (c d : ℕ) → d < c → Wired b c d → chain b d + 1 ≤ chain b c
-  -- and by just one than that below some (02, 8/12)
-  pub chainMet : (b : Board) (c : ℕ) → chain b c ≢ 0 → (d : ℕ) × (d < c) × Wired b c d × (chain b c ≡ chain b d + 1)
-  -- so it has no more controllers than there are lower numbers
-  pub chainMost : (b : Board) (c : ℕ) → chain b c ≤ c

@@ -1,5 +1,6 @@
--- The laws of the search for an index and of the one that it names, and the proof of what is promised of it.
+-- The laws of the search for an index, of the one that it names and of the words that are looked at, and the proof of what is promised of them.
 pub mod IndexLaws
+pub mod LookedLaws
 pub mod NamedLaws
 pub mod Promises
 pub mod SearchLaws

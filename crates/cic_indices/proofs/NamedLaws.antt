@@ -32,7 +32,7 @@ channel-below c e s l =
     let a = all-at 1024 (entrySound (c .systems) (c .channels) (c .channel)) (sound-parts c e .channel) s (omega (arith, sound-counts c e .systems)) in
     ltb-true (getD (c .channel) s 0) (c .channels) (pick-true (eqb (getD (c .channel) s 0) 0) (lt-ltb s (c .systems) l) ∙ a)
 
-lowest-channel : (c : Cic) (t : Channel → Bool) → Lowest (passes c t) (c .channels) (channelFirst c t)
+pub lowest-channel : (c : Cic) (t : Channel → Bool) → Lowest (passes c t) (c .channels) (channelFirst c t)
 unfolding channelFirst
 lowest-channel c t = lowest-found (c .channels) (passes c t)
 

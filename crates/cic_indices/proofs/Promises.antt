@@ -2,25 +2,32 @@
 use mathlib.Core.Path.{_≡_, refl, sym, ap, _∙_}
 use mathlib.Core.Bool.{Bool, true, false, _&&_, _||_}
 use mathlib.Core.Logic.{_↔_, _≢_, _⊎_, inl, inr, ⊎-elim}
-use Prim.Native.Nat.{ℕ, _/_, _%_, _^_, _<_}
+use Prim.Native.Nat.{ℕ, _+_, _*_, _/_, _%_, _^_, _<_, _≤_, min}
 use native.Mathlib.Decide.{decLt}
 use native.Mathlib.Omega.{arith}
 use borrow.Author.Tests.{lt-ltb, ltb-true, eq-eqb, eqb-true}
 use lib.Dec.{eqb, ltb}
 use lib.ListN.{getD}
 use Rattle.words.specs.Array.{bitAt}
+use Rattle.words.specs.Choice.{pick}
+use Rattle.words.specs.Counting.{anyBelow, lowestBelow, sumBelow, countBelow}
 use Rattle.words.specs.Word.{bit}
-use Rattle.words.proofs.TruthLaws.{and-left, and-right, and-both, or-either, or-left, or-right}
+use Rattle.words.proofs.CountingLaws.{any-some, some-any, Lowest}
+use Rattle.words.proofs.TruthLaws.{and-left, and-right, and-both, clash, not-holds, or-either, or-left, or-right}
 use Rattle.words.proofs.WordLaws.{bit-alone}
 use Rattle.cic_record.specs.declared.Channel.{Channel}
 use Rattle.cic_record.specs.declared.Cic.{Cic}
 use Rattle.cic_record.specs.declared.Host.{Host}
 use Rattle.cic_record.specs.declared.System.{System}
-use Rattle.cic_record.specs.Kinds.{system, channelOf, hostOf}
+use Rattle.cic_record.specs.Kinds.{system, channelNumber, hostNumber, channelOf, hostOf}
 use Rattle.cic_record.specs.Sound.{sound}
-use Rattle.cic_indices.specs.Order.{noneWord, pendingIn, leads, indexOf, comesBefore}
+use Rattle.cic_indices.specs.Example.{example}
+use Rattle.cic_indices.specs.Looked.{wordHas, lookedIn, foundIn, searched, lookedOver, foundOver}
+use Rattle.cic_indices.specs.Order.{noneWord, pendingIn, busy, channelFirst, firstIn, leads, indexOf, comesBefore}
 use Rattle.cic_indices.specs.Promises.{Meets, MeetsFor, Promises}
-use Rattle.cic_indices.proofs.NamedLaws.{MeetsBy, none, names, first, not-before}
+use Rattle.cic_indices.proofs.IndexLaws.{passes, parts-found, looked-most}
+use Rattle.cic_indices.proofs.LookedLaws.{looked-before, looked-last, looked-some, has-is, looked-found, looked-none, looked-alike, over-most, over-found, over-none}
+use Rattle.cic_indices.proofs.NamedLaws.{MeetsBy, lowest-channel, none, names, first, not-before}
 
 -- ---- an index over every channel, and over those of a host
 
@@ -138,6 +145,57 @@ pending-is c k s =
       λ r. and-both (r .0) (and-both (r .1) (eq-eqb x (k .0) (r .2))),
     )
 
+-- ---- how many words are looked at
+
+found-is : (c : Cic) (k : Channel) → (foundIn c k .index ≡ firstIn c k) × (foundIn c k .words ≡ lookedIn c k)
+unfolding foundIn
+found-is c k = (refl, refl)
+
+leads-host : (c : Cic) (h : Host) (k : Channel) → (leads c false h k ≡ true) ↔ (getD (c .host) (k .0) 0 ≡ h .0)
+leads-host c h k = (λ e. eqb-true (getD (c .host) (k .0) 0) (h .0) e, λ e. eq-eqb (getD (c .host) (k .0) 0) (h .0) e)
+
+searched-most : (c : Cic) (t : Channel → Bool) → searched c t ≤ c .channels
+unfolding searched
+searched-most c t = omega arith
+
+searched-before : (c : Cic) (t : Channel → Bool) (k : ℕ) → k + 1 < searched c t → t (channelNumber k) ≡ true → busy c (channelNumber k) ≡ false
+unfolding searched
+searched-before c t k l e =
+    not-holds (busy c (channelNumber k)) (λ b. clash (and-both e b) (lowest-channel c t .before k (omega (arith, l))))
+
+searched-last : (c : Cic) (t : Channel → Bool) (k : ℕ) → searched c t ≡ k + 1 → searched c t < c .channels → (t (channelNumber k) ≡ true) × (busy c (channelNumber k) ≡ true)
+unfolding searched
+searched-last c t k e l =
+    let at : channelFirst c t ≡ k = omega (arith, e, l) in
+    let pass : passes c t k ≡ true = ap (passes c t) (sym at) ∙ lowest-channel c t .found (omega (arith, e, l)) in
+    (and-left (t (channelNumber k)) (busy c (channelNumber k)) pass, and-right (t (channelNumber k)) (busy c (channelNumber k)) pass)
+
+busy-is : (c : Cic) (k : Channel) → (busy c k ≡ true) ↔ ((s : ℕ) × (s < c .systems) × (pendingIn c k (system s) ≡ true))
+unfolding busy
+busy-is c k = (any-some (c .systems) (λ s. pendingIn c k (system s)), λ r. some-any (c .systems) (λ s. pendingIn c k (system s)) (r .0) (r .1) (r .2))
+
+over-is : (c : Cic) (every : Bool) (h : Host) → (foundOver c (leads c every h) .index ≡ indexOf c every h) × (foundOver c (leads c every h) .words ≡ lookedOver c (leads c every h))
+unfolding foundOver indexOf
+over-is c every h = (refl, refl)
+
+-- ---- system interrupt 40 of 96
+
+example-found : lookedIn example (channelNumber 1) ≡ 2
+unfolding example lookedIn wordHas pendingIn lowestBelow anyBelow pick bitAt bit
+example-found = refl
+
+example-none : lookedIn example (channelNumber 0) ≡ 3
+unfolding example lookedIn wordHas pendingIn lowestBelow anyBelow pick bitAt bit
+example-none = refl
+
+example-global : lookedOver example (leads example true (hostNumber 0)) ≡ 5
+unfolding example lookedOver searched channelFirst busy sumBelow lookedIn wordHas pendingIn lowestBelow anyBelow pick bitAt bit
+example-global = refl
+
+example-hosts : (lookedOver example (leads example false (hostNumber 0)) ≡ 3) × (lookedOver example (leads example false (hostNumber 1)) ≡ 2)
+unfolding example lookedOver searched channelFirst busy sumBelow lookedIn wordHas pendingIn lowestBelow anyBelow pick bitAt bit
+example-hosts = (refl, refl)
+
 pub kept : Promises
 kept =
     record {
@@ -155,4 +213,28 @@ kept =
       beforeEither = before-either;
       noneIs = none-is;
       pendingIs = pending-is;
+      lookedMost = looked-most;
+      lookedBefore = looked-before;
+      lookedLast = looked-last;
+      lookedSome = looked-some;
+      hasIs = has-is;
+      lookedFound = looked-found;
+      lookedNone = looked-none;
+      lookedAlike = looked-alike;
+      searchIs = parts-found;
+      foundIs = found-is;
+      leadsEvery = λ c h k. refl;
+      leadsHost = leads-host;
+      searchedMost = searched-most;
+      searchedBefore = searched-before;
+      searchedLast = searched-last;
+      busyIs = busy-is;
+      overMost = over-most;
+      overFound = over-found;
+      overNone = over-none;
+      overIs = over-is;
+      exampleFound = example-found;
+      exampleNone = example-none;
+      exampleGlobal = example-global;
+      exampleHosts = example-hosts;
     }

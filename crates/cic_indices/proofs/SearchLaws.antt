@@ -2,7 +2,7 @@
 use mathlib.Core.Path.{_≡_, refl, sym, ap, ap₂, _∙_}
 use mathlib.Core.Bool.{Bool, true, false, _&&_, _||_}
 use mathlib.Core.List.{List}
-use Prim.Native.Nat.{ℕ, _+_, _-_, _*_, _/_, _%_, _^_, _≤_, _<_}
+use Prim.Native.Nat.{ℕ, _+_, _-_, _*_, _/_, _%_, _^_, _≤_, _<_, min}
 use native.Mathlib.Decide.{decLt}
 use native.Mathlib.Omega.{arith}
 use borrow.Author.Tests.{lt-ltb, ltb-true}
@@ -12,14 +12,15 @@ use Rattle.words.specs.Array.{bitAt, restAt}
 use Rattle.words.specs.Counting.{anyBelow, lowestBelow}
 use Rattle.words.specs.Word.{bit, both, kept}
 use Rattle.words.proofs.ArrayLaws.{bitAt-word, rest-ltb}
-use Rattle.words.proofs.CountingLaws.{any-some, some-any, any-same, any-add, Lowest, lowest-found, lowest-one, lowest-same}
+use Rattle.words.proofs.CountingLaws.{any-some, some-any, any-none, any-same, any-add, Lowest, lowest-found, lowest-one, lowest-same}
 use Rattle.words.proofs.ShiftLaws.{bit-gone}
-use Rattle.words.proofs.TruthLaws.{and-left, and-right, and-both, same-test}
+use Rattle.words.proofs.TruthLaws.{and-left, and-right, and-both, clash, not-holds, same-test}
 use Rattle.words.proofs.WordLaws.{bit-both, bit-kept}
 use Rattle.cic_record.specs.declared.Channel.{Channel}
 use Rattle.cic_record.specs.Kinds.{system, channelIn}
 use Rattle.cic_hosts.proofs.ScanLaws.{bit-of-left}
-use Rattle.cic_indices.specs.Search.{lit, pendingOf, firstOf}
+use Rattle.cic_indices.specs.declared.Found.{Found}
+use Rattle.cic_indices.specs.Search.{lit, pendingOf, firstOf, hasOf, lookedOf, foundOf}
 
 -- ---- the lowest that passes
 
@@ -103,23 +104,57 @@ module _ (n : ℕ) (status enable channel : List ℕ) (k : Channel) where
           let at : 32 * j + (s - 32 * j) ≡ s = omega (arith, b) in
           ap (pendingOf status enable channel k) (sym at) ∙ in-word j (s - 32 * j) (omega (arith, b, m)) (low (s - 32 * j) (omega (arith, b, l)))
 
+  -- the words before j have none
+  words-none : (j : ℕ) → NoneBefore j → (m : ℕ) → m < j → hasOf n status enable channel k m ≡ false
+  unfolding hasOf
+  words-none j none m l = any-none 32 (pendingAt m) (λ i b. not-holds (pendingAt m i) (λ e. taken i b e))
+    where
+      taken : (i : ℕ) → i < 32 → pendingAt m i ≡ true → ⊥
+      taken i b e =
+          let p = pendingOf status enable channel k (32 * m + i) in
+          let t = ltb (32 * m + i) n in
+          clash (and-right t p e) (none (32 * m + i) (omega (arith, b, l)) (ltb-true (32 * m + i) n (and-left t p e)))
+
+  word-has : (j i : ℕ) → Lowest (pendingAt j) 32 i → i < 32 → hasOf n status enable channel k j ≡ true
+  unfolding hasOf
+  word-has j i low l = some-any 32 (pendingAt j) i l (low .found l)
+
+  -- the words looked at where it is found in word j, whose number is below that of the words
+  pub looked-word : (j : ℕ) → 32 * j < n → NoneBefore j → hasOf n status enable channel k j ≡ true → j + 1 ≡ lookedOf n status enable channel k
+  unfolding lookedOf
+  looked-word j l none has =
+      let first : j ≡ lowestBelow ((n + 31) / 32) (hasOf n status enable channel k) = found-here (hasOf n status enable channel k) ((n + 31) / 32) j (omega (arith, l)) (words-none j none) has in
+      omega (arith, first, l)
+
+  -- and where it is found in none of them
+  pub looked-no-word : (j : ℕ) → n ≤ 32 * j → 32 * j < n + 32 → NoneBefore j → j ≡ lookedOf n status enable channel k
+  unfolding lookedOf
+  looked-no-word j a b none =
+      let nowhere : (n + 31) / 32 ≡ lowestBelow ((n + 31) / 32) (hasOf n status enable channel k) = found-nowhere (hasOf n status enable channel k) ((n + 31) / 32) (λ m l. words-none j none m (omega (arith, l, b))) in
+      omega (arith, nowhere, a, b)
+
   -- it is found in word j
-  pub found-word : (j i : ℕ) → Lowest (pendingAt j) 32 i → i < 32 → NoneBefore j → 32 * j + i ≡ firstOf n status enable channel k
-  unfolding firstOf
+  pub found-word : (j i : ℕ) → Lowest (pendingAt j) 32 i → i < 32 → NoneBefore j
+      → _≡_ {A = Found} (record { index = 32 * j + i; words = j + 1 }) (foundOf n status enable channel k)
+  unfolding foundOf firstOf
   found-word j i low l none =
       let p = pendingOf status enable channel k in
       let there = ltb-true (32 * j + i) n (and-left (ltb (32 * j + i) n) (p (32 * j + i)) (low .found l)) in
-      found-here p n (32 * j + i) there (λ s b. before-bit j i none (low .before) s b (omega (arith, there, b)))
-      (and-right (ltb (32 * j + i) n) (p (32 * j + i)) (low .found l))
+      ap₂ (λ (a b : ℕ). record { index = a; words = b })
+      (found-here p n (32 * j + i) there (λ s b. before-bit j i none (low .before) s b (omega (arith, there, b))) (and-right (ltb (32 * j + i) n) (p (32 * j + i)) (low .found l)))
+      (looked-word j (omega (arith, there)) none (word-has j i low l))
 
   -- one word more that has none
   pub word-none : (j i : ℕ) → Lowest (pendingAt j) 32 i → 32 ≤ i → NoneBefore j → NoneBefore (j + 1)
   word-none j i low l none s b m = before-bit j i none (low .before) s (omega (arith, b, l)) m
 
   -- it is found in none of them
-  pub found-no-word : (j : ℕ) → n ≤ 32 * j → NoneBefore j → n ≡ firstOf n status enable channel k
-  unfolding firstOf
-  found-no-word j l none = found-nowhere (pendingOf status enable channel k) n (λ s b. none s (omega (arith, b, l)) b)
+  pub found-no-word : (j : ℕ) → n ≤ 32 * j → 32 * j < n + 32 → NoneBefore j
+      → _≡_ {A = Found} (record { index = n; words = j }) (foundOf n status enable channel k)
+  unfolding foundOf firstOf
+  found-no-word j l m none =
+      ap₂ (λ (a b : ℕ). record { index = a; words = b }) (found-nowhere (pendingOf status enable channel k) n (λ s b. none s (omega (arith, b, l)) b))
+      (looked-no-word j l m none)
 
   -- ---- whether there is one at all
 

@@ -1,4 +1,4 @@
-// Which system interrupt a prioritised index of the CIC names (02, 6/12; 001, 1.3.5).
+// Which system interrupt a prioritised index of the CIC names, and how many status words the search for it looks at (02, 6/12 and 10/12; 001, 1.3.5).
 ghost use mathlib.Core.Path.{_≡_};
 ghost use mathlib.Core.Bool.{true, _&&_, _||_};
 ghost use Prim.Native.Nat.{ℕ, _<_, _≤_};
@@ -7,8 +7,9 @@ ghost use lib.ListN.{length};
 ghost use Rattle.words.specs.Array.{bitAt, withBitAt};
 ghost use Rattle.words.specs.Counting.{anyBelow, lowestBelow};
 ghost use Rattle.cic_record.specs.Kinds.{channelNumber, channelIn, hostIn};
-ghost use Rattle.cic_indices.specs.Order.{indexOf};
-ghost use Rattle.cic_indices.specs.Search.{lit, pendingOf, firstOf};
+ghost use Rattle.cic_indices.specs.Looked.{foundOver};
+ghost use Rattle.cic_indices.specs.Order.{leads, indexOf};
+ghost use Rattle.cic_indices.specs.Search.{lit, pendingOf, foundOf, turnOf};
 use cic_record::Channel;
 use cic_record::Cic;
 use cic_record::Host;
@@ -16,6 +17,12 @@ use cic_record::System;
 
 // The word of an index that names none.
 pub const NONE: u32 = 0x80000000;
+
+// What a search finds, and the status words of 32 system interrupts that it looks at.
+pub struct Found {
+    pub index: u32,
+    pub words: u32,
+}
 
 // Whether the channel of a system interrupt is k.
 fn is_of(channel: &[u8; 1024], s: System, k: Channel) -> bool
@@ -43,16 +50,17 @@ fn first_of(channel: &[u8; 1024], base: u16, w: u32, k: Channel) -> u32
     32
 }
 
-// The lowest set and enabled system interrupt of channel k, the number of systems where there is none: word by word, up to the first that has one.
+// The lowest set and enabled system interrupt of channel k, the number of systems where there is none: word by word, up to the first that has one. The words
+// looked at are counted, that one among them and a word of 0 like any other.
 fn search<'a>(
     systems: u32,
     status: &'a [u32; 32],
     enable: &'a [u32; 32],
     channel: &'a [u8; 1024],
     k: Channel,
-) -> u32
+) -> Found
     requires { ⌜ systems ≤ 1024 ⌝ }
-    ensures { λ r. ⌜ r ≡ firstOf systems (now (status .entry)) (now (enable .entry)) (now (channel .entry)) k ⌝ }
+    ensures { λ r. ⌜ r ≡ foundOf systems (now (status .entry)) (now (enable .entry)) (now (channel .entry)) k ⌝ }
 {
     let mut rest = systems;
     let mut base: u16 = 0;
@@ -62,13 +70,19 @@ fn search<'a>(
         let w = words::keep(rest, words::meet(status[at], enable[at]));
         let i = first_of(channel, base, w, k);
         if i < 32 {
-            return 32 * j + i;
+            return Found {
+                index: 32 * j + i,
+                words: j + 1,
+            };
         }
         rest = cic_record::after_word(rest);
         base = base + 32;
         j = j + 1;
     }
-    systems
+    Found {
+        index: systems,
+        words: j,
+    }
 }
 
 // Whether an index is over channel k: the global one over all, that of host h over those mapped to it.
@@ -163,9 +177,59 @@ pub fn index(c: Cic, every: bool, h: Host) -> u32
     let mut k: u16 = 0;
     while (k as u32) < channels {
         if asks(&c.host, every, h, Channel(k)) & is_marked(&busy, Channel(k)) {
-            return search(systems, &c.status, &c.enable, &c.channel, Channel(k));
+            let f = search(systems, &c.status, &c.enable, &c.channel, Channel(k));
+            return f.index;
         }
         k = k + 1;
     }
     NONE
+}
+
+// One channel's turn in a read that searches channel by channel: it is searched where the index is over it, else nothing is found and nothing looked at.
+fn turn<'a>(
+    systems: u32,
+    status: &'a [u32; 32],
+    enable: &'a [u32; 32],
+    channel: &'a [u8; 1024],
+    asked: bool,
+    k: Channel,
+) -> Found
+    requires { ⌜ systems ≤ 1024 ⌝ }
+    ensures { λ r. ⌜ r ≡ turnOf asked systems (foundOf systems (now (status .entry)) (now (enable .entry)) (now (channel .entry)) k) ⌝ }
+{
+    if asked {
+        return search(systems, status, enable, channel, k);
+    }
+    Found {
+        index: systems,
+        words: 0,
+    }
+}
+
+// The same word as `index` answers, and the status words that are looked at for it: the channels that the index is over are searched in order, up to and
+// including the first that has one.
+pub fn look(c: Cic, every: bool, h: Host) -> Found
+    requires { ⌜ (c .systems ≤ 1024) × (c .channels ≤ 256) ⌝ }
+    ensures { λ r. ⌜ r ≡ foundOver c (leads c every h) ⌝ }
+{
+    let systems = c.systems;
+    let channels = c.channels;
+    let mut words: u32 = 0;
+    let mut k: u16 = 0;
+    while (k as u32) < channels {
+        let asked = asks(&c.host, every, h, Channel(k));
+        let f = turn(systems, &c.status, &c.enable, &c.channel, asked, Channel(k));
+        words = words + f.words;
+        if f.index < systems {
+            return Found {
+                index: f.index,
+                words: words,
+            };
+        }
+        k = k + 1;
+    }
+    Found {
+        index: NONE,
+        words: words,
+    }
 }

@@ -1,9 +1,12 @@
-// The player, the listing and the stack size of a typed table for callers in Rust and C. A slice goes as a pointer and a length, in this order; a length
-// and an offset are of the width of a pointer. include/wisteria.h declares the functions for C, and says what a caller answers for.
+// The player, the listing, the words that a read looks at, the figures of a trace and the stack size of a typed table for callers in Rust and C. A slice goes
+// as a pointer and a length, in this order; a length and an offset are of the width of a pointer. include/wisteria.h declares the functions for C, and says
+// what a caller answers for.
 ghost use mathlib.Core.Path.{_≡_};
 ghost use Rattle.text.specs.Text.{laid};
 ghost use Rattle.reports.specs.Play.{playOf};
 ghost use Rattle.lines.specs.Listing.{listingOf};
+ghost use Rattle.play_looked.specs.After.{wordsAfter};
+ghost use Rattle.tally.specs.Tally.{tallyOf};
 ghost use Rattle.tables.specs.Reading.{answerTo};
 
 // Writes the listing of a trace of at most `limit` steps to the start of the lent buffer. Answers the number of bytes written: what finds no room
@@ -57,6 +60,43 @@ pub extern "C" fn wisteria_offset(trace: &[u8], limit: u32) -> usize
 {
     let p = player::play(trace, limit);
     p.offset
+}
+
+// Plays at most `limit` steps of a trace. Answers the status words, of 32 system interrupts each, that a read of the register at an offset would then
+// look at: 0 unless the machine is a CIC with prioritised indices (kind 4), and where the read would be refused, the index is held or the register is
+// no index.
+#[no_mangle]
+pub extern "C" fn wisteria_looked(trace: &[u8], limit: u32, offset: u32) -> u32
+    ensures { λ r. ⌜ r ≡ wordsAfter (now (trace .entry)) limit offset ⌝ }
+{
+    play_looked::words_after(trace, limit, offset)
+}
+
+// Writes what each of the 32 sources of an AIC did over the steps played to the lent arrays, source 0 first: the handlers started; the most handlers of
+// others started while it waited; the most entries open while a handler of it was open. Of another kind of controller all are 0. Answers the number of
+// steps refused among those played.
+#[no_mangle]
+pub extern "C" fn wisteria_figures<'a>(
+    trace: &'a [u8],
+    limit: u32,
+    started: &'a mut [u32; 32],
+    waited: &'a mut [u32; 32],
+    entries: &'a mut [u32; 32],
+) -> u32
+    ensures refused { λ r. ⌜ r ≡ tallyOf (now (trace .entry)) limit .refused ⌝ }
+    ensures handlers { λ _. ⌜ now (started .exit) ≡ tallyOf (now (trace .entry)) limit .figures .started ⌝ }
+    ensures meanwhile { λ _. ⌜ now (waited .exit) ≡ tallyOf (now (trace .entry)) limit .figures .waited ⌝ }
+    ensures deepest { λ _. ⌜ now (entries .exit) ≡ tallyOf (now (trace .entry)) limit .figures .entries ⌝ }
+{
+    let t = tally::figures(trace, limit);
+    let f = t.figures;
+    let s = f.started;
+    *started = s;
+    let w = f.waited;
+    *waited = w;
+    let e = f.entries;
+    *entries = e;
+    t.refused
 }
 
 // Writes the line that answers a typed table to the start of the lent buffer: the stack size that it needs, with the word bytes, or its refusal. Answers

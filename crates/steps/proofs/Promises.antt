@@ -218,6 +218,8 @@ the-numbers =
       thirteen = refl;
       fourteen = refl;
       fifteen = refl;
+      sixteen = refl;
+      seventeen = refl;
     }
 
 pub kept : Promises

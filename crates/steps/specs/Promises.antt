@@ -5,7 +5,7 @@ use mathlib.Core.Bool.{Bool}
 use mathlib.Core.Logic.{_⊎_}
 use Rattle.steps.specs.declared.Access.{Access}
 use Rattle.steps.specs.Refusals.{carriedOut, misaligned, absent, unreadable, unwritable, protecting, beyond, limitReached, damaged, unknown}
-use Rattle.steps.specs.Refusals.{misconfigured, tooLong, unsound, unprivileged, oversized, upward, privileged, readRefusal, writeRefusal, lineRefusal}
+use Rattle.steps.specs.Refusals.{misconfigured, tooLong, unsound, unprivileged, oversized, upward, overfull, unopened, privileged, readRefusal, writeRefusal, lineRefusal}
 use Rattle.steps.specs.Tables.{ReadTable, WriteTable, LineTable}
 
 -- a value is refused by 5, by 6 or not at all
@@ -30,6 +30,8 @@ pub record Numbers : Type 0 where
   pub thirteen : unprivileged ≡ 13
   pub fourteen : oversized ≡ 14
   pub fifteen : upward ≡ 15
+  pub sixteen : overfull ≡ 16
+  pub seventeen : unopened ≡ 17
 
 pub record Promises : Type 0 where
   -- each name is the number that the table gives (01, Numbers)

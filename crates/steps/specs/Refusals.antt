@@ -70,6 +70,14 @@ oversized = 14
 abbrev pub upward : ℕ
 upward = 15
 
+-- a total of handlers started would pass 4,294,967,295 (02, 11/12)
+abbrev pub overfull : ℕ
+overfull = 16
+
+-- a file that cannot be opened or read (02, 11/12)
+abbrev pub unopened : ℕ
+unopened = 17
+
 -- ---- privilege
 
 -- the privilege of a step where the trace does not tell one: it bars nothing (02, 2/12)

@@ -57,6 +57,10 @@ pub const OVERSIZED: u32 = 14;
 
 pub const UPWARD: u32 = 15;
 
+pub const OVERFULL: u32 = 16;
+
+pub const UNOPENED: u32 = 17;
+
 // The refusal of a read that is aligned, 0 where it may be read.
 fn read_access(access: Access) -> u32
     ensures { λ r. ⌜ r ≡ readAccess access ⌝ }

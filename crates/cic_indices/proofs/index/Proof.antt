@@ -1,9 +1,11 @@
 -- That `index` of src/lib.rt keeps its contract.
 use Rattle.cic_indices.proofs.IndexLaws.{passes, passes-as, found-channel, found-no-channel}
+use Rattle.cic_indices.specs.declared.Found.{Found}
 use Rattle.cic_indices.specs.Order.{leads, indexOf}
+use Rattle.cic_indices.specs.Search.{foundOf}
 use borrow.Author.Count.{below-more}
 use mathlib.Core.Bool.{false}
-use mathlib.Core.Path.{_≡_, _∙_}
+use mathlib.Core.Path.{_≡_, ap, _∙_}
 use native.Mathlib.Omega.{arith}
 use Prim.Native.Nat.{ℕ, _≤_, _<_, _-_}
 use borrow.Author.Needs.{needs}
@@ -20,14 +22,14 @@ loop-holds : tie.Need-loop-holds Inv-loop μ-loop
 loop-holds c = (omega arith, λ i l. absurd (omega (arith, l)))
 
 returns : tie.Need-returns Inv-loop μ-loop
-unfolding indexOf
+unfolding indexOf foundOf
 returns c =
     let l = c .before .before .before .before .before .before .before .before .before .before .before .before .loop in
     let a = c .before .before .before .before .before .before .before .before .before .before .before .before .before .before .before .before .before .before .args in
     let t = leads (a .t1) (a .every) (a .h) in
-    found-channel (a .t1) t (l .k) (c .search .result) (c .before .before .before .before .before .before .before .before .before .before .before .loop-test .taken) (l .inv .1)
+    found-channel (a .t1) t (l .k) (c .search .result .index) (c .before .before .before .before .before .before .before .before .before .before .before .loop-test .taken) (l .inv .1)
     (passes-as (a .t1) t (l .k) (c .before .before .before .before .before .before .before .before .asks .ensures) (c .before .before .before .before .before .before .is-marked .ensures ∙ c .before .before .before .before .before .before .before .before .before .before .before .before .before .busy-channels .ensures (l .k)) (c .before .before .before .before .before .if1 .taken))
-    (c .search .ensures)
+    (ap (λ (f : Found). f .index) (c .search .ensures))
 
 loop-again : tie.Need-loop-again Inv-loop μ-loop
 loop-again c =

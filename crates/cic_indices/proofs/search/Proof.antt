@@ -60,7 +60,7 @@ returns-2 : tie.Need-returns-2 Inv-loop μ-loop
 returns-2 c =
     let l = c .before .loop in
     let a = c .before .before .args in
-    found-no-word (a .systems) (a .status .now) (a .enable .now) (a .channel .now) (a .k) (l .j) (omega (arith, c .loop-test .left, l .inv .1 .0)) (l .inv .1 .1 .1)
+    found-no-word (a .systems) (a .status .now) (a .enable .now) (a .channel .now) (a .k) (l .j) (omega (arith, c .loop-test .left, l .inv .1 .0)) (l .inv .0) (l .inv .1 .1 .1)
 
 pub search-spec : {M : Type 1} → statement M
 search-spec =
@@ -77,6 +77,7 @@ search-spec =
     (λ c κs. search needs)
     (λ c κs. search needs)
     first-of-requires
+    (λ c. search needs)
     (λ c. search needs)
     (λ c. search needs)
     returns

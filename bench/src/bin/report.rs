@@ -1,0 +1,45 @@
+//! The model of a year's report as a program: names on standard input, the report on standard output; or it makes a
+//! folder of traces with lists of names.
+
+use std::io::{self, BufReader, BufWriter, Write};
+use std::path::Path;
+use std::process::ExitCode;
+
+use bench::report::folder::{make, make_year, NAMES};
+use bench::report::names::report;
+
+const USAGE: &str = "\
+report <NAMES                reports on the traces in the files that are named, one to a line
+report --folder PATH         makes a folder of traces, and in it lists of names (*.names)
+report --year PATH [COUNT]   makes a folder of so many traces (3000) of 20,000 steps each, and all.names in it
+";
+
+fn main() -> ExitCode {
+    let words: Vec<String> = std::env::args().skip(1).collect();
+    let words: Vec<&str> = words.iter().map(String::as_str).collect();
+    let made = match words.as_slice() {
+        [] => {
+            let mut names = BufReader::new(io::stdin().lock());
+            let mut to = BufWriter::new(io::stdout().lock());
+            // A reader that has gone away wants no more.
+            let _ = report(&mut names, &mut to).and_then(|()| to.flush());
+            return ExitCode::SUCCESS;
+        }
+        ["--folder", path] => make(Path::new(path)),
+        ["--year", path] => make_year(Path::new(path), NAMES),
+        ["--year", path, count] if count.parse::<usize>().is_ok() => {
+            make_year(Path::new(path), count.parse().unwrap_or(NAMES))
+        }
+        _ => {
+            eprint!("{USAGE}");
+            return ExitCode::from(2);
+        }
+    };
+    match made {
+        Ok(()) => ExitCode::SUCCESS,
+        Err(error) => {
+            eprintln!("report: {error}");
+            ExitCode::FAILURE
+        }
+    }
+}

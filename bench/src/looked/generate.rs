@@ -1,0 +1,178 @@
+//! Questions made from a seed: sweeps that visit everything once, then tours, scattered systems, and traces of any kind.
+
+mod sweeps;
+
+use super::Question;
+use crate::generate::{in_any_form, tour_of, Generator as Traces, Script};
+use crate::model::Kind;
+use crate::random::Random;
+use crate::trace::{pieces, PROGRAM_LIMIT};
+
+const CONTROL: u32 = 0x004;
+const GLOBAL_ENABLE: u32 = 0x010;
+const STATUS_SET: u32 = 0x020;
+const STATUS_CLEAR: u32 = 0x024;
+const ENABLE_CLEAR: u32 = 0x02C;
+const HOST_SET: u32 = 0x034;
+const GLOBAL_INDEX: u32 = 0x080;
+const STATUS: u32 = 0x200;
+const ENABLE: u32 = 0x300;
+const CHANNEL_MAP: u32 = 0x400;
+const HOST_MAP: u32 = 0x800;
+const HOST_INDEX: u32 = 0x900;
+
+/// Everything that can be made from one seed. The sweeps come first and are the same for every seed.
+pub struct Generator {
+    seed: u64,
+    sweeps: Vec<Question>,
+    traces: Traces,
+}
+
+impl Generator {
+    pub fn new(seed: u64) -> Generator {
+        Generator {
+            seed,
+            sweeps: sweeps::all(),
+            traces: Traces::new(seed),
+        }
+    }
+
+    /// How many questions come before the first one that depends on the seed.
+    pub fn sweeps(&self) -> usize {
+        self.sweeps.len()
+    }
+
+    /// The question of a number; it depends on the seed and the number alone.
+    pub fn question(&self, number: usize) -> Question {
+        match self.sweeps.get(number) {
+            Some(question) => question.clone(),
+            None => self.random_question(number),
+        }
+    }
+
+    fn random_question(&self, number: usize) -> Question {
+        let random = &mut Random::for_item(self.seed, number as u64);
+        let (name, trace) = match random.below(10) {
+            0 => ("any trace", self.traces.case(number).trace),
+            1..=4 => {
+                let steps = random.within(0, 80);
+                let script = tour_of(random, Kind::Indexed, steps);
+                ("tour", in_any_form(random, script).bytes)
+            }
+            _ => ("scattered", scattered(random).bytes),
+        };
+        let limit = match random.below(6) {
+            0 => random.below(pieces(&trace).len() as u32 + 2),
+            _ => PROGRAM_LIMIT,
+        };
+        Question {
+            name,
+            trace,
+            limit,
+            offset: offset(random),
+        }
+    }
+}
+
+/// The global index, that of a low host, of the last or any, and now and then something else.
+fn offset(random: &mut Random) -> u32 {
+    let host = match random.below(8) {
+        0 => random.pick(&[254, 255]),
+        1 => random.below(256),
+        2 => random.below(4),
+        _ => random.below(2),
+    };
+    match random.below(20) {
+        0..=6 => GLOBAL_INDEX,
+        7..=16 => HOST_INDEX + 4 * host,
+        17 => HOST_INDEX + random.below(1_040),
+        18 => random.pick(&[
+            CONTROL,
+            STATUS_SET,
+            STATUS,
+            ENABLE,
+            CHANNEL_MAP,
+            0x081,
+            0x084,
+        ]),
+        _ => random.word(),
+    }
+}
+
+const SYSTEMS: [u32; 14] = [1, 2, 31, 32, 33, 63, 64, 65, 96, 97, 992, 993, 1_023, 1_024];
+
+/// A part of any size with some systems pending anywhere on few channels, which lead to few hosts; some of them are
+/// disabled again, some indices are held, and sometimes what they hold has gone since, or a fault ends the trace.
+fn scattered(random: &mut Random) -> Script {
+    let systems = match random.below(3) {
+        0 => random.within(1, 1_024),
+        _ => random.pick(&SYSTEMS),
+    };
+    let channels = random.pick(&[1, 2, 3, 4, 5, 8, 256]);
+    let hosts = random.pick(&[1, 2, 3, 4, 256]);
+    let choice = u32::from(!random.one_in(16));
+    let mut script = Script::new(4, &[systems, channels, hosts, 0, choice]);
+    if random.one_in(2) {
+        script.write(CONTROL, 0);
+    }
+    script.write(GLOBAL_ENABLE, random.below(2));
+    for word in 0..systems.div_ceil(32) {
+        script.write(ENABLE + 4 * word, u32::MAX);
+    }
+    for register in 0..channels.min(12).div_ceil(4) {
+        script.write(HOST_MAP + 4 * register, few(random, hosts));
+    }
+    let pending: Vec<u32> = (0..random.below(7))
+        .map(|_| random.below(systems))
+        .collect();
+    for &system in &pending {
+        let word = few(random, channels);
+        script.write(CHANNEL_MAP + 4 * (system / 4), word);
+        script.write(STATUS_SET, system);
+        if random.one_in(4) {
+            script.write(ENABLE_CLEAR, system);
+        }
+    }
+    for _ in 0..random.below(3) {
+        script.read(offset(random));
+    }
+    if let (Some(&system), true) = (pending.first(), random.one_in(3)) {
+        script.write(STATUS_CLEAR, system);
+    }
+    if random.one_in(4) {
+        script.write(HOST_SET, random.below(hosts));
+    }
+    if random.one_in(20) {
+        script.number(4 + random.below(9));
+        script.write(STATUS_SET, 0);
+    }
+    script
+}
+
+/// The bytes of a map, each of the first few below the count, and now and then the last one.
+fn few(random: &mut Random, count: u32) -> u32 {
+    (0..4).fold(0, |word, place| {
+        let byte = match random.below(8) {
+            0 => count - 1,
+            _ => random.below(count.min(4)),
+        };
+        word | byte << (8 * place)
+    })
+}
+
+#[cfg(test)]
+mod tests {
+    use super::*;
+
+    #[test]
+    fn a_question_depends_on_seed_and_number_alone() {
+        let (one, same, other) = (Generator::new(5), Generator::new(5), Generator::new(6));
+        let first = one.sweeps();
+        for number in [0, 3, first, first + 1, first + 77] {
+            assert_eq!(one.question(number), same.question(number));
+        }
+        assert_eq!(one.question(3), other.question(3));
+        let differ = (first..first + 20).filter(|&n| one.question(n) != other.question(n));
+        assert!(differ.count() > 15);
+    }
+}

@@ -1,0 +1,132 @@
+//! What is timed beside the words that it looks at: reads of an index of a part of full size, 1,024 systems, 256 channels
+//! and 256 hosts, with the hold mode off.
+
+use super::Workload;
+use crate::generate::Script;
+
+const CONTROL: u32 = 0x004;
+const STATUS_SET: u32 = 0x020;
+const ENABLE_SET: u32 = 0x028;
+const GLOBAL_INDEX: u32 = 0x080;
+const CHANNEL_MAP: u32 = 0x400;
+const HOST_MAP: u32 = 0x800;
+const LAST_HOST_INDEX: u32 = 0xCFC;
+
+/// One index and what is pending. The words are those that the definition of 02, 10/12 says.
+pub struct Look {
+    pub channels: &'static str,
+    pub pending: &'static str,
+    pub words: u32,
+    /// The index that is read.
+    pub offset: u32,
+    /// The few steps after which it is so.
+    pub opening: Vec<u8>,
+    /// The same, and then reads of that index up to so many steps.
+    pub reads: Workload,
+}
+
+struct Plan {
+    channels: &'static str,
+    pending: &'static str,
+    words: u32,
+    offset: u32,
+    /// The system that is pending, if there is one, and its channel.
+    system: Option<(u32, u32)>,
+}
+
+const PLANS: [Plan; 6] = [
+    Plan {
+        channels: "one: the index of a host of one channel",
+        pending: "the first system",
+        words: 1,
+        offset: LAST_HOST_INDEX,
+        system: Some((0, 255)),
+    },
+    Plan {
+        channels: "one: the index of a host of one channel",
+        pending: "only the last system",
+        words: 32,
+        offset: LAST_HOST_INDEX,
+        system: Some((1_023, 255)),
+    },
+    Plan {
+        channels: "one: the index of a host of one channel",
+        pending: "nothing",
+        words: 32,
+        offset: LAST_HOST_INDEX,
+        system: None,
+    },
+    Plan {
+        channels: "256: the global index",
+        pending: "the first system, on the first channel",
+        words: 1,
+        offset: GLOBAL_INDEX,
+        system: Some((0, 0)),
+    },
+    Plan {
+        channels: "256: the global index",
+        pending: "only the last system, on the last channel",
+        words: 8_192,
+        offset: GLOBAL_INDEX,
+        system: Some((1_023, 255)),
+    },
+    Plan {
+        channels: "256: the global index",
+        pending: "nothing",
+        words: 8_192,
+        offset: GLOBAL_INDEX,
+        system: None,
+    },
+];
+
+/// All of them, with so many steps of reads.
+pub fn looks(steps: u32) -> Vec<Look> {
+    PLANS.iter().map(|plan| look(plan, steps)).collect()
+}
+
+fn look(plan: &Plan, steps: u32) -> Look {
+    let mut script = Script::new(4, &[1_024, 256, 256, 0x4E82_0000, 1]);
+    script.write(CONTROL, 0);
+    script.write(HOST_MAP + 0xFC, 0xFF00_0000);
+    let mut opened = 2;
+    if let Some((system, channel)) = plan.system {
+        let place = 8 * (system % 4);
+        script.write(CHANNEL_MAP + 4 * (system / 4), channel << place);
+        script.write(ENABLE_SET, system);
+        script.write(STATUS_SET, system);
+        opened += 3;
+    }
+    let opening = script.bytes.clone();
+    (opened..steps).for_each(|_| script.read(plan.offset));
+    Look {
+        channels: plan.channels,
+        pending: plan.pending,
+        words: plan.words,
+        offset: plan.offset,
+        opening,
+        reads: Workload {
+            controller: plan.channels,
+            size: plan.pending,
+            steps,
+            trace: script.bytes,
+        },
+    }
+}
+
+#[cfg(test)]
+mod tests {
+    use super::super::tests::has_its_steps_and_fits;
+    use super::*;
+    use crate::looked::looked;
+    use crate::trace::PROGRAM_LIMIT;
+
+    #[test]
+    fn the_reads_look_at_as_many_words_as_is_said() {
+        for look in looks(PROGRAM_LIMIT) {
+            has_its_steps_and_fits(&look.reads);
+            for trace in [&look.opening, &look.reads.trace] {
+                assert_eq!(looked(trace, PROGRAM_LIMIT, look.offset), look.words);
+            }
+        }
+    }
+}

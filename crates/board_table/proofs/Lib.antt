@@ -1,0 +1,3 @@
+-- Laws of the table, and the proof of what is promised of it.
+pub mod Promises
+pub mod TableLaws

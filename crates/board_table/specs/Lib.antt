@@ -1,0 +1,3 @@
+-- All activities in a table, and what is promised of it.
+pub mod Promises
+pub mod Table

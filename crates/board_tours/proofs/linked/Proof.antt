@@ -1,0 +1,24 @@
+-- That `linked` of src/lib.rt ends.
+use Prim.Native.Nat.{_≤_, _-_}
+use borrow.Author.Needs.{needs}
+use Rattle.board_tours.proofs.linked.Statement.{statement}
+use Rattle.board_tours.proofs.linked.Tie as tie
+
+abbrev Inv-loop : tie.InvT-loop
+Inv-loop n u₀ k₀ u k = k ≤ n
+
+abbrev μ-loop : tie.MeasureT-loop
+μ-loop n u₀ k₀ u k = n - k
+
+pub linked-spec : {M : Type 1} → statement M
+linked-spec =
+    tie.close
+    (tie.spec
+    Inv-loop
+    μ-loop
+    (λ c. search needs)
+    (λ c κs. search needs)
+    (λ c. search needs)
+    (λ c. search needs)
+    (λ c. search needs)
+    (λ c. search needs))

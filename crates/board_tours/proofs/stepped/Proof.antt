@@ -1,0 +1,24 @@
+-- That `stepped` of src/lib.rt ends.
+use Prim.Native.Nat.{_≤_, _-_}
+use borrow.Author.Needs.{needs}
+use Rattle.board_tours.proofs.stepped.Statement.{statement}
+use Rattle.board_tours.proofs.stepped.Tie as tie
+
+abbrev Inv-loop : tie.InvT-loop
+Inv-loop n u₀ k₀ u k = k ≤ n
+
+abbrev μ-loop : tie.MeasureT-loop
+μ-loop n u₀ k₀ u k = n - k
+
+pub stepped-spec : {M : Type 1} → statement M
+stepped-spec =
+    tie.close
+    (tie.spec
+    Inv-loop
+    μ-loop
+    (λ c. search needs)
+    (λ c κs. search needs)
+    (λ c. search needs)
+    (λ c. search needs)
+    (λ c. search needs)
+    (λ c. search needs))

@@ -1,0 +1,169 @@
+-- The promises of the figures of a trace, kept.
+use Prim.Native.Nat.{ℕ, _+_, _≤_, _<_}
+use mathlib.Core.Path.{_≡_, refl, sym, ap, _∙_}
+use mathlib.Core.Bool.{not}
+use mathlib.Core.List.{List, [], _∷_}
+use mathlib.Core.Logic.{_≢_}
+use native.Mathlib.Decide.{ℕ-discrete}
+use native.Mathlib.Nat.{zero-add}
+use native.Mathlib.Omega.{arith}
+use lib.Dec.{eqb}
+use lib.ListN.{getD, length, replicate, length-replicate}
+use borrow.Author.Tests.{eq-eqb, ne-eqb}
+use Rattle.words.specs.Choice.{pick}
+use Rattle.words.specs.Counting.{one}
+use Rattle.words.proofs.ArrayLaws.{zeros-getD}
+use Rattle.words.proofs.ChoiceLaws.{pick-true, pick-false, pick-cases}
+use Rattle.words.proofs.CountingLaws.{one-le}
+use Rattle.steps.specs.Refusals.{carriedOut}
+use Rattle.steps.specs.declared.Recorded.{Recorded}
+use Rattle.steps.specs.declared.Step.{Step}
+use Rattle.kinds.specs.Kinds.{aicKind}
+use Rattle.aic_record.specs.declared.Aic.{Aic}
+use Rattle.aic_runs.specs.Counted.{startsOf}
+use Rattle.aic_runs.specs.Runs.{count}
+use Rattle.aic.specs.Model.{step as aicStep}
+use Rattle.aic_waits.specs.Figures.{startedOf, waitedOf, entriesOf}
+use Rattle.aic_waits.proofs.Promises as Waits
+use Rattle.machine_record.specs.declared.Machine.{Machine}
+use Rattle.machine.specs.Steps.{step}
+use Rattle.beginning.specs.Begin.{beginOf}
+use Rattle.reports.specs.Play.{recordsOf, report, playOf}
+use Rattle.totals.specs.declared.Totals.{Totals}
+use Rattle.totals.specs.Totals.{zeros}
+use Rattle.tally.specs.declared.Tallied.{Tallied}
+use Rattle.tally.specs.Tally.{refusedIn, stepsIn, each, figuresOf, tallyOf}
+use Rattle.tally.specs.Promises.{Promises, Source, aicOf, playedOf}
+use Rattle.tally.proofs.LengthLaws.{records-short}
+use Rattle.tally.proofs.TallyLaws.{each-length, each-at, Fresh, fresh, as-many, tally-refused}
+
+-- ---- steps
+
+played : (s : List ℕ) (limit : ℕ)
+    → (tallyOf s limit .steps ≡ playOf s limit .steps) × (tallyOf s limit .refusal ≡ playOf s limit .refusal) × (tallyOf s limit .offset ≡ playOf s limit .offset)
+unfolding tallyOf
+played s limit = (refl, refl, refl)
+
+refused : (s : List ℕ) (limit : ℕ) → tallyOf s limit .refused ≡ refusedIn (beginOf s .machine) (recordsOf s limit .steps)
+unfolding tallyOf
+refused s limit = refl
+
+steps-are : (s : List ℕ) (limit : ℕ) → tallyOf s limit .steps ≡ length (recordsOf s limit .steps)
+unfolding tallyOf playOf report
+steps-are s limit = zero-add (length (recordsOf s limit .steps))
+
+refused-none : (m : Machine) → refusedIn m [] ≡ 0
+unfolding refusedIn
+refused-none m = refl
+
+refused-more : (m : Machine) (x : Recorded) (xs : List Recorded) → refusedIn m (x ∷ xs) ≡ one (not (eqb (step m x .refusal) 0)) + refusedIn (step m x .machine) xs
+unfolding refusedIn
+refused-more m x xs = refl
+
+refused-most : (m : Machine) (xs : List Recorded) → refusedIn m xs ≤ length xs
+unfolding refusedIn
+refused-most m [] = omega arith
+refused-most m (x ∷ xs) = omega (arith, one-le (not (eqb (step m x .refusal) carriedOut)), refused-most (step m x .machine) xs)
+
+-- ---- figures
+
+-- those of an AIC over some steps
+abbrev aicFigures : Aic → List Step → Totals
+aicFigures a xs = record { started = each (λ i. startedOf i a xs); waited = each (λ i. waitedOf i a xs); entries = each (λ i. entriesOf i a xs) }
+
+aic-has : (m : Machine) (xs : List Recorded) (i : ℕ) → m .kind ≡ aicKind → i < 32
+    → Source (figuresOf m xs) i (startedOf i (m .aic) (stepsIn xs)) (waitedOf i (m .aic) (stepsIn xs)) (entriesOf i (m .aic) (stepsIn xs))
+unfolding figuresOf
+aic-has m xs i z l =
+    let e = pick-true zeros (eq-eqb (m .kind) aicKind z) in (
+      ap (λ (t : Totals). getD (t .started) i 0) (sym e) ∙ each-at (λ k. startedOf k (m .aic) (stepsIn xs)) i l,
+      ap (λ (t : Totals). getD (t .waited) i 0) (sym e) ∙ each-at (λ k. waitedOf k (m .aic) (stepsIn xs)) i l,
+      ap (λ (t : Totals). getD (t .entries) i 0) (sym e) ∙ each-at (λ k. entriesOf k (m .aic) (stepsIn xs)) i l,
+    )
+
+zeros-have : (i : ℕ) → Source zeros i 0 0 0
+unfolding zeros
+zeros-have i = (zeros-getD 32 i, zeros-getD 32 i, zeros-getD 32 i)
+
+other-has : (m : Machine) (xs : List Recorded) (i : ℕ) → m .kind ≢ aicKind → Source (figuresOf m xs) i 0 0 0
+unfolding figuresOf
+other-has m xs i n =
+    let h = zeros-have i in
+    let e = pick-false (aicFigures (m .aic) (stepsIn xs)) (ne-eqb (m .kind) aicKind n) in (
+      ap (λ (t : Totals). getD (t .started) i 0) (sym e) ∙ h .0,
+      ap (λ (t : Totals). getD (t .waited) i 0) (sym e) ∙ h .1,
+      ap (λ (t : Totals). getD (t .entries) i 0) (sym e) ∙ h .2,
+    )
+
+figure : (s : List ℕ) (limit i : ℕ) → beginOf s .machine .kind ≡ 0 → i < 32
+    → Source (tallyOf s limit .figures) i (startedOf i (aicOf s) (playedOf s limit)) (waitedOf i (aicOf s) (playedOf s limit)) (entriesOf i (aicOf s) (playedOf s limit))
+unfolding tallyOf
+figure s limit i z l = aic-has (beginOf s .machine) (recordsOf s limit .steps) i z l
+
+other-kinds : (s : List ℕ) (limit i : ℕ) → beginOf s .machine .kind ≢ 0 → Source (tallyOf s limit .figures) i 0 0 0
+unfolding tallyOf
+other-kinds s limit i n = other-has (beginOf s .machine) (recordsOf s limit .steps) i n
+
+not-begun : (s : List ℕ) (limit i : ℕ) → beginOf s .refusal ≢ 0 → (tallyOf s limit .steps ≡ 0) × (tallyOf s limit .refused ≡ 0) × Source (tallyOf s limit .figures) i 0 0 0
+not-begun s limit i z =
+    let e = sym (tally-refused s limit (beginOf s) refl z) in
+    let h = zeros-have i in
+    (ap (λ (t : Tallied). t .steps) e, ap (λ (t : Tallied). t .refused) e, (ap (λ (t : Tallied). getD (t .figures .started) i 0) e ∙ h .0, ap (λ (t : Tallied). getD (t .figures .waited) i 0) e ∙ h .1, ap (λ (t : Tallied). getD (t .figures .entries) i 0) e ∙ h .2))
+
+-- whatever holds of the figures of an AIC and of zeros
+by-figures : (P : Totals → Type 0) (s : List ℕ) (limit : ℕ)
+    → P (aicFigures (aicOf s) (playedOf s limit)) → P zeros → P (tallyOf s limit .figures)
+unfolding tallyOf figuresOf
+by-figures P s limit a z = pick-cases P (eqb (beginOf s .machine .kind) aicKind) (λ _. a) (λ _. z)
+
+sources : (s : List ℕ) (limit : ℕ) → (length (tallyOf s limit .figures .started) ≡ 32) × (length (tallyOf s limit .figures .waited) ≡ 32) × (length (tallyOf s limit .figures .entries) ≡ 32)
+unfolding zeros
+sources s limit = by-figures (λ t. (length (t .started) ≡ 32) × (length (t .waited) ≡ 32) × (length (t .entries) ≡ 32)) s limit (each-length 32 0 _, each-length 32 0 _, each-length 32 0 _) (refl, refl, refl)
+
+-- source 0, and eight entries, from the record that a trace begins with
+fresh-zero : (a : Aic) (xs : List Step) → Fresh a → (startedOf 0 a xs ≡ 0) × (waitedOf 0 a xs ≡ 0) × (entriesOf 0 a xs ≡ 0)
+fresh-zero a xs r = rw (r .2) (Waits.kept .zero (r .0) (r .1) xs)
+
+fresh-eight : (a : Aic) (xs : List Step) (i : ℕ) → Fresh a → entriesOf i a xs ≤ 8
+fresh-eight a xs i r = rw (r .2) (Waits.kept .eight (r .0) (r .1) i xs)
+
+zero : (s : List ℕ) (limit : ℕ) → Source (tallyOf s limit .figures) 0 0 0 0
+zero s limit =
+    let z = fresh-zero (aicOf s) (playedOf s limit) (fresh s) in
+    by-figures (λ t. Source t 0 0 0 0) s limit
+    (each-at (λ k. startedOf k (aicOf s) (playedOf s limit)) 0 (omega arith) ∙ z .0, each-at (λ k. waitedOf k (aicOf s) (playedOf s limit)) 0 (omega arith) ∙ z .1, each-at (λ k. entriesOf k (aicOf s) (playedOf s limit)) 0 (omega arith) ∙ z .2)
+    (zeros-have 0)
+
+eight : (s : List ℕ) (limit i : ℕ) → i < 32 → getD (tallyOf s limit .figures .entries) i 0 ≤ 8
+eight s limit i l =
+    by-figures (λ t. getD (t .entries) i 0 ≤ 8) s limit
+    (omega (arith, fresh-eight (aicOf s) (playedOf s limit) i (fresh s), each-at (λ k. entriesOf k (aicOf s) (playedOf s limit)) i l)) (omega (arith, zeros-have i .2))
+
+started-most : (i : ℕ) (a : Aic) (xs : List Step) → startedOf i a xs ≤ length xs
+unfolding startedOf count
+started-most i a [] = omega arith
+started-most i a (x ∷ xs) = omega (arith, one-le (startsOf i a x), started-most i (aicStep a x .aic) xs)
+
+most : (s : List ℕ) (limit i : ℕ) → i < 32 → getD (tallyOf s limit .figures .started) i 0 ≤ tallyOf s limit .steps
+most s limit i l =
+    by-figures (λ t. getD (t .started) i 0 ≤ tallyOf s limit .steps) s limit
+    (omega (arith, each-at (λ k. startedOf k (aicOf s) (playedOf s limit)) i l, started-most i (aicOf s) (playedOf s limit), as-many (recordsOf s limit .steps), steps-are s limit))
+    (omega (arith, zeros-have i .0))
+
+pub kept : Promises
+kept =
+    record {
+      played = played;
+      refused = refused;
+      refusedNone = refused-none;
+      refusedMore = refused-more;
+      refusedMost = λ s limit. omega (arith, refused s limit, refused-most (beginOf s .machine) (recordsOf s limit .steps), steps-are s limit);
+      figure = figure;
+      otherKinds = other-kinds;
+      notBegun = not-begun;
+      sources = sources;
+      zero = zero;
+      eight = eight;
+      most = most;
+      short = λ s limit. omega (arith, steps-are s limit, records-short s limit);
+    }

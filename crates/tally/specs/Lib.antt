@@ -1,0 +1,4 @@
+-- The figures of a trace, and what is promised of them.
+pub mod Following
+pub mod Promises
+pub mod Tally

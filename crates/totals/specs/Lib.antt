@@ -1,0 +1,4 @@
+-- Totals over traces, and what is promised of them.
+pub mod Promises
+pub mod Totals
+pub mod Worked
