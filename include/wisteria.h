@@ -56,8 +56,8 @@ uint32_t wisteria_steps(const uint8_t *trace, size_t trace_len, uint32_t limit);
 /* The same number as wisteria_steps, by the loop that plays a machine of any kind. For the benchmark, which times both. */
 uint32_t wisteria_play_plain(const uint8_t *trace, size_t trace_len, uint32_t limit);
 
-/* How the trace ended: 0, or the refusal's number, 7 to 11. A step that is refused by 1 to 6 or 13 ends nothing, and the
- * listing shows it. */
+/* How the trace ended: 0, or the refusal's number, 7 to 11. A step that is refused by 1 to 4, 6 or 13 ends nothing, and
+ * the listing shows it. */
 uint32_t wisteria_refusal(const uint8_t *trace, size_t trace_len, uint32_t limit);
 
 /* Where it ended, in bytes from the start of the trace: for 8, 9 and 10 the first byte of the number at fault, for 7 that of the next step,
@@ -69,7 +69,8 @@ size_t wisteria_offset(const uint8_t *trace, size_t trace_len, uint32_t limit);
  * that the index is over, in order, up to and including the first that has a set and enabled system interrupt, the words are counted up to and
  * including the first that has one, or all of them: at most 8,192 words, 32 for each of 256 channels.
  * 0 where that read would be refused, where the index is held, where the register is another, and where the trace is of another kind or has no
- * accepted configuration. The read is not carried out. */
+ * accepted configuration. Counted channel by channel, as document 02 defines it; a step of a trace finds the same index by one pass. The read is not
+ * carried out. */
 uint32_t wisteria_looked(const uint8_t *trace, size_t trace_len, uint32_t limit, uint32_t offset);
 
 /* What each source of an AIC did over the steps played of the trace. started, waited and entries each point to 32 words, which nothing else uses and of
@@ -79,7 +80,7 @@ uint32_t wisteria_looked(const uint8_t *trace, size_t trace_len, uint32_t limit,
  *                until one of these ends or it starts; after a start, one must end before it waits again. A wait that does not end counts too;
  *   entries[i]   the most entries (handlers and spurious marks) open at once while a handler of source i was open, itself and those below it counted.
  * Of source 0, of another kind of controller, and where the trace has no accepted configuration, all are 0.
- * Answers the number of steps refused among the steps played, by 1 to 6 or 13. */
+ * Answers the number of steps refused among the steps played, by 1 to 4, 6 or 13. */
 uint32_t wisteria_figures(const uint8_t *trace, size_t trace_len, uint32_t limit, uint32_t *started, uint32_t *waited, uint32_t *entries);
 
 /* Writes one line about a priority table of the AIC to the start of out: how many bytes of stack the open handlers and spurious marks can take

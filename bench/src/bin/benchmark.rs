@@ -31,8 +31,8 @@ memory before the clock starts.
 ";
 
 const LOOK_NOTES: &str = "\
-Status words (of 32 systems each) that one read of an index looks at, and nanoseconds, for a CIC with indices of 1,024
-systems, 256 channels and 256 hosts, the hold mode off:
+Status words (of 32 systems each) that a search for an index, channel by channel, looks at (a step goes by one pass),
+and nanoseconds, for a CIC with indices of 1,024 systems, 256 channels and 256 hosts, the hold mode off:
 
 - read: a step of a play of 20,000 steps, all but the first five or less of them reads of that index.
 - question: one call of `wisteria_looked` (the model's `looked`) on a trace of those first steps, less one call of

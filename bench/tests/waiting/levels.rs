@@ -1,4 +1,4 @@
-//! Waiting behind level-sensitive sources (02, 12/12; demand 3, third sentence): the three right sides beside the
+//! Waiting behind level-sensitive sources (02, 12/12; demand 3, fourth sentence): the three right sides beside the
 //! starts, in every window of random runs; over all runs of few sources they are in levels_all_runs.rs.
 //!
 //! A window is an outset and a source k that waits from it on, up to where the wait ends; each of its beginnings is

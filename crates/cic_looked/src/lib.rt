@@ -22,8 +22,8 @@ pub struct Looked {
     pub words: u32,
 }
 
-// What a read of the register at an offset would answer, and the words that it would look at, channel by channel: 0 where it would be refused, where the index is
-// held, and where the register is no index. Nothing is read: the record stays as it is, and nothing is held.
+// What a read of the register at an offset would answer, and the words that a search for it, channel by channel, looks at: 0 where the read would be
+// refused, where the index is held, and where the register is no index. Nothing is read: the record stays as it is, and nothing is held.
 pub fn look_at(p: Prioritised, offset: u32) -> Looked
     ensures { λ r. ⌜ r ≡ lookAt p offset ⌝ }
 {
