@@ -1,5 +1,6 @@
 -- The laws of the figures, and the proof of what is promised of them.
 pub mod FigureLaws
+pub mod NestingLaws
 pub mod PromiseLaws
 pub mod Promises
 pub mod RunLaws

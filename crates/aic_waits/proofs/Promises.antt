@@ -18,6 +18,7 @@ use Rattle.aic_waits.proofs.RunLaws.{Whole, started-run, waited-run, en
 use Rattle.aic_waits.proofs.TellLaws.{tells}
 use Rattle.aic_waits.proofs.PromiseLaws.{stretch, begins, ends, serves, served, keeps-waiting, zero-waited, zero-entries, zero-started, most-eight}
 use Rattle.aic_waits.proofs.WaitLaws.{reached, largest}
+use Rattle.aic_waits.proofs.NestingLaws.{deepest-reached, deepest-largest}
 use Rattle.aic_waits.proofs.Worked.{worked}
 
 whole : Whole noFigures
@@ -43,6 +44,8 @@ kept =
       bounded = λ s k xs l w h e. omega (arith, stretch s k 0 0 xs h (omega arith), Runs.kept .bound s k xs l w e);
       reached = reached;
       largest = largest;
+      deepestReached = deepest-reached;
+      deepestLargest = deepest-largest;
       begins = λ s i x w o. begins s i x w o;
       ends = λ s i w x e. ends s i w x e;
       serves = λ s i w x e o. serves s i w x e o;

@@ -16,7 +16,7 @@ use Rattle.aic.specs.Model.{step}
 use Rattle.aic_runs.specs.Counted.{startedBy, startsOf, startsOther, carries, waits}
 use Rattle.aic_runs.specs.Runs.{run, count, always, owed, received, sumOver}
 use Rattle.aic_runs.specs.Promises.{EdgeTriggered, aheadOf}
-use Rattle.aic_waits.specs.Figures.{startedOf, waitAfter, standing, waitMost, waitedOf, entriesOf}
+use Rattle.aic_waits.specs.Figures.{startedOf, waitAfter, standing, waitMost, waitedOf, entriesNow, entriesOf}
 use Rattle.aic_waits.specs.Following.{noFigures, figuresOver, startedFrom}
 use Rattle.aic_waits.specs.Worked.{busy}
 
@@ -50,6 +50,10 @@ pub record Promises : Type 0 where
   -- the figure is the largest over all waits, whether they end in a start or not: some wait has it, if it is not 0, and none has more (02, 11/12)
   pub reached : (s : Aic) (i : ℕ) (xs : List Step) → (waitedOf i s xs ≡ 0) ⊎ Wait i s xs (waitedOf i s xs)
   pub largest : (s : Aic) (i n : ℕ) (xs : List Step) → Wait i s xs n → n ≤ waitedOf i s xs
+  -- the deepest nesting is the largest over the record at the outset and those after each step: one of them has it, and none has more (02, 11/12)
+  pub deepestReached : (s : Aic) (i : ℕ) (xs : List Step)
+      → (before : List Step) × (after : List Step) × (xs ≡ before ++ after) × (entriesOf i s xs ≡ entriesNow (run s before) i)
+  pub deepestLargest : (s : Aic) (i : ℕ) (before after : List Step) → entriesNow (run s before) i ≤ entriesOf i s (before ++ after)
   -- a wait begins with the step after which the source is pending, enabled and not fast, if it did not wait and was not served; it ends where one of
   -- these ends, or with its own start; after a start it does not wait until one has ended (02, 11/12)
   pub begins : (s : Aic) (i : ℕ) (x : Step) → waiting (step s x .aic) i ≡ true → startsOf i s x ≡ false → waitAfter i 0 s x ≡ 2

@@ -10,7 +10,8 @@ ghost use Rattle.aic_waits.specs.Following.{tables, capped, startedFrom,
 use aic_record::Aic;
 
 // Moves the figures of all sources on by one step: the record after it, and how many entries were open before it, tell all. For each source the handlers
-// started, how it stands with it, the most handlers started while it waited, and the most entries open while it was open.
+// started, how it stands with it, the most handlers started while it waited, and the most entries open while it was open. A count that would pass
+// 4,294,967,295 stays there.
 pub fn follow<'a>(
     started: &'a mut [u32; 32],
     wait: &'a mut [u32; 32],

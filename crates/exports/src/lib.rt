@@ -73,8 +73,8 @@ pub extern "C" fn wisteria_looked(trace: &[u8], limit: u32, offset: u32) -> u32
 }
 
 // Writes what each of the 32 sources of an AIC did over the steps played to the lent arrays, source 0 first: the handlers started; the most handlers of
-// others started while it waited; the most entries open while a handler of it was open. Of another kind of controller all are 0. Answers the number of
-// steps refused among those played.
+// others started while it waited; the most entries open while a handler of it was open. Of source 0, of another kind of controller, and where the trace
+// has no accepted configuration, all are 0. Answers the number of steps refused among those played.
 #[no_mangle]
 pub extern "C" fn wisteria_figures<'a>(
     trace: &'a [u8],

@@ -15,7 +15,7 @@ use Rattle.totals.specs.declared.Totals.{Totals}
 use Rattle.report.specs.Lines.{lineEnd}
 use Rattle.report.specs.Printed.{bytes, counted, named, endedAt, traceLine, leftOutLine, sourceLine, sourceLines}
 use Rattle.report.specs.Promises.{Promises, Whole}
-use Rattle.report.proofs.LineLaws.{line-within, end-before, end-at}
+use Rattle.report.proofs.LineLaws.{line-over, line-within, end-before, end-at}
 use Rattle.report.proofs.SizeLaws.{length-trace, length-left-out, length-sources}
 
 -- ---- the lines, written out
@@ -123,4 +123,5 @@ kept =
       endWithin = λ s at h. line-within s at (lineEnd s at) h refl;
       endBefore = end-before;
       endAt = end-at;
+      endBeyond = λ s at h. sym (line-over s at h);
     }

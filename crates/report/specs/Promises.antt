@@ -40,7 +40,7 @@ pub record Promises : Type 0 where
   pub noSource : (t : Totals) → sourceLines 0 t ≡ []
   pub nextSource : (n : ℕ) (t : Totals)
       → sourceLines (suc n) t ≡ sourceLines n t ++ sourceLine n (getD (t .started) n 0) (getD (t .waited) n 0) (getD (t .entries) n 0)
-  -- a text's bytes are ASCII: the digits, the letters, the four signs between the words and the line feed
+  -- a text's bytes are ASCII: the digits, the letters, the three signs between the words, and the line feed
   pub digitBytes : bytes "0123456789" ≡ 48 ∷ 49 ∷ 50 ∷ 51 ∷ 52 ∷ 53 ∷ 54 ∷ 55 ∷ 56 ∷ 57 ∷ []
   pub letterBytes : bytes "Eabcdefghijklmnopqrstuvwxyz"
       ≡ 69 ∷ 97 ∷ 98 ∷ 99 ∷ 100 ∷ 101 ∷ 102 ∷ 103 ∷ 104 ∷ 105 ∷ 106 ∷ 107 ∷ 108 ∷ 109 ∷ 110 ∷ 111 ∷ 112 ∷ 113 ∷ 114 ∷ 115 ∷ 116 ∷ 117 ∷ 118 ∷ 119 ∷ 120 ∷ 121 ∷ 122 ∷ []
@@ -69,3 +69,5 @@ pub record Promises : Type 0 where
   pub endWithin : (s : List ℕ) (at : ℕ) → at ≤ length s → (at ≤ lineEnd s at) × (lineEnd s at ≤ length s)
   pub endBefore : (s : List ℕ) (at k : ℕ) → at ≤ k → k < lineEnd s at → getD s k 0 ≢ 10
   pub endAt : (s : List ℕ) (at : ℕ) → at ≤ length s → lineEnd s at < length s → getD s (lineEnd s at) 0 ≡ 10
+  -- a place beyond the end is its own answer
+  pub endBeyond : (s : List ℕ) (at : ℕ) → length s ≤ at → lineEnd s at ≡ at

@@ -6,7 +6,7 @@ ghost use Rattle.report.specs.Printed.{counted, endedAt, named, traceLin
 use text::NEWLINE;
 use totals::Totals;
 
-// Where the line that holds place `at` ends: the first line feed from there on, or the end.
+// Where the line that holds place `at` ends: the first line feed from there on, or the end; a place beyond the end is its own answer.
 pub fn line_end(s: &[u8], at: usize) -> usize
     ensures { λ r. ⌜ r ≡ lineEnd (now (s .entry)) at ⌝ }
 {

@@ -1,5 +1,5 @@
 // Prints the report over the traces whose names stand on standard input, one to a line: a line for each name as its trace is played, then a line for each
-// source. Where the names cannot be read, or the report not be written, one line on standard error says so.
+// source. Where the names cannot be read, or the report cannot be written, one line on standard error says so.
 ghost use mathlib.Core.Path.{_≡_};
 ghost use mathlib.Core.List.{List};
 ghost use Prim.Native.Nat.{ℕ, _+_, _≤_, _<_, _^_};
@@ -29,7 +29,8 @@ struct Sum {
     written: bool,
 }
 
-// What is left of the names that were read: the place where a name begins that has no line feed yet, and the report after those before it.
+// What is left of the names that were read: the place where a name begins that has no line feed yet, and the report after those before it, and whether
+// that name is passed over as too long.
 struct Rest {
     at: usize,
     skipping: bool,
