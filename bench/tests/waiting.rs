@@ -4,7 +4,13 @@
 //! the handlers of other sources that start meanwhile all but at most one belong to sources ahead of it, and that one
 //! is of the source that was remembered at the outset. If all those ahead are edge-triggered, there are at most as many
 //! as were pending at the outset, and edges and set commands that they received, and one more if a source other than
-//! the waiting one was remembered at the outset. A start is a read of IVR outside protect mode and a write in it.
+//! the waiting one was remembered at the outset. A start is a read of IVR outside protect mode and a write in it. Where
+//! some ahead are level-sensitive (02, 12/12) it is in waiting/levels.rs and waiting/levels_all_runs.rs.
+
+#[path = "waiting/levels.rs"]
+mod levels;
+#[path = "waiting/levels_all_runs.rs"]
+mod levels_all_runs;
 
 use std::collections::{HashMap, HashSet};
 

@@ -35,7 +35,7 @@ balance s (x ∷ xs) = omega (arith, balance (step s x .aic) xs, depth-law s x)
 
 -- ---- what one edge-triggered source starts
 
-not-rewritten : (s : Aic) (x : Step) → steady s x ≡ true → rewrites s x ≡ false
+pub not-rewritten : (s : Aic) (x : Step) → steady s x ≡ true → rewrites s x ≡ false
 unfolding steady
 not-rewritten s x h = not-true (rewrites s x) h
 
@@ -70,7 +70,7 @@ per-source i l s xs e h =
 
 -- ---- sums over some of the sources
 
-over-le : (t : ℕ → Bool) (f g : ℕ → ℕ) → ((i : ℕ) → i < 32 → t i ≡ true → f i ≤ g i) → sumOver t f ≤ sumOver t g
+pub over-le : (t : ℕ → Bool) (f g : ℕ → ℕ) → ((i : ℕ) → i < 32 → t i ≡ true → f i ≤ g i) → sumOver t f ≤ sumOver t g
 unfolding sumOver pick
 over-le t f g h = sum-le 32 (λ i. pick (t i) (f i) 0) (λ i. pick (t i) (g i) 0) (λ i l. go i l (t i) refl)
   where
@@ -78,7 +78,7 @@ over-le t f g h = sum-le 32 (λ i. pick (t i) (f i) 0) (λ i. pick (t i) (g i) 0
     go i l true e = h i l e
     go i l false e = omega arith
 
-over-add : (t : ℕ → Bool) (f g : ℕ → ℕ) → sumOver t (λ i. f i + g i) ≡ sumOver t f + sumOver t g
+pub over-add : (t : ℕ → Bool) (f g : ℕ → ℕ) → sumOver t (λ i. f i + g i) ≡ sumOver t f + sumOver t g
 unfolding sumOver pick
 over-add t f g = ap (sumBelow 32) (λ i k. go k (t k) i) ∙ sum-add 32 _ _
   where
@@ -110,7 +110,7 @@ module _ (k : ℕ) (t : ℕ → Bool) where
           let o : one (eqb (startedBy s x) (startedBy s x)) ≡ 1 = ap one (eq-eqb (startedBy s x) (startedBy s x) refl) in
           omega (arith, o, over-at t (λ i. one (eqb i (startedBy s x))) (startedBy s x) l f)
 
-  starts-over : (s : Aic) (xs : List Step) → count (startsOther k) s xs ≤ sumOver t (λ i. count (startsOf i) s xs) + count (strays t k) s xs
+  pub starts-over : (s : Aic) (xs : List Step) → count (startsOther k) s xs ≤ sumOver t (λ i. count (startsOf i) s xs) + count (strays t k) s xs
   unfolding count
   starts-over s [] = omega arith
   starts-over s (x ∷ xs) =
@@ -150,7 +150,7 @@ module _ (k : ℕ) (t : ℕ → Bool) where
       go true e = omega arith
       go false e = omega arith
 
-  remembered-once : (s : Aic) → t k ≡ false → sumOver t (λ i. one (recalls i s)) + one (lost t k s) ≤ one (carries k s)
+  pub remembered-once : (s : Aic) → t k ≡ false → sumOver t (λ i. one (recalls i s)) + one (lost t k s) ≤ one (carries k s)
   unfolding recalls lost carries sumOver
   remembered-once s z = go (eqb (s .seen .what) 1)
     where
