@@ -1,19 +1,19 @@
--- That `read` of src/main.rt keeps its contract.
+-- That `read` of src/lib.rt keeps its contract.
 use Prim.Native.Nat.{ℕ, _≤_, _+_, _-_}
 use mathlib.Core.List.{List}
 use mathlib.Core.Path.{_≡_, _∙_}
 use native.Mathlib.Omega.{arith}
 use lib.ListN.{length}
-use borrow.Rule.Slice.PartMut.{midOf, mid-len}
 use borrow.Author.Needs.{needs}
-use Rattle.stacksize.proofs.read.Statement.{statement}
-use Rattle.stacksize.proofs.read.Tie as tie
+use borrow.Rule.Slice.PartMut.{midOf, mid-len}
+use Rattle.reading.proofs.read.Statement.{statement}
+use Rattle.reading.proofs.read.Tie as tie
 
 abbrev Inv-loop : tie.InvT-loop
-Inv-loop room₀ at₀ room at = (length room ≡ length room₀) × (at ≤ length room)
+Inv-loop file room₀ at₀ room at = (length room ≡ length room₀) × (at ≤ length room)
 
 abbrev μ-loop : tie.MeasureT-loop
-μ-loop room₀ at₀ room at = length room - at
+μ-loop file room₀ at₀ room at = length room - at
 
 -- what came into the rest of the room lies within the room
 within : (room : List ℕ) (at n : ℕ) → at ≤ length room → n ≤ length (midOf at (length room - at) room) → at + n ≤ length room

@@ -1,10 +1,10 @@
--- That `shift` of src/main.rt keeps its contract.
+-- That `shift` of src/lib.rt keeps its contract.
 use Prim.Native.Nat.{_≤_, _-_}
 use mathlib.Core.Path.{_≡_}
 use lib.ListN.{length}
 use borrow.Author.Needs.{needs}
-use Rattle.yearly.proofs.shift.Statement.{statement}
-use Rattle.yearly.proofs.shift.Tie as tie
+use Rattle.reading.proofs.shift.Statement.{statement}
+use Rattle.reading.proofs.shift.Tie as tie
 
 abbrev Inv-loop : tie.InvT-loop
 Inv-loop room₀ from i₀ k₀ room i k = (i ≤ k) × (length room ≡ length room₀)
