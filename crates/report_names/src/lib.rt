@@ -1,0 +1,165 @@
+// The names of the year's report, one to a line on standard input: each is taken in order, and its trace put to the report (02, 11/12).
+ghost use mathlib.Core.Path.{_≡_};
+ghost use Prim.Native.Nat.{_+_, _≤_, _<_};
+ghost use lib.ListN.{length};
+use reading::Came;
+use report_traces::Sum;
+
+// What is left of the names that were read: the place where a name begins that has no line feed yet, and the report after those before it, and whether
+// that name is passed over as too long.
+struct Rest {
+    at: usize,
+    skipping: bool,
+    sum: Sum,
+}
+
+// The report after all names, and whether reading them failed.
+pub struct Taken {
+    pub failed: bool,
+    pub sum: Sum,
+}
+
+// How many bytes of a begun name stand at the start of the room, whether a name that is too long is passed over, whether more names may come, whether
+// reading them failed, and the report so far.
+struct State {
+    held: usize,
+    skipping: bool,
+    going: bool,
+    failed: bool,
+    sum: Sum,
+}
+
+// Plays the trace of every name on standard input; `names` is the room in which they are read.
+pub fn take(names: &mut [u8]) -> Taken {
+    let s = all_names(names);
+    let sum = s.sum;
+    if s.failed {
+        return Taken {
+            failed: true,
+            sum: sum,
+        };
+    }
+    Taken {
+        failed: false,
+        sum: last_name(names, s.held, sum),
+    }
+}
+
+// Plays the trace of every name that has a line feed. Nothing says that standard input ends: the turns are counted down from a number that no run uses up.
+fn all_names(names: &mut [u8]) -> State
+    ensures { λ r. ⌜ r .held ≤ length (now (names .exit)) ⌝ }
+{
+    let t = totals::none();
+    let first = Sum {
+        totals: t,
+        written: true,
+    };
+    let mut s = State {
+        held: 0,
+        skipping: false,
+        going: true,
+        failed: false,
+        sum: first,
+    };
+    let mut turns = u64::MAX;
+    while turns > 0 {
+        s = turn(names, s);
+        turns = left(turns, s.going);
+    }
+    s
+}
+
+// One turn less, or none where no more names come.
+fn left(turns: u64, going: bool) -> u64
+    requires { ⌜ 0 < turns ⌝ }
+    ensures { λ r. ⌜ r < turns ⌝ }
+{
+    if going {
+        return turns - 1;
+    }
+    0
+}
+
+// Reads more names behind those that are held, plays the whole ones, and keeps the begun one.
+fn turn(names: &mut [u8], s: State) -> State
+    requires { ⌜ s .held ≤ length (now names) ⌝ }
+    ensures { λ r. ⌜ r .held ≤ length (now (names .exit)) ⌝ }
+{
+    let held = s.held;
+    let sum = s.sum;
+    let came = fill(names, held);
+    let end = held + came.bytes;
+    let r = lines(&names[..end], s.skipping, sum);
+    let at = r.at;
+    let rest = r.sum;
+    reading::shift(names, at);
+    settle(names, end - at, r.skipping, rest, came)
+}
+
+// Reads more names behind those that are held.
+fn fill(names: &mut [u8], held: usize) -> Came
+    requires { ⌜ held ≤ length (now names) ⌝ }
+    ensures { λ r. ⌜ held + r .bytes ≤ length (now (names .exit)) ⌝ }
+{
+    reading::read_once(0, &mut names[held..])
+}
+
+// Plays the trace of each name that has a line feed, and tells where the one begins that has none.
+fn lines(s: &[u8], skipping: bool, first: Sum) -> Rest
+    ensures { λ r. ⌜ r .at ≤ length (now (s .entry)) ⌝ }
+{
+    let mut sum = first;
+    let mut skips = skipping;
+    let mut at: usize = 0;
+    loop {
+        let e = report::line_end(s, at);
+        if s.len() <= e {
+            return Rest {
+                at: at,
+                skipping: skips,
+                sum: sum,
+            };
+        }
+        sum = report_traces::pass(&s[at..e], skips, sum);
+        skips = false;
+        at = e + 1;
+    }
+}
+
+// What is kept of a begun name: nothing where it is passed over, nor where it fills the room, for then it is too long to be opened. Of the one that is
+// passed over the first 4,096 bytes have been told.
+fn settle(names: &[u8], held: usize, skipping: bool, sum: Sum, came: Came) -> State
+    ensures { λ r. ⌜ r .held ≤ length (now (names .entry)) ⌝ }
+{
+    if skipping | !sum.written {
+        return standing(0, true, sum, came);
+    }
+    if held < names.len() {
+        return standing(held, false, sum, came);
+    }
+    let told = report_traces::unopened(names, sum);
+    standing(0, true, told, came)
+}
+
+// More names may come while some came and the report could be written.
+fn standing(held: usize, skipping: bool, sum: Sum, came: Came) -> State
+    ensures { λ r. ⌜ r .held ≡ held ⌝ }
+{
+    State {
+        held: held,
+        skipping: skipping,
+        going: (came.bytes > 0) & sum.written,
+        failed: came.failed,
+        sum: sum,
+    }
+}
+
+// The last name, where no line feed ends it.
+fn last_name(names: &[u8], held: usize, sum: Sum) -> Sum
+    requires { ⌜ held ≤ length (now names) ⌝ }
+{
+    if held == 0 {
+        return sum;
+    }
+    report_traces::pass(&names[..held], false, sum)
+}
