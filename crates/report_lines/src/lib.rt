@@ -1,4 +1,4 @@
-// The lines of the year's report as they are printed: buffers that every line fits, and the lines that stand alone (02, 11/12).
+// The lines of the year's report as they are printed: the report so far, the lines that need no trace, and buffers that every line fits (02, 11/12).
 ghost use mathlib.Core.Path.{_≡_};
 ghost use mathlib.Core.List.{List};
 ghost use Prim.Native.Nat.{ℕ, _≤_, _<_, _^_};
@@ -9,15 +9,41 @@ ghost use Rattle.report.specs.Printed.{traceLine, leftOutLine, sourceLines};
 ghost use Rattle.report.specs.Promises.{Words};
 use totals::Totals;
 
+// The report so far: the totals, and whether every line of it could be written.
+pub struct Sum {
+    pub totals: Totals,
+    pub written: bool,
+}
+
+// A name whose file cannot be opened or read: the totals are as they were.
+pub fn unopened(name: &[u8], sum: Sum) -> Sum
+    ensures { λ r. ⌜ r .totals ≡ sum .totals ⌝ }
+{
+    let t = sum.totals;
+    Sum {
+        totals: t,
+        written: print_unopened(name),
+    }
+}
+
+// The lines of the sources, unless a line before them could not be written; whether all could be.
+pub fn ended(sum: Sum) -> bool {
+    if !sum.written {
+        return false;
+    }
+    let t = sum.totals;
+    print_sources(t)
+}
+
 // The line of a name whose file cannot be opened or read.
-pub fn print_unopened(name: &[u8]) -> bool {
+fn print_unopened(name: &[u8]) -> bool {
     let mut out = line_room();
     let n = put_unopened(&mut out, name);
     io::write_all(1, &out[..n])
 }
 
 // The lines of the sources; whether all could be written.
-pub fn print_sources(t: Totals) -> bool {
+fn print_sources(t: Totals) -> bool {
     let mut out = sources_room();
     let n = report::put_sources(&mut out, t);
     io::write_all(1, &out[..n])

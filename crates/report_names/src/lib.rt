@@ -3,7 +3,7 @@ ghost use mathlib.Core.Path.{_≡_};
 ghost use Prim.Native.Nat.{_+_, _≤_, _<_};
 ghost use lib.ListN.{length};
 use reading::Came;
-use report_traces::Sum;
+use report_lines::Sum;
 
 // What is left of the names that were read: the place where a name begins that has no line feed yet, and the report after those before it, and whether
 // that name is passed over as too long.
@@ -29,19 +29,16 @@ struct State {
     sum: Sum,
 }
 
-// Plays the trace of every name on standard input; `names` is the room in which they are read.
+// Plays the trace of every name on standard input, of which `names` is the room. The last one may have no line feed; it is passed over where nothing of it is
+// held, or reading failed.
 pub fn take(names: &mut [u8]) -> Taken {
     let s = all_names(names);
+    let held = s.held;
     let sum = s.sum;
-    if s.failed {
-        return Taken {
-            failed: true,
-            sum: sum,
-        };
-    }
+    let none = s.failed | (held == 0);
     Taken {
-        failed: false,
-        sum: last_name(names, s.held, sum),
+        failed: s.failed,
+        sum: report_traces::pass(&names[..held], none, sum),
     }
 }
 
@@ -137,7 +134,7 @@ fn settle(names: &[u8], held: usize, skipping: bool, sum: Sum, came: Came) -> St
     if held < names.len() {
         return standing(held, false, sum, came);
     }
-    let told = report_traces::unopened(names, sum);
+    let told = report_lines::unopened(names, sum);
     standing(0, true, told, came)
 }
 
@@ -152,14 +149,4 @@ fn standing(held: usize, skipping: bool, sum: Sum, came: Came) -> State
         failed: came.failed,
         sum: sum,
     }
-}
-
-// The last name, where no line feed ends it.
-fn last_name(names: &[u8], held: usize, sum: Sum) -> Sum
-    requires { ⌜ held ≤ length (now names) ⌝ }
-{
-    if held == 0 {
-        return sum;
-    }
-    report_traces::pass(&names[..held], false, sum)
 }

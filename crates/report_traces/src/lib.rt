@@ -5,17 +5,11 @@ ghost use Rattle.words.specs.Choice.{pick};
 ghost use Rattle.text.specs.Text.{laid};
 ghost use Rattle.tally.specs.Tally.{tallyOf};
 ghost use Rattle.report.specs.Printed.{traceLine, leftOutLine};
+use report_lines::Sum;
 use tally::Tallied;
-use totals::Totals;
 
 // The most steps of a trace that are played.
 const LIMIT: u32 = 20000;
-
-// The report so far: the totals, and whether every line of it could be written.
-pub struct Sum {
-    pub totals: Totals,
-    pub written: bool,
-}
 
 // A name up to its line feed: the rest of one that is too long is passed over, and nothing is played once a line could not be written.
 pub fn pass(name: &[u8], skipping: bool, sum: Sum) -> Sum {
@@ -31,7 +25,7 @@ fn play(name: &[u8], sum: Sum) -> Sum {
     let mut room = [0u8; 65537];
     let came = reading::read_file(name, &mut room);
     if came.failed {
-        return unopened(name, sum);
+        return report_lines::unopened(name, sum);
     }
     let n = came.bytes;
     let f = counted(&room[..n]);
@@ -42,17 +36,6 @@ fn play(name: &[u8], sum: Sum) -> Sum {
     Sum {
         totals: after,
         written: print_line(f, a.refusal, name),
-    }
-}
-
-// A name whose file cannot be opened or read: the totals are as they were.
-pub fn unopened(name: &[u8], sum: Sum) -> Sum
-    ensures { λ r. ⌜ r .totals ≡ sum .totals ⌝ }
-{
-    let t = sum.totals;
-    Sum {
-        totals: t,
-        written: report_lines::print_unopened(name),
     }
 }
 
