@@ -1,6 +1,8 @@
 // Reading a file, or standard input, into a room that the caller lends.
+ghost use mathlib.Core.Path.{_≡_};
 ghost use Prim.Native.Nat.{_≤_};
 ghost use lib.ListN.{length};
+ghost use Rattle.reading.specs.Shifted.{shifted};
 
 // What came of reading: so many bytes at the start of the room, and whether it could not be opened or read.
 pub struct Came {
@@ -57,8 +59,10 @@ pub fn read_once(file: i32, room: &mut [u8]) -> Came
     }
 }
 
-// Moves what stands from a place on to the front.
-pub fn shift(room: &mut [u8], from: usize) {
+// Moves what stands from a place on to the front; behind it the room is as it was.
+pub fn shift(room: &mut [u8], from: usize)
+    ensures { λ _. ⌜ now (room .exit) ≡ shifted from (now (room .entry)) ⌝ }
+{
     let mut i: usize = 0;
     let mut k = from;
     while k < room.len() {
