@@ -1,8 +1,7 @@
 // The names of the year's report, one to a line on standard input: each is taken in order, and its trace put to the report (02, 11/12).
-ghost use mathlib.Core.Path.{_≡_};
-ghost use Prim.Native.Nat.{_+_, _≤_, _<_};
+ghost use Prim.Native.Nat.{_≤_, _<_};
 ghost use lib.ListN.{length};
-use reading::Came;
+use report_held::State;
 use report_lines::Sum;
 
 // What is left of the names that were read: the place where a name begins that has no line feed yet, and the report after those before it, and whether
@@ -17,16 +16,6 @@ struct Rest {
 pub struct Taken {
     pub failed: bool,
     pub sum: Sum,
-}
-
-// How many bytes of a begun name stand at the start of the room, whether a name that is too long is passed over, whether more names may come, whether
-// reading them failed, and the report so far.
-struct State {
-    held: usize,
-    skipping: bool,
-    going: bool,
-    failed: bool,
-    sum: Sum,
 }
 
 // Plays the trace of every name on standard input, of which `names` is the room. The last one may have no line feed; it is passed over where nothing of it is
@@ -46,18 +35,7 @@ pub fn take(names: &mut [u8]) -> Taken {
 fn all_names(names: &mut [u8]) -> State
     ensures { λ r. ⌜ r .held ≤ length (now (names .exit)) ⌝ }
 {
-    let t = totals::none();
-    let first = Sum {
-        totals: t,
-        written: true,
-    };
-    let mut s = State {
-        held: 0,
-        skipping: false,
-        going: true,
-        failed: false,
-        sum: first,
-    };
+    let mut s = report_held::begin();
     let mut turns = u64::MAX;
     while turns > 0 {
         s = turn(names, s);
@@ -84,21 +62,13 @@ fn turn(names: &mut [u8], s: State) -> State
 {
     let held = s.held;
     let sum = s.sum;
-    let came = fill(names, held);
+    let came = report_held::fill(names, held);
     let end = held + came.bytes;
     let r = lines(&names[..end], s.skipping, sum);
     let at = r.at;
     let rest = r.sum;
     reading::shift(names, at);
-    settle(names, end - at, r.skipping, rest, came)
-}
-
-// Reads more names behind those that are held.
-fn fill(names: &mut [u8], held: usize) -> Came
-    requires { ⌜ held ≤ length (now names) ⌝ }
-    ensures { λ r. ⌜ held + r .bytes ≤ length (now (names .exit)) ⌝ }
-{
-    reading::read_once(0, &mut names[held..])
+    report_held::settle(names, end - at, r.skipping, rest, came)
 }
 
 // Plays the trace of each name that has a line feed, and tells where the one begins that has none.
@@ -120,33 +90,5 @@ fn lines(s: &[u8], skipping: bool, first: Sum) -> Rest
         sum = report_traces::pass(&s[at..e], skips, sum);
         skips = false;
         at = e + 1;
-    }
-}
-
-// What is kept of a begun name: nothing where it is passed over, nor where it fills the room, for then it is too long to be opened. Of the one that is
-// passed over the first 4,096 bytes have been told.
-fn settle(names: &[u8], held: usize, skipping: bool, sum: Sum, came: Came) -> State
-    ensures { λ r. ⌜ r .held ≤ length (now (names .entry)) ⌝ }
-{
-    if skipping | !sum.written {
-        return standing(0, true, sum, came);
-    }
-    if held < names.len() {
-        return standing(held, false, sum, came);
-    }
-    let told = report_lines::unopened(names, sum);
-    standing(0, true, told, came)
-}
-
-// More names may come while some came and the report could be written.
-fn standing(held: usize, skipping: bool, sum: Sum, came: Came) -> State
-    ensures { λ r. ⌜ r .held ≡ held ⌝ }
-{
-    State {
-        held: held,
-        skipping: skipping,
-        going: (came.bytes > 0) & sum.written,
-        failed: came.failed,
-        sum: sum,
     }
 }
