@@ -1,0 +1,2 @@
+-- The laws of what is moved in a room.
+pub mod ShiftLaws

@@ -1,0 +1,2 @@
+-- What is moved in a room.
+pub mod Shifted

@@ -1,0 +1,64 @@
+// The traces of the year's report, one by one: each is played, its figures are put to the totals, and its line is printed (02, 11/12).
+ghost use mathlib.Core.Path.{_≡_};
+ghost use lib.Dec.{eqb};
+ghost use Rattle.words.specs.Choice.{pick};
+ghost use Rattle.text.specs.Text.{laid};
+ghost use Rattle.tally.specs.Tally.{tallyOf};
+ghost use Rattle.report.specs.Printed.{traceLine, leftOutLine};
+use report_lines::Sum;
+use tally::Tallied;
+
+// The most steps of a trace that are played.
+const LIMIT: u32 = 20000;
+
+// A name up to its line feed: the rest of one that is too long is passed over, and nothing is played once a line could not be written.
+pub fn pass(name: &[u8], skipping: bool, sum: Sum) -> Sum {
+    if skipping | !sum.written {
+        return sum;
+    }
+    play(name, sum)
+}
+
+// Plays the trace of a name, puts its figures to the totals and prints its line. One byte more is read than a trace may have, so that a longer one is told
+// apart.
+fn play(name: &[u8], sum: Sum) -> Sum {
+    let mut room = [0u8; 65537];
+    let came = reading::read_file(name, &mut room);
+    if came.failed {
+        return report_lines::unopened(name, sum);
+    }
+    let n = came.bytes;
+    let f = counted(&room[..n]);
+    let figures = f.figures;
+    let t = sum.totals;
+    let a = totals::add(t, figures);
+    let after = a.totals;
+    Sum {
+        totals: after,
+        written: print_line(f, a.refusal, name),
+    }
+}
+
+// The figures of a trace.
+fn counted(trace: &[u8]) -> Tallied
+    ensures { λ r. ⌜ r ≡ tallyOf (now (trace .entry)) 20000 ⌝ }
+{
+    tally::figures(trace, LIMIT)
+}
+
+// The line of a trace that was played; whether it could be written.
+fn print_line(f: Tallied, refusal: u32, name: &[u8]) -> bool {
+    let mut out = report_lines::line_room();
+    let n = put_line(&mut out, f, refusal, name);
+    io::write_all(1, &out[..n])
+}
+
+// Its steps where it is in the totals, else the refusal by which it is left out.
+fn put_line(out: &mut [u8], f: Tallied, refusal: u32, name: &[u8]) -> usize
+    ensures { λ r. ⌜ (now (out .exit), r) ≡ laid (now (out .entry)) (pick (eqb refusal 0) (traceLine (f .steps) (f .refused) (f .refusal) (f .offset) (now (name .entry))) (leftOutLine refusal (now (name .entry)))) ⌝ }
+{
+    if refusal == steps::CARRIED_OUT {
+        return report::put_trace(out, f.steps, f.refused, f.refusal, f.offset, name);
+    }
+    report::put_left_out(out, refusal, name)
+}
