@@ -34,8 +34,19 @@ impl Program {
 
     /// What the program prints for a trace or table. It has to end well, in time, and with nothing on standard error.
     pub fn ask(&self, input: &[u8]) -> Outcome {
+        let (printed, complaints) = self.run(&[], input)?;
+        match complaints.is_empty() {
+            true => Ok(printed),
+            false => Err(format!("on standard error: {}", complaints.escape_ascii())),
+        }
+    }
+
+    /// What the program prints with some more arguments, and what it says on standard error. It has to end well and in
+    /// time.
+    pub fn run(&self, more: &[&str], input: &[u8]) -> Result<(Vec<u8>, Vec<u8>), String> {
         let mut child = self
             .command()
+            .args(more)
             .stdin(Stdio::piped())
             .stdout(Stdio::piped())
             .stderr(Stdio::piped())
@@ -54,11 +65,13 @@ impl Program {
             return Err(format!("no end after {PATIENCE:?}"));
         };
         let status = child.wait().map_err(|error| error.to_string())?;
-        if !status.success() || !complaints.is_empty() {
-            let complaints = complaints.escape_ascii();
-            return Err(format!("{status}, on standard error: {complaints}"));
+        match status.success() {
+            true => Ok((printed, complaints)),
+            false => {
+                let complaints = complaints.escape_ascii();
+                Err(format!("{status}, on standard error: {complaints}"))
+            }
         }
-        Ok(printed)
     }
 }
 

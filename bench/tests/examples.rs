@@ -1,5 +1,5 @@
-//! The examples: a readable text, the bytes it stands for and their listing have to belong together, and a typed table
-//! and its line.
+//! The examples: a readable text, the bytes it stands for and their listing have to belong together, the waves and the
+//! picture of some of them, and a typed table and its line.
 
 use std::collections::BTreeMap;
 use std::fs;
@@ -9,6 +9,7 @@ use bench::hex;
 use bench::listing::listing;
 use bench::stack::{line, text};
 use bench::trace::{decode, encode, NUMBER_BYTES, PROGRAM_LIMIT};
+use bench::{picture, waves};
 
 /// The contents of a sort of examples' files, by name and then by ending.
 type Examples = BTreeMap<String, BTreeMap<String, Vec<u8>>>;
@@ -49,10 +50,34 @@ fn all() -> Examples {
 fn each_example_has_its_three_files() {
     let examples = examples();
     assert!(examples.len() >= 12);
-    for (name, files) in examples {
+    for (name, mut files) in examples {
+        files.retain(|ending, _| ending != "vcd" && ending != "svg");
         let endings: Vec<&str> = files.keys().map(String::as_str).collect();
         assert_eq!(endings, ["hex", "listing", "trace"], "{name}");
     }
+}
+
+/// Where an example has its waves, they are the model's; and its picture is that of all its steps.
+#[test]
+fn waves_and_pictures_are_what_the_model_says() {
+    let (mut dumps, mut pictures) = (0, 0);
+    for (name, files) in examples() {
+        let trace = &files["trace"];
+        if let Some(dump) = files.get("vcd") {
+            let expected = waves::write(&waves::waves(trace, PROGRAM_LIMIT));
+            let (there, expected) = (dump.escape_ascii(), expected.escape_ascii());
+            assert_eq!(there.to_string(), expected.to_string(), "{name}");
+            dumps += 1;
+        }
+        if let Some(drawn) = files.get("svg") {
+            let nesting = picture::nesting(trace, PROGRAM_LIMIT, 1, picture::MOST_STEPS);
+            let expected = picture::write(&nesting.expect("it is of an AIC"));
+            let (there, expected) = (drawn.escape_ascii(), expected.escape_ascii());
+            assert_eq!(there.to_string(), expected.to_string(), "{name}");
+            pictures += 1;
+        }
+    }
+    assert_eq!((dumps, pictures), (2, 1));
 }
 
 #[test]

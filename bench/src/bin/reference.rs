@@ -1,5 +1,6 @@
 //! The model as a program: a trace on standard input, its listing on standard output; with `--stack` a typed table and
-//! its line; with `--batch` many of both and words looked at; with `--boards` a number on standard input, and a transcript of so many boards.
+//! its line; with `--batch` many of both and words looked at; with `--boards` a number on standard input, and a transcript of so many boards;
+//! with `--wave` the waves of a trace, and with `--picture` the picture of some of its steps.
 
 use std::io::{self, BufReader, BufWriter, Read, Write};
 use std::process::ExitCode;
@@ -8,13 +9,16 @@ use bench::batch::{figures_to_bytes, serve, Asked, Reply, Request};
 use bench::boards::generate::{script, unsound};
 use bench::listing::listing;
 use bench::looked::{looked, told};
+use bench::picture;
 use bench::report;
 use bench::stack;
 use bench::trace::PROGRAM_LIMIT;
+use bench::waves;
 
 const USAGE: &str = "\
-reference [--stack | --batch | --boards]: lists the trace on standard input, or says the stack of the table there, or many
-(batch.c), or prints a transcript of as many boards as the number there says
+reference [--stack | --batch | --boards | --wave | --picture FIRST STEPS]: lists the trace on standard input, or says the
+stack of the table there, or many (batch.c), or prints a transcript of as many boards as the number there says, or the
+waves of the trace, or the picture of some of its steps
 ";
 
 fn main() -> ExitCode {
@@ -24,6 +28,12 @@ fn main() -> ExitCode {
         [word] if word == "--stack" => print_one(stack::line),
         [word] if word == "--batch" => print_many(),
         [word] if word == "--boards" => print_one(boards),
+        [word] if word == "--wave" => {
+            print_one(|trace| waves::write(&waves::waves(trace, PROGRAM_LIMIT)));
+        }
+        [word, first, steps] if word == "--picture" => {
+            print_one(|trace| picture(trace, first, steps));
+        }
         _ => {
             eprint!("{USAGE}");
             return ExitCode::from(2);
@@ -46,6 +56,18 @@ fn boards(input: &[u8]) -> Vec<u8> {
     let count = number.and_then(|number| number.trim().parse().ok());
     let transcripts = (0..count.unwrap_or(0)).map(|number| script(1, number).right());
     (transcripts.collect::<String>() + &unsound()).into_bytes()
+}
+
+/// The picture of so many steps from the first one on; where there is none, that is said on standard error.
+fn picture(trace: &[u8], first: &str, steps: &str) -> Vec<u8> {
+    let drawn = match (first.parse(), steps.parse()) {
+        (Ok(first), Ok(steps)) => picture::nesting(trace, PROGRAM_LIMIT, first, steps),
+        _ => None,
+    };
+    if drawn.is_none() {
+        eprintln!("reference: there is no such picture");
+    }
+    drawn.map_or(Vec::new(), |nesting| picture::write(&nesting))
 }
 
 fn print_many() {

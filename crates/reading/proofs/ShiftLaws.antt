@@ -3,7 +3,7 @@ use Prim.Native.Nat.{ℕ, suc, _+_, _-_, _<_, _≤_}
 use mathlib.Core.Path.{_≡_, ap, sym, _∙_}
 use mathlib.Core.List.{List, _++_}
 use native.Mathlib.Omega.{arith}
-use lib.ListN.{length, take, drop, set, getD, length-drop}
+use lib.ListN.{length, drop, set, getD, length-drop}
 use lib.Seq.{getD-drop, paste, paste-zero, paste-suc, drop-paste, take-all}
 use Rattle.reading.specs.Shifted.{shifted}
 

@@ -11,9 +11,10 @@ use Rattle.words.proofs.ChoiceLaws.{pick-true, pick-false}
 use Rattle.text.specs.Text.{decimal, decimalOf, field, laid}
 use Rattle.text.proofs.Promises.{kept as texts}
 use Rattle.text.proofs.WriteLaws.{write-laid}
+use Rattle.phrases.specs.Phrases.{bytes, counted}
 use Rattle.totals.specs.declared.Totals.{Totals}
 use Rattle.report.specs.Lines.{lineEnd}
-use Rattle.report.specs.Printed.{bytes, counted, named, endedAt, traceLine, leftOutLine, sourceLine, sourceLines}
+use Rattle.report.specs.Printed.{named, endedAt, traceLine, leftOutLine, sourceLine, sourceLines}
 use Rattle.report.specs.Promises.{Promises, Whole}
 use Rattle.report.proofs.LineLaws.{line-over, line-within, end-before, end-at}
 use Rattle.report.proofs.SizeLaws.{length-trace, length-left-out, length-sources}
@@ -86,19 +87,6 @@ worked-source : sourceLine 31 4294967295 12 8
 unfolding sourceLine counted bytes decimalOf pick
 worked-source = refl
 
-digit-bytes : bytes "0123456789" ≡ 48 ∷ 49 ∷ 50 ∷ 51 ∷ 52 ∷ 53 ∷ 54 ∷ 55 ∷ 56 ∷ 57 ∷ []
-unfolding bytes
-digit-bytes = refl
-
-letter-bytes : bytes "Eabcdefghijklmnopqrstuvwxyz"
-    ≡ 69 ∷ 97 ∷ 98 ∷ 99 ∷ 100 ∷ 101 ∷ 102 ∷ 103 ∷ 104 ∷ 105 ∷ 106 ∷ 107 ∷ 108 ∷ 109 ∷ 110 ∷ 111 ∷ 112 ∷ 113 ∷ 114 ∷ 115 ∷ 116 ∷ 117 ∷ 118 ∷ 119 ∷ 120 ∷ 121 ∷ 122 ∷ []
-unfolding bytes
-letter-bytes = refl
-
-sign-bytes : bytes " ,:\n" ≡ 32 ∷ 44 ∷ 58 ∷ 10 ∷ []
-unfolding bytes
-sign-bytes = refl
-
 pub kept : Promises
 kept =
     record {
@@ -108,9 +96,6 @@ kept =
       figures = source-line;
       noSource = no-source;
       nextSource = next-source;
-      digitBytes = digit-bytes;
-      letterBytes = letter-bytes;
-      signBytes = sign-bytes;
       workedTrace = worked-trace;
       workedCut = worked-cut;
       workedMissing = worked-missing;

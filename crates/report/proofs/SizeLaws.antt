@@ -7,19 +7,13 @@ use lib.Dec.{eqb}
 use lib.ListN.{length, length-append, getD}
 use Rattle.words.proofs.ChoiceLaws.{pick-cases}
 use Rattle.steps.specs.Refusals.{carriedOut}
-use Rattle.text.specs.Text.{decimal, field}
-use Rattle.text.proofs.DigitLaws.{length-below, length-field}
+use Rattle.text.specs.Text.{field}
+use Rattle.text.proofs.DigitLaws.{length-field}
+use Rattle.phrases.specs.Phrases.{bytes, counted}
+use Rattle.phrases.proofs.SizeLaws.{length-word, length-counted, length-few}
 use Rattle.totals.specs.declared.Totals.{Totals}
-use Rattle.report.specs.Printed.{bytes, counted, named, endedAt, traceLine, leftOutLine, sourceLine, sourceLines}
+use Rattle.report.specs.Printed.{named, endedAt, traceLine, leftOutLine, sourceLine, sourceLines}
 use Rattle.report.specs.Promises.{Words}
-
--- a number of 32 bits has at most ten digits, with its space eleven bytes
-length-word : (n : ℕ) → n < 2 ^ 32 → length (decimal n) ≤ 10
-length-word n h = length-below 20 10 n (omega arith) (omega arith)
-
-length-counted : (what : List ℕ) (n : ℕ) → n < 2 ^ 32 → length (counted what n) ≤ length what + 10
-unfolding counted
-length-counted what n h = simp length-append (omega (arith, length-word n h))
 
 length-named : (name : List ℕ) → length (named name) ≡ length name + 3
 unfolding named bytes
@@ -46,8 +40,8 @@ unfolding leftOutLine bytes
 length-left-out refusal name r = simp length-append (omega (arith, length-counted (bytes "refusal ") refusal r, length-named name))
 
 length-number : (i : ℕ) → i < 32 → length (counted (bytes "source ") i) ≤ 9
-unfolding counted bytes
-length-number i l = simp length-append (omega (arith, length-below 20 2 i (omega arith) (omega arith)))
+unfolding bytes
+length-number i l = length-few (bytes "source ") i 2 (omega arith) (omega arith)
 
 length-source : (i started waited entries : ℕ) → i < 32 → started < 2 ^ 32 → waited < 2 ^ 32 → entries < 2 ^ 32
     → length (sourceLine i started waited entries) ≤ 137

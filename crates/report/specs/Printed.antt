@@ -1,23 +1,13 @@
 -- The text of the report: each number stands behind what it counts, handlers, entries or steps (02, 11/12).
 use Prim.Native.Nat.{ℕ, zero, suc}
-use Prim.Native.Char.{code}
-use Prim.Native.String.{String, [] as nil, _∷_ as _then_}
 use mathlib.Core.List.{List, [], _∷_, _++_}
 use lib.Dec.{eqb}
 use lib.ListN.{getD}
 use Rattle.words.specs.Choice.{pick}
 use Rattle.steps.specs.Refusals.{carriedOut}
-use Rattle.text.specs.Text.{newline, decimal, field}
+use Rattle.text.specs.Text.{newline, field}
+use Rattle.phrases.specs.Phrases.{bytes, counted}
 use Rattle.totals.specs.declared.Totals.{Totals}
-
--- the bytes of a text in ASCII
-unfoldable pub bytes : String → List ℕ
-bytes nil = []
-bytes (c then s) = code c ∷ bytes s
-
--- a number behind what it counts ("Each is printed with what it counts: handlers, entries, steps")
-unfoldable pub counted : List ℕ → ℕ → List ℕ
-counted what n = what ++ decimal n
 
 -- ---- a line for each trace named
 

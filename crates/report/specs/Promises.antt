@@ -5,9 +5,10 @@ use mathlib.Core.List.{List, [], _∷_, _++_}
 use mathlib.Core.Logic.{_≢_}
 use lib.ListN.{length, getD, drop}
 use Rattle.text.specs.Text.{decimal, field, laid}
+use Rattle.phrases.specs.Phrases.{bytes}
 use Rattle.totals.specs.declared.Totals.{Totals}
 use Rattle.report.specs.Lines.{lineEnd}
-use Rattle.report.specs.Printed.{bytes, traceLine, leftOutLine, sourceLine, sourceLines}
+use Rattle.report.specs.Printed.{traceLine, leftOutLine, sourceLine, sourceLines}
 
 -- the first n sources' figures are words of 32 bits, as those of every such record in the code are
 pub record Words (n : ℕ) (t : Totals) : Type 0 where
@@ -40,11 +41,6 @@ pub record Promises : Type 0 where
   pub noSource : (t : Totals) → sourceLines 0 t ≡ []
   pub nextSource : (n : ℕ) (t : Totals)
       → sourceLines (suc n) t ≡ sourceLines n t ++ sourceLine n (getD (t .started) n 0) (getD (t .waited) n 0) (getD (t .entries) n 0)
-  -- a text's bytes are ASCII: the digits, the letters, the three signs between the words, and the line feed
-  pub digitBytes : bytes "0123456789" ≡ 48 ∷ 49 ∷ 50 ∷ 51 ∷ 52 ∷ 53 ∷ 54 ∷ 55 ∷ 56 ∷ 57 ∷ []
-  pub letterBytes : bytes "Eabcdefghijklmnopqrstuvwxyz"
-      ≡ 69 ∷ 97 ∷ 98 ∷ 99 ∷ 100 ∷ 101 ∷ 102 ∷ 103 ∷ 104 ∷ 105 ∷ 106 ∷ 107 ∷ 108 ∷ 109 ∷ 110 ∷ 111 ∷ 112 ∷ 113 ∷ 114 ∷ 115 ∷ 116 ∷ 117 ∷ 118 ∷ 119 ∷ 120 ∷ 121 ∷ 122 ∷ []
-  pub signBytes : bytes " ,:\n" ≡ 32 ∷ 44 ∷ 58 ∷ 10 ∷ []
   -- ---- worked lines, whole
 
   pub workedTrace : traceLine 7 1 0 27 (bytes "examples/first.trace") ≡ bytes "steps played 7, steps refused 1: examples/first.trace\n"

@@ -1,7 +1,6 @@
 -- That `shift` of src/lib.rt keeps its contract.
 use Prim.Native.Nat.{_≤_, _-_, _+_}
 use mathlib.Core.Path.{_≡_, _∙_}
-use native.Mathlib.Omega.{arith}
 use lib.ListN.{length}
 use borrow.Author.Needs.{needs}
 use Rattle.reading.proofs.ShiftLaws.{moved, none-moved, moves-on, all-moved}

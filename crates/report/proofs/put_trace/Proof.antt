@@ -1,7 +1,8 @@
 -- That `put_trace` of src/lib.rt keeps its contract.
 use mathlib.Core.Path.{_∙_}
 use Rattle.text.proofs.WriteLaws.{and-then, write-laid}
-use Rattle.report.specs.Printed.{bytes, traceLine}
+use Rattle.phrases.specs.Phrases.{bytes}
+use Rattle.report.specs.Printed.{traceLine}
 use borrow.Author.Needs.{needs}
 use Rattle.report.proofs.put_trace.Statement.{statement}
 use Rattle.report.proofs.put_trace.Tie as tie

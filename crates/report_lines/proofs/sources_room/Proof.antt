@@ -1,5 +1,5 @@
 -- That `sources_room` of src/lib.rt keeps its contract.
-use Prim.Native.Nat.{ℕ, _≤_}
+use Prim.Native.Nat.{ℕ}
 use mathlib.Core.Path.{_≡_, sym}
 use lib.ListN.{length, replicate, length-replicate}
 use Rattle.report.proofs.SizeLaws.{length-sources}

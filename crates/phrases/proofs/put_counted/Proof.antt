@@ -1,9 +1,9 @@
 -- That `put_counted` of src/lib.rt keeps its contract.
 use Rattle.text.proofs.WriteLaws.{and-then}
-use Rattle.report.specs.Printed.{counted}
+use Rattle.phrases.specs.Phrases.{counted}
 use borrow.Author.Needs.{needs}
-use Rattle.report.proofs.put_counted.Statement.{statement}
-use Rattle.report.proofs.put_counted.Tie as tie
+use Rattle.phrases.proofs.put_counted.Statement.{statement}
+use Rattle.phrases.proofs.put_counted.Tie as tie
 
 returns : tie.Need-returns
 unfolding counted

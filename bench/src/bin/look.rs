@@ -1,0 +1,346 @@
+//! Runs the programs that print waves and pictures on generated traces and windows, reads what they print, and compares
+//! every value, bar, box and number with the model, and then every byte.
+
+use std::io::{self, Read, Write};
+use std::path::PathBuf;
+use std::process::ExitCode;
+use std::sync::atomic::{AtomicUsize, Ordering};
+use std::thread;
+use std::time::Duration;
+
+use bench::compare::{first_difference, Subject, MOST_FAILURES};
+use bench::generate::Case;
+use bench::look::reached::{listed_of_pictures, listed_of_waves, Reached};
+use bench::look::{Generator, Window, TRACES, WINDOWS};
+use bench::program::Program;
+use bench::trace::PROGRAM_LIMIT;
+use bench::{picture, waves};
+
+const USAGE: &str = "\
+look --wave PATH --picture PATH [OPTION..] [-- WORD..]
+look --meaning TRACE <DUMP
+
+  --wave PATH      the program that prints the waves of the trace on standard input
+  --picture PATH   the program that prints a picture of it, by a first step and a number of steps
+  --traces N       how many traces (20000)
+  --windows N      how many windows (2000)
+  --seed N         other traces and windows (1)
+  -- WORD..        what the programs are started by, with arguments: a loader or an emulator
+  --meaning TRACE  whether the dump on standard input, from any program, says of the trace in a file what the model says
+
+Ends with 0 if nothing differs and, with as many traces and windows as above or more, all listed items were reached;
+else with 1, and with 2 if it was not asked properly.
+";
+
+/// How long a smaller trace is looked for.
+const SEARCH: Duration = Duration::from_secs(20);
+
+/// Prints a line. A reader that has gone away wants no more, and the exit status still tells.
+macro_rules! say {
+    ($($text:tt)*) => {{
+        let _ = writeln!(io::stdout(), $($text)*);
+    }};
+}
+
+/// What was asked.
+struct Asked {
+    wave: Program,
+    picture: Program,
+    traces: usize,
+    windows: usize,
+    seed: u64,
+}
+
+fn main() -> ExitCode {
+    let words: Vec<String> = std::env::args().skip(1).collect();
+    if let [option, path] = words.as_slice() {
+        if option == "--meaning" {
+            return means_the_same(path);
+        }
+    }
+    let asked = match asked(&words) {
+        Ok(asked) => asked,
+        Err(why) => {
+            eprint!("look: {why}\n\n{USAGE}");
+            return ExitCode::from(2);
+        }
+    };
+    let generator = Generator::new(asked.seed);
+    let waves = compare_waves(&asked, &generator);
+    let pictures = compare_pictures(&asked, &generator);
+    match waves && pictures {
+        true => ExitCode::SUCCESS,
+        false => ExitCode::FAILURE,
+    }
+}
+
+/// Compares a dump that some program wrote, by what it means.
+fn means_the_same(path: &str) -> ExitCode {
+    let mut dump = Vec::new();
+    let read = io::stdin().read_to_end(&mut dump);
+    let trace = read.and_then(|_| std::fs::read(path));
+    let compared = trace
+        .map_err(|error| error.to_string())
+        .and_then(|trace| waves::meaning(&dump, &waves::waves(&trace, PROGRAM_LIMIT)));
+    match compared {
+        Ok(compared) => {
+            say!(
+                "{} ticks, {} values of signals",
+                compared.ticks,
+                compared.values
+            );
+            ExitCode::SUCCESS
+        }
+        Err(why) => {
+            say!("{path}: {why}");
+            ExitCode::FAILURE
+        }
+    }
+}
+
+fn asked(words: &[String]) -> Result<Asked, String> {
+    let mut words = words.iter().map(String::as_str);
+    let (mut wave, mut picture, mut by) = (None, None, Vec::new());
+    let (mut traces, mut windows, mut seed) = (TRACES, WINDOWS, 1);
+    while let Some(option) = words.next() {
+        if option == "--" {
+            by = words.collect();
+            break;
+        }
+        let value = words.next();
+        let value = value.ok_or_else(|| format!("{option:?} is not understood"))?;
+        let number = value.parse().map_err(|_| format!("{value:?} is no number"));
+        match option {
+            "--wave" => wave = Some(value),
+            "--picture" => picture = Some(value),
+            "--traces" => traces = number? as usize,
+            "--windows" => windows = number? as usize,
+            "--seed" => seed = number?,
+            _ => return Err(format!("{option:?} is not understood")),
+        }
+    }
+    let program = |path: Option<&str>| {
+        let path = path.ok_or("a program is missing")?;
+        let mut words: Vec<&str> = [by.as_slice(), &[path]].concat();
+        let first = PathBuf::from(words.remove(0));
+        Ok::<_, String>(Program::new(first, &words))
+    };
+    Ok(Asked {
+        wave: program(wave)?,
+        picture: program(picture)?,
+        traces,
+        windows,
+        seed,
+    })
+}
+
+/// What came of many comparisons of one sort.
+#[derive(Default)]
+struct Tally {
+    compared: usize,
+    reached: Reached,
+    waves: waves::Compared,
+    pictures: picture::Compared,
+    /// Windows of which there is no picture.
+    none: usize,
+    /// The numbers of those that differ, and how.
+    differ: Vec<(usize, String)>,
+}
+
+impl Tally {
+    fn add(&mut self, other: &Tally) {
+        self.compared += other.compared;
+        self.none += other.none;
+        self.add_waves(&other.waves);
+        self.add_picture(&other.pictures);
+        self.reached.add(&other.reached);
+        self.differ.extend(other.differ.iter().cloned());
+    }
+
+    fn add_waves(&mut self, more: &waves::Compared) {
+        self.waves.ticks += more.ticks;
+        self.waves.signals += more.signals;
+        self.waves.values += more.values;
+        self.waves.changes += more.changes;
+    }
+
+    fn add_picture(&mut self, more: &picture::Compared) {
+        self.pictures.columns += more.columns;
+        self.pictures.bars += more.bars;
+        self.pictures.boxes += more.boxes;
+        self.pictures.refused += more.refused;
+    }
+}
+
+/// Compares so many on all processors. After some that differ the rest is not worth the wait.
+fn on_all_processors(
+    count: usize,
+    compare: impl Fn(usize, &mut Tally) -> Result<(), String> + Sync,
+) -> Tally {
+    let threads = thread::available_parallelism().map_or(2, usize::from);
+    let (next, wrong) = (AtomicUsize::new(0), AtomicUsize::new(0));
+    let work = || {
+        let mut tally = Tally::default();
+        while wrong.load(Ordering::Relaxed) < MOST_FAILURES {
+            let number = next.fetch_add(1, Ordering::Relaxed);
+            if number >= count {
+                break;
+            }
+            tally.compared += 1;
+            if let Err(why) = compare(number, &mut tally) {
+                wrong.fetch_add(1, Ordering::Relaxed);
+                tally.differ.push((number, why));
+            }
+        }
+        tally
+    };
+    let mut all = Tally::default();
+    thread::scope(|scope| {
+        let workers: Vec<_> = (0..threads).map(|_| scope.spawn(work)).collect();
+        for worker in workers {
+            all.add(&worker.join().expect("a comparison does not panic"));
+        }
+    });
+    all.differ.sort();
+    all
+}
+
+/// The last line of a sort, and whether all is well. Fewer than are wanted by default need not reach everything.
+fn judged(what: &str, tally: &Tally, listed: &[String], full: bool) -> bool {
+    let gaps = tally.reached.gaps(listed);
+    for (number, why) in &tally.differ {
+        say!("  {what} {number}: {why}");
+    }
+    if full {
+        gaps.iter().for_each(|item| say!("  not reached: {item}"));
+    }
+    let (differ, reached) = (tally.differ.len(), listed.len() - gaps.len());
+    let differ = match differ {
+        0 => "none differs".to_string(),
+        MOST_FAILURES.. => format!("{differ} differ, and the rest was left out"),
+        _ => format!("{differ} differ"),
+    };
+    say!(
+        "  {differ}; {reached} of {} listed items reached",
+        listed.len()
+    );
+    tally.differ.is_empty() && (gaps.is_empty() || !full)
+}
+
+fn compare_waves(asked: &Asked, generator: &Generator) -> bool {
+    let compare = |number: usize, tally: &mut Tally| {
+        let trace = generator.trace(number).trace;
+        let expected = waves::waves(&trace, PROGRAM_LIMIT);
+        tally.reached.see_waves(&expected);
+        let (compared, bytes) = wave_differs(&asked.wave, &trace, &expected)?;
+        tally.reached.see_dump(bytes);
+        tally.add_waves(&compared);
+        Ok(())
+    };
+    let tally = on_all_processors(asked.traces, compare);
+    let waves::Compared {
+        ticks,
+        signals,
+        values,
+        changes,
+    } = tally.waves;
+    say!(
+        "waves: {} traces, {signals} signals declared, {ticks} ticks, {values} values of signals, {changes} changes",
+        tally.compared
+    );
+    let full = asked.traces >= TRACES;
+    let well = judged("trace", &tally, &listed_of_waves(), full);
+    if let Some((number, _)) = tally.differ.first() {
+        show_smaller(asked, generator.trace(*number));
+    }
+    well
+}
+
+/// What a program prints for a trace against the model: what it means first, then every byte. Answers how much was
+/// compared, and the number of bytes.
+fn wave_differs(
+    program: &Program,
+    trace: &[u8],
+    expected: &waves::Waves,
+) -> Result<(waves::Compared, usize), String> {
+    let printed = program.ask(trace)?;
+    let compared = waves::compare(&printed, expected)?;
+    match first_difference(&waves::write(expected), &printed) {
+        None => Ok((compared, printed.len())),
+        Some(difference) => Err(format!("means the same by another text, {difference:?}")),
+    }
+}
+
+/// A trace that differs, and as small a one as is found in some time.
+fn show_smaller(asked: &Asked, case: Case) {
+    let why = |case: &Case| {
+        let expected = waves::waves(&case.trace, PROGRAM_LIMIT);
+        wave_differs(&asked.wave, &case.trace, &expected).err()
+    };
+    let smaller = case.smaller(SEARCH, |case| why(case).is_some());
+    for (which, case) in [("the first", &case), ("a smaller one", &smaller)] {
+        let bytes: Vec<String> = case.trace.iter().take(400).map(hex).collect();
+        say!("  {which} that differs: {}", bytes.join(" "));
+        say!("    {}", why(case).unwrap_or_default());
+    }
+}
+
+fn hex(byte: &u8) -> String {
+    format!("{byte:02X}")
+}
+
+fn compare_pictures(asked: &Asked, generator: &Generator) -> bool {
+    let compare = |number: usize, tally: &mut Tally| {
+        let window = generator.window(number);
+        compare_picture(&asked.picture, &window, tally).map_err(|why| {
+            let bytes: Vec<String> = window.trace.iter().take(400).map(hex).collect();
+            let (first, steps) = (&window.first, &window.steps);
+            format!("{why}\n    {first:?} {steps:?} of {}", bytes.join(" "))
+        })
+    };
+    let tally = on_all_processors(asked.windows, compare);
+    let picture::Compared {
+        columns,
+        bars,
+        boxes,
+        refused,
+    } = tally.pictures;
+    say!(
+        "pictures: {} windows, {} of them without a picture; {columns} columns, {bars} bars, {boxes} dark boxes, {refused} numbers of refusals",
+        tally.compared,
+        tally.none
+    );
+    let full = asked.windows >= WINDOWS;
+    judged("window", &tally, &listed_of_pictures(), full)
+}
+
+/// What a program prints for a window against the model. Where there is no picture it says so in one line on standard
+/// error and prints nothing.
+fn compare_picture(program: &Program, window: &Window, tally: &mut Tally) -> Result<(), String> {
+    let (printed, told) = program.run(&[&window.first, &window.steps], &window.trace)?;
+    let expected = match (window.first.parse(), window.steps.parse()) {
+        (Ok(first), Ok(steps)) => picture::nesting(&window.trace, PROGRAM_LIMIT, first, steps),
+        _ => None,
+    };
+    let Some(nesting) = expected else {
+        tally.none += 1;
+        tally.reached.see_none(window);
+        let one_line = told.iter().filter(|&&byte| byte == b'\n').count() == 1;
+        return match printed.is_empty() && one_line && told.ends_with(b"\n") {
+            true => Ok(()),
+            false => Err(format!(
+                "no picture is due, but {} bytes are printed; on standard error: {}",
+                printed.len(),
+                told.escape_ascii()
+            )),
+        };
+    };
+    if !told.is_empty() {
+        return Err(format!("on standard error: {}", told.escape_ascii()));
+    }
+    tally.reached.see_picture(window, &nesting);
+    tally.reached.see_size(printed.len());
+    let compared = picture::compare(&printed, &nesting)?;
+    tally.add_picture(&compared);
+    Ok(())
+}

@@ -1,0 +1,2 @@
+-- The proof of what is promised of the last entry.
+pub mod Promises

@@ -1,0 +1,3 @@
+-- The laws of the frame.
+pub mod FrameLaws
+pub mod SizeLaws

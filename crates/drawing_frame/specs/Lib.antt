@@ -1,0 +1,2 @@
+-- The frame of a drawing.
+pub mod Frame

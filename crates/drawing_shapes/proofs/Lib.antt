@@ -1,0 +1,3 @@
+-- The laws of shapes.
+pub mod LabelLaws
+pub mod SizeLaws

@@ -1,0 +1,2 @@
+-- The shapes of a drawing.
+pub mod Shapes

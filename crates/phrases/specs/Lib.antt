@@ -1,0 +1,3 @@
+-- Texts for people, and what is promised of them.
+pub mod Phrases
+pub mod Promises

@@ -1,0 +1,3 @@
+-- The picture of a window of a trace, and what is promised of it.
+pub mod Picture
+pub mod Promises

@@ -1,0 +1,2 @@
+-- Why there is no picture.
+pub mod Lines

@@ -1,0 +1,2 @@
+-- The laws of declarations, one after the other.
+pub mod TextLaws

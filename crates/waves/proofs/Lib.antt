@@ -1,0 +1,3 @@
+-- The laws of waves.
+pub mod PaddingLaws
+pub mod WaveLaws

@@ -1,0 +1,2 @@
+-- The waves of a trace.
+pub mod Waves

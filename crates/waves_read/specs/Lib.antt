@@ -1,0 +1,2 @@
+-- What is promised of the waves of a trace.
+pub mod Promises

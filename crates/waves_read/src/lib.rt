@@ -1,0 +1,1 @@
+// What is promised of the waves of a trace: definitions and proofs only, the code stands in waves.
