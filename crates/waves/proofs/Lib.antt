@@ -1,3 +1,2 @@
 -- The laws of waves.
-pub mod PaddingLaws
 pub mod WaveLaws

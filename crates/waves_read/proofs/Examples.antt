@@ -15,7 +15,8 @@ use Rattle.reports.specs.Play.{recordsFrom, recordsOf, report, playOf}
 use Rattle.lines.specs.Listing.{letter}
 use Rattle.aic_last.specs.Last.{lastSource, lastLevel}
 use Rattle.signals.specs.Signals.{ownRows, rows, signals, widths, values}
-use Rattle.waves.specs.Waves.{atStart, momentsFrom, wavesOf}
+use Rattle.wave_steps.specs.Moments.{atStart, momentsFrom}
+use Rattle.waves.specs.Waves.{wavesOf}
 use Rattle.waves_read.specs.Promises.{first, aicTrace, aicWaves}
 use Rattle.waves_read.proofs.ReadLaws.{begun}
 

@@ -13,7 +13,8 @@ use Rattle.machine.specs.declared.Answer.{Answer}
 use Rattle.lines.specs.Listing.{letter, shownValue, lineOf, stepLine}
 use Rattle.signals.specs.Promises.{valueAt}
 use Rattle.signals.proofs.Promises.{kept as shows}
-use Rattle.waves.specs.Waves.{after, wavesOf}
+use Rattle.wave_steps.specs.Moments.{after}
+use Rattle.waves.specs.Waves.{wavesOf}
 use Rattle.waves_read.specs.Promises.{tickLine, Promises}
 use Rattle.waves_read.proofs.Examples.{worked}
 use Rattle.waves_read.proofs.NumberLaws.{refusal-fits}

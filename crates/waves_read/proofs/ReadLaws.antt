@@ -39,7 +39,8 @@ use Rattle.signals.proofs.Promises.{kept as shows}
 use Rattle.signals.proofs.SignalLaws.{rows-aic, rows-core, rows-cic, rows-aintc, rows-indexed, rows-none}
 use Rattle.lines.specs.Listing.{letterOf, letter}
 use Rattle.signals.specs.Promises.{Fits}
-use Rattle.waves.specs.Waves.{atStart, after, momentsFrom, dumpOf, noDump, wavesOf}
+use Rattle.wave_steps.specs.Moments.{atStart, after, momentsFrom}
+use Rattle.waves.specs.Waves.{dumpOf, noDump, wavesOf}
 use Rattle.waves_read.specs.Promises.{first, widthsOf, moments, readBack}
 
 -- ---- the whole

@@ -21,7 +21,8 @@ use Rattle.reports.specs.Play.{recordsOf, runOf, playOf}
 use Rattle.lines.specs.Listing.{letter, shownValue, lineOf, stepLine}
 use Rattle.signals.specs.Promises.{valueAt, Fits}
 use Rattle.signals.specs.Signals.{Moment, signals, widths, values}
-use Rattle.waves.specs.Waves.{atStart, after, momentsFrom, wavesOf}
+use Rattle.wave_steps.specs.Moments.{atStart, after, momentsFrom}
+use Rattle.waves.specs.Waves.{wavesOf}
 
 -- the machine that a trace begins with, and the widths of its signals
 abbrev pub first : List ℕ → Machine

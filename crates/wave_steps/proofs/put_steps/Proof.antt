@@ -8,11 +8,11 @@ use Rattle.trace.specs.Trace.{stepsFrom}
 use Rattle.trace.proofs.TraceLaws.{turn-found}
 use Rattle.machine_record.specs.Promises.{Ready}
 use Rattle.reports.proofs.PlayLaws.{next-ready}
-use Rattle.waves.specs.Waves.{restFrom}
-use Rattle.waves.proofs.WaveLaws.{rest-ended, ticked}
+use Rattle.wave_steps.specs.Moments.{restFrom}
+use Rattle.wave_steps.proofs.StepLaws.{rest-ended, ticked}
 use borrow.Author.Needs.{needs}
-use Rattle.waves.proofs.put_steps.Statement.{statement}
-use Rattle.waves.proofs.put_steps.Tie as tie
+use Rattle.wave_steps.proofs.put_steps.Statement.{statement}
+use Rattle.wave_steps.proofs.put_steps.Tie as tie
 
 abbrev Inv-loop : tie.InvT-loop
 Inv-loop trace limit told start out₀ from before₀ at₀ m₀ more₀ number₀ to₀ out before at m more number to =
@@ -36,22 +36,22 @@ add-number : tie.Need-add-number Inv-loop μ-loop
 add-number c = let m = c .before .before .before .before .before in
     omega (arith, turn-found _ _ _ _ _ _ (sym (m .turn-at .ensures) ∙ c .before .before .before .x .given .1) .1 .0)
 
-values-requires : tie.Need-values-requires Inv-loop μ-loop
-values-requires c κs = let a = c .before .before in
+put-step-requires : tie.Need-put-step-requires Inv-loop μ-loop
+put-step-requires c κs = let a = c .before .before .before in
     next-ready _ _ _ (a .step-sound .ensures) (a .before .before .before .before .before .loop .inv .3) .0
 
 loop-less : tie.Need-loop-less Inv-loop μ-loop
-loop-less c = let a = c .before .before .before .before .before .before .before .before .before in
+loop-less c = let a = c .before .before .before .before .before .before .before in
     omega (arith, turn-found _ _ _ _ _ _ (sym (a .before .before .before .before .turn-at .ensures) ∙ a .before .before .x .given .1) .1 .0)
 
 loop-again : tie.Need-loop-again Inv-loop μ-loop
-loop-again c = let p = c .before .before in
-    let v = p .before .before .before .before in
-    let a = v .before .before .before in
+loop-again c = let p = c .before .before .before in
+    let a = p .before .before .before .before in
     let m = a .before .before .before .before in
     let e = sym (m .turn-at .ensures) ∙ a .before .before .x .given .1 in
-    let l = m .before .loop in (
-      ticked _ _ _ _ _ _ _ _ _ _ _ _ _ _ _ e (a .step-sound .ensures) (v .before .letter-of .ensures) (v .values .ensures) (p .put-next .ensures) (l .inv .0),
+    let l = m .before .loop in
+    let t = p .put-step .ensures in (
+      ticked _ _ _ _ _ _ _ _ _ _ _ _ _ _ e (a .step-sound .ensures) (t .1) (t .0) (l .inv .0),
       search needs,
       omega (arith, turn-found _ _ _ _ _ _ e .1 .0),
       next-ready _ _ _ (a .step-sound .ensures) (l .inv .3),
@@ -73,9 +73,6 @@ put-steps-spec =
     (λ c κs. search needs)
     sub-more
     add-number
-    (λ c κs. search needs)
-    (λ c. search needs)
-    values-requires
-    (λ c κs. search needs)
+    put-step-requires
     loop-less
     loop-again)

@@ -1,12 +1,10 @@
 -- That `put_none` of src/lib.rt keeps its contract.
 use Rattle.text.proofs.WriteLaws.{and-then}
-use Rattle.waves.specs.Waves.{noDump}
 use borrow.Author.Needs.{needs}
-use Rattle.waves.proofs.put_none.Statement.{statement}
-use Rattle.waves.proofs.put_none.Tie as tie
+use Rattle.wave_ticks.proofs.put_none.Statement.{statement}
+use Rattle.wave_ticks.proofs.put_none.Tie as tie
 
 returns : tie.Need-returns
-unfolding noDump
 returns c = let c3 = c .before .before in
     let c2 = c3 .before .before .before .before in
     let c1 = c2 .before .before .before .before in

@@ -1,0 +1,2 @@
+-- The laws of wave_steps.
+pub mod StepLaws

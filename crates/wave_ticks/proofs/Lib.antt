@@ -1,0 +1,3 @@
+-- The laws of wave_ticks.
+pub mod PaddingLaws
+pub mod TickLaws
