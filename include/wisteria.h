@@ -76,8 +76,9 @@ uint32_t wisteria_looked(const uint8_t *trace, size_t trace_len, uint32_t limit,
 /* What each source of an AIC did over the steps played of the trace. started, waited and entries each point to 32 words, which nothing else uses and of
  * which no two overlap; all of them are written, source 0 first:
  *   started[i]   the handlers of source i started;
- *   waited[i]    the most handlers of other sources started in one wait of source i. It waits from the step that makes it pending, enabled and not fast
- *                until one of these ends or it starts; after a start, one must end before it waits again. A wait that does not end counts too;
+ *   waited[i]    the most handlers of other sources started in one wait of source i. A wait begins with the first step after which it is pending,
+ *                enabled and not fast, and ends where one of the three ends or its handler is started; once started, it waits anew only after one of
+ *                them has ended. A wait that does not end counts too;
  *   entries[i]   the most entries (handlers and spurious marks) open at once while a handler of source i was open, itself and those below it counted.
  * Of source 0, of another kind of controller, and where the trace has no accepted configuration, all are 0.
  * Answers the number of steps refused among the steps played, by 1 to 4, 6 or 13. */

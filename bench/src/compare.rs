@@ -7,6 +7,8 @@ use crate::coverage::Coverage;
 use crate::generate::Case;
 use crate::listing::Text;
 use crate::model::{Answer, Machine, Recorded};
+use crate::report::ending;
+use crate::tally::Listed;
 use crate::trace::{pieces, play, Observer, PROGRAM_LIMIT};
 use crate::tuned::{self, added, Played};
 
@@ -16,7 +18,7 @@ pub type Outcome = Result<Vec<u8>, String>;
 /// What is compared: bytes that both sides print a text for, into so much room.
 pub trait Subject: Clone {
     /// What counts what the cases reach.
-    type Coverage: Default;
+    type Coverage: Default + Listed;
 
     /// Which sort of case it is.
     fn name(&self) -> &'static str;
@@ -25,7 +27,9 @@ pub trait Subject: Clone {
     fn input(&self) -> &[u8];
 
     /// How many bytes the text may have; none said: as many as it has.
-    fn room(&self) -> Option<usize>;
+    fn room(&self) -> Option<usize> {
+        None
+    }
 
     /// The model's text, whatever the room; what the case reaches is counted.
     fn by_model(&self, coverage: &mut Self::Coverage) -> Vec<u8>;
@@ -117,10 +121,7 @@ impl Subject for Case {
 fn played(case: &Case) -> Played {
     let mut answers = Answers(0);
     let report = play(&case.trace, case.limit, &mut answers);
-    let (refusal, offset) = match report.ending {
-        Ok(length) => (0, length),
-        Err(fault) => (fault.refusal.number(), fault.offset),
-    };
+    let (refusal, offset) = ending(&report);
     Played {
         steps: report.steps,
         refusal,

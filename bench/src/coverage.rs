@@ -7,13 +7,12 @@ mod core;
 mod levels;
 mod protect;
 
-use std::collections::HashMap;
-
 use crate::model::aic::Register as AicRegister;
 use crate::model::aintc::{Aintc, Register as AintcRegister, Side as Request};
 use crate::model::core::{Register as CoreRegister, Side};
 use crate::model::indexed::Indexed;
 use crate::model::{Answer, Kind, Machine, Recorded, Refusal, Step};
+use crate::tally::{Listed, Tally};
 use crate::trace::{shortest, Defect, Field, Observer, Report};
 use crate::trace::{LONGEST, NUMBER_BYTES, PROGRAM_LIMIT};
 
@@ -300,7 +299,7 @@ impl Way {
 /// The counters, and what is known of a step before it is carried out.
 #[derive(Default)]
 pub struct Coverage {
-    counts: HashMap<Item, u64>,
+    tally: Tally<Item>,
     steps: u64,
     /// The forms of the numbers read since the start or the last step.
     forms: Vec<Item>,
@@ -325,35 +324,8 @@ impl Coverage {
         of(Size::None) + of(Size::Some)
     }
 
-    /// How often an item was reached.
-    pub fn count(&self, item: Item) -> u64 {
-        self.counts.get(&item).copied().unwrap_or(0)
-    }
-
-    /// All that was reached, listed or not.
-    pub fn reached(&self) -> impl Iterator<Item = Item> + '_ {
-        self.counts.keys().copied()
-    }
-
-    /// The listed items that were not reached.
-    pub fn gaps(&self) -> Vec<Item> {
-        let mut items = wanted();
-        items.retain(|&item| self.count(item) == 0);
-        items
-    }
-
-    /// The listed items with their counts, the rarest first.
-    pub fn table(&self) -> Vec<(u64, Item)> {
-        let mut table: Vec<_> = wanted()
-            .into_iter()
-            .map(|item| (self.count(item), item))
-            .collect();
-        table.sort();
-        table
-    }
-
     fn reach(&mut self, item: Item) {
-        *self.counts.entry(item).or_insert(0) += 1;
+        self.tally.reach(item);
     }
 
     /// Counts the forms of the numbers of a configuration that was accepted, or of a step that was read whole.
@@ -464,15 +436,22 @@ impl Observer for Coverage {
     }
 }
 
-/// Everything that a comparison has to reach.
-pub fn wanted() -> Vec<Item> {
-    let mut items = traces();
-    items.extend(aic::wanted());
-    items.extend(core::wanted());
-    items.extend(cic::wanted());
-    items.extend(aintc::wanted());
-    items.extend(cic::indexed::wanted());
-    items
+impl Listed for Coverage {
+    type Item = Item;
+
+    fn tally(&self) -> &Tally<Item> {
+        &self.tally
+    }
+
+    fn wanted() -> Vec<Item> {
+        let mut items = traces();
+        items.extend(aic::wanted());
+        items.extend(core::wanted());
+        items.extend(cic::wanted());
+        items.extend(aintc::wanted());
+        items.extend(cic::indexed::wanted());
+        items
+    }
 }
 
 /// The items about traces, endings and refusals in general.

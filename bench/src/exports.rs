@@ -53,18 +53,18 @@ extern "C" {
     fn wisteria_looked(trace: *const u8, trace_len: usize, limit: u32, offset: u32) -> u32;
 }
 
+/// How a listing is asked for.
+type Lister = unsafe extern "C" fn(*const u8, usize, u32, *mut u8, usize) -> usize;
+
+fn listed_by(lister: Lister, trace: &[u8], limit: u32, buffer: &mut [u8]) -> usize {
+    let (out, room) = (buffer.as_mut_ptr(), buffer.len());
+    // Both pointers come from slices of the lengths that go with them, and the two slices cannot overlap.
+    unsafe { lister(trace.as_ptr(), trace.len(), limit, out, room) }
+}
+
 /// Fills the buffer with the listing of a trace and answers how many bytes of it were written.
 pub fn list_into(trace: &[u8], limit: u32, buffer: &mut [u8]) -> usize {
-    // Both pointers come from slices of the lengths that go with them, and the two slices cannot overlap.
-    unsafe {
-        wisteria_list(
-            trace.as_ptr(),
-            trace.len(),
-            limit,
-            buffer.as_mut_ptr(),
-            buffer.len(),
-        )
-    }
+    listed_by(wisteria_list, trace, limit, buffer)
 }
 
 /// How many steps of a trace are played.
@@ -75,16 +75,7 @@ pub fn steps_of(trace: &[u8], limit: u32) -> u32 {
 
 /// The listing by the loop over a controller of any kind.
 pub fn list_plain_into(trace: &[u8], limit: u32, buffer: &mut [u8]) -> usize {
-    // As for the other listing.
-    unsafe {
-        wisteria_list_plain(
-            trace.as_ptr(),
-            trace.len(),
-            limit,
-            buffer.as_mut_ptr(),
-            buffer.len(),
-        )
-    }
+    listed_by(wisteria_list_plain, trace, limit, buffer)
 }
 
 /// The steps by the loop over a controller of any kind.

@@ -1,15 +1,16 @@
 //! Traces made from a seed: sweeps that visit everything once, then tours, damaged ones, noise and long ones.
 
-pub(crate) mod aic;
+pub mod aic;
 mod aintc;
-mod cic;
+pub mod cic;
 mod core;
 pub(crate) mod damage;
-mod indexed;
+pub mod indexed;
 mod long;
 mod sweeps;
 
 use crate::model::{Kind, Step, PRIVILEGED};
+use crate::numbered::{Made, Numbered};
 use crate::random::Random;
 use crate::trace::{decode, encode, NUMBER_BYTES, PROGRAM_LIMIT};
 
@@ -30,36 +31,22 @@ impl Case {
     }
 }
 
-/// Everything that can be made from one seed. The sweeps come first and are the same for every seed.
-pub struct Generator {
-    seed: u64,
-    sweeps: Vec<Script>,
-}
+/// Everything that can be made from one seed.
+pub type Generator = Numbered<Case>;
 
-impl Generator {
-    pub fn new(seed: u64) -> Generator {
-        Generator {
-            seed,
-            sweeps: sweeps::all(),
-        }
+impl Made for Case {
+    fn sweeps() -> Vec<Case> {
+        let case = |script: Script| Case {
+            name: "sweep",
+            trace: script.bytes,
+            limit: PROGRAM_LIMIT,
+            room: None,
+        };
+        sweeps::all().into_iter().map(case).collect()
     }
 
-    /// How many cases come before the first one that depends on the seed.
-    pub fn sweeps(&self) -> usize {
-        self.sweeps.len()
-    }
-
-    /// The case of a number; it depends on the seed and the number alone.
-    pub fn case(&self, number: usize) -> Case {
-        match self.sweeps.get(number) {
-            Some(script) => Case {
-                name: "sweep",
-                trace: script.bytes.clone(),
-                limit: PROGRAM_LIMIT,
-                room: None,
-            },
-            None => random_case(&mut Random::for_item(self.seed, number as u64)),
-        }
+    fn random(random: &mut Random) -> Case {
+        random_case(random)
     }
 }
 
@@ -315,18 +302,12 @@ fn bad_line(random: &mut Random, script: &mut Script, lines: u32) {
 mod tests {
     use super::*;
     use crate::listing::listing;
+    use crate::numbered::tests::depends_on_seed_and_number_alone;
     use crate::trace::play;
 
     #[test]
     fn a_case_depends_on_seed_and_number_alone() {
-        let (one, same, other) = (Generator::new(5), Generator::new(5), Generator::new(6));
-        let first = one.sweeps();
-        for number in [0, first, first + 1, first + 77] {
-            assert_eq!(one.case(number).trace, same.case(number).trace);
-        }
-        assert_eq!(one.case(3).trace, other.case(3).trace);
-        let differ = (first..first + 20).filter(|&n| one.case(n).trace != other.case(n).trace);
-        assert!(differ.count() > 15);
+        depends_on_seed_and_number_alone(|case: Case| case.trace);
     }
 
     #[test]

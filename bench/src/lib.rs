@@ -1,5 +1,14 @@
 //! An independent model of documents 01 and 02 in plain Rust, and what compares the proved program with it.
 
+/// Prints a line. A reader that has gone away wants no more, and the exit status still tells.
+#[macro_export]
+macro_rules! say {
+    ($($text:tt)*) => {{
+        use std::io::Write;
+        let _ = writeln!(std::io::stdout(), $($text)*);
+    }};
+}
+
 pub mod batch;
 pub mod boards;
 pub mod compare;
@@ -13,11 +22,13 @@ pub mod listing;
 pub mod look;
 pub mod looked;
 pub mod model;
+pub mod numbered;
 pub mod picture;
 pub mod program;
 pub mod random;
 pub mod report;
 pub mod stack;
+pub mod tally;
 pub mod trace;
 pub mod tuned;
 pub mod waves;

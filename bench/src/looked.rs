@@ -50,10 +50,6 @@ impl Subject for Question {
         &self.trace
     }
 
-    fn room(&self) -> Option<usize> {
-        None
-    }
-
     fn by_model(&self, coverage: &mut Coverage) -> Vec<u8> {
         let report = play(&self.trace, self.limit, &mut ());
         coverage.see(self, &report);

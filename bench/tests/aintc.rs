@@ -1,12 +1,17 @@
 //! The model of the AINTC against document 000, chapter 4, request 2/12 and the decided points: small cases with the
 //! offsets, bits and values of 000's tables and figures.
 
+#[path = "shared/each_step.rs"]
+mod each_step;
+
 use bench::generate::Generator;
 use bench::listing::listing;
 use bench::model::aintc::{Aintc, Side, INPUTS};
 use bench::model::Refusal::{self, *};
 use bench::model::{Answer, Controller, Machine, Recorded, Step};
-use bench::trace::{play, Observer, PROGRAM_LIMIT};
+use bench::trace::PROGRAM_LIMIT;
+
+use each_step::each_step;
 
 // 000, table 4-3, in its order; of the banks the first, and the first ILR.
 const REVISION: u32 = 0x00;
@@ -772,13 +777,6 @@ mod traces {
 mod every_step {
     use super::*;
 
-    /// The controller before the present step, and how many steps were looked at.
-    #[derive(Default)]
-    struct Watch {
-        before: Option<Aintc>,
-        steps: usize,
-    }
-
     /// Whether an input may be chosen, from the registers alone (000, 4.3.1.1 to 4.3.1.2.2).
     fn may_be_chosen(aintc: &mut Aintc, input: u32, side: Side) -> Option<u32> {
         let (bank, bit) = (BANK * (input / 32), input % 32);
@@ -790,29 +788,26 @@ mod every_step {
         (open && passes && ilr & 1 == side as u32).then_some(priority)
     }
 
-    impl Watch {
-        fn look(&mut self, before: &Aintc, after: &Aintc, step: Step, answer: Answer) {
-            self.steps += 1;
-            if answer.is_err() || matches!(step, Step::Read { .. }) {
-                assert_eq!(before, after, "{step:?} changed something");
-                return;
-            }
-            for side in Side::BOTH {
-                let ended = match step {
-                    Step::Write {
-                        offset: CONTROL,
-                        value,
-                    } => value & (1 + side as u32) != 0,
-                    Step::Write {
-                        offset: SYSCONFIG,
-                        value,
-                    } => value & SOFTRESET != 0,
-                    _ => false,
-                };
-                match before.chosen(side) {
-                    Some(_) if !ended => assert_eq!(before.chosen(side), after.chosen(side)),
-                    _ => is_first(after, side),
-                }
+    fn look(before: &Aintc, after: &Aintc, step: Step, answer: Answer) {
+        if answer.is_err() || matches!(step, Step::Read { .. }) {
+            assert_eq!(before, after, "{step:?} changed something");
+            return;
+        }
+        for side in Side::BOTH {
+            let ended = match step {
+                Step::Write {
+                    offset: CONTROL,
+                    value,
+                } => value & (1 + side as u32) != 0,
+                Step::Write {
+                    offset: SYSCONFIG,
+                    value,
+                } => value & SOFTRESET != 0,
+                _ => false,
+            };
+            match before.chosen(side) {
+                Some(_) if !ended => assert_eq!(before.chosen(side), after.chosen(side)),
+                _ => is_first(after, side),
             }
         }
     }
@@ -833,28 +828,30 @@ mod every_step {
         assert_eq!(chosen, first);
     }
 
-    impl Observer for Watch {
-        fn before(&mut self, machine: &Machine, _: Recorded) {
-            if let Machine::Aintc(aintc) = machine {
-                self.before = Some(Aintc::clone(aintc));
-            }
-        }
-
-        fn after(&mut self, machine: &Machine, _: u32, recorded: Recorded, answer: Answer) {
-            if let (Machine::Aintc(after), Some(before)) = (machine, self.before.take()) {
-                self.look(&before, after, recorded.step, answer);
-            }
+    fn aintc_of(machine: &Machine) -> Option<&Aintc> {
+        match machine {
+            Machine::Aintc(aintc) => Some(aintc),
+            _ => None,
         }
     }
 
     #[test]
     fn holds_or_chooses_the_first() {
         let generator = Generator::new(12);
-        let mut watch = Watch::default();
+        let mut steps = 0;
         for number in generator.sweeps()..generator.sweeps() + 1_000 {
             let case = generator.case(number);
-            play(&case.trace, case.limit.min(400), &mut watch);
+            let limit = case.limit.min(400);
+            each_step(
+                &case.trace,
+                limit,
+                aintc_of,
+                |before, after, step, answer| {
+                    look(before, after, step, answer);
+                    steps += 1;
+                },
+            );
         }
-        assert!(watch.steps > 5_000, "{} steps", watch.steps);
+        assert!(steps > 5_000, "{steps} steps");
     }
 }

@@ -7,12 +7,13 @@ mod second;
 use std::io::Write;
 use std::process::{Command, Output, Stdio};
 
-use bench::boards::coverage::{wanted, Item};
+use bench::boards::coverage::{Coverage, Item};
 use bench::boards::generate::{script, unsound, Script};
 use bench::boards::{ask, replay};
 use bench::model::board::{Board, Outputs, Wire};
 use bench::model::core::Side;
 use bench::model::Refusal::{self, *};
+use bench::tally::Listed;
 
 use second::{Second, Slip};
 
@@ -365,16 +366,11 @@ fn every_listed_item_is_reached_and_what_is_counted_is_listed() {
     let coverage = replay(&(transcript + &unsound())).expect("the model agrees with itself");
     assert_eq!(coverage.boards(), BOARDS);
     assert_eq!(coverage.gaps(), []);
-    let mut listed = wanted();
-    for item in coverage.reached() {
-        // Of the counts of sources only those at the ends are listed.
-        let listed = listed.contains(&item) || matches!(item, Item::Sources(..));
-        assert!(listed, "{item:?} is counted and not listed");
-    }
-    let all = listed.len();
-    listed.sort();
-    listed.dedup();
-    assert_eq!(listed.len(), all);
+    let mut unlisted = coverage.unlisted();
+    // Of the counts of sources only those at the ends are listed.
+    unlisted.retain(|item| !matches!(item, Item::Sources(..)));
+    assert_eq!(unlisted, [], "counted and not listed");
+    assert_eq!(Coverage::listed_twice(), []);
 }
 
 #[test]

@@ -1,13 +1,14 @@
 //! The sweeps alone reach every listed item, so that no seed can miss one; and what is counted is also listed.
 
 use bench::compare::{compare, expected};
-use bench::coverage::{wanted, Item};
+use bench::coverage::{Coverage, Item};
 use bench::generate::Generator;
+use bench::tally::Listed;
 
 #[test]
 fn the_sweeps_reach_every_listed_item() {
     let generator = Generator::new(1);
-    let cases = (0..generator.sweeps()).map(|number| (number, generator.case(number)));
+    let cases = generator.cases(0..generator.sweeps());
     let summary = compare(cases, |case| Ok(expected(case)));
     assert_eq!(summary.differ, 0);
     assert_eq!(summary.coverage.gaps(), []);
@@ -16,11 +17,11 @@ fn the_sweeps_reach_every_listed_item() {
 #[test]
 fn every_situation_that_is_counted_is_listed() {
     let generator = Generator::new(2);
-    let cases = (0..generator.sweeps() + 300).map(|number| (number, generator.case(number)));
+    let cases = generator.cases(0..generator.sweeps() + 300);
     let summary = compare(cases, |case| Ok(expected(case)));
-    let listed = wanted();
-    for item in summary.coverage.reached() {
-        if matches!(
+    let mut unlisted = summary.coverage.unlisted();
+    unlisted.retain(|item| {
+        matches!(
             item,
             Item::Fact(_)
                 | Item::Aic(..)
@@ -47,17 +48,12 @@ fn every_situation_that_is_counted_is_listed() {
                 | Item::Chosen(..)
                 | Item::Judged(..)
                 | Item::Side(..)
-        ) {
-            assert!(listed.contains(&item), "{item:?} is counted and not listed");
-        }
-    }
+        )
+    });
+    assert_eq!(unlisted, [], "counted and not listed");
 }
 
 #[test]
 fn no_item_is_listed_twice() {
-    let mut items = wanted();
-    items.sort();
-    let all = items.len();
-    items.dedup();
-    assert_eq!(items.len(), all);
+    assert_eq!(Coverage::listed_twice(), []);
 }

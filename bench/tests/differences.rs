@@ -16,8 +16,7 @@ fn compare_some(other: impl FnMut(&Case) -> Outcome) -> Summary {
     let generator = Generator::new(3);
     let after = generator.sweeps();
     let numbers = (1..20).chain(after..after + 60);
-    let cases = numbers.map(|number| (number, generator.case(number)));
-    compare(cases, other)
+    compare(generator.cases(numbers), other)
 }
 
 /// The model's listing with every line changed by a rule.
@@ -112,8 +111,7 @@ fn a_batch_is_fed_and_heard() {
 fn generated_traces_of_every_kind_go_through_the_program() {
     let generator = Generator::new(1);
     let numbers = generator.sweeps()..THROUGH_THE_PROGRAM;
-    let cases = numbers.map(|number| (number, generator.case(number)));
-    let coverage = compare(cases, |case| Ok(expected(case))).coverage;
+    let coverage = compare(generator.cases(numbers), |case| Ok(expected(case))).coverage;
     for kind in Kind::ALL {
         assert!(coverage.started(kind) >= 5, "{}", kind.told());
     }

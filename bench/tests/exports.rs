@@ -1,25 +1,33 @@
 //! The proved library through its C functions: only built where it is linked in, with the feature `exports`.
 #![cfg(feature = "exports")]
 
-use bench::compare::{compare, expected};
+use std::fmt::Debug;
+
+use bench::compare::{compare, expected, Subject};
 use bench::exports::{ending_of, list_into, stack_into, steps_of, words_looked_at};
-use bench::generate::{Generator, Script};
+use bench::generate::{Case, Generator, Script};
 use bench::listing::listing;
-use bench::looked::generate::Generator as Asker;
-use bench::looked::looked;
-use bench::report::generate::Generator as Counter;
-use bench::stack::generate::Generator as Typist;
+use bench::looked::{looked, Question};
+use bench::numbered::{Made, Numbered};
+use bench::report::ending;
+use bench::report::generate::Counted;
+use bench::stack::generate::Typed;
 use bench::stack::line;
 use bench::trace::play;
 
+/// The library answers as the model does on all sweeps and so many random cases.
+fn answers_as_the_model_does<S: Subject + Made + Debug>(more: usize) {
+    let generator = Numbered::<S>::new(7);
+    let cases = generator.cases(0..generator.sweeps() + more);
+    if let Some((number, case)) = compare(cases, S::by_library).first {
+        let expected = expected(&case);
+        panic!("{number}, {case:?}, differs: {}", expected.escape_ascii());
+    }
+}
+
 #[test]
 fn the_library_lists_as_the_model_does() {
-    let generator = Generator::new(7);
-    let cases = (0..generator.sweeps() + 500).map(|number| (number, generator.case(number)));
-    let summary = compare(cases, bench::exports::list);
-    if let Some((number, case)) = summary.first {
-        panic!("case {number} differs: {:?}", expected(&case));
-    }
+    answers_as_the_model_does::<Case>(500);
 }
 
 #[test]
@@ -41,43 +49,27 @@ fn steps_and_endings_are_those_of_the_model() {
     for number in 0..generator.sweeps() + 500 {
         let case = generator.case(number);
         let report = play(&case.trace, case.limit, &mut ());
-        let ending = match report.ending {
-            Ok(length) => (0, length),
-            Err(fault) => (fault.refusal.number(), fault.offset),
-        };
         assert_eq!(
             steps_of(&case.trace, case.limit),
             report.steps,
             "case {number}"
         );
-        assert_eq!(ending_of(&case.trace, case.limit), ending, "case {number}");
+        assert_eq!(
+            ending_of(&case.trace, case.limit),
+            ending(&report),
+            "case {number}"
+        );
     }
 }
 
 #[test]
 fn the_library_counts_as_the_model_does() {
-    let generator = Counter::new(7);
-    let cases = (0..generator.sweeps() + 2_000).map(|number| (number, generator.counted(number)));
-    let summary = compare(cases, |counted| bench::exports::figures(&counted.case));
-    if let Some((number, counted)) = summary.first {
-        panic!(
-            "case {number} differs: {}",
-            expected(&counted).escape_ascii()
-        );
-    }
+    answers_as_the_model_does::<Counted>(2_000);
 }
 
 #[test]
 fn the_library_says_the_stack_of_a_table_as_the_model_does() {
-    let typist = Typist::new(7);
-    let tables = (0..typist.sweeps() + 2_000).map(|number| (number, typist.typed(number)));
-    let summary = compare(tables, bench::exports::stack);
-    if let Some((number, typed)) = summary.first {
-        panic!(
-            "table {number} differs: {}",
-            expected(&typed).escape_ascii()
-        );
-    }
+    answers_as_the_model_does::<Typed>(2_000);
 }
 
 /// The line of a text, into a room of so many bytes: its first bytes, and the room behind them untouched.
@@ -132,12 +124,7 @@ fn every_character_counts_as_in_the_model() {
 
 #[test]
 fn the_library_looks_at_as_many_words_as_the_model_does() {
-    let asker = Asker::new(7);
-    let questions = (0..asker.sweeps() + 3_000).map(|number| (number, asker.question(number)));
-    let summary = compare(questions, bench::exports::looked);
-    if let Some((number, question)) = summary.first {
-        panic!("question {number} differs: {question:?}");
-    }
+    answers_as_the_model_does::<Question>(3_000);
 }
 
 /// Every limit and every offset of a trace that holds, ends the hold and clears.

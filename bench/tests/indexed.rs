@@ -1,27 +1,26 @@
 //! The model of the CIC with prioritised indices against the decided points of 02, 6/12, one test for each and both
 //! sides of each, and on every step of many tours.
 
+#[path = "shared/each_step.rs"]
+mod each_step;
+
+use bench::generate::cic::{
+    CHANNEL_MAP as CHANNELS, ENABLE_SET as ENABLES, GLOBAL as GLOBAL_ENABLE,
+    HOST_ENABLE as HOST_ENABLES, HOST_MAP as HOSTS,
+};
+use bench::generate::indexed::{
+    CONTROL, ENABLE_CLEAR, GLOBAL_INDEX as GLOBAL, HOLD, HOST_CLEAR, HOST_SET, STATUS_CLEAR,
+    STATUS_SET,
+};
 use bench::generate::{Generator, Script};
 use bench::listing::listing;
 use bench::model::cic::Cic;
 use bench::model::indexed::{Index, Indexed, NONE};
 use bench::model::Refusal::{self, *};
-use bench::model::{Answer, Controller, Machine, Recorded, Step};
-use bench::trace::{pieces, play, Observer, LONGEST, PROGRAM_LIMIT};
+use bench::model::{Answer, Controller, Machine, Step};
+use bench::trace::{pieces, play, LONGEST, PROGRAM_LIMIT};
 
-const CONTROL: u32 = 0x004;
-const GLOBAL_ENABLE: u32 = 0x010;
-const STATUS_SET: u32 = 0x020;
-const STATUS_CLEAR: u32 = 0x024;
-const ENABLE_CLEAR: u32 = 0x02C;
-const HOST_SET: u32 = 0x034;
-const HOST_CLEAR: u32 = 0x038;
-const GLOBAL: u32 = 0x080;
-const CHANNELS: u32 = 0x400;
-const HOSTS: u32 = 0x800;
-const ENABLES: u32 = 0x300;
-const HOST_ENABLES: u32 = 0x1500;
-const HOLD: u32 = 0x10;
+use each_step::each_step;
 
 /// The index of a host.
 fn index(host: u32) -> u32 {
@@ -107,7 +106,7 @@ fn after_write(offset: u32, value: u32) -> [bool; 3] {
 
 const ALL: [bool; 3] = [true, true, true];
 
-/// 6.1: set and enabled, of a configured system; neither the global enable nor a host's own is asked.
+/// D21: set and enabled, of a configured system; neither the global enable nor a host's own is asked.
 #[test]
 fn an_index_asks_for_a_system_that_is_set_and_enabled() {
     let mut on = Indexed::new(Cic::new(40, 1, 1, 0), true);
@@ -131,7 +130,7 @@ fn an_index_asks_for_a_system_that_is_set_and_enabled() {
     assert_eq!(value(&mut on, index(0)), NONE);
 }
 
-/// 6.1: a hold touches no output.
+/// D21: a hold touches no output.
 #[test]
 fn a_hold_leaves_the_outputs() {
     let mut on = held();
@@ -150,7 +149,7 @@ fn a_hold_leaves_the_outputs() {
     assert_eq!(value(&mut on, index(35)), 20);
 }
 
-/// 6.2: the lowest channel first, and in a channel the lowest number; on a host of several channels too.
+/// D22: the lowest channel first, and in a channel the lowest number; on a host of several channels too.
 #[test]
 fn channels_come_first_and_then_numbers() {
     let mut on = polled(8, 4, 2);
@@ -182,7 +181,7 @@ fn channels_come_first_and_then_numbers() {
     assert_eq!(value(&mut on, index(0)), 3, "all channels on one host");
 }
 
-/// 6.3: the hold mode is on after a start where the part is prioritised.
+/// D23: the hold mode is on after a start where the part is prioritised.
 #[test]
 fn the_mode_is_on_at_first() {
     let mut on = part(8, 1, 1);
@@ -194,7 +193,7 @@ fn the_mode_is_on_at_first() {
     assert!(!off.hold());
 }
 
-/// 6.4: control keeps bit 4, and takes any value.
+/// D24: control keeps bit 4, and takes any value.
 #[test]
 fn control_keeps_bit_4() {
     let mut on = part(8, 1, 1);
@@ -206,7 +205,7 @@ fn control_keeps_bit_4() {
     }
 }
 
-/// 6.5: a read in the mode holds what it answered, none too, and no other index; with the mode off nothing is held.
+/// D25: a read in the mode holds what it answered, none too, and no other index; with the mode off nothing is held.
 #[test]
 fn a_read_holds_what_it_answered() {
     let mut on = two_hosts();
@@ -227,7 +226,7 @@ fn a_read_holds_what_it_answered() {
     assert_eq!(value(&mut on, GLOBAL), 5, "it goes on updating");
 }
 
-/// 6.6: the four ways that end the hold of a host's index.
+/// D26: the four ways that end the hold of a host's index.
 #[test]
 fn a_hosts_hold_ends_by_the_writes_that_are_listed() {
     let ended = [false, true, false];
@@ -254,7 +253,7 @@ fn a_hosts_hold_ends_by_the_writes_that_are_listed() {
     assert_eq!(value(&mut on, index(3)), 1, "the bit was 1 already");
 }
 
-/// 6.6: and what ends nothing.
+/// D26: and what ends nothing.
 #[test]
 fn nothing_else_ends_a_hosts_hold() {
     assert_eq!(after_write(HOST_ENABLES, 0), ALL);
@@ -297,7 +296,7 @@ fn nothing_else_ends_a_hosts_hold() {
     }
 }
 
-/// 6.7: the hold of the global index ends by a write of it, and by any host set or cleared; not by a host's index.
+/// D27: the hold of the global index ends by a write of it, and by any host set or cleared; not by a host's index.
 #[test]
 fn the_global_hold_ends_by_any_host() {
     let global = |step: [bool; 3]| step[2];
@@ -316,7 +315,7 @@ fn the_global_hold_ends_by_any_host() {
     assert!(!global(after_write(HOST_ENABLES + 4, 0xFFFF_FF80)));
 }
 
-/// 6.7: the maker's service sequence, with the mode as a reset leaves it, goes through what is pending by either index.
+/// D27: the maker's service sequence, with the mode as a reset leaves it, goes through what is pending by either index.
 #[test]
 fn the_service_sequence_goes_on() {
     for offset in [GLOBAL, index(3)] {
@@ -337,7 +336,7 @@ fn the_service_sequence_goes_on() {
     }
 }
 
-/// 6.8: an index can be written, with any value, held or not, in the mode or not; nothing but its hold changes.
+/// D28: an index can be written, with any value, held or not, in the mode or not; nothing but its hold changes.
 #[test]
 fn an_index_takes_any_write() {
     for mode in [0, HOLD] {
@@ -355,7 +354,7 @@ fn an_index_takes_any_write() {
     }
 }
 
-/// 6.9: none is bit 31 alone, and a system is its number alone.
+/// D29: none is bit 31 alone, and a system is its number alone.
 #[test]
 fn the_word_is_none_or_a_number() {
     let mut on = polled(1_024, 256, 256);
@@ -371,7 +370,7 @@ fn the_word_is_none_or_a_number() {
     assert_eq!(value(&mut on, index(0)), 0);
 }
 
-/// 6.10: the mode turned off ends every hold; turned on again nothing is held before the next read.
+/// D30: the mode turned off ends every hold; turned on again nothing is held before the next read.
 #[test]
 fn the_mode_off_ends_every_hold() {
     assert_eq!(after_write(CONTROL, 0), [false; 3]);
@@ -386,7 +385,7 @@ fn the_mode_off_ends_every_hold() {
     assert_eq!(value(&mut on, GLOBAL), 1, "held from there on");
 }
 
-/// 6.11: the word stays though its system is cleared, disabled, given another channel, or its channel another host.
+/// D31: the word stays though its system is cleared, disabled, given another channel, or its channel another host.
 #[test]
 fn what_is_held_stays_as_it_was_answered() {
     for (offset, written) in [
@@ -405,7 +404,7 @@ fn what_is_held_stays_as_it_was_answered() {
     }
 }
 
-/// 6.12: the registers are there where the part is prioritised, the host indices as far as there are hosts.
+/// D32: the registers are there where the part is prioritised, the host indices as far as there are hosts.
 #[test]
 fn the_registers_are_there_by_choice() {
     let offsets = [CONTROL, GLOBAL, index(0), index(32), index(33), index(255)];
@@ -433,7 +432,7 @@ fn the_registers_are_there_by_choice() {
     }
 }
 
-/// 6.13: five numbers, the fifth 0 or 1, judged as they are read; the name and the columns of a CIC.
+/// D33: five numbers, the fifth 0 or 1, judged as they are read; the name and the columns of a CIC.
 #[test]
 fn kind_4_has_five_numbers() {
     let listed = |trace: &[u8]| String::from_utf8(listing(trace, 9)).expect("it is plain text");
@@ -460,7 +459,7 @@ fn kind_4_has_five_numbers() {
     assert_eq!(listed(&[&[4, 1, 1, 1, 0, 0], steps].concat()), expected);
 }
 
-/// 6.13: with the choice off a trace lists as the one of kind 2 with the same steps does, byte for byte; the offset of
+/// D33: with the choice off a trace lists as the one of kind 2 with the same steps does, byte for byte; the offset of
 /// an ending is one byte later, since the choice stands before it.
 #[test]
 fn with_the_choice_off_it_lists_as_a_plain_cic() {
@@ -507,7 +506,6 @@ fn ending_later(listing: &str) -> String {
 /// What must hold of every step of a prioritised part, told from before and after by other words than the model's.
 #[derive(Default)]
 struct Rules {
-    before: Option<Indexed>,
     polls: u64,
     ended: u64,
     kept: u64,
@@ -601,20 +599,8 @@ impl Rules {
             }
         }
     }
-}
 
-impl Observer for Rules {
-    fn before(&mut self, machine: &Machine, _: Recorded) {
-        if let Machine::Indexed(on) = machine {
-            self.before = Some(Indexed::clone(on));
-        }
-    }
-
-    fn after(&mut self, machine: &Machine, _: u32, recorded: Recorded, answer: Answer) {
-        let (Machine::Indexed(after), Some(before)) = (machine, self.before.take()) else {
-            return;
-        };
-        let step = recorded.step;
+    fn look(&mut self, before: &Indexed, after: &Indexed, step: Step, answer: Answer) {
         if !before.prioritised() {
             assert!(!after.hold() && indices(after).iter().all(|&i| after.held(i).is_none()));
             return;
@@ -629,12 +615,19 @@ impl Observer for Rules {
         if let (Some(index), Ok(word)) = (polled, answer) {
             match before.held(index) {
                 Some(held) => assert_eq!(word, held),
-                None => self.named(&before, index, word),
+                None => self.named(before, index, word),
             }
         }
-        self.held(&before, after, step, answer);
-        Rules::begun(&before, after, step, answer);
+        self.held(before, after, step, answer);
+        Rules::begun(before, after, step, answer);
         assert_eq!(after.shown(), after.cic().shown());
+    }
+}
+
+fn indexed_of(machine: &Machine) -> Option<&Indexed> {
+    match machine {
+        Machine::Indexed(indexed) => Some(indexed),
+        _ => None,
     }
 }
 
@@ -644,7 +637,10 @@ fn every_step_keeps_the_rules() {
     let mut rules = Rules::default();
     for number in 0..generator.sweeps() + 3_000 {
         let case = generator.case(number);
-        play(&case.trace, case.limit, &mut rules);
+        let (trace, limit) = (&case.trace, case.limit);
+        each_step(trace, limit, indexed_of, |before, after, step, answer| {
+            rules.look(before, after, step, answer);
+        });
     }
     let (polls, ended, kept) = (rules.polls, rules.ended, rules.kept);
     assert!(polls > 10_000, "{polls} polls");

@@ -5,26 +5,22 @@ use std::process::Command;
 
 use bench::batch::Batch;
 use bench::compare::{compare, expected, Outcome, Subject, Summary, MOST_FAILURES};
+use bench::generate::cic::{
+    CHANNEL_MAP as CHANNELS, ENABLE_SET as ENABLES, HOST_MAP as HOSTS, RAW_SET as STATUS,
+};
+use bench::generate::indexed::{
+    CONTROL, ENABLE_CLEAR, GLOBAL_INDEX as GLOBAL, HOLD, STATUS_CLEAR, STATUS_SET,
+};
 use bench::generate::Script;
-use bench::looked::coverage::{wanted, Coverage, Item, Whose};
+use bench::looked::coverage::{Coverage, Item, Whose};
 use bench::looked::generate::Generator;
 use bench::looked::{looked, told, Question};
 use bench::model::cic::Cic;
 use bench::model::indexed::{Index, Indexed, Register, NONE};
 use bench::model::{Controller, Machine, Step};
 use bench::program::Program;
+use bench::tally::Listed;
 use bench::trace::{play, PROGRAM_LIMIT};
-
-const CONTROL: u32 = 0x004;
-const STATUS_SET: u32 = 0x020;
-const STATUS_CLEAR: u32 = 0x024;
-const ENABLE_CLEAR: u32 = 0x02C;
-const GLOBAL: u32 = 0x080;
-const STATUS: u32 = 0x200;
-const ENABLES: u32 = 0x300;
-const CHANNELS: u32 = 0x400;
-const HOSTS: u32 = 0x800;
-const HOLD: u32 = 0x10;
 
 /// The index of a host.
 fn index(host: u32) -> u32 {
@@ -49,7 +45,7 @@ fn part(systems: usize, channels: usize, hosts: usize) -> Indexed {
     on
 }
 
-/// 10.1: the words up to and including the first that has one, or all.
+/// D37: the words up to and including the first that has one, or all.
 #[test]
 fn one_channel_is_searched_up_to_the_first_word_that_has_one() {
     for systems in [1_u32, 31, 32, 33, 64, 65, 1_023, 1_024] {
@@ -65,7 +61,7 @@ fn one_channel_is_searched_up_to_the_first_word_that_has_one() {
     }
 }
 
-/// 10.1: a word of zeros counts like any other, and so does one whose systems are disabled, not set, or of another
+/// D37: a word of zeros counts like any other, and so does one whose systems are disabled, not set, or of another
 /// channel.
 #[test]
 fn a_word_without_one_of_the_channel_counts() {
@@ -87,7 +83,7 @@ fn a_word_without_one_of_the_channel_counts() {
     assert_eq!(on.looked(index(0)), 5, "all of them");
 }
 
-/// 10.2: channels in order, each with its own count, up to and including the first that has one.
+/// D38: channels in order, each with its own count, up to and including the first that has one.
 #[test]
 fn the_channels_searched_are_added_up() {
     let mut on = part(96, 4, 3);
@@ -124,7 +120,7 @@ fn the_channels_searched_are_added_up() {
     assert_eq!(on.looked(index(1)), 3, "channel 3 is not searched");
 }
 
-/// 10.2: the largest count.
+/// D38: the largest count.
 #[test]
 fn the_largest_part_looks_at_8_192_words_at_most() {
     let mut on = part(1_024, 256, 1);
@@ -137,7 +133,7 @@ fn the_largest_part_looks_at_8_192_words_at_most() {
     assert_eq!(on.looked(GLOBAL), 255 * 32 + 1);
 }
 
-/// 10.3: a held read looks at nothing, be a number or none held; the other indices are searched as before.
+/// D39: a held read looks at nothing, be a number or none held; the other indices are searched as before.
 #[test]
 fn a_held_read_looks_at_nothing() {
     for pending in [false, true] {
@@ -160,7 +156,7 @@ fn a_held_read_looks_at_nothing() {
     }
 }
 
-/// 10.3 and 10.4: a read that is refused, one of another register, and one where the choice is off look at nothing.
+/// D39: a read that is refused, one of another register, and one where the choice is off look at nothing.
 #[test]
 fn only_an_index_that_is_there_is_searched() {
     let on = part(64, 2, 3);
@@ -178,7 +174,7 @@ fn only_an_index_that_is_there_is_searched() {
     assert_eq!(offsets.sum::<u32>(), 0);
 }
 
-/// 10.4: asking changes nothing, other kinds look at nothing, and the steps played are those of the limit.
+/// D39 and D40: asking changes nothing, other kinds look at nothing, and the steps played are those of the limit.
 #[test]
 fn a_question_is_about_the_controller_after_the_steps_played() {
     let mut script = Script::new(4, &[64, 1, 1, 0, 1]);
@@ -367,11 +363,7 @@ fn in_channel(cic: &Cic, channel: usize, asked: bool, slip: Slip) -> (u32, bool)
 /// The sweeps and so many random questions.
 fn compare_some(more: usize, other: impl FnMut(&Question) -> Outcome) -> Summary<Question> {
     let generator = Generator::new(3);
-    let numbers = 0..generator.sweeps() + more;
-    compare(
-        numbers.map(|number| (number, generator.question(number))),
-        other,
-    )
+    compare(generator.cases(0..generator.sweeps() + more), other)
 }
 
 fn with(slip: Slip) -> impl Fn(&Question) -> Outcome {
@@ -395,8 +387,7 @@ fn a_wrong_count_differs() {
         assert!(summary.differ < summary.compared, "{slip:?} is everywhere");
         let generator = Generator::new(4);
         let random = generator.sweeps()..generator.sweeps() + 4_000;
-        let questions = random.map(|number| (number, generator.question(number)));
-        let summary = compare(questions, with(slip));
+        let summary = compare(generator.cases(random), with(slip));
         assert!(summary.differ > 0, "{slip:?} is not found at random");
     }
 }
@@ -405,22 +396,15 @@ fn a_wrong_count_differs() {
 fn the_sweeps_reach_every_listed_item() {
     let summary = compare_some(0, |question| Ok(expected(question)));
     assert_eq!(summary.differ, 0);
-    let mut gaps = summary.coverage.table();
-    gaps.retain(|&(count, _)| count == 0);
-    assert_eq!(gaps, []);
+    assert_eq!(summary.coverage.gaps(), []);
 }
 
 #[test]
 fn what_is_counted_is_listed_and_listed_once() {
     let coverage: Coverage = compare_some(6_000, |question| Ok(expected(question))).coverage;
-    let mut listed = wanted();
-    for item in coverage.reached() {
-        assert!(listed.contains(&item), "{item:?} is counted and not listed");
-    }
-    let all = listed.len();
-    listed.sort();
-    listed.dedup();
-    assert_eq!(listed.len(), all);
+    assert_eq!(coverage.unlisted(), [], "counted and not listed");
+    assert_eq!(Coverage::listed_twice(), []);
+    let listed = Coverage::wanted();
     assert!((1..=32).all(|words| listed.contains(&Item::Words(Whose::Host, words))));
 }
 

@@ -2,16 +2,11 @@
 //! and so do some thousand random traces. The one that refuses bit 0 of DCR, as it was before, differs exactly where a
 //! trace writes it.
 
+use bench::generate::aic::{CLEAR, DCR, EOICR, IVR, SET};
 use bench::generate::Generator;
 use bench::model::aic::{Aic, Selection};
 use bench::model::{Answer, Controller, Machine, Recorded, Refusal, Step};
 use bench::trace::{play, Observer};
-
-const IVR: u32 = 0x100;
-const CLEAR: u32 = 0x128;
-const SET: u32 = 0x12C;
-const EOICR: u32 = 0x130;
-const DCR: u32 = 0x138;
 
 const LOOK: Step = Step::Read { offset: IVR };
 

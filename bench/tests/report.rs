@@ -11,9 +11,10 @@ mod wrong;
 use std::process::Command;
 
 use bench::compare::{compare, expected};
-use bench::report::coverage::{wanted, Coverage};
+use bench::report::coverage::Coverage;
 use bench::report::generate::{Counted, Generator};
 use bench::report::history::History;
+use bench::tally::Listed;
 use bench::trace::play;
 
 /// What the model keeps of a trace that is played up to a limit.
@@ -27,7 +28,7 @@ fn history(trace: &[u8], limit: u32) -> History {
 fn cases(seed: u64, more: usize) -> impl Iterator<Item = (usize, Counted)> {
     let generator = Generator::new(seed);
     let numbers = 0..generator.sweeps() + more;
-    numbers.map(move |number| (number, generator.counted(number)))
+    numbers.map(move |number| (number, generator.case(number)))
 }
 
 fn coverage(seed: u64, more: usize) -> Coverage {
@@ -66,25 +67,6 @@ fn a_batch_is_heard_and_the_exit_status_tells() {
 
 #[test]
 fn what_is_counted_is_listed_and_listed_once() {
-    let mut listed = wanted();
-    for item in coverage(2, 3_000).reached() {
-        assert!(listed.contains(&item), "{item:?} is counted and not listed");
-    }
-    let all = listed.len();
-    listed.sort();
-    listed.dedup();
-    assert_eq!(listed.len(), all);
-}
-
-#[test]
-fn a_trace_depends_on_seed_and_number_alone() {
-    let (one, same, other) = (Generator::new(5), Generator::new(5), Generator::new(6));
-    let first = one.sweeps();
-    let trace = |generator: &Generator, number| generator.counted(number).case.trace;
-    for number in [0, 3, first, first + 1, first + 77] {
-        assert_eq!(trace(&one, number), trace(&same, number));
-    }
-    assert_eq!(trace(&one, 3), trace(&other, 3));
-    let differ = (first..first + 20).filter(|&n| trace(&one, n) != trace(&other, n));
-    assert!(differ.count() > 15);
+    assert_eq!(coverage(2, 3_000).unlisted(), [], "counted and not listed");
+    assert_eq!(Coverage::listed_twice(), []);
 }

@@ -2,6 +2,8 @@
 //! spurious marks are in rules/marks.rs, those of the sources by level in rules/levels.rs, those of protect mode in
 //! rules/protect.rs, the AINTC's in aintc.rs.
 
+#[path = "shared/each_step.rs"]
+mod each_step;
 #[path = "rules/levels.rs"]
 mod levels;
 #[path = "rules/marks.rs"]
@@ -9,33 +11,19 @@ mod marks;
 #[path = "rules/protect.rs"]
 mod protect;
 
+use bench::generate::aic::{
+    CISR, CLEAR, DCR, DISABLE, ENABLE, EOICR, FFDR, FFER, FFSR, FVR, HIGH_LEVEL, IMR, IPR, ISR,
+    IVR, RISING_EDGE, SET, SPU,
+};
 use bench::listing::listing;
 use bench::model::aic::Aic;
 use bench::model::cic::Cic;
 use bench::model::core::CoreInterrupt;
 use bench::model::Refusal::{self, *};
-use bench::model::{Answer, Controller, Step};
+use bench::model::{Answer, Controller, Machine, Step};
 use bench::trace::{LONGEST, PROGRAM_LIMIT};
 
-const IVR: u32 = 0x100;
-const FVR: u32 = 0x104;
-const ISR: u32 = 0x108;
-const IPR: u32 = 0x10C;
-const IMR: u32 = 0x110;
-const CISR: u32 = 0x114;
-const ENABLE: u32 = 0x120;
-const DISABLE: u32 = 0x124;
-const CLEAR: u32 = 0x128;
-const SET: u32 = 0x12C;
-const EOICR: u32 = 0x130;
-const SPU: u32 = 0x134;
-const DCR: u32 = 0x138;
-const FFER: u32 = 0x140;
-const FFDR: u32 = 0x144;
-const FFSR: u32 = 0x148;
-
-const HIGH_LEVEL: u32 = 2 << 5;
-const RISING_EDGE: u32 = 3 << 5;
+use each_step::each_step;
 
 fn read(on: &mut impl Controller, offset: u32) -> Answer {
     on.step(Step::Read { offset })
@@ -70,6 +58,14 @@ fn refused<C: Controller + Clone + PartialEq>(on: &mut C, step: Step) -> Refusal
     let refusal = on.step(step).expect_err("the step is refused");
     assert!(*on == before, "a refused step changed something");
     refusal
+}
+
+/// The AIC of a play, if it is one.
+fn aic_of(machine: &Machine) -> Option<&Aic> {
+    match machine {
+        Machine::Aic(aic) => Some(aic),
+        _ => None,
+    }
 }
 
 /// An AIC with all internal sources enabled, vectors 0xA0 plus the source's number, and SPU 0x55.

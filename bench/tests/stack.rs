@@ -5,10 +5,11 @@ use std::process::Command;
 use bench::batch::Batch;
 use bench::compare::{compare, expected, Outcome, Subject, Summary, MOST_FAILURES};
 use bench::program::Program;
-use bench::stack::coverage::{wanted, Coverage};
+use bench::stack::coverage::Coverage;
 use bench::stack::generate::{Generator, Typed};
 use bench::stack::text;
 use bench::stack::Table;
+use bench::tally::Listed;
 
 /// How many tables .ci/checks/differential sends through the program.
 const THROUGH_THE_PROGRAM: usize = 250;
@@ -16,11 +17,7 @@ const THROUGH_THE_PROGRAM: usize = 250;
 /// The sweeps and so many random tables.
 fn compare_some(more: usize, other: impl FnMut(&Typed) -> Outcome) -> Summary<Typed> {
     let generator = Generator::new(3);
-    let numbers = 0..generator.sweeps() + more;
-    compare(
-        numbers.map(|number| (number, generator.typed(number))),
-        other,
-    )
+    compare(generator.cases(0..generator.sweeps() + more), other)
 }
 
 #[test]
@@ -28,22 +25,14 @@ fn the_sweeps_reach_every_listed_item() {
     let summary = compare_some(0, |typed| Ok(expected(typed)));
     assert_eq!(summary.differ, 0);
     assert!(summary.compared < THROUGH_THE_PROGRAM);
-    let mut gaps = summary.coverage.table();
-    gaps.retain(|&(count, _)| count == 0);
-    assert_eq!(gaps, []);
+    assert_eq!(summary.coverage.gaps(), []);
 }
 
 #[test]
 fn what_is_counted_is_listed_and_listed_once() {
     let coverage: Coverage = compare_some(3_000, |typed| Ok(expected(typed))).coverage;
-    let mut listed = wanted();
-    for item in coverage.reached() {
-        assert!(listed.contains(&item), "{item:?} is counted and not listed");
-    }
-    let all = listed.len();
-    listed.sort();
-    listed.dedup();
-    assert_eq!(listed.len(), all);
+    assert_eq!(coverage.unlisted(), [], "counted and not listed");
+    assert_eq!(Coverage::listed_twice(), []);
 }
 
 /// The line of a table by another figure; what is refused stays refused.
@@ -137,7 +126,7 @@ fn a_program_and_a_batch_are_fed_and_heard() {
     let program = Program::new(reference, &["--stack"]);
     let generator = Generator::new(3);
     for number in [0, 9, generator.sweeps() - 1, generator.sweeps() + 4] {
-        let typed = generator.typed(number).for_program();
+        let typed = generator.case(number).for_program();
         assert_eq!(program.ask(&typed.text), Ok(expected(&typed)));
     }
     let mut batch = Batch::new(Program::new(reference, &["--batch"]));

@@ -6,6 +6,7 @@
 
 use std::collections::HashSet;
 
+use bench::generate::aic::{CLEAR, DCR, DISABLE, ENABLE, FFDR, FFER, SET};
 use bench::model::aic::{Aic, Selection, ENTRIES, SOURCES};
 use bench::model::{Controller, Step};
 use bench::random::Random;
@@ -16,13 +17,6 @@ const IVR: Step = Step::Read { offset: 0x100 };
 const WRITE_IVR: Step = write(0x100, 0);
 const FVR: Step = Step::Read { offset: 0x104 };
 const EOICR: Step = write(0x130, 0);
-const ENABLE: u32 = 0x120;
-const DISABLE: u32 = 0x124;
-const CLEAR: u32 = 0x128;
-const SET: u32 = 0x12C;
-const DCR: u32 = 0x138;
-const FFER: u32 = 0x140;
-const FFDR: u32 = 0x144;
 
 const fn write(offset: u32, value: u32) -> Step {
     Step::Write { offset, value }

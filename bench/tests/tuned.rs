@@ -29,7 +29,7 @@ fn is_the_models(case: &Case) {
 #[test]
 fn it_lists_and_plays_as_the_model_does() {
     let generator = Generator::new(17);
-    let cases = (0..generator.sweeps() + 4_000).map(|number| (number, generator.case(number)));
+    let cases = generator.cases(0..generator.sweeps() + 4_000);
     let summary = compare(cases, Case::by_tuned);
     if let Some((number, case)) = summary.first {
         panic!("case {number} differs: {:?}", case.by_tuned());

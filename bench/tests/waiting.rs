@@ -14,6 +14,7 @@ mod levels_all_runs;
 
 use std::collections::{HashMap, HashSet};
 
+use bench::generate::aic::{CLEAR, DCR, DISABLE, ENABLE, FFDR, FFER, HIGH_LEVEL, RISING_EDGE, SET};
 use bench::model::aic::{Aic, Selection, Trigger, SOURCES};
 use bench::model::{Controller, Step};
 use bench::random::Random;
@@ -21,16 +22,6 @@ use bench::random::Random;
 const IVR: Step = Step::Read { offset: 0x100 };
 const WRITE_IVR: Step = write(0x100, 0);
 const EOICR: Step = write(0x130, 0);
-const ENABLE: u32 = 0x120;
-const DISABLE: u32 = 0x124;
-const CLEAR: u32 = 0x128;
-const SET: u32 = 0x12C;
-const DCR: u32 = 0x138;
-const FFER: u32 = 0x140;
-const FFDR: u32 = 0x144;
-
-const HIGH_LEVEL: u32 = 2 << 5;
-const RISING_EDGE: u32 = 3 << 5;
 
 const fn write(offset: u32, value: u32) -> Step {
     Step::Write { offset, value }

@@ -1,10 +1,12 @@
 //! Reads a transcript of calls on boards from standard input, replays it on the model and compares every answer.
 
-use std::io::{self, Read, Write};
+use std::io::{self, Read};
 use std::process::ExitCode;
 
 use bench::boards::coverage::Coverage;
 use bench::boards::replay;
+use bench::say;
+use bench::tally::Listed;
 
 const USAGE: &str = "\
 boards [LEAST] [--table] <transcript
@@ -15,13 +17,6 @@ boards [LEAST] [--table] <transcript
 Ends with 0 if every line could be read, every answer is the model's and all listed items were reached, else with 1, and
 with 2 if it was not asked properly.
 ";
-
-/// Prints a line. A reader that has gone away wants no more, and the exit status still tells.
-macro_rules! say {
-    ($($text:tt)*) => {{
-        let _ = writeln!(io::stdout(), $($text)*);
-    }};
-}
 
 fn main() -> ExitCode {
     let (mut least, mut table) = (1, false);

@@ -10,14 +10,16 @@ use bench::batch::Batch;
 use bench::compare::{
     compare, expected, first_difference, Outcome, Subject, Summary, MOST_FAILURES,
 };
-use bench::generate::{Case, Generator};
+use bench::generate::Case;
 use bench::hex;
-use bench::looked::generate::Generator as Asker;
 use bench::looked::Question;
 use bench::model::Kind;
+use bench::numbered::{Made, Numbered};
 use bench::program::Program;
-use bench::report::generate::{Counted, Generator as Counter};
-use bench::stack::generate::{Generator as Typist, Typed};
+use bench::report::generate::Counted;
+use bench::say;
+use bench::stack::generate::Typed;
+use bench::tally::Listed;
 
 const USAGE: &str = "\
 differential --program PATH [options] [-- ARGUMENTS]
@@ -42,13 +44,6 @@ differential --trace N [--stack | --figures | --looked] [--seed N]
 
 Ends with 0 if nothing differs and all listed items were reached, else with 1, and with 2 if it was not asked properly.
 ";
-
-/// Prints a line. A reader that has gone away wants no more, and the exit status still tells.
-macro_rules! say {
-    ($($text:tt)*) => {{
-        let _ = writeln!(io::stdout(), $($text)*);
-    }};
-}
 
 /// How long a smaller case is looked for when a case differs.
 const SHRINK_TIME: Duration = Duration::from_secs(10);
@@ -107,26 +102,23 @@ fn main() -> ExitCode {
         return wrong("--stack, --figures and --looked are not asked together");
     }
     if options.looked {
-        let asker = Asker::new(options.seed);
-        asked(&options, |number| asker.question(number))
+        asked::<Question>(&options)
     } else if options.stack {
-        let typist = Typist::new(options.seed);
-        asked(&options, |number| typist.typed(number))
+        asked::<Typed>(&options)
     } else if options.figures {
-        let counter = Counter::new(options.seed);
-        asked(&options, |number| counter.counted(number))
+        asked::<Counted>(&options)
     } else {
-        let generator = Generator::new(options.seed);
-        asked(&options, |number| generator.case(number))
+        asked::<Case>(&options)
     }
 }
 
 /// Does what is asked with the numbered cases.
-fn asked<S: Reported>(options: &Options, case: impl Fn(usize) -> S) -> ExitCode {
+fn asked<S: Reported>(options: &Options) -> ExitCode {
+    let generator = Numbered::<S>::new(options.seed);
     match (options.trace, options.way) {
         (Some(number), _) => {
             // A reader that has gone away wants no more.
-            let _ = io::stdout().write_all(case(number).input());
+            let _ = io::stdout().write_all(generator.case(number).input());
             ExitCode::SUCCESS
         }
         (None, None) => wrong("none of --program, --batch, --exports and --tuned is given"),
@@ -142,7 +134,7 @@ fn asked<S: Reported>(options: &Options, case: impl Fn(usize) -> S) -> ExitCode 
         (None, Some(Way::Program | Way::Tuned)) if options.figures => {
             wrong("--figures are asked with --exports or --batch")
         }
-        (None, Some(way)) => differential(case, way, options),
+        (None, Some(way)) => differential(&generator, way, options),
     }
 }
 
@@ -236,15 +228,12 @@ fn in_process<S: Subject>(_: &S) -> Outcome {
 }
 
 /// What is told of cases of a sort.
-trait Reported: Subject {
+trait Reported: Subject + Made {
     /// What they are.
     const MANY: &'static str;
 
     /// How much was compared, and of what.
     fn amount(summary: &Summary<Self>) -> String;
-
-    /// The listed items and how often each was reached.
-    fn items(coverage: &Self::Coverage) -> Vec<(u64, String)>;
 
     /// The case in short.
     fn told(&self) -> String;
@@ -263,10 +252,6 @@ impl Reported for Case {
         )
     }
 
-    fn items(coverage: &Self::Coverage) -> Vec<(u64, String)> {
-        named(coverage.table())
-    }
-
     fn told(&self) -> String {
         let shown = hex::print(start(&self.trace));
         format!("limit {}, trace: {shown}", self.limit)
@@ -280,10 +265,6 @@ impl Reported for Typed {
         format!("{} bytes of lines", summary.bytes)
     }
 
-    fn items(coverage: &Self::Coverage) -> Vec<(u64, String)> {
-        named(coverage.table())
-    }
-
     fn told(&self) -> String {
         format!("text: {}", start(&self.text).escape_ascii())
     }
@@ -294,10 +275,6 @@ impl Reported for Question {
 
     fn amount(summary: &Summary<Question>) -> String {
         format!("{} words looked at", summary.coverage.words)
-    }
-
-    fn items(coverage: &Self::Coverage) -> Vec<(u64, String)> {
-        named(coverage.table())
     }
 
     fn told(&self) -> String {
@@ -317,18 +294,9 @@ impl Reported for Counted {
         format!("{steps} steps, {handlers} handlers started, {waits} waits, started: {started}")
     }
 
-    fn items(coverage: &Self::Coverage) -> Vec<(u64, String)> {
-        named(coverage.table())
-    }
-
     fn told(&self) -> String {
         self.case.told()
     }
-}
-
-fn named(table: Vec<(u64, impl std::fmt::Debug)>) -> Vec<(u64, String)> {
-    let named = |(count, item)| (count, format!("{item:?}"));
-    table.into_iter().map(named).collect()
 }
 
 /// As much of a case as is shown; `--trace N` writes all.
@@ -337,12 +305,13 @@ fn start(bytes: &[u8]) -> &[u8] {
 }
 
 /// Compares, reports, and answers the exit status.
-fn differential<S: Reported>(case: impl Fn(usize) -> S, way: Way, options: &Options) -> ExitCode {
+fn differential<S: Reported>(generator: &Numbered<S>, way: Way, options: &Options) -> ExitCode {
     let begin = Instant::now();
     let mut other = Other::new(way, options);
     let count = options.count.unwrap_or(way.usual_count());
     let numbers = options.first..options.first + count;
-    let cases = numbers.map(|number| (number, way.adapt(case(number))));
+    let cases = generator.cases(numbers);
+    let cases = cases.map(|(number, case)| (number, way.adapt(case)));
     let summary = compare(cases, |case| other.ask(case));
     say!(
         "seed {}: {} {} compared, {} differ; {:.1} s; {}",
@@ -358,7 +327,7 @@ fn differential<S: Reported>(case: impl Fn(usize) -> S, way: Way, options: &Opti
     }
     report_difference(&summary, &mut other);
     let judged = options.first == 0 && summary.failed < MOST_FAILURES;
-    let gaps = report_items(&S::items(&summary.coverage), judged, options.table);
+    let gaps = report_items(&summary.coverage, judged, options.table);
     if summary.differ > 0 || (judged && gaps > 0) {
         ExitCode::FAILURE
     } else {
@@ -398,7 +367,8 @@ fn describe<S: Reported>(case: &S, other: &mut Other) {
 }
 
 /// Prints what was reached and what was not, and answers how many listed items were not.
-fn report_items(items: &[(u64, String)], judged: bool, all: bool) -> usize {
+fn report_items(coverage: &impl Listed, judged: bool, all: bool) -> usize {
+    let items = coverage.table();
     let gaps = items.iter().filter(|(count, _)| *count == 0);
     let missing = gaps.clone().count();
     say!(
@@ -408,12 +378,12 @@ fn report_items(items: &[(u64, String)], judged: bool, all: bool) -> usize {
         if judged { "" } else { " (not judged)" }
     );
     if judged {
-        gaps.for_each(|(_, item)| say!("  not reached: {item}"));
+        gaps.for_each(|(_, item)| say!("  not reached: {item:?}"));
     }
     if all {
         items
             .iter()
-            .for_each(|(count, item)| say!("  {count:>10}  {item}"));
+            .for_each(|(count, item)| say!("  {count:>10}  {item:?}"));
     }
     missing
 }

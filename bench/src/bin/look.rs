@@ -1,7 +1,7 @@
 //! Runs the programs that print waves and pictures on generated traces and windows, reads what they print, and compares
 //! every value, bar, box and number with the model, and then every byte.
 
-use std::io::{self, Read, Write};
+use std::io::{self, Read};
 use std::path::PathBuf;
 use std::process::ExitCode;
 use std::sync::atomic::{AtomicUsize, Ordering};
@@ -14,7 +14,7 @@ use bench::look::reached::{listed_of_pictures, listed_of_waves, Reached};
 use bench::look::{Generator, Window, TRACES, WINDOWS};
 use bench::program::Program;
 use bench::trace::PROGRAM_LIMIT;
-use bench::{picture, waves};
+use bench::{hex, picture, say, waves};
 
 const USAGE: &str = "\
 look --wave PATH --picture PATH [OPTION..] [-- WORD..]
@@ -34,13 +34,6 @@ else with 1, and with 2 if it was not asked properly.
 
 /// How long a smaller trace is looked for.
 const SEARCH: Duration = Duration::from_secs(20);
-
-/// Prints a line. A reader that has gone away wants no more, and the exit status still tells.
-macro_rules! say {
-    ($($text:tt)*) => {{
-        let _ = writeln!(io::stdout(), $($text)*);
-    }};
-}
 
 /// What was asked.
 struct Asked {
@@ -279,23 +272,22 @@ fn show_smaller(asked: &Asked, case: Case) {
     };
     let smaller = case.smaller(SEARCH, |case| why(case).is_some());
     for (which, case) in [("the first", &case), ("a smaller one", &smaller)] {
-        let bytes: Vec<String> = case.trace.iter().take(400).map(hex).collect();
-        say!("  {which} that differs: {}", bytes.join(" "));
+        say!("  {which} that differs: {}", start(&case.trace));
         say!("    {}", why(case).unwrap_or_default());
     }
 }
 
-fn hex(byte: &u8) -> String {
-    format!("{byte:02X}")
+/// As much of a trace as is shown.
+fn start(trace: &[u8]) -> String {
+    hex::print(&trace[..trace.len().min(400)])
 }
 
 fn compare_pictures(asked: &Asked, generator: &Generator) -> bool {
     let compare = |number: usize, tally: &mut Tally| {
         let window = generator.window(number);
         compare_picture(&asked.picture, &window, tally).map_err(|why| {
-            let bytes: Vec<String> = window.trace.iter().take(400).map(hex).collect();
             let (first, steps) = (&window.first, &window.steps);
-            format!("{why}\n    {first:?} {steps:?} of {}", bytes.join(" "))
+            format!("{why}\n    {first:?} {steps:?} of {}", start(&window.trace))
         })
     };
     let tally = on_all_processors(asked.windows, compare);

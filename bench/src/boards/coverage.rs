@@ -9,12 +9,12 @@ use std::collections::{BTreeMap, BTreeSet};
 use super::{Call, Reply, Sort};
 use crate::model::board::{Board, Wire};
 use crate::model::core::{Register, Side, IRQ_INPUTS};
+use crate::tally::{Listed, Tally};
 
-pub use self::listed::wanted;
 use self::reasons::{beyond, configured_beyond};
 
 /// Something that a transcript should have reached.
-#[derive(Clone, Copy, Debug, PartialEq, Eq, PartialOrd, Ord)]
+#[derive(Clone, Copy, Debug, PartialEq, Eq, PartialOrd, Ord, Hash)]
 pub enum Item {
     /// A call was made on a board of so many controllers.
     Controllers(usize),
@@ -59,7 +59,7 @@ pub enum Item {
 }
 
 /// What a wire leads to.
-#[derive(Clone, Copy, Debug, PartialEq, Eq, PartialOrd, Ord)]
+#[derive(Clone, Copy, Debug, PartialEq, Eq, PartialOrd, Ord, Hash)]
 pub enum Lead {
     Nothing,
     Pin,
@@ -81,7 +81,7 @@ impl Lead {
 }
 
 /// The side of an input, and whether it is configured.
-#[derive(Clone, Copy, Debug, PartialEq, Eq, PartialOrd, Ord)]
+#[derive(Clone, Copy, Debug, PartialEq, Eq, PartialOrd, Ord, Hash)]
 pub struct Spot {
     pub side: Side,
     pub used: bool,
@@ -100,7 +100,7 @@ impl Spot {
 }
 
 /// A limit of a call's numbers.
-#[derive(Clone, Copy, Debug, PartialEq, Eq, PartialOrd, Ord)]
+#[derive(Clone, Copy, Debug, PartialEq, Eq, PartialOrd, Ord, Hash)]
 pub enum Limit {
     /// The room of the board.
     Room,
@@ -113,7 +113,7 @@ pub enum Limit {
 }
 
 /// How far beyond its limit a number is.
-#[derive(Clone, Copy, Debug, PartialEq, Eq, PartialOrd, Ord)]
+#[derive(Clone, Copy, Debug, PartialEq, Eq, PartialOrd, Ord, Hash)]
 pub enum Far {
     /// The first one beyond.
     First,
@@ -123,7 +123,7 @@ pub enum Far {
 }
 
 /// Where a wire that is refused by 15 leads.
-#[derive(Clone, Copy, Debug, PartialEq, Eq, PartialOrd, Ord)]
+#[derive(Clone, Copy, Debug, PartialEq, Eq, PartialOrd, Ord, Hash)]
 pub enum Up {
     Same,
     Higher,
@@ -132,7 +132,7 @@ pub enum Up {
 /// The counters.
 #[derive(Clone, Debug, Default)]
 pub struct Coverage {
-    counts: BTreeMap<Item, u64>,
+    tally: Tally<Item>,
     boards: u64,
     calls: u64,
     unsound: BTreeSet<String>,
@@ -144,34 +144,9 @@ impl Coverage {
         self.boards
     }
 
-    /// How often an item was reached.
-    pub fn count(&self, item: Item) -> u64 {
-        self.counts.get(&item).copied().unwrap_or(0)
-    }
-
-    /// All that was reached.
-    pub fn reached(&self) -> impl Iterator<Item = Item> + '_ {
-        self.counts.keys().copied()
-    }
-
-    /// The listed items with their counts, the rarest first.
-    pub fn table(&self) -> Vec<(u64, Item)> {
-        let count = |item| (self.count(item), item);
-        let mut table: Vec<_> = wanted().into_iter().map(count).collect();
-        table.sort();
-        table
-    }
-
-    /// The listed items that were not reached.
-    pub fn gaps(&self) -> Vec<Item> {
-        let mut items = wanted();
-        items.retain(|&item| self.count(item) == 0);
-        items
-    }
-
     /// How often the items that pass were reached.
     fn sum(&self, passes: impl Fn(Item) -> bool) -> u64 {
-        let passed = self.counts.iter().filter(|&(&item, _)| passes(item));
+        let passed = self.tally.reached().filter(|&(item, _)| passes(item));
         passed.map(|(_, count)| count).sum()
     }
 
@@ -207,13 +182,15 @@ impl Coverage {
         lines
     }
 
-    /// The answers to the calls of a sort.
+    /// The answers to the calls of a sort, by their numbers.
     fn told_answers(&self, sort: Sort) -> String {
-        let answers = self.counts.iter().filter_map(|(&item, count)| match item {
+        let answers = self.tally.reached().filter_map(|(item, count)| match item {
             Item::Answered(asked, number) if asked == sort => Some((number, count)),
             _ => None,
         });
+        let answers: BTreeMap<u32, u64> = answers.collect();
         let words: Vec<String> = answers
+            .into_iter()
             .map(|(number, count)| match number {
                 0 => format!("{count} carried out"),
                 _ => format!("{count} refused by {number}"),
@@ -247,7 +224,7 @@ impl Coverage {
     }
 
     fn reach(&mut self, item: Item) {
-        *self.counts.entry(item).or_insert(0) += 1;
+        self.tally.reach(item);
     }
 
     /// Counts a situation if it is there.

@@ -8,13 +8,14 @@ use crate::model::aic::{Aic, Selection};
 use crate::model::Controller;
 use crate::random::Random;
 
+// Offsets of the map. The model takes nothing from here, so that tests can hold them against it.
 pub const VECTORS: u32 = 0x80;
 pub const IVR: u32 = 0x100;
 pub const FVR: u32 = 0x104;
 pub const ISR: u32 = 0x108;
 pub const IPR: u32 = 0x10C;
+pub const IMR: u32 = 0x110;
 pub const CISR: u32 = 0x114;
-const STATUS: [u32; 7] = [ISR, ISR, IPR, IPR, 0x110, CISR, 0x148];
 pub const ENABLE: u32 = 0x120;
 pub const DISABLE: u32 = 0x124;
 pub const CLEAR: u32 = 0x128;
@@ -24,7 +25,9 @@ pub const SPU: u32 = 0x134;
 pub const DCR: u32 = 0x138;
 pub const FFER: u32 = 0x140;
 pub const FFDR: u32 = 0x144;
+pub const FFSR: u32 = 0x148;
 const END: u32 = 0x14C;
+const STATUS: [u32; 7] = [ISR, ISR, IPR, IPR, IMR, CISR, FFSR];
 
 /// Types as they stand in a mode.
 pub const HIGH_LEVEL: u32 = 2 << 5;

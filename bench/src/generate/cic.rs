@@ -3,6 +3,7 @@
 use super::{bad_line, odd_access, Script};
 use crate::random::Random;
 
+// Offsets of the map. The model takes nothing from here, so that tests can hold them against it.
 pub const GLOBAL: u32 = 0x010;
 pub const RAW_SET: u32 = 0x200;
 pub const ENABLED_CLEAR: u32 = 0x280;

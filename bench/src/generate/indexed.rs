@@ -13,6 +13,7 @@ use crate::model::indexed::{Index, Indexed, NONE};
 use crate::model::Controller;
 use crate::random::Random;
 
+// Offsets of the map. The model takes nothing from here, so that tests can hold them against it.
 pub const CONTROL: u32 = 0x004;
 pub const GLOBAL_INDEX: u32 = 0x080;
 pub const HOST_INDEX: u32 = 0x900;

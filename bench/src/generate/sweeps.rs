@@ -5,6 +5,7 @@ mod levels;
 mod marks;
 mod protect;
 
+use super::aic::{HIGH_LEVEL, RISING_EDGE};
 use super::damage::spoil;
 use super::{indexed, long, Script, AINTC, INDEXED};
 use crate::model::Kind;
@@ -141,8 +142,7 @@ fn nesting_to_eight() -> Script {
     script.write(0x120, u32::MAX);
     for level in 0..8 {
         let source = 20 - level;
-        script.write(4 * source, 0x40 | level);
-        script.write(0x80 + 4 * source, 0xB000 + source);
+        marks::source(&mut script, source, HIGH_LEVEL, level);
         script.line(source, 1);
         script.read(0x100);
         script.read(0x108);
@@ -196,15 +196,28 @@ fn fast_side() -> Script {
     script
 }
 
+/// Four sources by edge with their priorities, each with a vector of its own.
+fn edge_sources(script: &mut Script, sources: [(u32, u32); 4]) {
+    for (source, priority) in sources {
+        script.write(4 * source, RISING_EDGE | priority);
+        script.write(0x80 + 4 * source, 0xC000 + source);
+    }
+}
+
+/// The last entry is closed and IVR read, so often.
+fn close_and_read(script: &mut Script, times: u32) {
+    for _ in 0..times {
+        script.write(0x130, 0);
+        script.read(0x100);
+    }
+}
+
 /// Forced and normal sources side by side: each side passes over the other's, whatever the priorities.
 fn both_sides() -> Script {
     let mut script = Script::new(0, &[0, 0]);
     script.write(0x080, 0xF0F0);
     script.write(0x134, 0x5050);
-    for (source, priority) in [(3, 1), (8, 6), (20, 2), (21, 0)] {
-        script.write(4 * source, 0x60 | priority);
-        script.write(0x80 + 4 * source, 0xC000 + source);
-    }
+    edge_sources(&mut script, [(3, 1), (8, 6), (20, 2), (21, 0)]);
     script.write(0x140, 0x100);
     script.write(0x12C, 0x10_0108);
     script.read(0x104);
@@ -217,10 +230,7 @@ fn both_sides() -> Script {
     script.write(0x128, 0x100);
     script.read(0x104);
     script.read(0x100);
-    for _ in 0..2 {
-        script.write(0x130, 0);
-        script.read(0x100);
-    }
+    close_and_read(&mut script, 2);
     script.write(0x12C, 0x20_0000);
     script.read(0x100);
     script.write(0x12C, 0x20_0000);
@@ -231,13 +241,8 @@ fn both_sides() -> Script {
 
 /// Lower and equal priorities wait, a changed mode does not lift an open handler, ties go to the lower number.
 fn waiting() -> Script {
-    let mut script = Script::new(0, &[0, 0]);
-    script.write(0x134, 0x5050);
-    script.write(0x120, u32::MAX);
-    for (source, priority) in [(4, 4), (5, 4), (6, 3), (7, 5)] {
-        script.write(4 * source, 0x60 | priority);
-        script.write(0x80 + 4 * source, 0xC000 + source);
-    }
+    let mut script = marks::opening();
+    edge_sources(&mut script, [(4, 4), (5, 4), (6, 3), (7, 5)]);
     for source in [5, 4, 6] {
         script.line(source, 1);
     }
@@ -252,10 +257,7 @@ fn waiting() -> Script {
     script.read(0x100);
     script.write(0x124, 0x80);
     script.read(0x108);
-    for _ in 0..4 {
-        script.write(0x130, 0);
-        script.read(0x100);
-    }
+    close_and_read(&mut script, 4);
     script
 }
 

@@ -1,14 +1,13 @@
 //! What the questions have reached, counted from the model alone; a listed item not reached is a gap.
 
-use std::collections::BTreeMap;
-
 use super::Question;
 use crate::model::indexed::{Index, Indexed, Register, NONE};
 use crate::model::{Access, Controller, Kind, Machine, Refusal};
+use crate::tally::{Listed, Tally};
 use crate::trace::Report;
 
 /// Something that a comparison should have reached. All but the last four are about an index that is not held.
-#[derive(Clone, Copy, Debug, PartialEq, Eq, PartialOrd, Ord)]
+#[derive(Clone, Copy, Debug, PartialEq, Eq, PartialOrd, Ord, Hash)]
 pub enum Item {
     /// In the channel that has one, so many words were looked at.
     Words(Whose, u32),
@@ -31,7 +30,7 @@ pub enum Item {
 }
 
 /// Whose index is asked for.
-#[derive(Clone, Copy, Debug, PartialEq, Eq, PartialOrd, Ord)]
+#[derive(Clone, Copy, Debug, PartialEq, Eq, PartialOrd, Ord, Hash)]
 pub enum Whose {
     Global,
     Host,
@@ -49,7 +48,7 @@ impl Whose {
 }
 
 /// In which word of its channel one was found.
-#[derive(Clone, Copy, Debug, PartialEq, Eq, PartialOrd, Ord)]
+#[derive(Clone, Copy, Debug, PartialEq, Eq, PartialOrd, Ord, Hash)]
 pub enum Place {
     First,
     Middle,
@@ -58,7 +57,7 @@ pub enum Place {
 }
 
 /// How many channels were searched.
-#[derive(Clone, Copy, Debug, PartialEq, Eq, PartialOrd, Ord)]
+#[derive(Clone, Copy, Debug, PartialEq, Eq, PartialOrd, Ord, Hash)]
 pub enum Channels {
     None,
     One,
@@ -73,32 +72,14 @@ const SIZES: [usize; 4] = [1, 32, 33, 1_024];
 /// The counters.
 #[derive(Default)]
 pub struct Coverage {
-    counts: BTreeMap<Item, u64>,
+    tally: Tally<Item>,
     /// The words of all answers together.
     pub words: u64,
 }
 
 impl Coverage {
-    /// How often an item was reached.
-    pub fn count(&self, item: Item) -> u64 {
-        self.counts.get(&item).copied().unwrap_or(0)
-    }
-
-    /// All that was reached, listed or not.
-    pub fn reached(&self) -> impl Iterator<Item = Item> + '_ {
-        self.counts.keys().copied()
-    }
-
-    /// The listed items with their counts, the rarest first.
-    pub fn table(&self) -> Vec<(u64, Item)> {
-        let items = wanted().into_iter();
-        let mut table: Vec<_> = items.map(|item| (self.count(item), item)).collect();
-        table.sort();
-        table
-    }
-
     fn reach(&mut self, item: Item) {
-        *self.counts.entry(item).or_insert(0) += 1;
+        self.tally.reach(item);
     }
 
     fn reach_if(&mut self, there: bool, item: Item) {
@@ -261,31 +242,38 @@ impl Coverage {
     }
 }
 
-/// Everything that a comparison has to reach.
-pub fn wanted() -> Vec<Item> {
-    let mut items = Vec::new();
-    for whose in Whose::ALL {
-        items.extend((1..=32).map(|words| Item::Words(whose, words)));
-        let places = [Place::First, Place::Middle, Place::Last, Place::Nowhere];
-        items.extend(places.map(|place| Item::Found(whose, place)));
-        let channels = [Channels::One, Channels::Several, Channels::Most];
-        items.extend(channels.map(|channels| Item::Searched(whose, channels)));
-        items.extend(SEARCHES.map(|situation| Item::Search(whose, situation)));
-        items.extend(HOLDS.map(|situation| Item::Held(whose, situation)));
+impl Listed for Coverage {
+    type Item = Item;
+
+    fn tally(&self) -> &Tally<Item> {
+        &self.tally
     }
-    items.extend(OF_A_HOST.map(|situation| Item::Search(Whose::Host, situation)));
-    items.push(Item::Searched(Whose::Host, Channels::None));
-    for systems in SIZES {
-        let places = [Place::First, Place::Last, Place::Nowhere];
-        items.extend(places.map(|place| Item::Systems(systems, place)));
+
+    fn wanted() -> Vec<Item> {
+        let mut items = Vec::new();
+        for whose in Whose::ALL {
+            items.extend((1..=32).map(|words| Item::Words(whose, words)));
+            let places = [Place::First, Place::Middle, Place::Last, Place::Nowhere];
+            items.extend(places.map(|place| Item::Found(whose, place)));
+            let channels = [Channels::One, Channels::Several, Channels::Most];
+            items.extend(channels.map(|channels| Item::Searched(whose, channels)));
+            items.extend(SEARCHES.map(|situation| Item::Search(whose, situation)));
+            items.extend(HOLDS.map(|situation| Item::Held(whose, situation)));
+        }
+        items.extend(OF_A_HOST.map(|situation| Item::Search(Whose::Host, situation)));
+        items.push(Item::Searched(Whose::Host, Channels::None));
+        for systems in SIZES {
+            let places = [Place::First, Place::Last, Place::Nowhere];
+            items.extend(places.map(|place| Item::Systems(systems, place)));
+        }
+        items.push(Item::Systems(1_024, Place::Middle));
+        let refusals = [Refusal::Misaligned, Refusal::NoRegister, Refusal::WriteOnly];
+        items.extend(refusals.map(Item::Refused));
+        let others = Kind::ALL.into_iter().filter(|&kind| kind != Kind::Indexed);
+        items.extend(others.map(Item::Other));
+        items.extend(FACTS.map(Item::Fact));
+        items
     }
-    items.push(Item::Systems(1_024, Place::Middle));
-    let refusals = [Refusal::Misaligned, Refusal::NoRegister, Refusal::WriteOnly];
-    items.extend(refusals.map(Item::Refused));
-    let others = Kind::ALL.into_iter().filter(|&kind| kind != Kind::Indexed);
-    items.extend(others.map(Item::Other));
-    items.extend(FACTS.map(Item::Fact));
-    items
 }
 
 const SEARCHES: [&str; 11] = [

@@ -3,57 +3,31 @@
 mod sweeps;
 
 use super::Question;
-use crate::generate::{in_any_form, tour_of, Generator as Traces, Script};
+use crate::generate::cic::{
+    CHANNEL_MAP, ENABLE_SET as ENABLE, GLOBAL as GLOBAL_ENABLE, HOST_MAP, RAW_SET as STATUS,
+};
+use crate::generate::indexed::{
+    CONTROL, ENABLE_CLEAR, GLOBAL_INDEX, HOST_INDEX, HOST_SET, STATUS_CLEAR, STATUS_SET,
+};
+use crate::generate::{in_any_form, random_case, tour_of, Script};
 use crate::model::Kind;
+use crate::numbered::{Made, Numbered};
 use crate::random::Random;
 use crate::trace::{pieces, PROGRAM_LIMIT};
 
-const CONTROL: u32 = 0x004;
-const GLOBAL_ENABLE: u32 = 0x010;
-const STATUS_SET: u32 = 0x020;
-const STATUS_CLEAR: u32 = 0x024;
-const ENABLE_CLEAR: u32 = 0x02C;
-const HOST_SET: u32 = 0x034;
-const GLOBAL_INDEX: u32 = 0x080;
-const STATUS: u32 = 0x200;
-const ENABLE: u32 = 0x300;
-const CHANNEL_MAP: u32 = 0x400;
-const HOST_MAP: u32 = 0x800;
-const HOST_INDEX: u32 = 0x900;
+/// Everything that can be made from one seed.
+pub type Generator = Numbered<Question>;
 
-/// Everything that can be made from one seed. The sweeps come first and are the same for every seed.
-pub struct Generator {
-    seed: u64,
-    sweeps: Vec<Question>,
-    traces: Traces,
-}
-
-impl Generator {
-    pub fn new(seed: u64) -> Generator {
-        Generator {
-            seed,
-            sweeps: sweeps::all(),
-            traces: Traces::new(seed),
-        }
+impl Made for Question {
+    fn sweeps() -> Vec<Question> {
+        sweeps::all()
     }
 
-    /// How many questions come before the first one that depends on the seed.
-    pub fn sweeps(&self) -> usize {
-        self.sweeps.len()
-    }
-
-    /// The question of a number; it depends on the seed and the number alone.
-    pub fn question(&self, number: usize) -> Question {
-        match self.sweeps.get(number) {
-            Some(question) => question.clone(),
-            None => self.random_question(number),
-        }
-    }
-
-    fn random_question(&self, number: usize) -> Question {
-        let random = &mut Random::for_item(self.seed, number as u64);
+    fn random(random: &mut Random) -> Question {
+        // The same numbers once more, for the trace that has this number among the listed ones.
+        let listed = &mut random.clone();
         let (name, trace) = match random.below(10) {
-            0 => ("any trace", self.traces.case(number).trace),
+            0 => ("any trace", random_case(listed).trace),
             1..=4 => {
                 let steps = random.within(0, 80);
                 let script = tour_of(random, Kind::Indexed, steps);
@@ -163,16 +137,10 @@ fn few(random: &mut Random, count: u32) -> u32 {
 #[cfg(test)]
 mod tests {
     use super::*;
+    use crate::numbered::tests::depends_on_seed_and_number_alone;
 
     #[test]
     fn a_question_depends_on_seed_and_number_alone() {
-        let (one, same, other) = (Generator::new(5), Generator::new(5), Generator::new(6));
-        let first = one.sweeps();
-        for number in [0, 3, first, first + 1, first + 77] {
-            assert_eq!(one.question(number), same.question(number));
-        }
-        assert_eq!(one.question(3), other.question(3));
-        let differ = (first..first + 20).filter(|&n| one.question(n) != other.question(n));
-        assert!(differ.count() > 15);
+        depends_on_seed_and_number_alone(|question: Question| question);
     }
 }

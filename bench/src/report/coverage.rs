@@ -1,15 +1,14 @@
 //! What the compared figures have reached, found in the model's own history; a listed item not reached is a gap.
 
-use std::collections::BTreeMap;
-
 use super::history::{End, History, Moment, Wait};
 use crate::generate::aic::{CLEAR, DISABLE, ENABLE, FFDR, FFER, IVR, SET};
 use crate::model::aic::{ENTRIES, SOURCES};
 use crate::model::{Kind, Refusal, Step};
+use crate::tally::{Listed, Tally};
 use crate::trace::{Report, PROGRAM_LIMIT};
 
 /// Something that a comparison should have reached.
-#[derive(Clone, Copy, Debug, PartialEq, Eq, PartialOrd, Ord)]
+#[derive(Clone, Copy, Debug, PartialEq, Eq, PartialOrd, Ord, Hash)]
 pub enum Item {
     /// A wait began by a step of this sort.
     Began(Cause),
@@ -34,7 +33,7 @@ pub enum Item {
 }
 
 /// What makes a source ask.
-#[derive(Clone, Copy, Debug, PartialEq, Eq, PartialOrd, Ord)]
+#[derive(Clone, Copy, Debug, PartialEq, Eq, PartialOrd, Ord, Hash)]
 pub enum Cause {
     /// The line of a level source.
     Level,
@@ -47,7 +46,7 @@ pub enum Cause {
 }
 
 /// What ends a wait, or that a source asks after its start.
-#[derive(Clone, Copy, Debug, PartialEq, Eq, PartialOrd, Ord)]
+#[derive(Clone, Copy, Debug, PartialEq, Eq, PartialOrd, Ord, Hash)]
 pub enum How {
     /// Its own start, by the read outside protect mode or by the write in it.
     Read,
@@ -62,14 +61,14 @@ pub enum How {
     Early,
 }
 
-#[derive(Clone, Copy, Debug, PartialEq, Eq, PartialOrd, Ord)]
+#[derive(Clone, Copy, Debug, PartialEq, Eq, PartialOrd, Ord, Hash)]
 pub enum Many {
     None,
     One,
     More,
 }
 
-#[derive(Clone, Copy, Debug, PartialEq, Eq, PartialOrd, Ord)]
+#[derive(Clone, Copy, Debug, PartialEq, Eq, PartialOrd, Ord, Hash)]
 pub enum Figure {
     Steps,
     Refused,
@@ -111,7 +110,7 @@ const ABOVE: [(Figure, u32); 8] = [
 ];
 
 const FACTS: [&str; 38] = [
-    // 11.1
+    // Y1
     "a wait began with a handler of its own open",
     "a wait began in protect mode",
     "a wait began with the mask on",
@@ -131,7 +130,7 @@ const FACTS: [&str; 38] = [
     "source 0 was pending and enabled while another was started",
     "a pending source was disabled while another was started",
     "a source waited, and nothing was started in all the trace",
-    // 11.2 and 11.3
+    // Y2 and Y3
     "a mark was opened in a wait",
     "a source was remembered in a wait of another",
     "a source was remembered in its own wait",
@@ -143,53 +142,60 @@ const FACTS: [&str; 38] = [
     "the most handlers were in a wait that had no end",
     "the most handlers were in an earlier wait than the last",
     "the most handlers were in a later wait than the first",
-    // 11.4
+    // Y4
     "of the most entries its handler was the last",
     "of the most entries some were above its handler",
     "of the most entries a mark was below its handler",
     "of the most entries a mark was above its handler",
     "two handlers of one source were open",
     "a source had more entries about it when it was started again",
-    // 11.6
+    // Y6
     "the limit was as many as the steps that there were",
     "a trace was ended early before its first step",
 ];
 
-/// All items that are to be reached.
-pub fn wanted() -> Vec<Item> {
-    let mut items: Vec<Item> = ALL_CAUSES.map(Item::Began).into();
-    for how in ALL_ENDS {
-        items.extend([Many::None, Many::One, Many::More].map(|many| Item::Ended(how, many)));
+impl Listed for Coverage {
+    type Item = Item;
+
+    fn tally(&self) -> &Tally<Item> {
+        &self.tally
     }
-    // An edge source does not ask when it has been started, and a level source has nothing to clear.
-    let served = |how: &How| !matches!(how, How::Read | How::Write | How::Clear);
-    items.extend(ALL_ENDS.into_iter().filter(served).map(Item::Served));
-    items.extend((1..SOURCES).map(Item::Waited));
-    items.extend((0..=12).map(Item::Most));
-    for entries in 1..=ENTRIES as u32 {
-        items.extend((1..SOURCES).map(|source| Item::Open(source, entries)));
+
+    fn wanted() -> Vec<Item> {
+        let mut items: Vec<Item> = ALL_CAUSES.map(Item::Began).into();
+        for how in ALL_ENDS {
+            items.extend([Many::None, Many::One, Many::More].map(|many| Item::Ended(how, many)));
+        }
+        // An edge source does not ask when it has been started, and a level source has nothing to clear.
+        let served = |how: &How| !matches!(how, How::Read | How::Write | How::Clear);
+        items.extend(ALL_ENDS.into_iter().filter(served).map(Item::Served));
+        items.extend((1..SOURCES).map(Item::Waited));
+        items.extend((0..=12).map(Item::Most));
+        for entries in 1..=ENTRIES as u32 {
+            items.extend((1..SOURCES).map(|source| Item::Open(source, entries)));
+        }
+        items.extend(ABOVE.map(|(figure, number)| Item::Above(figure, number)));
+        for kind in Kind::ALL {
+            items.extend([false, true].map(|refused| Item::Played(kind, refused)));
+            let early = [Refusal::StepLimit, Refusal::BadNumber, Refusal::UnknownKind];
+            items.extend(early.map(|refusal| Item::Early(Some(kind), refusal)));
+        }
+        let never_started = [
+            Refusal::BadNumber,
+            Refusal::UnknownKind,
+            Refusal::BadConfiguration,
+            Refusal::TraceTooLong,
+        ];
+        items.extend(never_started.map(|refusal| Item::Early(None, refusal)));
+        items.extend(FACTS.map(Item::Fact));
+        items
     }
-    items.extend(ABOVE.map(|(figure, number)| Item::Above(figure, number)));
-    for kind in Kind::ALL {
-        items.extend([false, true].map(|refused| Item::Played(kind, refused)));
-        let early = [Refusal::StepLimit, Refusal::BadNumber, Refusal::UnknownKind];
-        items.extend(early.map(|refusal| Item::Early(Some(kind), refusal)));
-    }
-    let never_started = [
-        Refusal::BadNumber,
-        Refusal::UnknownKind,
-        Refusal::BadConfiguration,
-        Refusal::TraceTooLong,
-    ];
-    items.extend(never_started.map(|refusal| Item::Early(None, refusal)));
-    items.extend(FACTS.map(Item::Fact));
-    items
 }
 
 /// The counters.
 #[derive(Default)]
 pub struct Coverage {
-    counts: BTreeMap<Item, u64>,
+    tally: Tally<Item>,
     steps: u64,
     handlers: u64,
     waits: u64,
@@ -207,32 +213,8 @@ impl Coverage {
         self.started[kind as usize]
     }
 
-    pub fn count(&self, item: Item) -> u64 {
-        self.counts.get(&item).copied().unwrap_or(0)
-    }
-
-    /// All that was reached, listed or not.
-    pub fn reached(&self) -> impl Iterator<Item = Item> + '_ {
-        self.counts.keys().copied()
-    }
-
-    /// The listed items with their counts, the rarest first.
-    pub fn table(&self) -> Vec<(u64, Item)> {
-        let count = |item| (self.count(item), item);
-        let mut table: Vec<_> = wanted().into_iter().map(count).collect();
-        table.sort();
-        table
-    }
-
-    /// The listed items that were not reached.
-    pub fn gaps(&self) -> Vec<Item> {
-        let mut items = wanted();
-        items.retain(|&item| self.count(item) == 0);
-        items
-    }
-
     fn reach(&mut self, item: Item) {
-        *self.counts.entry(item).or_insert(0) += 1;
+        self.tally.reach(item);
     }
 
     /// Counts a situation if it is there.

@@ -76,7 +76,7 @@ fn all(folder: &Path) -> io::Result<Vec<u8>> {
     let generator = Generator::new(11);
     let mut names = Vec::new();
     for number in 0..NAMES {
-        let trace = generator.counted(generator.sweeps() + number).case.trace;
+        let trace = generator.case(generator.sweeps() + number).case.trace;
         let name = format!("{number:04}.trace");
         put(folder, name.as_bytes(), &trace, &mut names)?;
     }

@@ -15,8 +15,9 @@ use super::{ending, Ending, Figures};
 use crate::batch::{figures_from_bytes, Request};
 use crate::compare::{Outcome, Subject};
 use crate::generate::damage::damaged;
-use crate::generate::{in_any_form, random_case, tour_of, Case, Generator as Listed, Script};
+use crate::generate::{in_any_form, random_case, tour_of, Case, Script};
 use crate::model::Kind;
+use crate::numbered::{Made, Numbered};
 use crate::random::Random;
 use crate::trace::{play, PROGRAM_LIMIT};
 
@@ -44,10 +45,6 @@ impl Subject for Counted {
 
     fn input(&self) -> &[u8] {
         &self.case.trace
-    }
-
-    fn room(&self) -> Option<usize> {
-        None
     }
 
     fn by_model(&self, coverage: &mut Coverage) -> Vec<u8> {
@@ -86,38 +83,26 @@ impl Subject for Counted {
     }
 }
 
-/// Everything that can be made from one seed. The sweeps come first and are the same for every seed.
-pub struct Generator {
-    seed: u64,
-    sweeps: Vec<Case>,
-    listed: Listed,
-}
+/// Everything that can be made from one seed.
+pub type Generator = Numbered<Counted>;
 
-impl Generator {
-    pub fn new(seed: u64) -> Generator {
-        Generator {
-            seed,
-            sweeps: sweeps::all(),
-            listed: Listed::new(seed),
-        }
-    }
-
-    /// How many traces come before the first one that depends on the seed.
-    pub fn sweeps(&self) -> usize {
-        self.sweeps.len() + self.listed.sweeps()
-    }
-
-    /// The trace of a number; it depends on the seed and the number alone.
-    pub fn counted(&self, number: usize) -> Counted {
-        let case = match self.sweeps.get(number) {
-            Some(case) => case.clone(),
-            None if number < self.sweeps() => self.listed.case(number - self.sweeps.len()),
-            None => random(&mut Random::for_item(self.seed, number as u64)),
-        };
+impl Counted {
+    fn new(case: Case) -> Counted {
         let room = None;
         Counted {
             case: Case { room, ..case },
         }
+    }
+}
+
+impl Made for Counted {
+    fn sweeps() -> Vec<Counted> {
+        let cases = sweeps::all().into_iter().chain(Case::sweeps());
+        cases.map(Counted::new).collect()
+    }
+
+    fn random(random: &mut Random) -> Counted {
+        Counted::new(random_trace(random))
     }
 }
 
@@ -131,7 +116,7 @@ enum Style {
 
 const STYLES: [(u32, Style); 3] = [(12, Style::Waits), (4, Style::Tour), (4, Style::Any)];
 
-fn random(random: &mut Random) -> Case {
+fn random_trace(random: &mut Random) -> Case {
     let steps = match random.below(10) {
         0..=2 => random.within(3, 20),
         3..=7 => random.within(20, 80),
@@ -174,5 +159,16 @@ fn limit(random: &mut Random, trace: &[u8]) -> u32 {
         3 => random.below(there() + 1),
         4 => u32::MAX,
         _ => PROGRAM_LIMIT,
+    }
+}
+
+#[cfg(test)]
+mod tests {
+    use super::*;
+    use crate::numbered::tests::depends_on_seed_and_number_alone;
+
+    #[test]
+    fn a_trace_depends_on_seed_and_number_alone() {
+        depends_on_seed_and_number_alone(|counted: Counted| counted.case.trace);
     }
 }

@@ -1,14 +1,13 @@
 //! What the compared tables have reached, counted from the model's own reading; a listed item not reached is a gap.
 
-use std::collections::BTreeMap;
-
 use super::text::{self, words, Slip, Word, NUMBERS};
 use super::{Fault, Row, Table, LEVELS, MOST_FRAME, MOST_PRIORITY, MOST_TYPE};
 use crate::model::aic::SOURCES;
+use crate::tally::{Listed, Tally};
 use crate::trace::LONGEST;
 
 /// Something that a comparison should have reached.
-#[derive(Clone, Copy, Debug, PartialEq, Eq, PartialOrd, Ord)]
+#[derive(Clone, Copy, Debug, PartialEq, Eq, PartialOrd, Ord, Hash)]
 pub enum Item {
     /// The figure had so many digits.
     Digits(usize),
@@ -29,7 +28,7 @@ pub enum Item {
 }
 
 /// How the frame that counts for a level came about.
-#[derive(Clone, Copy, Debug, PartialEq, Eq, PartialOrd, Ord)]
+#[derive(Clone, Copy, Debug, PartialEq, Eq, PartialOrd, Ord, Hash)]
 pub enum How {
     /// The level has no normal source, so it is the mark's.
     None,
@@ -44,7 +43,7 @@ pub enum How {
 }
 
 /// Whether a source can open an entry, and why not.
-#[derive(Clone, Copy, Debug, PartialEq, Eq, PartialOrd, Ord)]
+#[derive(Clone, Copy, Debug, PartialEq, Eq, PartialOrd, Ord, Hash)]
 pub enum Standing {
     Nought,
     Forced,
@@ -52,7 +51,7 @@ pub enum Standing {
 }
 
 /// A number with a limit of its own.
-#[derive(Clone, Copy, Debug, PartialEq, Eq, PartialOrd, Ord)]
+#[derive(Clone, Copy, Debug, PartialEq, Eq, PartialOrd, Ord, Hash)]
 pub enum Limited {
     Priority(Standing),
     Type(Standing),
@@ -61,14 +60,14 @@ pub enum Limited {
 }
 
 /// How far beyond its limit a number is.
-#[derive(Clone, Copy, Debug, PartialEq, Eq, PartialOrd, Ord)]
+#[derive(Clone, Copy, Debug, PartialEq, Eq, PartialOrd, Ord, Hash)]
 pub enum Far {
     ByOne,
     ByMore,
 }
 
 /// A sort of number in the order of the text.
-#[derive(Clone, Copy, Debug, PartialEq, Eq, PartialOrd, Ord)]
+#[derive(Clone, Copy, Debug, PartialEq, Eq, PartialOrd, Ord, Hash)]
 pub enum Field {
     Priority,
     Type,
@@ -106,7 +105,7 @@ impl Field {
 }
 
 /// How a number was typed.
-#[derive(Clone, Copy, Debug, PartialEq, Eq, PartialOrd, Ord)]
+#[derive(Clone, Copy, Debug, PartialEq, Eq, PartialOrd, Ord, Hash)]
 pub enum Form {
     Decimal,
     /// With a zero before another digit.
@@ -150,30 +149,12 @@ impl Form {
 /// The counters.
 #[derive(Default)]
 pub struct Coverage {
-    counts: BTreeMap<Item, u64>,
+    tally: Tally<Item>,
 }
 
 impl Coverage {
-    /// How often an item was reached.
-    pub fn count(&self, item: Item) -> u64 {
-        self.counts.get(&item).copied().unwrap_or(0)
-    }
-
-    /// All that was reached, listed or not.
-    pub fn reached(&self) -> impl Iterator<Item = Item> + '_ {
-        self.counts.keys().copied()
-    }
-
-    /// The listed items with their counts, the rarest first.
-    pub fn table(&self) -> Vec<(u64, Item)> {
-        let items = wanted().into_iter();
-        let mut table: Vec<_> = items.map(|item| (self.count(item), item)).collect();
-        table.sort();
-        table
-    }
-
     fn reach(&mut self, item: Item) {
-        *self.counts.entry(item).or_insert(0) += 1;
+        self.tally.reach(item);
     }
 
     /// Counts a situation if it is there.
@@ -360,33 +341,40 @@ fn numbers(table: &Table) -> Vec<(Limited, u32, u32)> {
     numbers
 }
 
-/// Everything that a comparison has to reach.
-pub fn wanted() -> Vec<Item> {
-    let mut items: Vec<Item> = (1..=6).map(Item::Digits).collect();
-    for level in 0..LEVELS {
-        let ways = [How::None, How::Mark, How::MarkTies, How::One, How::Tie];
-        items.extend(ways.map(|how| Item::Largest(level, how)));
-        let fast = [Standing::Nought, Standing::Forced];
-        items.extend(fast.map(|standing| Item::PassedOver(level, standing)));
+impl Listed for Coverage {
+    type Item = Item;
+
+    fn tally(&self) -> &Tally<Item> {
+        &self.tally
     }
-    for number in limited() {
-        items.push(Item::AtLimit(number));
-        items.extend([Far::ByOne, Far::ByMore].map(|far| Item::Beyond(number, far)));
+
+    fn wanted() -> Vec<Item> {
+        let mut items: Vec<Item> = (1..=6).map(Item::Digits).collect();
+        for level in 0..LEVELS {
+            let ways = [How::None, How::Mark, How::MarkTies, How::One, How::Tie];
+            items.extend(ways.map(|how| Item::Largest(level, how)));
+            let fast = [Standing::Nought, Standing::Forced];
+            items.extend(fast.map(|standing| Item::PassedOver(level, standing)));
+        }
+        for number in limited() {
+            items.push(Item::AtLimit(number));
+            items.extend([Far::ByOne, Far::ByMore].map(|far| Item::Beyond(number, far)));
+        }
+        let slips = [
+            Slip::Missing,
+            Slip::OtherCharacter,
+            Slip::NoDigit,
+            Slip::TooManyBits,
+        ];
+        for field in Field::NUMBERS {
+            items.extend(slips.map(|slip| Item::Misread(field, slip)));
+            let forms = Form::ALL.into_iter().filter(|&form| field.takes(form));
+            items.extend(forms.map(|form| Item::Typed(field, form)));
+        }
+        items.push(Item::Misread(Field::Behind, Slip::TooMany));
+        items.extend(FACTS.map(Item::Fact));
+        items
     }
-    let slips = [
-        Slip::Missing,
-        Slip::OtherCharacter,
-        Slip::NoDigit,
-        Slip::TooManyBits,
-    ];
-    for field in Field::NUMBERS {
-        items.extend(slips.map(|slip| Item::Misread(field, slip)));
-        let forms = Form::ALL.into_iter().filter(|&form| field.takes(form));
-        items.extend(forms.map(|form| Item::Typed(field, form)));
-    }
-    items.push(Item::Misread(Field::Behind, Slip::TooMany));
-    items.extend(FACTS.map(Item::Fact));
-    items
 }
 
 /// The numbers with limits, of sources of every standing.

@@ -12,6 +12,7 @@ use super::{line, needed, Row, Table, MOST_FRAME, MOST_PRIORITY, MOST_TYPE};
 use crate::batch::Request;
 use crate::compare::Subject;
 use crate::model::aic::SOURCES;
+use crate::numbered::{Made, Numbered};
 use crate::random::Random;
 use crate::trace::LONGEST;
 
@@ -69,35 +70,21 @@ impl Subject for Typed {
     }
 }
 
-/// Everything that can be made from one seed. The sweeps come first and are the same for every seed.
-pub struct Generator {
-    seed: u64,
-    sweeps: Vec<Vec<u8>>,
-}
+/// Everything that can be made from one seed.
+pub type Generator = Numbered<Typed>;
 
-impl Generator {
-    pub fn new(seed: u64) -> Generator {
-        Generator {
-            seed,
-            sweeps: sweeps::all(),
-        }
+impl Made for Typed {
+    fn sweeps() -> Vec<Typed> {
+        let typed = |text| Typed {
+            name: "sweep",
+            text,
+            room: None,
+        };
+        sweeps::all().into_iter().map(typed).collect()
     }
 
-    /// How many tables come before the first one that depends on the seed.
-    pub fn sweeps(&self) -> usize {
-        self.sweeps.len()
-    }
-
-    /// The table of a number; it depends on the seed and the number alone.
-    pub fn typed(&self, number: usize) -> Typed {
-        match self.sweeps.get(number) {
-            Some(text) => Typed {
-                name: "sweep",
-                text: text.clone(),
-                room: None,
-            },
-            None => random_typed(&mut Random::for_item(self.seed, number as u64)),
-        }
+    fn random(random: &mut Random) -> Typed {
+        random_typed(random)
     }
 }
 
@@ -298,18 +285,12 @@ fn harmed(random: &mut Random, mut text: Vec<u8>) -> Vec<u8> {
 #[cfg(test)]
 mod tests {
     use super::*;
+    use crate::numbered::tests::depends_on_seed_and_number_alone;
     use crate::stack::text;
 
     #[test]
     fn a_table_depends_on_seed_and_number_alone() {
-        let (one, same, other) = (Generator::new(5), Generator::new(5), Generator::new(6));
-        let first = one.sweeps();
-        for number in [0, 3, first, first + 1, first + 77] {
-            assert_eq!(one.typed(number).text, same.typed(number).text);
-        }
-        assert_eq!(one.typed(3).text, other.typed(3).text);
-        let differ = (first..first + 20).filter(|&n| one.typed(n).text != other.typed(n).text);
-        assert!(differ.count() > 15);
+        depends_on_seed_and_number_alone(|typed: Typed| typed.text);
     }
 
     #[test]

@@ -2,15 +2,11 @@
 //! and 256 hosts, with the hold mode off.
 
 use super::Workload;
+use crate::generate::cic::{CHANNEL_MAP, HOST_MAP};
+use crate::generate::indexed::{CONTROL, ENABLE_SET, GLOBAL_INDEX, HOST_INDEX, STATUS_SET};
 use crate::generate::Script;
 
-const CONTROL: u32 = 0x004;
-const STATUS_SET: u32 = 0x020;
-const ENABLE_SET: u32 = 0x028;
-const GLOBAL_INDEX: u32 = 0x080;
-const CHANNEL_MAP: u32 = 0x400;
-const HOST_MAP: u32 = 0x800;
-const LAST_HOST_INDEX: u32 = 0xCFC;
+const LAST_HOST_INDEX: u32 = HOST_INDEX + 4 * 255;
 
 /// One index and what is pending. The words are those that the definition of 02, 10/12 says.
 pub struct Look {

@@ -1,4 +1,4 @@
-//! The decided points 11.8 to 11.10: names, files and the text.
+//! The decided points Y8 to Y10: names, files and the text.
 
 use std::fs;
 use std::path::{Path, PathBuf};
@@ -30,7 +30,7 @@ fn reported(mut names: &[u8]) -> (Vec<u8>, Vec<u8>) {
     (text, sources)
 }
 
-/// 11.10, with the traces of its own example where they are there.
+/// Y10: each sort of line, byte for byte.
 #[test]
 fn the_text_is_the_decided_one() {
     let none = Figures {
@@ -65,7 +65,7 @@ fn the_text_is_the_decided_one() {
     assert_eq!(sources, expected.as_bytes());
 }
 
-/// 11.8 and 11.9: lines as they come, and what cannot be read.
+/// Y8 and Y9: lines as they come, and what cannot be read.
 #[test]
 fn each_line_is_a_name() {
     let folder = folder("lines");

@@ -1,5 +1,9 @@
-//! The decided points 11.1 to 11.7 and 11.11, by hand.
+//! The decided points Y1 to Y7 and Y11, by hand.
 
+use bench::generate::aic::{
+    CLEAR, DCR, DISABLE, ENABLE, EOICR, FFDR, FFER, HIGH_LEVEL as LEVEL, IVR, RISING_EDGE as EDGE,
+    SET,
+};
 use bench::generate::Script;
 use bench::model::Refusal;
 use bench::random::Random;
@@ -8,18 +12,6 @@ use bench::report::history::{End, History, Wait};
 use bench::report::totals::Totals;
 use bench::report::{figures, Counts, Figures};
 use bench::trace::PROGRAM_LIMIT;
-
-const IVR: u32 = 0x100;
-const ENABLE: u32 = 0x120;
-const DISABLE: u32 = 0x124;
-const CLEAR: u32 = 0x128;
-const SET: u32 = 0x12C;
-const EOICR: u32 = 0x130;
-const DCR: u32 = 0x138;
-const FFER: u32 = 0x140;
-const FFDR: u32 = 0x144;
-const LEVEL: u32 = 2 << 5;
-const EDGE: u32 = 3 << 5;
 
 /// An AIC of internal sources with low lines: 4 by level of priority 0, 5 by edge of priority 0, 6 by edge of priority
 /// 7, 7 by level of priority 7, enabled all, in five steps.
@@ -54,7 +46,7 @@ fn waited(script: &Script, source: usize) -> u32 {
     counts(script, source).waited
 }
 
-/// 11.1: from the step after which it is pending, enabled and not fast.
+/// Y1: from the step after which it is pending, enabled and not fast.
 #[test]
 fn a_wait_begins_with_the_step_that_makes_it_ask() {
     let script = &mut board();
@@ -71,7 +63,7 @@ fn a_wait_begins_with_the_step_that_makes_it_ask() {
     assert_eq!(waited(script, 4), 2);
 }
 
-/// 11.1: each of the three, last of them, begins it, and each ends it.
+/// Y1: each of the three, last of them, begins it, and each ends it.
 #[test]
 fn any_of_the_three_begins_and_ends_it() {
     type Act = fn(&mut Script);
@@ -120,7 +112,7 @@ fn any_of_the_three_begins_and_ends_it() {
     assert_eq!(waited(script, 5), 3);
 }
 
-/// 11.1: a write of its mode that leaves its type, and the mask, end nothing.
+/// Y1: a write of its mode that leaves its type, and the mask, end nothing.
 #[test]
 fn what_is_none_of_the_three_ends_nothing() {
     let script = &mut board();
@@ -137,7 +129,7 @@ fn what_is_none_of_the_three_ends_nothing() {
     assert_eq!(history(script).waits(4).len(), 1);
 }
 
-/// 11.1: after its start it is served while it goes on asking, also when its handler is closed and it is started again.
+/// Y1: after its start it is served while it goes on asking, also when its handler is closed and it is started again.
 #[test]
 fn it_is_served_while_its_line_is_still_high() {
     let script = &mut board();
@@ -167,7 +159,7 @@ fn it_is_served_while_its_line_is_still_high() {
     assert_eq!(waited(script, 4), 1);
 }
 
-/// 11.1: it may wait while a handler of its own is open.
+/// Y1: it may wait while a handler of its own is open.
 #[test]
 fn it_waits_while_its_own_handler_is_open() {
     let script = &mut board();
@@ -185,7 +177,7 @@ fn it_waits_while_its_own_handler_is_open() {
     );
 }
 
-/// 11.1: a source that is pending at reset waits only when it is enabled; nothing comes from the trace before.
+/// Y1: a source that is pending at reset waits only when it is enabled; nothing comes from the trace before.
 #[test]
 fn nothing_waits_at_reset() {
     let mut script = Script::new(0, &[0, 1 << 4]);
@@ -198,7 +190,7 @@ fn nothing_waits_at_reset() {
     assert_eq!(waited(&script, 4), 1);
 }
 
-/// 11.2: its own start does not count, also in the first step of a wait; a wait that ends otherwise counts, and one
+/// Y2: its own start does not count, also in the first step of a wait; a wait that ends otherwise counts, and one
 /// that has no end; the largest is the figure.
 #[test]
 fn the_largest_wait_counts_without_its_own_start() {
@@ -222,7 +214,7 @@ fn the_largest_wait_counts_without_its_own_start() {
     assert_eq!(history(script).waits(5).len(), 4);
 }
 
-/// 11.2 and 11.3: two sources that wait count the same handlers; a mark is none.
+/// Y2 and Y3: two sources that wait count the same handlers; a mark is none.
 #[test]
 fn a_mark_is_no_handler() {
     let script = &mut board();
@@ -246,7 +238,7 @@ fn a_mark_is_no_handler() {
     assert_eq!(started.iter().sum::<u32>(), 2);
 }
 
-/// 11.3: in protect mode the write is the start, of what was remembered.
+/// Y3: in protect mode the write is the start, of what was remembered.
 #[test]
 fn in_protect_mode_the_write_starts() {
     let script = &mut board();
@@ -269,7 +261,7 @@ fn in_protect_mode_the_write_starts() {
     assert_eq!((counts(script, 6).started, waited(script, 4)), (2, 2));
 }
 
-/// 11.4: all that is open, below and above it, marks included.
+/// Y4: all that is open, below and above it, marks included.
 #[test]
 fn the_most_entries_are_all_that_are_open() {
     let script = &mut board();
@@ -291,7 +283,7 @@ fn the_most_entries_are_all_that_are_open() {
     assert_eq!(entries(script), [4, 0, 4, 0]);
 }
 
-/// 11.5: source 0 is always fast; other kinds have steps alone.
+/// Y5: source 0 is always fast; other kinds have steps alone.
 #[test]
 fn source_0_and_other_kinds_have_zeros() {
     let mut script = Script::new(0, &[0, 0]);
@@ -312,7 +304,7 @@ fn source_0_and_other_kinds_have_zeros() {
     }
 }
 
-/// 11.6: a trace that ends early counts up to there.
+/// Y6: a trace that ends early counts up to there.
 #[test]
 fn an_early_end_counts_up_to_there() {
     let script = &mut board();
@@ -357,7 +349,7 @@ fn with(source: usize, started: u32) -> Figures {
     figures
 }
 
-/// 11.7: a sum that reaches the figure is kept; where one of 32 would pass it all of the trace is left out.
+/// Y7: a sum that reaches the figure is kept; where one of 32 would pass it all of the trace is left out.
 #[test]
 fn a_sum_that_would_pass_leaves_the_trace_out() {
     for source in 0..32 {
@@ -382,7 +374,7 @@ fn a_sum_that_would_pass_leaves_the_trace_out() {
     assert_eq!(totals.add(&with(3, u32::MAX)), Err(Refusal::BeyondTotal));
 }
 
-/// 11.7: the two largest numbers are no sums.
+/// Y7: the two largest numbers are no sums.
 #[test]
 fn the_largest_numbers_are_not_added() {
     let mut totals = Totals::default();
@@ -409,13 +401,13 @@ fn the_largest_numbers_are_not_added() {
     assert_eq!(totals.sources[9], together);
 }
 
-/// 11.11: the same traces in another order.
+/// Y11: the same traces in another order.
 #[test]
 fn another_order_gives_the_same() {
     let generator = Generator::new(4);
     let first = generator.sweeps();
     let mut traces: Vec<Figures> = (first..first + 200)
-        .map(|number| figures(&generator.counted(number).case.trace, PROGRAM_LIMIT).0)
+        .map(|number| figures(&generator.case(number).case.trace, PROGRAM_LIMIT).0)
         .collect();
     let total = |traces: &[Figures]| {
         let mut totals = Totals::default();

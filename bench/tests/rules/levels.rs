@@ -5,8 +5,7 @@ use super::*;
 
 use bench::generate::Generator;
 use bench::model::aic::{Register, Selection, SOURCES};
-use bench::model::{Machine, Recorded};
-use bench::trace::{play, Observer};
+use bench::trace::play;
 
 /// A word for each level, and a bit for each that is not 0.
 #[derive(Clone, Copy, Debug, PartialEq, Eq)]
@@ -49,7 +48,6 @@ impl Levels {
 /// Looks at every step of an AIC.
 #[derive(Default)]
 struct Watch {
-    before: Option<Aic>,
     moved: usize,
     started: usize,
 }
@@ -117,37 +115,23 @@ impl Watch {
     }
 }
 
-impl Observer for Watch {
-    fn started(&mut self, machine: &Machine) {
-        if let Machine::Aic(aic) = machine {
-            let none = Levels {
-                words: [0; 8],
-                any: 0,
-            };
-            assert_eq!(Levels::of(aic), none);
-        }
-    }
-
-    fn before(&mut self, machine: &Machine, _: Recorded) {
-        if let Machine::Aic(aic) = machine {
-            self.before = Some(Aic::clone(aic));
-        }
-    }
-
-    fn after(&mut self, machine: &Machine, _: u32, recorded: Recorded, answer: Answer) {
-        if let (Machine::Aic(after), Some(before)) = (machine, self.before.take()) {
-            self.look(&before, after, recorded.step, answer);
-        }
-    }
-}
-
 #[test]
 fn levels_say_irq_and_the_start_after_every_step() {
     let generator = Generator::new(5);
     let mut watch = Watch::default();
+    let none = Levels {
+        words: [0; 8],
+        any: 0,
+    };
     for number in 0..generator.sweeps() + 2_000 {
         let case = generator.case(number);
-        play(&case.trace, case.limit.min(2_000), &mut watch);
+        if let Some(Machine::Aic(aic)) = play(&case.trace, 0, &mut ()).machine {
+            assert_eq!(Levels::of(&aic), none);
+        }
+        let limit = case.limit.min(2_000);
+        each_step(&case.trace, limit, aic_of, |before, after, step, answer| {
+            watch.look(before, after, step, answer);
+        });
     }
     assert!(watch.moved > 10_000, "{} steps moved", watch.moved);
     assert!(watch.started > 2_000, "{} starts", watch.started);

@@ -4,8 +4,6 @@ use super::*;
 
 use bench::generate::Generator;
 use bench::model::aic::{Entry, ENTRIES, SOURCES};
-use bench::model::{Machine, Recorded};
-use bench::trace::{play, Observer};
 
 /// A mark at a level, or at none.
 pub fn mark(level: Option<u8>) -> Entry {
@@ -292,7 +290,6 @@ fn marks_are_no_handlers_that_start_before_a_waiting_source() {
 /// Looks at every step of a trace.
 #[derive(Default)]
 struct Watch {
-    before: Option<Aic>,
     starts: usize,
     closes: usize,
     marks: usize,
@@ -364,32 +361,18 @@ pub fn is_sound(entries: &[Entry]) {
     assert!(levels.windows(2).all(|pair| pair[0] < pair[1]));
 }
 
-impl Observer for Watch {
-    fn started(&mut self, _: &Machine) {
-        (self.starts, self.closes) = (0, 0);
-    }
-
-    fn before(&mut self, machine: &Machine, _: Recorded) {
-        if let Machine::Aic(aic) = machine {
-            self.before = Some(Aic::clone(aic));
-        }
-    }
-
-    fn after(&mut self, machine: &Machine, _: u32, recorded: Recorded, _: Answer) {
-        if let (Machine::Aic(after), Some(before)) = (machine, self.before.take()) {
-            self.counts(&before, after, recorded.step);
-            is_sound(after.entries());
-        }
-    }
-}
-
 #[test]
 fn entries_are_starts_less_closes_and_sound_after_every_step() {
     let generator = Generator::new(12);
     let mut watch = Watch::default();
     for number in generator.sweeps()..generator.sweeps() + 2_000 {
         let case = generator.case(number);
-        play(&case.trace, case.limit.min(400), &mut watch);
+        (watch.starts, watch.closes) = (0, 0);
+        let limit = case.limit.min(400);
+        each_step(&case.trace, limit, aic_of, |before, after, step, _| {
+            watch.counts(before, after, step);
+            is_sound(after.entries());
+        });
     }
     let (marks, handlers) = (watch.marks, watch.handlers);
     assert!(marks > 1_000, "{marks} marks");

@@ -5,8 +5,6 @@ use super::*;
 
 use bench::generate::Generator;
 use bench::model::aic::{Selection, SOURCES};
-use bench::model::{Machine, Recorded};
-use bench::trace::{play, Observer};
 
 /// DCR with the mode, with the mask, and with both.
 const PROTECT: u32 = 1;
@@ -449,7 +447,6 @@ fn software_for_the_mode_runs_outside_it() {
 /// Looks at every step of an AIC.
 #[derive(Default)]
 struct Watch {
-    before: Option<Aic>,
     looks: usize,
     starts: usize,
     marks: usize,
@@ -554,20 +551,6 @@ impl Watch {
     }
 }
 
-impl Observer for Watch {
-    fn before(&mut self, machine: &Machine, _: Recorded) {
-        if let Machine::Aic(aic) = machine {
-            self.before = Some(Aic::clone(aic));
-        }
-    }
-
-    fn after(&mut self, machine: &Machine, _: u32, recorded: Recorded, answer: Answer) {
-        if let (Machine::Aic(after), Some(before)) = (machine, self.before.take()) {
-            self.look(&before, after, recorded.step, answer);
-        }
-    }
-}
-
 #[test]
 fn what_is_remembered_is_sound_and_five_is_never_given() {
     let generator = Generator::new(6);
@@ -578,7 +561,10 @@ fn what_is_remembered_is_sound_and_five_is_never_given() {
             counts = watch.counts();
         }
         let case = generator.case(number);
-        play(&case.trace, case.limit.min(4_000), &mut watch);
+        let limit = case.limit.min(4_000);
+        each_step(&case.trace, limit, aic_of, |before, after, step, answer| {
+            watch.look(before, after, step, answer);
+        });
     }
     let random: [usize; 4] = std::array::from_fn(|n| watch.counts()[n] - counts[n]);
     println!(

@@ -38,6 +38,12 @@ pub fn those(property: impl Fn(usize) -> bool) -> u32 {
     found.fold(0, |word, n| word | 1 << n)
 }
 
+/// A level-sensitive source whose line is active.
+fn active_level(aic: &Aic, n: usize) -> bool {
+    let source = &aic.sources()[n];
+    !source.edge_triggered() && source.pending()
+}
+
 /// What no step of a run moves that rewrites no mode and no forcing.
 pub struct Modes {
     pub edge: u32,
@@ -126,10 +132,7 @@ impl Happened {
             Some(entry) if step == EOICR => entry.source.map(usize::from),
             _ => None,
         };
-        let hot = closed.filter(|&n| {
-            let source = &before.sources()[n];
-            !source.edge_triggered() && source.pending()
-        });
+        let hot = closed.filter(|&n| active_level(before, n));
         Happened {
             started: started(before, after),
             received,
@@ -234,6 +237,22 @@ fn window(watched: &Watched, outset: usize, k: usize, mut each: impl FnMut(&Side
     }
 }
 
+/// Which things were shown so far, now or before.
+struct Shown<const N: usize>([bool; N]);
+
+impl<const N: usize> Shown<N> {
+    fn see(&mut self, now: [bool; N]) {
+        (0..N).for_each(|n| self.0[n] |= now[n]);
+    }
+
+    /// Counts each thing that was shown once, in the figure at its place.
+    fn count(self, figures: [&mut usize; N]) {
+        for (figure, shown) in figures.into_iter().zip(self.0) {
+            *figure += usize::from(shown);
+        }
+    }
+}
+
 /// What many windows have shown. A window counts once for each thing, whichever of its beginnings shows it.
 #[derive(Debug, Default)]
 struct Tally {
@@ -265,7 +284,7 @@ impl Tally {
     /// Looks at the window of a source from an outset on; what must hold is asserted.
     fn window(&mut self, watched: &Watched, outset: usize, k: usize) {
         let normal = watched.modes.ahead[k] & !watched.modes.fast;
-        let mut shown = [false; 12];
+        let mut shown = Shown([false; 12]);
         let mut starts = 0;
         window(watched, outset, k, |sides| {
             let (cool, cool_normal) = (!sides.hot, !sides.hot_normal);
@@ -288,9 +307,9 @@ impl Tally {
                 sides.hot_normal && sides.starts > sides.normal(),
                 sides.hot && cool_normal,
             ];
-            (0..now.len()).for_each(|n| shown[n] |= now[n]);
+            shown.see(now);
         });
-        let figures = [
+        shown.count([
             &mut self.tight,
             &mut self.tight_normal,
             &mut self.sharper,
@@ -303,10 +322,7 @@ impl Tally {
             &mut self.premise_fails_normal,
             &mut self.broken_normal,
             &mut self.fast_hot,
-        ];
-        for (figure, shown) in figures.into_iter().zip(shown) {
-            *figure += usize::from(shown);
-        }
+        ]);
         self.windows += 1;
         self.behind_levels += usize::from(normal & !watched.modes.edge != 0);
         self.starts += starts as usize;
@@ -341,7 +357,7 @@ impl Alone {
         let due = i32::from(has(first.due, source));
         let extra = i32::from(first.remembered == Some(source));
         let (mut starts, mut gained, mut hot) = (0, 0, false);
-        let mut shown = [false; 6];
+        let mut shown = Shown([false; 6]);
         let after = watched.seen.iter().skip(outset + 1);
         for (happened, after) in watched.happened.iter().skip(outset).zip(after) {
             starts += i32::from(happened.started == Some(source));
@@ -358,19 +374,16 @@ impl Alone {
                 hot,
                 hot && starts > right,
             ];
-            (0..now.len()).for_each(|n| shown[n] |= now[n]);
+            shown.see(now);
         }
-        let figures = [
+        shown.count([
             &mut self.tight,
             &mut self.tight_of_level,
             &mut self.extra_needed,
             &mut self.twice,
             &mut self.premise_fails,
             &mut self.broken,
-        ];
-        for (figure, shown) in figures.into_iter().zip(shown) {
-            *figure += usize::from(shown);
-        }
+        ]);
         self.followed += 1;
     }
 }
@@ -401,10 +414,7 @@ impl Driver {
 
     fn close(&self, random: &mut Random, aic: &Aic) -> Step {
         let last = aic.entries().last().and_then(|entry| entry.source);
-        let active = last.filter(|&n| {
-            let source = &aic.sources()[usize::from(n)];
-            !source.edge_triggered() && source.pending()
-        });
+        let active = last.filter(|&n| active_level(aic, usize::from(n)));
         match active {
             Some(n) if random.below(10) < self.careful => {
                 let level = !aic.sources()[usize::from(n)].line;
@@ -545,8 +555,8 @@ fn behind_edges_alone_it_is_the_old_bound() {
     assert!(behind_edges > 10_000, "{behind_edges}");
 }
 
-/// Source 3 waits; 5 is level-sensitive and 6 edge-triggered, both ahead.
-fn three() -> Aic {
+/// Source 3 is to wait; 5 is level-sensitive and 6 edge-triggered, both ahead. Then come some steps.
+fn three(steps: &[Step]) -> Aic {
     let mut aic = Aic::new(0, 0);
     for (source, mode) in [
         (3, RISING_EDGE | 4),
@@ -556,6 +566,7 @@ fn three() -> Aic {
         put(&mut aic, write(4 * source, mode));
     }
     put(&mut aic, write(ENABLE, u32::MAX));
+    steps.iter().for_each(|&step| put(&mut aic, step));
     aic
 }
 
@@ -571,10 +582,7 @@ fn sides(aic: &mut Aic, steps: &[Step]) -> Sides {
 /// Two pending at the outset, a turn and a set command: four starts, and no more can be.
 #[test]
 fn the_bound_is_met_behind_a_level_and_an_edge() {
-    let mut aic = three();
-    for step in [write(SET, 1 << 3 | 1 << 6), line(5, 1)] {
-        put(&mut aic, step);
-    }
+    let mut aic = three(&[write(SET, 1 << 3 | 1 << 6), line(5, 1)]);
     let sides = sides(
         &mut aic,
         &[
@@ -599,10 +607,7 @@ fn the_bound_is_met_behind_a_level_and_an_edge() {
 /// A line that is active when its handler is closed starts it again: nothing accounts for that.
 #[test]
 fn the_premise_is_needed() {
-    let mut aic = three();
-    for step in [write(SET, 1 << 3), line(5, 1)] {
-        put(&mut aic, step);
-    }
+    let mut aic = three(&[write(SET, 1 << 3), line(5, 1)]);
     let sides = sides(&mut aic, &[IVR, EOICR, IVR, EOICR, IVR]);
     assert_eq!((sides.starts, sides.levels(), sides.normal()), (3, 1, 1));
     assert!(sides.hot);
@@ -611,10 +616,7 @@ fn the_premise_is_needed() {
 /// A handler of the level-sensitive source is open from before: it is pending, but nothing is due to it.
 #[test]
 fn an_open_handler_is_not_due_again() {
-    let mut aic = three();
-    for step in [line(5, 1), IVR, write(SET, 1 << 3)] {
-        put(&mut aic, step);
-    }
+    let mut aic = three(&[line(5, 1), IVR, write(SET, 1 << 3)]);
     let quiet = [IVR, EOICR, line(5, 0), EOICR];
     let sides = sides(&mut aic, &quiet);
     assert_eq!((sides.starts, sides.levels(), sides.normal()), (0, 1, 0));
@@ -624,16 +626,13 @@ fn an_open_handler_is_not_due_again() {
 /// Open at a level below its priority of now, the source is due once more.
 #[test]
 fn a_handler_below_its_priority_does_not_count() {
-    let mut aic = three();
-    for step in [
+    let mut aic = three(&[
         write(4 * 5, HIGH_LEVEL | 1),
         line(5, 1),
         IVR,
         write(4 * 5, HIGH_LEVEL | 5),
         write(SET, 1 << 3),
-    ] {
-        put(&mut aic, step);
-    }
+    ]);
     let sides = sides(&mut aic, &[IVR]);
     assert_eq!((sides.starts, sides.normal(), sides.due_by_any), (1, 1, 0));
 }
@@ -641,17 +640,14 @@ fn a_handler_below_its_priority_does_not_count() {
 /// In protect mode a source remembered at a lower level starts twice, though it is due but once.
 #[test]
 fn a_remembered_source_can_start_twice() {
-    let mut aic = three();
-    for step in [
+    let mut aic = three(&[
         write(DCR, 1),
         write(4 * 5, HIGH_LEVEL | 1),
         line(5, 1),
         IVR,
         write(4 * 5, HIGH_LEVEL | 5),
         write(SET, 1 << 3),
-    ] {
-        put(&mut aic, step);
-    }
+    ]);
     let sides = sides(&mut aic, &[WRITE_IVR, IVR, WRITE_IVR]);
     assert_eq!((sides.starts, sides.due, sides.extra), (2, 1, 1));
     assert_eq!((sides.levels(), sides.normal(), sides.hot), (2, 2, false));
@@ -660,11 +656,8 @@ fn a_remembered_source_can_start_twice() {
 /// Set commands to a level-sensitive source, repeats of its level and its turns to inactive are no gain.
 #[test]
 fn only_turns_to_active_are_gained_by_a_level_sensitive_source() {
-    let mut aic = three();
     let low = 2 << 5 | 5;
-    for step in [write(SET, 1 << 3), write(4 * 5, low)] {
-        put(&mut aic, step);
-    }
+    let mut aic = three(&[write(SET, 1 << 3), write(4 * 5, low)]);
     let steps = [
         write(SET, 1 << 5),
         line(5, 1),

@@ -125,34 +125,28 @@ fn largest_excess(board: &Board, counted: Count) -> ([i32; 2], [usize; 3]) {
     (largest, [records.len(), outsets, most.len()])
 }
 
+/// IVR is read while a level-sensitive source asks at a priority, which then has its own mode again.
+fn read_at(priority: u32, source: u32, mode: u32) -> [Step; 4] {
+    [
+        write(4 * source, HIGH_LEVEL | priority),
+        line(source, 1),
+        IVR,
+        write(4 * source, mode),
+    ]
+}
+
 /// Two sources: 5 is level-sensitive and ahead of 3. At first nothing is open, or a handler of 5 at a level below its
 /// priority or above it, or a mark and such a handler, or 5 is remembered at another level.
 fn two_sources() -> Board {
-    let lower: &[Step] = &[
-        write(4 * 5, HIGH_LEVEL | 1),
-        line(5, 1),
-        IVR,
-        write(4 * 5, HIGH_LEVEL | 5),
-    ];
-    let higher: &[Step] = &[
-        write(4 * 5, HIGH_LEVEL | 7),
-        line(5, 1),
-        IVR,
-        write(4 * 5, HIGH_LEVEL | 5),
-    ];
+    let read = |priority: u32| read_at(priority, 5, HIGH_LEVEL | 5);
+    let look = |priority: u32| [&[write(DCR, 1)], &read(priority)[..]].concat();
     let marked: &[Step] = &[IVR, line(5, 1), IVR, IVR];
-    let look = |priority: u32| {
-        [
-            write(DCR, 1),
-            write(4 * 5, HIGH_LEVEL | priority),
-            line(5, 1),
-            IVR,
-            write(4 * 5, HIGH_LEVEL | 5),
-        ]
-    };
     let modes = [(3, RISING_EDGE | 4), (5, HIGH_LEVEL | 5)];
     Board {
-        first: after_each(&modes, &[&[], lower, higher, marked, &look(1), &look(7)]),
+        first: after_each(
+            &modes,
+            &[&[], &read(1), &read(7), marked, &look(1), &look(7)],
+        ),
         steps: steps_on(&[5], &[3]),
         entries: 4,
     }
@@ -162,18 +156,12 @@ fn two_sources() -> Board {
 /// first nothing is open, or a handler of 5 below its priority.
 fn three_sources(modes: [(u32, u32); 3]) -> Board {
     let (second, mode) = modes[1];
-    let lower: &[Step] = &[
-        write(4 * second, HIGH_LEVEL | 1),
-        line(second, 1),
-        IVR,
-        write(4 * second, mode),
-    ];
     let of = |kind: u32| {
         let those = modes.iter().filter(move |(_, mode)| mode & !7 == kind);
         those.map(|&(source, _)| source).collect::<Vec<_>>()
     };
     Board {
-        first: after_each(&modes, &[&[], lower]),
+        first: after_each(&modes, &[&[], &read_at(1, second, mode)]),
         steps: steps_on(&of(HIGH_LEVEL), &of(RISING_EDGE)),
         entries: 3,
     }

@@ -131,7 +131,7 @@ pub record Promises : Type 0 where
   -- alone, and that only if it is edge-triggered and no source is forced (01, AIC, Fast side; 003, 27.7.4.3 and 27.7.4.5)
   pub fastRead : (s : Aic) (k : ℕ) → sound s ≡ true → k < 32 → fast s k ≡ true → pending s k ≡ true → bit (s .enabled) k ≡ true
       → Sets (read s 0x104) (vectorAt s 0) (s .memory) (withMemory s) (λ j. bit (s .memory) j && not (eqb j 0 && (edge s 0 && eqb (s .forced) 0)))
-  -- without one it answers SPU and changes nothing
+  -- without one it answers SPU (003, 27.8.6) and changes nothing (01, AIC, Fast side)
   pub fastSpurious : (s : Aic) → sound s ≡ true → ((k : ℕ) → k < 32 → fast s k ≡ true → pending s k ≡ true → bit (s .enabled) k ≡ false)
       → read s 0x104 ≡ answered s (s .spurious)
   -- where a source is forced, a read of FVR changes nothing at all (01, Slips; 003, 27.7.4.5)

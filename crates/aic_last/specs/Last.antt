@@ -1,4 +1,4 @@
--- The last open entry of an AIC, as a wave and a picture show it (01, AIC, Nesting; 02, 3/12).
+-- The last open entry of an AIC, as a wave and a picture show it (01, AIC, Normal side; 02, 3/12).
 use Prim.Native.Nat.{ℕ, _-_}
 use lib.Dec.{eqb}
 use Rattle.words.specs.Choice.{pick}

@@ -44,7 +44,8 @@ pub record Beginning (external lines : ℕ) (b : Begun) : Type 0 where
   pub agreeing : agrees (b .aic) (b .levels) ≡ true
 
 pub record Promises : Type 0 where
-  -- the table: of a byte b the highest level is 255 exactly if b is 0; else it is a bit of b, one of the eight, and no higher bit is set (02, 5/12)
+  -- the table: of a byte b the highest level is 255 exactly if b is 0; else it is a bit of b, one of the eight, and no higher bit is set (02, 5/12);
+  -- that the 256 entries of the code are `highestOf` stands in the contract of `highest`
   pub tableNone : (b : ℕ) → b < 256 → (highestOf b ≡ 255) ↔ (b ≡ 0)
   pub tableBit : (b : ℕ) → b < 256 → b ≢ 0 → (highestOf b < 8) × (bit b (highestOf b) ≡ true)
   pub tableHighest : (b p : ℕ) → b < 256 → b ≢ 0 → highestOf b < p → bit b p ≡ false
@@ -66,7 +67,8 @@ pub record Promises : Type 0 where
   -- a start is that of the record, with words and a byte that are 0 for every configuration, and they agree (02, 5/12; 01, AIC, Configuration)
   pub startIs : (external lines : ℕ) → Beginning external lines (start external lines)
   -- of a sound record and levels that agree every step answers the refusal, the value and the next record of the record alone, and the levels
-  -- after it are those of the next record (02, 5/12)
+  -- after it are those of the next record (02, 5/12); `stepWith` is defined by the step of the record alone: that the code by level answers the
+  -- same stands in the contracts of `aic_pair::step` and of `aic_parts`
   pub stepSame : (s : Aic) (l : Levels) (x : Step) → sound s ≡ true → agrees s l ≡ true
       → stepWith s l x ≡ record { refusal = aic.step s x .refusal; value = aic.step s x .value; aic = aic.step s x .aic; levels = levelsOf (aic.step s x .aic) }
   -- so they agree after it too, and the record is sound (02, 5/12)

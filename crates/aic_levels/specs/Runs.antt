@@ -10,7 +10,7 @@ use Rattle.aic_levels.specs.declared.Answer.{Answer}
 use Rattle.aic_levels.specs.Levels.{levelsOf}
 use Rattle.aic_levels.specs.Model.{stepWith, outputsWith}
 
--- of a record alone (01, Recorded traces)
+-- of a record alone (01, House trace)
 unfoldable pub runOf : Aic → List Step → List (alone.Answer × Signals)
 runOf s [] = []
 runOf s (x ∷ xs) = (aic.step s x, aic.outputs (aic.step s x .aic)) ∷ runOf (aic.step s x .aic) xs

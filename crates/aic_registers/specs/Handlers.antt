@@ -28,15 +28,15 @@ refused s n = record { refusal = n; value = 0; aic = s }
 abbrev pub forgotten : Aic → ℕ → Aic
 forgotten s k = withMemory s (withBit (s .memory) k false)
 
--- the memory of source k is cleared if it is edge-triggered
+-- the memory of source k is cleared if it is edge-triggered (003, 27.7.3.4 and 27.7.4.3)
 unfoldable pub spent : Aic → ℕ → Aic
 spent s k = pick (edge s k) (forgotten s k) s
 
--- an entry of source k is opened at a level, after those already open
+-- an entry of source k is opened at a level, after those already open (003, 27.7.3.2 and 27.7.3.4)
 unfoldable pub opened : Aic → ℕ → ℕ → Aic
 opened s k l = withHandlers s (set (s .source) (s .depth) k) (set (s .level) (s .depth) l) (s .depth + 1)
 
--- source k is started at a level: a handler is opened, and its memory is cleared if it is edge-triggered
+-- source k is started at a level: a handler is opened, and its memory is cleared if it is edge-triggered (003, 27.7.3.4)
 unfoldable pub startedAt : Aic → ℕ → ℕ → Aic
 startedAt s k l = opened (spent s k) k l
 
@@ -48,7 +48,7 @@ marked s = pick (ltb (s .depth) 8) (opened s 0 (levelBelow (s .level) (s .depth)
 unfoldable pub closedLast : Aic → Aic
 closedLast s = withHandlers s (set (s .source) (s .depth - 1) 0) (set (s .level) (s .depth - 1) 0) (s .depth - 1)
 
--- a write of EOICR, of any value: with no entry open it does nothing
+-- a write of EOICR, of any value (003, 27.7.3.4 and 27.8.15): with no entry open it does nothing (01, AIC, Normal side)
 unfoldable pub ended : Aic → Aic
 ended s = pick (eqb (s .depth) 0) s (closedLast s)
 
@@ -57,7 +57,7 @@ abbrev pub vectorAt : Aic → ℕ → ℕ
 vectorAt s k = getD (s .vector) k 0
 
 -- a read of IVR outside protect mode: the candidate ahead of all others starts, at the priority that it has now; without one SPU, and a mark is opened
--- (02, 3/12)
+-- (003, 27.7.3.1, 27.7.3.4 and 27.8.5; 02, 3/12)
 unfoldable pub ivrTaken : Aic → Answer
 ivrTaken s =
     pick (candidates s)
@@ -93,11 +93,11 @@ begun s =
 unfoldable pub ivrWritten : Aic → Aic
 ivrWritten s = pick (protects s) (begun s) s
 
--- the fast vector read clears the memory of source 0 if that is edge-triggered and no source is forced
+-- what the fast vector read leaves: the memory of an edge-triggered source 0 cleared, unless some source is forced (003, 27.7.4.3 and 27.7.4.5)
 unfoldable pub fastSpent : Aic → Aic
 fastSpent s = pick (eqb (s .forced) 0) (spent s 0) s
 
--- a read of FVR: vector 0, whichever source asks; with no fast source that asks SPU, and nothing changes
+-- a read of FVR: vector 0, whichever source asks; with no fast source that asks SPU, and nothing changes (003, 27.7.4.3, 27.7.4.5 and 27.8.6)
 unfoldable pub fvrRead : Aic → Answer
 fvrRead s = pick (fastAsks s) (answered (fastSpent s) (vectorAt s 0)) (answered s (s .spurious))
 

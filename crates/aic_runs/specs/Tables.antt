@@ -22,7 +22,7 @@ use Rattle.aic_runs.specs.Counted.{starts, startedBy, levelOf, recalls, 
 use Rattle.aic_runs.specs.Runs.{run, count, always, EachStart, owed, received, sumOver}
 use Rattle.aic_runs.specs.Worked.{tower, crowded, outset, wait, stale, staleWait}
 
--- what a step x counts as in the record s that it meets; refused, it counts as nothing (demand 3; AIC, Pending and Normal side)
+-- what a step x counts as in the record s that it meets; refused, it counts as nothing (demand 3; 01, AIC, Pending and Normal side)
 pub record Counts (s : Aic) (x : Step) : Type 0 where
   -- a start finds fewer than eight entries open: outside protect mode it is a read of IVR, in it a write of IVR, of any value, with something
   -- remembered (02, 3/12 and 9/12; 003, 27.7.3.1 and 27.7.5)

@@ -1,15 +1,16 @@
 -- Which source is ahead of which, and the one that is ahead of all other candidates.
 use Prim.Native.Nat.{ℕ, zero, suc, _+_, _*_, _<_}
-use mathlib.Core.Path.{_≡_, refl, sym, _∙_, subst}
-use mathlib.Core.Bool.{Bool, true, false, not, _&&_, _||_}
+use mathlib.Core.Path.{_≡_, refl, sym, subst}
+use mathlib.Core.Bool.{Bool, true, false, _&&_, _||_}
 use mathlib.Core.Logic.{_≢_, _⊎_, inl, inr, ⊎-elim}
 use native.Mathlib.Omega.{arith}
 use native.Mathlib.Decide.{ℕ-discrete, decLt}
 use lib.Dec.{eqb, ltb}
-use borrow.Author.Tests.{eqb-true, eq-eqb, ltb-true, ltb-false, lt-ltb, not-true}
+use borrow.Author.Tests.{ltb-true, ltb-false}
 use Rattle.words.specs.Counting.{lowestBelow}
-use Rattle.words.proofs.TruthLaws.{and-left, and-right, and-both, or-either, or-left, or-right, clash, not-holds, told}
-use Rattle.words.proofs.CountingLaws.{any-some, some-any, any-fails, all-at, at-all, Lowest, lowest-found}
+use Rattle.words.proofs.TruthLaws.{and-left, and-right, and-both, clash, told}
+use Rattle.words.proofs.CountingLaws.{any-some, some-any, any-fails, Lowest, lowest-found}
+use Rattle.words.proofs.OrderLaws.{lower-is, is-lower, Ranks, never, through, either, one-way, others-is, is-others}
 use Rattle.aic_record.specs.declared.Aic.{Aic}
 use Rattle.aic_record.specs.Mode.{priority}
 use Rattle.aic_record.specs.Sound.{noLevel, levelBelow, over}
@@ -23,24 +24,13 @@ Ahead s a b = (priority s b < priority s a) ⊎ ((priority s a ≡ priority s b)
 
 pub ahead-is : (s : Aic) (a b : ℕ) → ahead s a b ≡ true → Ahead s a b
 unfolding ahead
-ahead-is s a b h =
-    ⊎-elim (λ (e : ltb (priority s b) (priority s a) ≡ true). inl (ltb-true (priority s b) (priority s a) e))
-    (λ (e : (eqb (priority s a) (priority s b) && ltb a b) ≡ true).
-    inr (eqb-true (priority s a) (priority s b) (and-left _ (ltb a b) e), ltb-true a b (and-right (eqb (priority s a) (priority s b)) _ e)))
-    (or-either (ltb (priority s b) (priority s a)) (eqb (priority s a) (priority s b) && ltb a b) h)
+ahead-is s a b = lower-is (priority s b) (priority s a) (priority s a) (priority s b) a b
 
 pub is-ahead : (s : Aic) (a b : ℕ) → Ahead s a b → ahead s a b ≡ true
 unfolding ahead
-is-ahead s a b (inl l) = or-left (eqb (priority s a) (priority s b) && ltb a b) (lt-ltb (priority s b) (priority s a) l)
-is-ahead s a b (inr (e, l)) =
-    or-right (ltb (priority s b) (priority s a)) (and-both (eq-eqb (priority s a) (priority s b) e) (lt-ltb a b l))
+is-ahead s a b = is-lower (priority s b) (priority s a) (priority s a) (priority s b) a b
 
 -- one comparison, for sources below 32
-pub ahead-lt : (s : Aic) (a b : ℕ) → a < 32 → ahead s a b ≡ true → priority s b * 32 + a < priority s a * 32 + b
-ahead-lt s a b l h =
-    ⊎-elim (λ (p : priority s b < priority s a). omega arith) (λ (p : (priority s a ≡ priority s b) × (a < b)). omega (arith, p .0, p .1))
-    (ahead-is s a b h)
-
 pub lt-ahead : (s : Aic) (a b : ℕ) → b < 32 → priority s b * 32 + a < priority s a * 32 + b → ahead s a b ≡ true
 lt-ahead s a b l h = go (decLt (priority s b) (priority s a))
   where
@@ -48,34 +38,23 @@ lt-ahead s a b l h = go (decLt (priority s b) (priority s a))
     go (yes p) = is-ahead s a b (inl p)
     go (no p) = is-ahead s a b (inr (omega arith, omega arith))
 
--- no source is ahead of itself
+-- the equation read the other way round
+turned : {x y : ℕ} {A B : Type 0} → A ⊎ ((x ≡ y) × B) → A ⊎ ((y ≡ x) × B)
+turned (inl l) = inl l
+turned (inr (e, l)) = inr (sym e, l)
+
+-- it is an order by ranks
+ranks : (s : Aic) → Ranks (priority s) (ahead s)
+ranks s = record { is = λ a b h. turned (ahead-is s a b h); so = λ a b h. is-ahead s a b (turned h) }
+
 pub ahead-irreflexive : (s : Aic) (a : ℕ) → ahead s a a ≡ false
-ahead-irreflexive s a =
-    not-holds (ahead s a a)
-    (λ h. ⊎-elim (λ (p : priority s a < priority s a). omega arith) (λ (p : (priority s a ≡ priority s a) × (a < a)). omega (arith, p .1)) (ahead-is s a a h))
+ahead-irreflexive s = never (ranks s)
 
 pub ahead-transitive : (s : Aic) (a b c : ℕ) → ahead s a b ≡ true → ahead s b c ≡ true → ahead s a c ≡ true
-ahead-transitive s a b c h g = go (ahead-is s a b h) (ahead-is s b c g)
-  where
-    go : Ahead s a b → Ahead s b c → ahead s a c ≡ true
-    go (inl p) (inl q) = is-ahead s a c (inl (omega arith))
-    go (inl p) (inr (e, q)) = is-ahead s a c (inl (omega arith))
-    go (inr (d, p)) (inl q) = is-ahead s a c (inl (omega arith))
-    go (inr (d, p)) (inr (e, q)) = is-ahead s a c (inr (d ∙ e, omega arith))
+ahead-transitive s = through (ranks s)
 
--- of two different sources one is ahead
 pub ahead-total : (s : Aic) (a b : ℕ) → a ≢ b → (ahead s a b ≡ true) ⊎ (ahead s b a ≡ true)
-ahead-total s a b d = go (decLt (priority s b) (priority s a)) (decLt (priority s a) (priority s b)) (decLt a b)
-  where
-    go : Dec (priority s b < priority s a) → Dec (priority s a < priority s b) → Dec (a < b) → (ahead s a b ≡ true) ⊎ (ahead s b a ≡ true)
-    go (yes p) q r = inl (is-ahead s a b (inl p))
-    go (no p) (yes q) r = inr (is-ahead s b a (inl q))
-    go (no p) (no q) (yes r) = inl (is-ahead s a b (inr (omega arith, r)))
-    go (no p) (no q) (no r) = inr (is-ahead s b a (inr (omega arith, omega arith)))
-
--- and not the other
-pub ahead-asymmetric : (s : Aic) (a b : ℕ) → ahead s a b ≡ true → ahead s b a ≡ false
-ahead-asymmetric s a b h = not-holds (ahead s b a) (λ g. clash (ahead-transitive s a b a h g) (ahead-irreflexive s a))
+ahead-total s = either (ranks s)
 
 -- ---- the candidate ahead of all others
 
@@ -87,25 +66,12 @@ pub record Foremost (s : Aic) (n j : ℕ) : Type 0 where
 
 pub foremost-is : (s : Aic) (j : ℕ) → j < 32 → foremost s j ≡ true → Foremost s 32 j
 unfolding foremost
-foremost-is s j l h = record { below = l; fit = and-left (candidate s j) _ h; first = rest }
-  where
-    rest : (i : ℕ) → i < 32 → candidate s i ≡ true → i ≢ j → ahead s j i ≡ true
-    rest i m c d =
-        ⊎-elim (λ (e : not (candidate s i) ≡ true). clash c (not-true (candidate s i) e))
-        (λ (e : (eqb i j || ahead s j i) ≡ true).
-        ⊎-elim (λ (q : eqb i j ≡ true). absurd (d (eqb-true i j q))) (λ (q : ahead s j i ≡ true). q) (or-either (eqb i j) (ahead s j i) e))
-        (or-either (not (candidate s i)) (eqb i j || ahead s j i)
-        (all-at 32 (λ i. not (candidate s i) || (eqb i j || ahead s j i)) (and-right (candidate s j) _ h) i m))
+foremost-is s j l h =
+    record { below = l; fit = and-left (candidate s j) _ h; first = others-is 32 (candidate s) (ahead s) j (and-right (candidate s j) _ h) }
 
 pub is-foremost : (s : Aic) (j : ℕ) → Foremost s 32 j → foremost s j ≡ true
 unfolding foremost
-is-foremost s j f =
-    and-both (f .fit) (at-all 32 (λ i. not (candidate s i) || (eqb i j || ahead s j i)) (λ i l. go i l (told (candidate s i)) (ℕ-discrete i j)))
-  where
-    go : (i : ℕ) → i < 32 → (candidate s i ≡ true) ⊎ (candidate s i ≡ false) → Dec (i ≡ j) → (not (candidate s i) || (eqb i j || ahead s j i)) ≡ true
-    go i l (inr e) d = rw e
-    go i l (inl c) (yes e) = or-right (not (candidate s i)) (or-left (ahead s j i) (eq-eqb i j e))
-    go i l (inl c) (no d) = or-right (not (candidate s i)) (or-right (eqb i j) (f .first i l c d))
+is-foremost s j f = and-both (f .fit) (is-others 32 (candidate s) (ahead s) j (f .first))
 
 -- what holds below n and of n holds below n + 1
 below-next : (P : ℕ → Type 0) (n : ℕ) → ((i : ℕ) → i < n → P i) → P n → (i : ℕ) → i < suc n → P i
@@ -179,7 +145,7 @@ chosen-one s j f = go (chosen-is s (some-any 32 (candidate s) j (f .below) (f .f
     go : Foremost s 32 (chosen s) → Dec (chosen s ≡ j) → chosen s ≡ j
     go g (yes e) = e
     go g (no d) =
-        clash (f .first (chosen s) (g .below) (g .fit) d) (ahead-asymmetric s (chosen s) j (g .first j (f .below) (f .fit) (λ e. d (sym e))))
+        clash (f .first (chosen s) (g .below) (g .fit) d) (one-way (ranks s) (chosen s) j (g .first j (f .below) (f .fit) (λ e. d (sym e))))
 
 -- without a candidate it is 32
 pub chosen-none : (s : Aic) → candidates s ≡ false → chosen s ≡ 32

@@ -9,7 +9,7 @@ use Rattle.aic_record.specs.Sound.{levelBelow, over}
 use Rattle.aic_sources.specs.Pending.{asking}
 use Rattle.aic_sources.specs.Fast.{fast, masked}
 
--- pending, enabled and not fast
+-- pending, enabled and not fast (003, 27.7.3.1)
 unfoldable pub waiting : Aic → ℕ → Bool
 waiting s k = asking s k && not (fast s k)
 
@@ -17,7 +17,7 @@ waiting s k = asking s k && not (fast s k)
 unfoldable pub above : Aic → ℕ → Bool
 above s p = ltb (s .depth) 8 && over (levelBelow (s .level) (s .depth)) p
 
--- a candidate waits, and its priority may start over the open entries
+-- a candidate waits, and its priority may start over the open entries (01, AIC, Normal side; 003, 27.7.3.1)
 unfoldable pub candidate : Aic → ℕ → Bool
 candidate s k = waiting s k && above s (priority s k)
 
@@ -25,11 +25,11 @@ candidate s k = waiting s k && above s (priority s k)
 unfoldable pub ahead : Aic → ℕ → ℕ → Bool
 ahead s a b = ltb (priority s b) (priority s a) || (eqb (priority s a) (priority s b) && ltb a b)
 
--- source k is a candidate, and is ahead of every other candidate
+-- source k is a candidate, and is ahead of every other candidate (01, AIC, Normal side; 003, 27.7.3.1 and 27.7.3.4)
 unfoldable pub foremost : Aic → ℕ → Bool
 foremost s k = candidate s k && allBelow 32 (λ j. not (candidate s j) || (eqb j k || ahead s k j))
 
--- some source is a candidate
+-- some source is a candidate (003, 27.7.3.1)
 unfoldable pub candidates : Aic → Bool
 candidates s = anyBelow 32 (candidate s)
 

@@ -164,23 +164,13 @@ pub fn chosen_source(s: Aic) -> u32
     chosen_among(s, asking_word(s))
 }
 
-// A test as a number.
-fn one_of(b: bool) -> u32
-    ensures { λ r. ⌜ r ≡ one b ⌝ }
-{
-    if b {
-        return 1;
-    }
-    0
-}
-
 // The two outputs from one look at the sources, active unless debug control masks them: bit 0 is FIQ, bit 1 IRQ.
 pub fn output_bits(s: Aic) -> u32
     ensures { λ r. ⌜ r ≡ one (fiq s) + 2 * one (irq s) ⌝ }
 {
     let asks = asking_word(s);
     let clear = !words::has(s.debug, 1);
-    let fast = one_of(clear & fast_among(s, asks));
-    let normal = one_of(clear & (chosen_among(s, asks) < 32));
+    let fast = words::one_if(clear & fast_among(s, asks));
+    let normal = words::one_if(clear & (chosen_among(s, asks) < 32));
     fast + 2 * normal
 }

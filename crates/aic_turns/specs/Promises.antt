@@ -35,9 +35,10 @@ pub record Promises : Type 0 where
   -- line, where it is level-sensitive, is inactive whenever one of its handlers is closed; what it is due in the end is left over (02, 9/12 and 12/12)
   pub perSourceAny : (s : Aic) (i : ℕ) (xs : List Step) → Shaped s → i < 32 → fast s i ≡ false → always steady s xs ≡ true → always (cool i) s xs ≡ true
       → count (startsOf i) s xs + due (run s xs) i ≤ due s i + gained i s xs + one (recalls i s)
-  -- while source k waits, if each level-sensitive source ahead has its line inactive at the moment one of its handlers is closed, the starts of others
-  -- are at most the sources ahead that are pending at the outset, plus the edges and set commands of the edge-triggered ones, plus the times that the
-  -- line of a level-sensitive one turned active, and one more if a source other than k is remembered at the outset (02, 9/12 and 12/12)
+  -- while source k waits, if no level-sensitive source ahead has its line active when a handler of it is closed, at most so many handlers of others are
+  -- started: one for each source ahead that is pending before the first step, one for each edge and each set command of an edge-triggered one ahead, one
+  -- for each time that the line of a level-sensitive one ahead turned active, and one more if a source other than k is remembered before the first step
+  -- (02, 9/12 and 12/12)
   pub boundLevels : (s : Aic) (k : ℕ) (xs : List Step) → Shaped s → k < 32 → always (waits k) s xs ≡ true → Cool s (aheadOf s k) xs
       → count (startsOther k) s xs ≤ sumOver (aheadOf s k) (λ i. owed s i + gained i s xs) + one (carries k s)
   -- the right side by its four figures: pending, edges, commands, turns

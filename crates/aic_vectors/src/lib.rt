@@ -51,16 +51,6 @@ pub fn is_fiq(
     !words::has(debug, 1) & fast_asks(lines, enabled, memory, forced, edges, low)
 }
 
-// A test as a number.
-fn one_of(b: bool) -> u32
-    ensures { λ r. ⌜ r ≡ one b ⌝ }
-{
-    if b {
-        return 1;
-    }
-    0
-}
-
 // CISR: bit 0 is FIQ, bit 1 IRQ.
 pub fn output_bits(
     lines: u32,
@@ -76,8 +66,8 @@ pub fn output_bits(
 ) -> u32
     ensures { λ r. ⌜ ((external spurious : ℕ) (mode vector source words class : List ℕ) (seen : Seen) → Kept (aicOf external lines enabled memory forced spurious debug mode vector source (now (level .entry)) depth seen) words any edges low class → r ≡ one (fiq (aicOf external lines enabled memory forced spurious debug mode vector source (now (level .entry)) depth seen)) + 2 * one (irq (aicOf external lines enabled memory forced spurious debug mode vector source (now (level .entry)) depth seen))) ⌝ }
 {
-    let fast = one_of(is_fiq(lines, enabled, memory, forced, debug, edges, low));
-    let normal = one_of(is_irq(debug, level, depth, any));
+    let fast = words::one_if(is_fiq(lines, enabled, memory, forced, debug, edges, low));
+    let normal = words::one_if(is_irq(debug, level, depth, any));
     fast + 2 * normal
 }
 

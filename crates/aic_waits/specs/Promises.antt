@@ -42,9 +42,9 @@ pub record Promises : Type 0 where
   -- the entries of the records before and after a step tell whose handler it starts
   pub entriesTell : (s : Aic) (x : Step) → Shaped s → sound s ≡ true → startedFrom (s .depth) (step s x .aic) ≡ startedBy s x
   -- over a stretch in which a source waits throughout, and is not started, n handlers of others having been started before in this wait, what is
-  -- counted is what demand 3 bounds (01, demand 3; 02, 11/12)
+  -- counted is what demand 3 bounds (demand 3; 02, 11/12)
   pub stretch : (s : Aic) (i n m : ℕ) (xs : List Step) → Waits i s xs → n ≤ m → waitMost i (n + 2) m s xs ≡ max m (n + count (startsOther i) s xs)
-  -- so the bound of demand 3 holds of it, from the step that begins the wait on (01, demand 3, third sentence; 02, 9/12)
+  -- so the bound of demand 3 holds of it, from the step that begins the wait on (demand 3, third sentence; 02, 9/12)
   pub bounded : (s : Aic) (k : ℕ) (xs : List Step) → k < 32 → always (waits k) s xs ≡ true → Waits k s xs → EdgeTriggered s (aheadOf s k)
       → waitMost k 2 0 s xs ≤ sumOver (aheadOf s k) (λ i. owed s i + received i s xs) + one (carries k s)
   -- the figure is the largest over all waits, whether they end in a start or not: some wait has it, if it is not 0, and none has more (02, 11/12)
@@ -65,7 +65,7 @@ pub record Promises : Type 0 where
   -- source 0 is always fast: all its figures are 0 (01, AIC, Fast side)
   pub zero : (external lines : ℕ) (xs : List Step)
       → (startedOf 0 (reset external lines) xs ≡ 0) × (waitedOf 0 (reset external lines) xs ≡ 0) × (entriesOf 0 (reset external lines) xs ≡ 0)
-  -- never more than eight entries are open (01, demand 3)
+  -- never more than eight entries are open (demand 3)
   pub eight : (external lines i : ℕ) (xs : List Step) → entriesOf i (reset external lines) xs ≤ 8
   -- on the worked run: the level-sensitive source 2, started twice, waits once while another is started; 4 is started twice and never waits for another;
   -- 7 waits to the end, and four handlers are started meanwhile; 9 is fast till the end (02, 11/12)

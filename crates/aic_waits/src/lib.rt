@@ -1,6 +1,6 @@
 // What each source of the AT91 controller did over a run: handlers started, handlers started while it waited, entries open while it was open (02, 11/12).
 ghost use mathlib.Core.Path.{_≡_};
-ghost use Prim.Native.Nat.{_+_, _-_, _<_, max};
+ghost use Prim.Native.Nat.{_+_, _-_, _<_};
 ghost use Rattle.words.specs.Choice.{pick};
 ghost use Rattle.words.specs.Counting.{one, upto};
 ghost use Rattle.words.specs.Word.{bit, wordOf};
@@ -107,8 +107,8 @@ fn figures_at<'a>(
     let w = wait_next(wait[at], words::has(waits, i), own, other);
     started[at] = more_if(started[at], own);
     wait[at] = w;
-    waited[at] = larger(waited[at], less_two(w));
-    entries[at] = larger(entries[at], depth_if(words::has(opens, i), depth));
+    waited[at] = words::larger(waited[at], less_two(w));
+    entries[at] = words::larger(entries[at], depth_if(words::has(opens, i), depth));
 }
 
 // ---- the numbers of one source
@@ -154,12 +154,6 @@ fn less_two(n: u32) -> u32
         return 0;
     }
     n - 2
-}
-
-fn larger(a: u32, b: u32) -> u32
-    ensures { λ r. ⌜ r ≡ max a b ⌝ }
-{
-    if a < b { b } else { a }
 }
 
 fn depth_if(t: bool, n: u32) -> u32

@@ -53,7 +53,7 @@ pub record Promises : Type 0 where
   pub pendingFree : (s : Aintc) (t : ℕ) (f : Bool) (k : ℕ) → pending (withThreshold s t) f k ≡ pending s f k
   -- a priority passes exactly if it is 0 or a lower number than the threshold (000, 4.3.1.2.2)
   pub passesIs : (s : Aintc) (p : ℕ) → (passes s p ≡ true) ↔ ((p ≡ 0) ⊎ (p < s .threshold))
-  -- a threshold of 0 lets pass what 1 does, and one above 127 every input's priority (000, 4.3.1.2.2)
+  -- a threshold of 0 lets pass what 1 does, and one above 127 every input's priority (000, 4.3.1.2.2, of 0 and of 0xFF; of 0x80 to 0xFE K11)
   pub thresholdZero : (s : Aintc) (p : ℕ) → passes (withThreshold s 0) p ≡ passes (withThreshold s 1) p
   pub thresholdOff : (s : Aintc) (k : ℕ) → 128 ≤ s .threshold → passes s (priority s k) ≡ true
   -- an input is eligible exactly if it is pending there and its priority passes (000, 4.3.1.2.2)

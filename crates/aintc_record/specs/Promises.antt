@@ -40,7 +40,7 @@ pub record Fresh (s : Aintc) : Type 0 where
   pub routes : (k : ℕ) → routeAt s k ≡ 0
   -- the threshold is disabled (000, figure 4-16; 4.3.1.2.2)
   pub threshold : s .threshold ≡ 0xFF
-  -- every other bit is 0 (000, figures 4-6, 4-7, 4-12 and 4-13)
+  -- every other bit is 0 (000, figures 4-7, 4-12 and 4-13), the revision by K5
   pub revision : s .revision ≡ 0
   pub guarded : s .guarded ≡ false
   pub autoidle : s .autoidle ≡ false

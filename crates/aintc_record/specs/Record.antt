@@ -59,7 +59,7 @@ nobody = record { active = false; number = 0; priority = 0 }
 abbrev pub chosenAt : ℕ → ℕ → Chosen
 chosenAt k p = record { active = true; number = k; priority = p }
 
--- what a reset leaves, with the lines at these levels: all masked, none soft, all of priority 0 to IRQ, no threshold, none chosen (000, figures 4-6 to 4-25)
+-- what a reset leaves, with the lines at these levels: all masked, none soft, all of priority 0 to IRQ, no threshold, none chosen (000, figures 4-7 to 4-25), and revision 0 (K5)
 unfoldable pub reset : List ℕ → Aintc
 reset ws = record { lines = ws; soft = replicate 4 0; masks = replicate 4 0xFFFFFFFF; routes = replicate 128 0; threshold = 0xFF; revision = 0; guarded = false; autoidle = false; turbo = false; funcidle = false; irq = nobody; fiq = nobody }
 

@@ -1,22 +1,12 @@
 // What a read of each register answers, where nothing refuses it.
 ghost use mathlib.Core.Path.{_≡_};
 ghost use Prim.Native.Nat.{_<_};
-ghost use Rattle.words.specs.Counting.{one};
 ghost use Rattle.aintc_registers.specs.Registers.{shown, idleBits, singleRead, bankRead, readAt};
 use super::map;
 use aintc_record::Aintc;
 
 // What the number and the priority registers read with none chosen: the flag in bits 31:7, and 0.
 const SPURIOUS: u32 = 0xFFFFFF80;
-
-pub fn one_of(b: bool) -> u32
-    ensures { λ r. ⌜ r ≡ one b ⌝ }
-{
-    if b {
-        return 1;
-    }
-    0
-}
 
 // With one chosen its number, or the priority that it had when it was chosen; else the flag.
 pub fn shown(active: bool, n: u8) -> u32
@@ -31,7 +21,7 @@ pub fn shown(active: bool, n: u8) -> u32
 fn idle_bits(s: Aintc) -> u32
     ensures { λ r. ⌜ r ≡ idleBits s ⌝ }
 {
-    2 * one_of(s.turbo) + one_of(s.funcidle)
+    2 * words::one_if(s.turbo) + words::one_if(s.funcidle)
 }
 
 // The registers that stand alone; 0 where there is none to read.
@@ -40,11 +30,11 @@ fn read_single(s: Aintc, offset: u32) -> u32
 {
     match offset {
         map::REVISION => s.revision as u32,
-        map::SYSCONFIG => one_of(s.autoidle),
+        map::SYSCONFIG => words::one_if(s.autoidle),
         map::SYSSTATUS => 1,
         map::SIR_IRQ => shown(s.irq.active, s.irq.number),
         map::SIR_FIQ => shown(s.fiq.active, s.fiq.number),
-        map::PROTECTION => one_of(s.guarded),
+        map::PROTECTION => words::one_if(s.guarded),
         map::IDLE => idle_bits(s),
         map::IRQ_PRIORITY => shown(s.irq.active, s.irq.priority),
         map::FIQ_PRIORITY => shown(s.fiq.active, s.fiq.priority),

@@ -7,7 +7,6 @@ ghost use Rattle.words.specs.Word.{bit};
 ghost use Rattle.aintc_record.specs.Record.{withThreshold, withRevision, withGuarded, withAutoidle, withIdle};
 ghost use Rattle.aintc_search.specs.Parts.{chosenOf, aintcOf};
 use aintc_record::Aintc;
-use aintc_registers::reads::one_of;
 
 pub fn threshold_of(w: u32) -> u8
     ensures { λ r. ⌜ r ≡ w % 0x100 ⌝ }
@@ -49,9 +48,9 @@ pub fn with_idle(w: u32, v: u32) -> u32
 pub fn settings_of(s: Aintc) -> u32
     ensures { λ r. ⌜ ((ir fi : ℕ) → chosenOf ir ≡ s .irq → chosenOf fi ≡ s .fiq → aintcOf (s .lines) (s .soft) (s .masks) (s .routes) r ir fi ≡ s) ⌝ }
 {
-    let flags = one_of(s.guarded)
-        + 2 * one_of(s.autoidle)
-        + 4 * one_of(s.funcidle)
-        + 8 * one_of(s.turbo);
+    let flags = words::one_if(s.guarded)
+        + 2 * words::one_if(s.autoidle)
+        + 4 * words::one_if(s.funcidle)
+        + 8 * words::one_if(s.turbo);
     flags * 0x10000 + 0x100 * (s.revision as u32) + (s.threshold as u32)
 }

@@ -1,6 +1,5 @@
 // A board of up to eight CoreInterrupts by value: what is done to it and what it answers is defined in specs/Model.antt (02, 8/12).
 ghost use mathlib.Core.Path.{_≡_};
-ghost use Rattle.words.specs.Counting.{one};
 ghost use Rattle.board_record.specs.Record.{empty};
 ghost use Rattle.board.specs.Model.{unlessRefused, replied, checked, isThere, isNamed, upwardRefusal, add, connect, putPin, read, write, silent, outputs, input, chain};
 use board_record::Answer;
@@ -182,16 +181,6 @@ pub fn outputs(b: Board, c: u32) -> Signals
     }
 }
 
-// 1 for a test that holds, else 0.
-fn number_of(high: bool) -> u32
-    ensures { λ r. ⌜ r ≡ one high ⌝ }
-{
-    if high {
-        return 1;
-    }
-    0
-}
-
 // The value of input i of controller c, whether a source uses it or not.
 pub fn input(b: Board, c: u32, i: u32) -> Reply
     ensures { λ r. ⌜ r ≡ input b c i ⌝ }
@@ -201,7 +190,7 @@ pub fn input(b: Board, c: u32, i: u32) -> Reply
         is_there(b, c) & (i < board_record::INPUT_LIMIT),
         steps::CARRIED_OUT,
     );
-    reply_of(n, number_of(board_table::value_of_input(b, c, i)))
+    reply_of(n, words::one_if(board_table::value_of_input(b, c, i)))
 }
 
 // How many controllers the longest chain below controller c has.

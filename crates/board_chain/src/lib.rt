@@ -1,6 +1,6 @@
 // The longest chain below a controller, counted in controllers (02, 8/12).
 ghost use mathlib.Core.Path.{_≡_};
-ghost use Prim.Native.Nat.{_<_, _≤_, _+_, max};
+ghost use Prim.Native.Nat.{_<_, _≤_, _+_};
 ghost use Rattle.words.specs.Choice.{pick};
 ghost use Rattle.board_chain.specs.Chain.{leadsTo, feedsIn, feeds, lowerOf, chain};
 use board_wires::Board;
@@ -37,12 +37,6 @@ fn is_fed(b: Board, c: u32, d: u32) -> bool
     is_fed_in(&b.wire, c, d)
 }
 
-fn larger(a: u32, b: u32) -> u32
-    ensures { λ r. ⌜ r ≡ max a b ⌝ }
-{
-    if a < b { b } else { a }
-}
-
 // One more than n where the test holds, else 0.
 fn counted(on: bool, n: u32) -> u32
     requires { ⌜ n < 8 ⌝ }
@@ -73,7 +67,7 @@ pub fn chain(b: Board, c: u32) -> u32
     let mut d: u32 = 0;
     while d < n {
         let below = chain(b, d);
-        most = larger(most, counted(is_fed(b, c, d), below));
+        most = words::larger(most, counted(is_fed(b, c, d), below));
         d = d + 1;
     }
     most

@@ -6,31 +6,27 @@ use board_draws::random::skip;
 use board_steps::Tour;
 use board_wires::Board;
 
-fn grown(t: Tour, n: u32) -> Tour {
-    let mut u = t;
-    let mut k: u32 = 0;
-    while k < n {
-        u = board_steps::grow(u);
-        k = k + 1;
-    }
-    u
+// What a tour does in one turn.
+enum Turn {
+    Grow,
+    Link,
+    Any,
 }
 
-fn linked(t: Tour, n: u32) -> Tour {
-    let mut u = t;
-    let mut k: u32 = 0;
-    while k < n {
-        u = board_steps::link(u, k);
-        k = k + 1;
+// Turn number k.
+fn turned(t: Tour, what: Turn, k: u32) -> Tour {
+    match what {
+        Turn::Grow => board_steps::grow(t),
+        Turn::Link => board_steps::link(t, k),
+        Turn::Any => board_steps::step(t),
     }
-    u
 }
 
-fn stepped(t: Tour, n: u32) -> Tour {
+fn toured(t: Tour, what: Turn, n: u32) -> Tour {
     let mut u = t;
     let mut k: u32 = 0;
     while k < n {
-        u = board_steps::step(u);
+        u = turned(u, what, k);
         k = k + 1;
     }
     u
@@ -64,9 +60,9 @@ fn links(seed: u64) -> u32 {
 
 fn played(k: u32) {
     let mut t = opened(k);
-    t = grown(t, 1 + (t.seed / 65536 % 9) as u32);
-    t = linked(t, links(t.seed));
-    t = stepped(t, 8 + (t.seed / 65536 % 60) as u32);
+    t = toured(t, Turn::Grow, 1 + (t.seed / 65536 % 9) as u32);
+    t = toured(t, Turn::Link, links(t.seed));
+    t = toured(t, Turn::Any, 8 + (t.seed / 65536 % 60) as u32);
     let b = t.board;
     told(b, b.controllers);
 }

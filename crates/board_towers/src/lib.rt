@@ -86,21 +86,12 @@ fn by_turns() {
 
 // ---- every input
 
-fn irq_inputs(b: Board, c: u32, d: u32) -> Board {
+// The inputs of controller c from `from` on and below `to` go to w.
+fn inputs(b: Board, c: u32, from: u32, to: u32, w: Wire) -> Board {
     let mut e = b;
-    let mut i: u32 = 0;
-    while i < 32 {
-        e = board_lines::connect(e, c, i, Wire::Irq(d));
-        i = i + 1;
-    }
-    e
-}
-
-fn fiq_inputs(b: Board, c: u32, d: u32) -> Board {
-    let mut e = b;
-    let mut i: u32 = 32;
-    while i < 40 {
-        e = board_lines::connect(e, c, i, Wire::Fiq(d));
+    let mut i = from;
+    while i < to {
+        e = board_lines::connect(e, c, i, w);
         i = i + 1;
     }
     e
@@ -111,8 +102,8 @@ fn large(b: Board, c: u32, d: u32) -> Board {
     let mut e = board_lines::add(b, 8, 32, 1, 0);
     e = board_lines::write(e, c, 0x08, 0xFF);
     e = board_lines::write(e, c, 0x20, 0xFFFFFFFF);
-    e = irq_inputs(e, c, d);
-    fiq_inputs(e, c, d)
+    e = inputs(e, c, 0, 32, Wire::Irq(d));
+    inputs(e, c, 32, 40, Wire::Fiq(d))
 }
 
 fn larges() -> Board {

@@ -2,13 +2,14 @@
 use Prim.Native.Nat.{ℕ}
 use mathlib.Core.Path.{_≡_, refl, sym, ap, _∙_, subst⁻¹}
 use mathlib.Core.Bool.{false}
+use mathlib.Core.Logic.{_⊎_, inl, inr}
 use borrow.Author.Tests.{eq-eqb}
 use lib.Dec.{eqb}
 use Rattle.words.proofs.TruthLaws.{clash}
 use Rattle.words.specs.Choice.{pick}
-use Rattle.words.specs.Counting.{allBelow}
+use Rattle.words.specs.Counting.{anyBelow, allBelow}
 use Rattle.words.specs.Word.{bit, wordOf, either, withBit, kept, clean}
-use Rattle.words.specs.Array.{cleanBelow}
+use Rattle.words.specs.Array.{bitAt, cleanBelow}
 use Rattle.steps.specs.declared.Step.{Step}
 use Rattle.steps.specs.declared.Step.the-variants.{Read, Write}
 use Rattle.steps.specs.Refusals.{carriedOut, readRefusal, writeRefusal}
@@ -26,7 +27,20 @@ use Rattle.cic_record.specs.Start.{fresh, configured, start as cicStart}
 use Rattle.cic_layout.specs.Map.{singleAt, registerAt, accessOf}
 use Rattle.cic_registers.specs.Registers as Registers
 use Rattle.cic_steps.specs.Model.{readAs, writeAs, stepAs}
-use Rattle.cases.specs.Cheats.{Model, Keeps, NoCheat, aicModel, coreModel, cicModel}
+use Rattle.aintc_record.specs.Bounds.{chosenBounded, bounded}
+use Rattle.aintc_record.specs.Record as AintcRecord
+use Rattle.aintc_choice.specs.Inputs as Inputs
+use Rattle.aintc_choice.specs.Order.{some}
+use Rattle.aintc_choice.specs.Settle as Settle
+use Rattle.aintc_registers.specs.Map.{threshold}
+use Rattle.aintc_registers.specs.Map as AintcMap
+use Rattle.aintc_registers.specs.Effects as Effects
+use Rattle.aintc_registers.specs.Registers as AintcRegisters
+use Rattle.aintc.specs.Model as Aintc
+use Rattle.cic_held.specs.Held as Held
+use Rattle.cic_index_registers.specs.Registers.{ownAt}
+use Rattle.cic_prioritised.specs.Model as Indexed
+use Rattle.cases.specs.Cheats.{Model, Keeps, NoCheat, aicModel, coreModel, cicModel, aintcModel, indexedModel}
 
 -- what a read of the register at o answers
 abbrev seen : {R : Type 0} → Model R → R → ℕ → ℕ
@@ -67,3 +81,17 @@ core-moves = record { taken = refl; first = refl; second = refl }
 pub cic-moves : Moves cicModel (cicStart 33 2 1 0 .cic) (Write 0x10 1) (Write 0x10 0) 0x10
 unfolding cicModel pick allBelow kept clean cleanBelow readRefusal writeRefusal Cic.within Cic.numbersSound Cic.wordsSound Cic.mapsSound Cic.entrySound Cic.sound fresh configured cicStart singleAt registerAt accessOf Registers.valueOf Registers.valueRefusal Registers.writtenTo readAs writeAs stepAs
 cic-moves = record { taken = refl; first = refl; second = refl }
+
+-- AINTC: the threshold is written, and written again, by accesses of privilege p
+abbrev Rewritten : ℕ → Type 0
+Rewritten p = Moves (aintcModel p) (Aintc.start .aintc) (Write threshold 1) (Write threshold 2) threshold
+
+pub aintc-moves : (p : ℕ) → (p ≡ 0) ⊎ (p ≡ 1) → Rewritten p
+unfolding aintcModel pick anyBelow bit bitAt readRefusal writeRefusal chosenBounded bounded AintcRecord.side AintcRecord.reset Inputs.raised Inputs.unmasked Inputs.pending Inputs.eligible some Settle.settledSide Settle.settle Settle.sideQuiet Settle.sound AintcMap.rowOf AintcMap.rowAccess AintcMap.access Effects.singleWritten Effects.writtenAt AintcRegisters.singleRead AintcRegisters.readAt Aintc.start Aintc.barred Aintc.accessNumber Aintc.readNumber Aintc.writeNumber Aintc.read Aintc.write
+aintc-moves p (inl h) = subst⁻¹ Rewritten h (record { taken = refl; first = refl; second = refl })
+aintc-moves p (inr h) = subst⁻¹ Rewritten h (record { taken = refl; first = refl; second = refl })
+
+-- CIC with prioritised indices: the hold mode, on at the start, is turned off, and on again
+pub indexed-moves : Moves indexedModel (Held.start 33 2 1 0 1 .prioritised) (Write 4 0) (Write 4 16) 4
+unfolding indexedModel pick allBelow bit kept clean cleanBelow readRefusal writeRefusal Cic.within Cic.numbersSound Cic.wordsSound Cic.mapsSound Cic.entrySound Cic.sound fresh configured cicStart Held.within Held.entrySound Held.heldSound Held.sound Held.start Held.controlled ownAt Indexed.readAs Indexed.writeAs Indexed.stepAs
+indexed-moves = record { taken = refl; first = refl; second = refl }

@@ -11,6 +11,10 @@ use Rattle.coreinterrupt.specs.declared.Core.{Core}
 use Rattle.coreinterrupt.specs.Model as CoreInterrupt
 use Rattle.cic_record.specs.declared.Cic.{Cic}
 use Rattle.cic_steps.specs.Model as Cic
+use Rattle.aintc_record.specs.declared.Aintc.{Aintc}
+use Rattle.aintc.specs.Model as Aintc
+use Rattle.cic_held.specs.declared.Prioritised.{Prioritised}
+use Rattle.cic_prioritised.specs.Model as Indexed
 
 -- what a step answers, whatever the controller
 pub record Outcome (R : Type 0) : Type 0 where
@@ -22,7 +26,7 @@ pub record Outcome (R : Type 0) : Type 0 where
 abbrev pub Model : Type 0 → Type 0
 Model R = R → Step → Outcome R
 
--- the three models of the definitions
+-- the five models of the definitions
 unfoldable pub aicModel : Model Aic
 aicModel s x = record { refusal = Aic.step s x .refusal; value = Aic.step s x .value; left = Aic.step s x .aic }
 
@@ -32,6 +36,15 @@ coreModel c x =
 
 unfoldable pub cicModel : Model Cic
 cicModel c x = record { refusal = Cic.step c x .refusal; value = Cic.step c x .value; left = Cic.step c x .cic }
+
+-- the AINTC's where every access has privilege p (02, 2/12)
+unfoldable pub aintcModel : ℕ → Model Aintc
+aintcModel p s x = record { refusal = Aintc.step s p x .refusal; value = Aintc.step s p x .value; left = Aintc.step s p x .aintc }
+
+-- the CIC's with prioritised indices (02, 6/12)
+unfoldable pub indexedModel : Model Prioritised
+indexedModel p x =
+    record { refusal = Indexed.step p x .refusal; value = Indexed.step p x .value; left = Indexed.step p x .prioritised }
 
 -- it keeps a contract that says: every answer is the definition's
 abbrev pub Keeps : {R : Type 0} → Model R → Model R → Type 0

@@ -1,4 +1,4 @@
-// What begins a hold, what ends it and what does not, with the hold mode on as a start leaves it (6.3, 6.5 to 6.8, 6.10, 6.11).
+// What begins a hold, what ends it and what does not, with the hold mode on as a start leaves it (D23, D25 to D28, D30, D31).
 use super::part::on;
 use super::part::opened;
 use super::part::see;

@@ -1,5 +1,5 @@
 // Which system interrupt an index names, with the hold mode off: set and enabled, the lowest channel first and in a channel the lowest number; no host's
-// enable is asked (6.1, 6.2, 6.9).
+// enable is asked (D21, D22, D29).
 use super::part::on;
 use super::part::opened;
 use super::part::see;

@@ -1,4 +1,4 @@
-// Starts that are refused by 10, and records that are refused by 12 (6.13, 6.14).
+// Starts that are refused by 10, and records that are refused by 12 (D33, D34).
 use super::part::fresh;
 use super::part::held_for;
 use cic_held::Held;

@@ -1,4 +1,4 @@
-// The control register, and which of the registers there are with the choice on and off (6.3, 6.4, 6.10, 6.12).
+// The control register, and which of the registers there are with the choice on and off (D23, D24, D30, D32).
 use super::part::fresh;
 use super::part::on;
 use super::part::see_mode;

@@ -59,7 +59,7 @@ pub record Limits (c : Cic) (v : ℕ) : Type 0 where
   pub statusIndex : LimitAt c v 0x020 (c .systems) × LimitAt c v 0x024 (c .systems)
   pub enableIndex : LimitAt c v 0x028 (c .systems) × LimitAt c v 0x02C (c .systems)
   pub hostIndex : LimitAt c v 0x034 (c .hosts) × LimitAt c v 0x038 (c .hosts)
-  -- maps: the limit is the number of channels, for the host map that of hosts (001, 2.2.15 and 2.2.16)
+  -- maps: the limit is the number of channels, for the host map that of hosts (01, CIC, registers; 001, 2.2.15; that the host map is written: D1)
   pub channelMap : (k : ℕ) → k < 256 → BytesAt c v (0x400 + 4 * k) k (c .systems) (c .channels)
   pub hostMap : (k : ℕ) → k < 64 → BytesAt c v (0x800 + 4 * k) k (c .channels) (c .hosts)
   -- the others take every value
@@ -140,7 +140,7 @@ pub record Writes (c : Cic) (v : ℕ) : Type 0 where
       → Sets (write c (0x300 + 4 * k) v) (withEnable c) (c .enable) k (λ s. bitAt (c .enable) s || (bit v (s % 32) && ltb s (c .systems)))
   pub enableClear : (k : ℕ) → 32 * k < c .systems
       → Sets (write c (0x380 + 4 * k) v) (withEnable c) (c .enable) k (λ s. bitAt (c .enable) s && not (bit v (s % 32)))
-  -- byte j goes to thing 4 * k + j; spare bytes are dropped (001, 2.2.15 and 2.2.16)
+  -- byte j goes to thing 4 * k + j; spare bytes are dropped (01, CIC, registers; 001, 2.2.15; that the host map is written: D1)
   pub channelMap : (k : ℕ) → 4 * k < c .systems → ((j : ℕ) → j < 4 → 4 * k + j < c .systems → byteOf v j < c .channels)
       → Maps (write c (0x400 + 4 * k) v) (withChannel c) (c .channel) (λ s. pick (eqb (s / 4) k && ltb s (c .systems)) (byteOf v (s % 4)) (getD (c .channel) s 0))
   pub hostMap : (k : ℕ) → 4 * k < c .channels → ((j : ℕ) → j < 4 → 4 * k + j < c .channels → byteOf v j < c .hosts)

@@ -19,7 +19,7 @@ Raised c h =
     (s : ℕ) × (s < c .systems) × (bitAt (c .status) s ≡ true) × (bitAt (c .enable) s ≡ true) × (hostOf c (channelOf c (system s)) .0 ≡ h .0)
 
 pub record Promises : Type 0 where
-  -- a host is asserted exactly if global enable and its own enable are set and some system interrupt raises it (01, CIC, outputs)
+  -- a host is asserted exactly if both enables are set, the global one and its own, and a system interrupt raises it (01, CIC, outputs)
   pub assertedIs : (c : Cic) (h : Host) → (asserted c h ≡ true) ↔ ((c .global ≡ 1) × ((bitAt (c .allow) (h .0) ≡ true) × Raised c h))
   -- of a sound record no host from the configured number on is asserted, and of no record one from 256 on (01, CIC, a sound record)
   pub noneBeyond : (c : Cic) (h : Host) → sound c ≡ true → c .hosts ≤ h .0 → h .0 < 256 → asserted c h ≡ false

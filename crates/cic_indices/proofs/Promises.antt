@@ -1,19 +1,19 @@
 -- The promises of the indices are kept.
 use mathlib.Core.Path.{_≡_, refl, sym, ap, _∙_}
-use mathlib.Core.Bool.{Bool, true, false, _&&_, _||_}
+use mathlib.Core.Bool.{Bool, true, false, _&&_}
 use mathlib.Core.Logic.{_↔_, _≢_, _⊎_, inl, inr, ⊎-elim}
 use Prim.Native.Nat.{ℕ, _+_, _*_, _/_, _%_, _^_, _<_, _≤_, min}
-use native.Mathlib.Decide.{decLt}
 use native.Mathlib.Omega.{arith}
-use borrow.Author.Tests.{lt-ltb, ltb-true, eq-eqb, eqb-true}
-use lib.Dec.{eqb, ltb}
+use borrow.Author.Tests.{eq-eqb, eqb-true}
+use lib.Dec.{eqb}
 use lib.ListN.{getD}
 use Rattle.words.specs.Array.{bitAt}
 use Rattle.words.specs.Choice.{pick}
 use Rattle.words.specs.Counting.{anyBelow, lowestBelow, sumBelow, countBelow}
 use Rattle.words.specs.Word.{bit}
 use Rattle.words.proofs.CountingLaws.{any-some, some-any, Lowest}
-use Rattle.words.proofs.TruthLaws.{and-left, and-right, and-both, clash, not-holds, or-either, or-left, or-right}
+use Rattle.words.proofs.OrderLaws.{Lower, lower-is, is-lower, lower-through, lower-either}
+use Rattle.words.proofs.TruthLaws.{and-left, and-right, and-both, clash, not-holds}
 use Rattle.words.proofs.WordLaws.{bit-alone}
 use Rattle.cic_record.specs.declared.Channel.{Channel}
 use Rattle.cic_record.specs.declared.Cic.{Cic}
@@ -75,56 +75,25 @@ module _ (c : Cic) (h : Host) (e : sound c ≡ true) where
 -- ---- the order
 
 -- channel first, then number
-abbrev Before : ℕ → ℕ → ℕ → ℕ → Type 0
-Before x y a b = (x < y) ⊎ ((x ≡ y) × (a < b))
-
-before-is : (c : Cic) (a b : System) → (comesBefore c a b ≡ true) ↔ Before (channelOf c a .0) (channelOf c b .0) (a .0) (b .0)
+before-is : (c : Cic) (a b : System) → (comesBefore c a b ≡ true) ↔ Lower (channelOf c a .0) (channelOf c b .0) (a .0) (b .0)
 unfolding comesBefore
-before-is c a b = (there, back)
-  where
-    x : ℕ
-    x = channelOf c a .0
-
-    y : ℕ
-    y = channelOf c b .0
-
-    same : (eqb x y && ltb (a .0) (b .0)) ≡ true → (x ≡ y) × (a .0 < b .0)
-    same e = (eqb-true x y (and-left (eqb x y) (ltb (a .0) (b .0)) e), ltb-true (a .0) (b .0) (and-right (eqb x y) (ltb (a .0) (b .0)) e))
-
-    there : (ltb x y || (eqb x y && ltb (a .0) (b .0))) ≡ true → Before x y (a .0) (b .0)
-    there e = ⊎-elim (λ (l : ltb x y ≡ true). inl (ltb-true x y l)) (λ (r : (eqb x y && ltb (a .0) (b .0)) ≡ true). inr (same r)) (or-either (ltb x y) (eqb x y && ltb (a .0) (b .0)) e)
-
-    back : Before x y (a .0) (b .0) → (ltb x y || (eqb x y && ltb (a .0) (b .0))) ≡ true
-    back (inl l) = or-left (eqb x y && ltb (a .0) (b .0)) (lt-ltb x y l)
-    back (inr r) = or-right (ltb x y) (and-both (eq-eqb x y (r .0)) (lt-ltb (a .0) (b .0) (r .1)))
+before-is c a b =
+    let x : ℕ = channelOf c a .0 in
+    let y : ℕ = channelOf c b .0 in
+    (lower-is x y x y (a .0) (b .0), is-lower x y x y (a .0) (b .0))
 
 before-not-self : (c : Cic) (a : System) → comesBefore c a a ≡ false
 before-not-self c a = not-before c (a .0) (a .0) (omega arith) (λ _. omega arith)
 
-third : (x y z a b d : ℕ) → Before x y a b → Before y z b d → Before x z a d
-third x y z a b d (inl l) (inl m) = inl (omega (arith, l, m))
-third x y z a b d (inl l) (inr m) = inl (omega (arith, l, m .0))
-third x y z a b d (inr l) (inl m) = inl (omega (arith, l .0, m))
-third x y z a b d (inr l) (inr m) = inr (l .0 ∙ m .0, omega (arith, l .1, m .1))
-
 before-third : (c : Cic) (a b d : System) → comesBefore c a b ≡ true → comesBefore c b d ≡ true → comesBefore c a d ≡ true
-before-third c a b d e f =
-    before-is c a d .1
-    (third (channelOf c a .0) (channelOf c b .0) (channelOf c d .0) (a .0) (b .0) (d .0) (before-is c a b .0 e) (before-is c b d .0 f))
-
-either-way : (x y a b : ℕ) → a ≢ b → Before x y a b ⊎ Before y x b a
-either-way x y a b d = go (decLt x y) (decLt y x) (decLt a b)
-  where
-    go : Dec (x < y) → Dec (y < x) → Dec (a < b) → Before x y a b ⊎ Before y x b a
-    go (yes l) m n = inl (inl l)
-    go (no l) (yes m) n = inr (inl m)
-    go (no l) (no m) (yes n) = inl (inr (omega (arith, l, m), n))
-    go (no l) (no m) (no n) = inr (inr (omega (arith, l, m), omega (arith, n, d)))
+before-third c a b d e f = before-is c a d .1 (lower-through (before-is c a b .0 e) (before-is c b d .0 f))
 
 before-either : (c : Cic) (a b : System) → a .0 ≢ b .0 → (comesBefore c a b ≡ true) ⊎ (comesBefore c b a ≡ true)
 before-either c a b d =
-    ⊎-elim (λ (l : Before (channelOf c a .0) (channelOf c b .0) (a .0) (b .0)). inl (before-is c a b .1 l))
-    (λ (r : Before (channelOf c b .0) (channelOf c a .0) (b .0) (a .0)). inr (before-is c b a .1 r)) (either-way (channelOf c a .0) (channelOf c b .0) (a .0) (b .0) d)
+    let x : ℕ = channelOf c a .0 in
+    let y : ℕ = channelOf c b .0 in
+    ⊎-elim (λ (l : Lower x y (a .0) (b .0)). inl (before-is c a b .1 l)) (λ (l : Lower y x (b .0) (a .0)). inr (before-is c b a .1 l))
+    (lower-either x y (a .0) (b .0) d)
 
 -- ---- words
 

@@ -1,4 +1,5 @@
--- Which system interrupt a prioritised index names: the lowest channel that has one, and in that channel the lowest number (001, 1.3.5).
+-- Which system interrupt a prioritised index names: the lowest channel that has one, and in that channel the lowest number (001, 1.3.5;
+-- for a host of several channels D22).
 use mathlib.Core.Bool.{Bool, _&&_, _||_}
 use Prim.Native.Nat.{ℕ}
 use lib.Dec.{eqb, ltb}
@@ -27,11 +28,11 @@ busy c k = anyBelow (c .systems) (λ s. pendingIn c k (system s))
 unfoldable pub firstIn : Cic → Channel → ℕ
 firstIn c k = lowestBelow (c .systems) (λ s. pendingIn c k (system s))
 
--- the lowest channel that passes a test and has one, the number of channels where there is none (001, 1.3.5)
+-- the lowest channel that passes a test and has one, the number of channels where there is none (001, 1.3.5; D22)
 unfoldable pub channelFirst : Cic → (Channel → Bool) → ℕ
 channelFirst c t = lowestBelow (c .channels) (λ k. t (channelNumber k) && busy c (channelNumber k))
 
--- the index over the channels that pass a test (001, 1.3.5)
+-- the index over the channels that pass a test (001, 1.3.5; D22)
 unfoldable pub indexOver : Cic → (Channel → Bool) → ℕ
 indexOver c t = pick (ltb (channelFirst c t) (c .channels)) (firstIn c (channelNumber (channelFirst c t))) noneWord
 

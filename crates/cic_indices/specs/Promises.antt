@@ -35,7 +35,7 @@ pub record Promises : Type 0 where
   pub globalNames : (c : Cic) (h : Host) → sound c ≡ true → indexOf c true h ≢ noneWord → Meets c (indexOf c true h)
   pub globalFirst : (c : Cic) (h : Host) → sound c ≡ true → indexOf c true h ≢ noneWord → (s : ℕ) → Meets c s
       → comesBefore c (system s) (system (indexOf c true h)) ≡ false
-  -- ---- the index of host h: the same over the channels mapped to it (02, 6/12; 001, 2.2.17 and 1.3.5)
+  -- ---- the index of host h: the same over the channels mapped to it (02, 6/12; 001, 2.2.17 and 1.3.5; over several channels D22)
   pub hostNone : (c : Cic) (h : Host) → sound c ≡ true → (indexOf c false h ≡ noneWord) ↔ ((s : ℕ) → MeetsFor c h s → ⊥)
   pub hostSome : (c : Cic) (h : Host) → sound c ≡ true → (indexOf c false h ≢ noneWord) ↔ ((s : ℕ) × MeetsFor c h s)
   pub hostNames : (c : Cic) (h : Host) → sound c ≡ true → indexOf c false h ≢ noneWord → MeetsFor c h (indexOf c false h)
@@ -78,7 +78,7 @@ pub record Promises : Type 0 where
   -- the search on the parts of a record answers the lowest one, and the words looked at
   pub searchIs : (c : Cic) (k : Channel) → foundOf (c .systems) (c .status) (c .enable) (c .channel) k ≡ foundIn c k
   pub foundIs : (c : Cic) (k : Channel) → (foundIn c k .index ≡ firstIn c k) × (foundIn c k .words ≡ lookedIn c k)
-  -- ---- how many the read of an index looks at that is not held (02, 10/12)
+  -- ---- how many status words the read of an index that is not held looks at, over all its channels (02, 10/12)
   -- the global index is over every channel, that of a host over those whose byte of the host map is the host (001, 2.2.10 and 2.2.17)
   pub leadsEvery : (c : Cic) (h : Host) (k : Channel) → leads c true h k ≡ true
   pub leadsHost : (c : Cic) (h : Host) (k : Channel) → (leads c false h k ≡ true) ↔ (getD (c .host) (k .0) 0 ≡ h .0)
@@ -98,7 +98,7 @@ pub record Promises : Type 0 where
   -- or all words for each channel that the index is over, where none has one
   pub overNone : (c : Cic) (t : Channel → Bool) → c .channels ≤ channelFirst c t
       → lookedOver c t ≡ countBelow (c .channels) (λ k. t (channelNumber k)) * ((c .systems + 31) / 32)
-  -- the word is the one that the index names
+  -- such a read answers the word of the index, and how many status words were looked at
   pub overIs : (c : Cic) (every : Bool) (h : Host) → (foundOver c (leads c every h) .index ≡ indexOf c every h)
       × (foundOver c (leads c every h) .words ≡ lookedOver c (leads c every h))
   -- ---- system interrupt 40 of 96, in word 1 of three, of channel 1, which is mapped to host 1

@@ -116,7 +116,7 @@ pub record Promises : Type 0 where
   pub openedNone : (n : ℕ) (ws : List ℕ) (k : ℕ) → opens ws k ≡ false → openedFrom (suc n) ws k ≡ openedFrom n ws (k + 1)
   pub openedMore : (n : ℕ) (ws : List ℕ) (k : ℕ) → opens ws k ≡ true → openedFrom (suc n) ws k ≡ opened ws k ∷ openedFrom n ws (k + 1)
   pub all : (ws source level : List ℕ) → bars ws source level ≡ stayed (min (entriesAt ws 0) (entriesAt ws 1)) ws source level ++ openedFrom (length ws - 1) ws 1
-  -- no bar is beyond the eighth row where never more than eight entries are open (01, demand 3)
+  -- no bar is beyond the eighth row where never more than eight entries are open (demand 3)
   pub eighth : (ws source level : List ℕ) → ((k : ℕ) → entriesAt ws k ≤ 8) → Below 8 (bars ws source level)
   -- ---- the text
 

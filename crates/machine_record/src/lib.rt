@@ -2,7 +2,6 @@
 // trace"; 02, 2/12 and 6/12).
 ghost use mathlib.Core.Path.{_≡_};
 ghost use mathlib.Core.Bool.{true};
-ghost use Rattle.words.specs.Counting.{one};
 ghost use Rattle.machine_record.specs.Machine.{blank, ofAic, ofCore, ofCic, ofAintc, ofIndexed, indexed, start, sound};
 ghost use Rattle.machine_record.specs.Shown.{aicColumns, coreColumns, cicColumns, aintcColumns, shown};
 use aic_record::Aic;
@@ -170,22 +169,13 @@ pub fn is_sound(m: Machine) -> bool
 
 // ---- what a listing shows
 
-fn one_if(t: bool) -> u32
-    ensures { λ r. ⌜ r ≡ one t ⌝ }
-{
-    if t {
-        return 1;
-    }
-    0
-}
-
 // IRQ active, FIQ active, entries open.
 pub fn aic_columns(o: aic::Signals) -> Columns
     ensures { λ r. ⌜ r ≡ aicColumns o ⌝ }
 {
     Columns {
-        first: one_if(o.irq),
-        second: one_if(o.fiq),
+        first: words::one_if(o.irq),
+        second: words::one_if(o.fiq),
         third: o.entries,
     }
 }
@@ -195,8 +185,8 @@ pub fn core_columns(o: coreinterrupt::Signals) -> Columns
     ensures { λ r. ⌜ r ≡ coreColumns o ⌝ }
 {
     Columns {
-        first: one_if(o.irq),
-        second: one_if(o.fiq),
+        first: words::one_if(o.irq),
+        second: words::one_if(o.fiq),
         third: 0,
     }
 }
@@ -217,8 +207,8 @@ pub fn aintc_columns(o: aintc::Signals) -> Columns
     ensures { λ r. ⌜ r ≡ aintcColumns o ⌝ }
 {
     Columns {
-        first: one_if(o.irq),
-        second: one_if(o.fiq),
+        first: words::one_if(o.irq),
+        second: words::one_if(o.fiq),
         third: o.number,
     }
 }

@@ -10,6 +10,6 @@ unfoldable pub bytes : String → List ℕ
 bytes nil = []
 bytes (c then s) = code c ∷ bytes s
 
--- a number behind what it counts ("Each is printed with what it counts: handlers, entries, steps")
+-- a number behind the words that say what it counts (02, 11/12)
 unfoldable pub counted : List ℕ → ℕ → List ℕ
 counted what n = what ++ decimal n

@@ -86,7 +86,7 @@ pub record Promises : Type 0 where
       → length (barsIn s first steps)
       ≡ min (aicBefore s first .depth) (aicBefore s (suc first) .depth)
       + openedIn (before first (beginOf s .machine) (recordsOf s 20000 .steps)) (within first steps (recordsOf s 20000 .steps))
-  -- no bar is beyond the eighth row (01, demand 3)
+  -- no bar is beyond the eighth row (demand 3)
   pub eighth : (s : List ℕ) (first steps : ℕ) → isDrawn s first steps ≡ true → Below 8 (barsIn s first steps)
   -- ---- how long it is
 

@@ -15,11 +15,11 @@ use Rattle.totals.specs.declared.Totals.{Totals}
 unfoldable pub named : List ℕ → List ℕ
 named name = bytes ": " ++ name ++ (newline ∷ [])
 
--- E, the number and the offset of a trace that ends so, as a listing tells them ("A trace that ends in E counts up to that place"; 01, House trace)
+-- E, the number and the offset of a trace that ends so, as a listing tells them: it is counted as far as it was played (02, 11/12; 01, House trace)
 unfoldable pub endedAt : ℕ → ℕ → List ℕ
 endedAt refusal offset = pick (eqb refusal carriedOut) [] (bytes ", E" ++ field refusal ++ field offset)
 
--- "per trace, the steps played and refused"
+-- of one trace: how many steps were played, and how many of them were refused (02, 11/12)
 unfoldable pub traceLine : ℕ → ℕ → ℕ → ℕ → List ℕ → List ℕ
 traceLine played refused refusal offset name =
     counted (bytes "steps played ") played ++ counted (bytes ", steps refused ") refused ++ endedAt refusal offset ++ named name
@@ -30,7 +30,8 @@ leftOutLine refusal name = counted (bytes "refusal ") refusal ++ named name
 
 -- ---- a line for each source
 
--- "per AIC source and over all traces read, the handlers started, the largest number of handlers started while it waited, and the deepest nesting while it was open"
+-- of one source of the AIC, from every trace that was read: its handlers started, the most of others started in one of its waits, and the most entries
+-- open while a handler of it was among them (02, 11/12)
 unfoldable pub sourceLine : ℕ → ℕ → ℕ → ℕ → List ℕ
 sourceLine i started waited entries =
     counted (bytes "source ") i ++ counted (bytes ": handlers started ") started

@@ -23,14 +23,14 @@ Whole l text = laid l text ≡ (text ++ drop (length text) l, length text)
 pub record Promises : Type 0 where
   -- ---- the lines
 
-  -- a trace that was played: "per trace, the steps played and refused", each with what it counts (02, 11/12)
+  -- a trace that was played: how many steps, and how many of them refused, each with what it counts (02, 11/12)
   pub played : (played refused offset : ℕ) (name : List ℕ)
       → traceLine played refused 0 offset name ≡ bytes "steps played " ++ decimal played ++ bytes ", steps refused " ++ decimal refused ++ bytes ": " ++ name ++ bytes "\n"
   -- one that ends in E counts up to there, and its line tells where as a listing does (02, 11/12; 01, House trace)
   pub cut : (played refused refusal offset : ℕ) (name : List ℕ) → refusal ≢ 0
       → traceLine played refused refusal offset name
       ≡ bytes "steps played " ++ decimal played ++ bytes ", steps refused " ++ decimal refused ++ bytes ", E" ++ field refusal ++ field offset ++ bytes ": " ++ name ++ bytes "\n"
-  -- one that is left out: "Refusals: 16 .. 17 .." (02, 11/12)
+  -- one that is left out: the number, 16 or 17, and the name (02, 11/12)
   pub leftOut : (refusal : ℕ) (name : List ℕ) → leftOutLine refusal name ≡ bytes "refusal " ++ decimal refusal ++ bytes ": " ++ name ++ bytes "\n"
   -- a source's three figures, each with what it counts (02, 11/12)
   pub figures : (i started waited entries : ℕ)

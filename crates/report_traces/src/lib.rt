@@ -3,6 +3,7 @@ ghost use mathlib.Core.Path.{_≡_};
 ghost use lib.Dec.{eqb};
 ghost use Rattle.words.specs.Choice.{pick};
 ghost use Rattle.text.specs.Text.{laid};
+ghost use Rattle.totals.specs.Totals.{added};
 ghost use Rattle.tally.specs.Tally.{tallyOf};
 ghost use Rattle.report.specs.Printed.{traceLine, leftOutLine};
 use report_lines::Sum;
@@ -19,8 +20,7 @@ pub fn pass(name: &[u8], skipping: bool, sum: Sum) -> Sum {
     play(name, sum)
 }
 
-// Plays the trace of a name, puts its figures to the totals and prints its line. One byte more is read than a trace may have, so that a longer one is told
-// apart.
+// Plays the trace of a name. One byte more is read than a trace may have, so that a longer one is told apart.
 fn play(name: &[u8], sum: Sum) -> Sum {
     let mut room = [0u8; 65537];
     let came = reading::read_file(name, &mut room);
@@ -28,7 +28,14 @@ fn play(name: &[u8], sum: Sum) -> Sum {
         return report_lines::unopened(name, sum);
     }
     let n = came.bytes;
-    let f = counted(&room[..n]);
+    put_to(&room[..n], name, sum)
+}
+
+// Puts the figures of a trace to the totals, and prints its line.
+fn put_to(trace: &[u8], name: &[u8], sum: Sum) -> Sum
+    ensures { λ r. ⌜ r .totals ≡ added (sum .totals) (tallyOf (now (trace .entry)) 20000 .figures) .totals ⌝ }
+{
+    let f = tally::figures(trace, LIMIT);
     let figures = f.figures;
     let t = sum.totals;
     let a = totals::add(t, figures);
@@ -37,13 +44,6 @@ fn play(name: &[u8], sum: Sum) -> Sum {
         totals: after,
         written: print_line(f, a.refusal, name),
     }
-}
-
-// The figures of a trace.
-fn counted(trace: &[u8]) -> Tallied
-    ensures { λ r. ⌜ r ≡ tallyOf (now (trace .entry)) 20000 ⌝ }
-{
-    tally::figures(trace, LIMIT)
 }
 
 // The line of a trace that was played; whether it could be written.

@@ -3,7 +3,6 @@ ghost use mathlib.Core.Path.{_≡_};
 ghost use mathlib.Core.Bool.{true};
 ghost use mathlib.Core.List.{[], _∷_};
 ghost use lib.ListN.{length};
-ghost use Rattle.words.specs.Counting.{one};
 ghost use Rattle.aic_record.specs.Sound.{sound as aicSound};
 ghost use Rattle.coreinterrupt.specs.Model.{sound as coreSound};
 ghost use Rattle.aintc_choice.specs.Settle.{sound as aintcSound};
@@ -47,8 +46,8 @@ fn aic_values(refusal: u32, value: u32, letter: u32, s: Aic) -> [u32; 11]
     ensures { λ r. ⌜ r ≡ eleven (values (moment refusal value letter (ofAic s))) ⌝ }
 {
     let o = aic::outputs_sound(s);
-    let irq = one_if(o.irq);
-    let fiq = one_if(o.fiq);
+    let irq = words::one_if(o.irq);
+    let fiq = words::one_if(o.fiq);
     let source = aic_last::last_source(s);
     let level = aic_last::last_level(s);
     let pending = aic_sources::pending_word(s);
@@ -72,8 +71,8 @@ fn core_values(refusal: u32, value: u32, letter: u32, s: Core) -> [u32; 11]
     ensures { λ r. ⌜ r ≡ eleven (values (moment refusal value letter (ofCore s))) ⌝ }
 {
     let o = coreinterrupt::outputs_sound(s);
-    let irq = one_if(o.irq);
-    let fiq = one_if(o.fiq);
+    let irq = words::one_if(o.irq);
+    let fiq = words::one_if(o.fiq);
     let a = coreinterrupt_side::raw(s.irq);
     let b = coreinterrupt_side::status(s.irq);
     let c = coreinterrupt_side::raw(s.fiq);
@@ -93,8 +92,8 @@ fn aintc_values(refusal: u32, value: u32, letter: u32, s: Aintc) -> [u32; 11]
     ensures { λ r. ⌜ r ≡ eleven (values (moment refusal value letter (ofAintc s))) ⌝ }
 {
     let o = aintc::outputs_sound(s);
-    let irq = one_if(o.irq);
-    let fiq = one_if(o.fiq);
+    let irq = words::one_if(o.irq);
+    let fiq = words::one_if(o.fiq);
     let i = s.irq;
     let f = s.fiq;
     let a = i.number as u32;
@@ -102,15 +101,6 @@ fn aintc_values(refusal: u32, value: u32, letter: u32, s: Aintc) -> [u32; 11]
     let c = f.number as u32;
     let d = f.priority as u32;
     [refusal, value, letter, irq, fiq, a, b, c, d, 0, 0]
-}
-
-fn one_if(t: bool) -> u32
-    ensures { λ r. ⌜ r ≡ one t ⌝ }
-{
-    if t {
-        return 1;
-    }
-    0
 }
 
 // ---- widths

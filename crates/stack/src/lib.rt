@@ -1,7 +1,7 @@
 // The stack that open handlers and marks need, in bytes (02, 4/12).
 ghost use mathlib.Core.Path.{_≡_};
 ghost use mathlib.Core.Bool.{true};
-ghost use Prim.Native.Nat.{_<_, max};
+ghost use Prim.Native.Nat.{_<_};
 ghost use Rattle.text.specs.Text.{write, laid};
 ghost use Rattle.stack.specs.Bytes.{isOf, taller, levelBytes, stackBytes, sourceWithin, withinLimits, needed};
 ghost use Rattle.stack.specs.Printed.{figureLine, numberLine, textOf};
@@ -31,15 +31,6 @@ fn is_of(t: Table, l: u32, i: u32) -> bool
     (i != 0) & !words::has(t.forced, i) & (t.priority[at] == l)
 }
 
-fn larger(a: u32, b: u32) -> u32
-    ensures { λ r. ⌜ r ≡ max a b ⌝ }
-{
-    if a < b {
-        return b;
-    }
-    a
-}
-
 // The larger of b and the frame of source i, where that is a normal source of level l.
 fn taller(t: Table, l: u32, b: u32, i: u32) -> u32
     requires { ⌜ i < 32 ⌝ }
@@ -47,7 +38,7 @@ fn taller(t: Table, l: u32, b: u32, i: u32) -> u32
 {
     if is_of(t, l, i) {
         let at = i as usize;
-        return larger(b, t.frame[at]);
+        return words::larger(b, t.frame[at]);
     }
     b
 }

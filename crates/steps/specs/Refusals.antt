@@ -30,7 +30,8 @@ unwritable = 4
 abbrev pub protecting : ℕ
 protecting = 5
 
--- a line number, a line level, an index or a map byte is beyond its limit (01, Numbers), or a number or a level of a board (02, 8/12)
+-- a line number, a line level, an index or a map byte is beyond its limit (01, Numbers), a privilege above 1 (02, 2/12), or a number or a level of a board
+-- (02, 8/12)
 abbrev pub beyond : ℕ
 beyond = 6
 

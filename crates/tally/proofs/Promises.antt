@@ -1,20 +1,18 @@
 -- The promises of the figures of a trace, kept.
 use Prim.Native.Nat.{ℕ, _+_, _≤_, _<_}
-use mathlib.Core.Path.{_≡_, refl, sym, ap, _∙_}
+use mathlib.Core.Path.{_≡_, refl, sym, ap, _∙_, subst}
 use mathlib.Core.Bool.{not}
 use mathlib.Core.List.{List, [], _∷_}
 use mathlib.Core.Logic.{_≢_}
-use native.Mathlib.Decide.{ℕ-discrete}
 use native.Mathlib.Nat.{zero-add}
 use native.Mathlib.Omega.{arith}
 use lib.Dec.{eqb}
-use lib.ListN.{getD, length, replicate, length-replicate}
-use borrow.Author.Tests.{eq-eqb, ne-eqb}
-use Rattle.words.specs.Choice.{pick}
+use lib.ListN.{getD, length}
+use borrow.Author.Tests.{eqb-true, eq-eqb}
 use Rattle.words.specs.Counting.{one}
-use Rattle.words.proofs.ArrayLaws.{zeros-getD}
-use Rattle.words.proofs.ChoiceLaws.{pick-true, pick-false, pick-cases}
+use Rattle.words.proofs.ChoiceLaws.{pick-cases}
 use Rattle.words.proofs.CountingLaws.{one-le}
+use Rattle.words.proofs.TruthLaws.{clash}
 use Rattle.steps.specs.Refusals.{carriedOut}
 use Rattle.steps.specs.declared.Recorded.{Recorded}
 use Rattle.steps.specs.declared.Step.{Step}
@@ -30,10 +28,12 @@ use Rattle.machine.specs.Steps.{step}
 use Rattle.beginning.specs.Begin.{beginOf}
 use Rattle.reports.specs.Play.{recordsOf, report, playOf}
 use Rattle.totals.specs.declared.Totals.{Totals}
+use Rattle.totals.specs.Promises.{Whole, Source}
 use Rattle.totals.specs.Totals.{zeros}
+use Rattle.totals.proofs.Promises as Sums
 use Rattle.tally.specs.declared.Tallied.{Tallied}
-use Rattle.tally.specs.Tally.{refusedIn, stepsIn, each, figuresOf, tallyOf}
-use Rattle.tally.specs.Promises.{Promises, Source, aicOf, playedOf}
+use Rattle.tally.specs.Tally.{refusedIn, each, figuresOf, tallyOf}
+use Rattle.tally.specs.Promises.{Promises, aicOf, playedOf}
 use Rattle.tally.proofs.LengthLaws.{records-short}
 use Rattle.tally.proofs.TallyLaws.{each-length, each-at, Fresh, fresh, as-many, tally-refused}
 
@@ -71,54 +71,42 @@ refused-most m (x ∷ xs) = omega (arith, one-le (not (eqb (step m x .refusal) c
 abbrev aicFigures : Aic → List Step → Totals
 aicFigures a xs = record { started = each (λ i. startedOf i a xs); waited = each (λ i. waitedOf i a xs); entries = each (λ i. entriesOf i a xs) }
 
-aic-has : (m : Machine) (xs : List Recorded) (i : ℕ) → m .kind ≡ aicKind → i < 32
-    → Source (figuresOf m xs) i (startedOf i (m .aic) (stepsIn xs)) (waitedOf i (m .aic) (stepsIn xs)) (entriesOf i (m .aic) (stepsIn xs))
-unfolding figuresOf
-aic-has m xs i z l =
-    let e = pick-true zeros (eq-eqb (m .kind) aicKind z) in (
-      ap (λ (t : Totals). getD (t .started) i 0) (sym e) ∙ each-at (λ k. startedOf k (m .aic) (stepsIn xs)) i l,
-      ap (λ (t : Totals). getD (t .waited) i 0) (sym e) ∙ each-at (λ k. waitedOf k (m .aic) (stepsIn xs)) i l,
-      ap (λ (t : Totals). getD (t .entries) i 0) (sym e) ∙ each-at (λ k. entriesOf k (m .aic) (stepsIn xs)) i l,
-    )
+aic-has : (a : Aic) (xs : List Step) (i : ℕ) → i < 32 → Source (aicFigures a xs) i (startedOf i a xs) (waitedOf i a xs) (entriesOf i a xs)
+aic-has a xs i l =
+    record {
+      started = each-at (λ k. startedOf k a xs) i l;
+      waited = each-at (λ k. waitedOf k a xs) i l;
+      entries = each-at (λ k. entriesOf k a xs) i l;
+    }
 
-zeros-have : (i : ℕ) → Source zeros i 0 0 0
-unfolding zeros
-zeros-have i = (zeros-getD 32 i, zeros-getD 32 i, zeros-getD 32 i)
-
-other-has : (m : Machine) (xs : List Recorded) (i : ℕ) → m .kind ≢ aicKind → Source (figuresOf m xs) i 0 0 0
-unfolding figuresOf
-other-has m xs i n =
-    let h = zeros-have i in
-    let e = pick-false (aicFigures (m .aic) (stepsIn xs)) (ne-eqb (m .kind) aicKind n) in (
-      ap (λ (t : Totals). getD (t .started) i 0) (sym e) ∙ h .0,
-      ap (λ (t : Totals). getD (t .waited) i 0) (sym e) ∙ h .1,
-      ap (λ (t : Totals). getD (t .entries) i 0) (sym e) ∙ h .2,
-    )
+-- whatever holds of the figures of an AIC, where the trace begins with one, and of zeros where not
+by-figures : (P : Totals → Type 0) (s : List ℕ) (limit : ℕ)
+    → (beginOf s .machine .kind ≡ 0 → P (aicFigures (aicOf s) (playedOf s limit))) → (beginOf s .machine .kind ≢ 0 → P zeros) → P (tallyOf s limit .figures)
+unfolding tallyOf figuresOf
+by-figures P s limit a z =
+    pick-cases P (eqb (beginOf s .machine .kind) aicKind) (λ e. a (eqb-true (beginOf s .machine .kind) aicKind e))
+    (λ e. z (λ q. clash (eq-eqb (beginOf s .machine .kind) aicKind q) e))
 
 figure : (s : List ℕ) (limit i : ℕ) → beginOf s .machine .kind ≡ 0 → i < 32
     → Source (tallyOf s limit .figures) i (startedOf i (aicOf s) (playedOf s limit)) (waitedOf i (aicOf s) (playedOf s limit)) (entriesOf i (aicOf s) (playedOf s limit))
-unfolding tallyOf
-figure s limit i z l = aic-has (beginOf s .machine) (recordsOf s limit .steps) i z l
+figure s limit i z l =
+    by-figures
+    (λ t. Source t i (startedOf i (aicOf s) (playedOf s limit)) (waitedOf i (aicOf s) (playedOf s limit)) (entriesOf i (aicOf s) (playedOf s limit)))
+    s limit (λ _. aic-has (aicOf s) (playedOf s limit) i l) (λ n. absurd (n z))
 
 other-kinds : (s : List ℕ) (limit i : ℕ) → beginOf s .machine .kind ≢ 0 → Source (tallyOf s limit .figures) i 0 0 0
-unfolding tallyOf
-other-kinds s limit i n = other-has (beginOf s .machine) (recordsOf s limit .steps) i n
+other-kinds s limit i n = by-figures (λ t. Source t i 0 0 0) s limit (λ z. absurd (n z)) (λ _. Sums.kept .empty i)
 
 not-begun : (s : List ℕ) (limit i : ℕ) → beginOf s .refusal ≢ 0 → (tallyOf s limit .steps ≡ 0) × (tallyOf s limit .refused ≡ 0) × Source (tallyOf s limit .figures) i 0 0 0
 not-begun s limit i z =
-    let e = sym (tally-refused s limit (beginOf s) refl z) in
-    let h = zeros-have i in
-    (ap (λ (t : Tallied). t .steps) e, ap (λ (t : Tallied). t .refused) e, (ap (λ (t : Tallied). getD (t .figures .started) i 0) e ∙ h .0, ap (λ (t : Tallied). getD (t .figures .waited) i 0) e ∙ h .1, ap (λ (t : Tallied). getD (t .figures .entries) i 0) e ∙ h .2))
+    let e = tally-refused s limit (beginOf s) refl z in
+    (ap (λ (t : Tallied). t .steps) (sym e), ap (λ (t : Tallied). t .refused) (sym e), subst (λ (t : Tallied). Source (t .figures) i 0 0 0) e (Sums.kept .empty i))
 
--- whatever holds of the figures of an AIC and of zeros
-by-figures : (P : Totals → Type 0) (s : List ℕ) (limit : ℕ)
-    → P (aicFigures (aicOf s) (playedOf s limit)) → P zeros → P (tallyOf s limit .figures)
-unfolding tallyOf figuresOf
-by-figures P s limit a z = pick-cases P (eqb (beginOf s .machine .kind) aicKind) (λ _. a) (λ _. z)
-
-sources : (s : List ℕ) (limit : ℕ) → (length (tallyOf s limit .figures .started) ≡ 32) × (length (tallyOf s limit .figures .waited) ≡ 32) × (length (tallyOf s limit .figures .entries) ≡ 32)
+sources : (s : List ℕ) (limit : ℕ) → Whole (tallyOf s limit .figures)
 unfolding zeros
-sources s limit = by-figures (λ t. (length (t .started) ≡ 32) × (length (t .waited) ≡ 32) × (length (t .entries) ≡ 32)) s limit (each-length 32 0 _, each-length 32 0 _, each-length 32 0 _) (refl, refl, refl)
+sources s limit =
+    by-figures Whole s limit (λ _. record { started = each-length 32 0 _; waited = each-length 32 0 _; entries = each-length 32 0 _ })
+    (λ _. record { started = refl; waited = refl; entries = refl })
 
 -- source 0, and eight entries, from the record that a trace begins with
 fresh-zero : (a : Aic) (xs : List Step) → Fresh a → (startedOf 0 a xs ≡ 0) × (waitedOf 0 a xs ≡ 0) × (entriesOf 0 a xs ≡ 0)
@@ -130,14 +118,16 @@ fresh-eight a xs i r = rw (r .2) (Waits.kept .eight (r .0) (r .1) i xs)
 zero : (s : List ℕ) (limit : ℕ) → Source (tallyOf s limit .figures) 0 0 0 0
 zero s limit =
     let z = fresh-zero (aicOf s) (playedOf s limit) (fresh s) in
+    let f = aic-has (aicOf s) (playedOf s limit) 0 (omega arith) in
     by-figures (λ t. Source t 0 0 0 0) s limit
-    (each-at (λ k. startedOf k (aicOf s) (playedOf s limit)) 0 (omega arith) ∙ z .0, each-at (λ k. waitedOf k (aicOf s) (playedOf s limit)) 0 (omega arith) ∙ z .1, each-at (λ k. entriesOf k (aicOf s) (playedOf s limit)) 0 (omega arith) ∙ z .2)
-    (zeros-have 0)
+    (λ _. record { started = f .started ∙ z .0; waited = f .waited ∙ z .1; entries = f .entries ∙ z .2 })
+    (λ _. Sums.kept .empty 0)
 
 eight : (s : List ℕ) (limit i : ℕ) → i < 32 → getD (tallyOf s limit .figures .entries) i 0 ≤ 8
 eight s limit i l =
     by-figures (λ t. getD (t .entries) i 0 ≤ 8) s limit
-    (omega (arith, fresh-eight (aicOf s) (playedOf s limit) i (fresh s), each-at (λ k. entriesOf k (aicOf s) (playedOf s limit)) i l)) (omega (arith, zeros-have i .2))
+    (λ _. omega (arith, fresh-eight (aicOf s) (playedOf s limit) i (fresh s), aic-has (aicOf s) (playedOf s limit) i l .entries))
+    (λ _. omega (arith, Sums.kept .empty i .entries))
 
 started-most : (i : ℕ) (a : Aic) (xs : List Step) → startedOf i a xs ≤ length xs
 unfolding startedOf count
@@ -147,8 +137,8 @@ started-most i a (x ∷ xs) = omega (arith, one-le (startsOf i a x), started-mos
 most : (s : List ℕ) (limit i : ℕ) → i < 32 → getD (tallyOf s limit .figures .started) i 0 ≤ tallyOf s limit .steps
 most s limit i l =
     by-figures (λ t. getD (t .started) i 0 ≤ tallyOf s limit .steps) s limit
-    (omega (arith, each-at (λ k. startedOf k (aicOf s) (playedOf s limit)) i l, started-most i (aicOf s) (playedOf s limit), as-many (recordsOf s limit .steps), steps-are s limit))
-    (omega (arith, zeros-have i .0))
+    (λ _. omega (arith, aic-has (aicOf s) (playedOf s limit) i l .started, started-most i (aicOf s) (playedOf s limit), as-many (recordsOf s limit .steps), steps-are s limit))
+    (λ _. omega (arith, Sums.kept .empty i .started))
 
 pub kept : Promises
 kept =

@@ -5,7 +5,7 @@ use mathlib.Core.Bool.{not}
 use mathlib.Core.List.{List, [], _∷_}
 use mathlib.Core.Logic.{_≢_}
 use lib.Dec.{eqb}
-use lib.ListN.{getD, length}
+use lib.ListN.{getD}
 use Rattle.words.specs.Counting.{one}
 use Rattle.steps.specs.declared.Recorded.{Recorded}
 use Rattle.steps.specs.declared.Step.{Step}
@@ -15,12 +15,8 @@ use Rattle.machine_record.specs.declared.Machine.{Machine}
 use Rattle.machine.specs.Steps.{step}
 use Rattle.beginning.specs.Begin.{beginOf}
 use Rattle.reports.specs.Play.{recordsOf, playOf}
-use Rattle.totals.specs.declared.Totals.{Totals}
+use Rattle.totals.specs.Promises.{Whole, Source}
 use Rattle.tally.specs.Tally.{refusedIn, stepsIn, tallyOf}
-
--- the three figures of source i, in handlers, handlers and entries
-abbrev pub Source : Totals → ℕ → ℕ → ℕ → ℕ → Type 0
-Source t i handlers most deepest = (getD (t .started) i 0 ≡ handlers) × (getD (t .waited) i 0 ≡ most) × (getD (t .entries) i 0 ≡ deepest)
 
 -- the AIC that a trace begins with, and the steps that are played on it
 abbrev pub aicOf : List ℕ → Aic
@@ -46,8 +42,8 @@ pub record Promises : Type 0 where
   pub otherKinds : (s : List ℕ) (limit i : ℕ) → beginOf s .machine .kind ≢ 0 → Source (tallyOf s limit .figures) i 0 0 0
   pub notBegun : (s : List ℕ) (limit i : ℕ) → beginOf s .refusal ≢ 0 → (tallyOf s limit .steps ≡ 0) × (tallyOf s limit .refused ≡ 0) × Source (tallyOf s limit .figures) i 0 0 0
   -- there are 32 of each
-  pub sources : (s : List ℕ) (limit : ℕ) → (length (tallyOf s limit .figures .started) ≡ 32) × (length (tallyOf s limit .figures .waited) ≡ 32) × (length (tallyOf s limit .figures .entries) ≡ 32)
-  -- source 0 has none (01, AIC, Fast side), never more than eight entries are open (01, demand 3), and no source is started more often than there are steps
+  pub sources : (s : List ℕ) (limit : ℕ) → Whole (tallyOf s limit .figures)
+  -- source 0 has none (01, AIC, Fast side), never more than eight entries are open (demand 3), and no source is started more often than there are steps
   pub zero : (s : List ℕ) (limit : ℕ) → Source (tallyOf s limit .figures) 0 0 0 0
   pub eight : (s : List ℕ) (limit i : ℕ) → i < 32 → getD (tallyOf s limit .figures .entries) i 0 ≤ 8
   pub most : (s : List ℕ) (limit i : ℕ) → i < 32 → getD (tallyOf s limit .figures .started) i 0 ≤ tallyOf s limit .steps

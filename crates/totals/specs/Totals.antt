@@ -16,11 +16,11 @@ zeros = record { started = replicate 32 0; waited = replicate 32 0; entries = re
 
 -- ---- one trace more
 
--- the sum of some source would pass 4,294,967,295 ("Totals stop at 4,294,967,295")
+-- the handlers started of some source would add up to more than 4,294,967,295 (02, 11/12)
 unfoldable pub passes : List ℕ → List ℕ → Bool
 passes a b = anyBelow 32 (λ i. ltb 4294967295 (getD a i 0 + getD b i 0))
 
--- both together: "the handlers started, the largest number of handlers started while it waited, and the deepest nesting"
+-- both together, source by source: handlers started are added, of the other two figures the larger one stays (02, 11/12)
 unfoldable pub together : Totals → Totals → Totals
 together t f =
     record {
@@ -29,7 +29,7 @@ together t f =
       entries = zipWith max (t .entries) (f .entries);
     }
 
--- 16 where a total would pass the figure, and the totals as they were ("the report so far is kept and the trace is left out")
+-- 16 where a sum would be too large, with the totals as they were: nothing of this trace goes in (02, 11/12)
 unfoldable pub added : Totals → Totals → Added
 added t f =
     pick (passes (t .started) (f .started))

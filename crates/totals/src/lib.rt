@@ -105,14 +105,8 @@ fn largest(a: [u32; 32], b: [u32; 32]) -> [u32; 32]
     let mut out = [0u32; 32];
     let mut i: usize = 0;
     while i < 32 {
-        out[i] = larger(a[i], b[i]);
+        out[i] = words::larger(a[i], b[i]);
         i = i + 1;
     }
     out
-}
-
-fn larger(a: u32, b: u32) -> u32
-    ensures { λ r. ⌜ r ≡ max a b ⌝ }
-{
-    if a < b { b } else { a }
 }

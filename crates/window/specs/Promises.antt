@@ -36,5 +36,5 @@ pub record Promises : Type 0 where
       → Shows (columnAt (columnsOf (suc (length b)) steps m (b ++ (a ++ (x ∷ xs)))) (suc (length a)))
       (step (runOf m (b ++ a)) x .machine .aic)
       (step (runOf m (b ++ a)) x .refusal)
-  -- never more than eight entries are open in any (01, demand 3)
+  -- never more than eight entries are open in any (demand 3)
   pub eight : (first steps : ℕ) (m : Machine) (xs : List Recorded) (k : ℕ) → Ready m → m .kind ≡ 0 → entriesAt (columnsOf first steps m xs) k ≤ 8

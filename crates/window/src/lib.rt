@@ -4,7 +4,6 @@ ghost use mathlib.Core.Bool.{false};
 ghost use mathlib.Core.List.{[], _∷_};
 ghost use Prim.Native.Nat.{_+_, _*_, _≤_, min};
 ghost use lib.ListN.{length};
-ghost use Rattle.words.specs.Counting.{one};
 ghost use Rattle.text.specs.Text.{write, laid};
 ghost use Rattle.trace.specs.Trace.{stepsFrom};
 ghost use Rattle.machine_record.specs.Promises.{Ready};
@@ -102,8 +101,8 @@ fn column(s: Aic, refusal: u32) -> u64
     let source = aic_last::last_source(s);
     let level = aic_last::last_level(s);
     pack(
-        one_if(o.irq),
-        one_if(o.fiq),
+        words::one_if(o.irq),
+        words::one_if(o.fiq),
         o.entries,
         source,
         level,
@@ -117,13 +116,6 @@ fn pack(irq: u32, fiq: u32, entries: u32, source: u32, level: u32, refusal: u32)
 {
     let low = irq as u64 + 2 * fiq as u64 + 4 * entries as u64;
     low + 64 * source as u64 + 2048 * level as u64 + 524288 * refusal as u64
-}
-
-// 1 where the test holds.
-fn one_if(t: bool) -> u32
-    ensures { λ r. ⌜ r ≡ one t ⌝ }
-{
-    if t { 1 } else { 0 }
 }
 
 // The lesser of two numbers.

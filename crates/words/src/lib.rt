@@ -1,6 +1,8 @@
 // A word of sources: one bit for each of 32 sources. What these functions answer is defined bit by bit in specs/Word.antt.
+// The last two are for any crate: a test as a number, and the larger of two numbers.
+ghost use Prim.Native.Nat.{max};
 ghost use mathlib.Core.Path.{_≡_};
-ghost use Rattle.words.specs.Counting.{countBelow, lowestBelow};
+ghost use Rattle.words.specs.Counting.{one, countBelow, lowestBelow};
 ghost use Rattle.words.specs.Word.{bit, either, both, without, withBit, kept, clean};
 
 // Whether bit k of w is set. No bit past the width is.
@@ -76,4 +78,18 @@ pub fn lowest(w: u32) -> u32
     ensures { λ r. ⌜ r ≡ lowestBelow 32 (bit w) ⌝ }
 {
     u32::trailing_zeros(w)
+}
+
+// 1 where the test holds, else 0.
+pub fn one_if(t: bool) -> u32
+    ensures { λ r. ⌜ r ≡ one t ⌝ }
+{
+    if t { 1 } else { 0 }
+}
+
+// The larger of two numbers.
+pub fn larger(a: u32, b: u32) -> u32
+    ensures { λ r. ⌜ r ≡ max a b ⌝ }
+{
+    if a < b { b } else { a }
 }

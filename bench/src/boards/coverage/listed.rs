@@ -1,26 +1,35 @@
 //! Everything that a transcript has to reach.
 
-use super::{Far, Item, Lead, Limit, Spot, Up};
+use super::{Coverage, Far, Item, Lead, Limit, Spot, Up};
 use crate::boards::Sort;
 use crate::model::board::CONTROLLERS;
 use crate::model::core::{Register, Role, Side};
+use crate::tally::{Listed, Tally};
 
 const BOTH: [bool; 2] = [false, true];
 const SIDES: [Side; 2] = [Side::Irq, Side::Fiq];
 
-pub fn wanted() -> Vec<Item> {
-    let mut items: Vec<Item> = (0..=CONTROLLERS).map(Item::Controllers).collect();
-    items.extend((0..CONTROLLERS as u32).map(Item::Chain));
-    items.extend((0..CONTROLLERS).map(Item::Through));
-    items.push(Item::Unsound);
-    items.extend(answers());
-    items.extend(limits());
-    items.extend(configurations());
-    items.extend(wires());
-    items.extend(values());
-    items.extend(registers());
-    items.extend(FACTS.iter().copied().map(Item::Fact));
-    items
+impl Listed for Coverage {
+    type Item = Item;
+
+    fn tally(&self) -> &Tally<Item> {
+        &self.tally
+    }
+
+    fn wanted() -> Vec<Item> {
+        let mut items: Vec<Item> = (0..=CONTROLLERS).map(Item::Controllers).collect();
+        items.extend((0..CONTROLLERS as u32).map(Item::Chain));
+        items.extend((0..CONTROLLERS).map(Item::Through));
+        items.push(Item::Unsound);
+        items.extend(answers());
+        items.extend(limits());
+        items.extend(configurations());
+        items.extend(wires());
+        items.extend(values());
+        items.extend(registers());
+        items.extend(FACTS.iter().copied().map(Item::Fact));
+        items
+    }
 }
 
 /// The numbers that each sort of call can be answered by.

@@ -9,22 +9,22 @@ use Rattle.aic_sources.proofs.output_bits.Statement.{statement}
 use Rattle.aic_sources.proofs.output_bits.Tie as tie
 
 mul-result : tie.Need-mul-result
-mul-result c = omega (arith, c .one-of2 .ensures, one-le (not (c .before .before .before .before .has .result) && ltb (c .before .chosen-among .result) 32))
+mul-result c = omega (arith, c .one-if2 .ensures, one-le (not (c .before .before .before .before .has .result) && ltb (c .before .chosen-among .result) 32))
 
 add-result : tie.Need-add-result
 add-result c =
     omega (
       arith,
-      c .one-of2 .ensures,
+      c .one-if2 .ensures,
       one-le (not (c .before .before .before .before .has .result) && ltb (c .before .chosen-among .result) 32),
-      c .before .before .one-of .ensures,
+      c .before .before .one-if .ensures,
       one-le (not (c .before .before .before .before .has .result) && c .before .before .before .fast-among .result),
     )
 
 returns : tie.Need-returns
 returns c =
     let h = c .before .before .before .before .has .ensures in
-    bits-from _ _ _ _ _ (fiq-from _ _ _ h (c .before .before .before .fast-among .ensures)) (irq-from _ _ _ h (c .before .chosen-among .ensures)) (c .before .before .one-of .ensures) (c .one-of2 .ensures)
+    bits-from _ _ _ _ _ (fiq-from _ _ _ h (c .before .before .before .fast-among .ensures)) (irq-from _ _ _ h (c .before .chosen-among .ensures)) (c .before .before .one-if .ensures) (c .one-if2 .ensures)
 
 pub output-bits-spec : {M : Type 1} → statement M
 output-bits-spec =

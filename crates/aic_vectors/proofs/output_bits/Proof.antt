@@ -8,10 +8,10 @@ use Rattle.aic_vectors.proofs.output_bits.Statement.{statement}
 use Rattle.aic_vectors.proofs.output_bits.Tie as tie
 
 mul-result : tie.Need-mul-result
-mul-result c = omega (arith, c .one-of2 .ensures, one-le (c .before .is-irq .result))
+mul-result c = omega (arith, c .one-if2 .ensures, one-le (c .before .is-irq .result))
 
 add-result : tie.Need-add-result
-add-result c = omega (arith, c .one-of2 .ensures, one-le (c .before .is-irq .result), c .before .before .one-of .ensures, one-le (c .before .before .before .is-fiq .result))
+add-result c = omega (arith, c .one-if2 .ensures, one-le (c .before .is-irq .result), c .before .before .one-if .ensures, one-le (c .before .before .before .is-fiq .result))
 
 returns : tie.Need-returns
 returns c external spurious mode vector source words class seen h =
@@ -19,7 +19,7 @@ returns c external spurious mode vector source words class seen h =
     bits-from (aicOf external (a .lines) (a .enabled) (a .memory) (a .forced) spurious (a .debug) mode vector source (a .level .now) (a .depth) seen) _ _ _ _
     (c .before .before .before .is-fiq .ensures external spurious (a .depth) mode vector source (a .level .now) seen (h .edgeTriggered) (h .activeLow))
     (c .before .is-irq .ensures external (a .lines) (a .enabled) (a .memory) (a .forced) spurious mode vector source seen (h .some))
-    (c .before .before .one-of .ensures) (c .one-of2 .ensures)
+    (c .before .before .one-if .ensures) (c .one-if2 .ensures)
 
 pub output-bits-spec : {M : Type 1} → statement M
 output-bits-spec =

@@ -12,7 +12,7 @@ use Rattle.board_chain.proofs.chain.Kinds as chain-kinds
 use Rattle.board_chain.proofs.+chain.Lts-chain as chain-lts
 use Rattle.board_chain.proofs.counted.Reads as counted-reads
 use Rattle.board_chain.proofs.is_fed.Reads as is-fed-reads
-use Rattle.board_chain.proofs.larger.Reads as larger-reads
+use Rattle.words.proofs.larger.Reads as larger-reads
 use Rattle.board_chain.proofs.lower.Reads as lower-reads
 use Rattle.board_chain.proofs.+chain.{statement}
 use Rattle.board_chain.proofs.+chain.Tie.{close}

@@ -5,8 +5,8 @@ use borrow.Author.Needs.{needs}
 use Rattle.report_traces.proofs.play.Statement.{statement}
 use Rattle.report_traces.proofs.play.Tie as tie
 
-slice-aggregate-counted : tie.Need-slice-aggregate-counted
-slice-aggregate-counted c = sym (length-take-le _ _ (c .before .before .before .read-file .ensures))
+slice-aggregate-put-to : tie.Need-slice-aggregate-put-to
+slice-aggregate-put-to c = sym (length-take-le _ _ (c .before .before .before .read-file .ensures))
 
 pub play-spec : {M : Type 1} → statement M
 play-spec =
@@ -17,8 +17,6 @@ play-spec =
     (λ c κs. search needs)
     (λ c. search needs)
     (λ c. search needs)
-    slice-aggregate-counted
-    (λ c κs. search needs)
-    (λ c κs. search needs)
+    slice-aggregate-put-to
     (λ c κs. search needs)
     (λ c. search needs))

@@ -14,7 +14,7 @@ returns c = sym (ap (singleRead (c .before .before .args .s)) (c .before .match 
 
 returns-2 : tie.Need-returns-2
 unfolding singleRead pick
-returns-2 c = c .one-of .ensures ∙ sym (ap (singleRead (c .before .before .args .s)) (c .before .match .keys2))
+returns-2 c = c .one-if .ensures ∙ sym (ap (singleRead (c .before .before .args .s)) (c .before .match .keys2))
 
 returns-3 : tie.Need-returns-3
 unfolding singleRead pick
@@ -30,7 +30,7 @@ returns-5 c = c .shown2 .ensures ∙ sym (ap (singleRead (c .before .before .arg
 
 returns-6 : tie.Need-returns-6
 unfolding singleRead pick
-returns-6 c = c .one-of2 .ensures ∙ sym (ap (singleRead (c .before .before .args .s)) (c .before .match .keys6))
+returns-6 c = c .one-if2 .ensures ∙ sym (ap (singleRead (c .before .before .args .s)) (c .before .match .keys6))
 
 returns-7 : tie.Need-returns-7
 unfolding singleRead pick

@@ -1,17 +1,17 @@
--- That `fiq_inputs` of src/lib.rt ends.
+-- That `toured` of src/lib.rt ends.
 use Prim.Native.Nat.{_≤_, _-_}
 use borrow.Author.Needs.{needs}
-use Rattle.board_towers.proofs.fiq_inputs.Statement.{statement}
-use Rattle.board_towers.proofs.fiq_inputs.Tie as tie
+use Rattle.board_tours.proofs.toured.Statement.{statement}
+use Rattle.board_tours.proofs.toured.Tie as tie
 
 abbrev Inv-loop : tie.InvT-loop
-Inv-loop c d e₀ i₀ e i = i ≤ 40
+Inv-loop what n u₀ k₀ u k = k ≤ n
 
 abbrev μ-loop : tie.MeasureT-loop
-μ-loop c d e₀ i₀ e i = 40 - i
+μ-loop what n u₀ k₀ u k = n - k
 
-pub fiq-inputs-spec : {M : Type 1} → statement M
-fiq-inputs-spec =
+pub toured-spec : {M : Type 1} → statement M
+toured-spec =
     tie.close
     (tie.spec
     Inv-loop

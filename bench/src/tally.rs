@@ -1,0 +1,78 @@
+//! How often each item was reached that a comparison counts; a listed item not reached is a gap.
+
+use std::collections::HashMap;
+use std::fmt::Debug;
+use std::hash::Hash;
+
+/// Items, and how often each was reached.
+#[derive(Clone, Debug)]
+pub struct Tally<I> {
+    counts: HashMap<I, u64>,
+}
+
+impl<I> Default for Tally<I> {
+    fn default() -> Tally<I> {
+        let counts = HashMap::new();
+        Tally { counts }
+    }
+}
+
+impl<I: Copy + Eq + Hash> Tally<I> {
+    pub fn reach(&mut self, item: I) {
+        *self.counts.entry(item).or_insert(0) += 1;
+    }
+
+    pub fn count(&self, item: I) -> u64 {
+        self.counts.get(&item).copied().unwrap_or(0)
+    }
+
+    /// All that was reached, in any order, with its count.
+    pub fn reached(&self) -> impl Iterator<Item = (I, u64)> + '_ {
+        self.counts.iter().map(|(&item, &count)| (item, count))
+    }
+}
+
+/// What counts the items that a comparison reaches, and lists those that it should reach.
+pub trait Listed {
+    type Item: Copy + Ord + Hash + Debug;
+
+    /// All items that are to be reached.
+    fn wanted() -> Vec<Self::Item>;
+
+    fn tally(&self) -> &Tally<Self::Item>;
+
+    /// How often an item was reached.
+    fn count(&self, item: Self::Item) -> u64 {
+        self.tally().count(item)
+    }
+
+    /// The listed items with their counts, the rarest first.
+    fn table(&self) -> Vec<(u64, Self::Item)> {
+        let items = Self::wanted().into_iter();
+        let mut table: Vec<_> = items.map(|item| (self.count(item), item)).collect();
+        table.sort();
+        table
+    }
+
+    /// The listed items that were not reached.
+    fn gaps(&self) -> Vec<Self::Item> {
+        let mut items = Self::wanted();
+        items.retain(|&item| self.count(item) == 0);
+        items
+    }
+
+    /// What was reached and is not listed.
+    fn unlisted(&self) -> Vec<Self::Item> {
+        let listed = Self::wanted();
+        let reached = self.tally().reached().map(|(item, _)| item);
+        reached.filter(|item| !listed.contains(item)).collect()
+    }
+
+    /// The items that are listed more than once.
+    fn listed_twice() -> Vec<Self::Item> {
+        let mut items = Self::wanted();
+        items.sort();
+        let twice = items.windows(2).filter(|pair| pair[0] == pair[1]);
+        twice.map(|pair| pair[0]).collect()
+    }
+}
