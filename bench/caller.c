@@ -1,5 +1,6 @@
 /* A caller in C: the example of document 01 through the proved library and its header, the empty trace, traces that end at a limit and beside it, the
- * words that a read of a prioritised index looks at, the figures of traces, and typed tables with a figure and with each refusal.
+ * words that a read of a prioritised index looks at, the figures of traces, typed tables with a figure and with each refusal, and a CoreInterrupt that is
+ * lent: where its words lie, starts and steps of each kind, and each refusal.
  * It prints what differs, and ends with 1 where something does. */
 #include "wisteria.h"
 
@@ -198,6 +199,8 @@ static void stacks(void)
     stack_is("a frame of 65,536", table("0 0 0", "0 0 65536", "0 0 0", "0", "0"), "E 14\n");
     stack_is("a mark of 65,536", table("0 0 0", "0 0 0", "0 0 0", "0", "65536"), "E 14\n");
     stack_is("source 0 beyond its limit", table("0 0 65536", "0 0 0", "0 0 0", "0", "0"), "E 14\n");
+    stack_is("a frame of 33 bits", table("0 0 0", "0 0 4294967296", "0 0 0", "0", "0"), "E 14\n");
+    stack_is("a mark of 20 digits", table("0 0 0", "0 0 0", "0 0 0", "0", "18446744073709551616"), "E 14\n");
     stack_is("a forced source beyond its limit", table("0 0 0", "8 0 0", "0 0 0", "0xFFFFFFFF", "0"), "E 14\n");
 }
 
@@ -213,7 +216,7 @@ static void typing(void)
     stack_is("a letter", table("0 0 0", "0 O 0", "0 0 0", "0", "0"), "E 8 8\n");
     stack_is("0X", table("0 0 0", "0X1 0 0", "0 0 0", "0", "0"), "E 8 6\n");
     stack_is("no digit", table("0 0 0x", "0 0 0", "0 0 0", "0", "0"), "E 8 4\n");
-    stack_is("33 bits", table("0 0 0", "0 0 0", "0 0 0", "4294967296", "0"), "E 8 192\n");
+    stack_is("a forced word of 33 bits", table("0 0 0", "0 0 0", "0 0 0", "4294967296", "0"), "E 8 192\n");
     stack_is("8 before 14", table("8 0 0", "0 0 0", "0 0 0", "0", "x"), "E 8 194\n");
     memset(longest, ' ', sizeof longest);
     said("65,536 bytes", longest, WISTERIA_LONGEST, "E 8 65536\n");
@@ -246,6 +249,91 @@ static void words_looked_at(void)
     looks("the most", BYTES("\4\x80\x08\x80\2\1\0\1"), 0, 0x900, 8192);
 }
 
+/* A CoreInterrupt between two words that no call may touch. */
+static struct {
+    uint32_t before;
+    struct wisteria_core core;
+    uint32_t behind;
+} lent;
+
+/* The words of the record are these: count, level, inputs, soft, enable of FIQ, then of IRQ. */
+static void holds(const char *what, const uint32_t words[10])
+{
+    expect(what, memcmp(&lent.core, words, 40) == 0);
+    expect(what, lent.before == 0xA5A5A5A5 && lent.behind == 0xA5A5A5A5);
+}
+
+static void starts(const char *what, uint32_t fiqs, uint32_t irqs, uint32_t fiq, uint32_t irq, uint32_t refusal)
+{
+    struct wisteria_reply reply = wisteria_core_start(&lent.core, fiqs, irqs, fiq, irq);
+    expect(what, reply.refusal == refusal && reply.value == 0);
+}
+
+/* A step and what it answers; a refused one leaves every word as it was. */
+static void steps(const char *what, uint32_t kind, uint32_t first, uint32_t second, uint32_t refusal, uint32_t value)
+{
+    struct wisteria_core was = lent.core;
+    struct wisteria_reply reply = wisteria_core_step(&lent.core, kind, first, second);
+    expect(what, reply.refusal == refusal && reply.value == value);
+    expect(what, refusal == 0 || memcmp(&lent.core, &was, sizeof was) == 0);
+}
+
+/* Where each word lies, and that the library has them there too: each is given a value of its own (01, CoreInterrupt). */
+static void lent_layout(void)
+{
+    static const uint32_t started[10] = {7, 1, 0, 0, 0, 31, 0, 0, 0, 0};
+    static const uint32_t moved[10] = {7, 1, 2, 0x11, 0x21, 31, 0, 8, 0x12, 0x22};
+    expect("the size of a record", sizeof(struct wisteria_core) == 40 && sizeof(struct wisteria_reply) == 8);
+    expect("its sides", offsetof(struct wisteria_core, fiq) == 0 && offsetof(struct wisteria_core, irq) == 20);
+    expect("the words of a side", offsetof(struct wisteria_core_side, count) == 0 && offsetof(struct wisteria_core_side, level) == 4 &&
+                                      offsetof(struct wisteria_core_side, inputs) == 8 && offsetof(struct wisteria_core_side, soft) == 12 &&
+                                      offsetof(struct wisteria_core_side, enable) == 16);
+    memset(&lent, 0xA5, sizeof lent);
+    starts("a start over any words", 7, 31, 1, 0, 0);
+    holds("after the start", started);
+    steps("line 33", WISTERIA_LINE, 33, 1, 0, 0);
+    steps("FIQ soft", WISTERIA_WRITE, 0x00, 0x11, 0, 0);
+    steps("FIQ enable", WISTERIA_WRITE, 0x08, 0xA1, 0, 0);
+    steps("line 3", WISTERIA_LINE, 3, 1, 0, 0);
+    steps("IRQ soft", WISTERIA_WRITE, 0x18, 0x12, 0, 0);
+    steps("IRQ enable", WISTERIA_WRITE, 0x20, 0x80000022, 0, 0);
+    holds("after six steps", moved);
+    steps("FIQ raw", WISTERIA_READ, 0x10, 99, 0, 0x13);
+    steps("FIQ status", WISTERIA_READ, 0x14, 0, 0, 0x01);
+    steps("IRQ raw", WISTERIA_READ, 0x28, 0, 0, 0x1A);
+    steps("IRQ status", WISTERIA_READ, 0x2C, 0, 0, 0x02);
+    holds("after four reads", moved);
+}
+
+/* Each refusal of a start and of a step, at the limits and beyond them (01, Numbers). */
+static void lent_refusals(void)
+{
+    struct wisteria_core sound;
+    starts("the most", 8, 32, 1, 1, 0);
+    sound = lent.core;
+    starts("9 FIQ sources", 9, 32, 1, 1, WISTERIA_BEYOND_LIMIT);
+    starts("33 IRQ sources", 8, 33, 1, 1, WISTERIA_BEYOND_LIMIT);
+    starts("FIQ level 2", 8, 32, 2, 1, WISTERIA_BEYOND_LIMIT);
+    starts("IRQ level 2", 8, 32, 1, 2, WISTERIA_BEYOND_LIMIT);
+    expect("refused starts write nothing", memcmp(&lent.core, &sound, sizeof sound) == 0);
+    steps("kind 0", 0, 0, 0, WISTERIA_UNKNOWN_KIND, 0);
+    steps("kind 4", 4, 0, 0, WISTERIA_UNKNOWN_KIND, 0);
+    steps("offset 1", WISTERIA_READ, 1, 0, 1, 0);
+    steps("offset 0x30", WISTERIA_WRITE, 0x30, 0, 2, 0);
+    steps("a read of a clear", WISTERIA_READ, 0x04, 0, 3, 0);
+    steps("a write of a status", WISTERIA_WRITE, 0x14, 0, 4, 0);
+    steps("line 40", WISTERIA_LINE, 40, 0, 6, 0);
+    steps("level 2", WISTERIA_LINE, 39, 2, 6, 0);
+    starts("no FIQ source", 0, 1, 0, 0, 0);
+    steps("a read of a clear without sources", WISTERIA_READ, 0x04, 0, 0, 0);
+    lent.core.irq.soft = 2;
+    steps("a bit beyond the count", WISTERIA_READ, 1, 0, 12, 0);
+    steps("and no kind of step", 0, 1, 0, WISTERIA_UNKNOWN_KIND, 0);
+    lent.core.irq.soft = 1;
+    steps("no bit beyond it", WISTERIA_READ, 0x18, 0, 0, 1);
+    expect("the words around it", lent.before == 0xA5A5A5A5 && lent.behind == 0xA5A5A5A5);
+}
+
 int main(void)
 {
     worked_example();
@@ -255,5 +343,7 @@ int main(void)
     figures();
     stacks();
     typing();
+    lent_layout();
+    lent_refusals();
     return wrong;
 }

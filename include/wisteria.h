@@ -1,13 +1,14 @@
 /* Lists and plays recorded traces of register accesses and line changes, says how many words a read of an index looks at, counts what the sources of an
- * AIC did, and says the stack that a priority table needs, for callers in C and C++.
+ * AIC did, says the stack that a priority table needs, and steps a CoreInterrupt that the caller holds, for callers in C and C++.
  *
- * The functions are those of crates/exports, proved to answer what its contracts say for every trace, limit and text. Link
+ * The functions are those of crates/exports, proved to answer what its contracts say for every trace, limit, text and record. Link
  * libexports.a, which `rt staticlib exports` writes (x86-64); bench/prepare also makes it for other machines.
  *
  * What a caller answers for:
  *   - trace (or text) points to trace_len (text_len) bytes that nothing changes during the call, and out to out_len bytes that nothing else uses;
  *   - neither pointer is null, not even where its length is 0: it is then the address of anything, and not followed;
- *   - trace (or text) and out do not overlap, not even in one byte.
+ *   - trace (or text) and out do not overlap, not even in one byte;
+ *   - core points to a struct wisteria_core that nothing else uses during the call, whatever its words are.
  * No function keeps a pointer, allocates memory, reads or writes anything else, or fails. Each may be called from several threads at once.
  *
  * A trace or text longer than 65,536 bytes is refused as a whole, so at most 65,537 bytes of a longer one need to be handed over.
@@ -91,12 +92,54 @@ uint32_t wisteria_figures(const uint8_t *trace, size_t trace_len, uint32_t limit
  * bit n says that source n is forced to the fast side (bit 0 is ignored); then the frame of a spurious mark (bytes, 0 to 65,535).
  * The line is one of these, ended by '\n', with numbers in decimal:
  *   N bytes      the figure, in bytes, at most 524,280;
- *   E 14         a priority, type or frame is beyond its limit, be its source fast or not;
- *   E 8 OFFSET   a number is missing, is no number or passes 32 bits, or something stands behind the last one: where it begins, in bytes from the
- *                start of the text, or text_len where it is missing. This comes before 14;
+ *   E 14         a priority, type or frame is beyond its limit, be its source fast or not, and however many digits it has;
+ *   E 8 OFFSET   a number is missing or is no number, the word of forced sources passes 32 bits, or something stands behind the last number: where
+ *                it begins, in bytes from the start of the text, or text_len where it is missing. This comes before 14;
  *   E 11 65536   the text has more than 65,536 bytes, whatever they are.
  * Answers the number of bytes written, at most out_len, with what finds no room dropped as above. */
 size_t wisteria_stack(const uint8_t *text, size_t text_len, uint8_t *out, size_t out_len);
+
+/* One side of a CoreInterrupt. Bit n of the last three words is that of source n. */
+struct wisteria_core_side {
+    uint32_t count;   /* how many sources it has: FIQ 0 to 8, IRQ 0 to 32 */
+    uint32_t level;   /* the level of its output while it is active, 0 or 1 */
+    uint32_t inputs;  /* its lines */
+    uint32_t soft;    /* its software sources */
+    uint32_t enable;  /* which sources are enabled */
+};
+
+/* A CoreInterrupt, ten words: all that it holds. A caller may read them, copy them and put them back; a record that breaks a rule (a count or a level
+ * beyond its limit, a bit at or beyond the count) is refused by each step. */
+struct wisteria_core {
+    struct wisteria_core_side fiq, irq;
+};
+
+/* What a start or a step answers: 0, or the number of the refusal; and the value read, 0 for anything else. */
+struct wisteria_reply {
+    uint32_t refusal;
+    uint32_t value;
+};
+
+/* The kinds of step, as a trace has them. */
+enum {
+    WISTERIA_READ = 1,   /* first: an offset in bytes; second plays no part */
+    WISTERIA_WRITE = 2,  /* first: an offset in bytes; second: the value */
+    WISTERIA_LINE = 3    /* first: a line, IRQ inputs 0 to 31, FIQ inputs 32 to 39; second: its level, 0 or 1 */
+};
+
+/* Starts core with so many FIQ and IRQ sources and these active levels: its lines low, its registers 0, whatever its words were. Refused by 10 where a
+ * number is beyond its limit, and then every word stays as it was. */
+struct wisteria_reply wisteria_core_start(struct wisteria_core *core, uint32_t fiqs, uint32_t irqs, uint32_t fiq_level, uint32_t irq_level);
+
+/* Carries out one step on core. A refused one leaves every word as it was and answers the value 0. Its number is the first that fits of
+ *    9   there is no such kind of step;
+ *   12   the record breaks a rule;
+ *    1   the offset is not a multiple of 4;
+ *    2   there is no register at this offset;
+ *    3   a read of a register that is only written, 4 a write of one that is only read;
+ *    6   there is no such line or level.
+ * An output is active exactly if its status, FIQ at 0x14 and IRQ at 0x2C, does not read 0. */
+struct wisteria_reply wisteria_core_step(struct wisteria_core *core, uint32_t kind, uint32_t first, uint32_t second);
 
 #ifdef __cplusplus
 }

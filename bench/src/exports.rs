@@ -4,6 +4,7 @@ use crate::compare::{written, Outcome};
 use crate::generate::Case;
 use crate::looked::{self, Question};
 use crate::model::aic::SOURCES;
+use crate::model::core::{CoreInterrupt, Group};
 use crate::report::generate::told;
 use crate::report::{Counts, Figures};
 use crate::stack::generate::Typed;
@@ -51,6 +52,16 @@ extern "C" {
 
     /// The status words that a read of the register at the offset would look at after the play.
     fn wisteria_looked(trace: *const u8, trace_len: usize, limit: u32, offset: u32) -> u32;
+
+    /// A start of the lent CoreInterrupt, and a step on it told by its kind and two numbers; the record is updated.
+    fn wisteria_core_start(
+        core: *mut LentCore,
+        fiqs: u32,
+        irqs: u32,
+        fiq_level: u32,
+        irq_level: u32,
+    ) -> Reply;
+    fn wisteria_core_step(core: *mut LentCore, kind: u32, first: u32, second: u32) -> Reply;
 }
 
 /// How a listing is asked for.
@@ -195,4 +206,63 @@ pub fn figures_of(trace: &[u8], limit: u32) -> Figures {
 pub fn figures(case: &Case) -> Outcome {
     let figures = figures_of(&case.trace, case.limit);
     Ok(told(&figures, ending_of(&case.trace, case.limit)))
+}
+
+/// One side of a CoreInterrupt as the library's callers hold it.
+#[repr(C)]
+#[derive(Clone, Copy, Debug, PartialEq, Eq)]
+pub struct LentSide {
+    pub count: u32,
+    pub level: u32,
+    pub inputs: u32,
+    pub soft: u32,
+    pub enable: u32,
+}
+
+/// A CoreInterrupt as they hold it.
+#[repr(C)]
+#[derive(Clone, Copy, Debug, PartialEq, Eq)]
+pub struct LentCore {
+    pub fiq: LentSide,
+    pub irq: LentSide,
+}
+
+/// What a start or a step of it answers.
+#[repr(C)]
+#[derive(Clone, Copy, Debug, PartialEq, Eq)]
+pub struct Reply {
+    pub refusal: u32,
+    pub value: u32,
+}
+
+impl From<&Group> for LentSide {
+    fn from(group: &Group) -> LentSide {
+        LentSide {
+            count: group.count,
+            level: u32::from(group.active_level),
+            inputs: group.inputs,
+            soft: group.soft,
+            enable: group.enable,
+        }
+    }
+}
+
+impl From<&CoreInterrupt> for LentCore {
+    fn from(core: &CoreInterrupt) -> LentCore {
+        LentCore {
+            fiq: LentSide::from(&core.fiq),
+            irq: LentSide::from(&core.irq),
+        }
+    }
+}
+
+/// Starts a lent CoreInterrupt: FIQ count, IRQ count, FIQ level, IRQ level.
+pub fn core_start(core: &mut LentCore, [fiqs, irqs, fiq, irq]: [u32; 4]) -> Reply {
+    // The pointer is that of a record which nothing else uses, here and below.
+    unsafe { wisteria_core_start(core, fiqs, irqs, fiq, irq) }
+}
+
+/// A step on it, told by its kind and two numbers.
+pub fn core_step(core: &mut LentCore, [kind, first, second]: [u32; 3]) -> Reply {
+    unsafe { wisteria_core_step(core, kind, first, second) }
 }

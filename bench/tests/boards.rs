@@ -4,6 +4,7 @@
 #[path = "boards/second.rs"]
 mod second;
 
+use std::collections::BTreeSet;
 use std::io::Write;
 use std::process::{Command, Output, Stdio};
 
@@ -292,6 +293,55 @@ mod points {
         wired(&mut board, &[(4, 38, Wire::Nothing), (4, 39, Wire::Pin(1))]);
         assert_eq!(board.chain(7), Ok(2));
     }
+}
+
+/// How many activities the pair of `board_pair` asks for, to tell that of a controller, itself among them: each lower
+/// controller that feeds an input, used or not, is asked once.
+fn asked(board: &Board, controller: usize) -> u32 {
+    let fed = |wire: &Wire| match *wire {
+        Wire::Output(_, other) => Some(other as usize),
+        _ => None,
+    };
+    let feeders: BTreeSet<usize> = board.wires(controller).iter().filter_map(fed).collect();
+    1 + feeders
+        .into_iter()
+        .map(|other| asked(board, other))
+        .sum::<u32>()
+}
+
+#[test]
+fn the_highest_of_eight_asks_for_at_most_128_activities() {
+    let mut board = board_of(8);
+    for controller in 1..8 {
+        wired(&mut board, &[(controller, 0, irq(controller - 1))]);
+    }
+    assert_eq!(asked(&board, 7), 8, "a chain");
+    for (controller, other) in (1..8).flat_map(|upper| (0..upper).map(move |lower| (upper, lower)))
+    {
+        let twice = [
+            (controller, other, irq(other)),
+            (controller, 32 + other, fiq(other)),
+        ];
+        wired(&mut board, &twice);
+    }
+    let all: Vec<u32> = (0..8).map(|number| asked(&board, number)).collect();
+    assert_eq!(all, [1, 2, 4, 8, 16, 32, 64, 128]);
+}
+
+#[test]
+fn no_generated_board_asks_for_more() {
+    let mut most = 0;
+    for script in scripts() {
+        let mut board = Board::new();
+        for call in &script.calls {
+            ask(&mut board, call);
+        }
+        for number in 0..board.controllers() {
+            assert!(asked(&board, number) <= 1 << number, "{}", script.title);
+            most = most.max(asked(&board, number));
+        }
+    }
+    assert!(most > 8, "no generated board is dearer than a chain");
 }
 
 /// The boards that are asked.

@@ -1,14 +1,20 @@
 //! The proved library through its C functions: only built where it is linked in, with the feature `exports`.
 #![cfg(feature = "exports")]
 
+use std::collections::BTreeMap;
 use std::fmt::Debug;
+use std::mem::{align_of, offset_of, size_of};
 
 use bench::compare::{compare, expected, Subject};
+use bench::exports::{core_start, core_step, LentCore, LentSide, Reply};
 use bench::exports::{ending_of, list_into, stack_into, steps_of, words_looked_at};
 use bench::generate::{Case, Generator, Script};
 use bench::listing::listing;
 use bench::looked::{looked, Question};
+use bench::model::core::CoreInterrupt;
+use bench::model::{Controller, Refusal, Step};
 use bench::numbered::{Made, Numbered};
+use bench::random::Random;
 use bench::report::ending;
 use bench::report::generate::Counted;
 use bench::stack::generate::Typed;
@@ -149,4 +155,187 @@ fn every_limit_and_offset_is_asked_alike() {
             assert_eq!(library, words, "limit {limit}, offset {offset:#x}");
         }
     }
+}
+
+/// The words of a lent CoreInterrupt in the order of the header: count, level, inputs, soft, enable of FIQ, then of IRQ.
+fn core_of(words: [u32; 10]) -> LentCore {
+    let side = |at: usize| LentSide {
+        count: words[at],
+        level: words[at + 1],
+        inputs: words[at + 2],
+        soft: words[at + 3],
+        enable: words[at + 4],
+    };
+    LentCore {
+        fiq: side(0),
+        irq: side(5),
+    }
+}
+
+#[test]
+fn the_words_of_a_lent_record_lie_as_the_header_says() {
+    assert_eq!((size_of::<LentCore>(), align_of::<LentCore>()), (40, 4));
+    assert_eq!(
+        (offset_of!(LentCore, fiq), offset_of!(LentCore, irq)),
+        (0, 20)
+    );
+    let offsets = [
+        offset_of!(LentSide, count),
+        offset_of!(LentSide, level),
+        offset_of!(LentSide, inputs),
+        offset_of!(LentSide, soft),
+        offset_of!(LentSide, enable),
+    ];
+    assert_eq!(offsets, [0, 4, 8, 12, 16]);
+    assert_eq!((size_of::<Reply>(), offset_of!(Reply, value)), (8, 4));
+    // The library has them there too: each word is given a value of its own, by the start or by a step.
+    let mut core = core_of([u32::MAX; 10]);
+    let taken = Reply {
+        refusal: 0,
+        value: 0,
+    };
+    assert_eq!(core_start(&mut core, [7, 31, 1, 0]), taken);
+    assert_eq!(core, core_of([7, 1, 0, 0, 0, 31, 0, 0, 0, 0]));
+    for step in [
+        [3, 33, 1],
+        [2, 0x00, 0x11],
+        [2, 0x08, 0x21],
+        [3, 3, 1],
+        [2, 0x18, 0x12],
+        [2, 0x20, 0x22],
+    ] {
+        assert_eq!(core_step(&mut core, step), taken);
+    }
+    assert_eq!(core, core_of([7, 1, 2, 0x11, 0x21, 31, 0, 8, 0x12, 0x22]));
+}
+
+/// A step told by numbers: any offset, line and level near those that exist, any word, and now and then no kind of step.
+fn any_told(random: &mut Random) -> [u32; 3] {
+    let kind = random.pick(&[1, 1, 1, 2, 2, 2, 3, 3, 3, 0, 4, u32::MAX]);
+    let value = match random.below(3) {
+        0 => random.word(),
+        1 => 1 << random.below(32),
+        _ => u32::MAX,
+    };
+    match kind {
+        3 => [kind, random.below(43), random.pick(&[0, 0, 1, 1, 1, 2])],
+        _ if random.one_in(8) => [kind, random.below(0x40), value],
+        _ => [kind, 4 * random.below(13), value],
+    }
+}
+
+/// The model's answer, its own state moved; 9 for what is no step.
+fn told_to_model(core: &mut CoreInterrupt, [kind, first, second]: [u32; 3]) -> Reply {
+    let answer = match kind {
+        1 => core.step(Step::Read { offset: first }),
+        2 => core.step(Step::Write {
+            offset: first,
+            value: second,
+        }),
+        3 => core.step(Step::Line {
+            line: first,
+            level: second,
+        }),
+        _ => Err(Refusal::UnknownKind),
+    };
+    Reply {
+        refusal: answer.err().map_or(0, Refusal::number),
+        value: answer.unwrap_or(0),
+    }
+}
+
+/// 400 configurations with 200 steps each: every reply and, after every step, every word of the record.
+#[test]
+fn a_lent_record_steps_as_the_model_does() {
+    let random = &mut Random::new(36);
+    let mut refusals: BTreeMap<u32, u32> = BTreeMap::new();
+    for _ in 0..400 {
+        let some = [random.below(9), random.below(33)];
+        let fiqs = random.pick(&[0, 1, some[0], 8]);
+        let irqs = random.pick(&[0, 1, some[1], 32]);
+        let levels = [random.below(2), random.below(2)];
+        let mut model = CoreInterrupt::new(fiqs, irqs, levels[0] == 1, levels[1] == 1);
+        let mut lent = core_of(std::array::from_fn(|_| random.word()));
+        let reply = core_start(&mut lent, [fiqs, irqs, levels[0], levels[1]]);
+        assert_eq!((reply.refusal, reply.value), (0, 0));
+        assert_eq!(lent, LentCore::from(&model));
+        for _ in 0..200 {
+            let told = any_told(random);
+            let before = lent;
+            let reply = core_step(&mut lent, told);
+            assert_eq!(
+                reply,
+                told_to_model(&mut model, told),
+                "{before:?}, {told:?}"
+            );
+            assert_eq!(lent, LentCore::from(&model), "{before:?}, {told:?}");
+            if reply.refusal != 0 {
+                assert_eq!((lent, reply.value), (before, 0), "{told:?}");
+            }
+            *refusals.entry(reply.refusal).or_default() += 1;
+        }
+    }
+    let seen: Vec<u32> = refusals.keys().copied().collect();
+    assert_eq!(seen, [0, 1, 2, 3, 4, 6, 9]);
+    assert!(refusals.values().all(|&times| times > 300), "{refusals:?}");
+}
+
+/// Each number of a configuration at its limit and beyond it, over records of any words: 10, and no word is written.
+#[test]
+fn a_refused_start_leaves_the_lent_record() {
+    let random = &mut Random::new(10);
+    for round in 0..2_000 {
+        let limits = [8, 32, 1, 1];
+        let mut numbers = limits.map(|limit| random.within(0, limit));
+        if round % 2 == 1 {
+            let at = random.below(4) as usize;
+            let far = random.pick(&[1, 2, 1 << 16, u32::MAX - limits[at]]);
+            numbers[at] = limits[at] + far;
+        }
+        let before = core_of(std::array::from_fn(|_| random.word()));
+        let mut lent = before;
+        let reply = core_start(&mut lent, numbers);
+        let [fiqs, irqs, fiq, irq] = numbers;
+        let (refusal, after) = match round % 2 {
+            0 => (0, core_of([fiqs, fiq, 0, 0, 0, irqs, irq, 0, 0, 0])),
+            _ => (10, before),
+        };
+        assert_eq!(reply, Reply { refusal, value: 0 }, "{numbers:?}");
+        assert_eq!(lent, after, "{numbers:?}");
+    }
+}
+
+/// Each rule of a sound record broken alone: 12 before all else, but 9 for what is no step; no word is written.
+#[test]
+fn a_record_that_breaks_a_rule_is_refused_as_it_is() {
+    let sound = core_of([3, 1, 1, 2, 4, 31, 0, 1, 2, 4]);
+    let breaks: [fn(&mut LentCore); 12] = [
+        |core| core.fiq.count = 9,
+        |core| core.fiq.level = 2,
+        |core| core.fiq.inputs |= 1 << 3,
+        |core| core.fiq.soft |= 1 << 31,
+        |core| core.fiq.enable |= 1 << 8,
+        |core| core.fiq.count = u32::MAX,
+        |core| core.irq.count = 33,
+        |core| core.irq.level = u32::MAX,
+        |core| core.irq.inputs |= 1 << 31,
+        |core| core.irq.soft |= 1 << 31,
+        |core| core.irq.enable |= 1 << 31,
+        |core| core.irq.count = 2,
+    ];
+    let random = &mut Random::new(12);
+    for (which, broken) in breaks.into_iter().enumerate() {
+        let mut before = sound;
+        broken(&mut before);
+        for _ in 0..200 {
+            let told = any_told(random);
+            let mut lent = before;
+            let reply = core_step(&mut lent, told);
+            let refusal = if (1..=3).contains(&told[0]) { 12 } else { 9 };
+            assert_eq!(reply, Reply { refusal, value: 0 }, "{which}, {told:?}");
+            assert_eq!(lent, before, "{which}, {told:?}");
+        }
+    }
+    let mut lent = sound;
+    assert_eq!(core_step(&mut lent, [1, 0x0C, 0]).refusal, 3);
 }

@@ -18,7 +18,8 @@ pub const NAMES: usize = 3_000;
 /// Makes the folder and puts traces into it, and lists of names that begin with the folder's as it is given:
 /// `all.names` has 3,000; `odd.names` what cannot be read, what is no whole trace and what is easily read otherwise;
 /// `kinds.names` each kind, whole, cut and with refused steps; `twice.names` one trace twice and in another order;
-/// `empty.names` nothing; `line.names` an empty name; `open.names` one name with no line feed.
+/// `returns.names` names with a carriage return before each line feed; `empty.names` nothing; `line.names` an empty
+/// name; `open.names` one name with no line feed.
 pub fn make(folder: &Path) -> io::Result<()> {
     fs::create_dir_all(folder)?;
     let lists = [
@@ -26,6 +27,7 @@ pub fn make(folder: &Path) -> io::Result<()> {
         ("odd.names", odd(folder)?),
         ("kinds.names", kinds(folder)?),
         ("twice.names", twice(folder)?),
+        ("returns.names", returns(folder)),
         ("empty.names", vec![]),
         ("line.names", b"\n".to_vec()),
         ("open.names", in_folder(folder, b"aic-whole.trace")),
@@ -117,6 +119,35 @@ fn twice(folder: &Path) -> io::Result<Vec<u8>> {
     Ok(names)
 }
 
+/// Names that end in a carriage return and a line feed: with another carriage return before these, first, in the middle
+/// and alone; around the longest name; and a last one with a carriage return and no line feed.
+fn returns(folder: &Path) -> Vec<u8> {
+    let mut names = Vec::new();
+    let mut end = |name: &[u8]| names.extend([name, b"\r\n"].concat());
+    for name in [b"good.trace".as_slice(), b"good.trace\r", b"go\rod.trace"] {
+        end(&in_folder(folder, name));
+    }
+    end(&[b"\r".as_slice(), &in_folder(folder, b"good.trace")].concat());
+    for name in [b"".as_slice(), b"\r", b"x", b"\0"] {
+        end(name);
+    }
+    for length in LONGEST_NAME - 3..LONGEST_NAME + 3 {
+        end(&padded(folder, length));
+    }
+    end(&b"x".repeat(9_000));
+    names.extend(in_folder(folder, b"good.trace\r"));
+    names
+}
+
+/// The good trace by a name of this length.
+fn padded(folder: &Path, length: usize) -> Vec<u8> {
+    let name = in_folder(folder, b"");
+    let missing = length - name.len() - b"good.trace".len();
+    let dots = b"./".repeat(missing / 2);
+    let slash: &[u8] = if missing % 2 == 1 { b"/" } else { b"" };
+    [&name, slash, &dots, b"good.trace".as_slice()].concat()
+}
+
 /// What is odd about a name or a file; the last name has no line feed.
 fn odd(folder: &Path) -> io::Result<Vec<u8>> {
     let good = steps_of_kind(0, true).bytes;
@@ -124,7 +155,7 @@ fn odd(folder: &Path) -> io::Result<Vec<u8>> {
     put(folder, b"good.trace", &good, &mut names)?;
     unreadable(folder, &mut names)?;
     lengths_of_names(folder, &mut names);
-    // Any byte may be in a name but a line feed and a 0.
+    // Any byte may be in a name but a line feed and a 0; a carriage return at its end is none of it.
     for name in [
         b"with spaces .trace".as_slice(),
         b" before",
@@ -184,14 +215,7 @@ fn lengths_of_names(folder: &Path, names: &mut Vec<u8>) {
         LONGEST_NAME,
         LONGEST_NAME + 1,
     ] {
-        let name = in_folder(folder, b"");
-        let missing = length - name.len() - b"good.trace".len();
-        let dots = b"./".repeat(missing / 2);
-        let slash: &[u8] = if missing % 2 == 1 { b"/" } else { b"" };
-        line(
-            names,
-            &[&name, slash, &dots, b"good.trace".as_slice()].concat(),
-        );
+        line(names, &padded(folder, length));
     }
     for length in [255, 256, 5_000, 70_000, 140_000] {
         line(names, &b"x".repeat(length));

@@ -24,7 +24,8 @@ pub fn report(names: &mut impl BufRead, to: &mut impl Write) -> io::Result<()> {
     to.write_all(&source_lines(&totals.sources))
 }
 
-/// The next name: what stands before a line feed, or before the end if anything does.
+/// The next name: what stands before a line feed, less one carriage return right before it, or before the end if
+/// anything does.
 fn next_name(names: &mut impl BufRead) -> io::Result<Option<Vec<u8>>> {
     let mut name = Vec::new();
     if names.read_until(b'\n', &mut name)? == 0 {
@@ -32,6 +33,9 @@ fn next_name(names: &mut impl BufRead) -> io::Result<Option<Vec<u8>>> {
     }
     if name.last() == Some(&b'\n') {
         name.pop();
+        if name.last() == Some(&b'\r') {
+            name.pop();
+        }
     }
     Ok(Some(name))
 }

@@ -19,6 +19,8 @@ pub enum Item {
     AtLimit(Limited),
     /// 14 by this number alone, by one beyond its limit or by more.
     Beyond(Limited, Far),
+    /// 14 by a number of this sort alone, which passes 32 bits.
+    Over(Field),
     /// 8 by a number of this sort.
     Misread(Field, Slip),
     /// A number of this sort was typed so, in a table with a figure.
@@ -181,7 +183,7 @@ impl Coverage {
                 self.fact_if(text.len() > LONGEST + 1, "many bytes too many");
             }
             (_, Ok(table)) => self.beyond(&table),
-            (_, Err(_)) => {}
+            (_, Err(_)) => self.over(text),
         }
     }
 
@@ -225,6 +227,25 @@ impl Coverage {
                 _ => Far::ByMore,
             };
             self.reach(Item::Beyond(number, far));
+        }
+    }
+
+    /// Counted only where one number passes 32 bits, and no other is beyond its limit.
+    fn over(&mut self, text: &[u8]) {
+        let numbers = text::numbers(text).unwrap_or_default();
+        let passes = |nth: &usize| numbers[*nth].is_none();
+        let over: Vec<usize> = (0..numbers.len()).filter(passes).collect();
+        let rest: Vec<u32> = numbers.iter().map(|n| n.unwrap_or(0)).collect();
+        if let ([nth], true) = (&over[..], text::made_of(&rest).within_limits()) {
+            let nth = *nth;
+            self.reach(Item::Over(Field::of(nth)));
+            let word = words(text)[nth].characters;
+            self.fact_if(word == b"4294967296", "33 bits beyond a limit, in decimal");
+            self.fact_if(
+                word == b"0x100000000",
+                "33 bits beyond a limit, in hexadecimal",
+            );
+            self.fact_if(word.len() > 20, "more than 64 bits beyond a limit");
         }
     }
 
@@ -286,8 +307,11 @@ impl Coverage {
             .get(nth)
             .map_or(b"".as_slice(), |word| word.characters);
         self.fact_if(word.starts_with(b"0X"), "the prefix 0X");
-        self.fact_if(word == b"4294967296", "33 bits in decimal");
-        self.fact_if(word == b"0x100000000", "33 bits in hexadecimal");
+        self.fact_if(word == b"4294967296", "a forced word of 33 bits in decimal");
+        self.fact_if(
+            word == b"0x100000000",
+            "a forced word of 33 bits in hexadecimal",
+        );
         self.fact_if(word.starts_with(b"-"), "a sign");
         let later = words
             .iter()
@@ -360,14 +384,13 @@ impl Listed for Coverage {
             items.push(Item::AtLimit(number));
             items.extend([Far::ByOne, Far::ByMore].map(|far| Item::Beyond(number, far)));
         }
-        let slips = [
-            Slip::Missing,
-            Slip::OtherCharacter,
-            Slip::NoDigit,
-            Slip::TooManyBits,
-        ];
+        let slips = [Slip::Missing, Slip::OtherCharacter, Slip::NoDigit];
         for field in Field::NUMBERS {
             items.extend(slips.map(|slip| Item::Misread(field, slip)));
+            items.push(match field {
+                Field::Forced => Item::Misread(field, Slip::TooManyBits),
+                _ => Item::Over(field),
+            });
             let forms = Form::ALL.into_iter().filter(|&form| field.takes(form));
             items.extend(forms.map(|form| Item::Typed(field, form)));
         }
@@ -386,7 +409,7 @@ fn limited() -> Vec<Limited> {
     all
 }
 
-const FACTS: [&str; 34] = [
+const FACTS: [&str; 37] = [
     "the figure 0",
     "the figure 524,280",
     "bit 0 of the forced word",
@@ -394,8 +417,11 @@ const FACTS: [&str; 34] = [
     "no source forced",
     "32 bits in decimal",
     "32 bits in hexadecimal",
-    "33 bits in decimal",
-    "33 bits in hexadecimal",
+    "a forced word of 33 bits in decimal",
+    "a forced word of 33 bits in hexadecimal",
+    "33 bits beyond a limit, in decimal",
+    "33 bits beyond a limit, in hexadecimal",
+    "more than 64 bits beyond a limit",
     "only spaces between numbers",
     "only tabs between numbers",
     "only carriage returns between numbers",

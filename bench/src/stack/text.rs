@@ -7,6 +7,9 @@ use crate::trace::LONGEST;
 /// Priority, type and frame for each source, the forced word, the mark's frame.
 pub const NUMBERS: usize = 3 * SOURCES + 2;
 
+/// The one among them that has no limit but its 32 bits.
+const FORCED: usize = NUMBERS - 2;
+
 /// What is wrong with a typed table.
 #[derive(Clone, Copy, Debug, PartialEq, Eq, PartialOrd, Ord, Hash)]
 pub enum Slip {
@@ -16,7 +19,7 @@ pub enum Slip {
     OtherCharacter,
     /// Nothing behind the `0x`.
     NoDigit,
-    /// Worth 2^32 or more.
+    /// The forced word is worth 2^32 or more.
     TooManyBits,
     /// Something stands behind the last number.
     TooMany,
@@ -45,26 +48,36 @@ pub fn table(text: &[u8]) -> Result<Table, Fault> {
         return Err(Fault::TooLong);
     }
     let numbers = numbers(text).map_err(Fault::Misread)?;
+    let numbers: Option<Vec<u32>> = numbers.into_iter().collect();
+    Ok(made_of(&numbers.ok_or(Fault::Beyond)?))
+}
+
+/// The table of 98 numbers.
+pub fn made_of(numbers: &[u32]) -> Table {
     let row = |source: usize| Row {
         priority: numbers[3 * source],
         kind: numbers[3 * source + 1],
         frame: numbers[3 * source + 2],
     };
-    Ok(Table {
+    Table {
         rows: std::array::from_fn(row),
-        forced: numbers[NUMBERS - 2],
+        forced: numbers[FORCED],
         mark: numbers[NUMBERS - 1],
-    })
+    }
 }
 
-/// The 98 numbers of a text, which has nothing else.
-fn numbers(text: &[u8]) -> Result<Vec<u32>, Misread> {
+/// The 98 numbers of a text, which has nothing else; none for one that is worth 2^32 or more, which is beyond any limit.
+pub fn numbers(text: &[u8]) -> Result<Vec<Option<u32>>, Misread> {
     let words = words(text);
     let mut numbers = Vec::with_capacity(NUMBERS);
     for nth in 0..NUMBERS {
         let (offset, read) = match words.get(nth) {
             Some(word) => (word.offset, value(word.characters)),
             None => (text.len(), Err(Slip::Missing)),
+        };
+        let read = match read {
+            Ok(None) if nth == FORCED => Err(Slip::TooManyBits),
+            read => read,
         };
         numbers.push(read.map_err(|slip| Misread { slip, nth, offset })?);
     }
@@ -96,8 +109,8 @@ pub fn words(text: &[u8]) -> Vec<Word<'_>> {
     words
 }
 
-/// The value of a number in decimal or, behind `0x`, in hexadecimal.
-fn value(word: &[u8]) -> Result<u32, Slip> {
+/// The value of a number in decimal or, behind `0x`, in hexadecimal; none where it passes 32 bits.
+fn value(word: &[u8]) -> Result<Option<u32>, Slip> {
     let (digits, base) = match word.strip_prefix(b"0x") {
         Some(digits) => (digits, 16),
         None => (word, 10),
@@ -105,20 +118,13 @@ fn value(word: &[u8]) -> Result<u32, Slip> {
     if digits.is_empty() {
         return Err(Slip::NoDigit);
     }
-    let mut value: u32 = 0;
-    let mut fits = true;
+    let mut value: Option<u32> = Some(0);
     for &character in digits {
         let digit = char::from(character).to_digit(base);
         let digit = digit.ok_or(Slip::OtherCharacter)?;
-        let more = value.checked_mul(base).and_then(|v| v.checked_add(digit));
-        fits &= more.is_some();
-        value = more.unwrap_or(0);
+        value = value.and_then(|v| v.checked_mul(base)?.checked_add(digit));
     }
-    if fits {
-        Ok(value)
-    } else {
-        Err(Slip::TooManyBits)
-    }
+    Ok(value)
 }
 
 #[cfg(test)]
@@ -127,10 +133,25 @@ mod tests {
     use crate::stack::line;
 
     /// Words that are read as the first numbers; the others are 0.
-    fn first(words: &str) -> Result<Vec<u32>, Misread> {
+    fn first_read(words: &str) -> Result<Vec<Option<u32>>, Misread> {
         let there = super::words(words.as_bytes()).len();
         let text = format!("{words}{}", " 0".repeat(NUMBERS - there));
         numbers(text.as_bytes()).map(|numbers| numbers[..there].to_vec())
+    }
+
+    /// The same of words that 32 bits can hold.
+    fn first(words: &str) -> Result<Vec<u32>, Misread> {
+        let all = |read: Vec<Option<u32>>| read.into_iter().collect::<Option<_>>();
+        first_read(words).map(|read| all(read).expect("none passes 32 bits"))
+    }
+
+    /// What is printed of a table of zeros with this word as its nth number.
+    fn printed_with(nth: usize, word: &str) -> String {
+        printed(&format!(
+            "{}{word} {}",
+            zeros(nth),
+            zeros(NUMBERS - 1 - nth)
+        ))
     }
 
     fn first_slip(words: &str) -> (Slip, usize, usize) {
@@ -178,13 +199,38 @@ mod tests {
         for text in ["4294967295", "0xFFFFFFFF", "0xffffffff", "0x0ffffffff"] {
             assert_eq!(first(text), most, "{text}");
         }
-        for text in ["4294967296", "0x100000000", "99999999999999999999999"] {
-            assert_eq!(first_slip(text), (Slip::TooManyBits, 0, 0), "{text}");
+        for text in over_32_bits() {
+            assert_eq!(first_read(&text), Ok(vec![None]), "{text}");
         }
-        let wraps = format!("1{}", "0".repeat(64));
-        assert_eq!(first_slip(&wraps), (Slip::TooManyBits, 0, 0));
-        let hexadecimal = format!("0x1{}", "0".repeat(64));
-        assert_eq!(first_slip(&hexadecimal), (Slip::TooManyBits, 0, 0));
+    }
+
+    /// Numbers of 33 bits and of many more, in either base; all but the third have a low word of 0.
+    fn over_32_bits() -> [String; 5] {
+        [
+            "4294967296".to_string(),
+            "0x100000000".to_string(),
+            "99999999999999999999999".to_string(),
+            format!("1{}", "0".repeat(64)),
+            format!("0x1{}", "0".repeat(64)),
+        ]
+    }
+
+    /// 14 for a number that is too large for its limit, however many digits it has; the forced word has no limit but its
+    /// 32 bits, and beyond them it is no word: 8, at its first character.
+    #[test]
+    fn however_many_digits() {
+        for text in over_32_bits() {
+            for nth in (0..NUMBERS).filter(|&nth| nth != FORCED) {
+                assert_eq!(printed_with(nth, &text), "E 14\n", "{nth} {text}");
+            }
+            assert_eq!(printed_with(FORCED, &text), "E 8 192\n", "{text}");
+            let and_a_slip = format!("{text} {}x", zeros(96));
+            let offset = text.len() + 1 + 2 * 96;
+            assert_eq!(printed(&and_a_slip), format!("E 8 {offset}\n"));
+        }
+        assert_eq!(printed_with(FORCED, "4294967295"), "0 bytes\n");
+        let many_zeros = format!("{}7", "0".repeat(64));
+        assert_eq!(printed_with(NUMBERS - 1, &many_zeros), "56 bytes\n");
     }
 
     #[test]

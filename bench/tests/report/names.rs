@@ -83,7 +83,11 @@ fn each_line_is_a_name() {
         ("\n".into(), "refusal 17: \n".into()),
         (format!("{trace}\n\n"), format!("{played}refusal 17: \n")),
         (format!("\n{trace}"), format!("refusal 17: \n{played}")),
-        (format!("{trace}\r\n"), format!("refusal 17: {trace}\r\n")),
+        (format!("{trace}\r\n"), played.clone()),
+        (format!("{trace}\r\r\n"), format!("refusal 17: {trace}\r\n")),
+        (format!("{trace}\r"), format!("refusal 17: {trace}\r\n")),
+        (format!("\r{trace}\r\n"), format!("refusal 17: \r{trace}\n")),
+        ("\r\n".into(), "refusal 17: \n".into()),
         (format!(" {trace}"), format!("refusal 17:  {trace}\n")),
         (format!("{trace}\0\n"), format!("refusal 17: {trace}\0\n")),
         (format!("{folder}\n"), format!("refusal 17: {folder}\n")),
@@ -96,12 +100,14 @@ fn each_line_is_a_name() {
     }
     for length in [4_095, 4_096, 4_097, 5_000] {
         let name = "/".repeat(length - trace.to_string().len()) + &trace.to_string();
-        let (lines, _) = reported(name.as_bytes());
         let expected = match length {
             4_095 => format!("steps played 1, steps refused 0: {name}\n"),
             _ => format!("refusal 17: {}\n", &name[..4_096]),
         };
-        assert_eq!(lines, expected.as_bytes(), "{length}");
+        for ending in ["", "\n", "\r\n"] {
+            let (lines, _) = reported(format!("{name}{ending}").as_bytes());
+            assert_eq!(lines, expected.as_bytes(), "{length} {ending:?}");
+        }
     }
 }
 

@@ -68,7 +68,7 @@ pub record Promises : Type 0 where
   pub startIs : (external lines : ℕ) → Beginning external lines (start external lines)
   -- of a sound record and levels that agree every step answers the refusal, the value and the next record of the record alone, and the levels
   -- after it are those of the next record (02, 5/12); `stepWith` is defined by the step of the record alone: that the code by level answers the
-  -- same stands in the contracts of `aic_pair::step` and of `aic_parts`
+  -- same stands in the contracts of `aic_pair::step` and of `aic_room`
   pub stepSame : (s : Aic) (l : Levels) (x : Step) → sound s ≡ true → agrees s l ≡ true
       → stepWith s l x ≡ record { refusal = aic.step s x .refusal; value = aic.step s x .value; aic = aic.step s x .aic; levels = levelsOf (aic.step s x .aic) }
   -- so they agree after it too, and the record is sound (02, 5/12)

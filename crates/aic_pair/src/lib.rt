@@ -1,13 +1,22 @@
-// The AT91 controller with its levels beside it: a step takes the pair apart and is carried out on its parts.
+// The AT91 controller with its levels beside it: a step lays the record into a room, is carried out there, and takes the record and its levels out again.
 ghost use mathlib.Core.Path.{_≡_};
 ghost use mathlib.Core.Bool.{true, _&&_};
-ghost use Prim.Native.Nat.{_%_};
+ghost use Prim.Native.Nat.{ℕ, _+_, _<_};
+ghost use lib.ListN.{length, getD};
+ghost use Rattle.rooms.specs.Reply.{told};
+ghost use Rattle.aic_record.specs.declared.Aic.{Aic};
 ghost use Rattle.aic_record.specs.Sound.{sound};
-ghost use Rattle.aic_levels.specs.Levels.{agrees};
+ghost use Rattle.aic.specs.Model as aic;
+ghost use Rattle.aic_levels.specs.Levels.{levelsOf, agrees};
 ghost use Rattle.aic_levels.specs.Model.{stepWith};
+ghost use Rattle.aic_layout.specs.Room.{Laid};
+ghost use Rattle.aic_room.specs.Reply.{Done};
+use aic_layout::ANY;
+use aic_layout::LEVELS;
 use aic_levels::Answer;
 use aic_levels::Levels;
 use aic_record::Aic;
+use rooms::Room;
 use steps::Step;
 
 // A step; 12 where the record is not sound or the levels are not its own, and then both are as they were.
@@ -25,80 +34,54 @@ pub fn step(s: Aic, l: Levels, x: Step) -> Answer
     }
 }
 
-// A step of a sound record with levels that agree with it, on their parts and what is kept beside them.
+// A step of a sound record with levels that agree with it. Those of the room are the same, so nothing is taken from them.
 fn step_agreed(s: Aic, l: Levels, x: Step) -> Answer
     requires { ⌜ (sound s && agrees s l) ≡ true ⌝ }
     ensures { λ r. ⌜ r ≡ stepWith s l x ⌝ }
 {
-    let external = s.external;
-    let mut lines = s.lines;
-    let mut enabled = s.enabled;
-    let mut memory = s.memory;
-    let mut forced = s.forced;
-    let mut spurious = s.spurious;
-    let mut debug = s.debug;
-    let mut mode = s.mode;
-    let mut vector = s.vector;
-    let mut source = s.source;
-    let mut level = s.level;
-    let mut depth = s.depth;
-    let mut seen = aic_beside::seen_words(s.seen);
-    let mut words = l.words;
-    let mut any = l.any as u32;
-    let mut edges = aic_sources::mode_word(&mode, 5);
-    let mut low = aic_beside::low_of(external, &mode);
-    let mut class = aic_beside::class_of(&mode);
-    let r = aic_steps::step(
-        external,
-        &mut lines,
-        &mut enabled,
-        &mut memory,
-        &mut forced,
-        &mut spurious,
-        &mut debug,
-        &mut mode,
-        &mut vector,
-        &mut source,
-        &mut level,
-        &mut depth,
-        &mut seen,
-        &mut words,
-        &mut any,
-        &mut edges,
-        &mut low,
-        &mut class,
-        x,
-    );
-    let aic = Aic {
-        external: external,
-        lines: lines,
-        enabled: enabled,
-        memory: memory,
-        forced: forced,
-        spurious: spurious,
-        debug: debug,
-        mode: mode,
-        vector: vector,
-        source: source,
-        level: level,
-        depth: depth,
-        seen: aic_beside::seen_of(seen),
-    };
-    answer_of(r.refusal, r.value, aic, words, any)
+    let mut room = aic_layout::lay(s);
+    let reply = step_in(&mut room, x);
+    let aic = aic_layout::record_of(&room);
+    let levels = levels_in(&room);
+    Answer {
+        refusal: rooms::refusal_in(reply),
+        value: rooms::value_in(reply),
+        aic,
+        levels,
+    }
 }
 
-// What a step answers: the record and its levels after it.
-fn answer_of(refusal: u32, value: u32, aic: Aic, words: [u32; 8], any: u32) -> Answer
-    ensures { λ r. ⌜ r ≡ record { refusal = refusal; value = value; aic = aic; levels = record { words = words; any = any % 256 } } ⌝ }
+// A step of the record in a room.
+fn step_in(room: &mut Room, x: Step) -> u64
+    ensures { λ r. ⌜ ((a : Aic) → sound a ≡ true → Laid a (now (room .entry)) → Done (aic.step a x) (now (room .exit)) (told r)) ⌝ }
 {
-    let levels = Levels {
-        words: words,
-        any: (any % 256) as u8,
-    };
-    Answer {
-        refusal: refusal,
-        value: value,
-        aic: aic,
-        levels: levels,
+    match x {
+        Step::Read(offset) => aic_room::read(room, offset),
+        Step::Write(offset, value) => aic_room::write(room, offset, value),
+        Step::Line(line, level) => aic_room::line(room, line, level),
+    }
+}
+
+// The words of the levels in a room.
+fn words_in(room: &Room) -> [u32; 8]
+    ensures { λ r. ⌜ (length r ≡ 8) × ((p : ℕ) → p < 8 → getD r p 0 ≡ getD (now (room .entry)) (24 + p) 0) ⌝ }
+{
+    let mut out: [u32; 8] = [0; 8];
+    let mut p: usize = 0;
+    while p < 8 {
+        out[p] = room[LEVELS + p];
+        p = p + 1;
+    }
+    out
+}
+
+// The levels in a room.
+fn levels_in(room: &Room) -> Levels
+    ensures { λ r. ⌜ ((a : Aic) → Laid a (now (room .entry)) → r ≡ levelsOf a) ⌝ }
+{
+    let words = words_in(room);
+    Levels {
+        words,
+        any: (room[ANY] % 256) as u8,
     }
 }

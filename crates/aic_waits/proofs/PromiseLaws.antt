@@ -3,17 +3,17 @@ use Prim.Native.Nat.{ℕ, zero, suc, _+_, _-_, _≤_, _<_, max}
 use mathlib.Core.Path.{_≡_, refl, sym, ap, ap₂, _∙_}
 use mathlib.Core.Bool.{Bool, true, false, not, _&&_, _||_, and-false, or-false}
 use mathlib.Core.List.{List, [], _∷_}
-use mathlib.Core.Logic.{_≢_, _⊎_, inl, inr}
+use mathlib.Core.Logic.{_↔_, _≢_, _⊎_, inl, inr}
 use native.Mathlib.Omega.{arith}
 use lib.Dec.{eqb, ltb}
 use lib.ListN.{getD, set}
-use borrow.Author.Tests.{eqb-true, eqb-false, ltb-true, ne-eqb, lt-ltb, not-true}
+use borrow.Author.Tests.{eqb-true, eqb-false, ltb-true, eq-eqb, ne-eqb, lt-ltb, not-true}
 use Rattle.words.specs.Choice.{pick}
 use Rattle.words.specs.Counting.{one, anyBelow}
 use Rattle.words.specs.Word.{bit, withBit}
-use Rattle.words.proofs.ChoiceLaws.{pick-cases}
-use Rattle.words.proofs.CountingLaws.{one-le}
-use Rattle.words.proofs.TruthLaws.{and-left, and-right, clash, not-holds, told}
+use Rattle.words.proofs.ChoiceLaws.{pick-cases, pick-true, pick-false}
+use Rattle.words.proofs.CountingLaws.{one-le, any-some, some-any}
+use Rattle.words.proofs.TruthLaws.{and-left, and-right, and-both, clash, not-holds, told}
 use Rattle.words.proofs.WordLaws.{bit-cleared-if}
 use Rattle.steps.specs.declared.Step.{Step}
 use Rattle.aic_record.specs.declared.Aic.{Aic}
@@ -34,9 +34,37 @@ use Rattle.aic_runs.specs.Counted.{startedBy, levelOf, startsOf, startsOther}
 use Rattle.aic_runs.specs.Runs.{run, count, always}
 use Rattle.aic_runs.proofs.CountedLaws.{started-room}
 use Rattle.aic_runs.proofs.StepLaws.{start-law}
-use Rattle.aic_waits.specs.Figures.{waitNext, waitAfter, standing, waitMost, waitedOf, isOpen, entriesNow, entriesMost}
+use Rattle.aic_waits.specs.Figures.{startedOf, waitNext, waitAfter, standing, waitMost, waitedOf, isOpen, entriesNow, entriesMost}
 use Rattle.aic_waits.specs.Promises.{Waits, Wait}
 use Rattle.aic_waits.proofs.TellLaws.{started-real}
+
+-- ---- one step more
+
+module _ (s : Aic) (i : ℕ) (x : Step) (xs : List Step) where
+  pub started-own : startedBy s x ≡ i → startedOf i s (x ∷ xs) ≡ 1 + startedOf i (step s x .aic) xs
+  unfolding startedOf count startsOf
+  started-own e = rw (eq-eqb i (startedBy s x) (sym e))
+
+  pub started-else : startedBy s x ≢ i → startedOf i s (x ∷ xs) ≡ startedOf i (step s x .aic) xs
+  unfolding startedOf count startsOf
+  started-else n = rw (ne-eqb i (startedBy s x) (λ e. n (sym e))) (omega arith)
+
+-- ---- open
+
+module _ (s : Aic) (i : ℕ) where
+  pub open-is : (isOpen s i ≡ true) ↔ ((d : ℕ) × (d < s .depth) × (getD (s .source) d 0 ≡ i) × (i ≢ 0))
+  unfolding isOpen
+  open-is =
+      let of : ℕ → Bool = λ d. eqb (sourceAt s d) i in (
+        (λ e. let r = any-some (s .depth) of (and-left _ _ e) in (r .0, r .1, eqb-true (sourceAt s (r .0)) i (r .2), eqb-false i 0 (not-true _ (and-right (anyBelow (s .depth) of) _ e)))),
+        (λ h. and-both (some-any (s .depth) of (h .0) (h .1) (eq-eqb (sourceAt s (h .0)) i (h .2))) (rw (ne-eqb i 0 (h .3)))),
+      )
+
+  pub entries-open : isOpen s i ≡ true → entriesNow s i ≡ s .depth
+  entries-open e = sym (pick-true 0 e)
+
+  pub entries-shut : isOpen s i ≡ false → entriesNow s i ≡ 0
+  entries-shut e = sym (pick-false (s .depth) e)
 
 -- ---- a stretch
 

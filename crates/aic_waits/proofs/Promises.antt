@@ -1,7 +1,7 @@
 -- The promises of the figures, kept.
 use Prim.Native.Nat.{ℕ, _+_, _≤_, _<_}
 use mathlib.Core.Path.{_≡_, refl, sym, ap, _∙_}
-use mathlib.Core.List.{List}
+use mathlib.Core.List.{List, []}
 use native.Mathlib.Omega.{arith}
 use lib.ListN.{getD, length, replicate, getD-replicate}
 use Rattle.words.specs.Counting.{anyBelow}
@@ -10,13 +10,14 @@ use Rattle.steps.specs.declared.Step.{Step}
 use Rattle.aic_record.specs.declared.Aic.{Aic}
 use Rattle.aic_record.specs.Record.{reset}
 use Rattle.aic_record.proofs.Promises as Record
+use Rattle.aic_runs.specs.Runs.{count}
 use Rattle.aic_runs.proofs.Promises as Runs
 use Rattle.aic_waits.specs.Figures.{startedOf, waitMost, waitedOf, isOpen, entriesNow, entriesMost, entriesOf}
 use Rattle.aic_waits.specs.Following.{noFigures, figuresOver}
 use Rattle.aic_waits.specs.Promises.{Promises}
 use Rattle.aic_waits.proofs.RunLaws.{Whole, started-run, waited-run, entries-run}
 use Rattle.aic_waits.proofs.TellLaws.{tells}
-use Rattle.aic_waits.proofs.PromiseLaws.{stretch, begins, ends, serves, served, keeps-waiting, zero-waited, zero-entries, zero-started, most-eight}
+use Rattle.aic_waits.proofs.PromiseLaws.{started-own, started-else, open-is, entries-open, entries-shut, stretch, begins, ends, serves, served, keeps-waiting, zero-waited, zero-entries, zero-started, most-eight}
 use Rattle.aic_waits.proofs.WaitLaws.{reached, largest}
 use Rattle.aic_waits.proofs.NestingLaws.{deepest-reached, deepest-largest}
 use Rattle.aic_waits.proofs.Worked.{worked}
@@ -32,10 +33,20 @@ reset-now : (external lines i : ℕ) → entriesNow (reset external lines) i ≡
 unfolding reset isOpen anyBelow pick
 reset-now external lines i = refl
 
+started-none : (s : Aic) (i : ℕ) → startedOf i s [] ≡ 0
+unfolding startedOf count
+started-none s i = refl
+
 pub kept : Promises
 unfolding startedOf waitedOf entriesOf
 kept =
     record {
+      startedNone = started-none;
+      startedOwn = λ s i x xs l e. started-own s i x xs e;
+      startedElse = λ s i x xs l n. started-else s i x xs n;
+      openIs = open-is;
+      entriesOpen = entries-open;
+      entriesShut = entries-shut;
       startedIs = λ external lines i xs l m. started-run i l noFigures (reset external lines) xs whole (omega (arith, m, zeros i l)) ∙ omega (arith, zeros i l);
       waitedIs = λ external lines i xs l m. waited-run i l noFigures (reset external lines) xs whole (omega (arith, m, zeros i l)) ∙ ap (λ (n : ℕ). waitMost i n n (reset external lines) xs) (zeros i l);
       entriesIs = λ external lines i xs l. entries-run i l noFigures (reset external lines) xs whole ∙ ap (λ (n : ℕ). entriesMost i n (reset external lines) xs) (zeros i l ∙ sym (reset-now external lines i));

@@ -3,7 +3,7 @@ use Prim.Native.Nat.{ℕ, _+_, _≤_, _<_, max}
 use mathlib.Core.Path.{_≡_}
 use mathlib.Core.Bool.{true, false}
 use mathlib.Core.List.{List, [], _∷_, _++_}
-use mathlib.Core.Logic.{_⊎_}
+use mathlib.Core.Logic.{_↔_, _≢_, _⊎_}
 use lib.ListN.{getD, length}
 use Rattle.words.specs.Counting.{one}
 use Rattle.steps.specs.declared.Step.{Step}
@@ -16,7 +16,7 @@ use Rattle.aic.specs.Model.{step}
 use Rattle.aic_runs.specs.Counted.{startedBy, startsOf, startsOther, carries, waits}
 use Rattle.aic_runs.specs.Runs.{run, count, always, owed, received, sumOver}
 use Rattle.aic_runs.specs.Promises.{EdgeTriggered, aheadOf}
-use Rattle.aic_waits.specs.Figures.{startedOf, waitAfter, standing, waitMost, waitedOf, entriesNow, entriesOf}
+use Rattle.aic_waits.specs.Figures.{startedOf, waitAfter, standing, waitMost, waitedOf, isOpen, entriesNow, entriesOf}
 use Rattle.aic_waits.specs.Following.{noFigures, figuresOver, startedFrom}
 use Rattle.aic_waits.specs.Worked.{busy}
 
@@ -32,6 +32,17 @@ Wait i s xs n =
     × (n ≡ count (startsOther i) (step (run s before) x .aic) during)
 
 pub record Promises : Type 0 where
+  -- the handlers started of a source are the steps of a run that start it, each in the record that it meets: none over no step, and with one step more one
+  -- more exactly if that step starts it (02, 11/12)
+  pub startedNone : (s : Aic) (i : ℕ) → startedOf i s [] ≡ 0
+  pub startedOwn : (s : Aic) (i : ℕ) (x : Step) (xs : List Step) → i < 32 → startedBy s x ≡ i → startedOf i s (x ∷ xs) ≡ 1 + startedOf i (step s x .aic) xs
+  pub startedElse : (s : Aic) (i : ℕ) (x : Step) (xs : List Step) → i < 32 → startedBy s x ≢ i → startedOf i s (x ∷ xs) ≡ startedOf i (step s x .aic) xs
+  -- a handler of a source is open exactly if one of the entries that are open, the first to the last, is of it; source 0 stands for a mark, and is never
+  -- open (02, 3/12 and 11/12)
+  pub openIs : (s : Aic) (i : ℕ) → (isOpen s i ≡ true) ↔ ((d : ℕ) × (d < s .depth) × (getD (s .source) d 0 ≡ i) × (i ≢ 0))
+  -- the entries then are all that are open, and none while it is not (02, 11/12)
+  pub entriesOpen : (s : Aic) (i : ℕ) → isOpen s i ≡ true → entriesNow s i ≡ s .depth
+  pub entriesShut : (s : Aic) (i : ℕ) → isOpen s i ≡ false → entriesNow s i ≡ 0
   -- step by step from reset, each figure of each source is its definition over the run, of up to 2,147,483,647 steps (a trace has at most 65,536) (02, 11/12)
   pub startedIs : (external lines i : ℕ) (xs : List Step) → i < 32 → length xs ≤ 2147483647
       → getD (figuresOver noFigures (reset external lines) xs .started) i 0 ≡ startedOf i (reset external lines) xs

@@ -106,7 +106,7 @@ feeds-wired b c d e =
     let r = any-some 40 (λ i. leadsTo (wireIn (b .wire) c i) d) e in
     (r .0, r .1, leads-to (wireIn (b .wire) c (r .0)) d (r .2))
 
-wired-feeds : (b : Board) (c d : ℕ) → Wired b c d → feeds b c d ≡ true
+pub wired-feeds : (b : Board) (c d : ℕ) → Wired b c d → feeds b c d ≡ true
 unfolding feedsIn
 wired-feeds b c d r = some-any 40 (λ i. leadsTo (wireIn (b .wire) c i) d) (r .0) (r .1) (to-leads (wireIn (b .wire) c (r .0)) d (r .2))
 

@@ -31,7 +31,8 @@ fn is_fed_in(wire: &[u16; 320], c: u32, d: u32) -> bool
     on
 }
 
-fn is_fed(b: Board, c: u32, d: u32) -> bool
+// The same of the board.
+pub fn is_fed(b: Board, c: u32, d: u32) -> bool
     ensures { λ r. ⌜ r ≡ feeds b c d ⌝ }
 {
     is_fed_in(&b.wire, c, d)
@@ -49,7 +50,7 @@ fn counted(on: bool, n: u32) -> u32
 }
 
 // The numbers that controller c may be wired to are those below this one: c, and none beyond the eight.
-fn lower(c: u32) -> u32
+pub fn lower(c: u32) -> u32
     ensures { λ r. ⌜ (r ≡ lowerOf c) × (r ≤ c) × (r < 8) ⌝ }
 {
     if c < 8 {

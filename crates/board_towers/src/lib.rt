@@ -1,4 +1,4 @@
-// Boards of eight controllers, each wired to the one below it, printed call by call: by one input, and by every input, which is the dearest board there is (02, 8/12).
+// Boards of eight controllers, each wired to the one below it, printed call by call: by one input, and by every input (02, 8/12).
 use board_wires::Board;
 use board_wires::Wire;
 

@@ -2,6 +2,5 @@
 pub mod InputLaws
 pub mod NumberLaws
 pub mod Promises
-pub mod TellerLaws
 pub mod UnusedLaws
 pub mod WireLaws

@@ -1,6 +1,6 @@
--- Laws of what the wires carry: the activities of the lower numbers, an input by its wire, and the inputs of a side in turn.
-use Prim.Native.Nat.{ℕ, zero, suc, _+_, _≤_, _<_}
-use mathlib.Core.Path.{_≡_, refl, sym, ap, _∙_}
+-- Laws of what the wires carry: the activities of the lower numbers, and an input by its wire.
+use Prim.Native.Nat.{ℕ, zero, suc, _≤_, _<_}
+use mathlib.Core.Path.{_≡_, refl, sym, _∙_}
 use mathlib.Core.Bool.{Bool, true, false, _&&_}
 use mathlib.Core.List.{List}
 use mathlib.Core.Logic.{_↔_}
@@ -9,15 +9,11 @@ use native.Mathlib.Decide.{ℕ-discrete, decLt}
 use lib.Dec.{eqb, ltb}
 use borrow.Author.Tests.{lt-ltb, le-ltb, eq-eqb, ne-eqb}
 use Rattle.words.specs.Choice.{pick}
-use Rattle.words.proofs.CountingLaws.{upto-none, upto-more, at-end}
 use Rattle.words.proofs.TruthLaws.{clash}
-use Rattle.coreinterrupt_side.specs.declared.Side.{Side}
-use Rattle.coreinterrupt_side.specs.Side.{active, moved}
-use Rattle.coreinterrupt.specs.Model.{side}
 use Rattle.board_wires.specs.declared.Board.{Board}
 use Rattle.board_wires.specs.declared.Wire.{Wire}
 use Rattle.board_wires.specs.declared.Wire.the-variants.{Nothing, Pin, Irq, Fiq}
-use Rattle.board_wires.specs.Wires.{wireIn, wireAt, pinIn, pinOf, coreAt, inputsOf, placeOf, wired, sideIn, sideBy, activeBy, below, activity, inputValue}
+use Rattle.board_wires.specs.Wires.{wireAt, pinIn, pinOf, wired, activeBy, below, activity, inputValue}
 
 -- what is told of the numbers below n is their activity
 pub below-is : (b : Board) (n d : ℕ) (fast : Bool) → d < n → below b n d fast ≡ activity b d fast
@@ -74,37 +70,6 @@ module _ (b : Board) (c i : ℕ) (w : Wire) (at : w ≡ wireAt b c i) where
   pub fiq-above : (d : ℕ) → w ≡ Fiq d → c ≤ d → false ≡ inputValue b c i
   unfolding inputValue wired
   fiq-above d e l = rw (← at, e, le-ltb d c l)
-
--- ---- the inputs of a side, one after the other, where g tells the activities of the lower numbers
-
-module _ (ws ps : List ℕ) (g : ℕ → Bool → Bool) (c : ℕ) (fast : Bool) (s : Side) where
-  pub none-yet : s ≡ sideIn ws ps g c fast s 0
-  unfolding sideIn
-  none-yet = upto-none (λ x i. moved x i (wired ps g c (wireIn ws c (placeOf fast i)))) s
-
-  pub one-more : (x r : Side) (v : Bool) (i p : ℕ) → x ≡ sideIn ws ps g c fast s i → v ≡ wired ps g c (wireIn ws c p) → p ≡ placeOf fast i → r ≡ moved x i v
-      → r ≡ sideIn ws ps g c fast s (i + 1)
-  unfolding sideIn
-  one-more x r v i p e f j h =
-      upto-more (λ x i. moved x i (wired ps g c (wireIn ws c (placeOf fast i)))) s i e
-      (h ∙ ap (moved x i) (f ∙ ap (λ (k : ℕ). wired ps g c (wireIn ws c k)) j))
-
-  pub all-in : (x : Side) (i n : ℕ) → i ≤ n → n ≤ i → n ≡ inputsOf fast → x ≡ sideIn ws ps g c fast s i → x ≡ sideIn ws ps g c fast s (inputsOf fast)
-  all-in x i n l m e f = at-end (sideIn ws ps g c fast s) i n l m f ∙ ap (sideIn ws ps g c fast s) e
-
--- the same, asked of the inputs themselves
-module _ (b : Board) (c : ℕ) (fast : Bool) where
-  pub first-input : (s : Side) → s ≡ side (coreAt b c) fast → s ≡ sideBy b (below b c) c fast 0
-  first-input s e = e ∙ none-yet (b .wire) (b .pin) (below b c) c fast (side (coreAt b c) fast)
-
-  pub one-input : (x r : Side) (v : Bool) (i p : ℕ) → x ≡ sideBy b (below b c) c fast i → v ≡ inputValue b c p → p ≡ placeOf fast i → r ≡ moved x i v
-      → r ≡ sideBy b (below b c) c fast (i + 1)
-  unfolding inputValue
-  one-input x r v i p e f j h = one-more (b .wire) (b .pin) (below b c) c fast (side (coreAt b c) fast) x r v i p e f j h
-
-  pub all-inputs : (x : Side) (r : Bool) (i n : ℕ) → i ≤ n → n ≤ i → n ≡ inputsOf fast → x ≡ sideBy b (below b c) c fast i → r ≡ active x → r ≡ activity b c fast
-  unfolding activity activeBy
-  all-inputs x r i n l m e f h = h ∙ ap active (all-in (b .wire) (b .pin) (below b c) c fast (side (coreAt b c) fast) x i n l m e f)
 
 -- ---- two tellers that agree on what is asked
 

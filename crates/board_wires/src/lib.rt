@@ -3,10 +3,8 @@ ghost use mathlib.Core.Path.{_≡_};
 ghost use Prim.Native.Nat.{_<_, _≤_, _+_};
 ghost use lib.Dec.{ltb};
 ghost use Rattle.words.specs.Choice.{pick};
-ghost use Rattle.coreinterrupt.specs.Model.{side};
-ghost use Rattle.board_wires.specs.Wires.{wireOf, wireNumber, wireIn, wireAt, pinIn, pinOf, coreAt, inputsOf, placeOf};
+ghost use Rattle.board_wires.specs.Wires.{wireOf, wireNumber, wireIn, pinIn, coreAt, inputsOf, placeOf};
 use coreinterrupt::Core;
-use coreinterrupt_side::Side;
 
 // What an input is wired to: nothing, a pin, or that activity of a controller.
 pub enum Wire {
@@ -83,13 +81,6 @@ pub fn wire_in(wire: &[u16; 320], c: u32, i: u32) -> Wire
     Wire::Nothing
 }
 
-// The wire of input i of controller c.
-pub fn wire_at(b: Board, c: u32, i: u32) -> Wire
-    ensures { λ r. ⌜ r ≡ wireAt b c i ⌝ }
-{
-    wire_in(&b.wire, c, i)
-}
-
 // Whether pin p is high, in the lent table of pins.
 pub fn pin_in(pin: &[u8; 320], p: u32) -> bool
     ensures { λ r. ⌜ r ≡ pinIn (now (pin .entry)) p ⌝ }
@@ -99,13 +90,6 @@ pub fn pin_in(pin: &[u8; 320], p: u32) -> bool
         return pin[k] == 1;
     }
     false
-}
-
-// Whether pin p is high.
-pub fn pin_at(b: Board, p: u32) -> bool
-    ensures { λ r. ⌜ r ≡ pinOf b p ⌝ }
-{
-    pin_in(&b.pin, p)
 }
 
 // Controller c as the record holds it; one with no sources beyond the eight.
@@ -120,13 +104,6 @@ pub fn core_at(b: Board, c: u32) -> Core
         fiq: coreinterrupt_side::idle(0, 0),
         irq: coreinterrupt_side::idle(0, 0),
     }
-}
-
-// The FIQ side or the IRQ side of a controller.
-pub fn side_of(k: Core, fast: bool) -> Side
-    ensures { λ r. ⌜ r ≡ side k fast ⌝ }
-{
-    if fast { k.fiq } else { k.irq }
 }
 
 // How many inputs a side has.

@@ -10,6 +10,7 @@ ghost use Rattle.cic_record.specs.Kinds.{hostNumber};
 ghost use Rattle.cic_record.specs.Sound.{sound};
 ghost use Rattle.cic_hosts.specs.Hosts.{asserted, shown};
 ghost use Rattle.cic_counts.specs.Counts.{target, Kept, RaisedIn, Beside};
+use cic_record::Host;
 use cic_record::Signals;
 use cic_record::System;
 
@@ -23,13 +24,28 @@ fn put_bit(ws: &mut [u32], i: usize, on: bool)
     ws[at] = words::with_bit(ws[at], bit, on);
 }
 
-// The host of a system interrupt.
-fn target_of<'a>(channel: &'a [u8; 1024], host: &'a [u8; 256], s: System) -> usize
-    requires { ⌜ s .0 < 1024 ⌝ }
-    ensures { λ r. ⌜ (r ≡ target (now (channel .entry)) (now (host .entry)) (s .0)) × (r < 256) ⌝ }
+// The bit of a system interrupt is put anew.
+fn put_system(ws: &mut [u32], s: System, on: bool)
+    requires { ⌜ s .0 / 32 < length (now ws) ⌝ }
+    ensures { λ _. ⌜ now (ws .exit) ≡ withBitAt (now (ws .entry)) (s .0) on ⌝ }
 {
-    let h = cic_hosts::host_in(host, cic_hosts::channel_in(channel, s));
-    h.0 as usize
+    put_bit(ws, s.0 as usize, on);
+}
+
+// The bit of a host interrupt is put anew.
+fn put_host(ws: &mut [u32], h: Host, on: bool)
+    requires { ⌜ h .0 / 32 < length (now ws) ⌝ }
+    ensures { λ _. ⌜ now (ws .exit) ≡ withBitAt (now (ws .entry)) (h .0) on ⌝ }
+{
+    put_bit(ws, h.0 as usize, on);
+}
+
+// The host of a system interrupt.
+fn target_of<'a>(channel: &'a [u8; 1024], host: &'a [u8; 256], s: System) -> Host
+    requires { ⌜ s .0 < 1024 ⌝ }
+    ensures { λ r. ⌜ (r .0 ≡ target (now (channel .entry)) (now (host .entry)) (s .0)) × (r .0 < 256) ⌝ }
+{
+    cic_hosts::host_in(host, cic_hosts::channel_in(channel, s))
 }
 
 // A system interrupt becomes active. Whether another host has one now.
@@ -49,10 +65,11 @@ pub fn turn_on<'a>(
     ensures same { λ r. ⌜ (r ≡ false → (h : ℕ) → bitAt (now (raised .exit)) h ≡ bitAt (now (raised .entry)) h) ⌝ }
 {
     let h = target_of(channel, host, s);
-    let n = load[h];
-    put_bit(active, s.0 as usize, true);
-    load[h] = n + 1;
-    put_bit(raised, h, true);
+    let at = h.0 as usize;
+    let n = load[at];
+    put_system(active, s, true);
+    load[at] = n + 1;
+    put_host(raised, h, true);
     n == 0
 }
 
@@ -73,10 +90,11 @@ pub fn turn_off<'a>(
     ensures same { λ r. ⌜ (r ≡ false → (h : ℕ) → bitAt (now (raised .exit)) h ≡ bitAt (now (raised .entry)) h) ⌝ }
 {
     let h = target_of(channel, host, s);
-    let n = load[h];
-    put_bit(active, s.0 as usize, false);
-    load[h] = n - 1;
-    put_bit(raised, h, n != 1);
+    let at = h.0 as usize;
+    let n = load[at];
+    put_system(active, s, false);
+    load[at] = n - 1;
+    put_host(raised, h, n != 1);
     n == 1
 }
 

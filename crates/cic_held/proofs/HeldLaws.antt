@@ -9,7 +9,7 @@ use native.Mathlib.Omega.{arith}
 use borrow.Author.Tests.{eq-eqb, ne-eqb, eqb-true, lt-ltb, le-leb, leb-true}
 use lib.Dec.{eqb, ltb, leb}
 use lib.ListN.{length, getD, set, replicate, length-set, List·getD-eq-default}
-use lib.Seq.{getD-set-same, getD-set-other}
+use lib.Seq.{getD-set-same, getD-set-other, set-out}
 use Rattle.words.specs.Choice.{pick}
 use Rattle.words.specs.Counting.{anyBelow, allBelow, upto}
 use Rattle.words.specs.Word.{bit}
@@ -87,6 +87,16 @@ freed-at k v xs h = turns k v h 32 xs ∙ ap (λ (b : Bool). pick b 0 (getD xs h
     back e =
         let at = eqb-true (h / 32) k (and-left (eqb (h / 32) k) (bit v (h % 32)) e) in
         some-any 32 (hit k v h) (h % 32) (omega arith) (and-both (and-right (eqb (h / 32) k) (bit v (h % 32)) e) (eq-eqb (32 * k + h % 32) h (omega (arith, at))))
+
+-- of a word past the last host nothing ends
+pub freed-past : (k v : ℕ) (xs : List ℕ) → length xs ≤ 32 * k → freedHosts k v xs ≡ xs
+unfolding freedHosts upto
+freed-past k v xs past = go 32
+  where
+    go : (n : ℕ) → upto (turn k v) xs n ≡ xs
+    go zero = refl
+    go (suc n) =
+        ap (λ (ys : List ℕ). turn k v ys n) (go n) ∙ pick-cases (λ (ys : List ℕ). ys ≡ xs) (bit v n) (λ _. set-out xs (32 * k + n) 0 (omega (arith, past))) (λ _. refl)
 
 -- ---- words as they are held
 

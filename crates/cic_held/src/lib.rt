@@ -2,14 +2,17 @@
 ghost use mathlib.Core.Path.{_≡_};
 ghost use mathlib.Core.Bool.{_&&_};
 ghost use mathlib.Core.Logic.{_≢_};
-ghost use Prim.Native.Nat.{_<_};
+ghost use Prim.Native.Nat.{_+_, _-_, _<_, _≤_};
 ghost use lib.Dec.{eqb, ltb};
 ghost use lib.ListN.{getD, set};
 ghost use Rattle.words.specs.Choice.{pick};
 ghost use Rattle.words.specs.Counting.{allBelow};
+ghost use Rattle.cic_record.specs.Kinds.{system};
 ghost use Rattle.cic_indices.specs.Order.{noneWord};
 ghost use Rattle.cic_held.specs.Held.{prioritised, nothingHeld, withGlobal, withHosts, heldAs, wordHeld, within, entrySound, heldSound, sound, start, freedHosts, controlled};
 use cic_record::Cic;
+use cic_record::Host;
+use cic_record::System;
 
 // Whether prioritisation is chosen, whether a read of an index holds it, and what is held for the global index and for that of each host: 0 where
 // nothing is, 1 for the word of none, s + 2 for system interrupt s.
@@ -134,6 +137,22 @@ pub fn is_sound(p: Prioritised) -> bool
     cic_record::is_sound(p.cic) & held_sound(p.cic, p.held)
 }
 
+// A system interrupt as it is held.
+fn held_system(s: System) -> u16
+    requires { ⌜ s .0 < 65534 ⌝ }
+    ensures { λ r. ⌜ r ≡ s .0 + 2 ⌝ }
+{
+    s.0 + 2
+}
+
+// The system interrupt that is held as x.
+fn system_held(x: u16) -> System
+    requires { ⌜ 2 ≤ x ⌝ }
+    ensures { λ r. ⌜ r ≡ system (x - 2) ⌝ }
+{
+    System(x - 2)
+}
+
 // The word of an index as it is held. The largest number of a system interrupt is far below the limit, past which the words would not fit.
 pub fn held_as(word: u32) -> u16
     ensures { λ r. ⌜ ((word ≢ noneWord → word < 65534) → r ≡ heldAs word) ⌝ }
@@ -141,7 +160,7 @@ pub fn held_as(word: u32) -> u16
     if word == cic_indices::NONE {
         return 1;
     }
-    ((word % 65534) as u16) + 2
+    held_system(System((word % 65534) as u16))
 }
 
 // The word that is held.
@@ -154,14 +173,15 @@ pub fn word_held(x: u16) -> u32
     if x < 2 {
         return 0;
     }
-    (x as u32) - 2
+    let s = system_held(x);
+    s.0 as u32
 }
 
-// What is held for host interrupt n; nothing past the last.
-pub fn host_at(host: &[u16], n: u32) -> u16
-    ensures { λ r. ⌜ r ≡ getD (now (host .entry)) n 0 ⌝ }
+// What is held for a host interrupt; nothing past the last.
+pub fn host_at(host: &[u16], n: Host) -> u16
+    ensures { λ r. ⌜ r ≡ getD (now (host .entry)) (n .0) 0 ⌝ }
 {
-    let at = n as usize;
+    let at = n.0 as usize;
     if host.len() <= at {
         return 0;
     }
@@ -178,23 +198,23 @@ pub fn hold_global(h: Held, x: u16) -> Held
 }
 
 // The index of host interrupt n is held as x, or not held; past the last nothing changes.
-pub fn hold_host(h: Held, n: u32, x: u16) -> Held
-    ensures { λ r. ⌜ r ≡ withHosts h (set (h .host) n x) ⌝ }
+pub fn hold_host(h: Held, n: Host, x: u16) -> Held
+    ensures { λ r. ⌜ r ≡ withHosts h (set (h .host) (n .0) x) ⌝ }
 {
-    if 256 <= n {
+    let at = n.0 as usize;
+    if 256 <= at {
         return h;
     }
-    let at = n as usize;
     let mut d = h;
     d.host[at] = x;
     d
 }
 
 // The hold of host interrupt n ends, if the test says so; past the last nothing changes.
-fn free_if(host: &mut [u16], t: bool, n: u64)
-    ensures { λ _. ⌜ now (host .exit) ≡ pick t (set (now (host .entry)) n 0) (now (host .entry)) ⌝ }
+fn free_if(host: &mut [u16], t: bool, n: Host)
+    ensures { λ _. ⌜ now (host .exit) ≡ pick t (set (now (host .entry)) (n .0) 0) (now (host .entry)) ⌝ }
 {
-    let at = n as usize;
+    let at = n.0 as usize;
     if t & (at < host.len()) {
         host[at] = 0;
     }
@@ -202,20 +222,24 @@ fn free_if(host: &mut [u16], t: bool, n: u64)
 
 // The holds of the hosts of word k end whose bit of v is 1.
 fn free_word(host: &mut [u16; 256], k: u32, v: u32)
+    requires { ⌜ k < 8 ⌝ }
     ensures { λ _. ⌜ now (host .exit) ≡ freedHosts k v (now (host .entry)) ⌝ }
 {
-    let first = 32 * (k as u64);
+    let first = (32 * k) as u16;
     let mut j: u32 = 0;
     while j < 32 {
-        free_if(host, words::has(v, j), first + (j as u64));
+        free_if(host, words::has(v, j), Host(first + (j as u16)));
         j = j + 1;
     }
 }
 
-// The holds of the hosts whose bit of v is 1 end, v being word k of the hosts.
+// The holds of the hosts whose bit of v is 1 end, v being word k of the hosts; past the last word nothing changes.
 pub fn free_hosts(h: Held, k: u32, v: u32) -> Held
     ensures { λ r. ⌜ r ≡ withHosts h (freedHosts k v (h .host)) ⌝ }
 {
+    if 8 <= k {
+        return h;
+    }
     let mut host = h.host;
     free_word(&mut host, k, v);
     let mut d = h;

@@ -27,7 +27,7 @@ ownAt p offset =
     (pick (eqb offset 0x004) Control
     (pick (eqb offset 0x080) GlobalIndex
     (pick (ltb offset 0x900) Elsewhere
-    (pick (ltb offset 0xD00) (HostIndex ((offset - 0x900) / 4))
+    (pick (ltb offset 0xD00) (HostIndex (hostNumber ((offset - 0x900) / 4)))
     Elsewhere))))
     Elsewhere
 
@@ -39,7 +39,7 @@ unfoldable pub accessOf : Prioritised → ℕ → Own → Access
 accessOf p offset Elsewhere = access (p .cic) offset
 accessOf p offset Control = ReadWrite
 accessOf p offset GlobalIndex = ReadWrite
-accessOf p offset (HostIndex h) = hostAccess p h
+accessOf p offset (HostIndex h) = hostAccess p (h .0)
 
 -- ---- reads
 

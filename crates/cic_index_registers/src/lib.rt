@@ -17,7 +17,7 @@ pub enum Own {
     Elsewhere,
     Control,
     GlobalIndex,
-    HostIndex(u32),
+    HostIndex(Host),
 }
 
 // The register of its own that stands at an offset.
@@ -37,24 +37,24 @@ pub fn own_at(p: Prioritised, offset: u32) -> Own
         return Own::Elsewhere;
     }
     if offset < 0xD00 {
-        return Own::HostIndex((offset - 0x900) / 4);
+        return Own::HostIndex(Host(((offset - 0x900) / 4) as u16));
     }
     Own::Elsewhere
 }
 
 // What the index of a host may be used for: there is none beyond the configured hosts.
-pub fn host_access(p: Prioritised, h: u32) -> Access
-    ensures { λ r. ⌜ r ≡ hostAccess p h ⌝ }
+pub fn host_access(p: Prioritised, h: Host) -> Access
+    ensures { λ r. ⌜ r ≡ hostAccess p (h .0) ⌝ }
 {
-    if h < p.cic.hosts {
+    if (h.0 as u32) < p.cic.hosts {
         return Access::ReadWrite;
     }
     Access::NoRegister
 }
 
 // What is held for the index of host interrupt h; nothing past the last.
-pub fn host_held(x: Held, h: u32) -> u16
-    ensures { λ r. ⌜ r ≡ getD (x .host) h 0 ⌝ }
+pub fn host_held(x: Held, h: Host) -> u16
+    ensures { λ r. ⌜ r ≡ getD (x .host) (h .0) 0 ⌝ }
 {
     cic_held::host_at(&x.host, h)
 }
@@ -93,11 +93,21 @@ fn rest_at(hosts: u32, k: u32) -> u32
 }
 
 // What is held after host interrupt h is set or cleared by index.
-fn after_host(x: Held, h: u32) -> Held
-    ensures { λ r. ⌜ r ≡ afterHost x h ⌝ }
+fn after_host(x: Held, h: Host) -> Held
+    ensures { λ r. ⌜ r ≡ afterHost x (h .0) ⌝ }
 {
     let d = cic_held::hold_host(x, h, 0);
     cic_held::hold_global(d, 0)
+}
+
+// What is held after v is written to host index set or clear: the hold of host interrupt v ends, if there is one.
+fn after_index(x: Held, v: u32) -> Held
+    ensures { λ r. ⌜ r ≡ afterHost x v ⌝ }
+{
+    if 256 <= v {
+        return cic_held::hold_global(x, 0);
+    }
+    after_host(x, Host(v as u16))
 }
 
 // What is held after v is written to host enable register k.
@@ -117,10 +127,10 @@ pub fn held_after(c: Cic, x: Held, offset: u32, v: u32) -> Held
     ensures { λ r. ⌜ r ≡ heldAfter c x offset v ⌝ }
 {
     if offset == 0x034 {
-        return after_host(x, v);
+        return after_index(x, v);
     }
     if offset == 0x038 {
-        return after_host(x, v);
+        return after_index(x, v);
     }
     if offset < 0x1500 {
         return x;

@@ -16,6 +16,7 @@ use Rattle.steps.specs.declared.Step.the-variants.{Read, Write, Line}
 use Rattle.steps.specs.Refusals.{carriedOut, readRefusal, writeRefusal}
 use Rattle.cic_record.specs.declared.Answer.{Answer as CicAnswer}
 use Rattle.cic_record.specs.declared.Cic.{Cic}
+use Rattle.cic_record.specs.Kinds.{hostNumber}
 use Rattle.cic_record.specs.Record as record-of
 use Rattle.cic_record.specs.Sound as cic-sound
 use Rattle.cic_layout.specs.Map.{access}
@@ -58,7 +59,7 @@ written-beside p o v a same = go (ℕ-discrete (a .refusal) carriedOut)
     go (no d) = rw (written-refused p o v a d) (sym (ap (λ (x : CicAnswer). beside (p .held) x) (same d)))
 
 -- outside the mode a write ends nothing
-written-plain : (p : Prioritised) (o v : ℕ) (a : CicAnswer) → p .held .hold ≢ 1 → (a .refusal ≢ carriedOut → a ≡ record-of.refused (p .cic) (a .refusal))
+pub written-plain : (p : Prioritised) (o v : ℕ) (a : CicAnswer) → p .held .hold ≢ 1 → (a .refusal ≢ carriedOut → a ≡ record-of.refused (p .cic) (a .refusal))
     → writtenBy p o v a ≡ beside (p .held) a
 written-plain p o v a n same = go (ℕ-discrete (a .refusal) carriedOut)
   where
@@ -84,7 +85,7 @@ cic-not-read : (c : Cic) (o : ℕ) → cic-sound.sound c ≡ true → access c o
 unfolding cic.readAs
 cic-not-read c o e at = sym (of-steps.refused-by c _ (ap₂ (λ (t : Bool) (a : Access). readRefusal t o a) (sym e) (sym at)) (no-read o))
 
-own-not-read : (p : Prioritised) (o h : ℕ) → sound p ≡ true → ownAt p o ≡ HostIndex h → NoRegister ≡ hostAccess p h → read p o ≡ refused p (readRefusal true o NoRegister)
+own-not-read : (p : Prioritised) (o h : ℕ) → sound p ≡ true → ownAt p o ≡ HostIndex (hostNumber h) → NoRegister ≡ hostAccess p h → read p o ≡ refused p (readRefusal true o NoRegister)
 unfolding stepAs readAs
 own-not-read p o h e at gone =
     ap (readAs (sound p) p o) at ∙ sym (refused-by p _ (ap₂ (λ (t : Bool) (a : Access). readRefusal t o a) (sym e) gone) (no-read o))
@@ -93,7 +94,7 @@ cic-not-written : (c : Cic) (o v : ℕ) → cic-sound.sound c ≡ true → acces
 unfolding cic.writeAs writeRefusal
 cic-not-written c o v e at = sym (of-steps.refused-by c _ (ap₂ (λ (t : Bool) (a : Access). writeRefusal t o a (cic.refusalAt c o v)) (sym e) (sym at)) (no-write o (cic.refusalAt c o v)))
 
-pub own-not-written : (p : Prioritised) (o v h : ℕ) → sound p ≡ true → ownAt p o ≡ HostIndex h → NoRegister ≡ hostAccess p h → write p o v ≡ refused p (writeRefusal true o NoRegister 0)
+pub own-not-written : (p : Prioritised) (o v h : ℕ) → sound p ≡ true → ownAt p o ≡ HostIndex (hostNumber h) → NoRegister ≡ hostAccess p h → write p o v ≡ refused p (writeRefusal true o NoRegister 0)
 unfolding stepAs writeAs
 own-not-written p o v h e at gone =
     ap (writeAs (sound p) p o v) at ∙ sym (refused-by p _ (ap₂ (λ (t : Bool) (a : Access). writeRefusal t o a carriedOut) (sym e) gone) (no-write o carriedOut))

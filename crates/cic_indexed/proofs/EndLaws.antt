@@ -74,8 +74,9 @@ module _ (c : Cic) (x : Held) (k v : ℕ) where
   unfolding kept
   small b = omega (arith, b, mod-le v (2 ^ restAt (c .hosts) k))
 
-  word-global : v < 2 ^ 32 → Decided ((h : ℕ) × (h < c .hosts) × ((h / 32 ≡ k) × (bit v (h % 32) ≡ true))) (hostsWritten c x k v .global) (x .global)
-  word-global b = go (ℕ-discrete w 0)
+  -- one of the hosts has its bit in the word that is left
+  some-host : v < 2 ^ 32 → w ≢ 0 → (h : ℕ) × (h < c .hosts) × ((h / 32 ≡ k) × (bit v (h % 32) ≡ true))
+  some-host b d = found (some-bit 32 w (small b) d)
     where
       found : (j : ℕ) × (j < 32) × (bit w j ≡ true) → (h : ℕ) × (h < c .hosts) × ((h / 32 ≡ k) × (bit v (h % 32) ≡ true))
       found (j, l, t) =
@@ -83,10 +84,13 @@ module _ (c : Cic) (x : Held) (k v : ℕ) where
           let f : (32 * k + j) / 32 ≡ k = omega (arith, l) in
           (32 * k + j, of-bit j t .1, (f, ap (bit v) e ∙ of-bit j t .0))
 
+  word-global : v < 2 ^ 32 → Decided ((h : ℕ) × (h < c .hosts) × ((h / 32 ≡ k) × (bit v (h % 32) ≡ true))) (hostsWritten c x k v .global) (x .global)
+  word-global b = go (ℕ-discrete w 0)
+    where
       go : Dec (w ≡ 0) → Decided ((h : ℕ) × (h < c .hosts) × ((h / 32 ≡ k) × (bit v (h % 32) ≡ true))) (hostsWritten c x k v .global) (x .global)
       go (yes z) =
           stayed (λ e. bit-not-zero w (e .0 % 32) (bit-of (e .0 % 32) (e .2 .1) (omega (arith, e .2 .0, e .1))) z) (ap (λ (y : Held). y .global) (none-written z))
-      go (no d) = ended (found (some-bit 32 w (small b) d)) (ap (λ (y : Held). y .global) (some-written d))
+      go (no d) = ended (some-host b d) (ap (λ (y : Held). y .global) (some-written d))
 
 -- ---- every write of the CIC's
 
@@ -178,3 +182,21 @@ module _ (c : Cic) (x : Held) (o v : ℕ) where
           decide-by (λ f. (f .0, f .1, enables-by l four (f .0) (f .2))) (λ f. (f .0, f .1, by-enables l (f .0) (f .2))) (ap (λ (y : Held). y .global) (at-enables l m))
           (word-global c x ((o - 0x1500) / 4) v b)
       go (nothing l m z) = stayed (λ f. not-changed (f .0) (omega (arith, most, f .1)) l m z (f .2)) (ap (λ (y : Held). y .global) (at-nothing l m z))
+
+  -- where no host is, all stays
+  pub none-after : v < 2 ^ 32 → o % 4 ≡ 0 → (o ≡ 0x034 → v < c .hosts) → (o ≡ 0x038 → v < c .hosts) → ((h : ℕ) → h < c .hosts → Changes h o v → ⊥)
+      → heldAfter c x o v ≡ x
+  none-after b four s t none = go (ends o)
+    where
+      k : ℕ
+      k = (o - 0x1500) / 4
+
+      in-word : 0x1500 ≤ o → Dec (kept (restAt (c .hosts) k) v ≡ 0) → hostsWritten c x k v ≡ x
+      in-word l (yes z) = none-written c x k v z
+      in-word l (no d) = let f = some-host c x k v b d in absurd (none (f .0) (f .1) (enables-by l four (f .0) (f .2)))
+
+      go : Ends o → heldAfter c x o v ≡ x
+      go (set-by-index e) = absurd (none v (s e) (inl (e, refl)))
+      go (cleared-by-index e) = absurd (none v (t e) (inr (inl (e, refl))))
+      go (enables l m) = at-enables l m ∙ in-word l (ℕ-discrete (kept (restAt (c .hosts) k) v) 0)
+      go (nothing l m z) = at-nothing l m z

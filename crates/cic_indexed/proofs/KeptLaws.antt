@@ -144,9 +144,9 @@ module _ (p : Prioritised) (e : sound p ≡ true) where
   read-own o (HostIndex h) f =
       unfold stepAs readAs in
       subst (λ (at : Own). Kept (readAs (sound p) p o at)) (sym f)
-      (pick-cases Kept (eqb (readRefusal (sound p) o (hostAccess p h)) carriedOut)
-      (λ z. both-parts (p .cic) (withHosts (p .held) (set (p .held .host) h (holdAfter p (hostWord p h)))) (sound-cic p e)
-      (host-read-kept p h e (read-there p o h (ap (λ (t : Bool). readRefusal t o (hostAccess p h)) (sym e) ∙ eqb-true (readRefusal (sound p) o (hostAccess p h)) carriedOut z))))
+      (pick-cases Kept (eqb (readRefusal (sound p) o (hostAccess p (h .0))) carriedOut)
+      (λ z. both-parts (p .cic) (withHosts (p .held) (set (p .held .host) (h .0) (holdAfter p (hostWord p (h .0))))) (sound-cic p e)
+      (host-read-kept p (h .0) e (read-there p o (h .0) (ap (λ (t : Bool). readRefusal t o (hostAccess p (h .0))) (sym e) ∙ eqb-true (readRefusal (sound p) o (hostAccess p (h .0))) carriedOut z))))
       (λ _. e))
 
   write-plain : (o v : ℕ) → ownAt p o ≡ Elsewhere → Kept (write p o v)
@@ -176,8 +176,8 @@ module _ (p : Prioritised) (e : sound p ≡ true) where
   write-own o v on (HostIndex h) f =
       unfold stepAs writeAs in
       subst (λ (at : Own). Kept (writeAs (sound p) p o v at)) (sym f)
-      (pick-cases Kept (eqb (writeRefusal (sound p) o (hostAccess p h) carriedOut) carriedOut)
-      (λ _. both-parts (p .cic) (withHosts (p .held) (set (p .held .host) h 0)) (sound-cic p e) (host-ended (p .cic) (p .held) h (sound-held p e))) (λ _. e))
+      (pick-cases Kept (eqb (writeRefusal (sound p) o (hostAccess p (h .0)) carriedOut) carriedOut)
+      (λ _. both-parts (p .cic) (withHosts (p .held) (set (p .held .host) (h .0) 0)) (sound-cic p e) (host-ended (p .cic) (p .held) (h .0) (sound-held p e))) (λ _. e))
 
   write-kept : (o v : ℕ) → Kept (write p o v)
   write-kept o v = go (on-or-not p o)

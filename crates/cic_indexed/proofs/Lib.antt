@@ -4,6 +4,7 @@ pub mod EndLaws
 pub mod FreedLaws
 pub mod IndexLaws
 pub mod KeptLaws
+pub mod ModeLaws
 pub mod NumberLaws
 pub mod PlaceLaws
 pub mod Promises

@@ -58,7 +58,7 @@ unfolding readAs accessOf
 read-number ok p o Elsewhere = cic-read ok (p .cic) o
 read-number ok p o Control = its-number p (readRefusal ok o ReadWrite) _ refl
 read-number ok p o GlobalIndex = its-number p (readRefusal ok o ReadWrite) _ refl
-read-number ok p o (HostIndex h) = its-number p (readRefusal ok o (hostAccess p h)) _ refl
+read-number ok p o (HostIndex h) = its-number p (readRefusal ok o (hostAccess p (h .0))) _ refl
 
 pub read-refusal : (p : Prioritised) (o : ℕ) → read p o .refusal ≡ readRefusal (sound p) o (accessAt p o)
 unfolding stepAs
@@ -112,7 +112,7 @@ write-number ok p o v Elsewhere z = written-number p o v (cic.writeAs ok (p .cic
 write-number ok p o v Control z = its-number p (writeRefusal ok o ReadWrite carriedOut) _ refl ∙ ap (writeRefusal ok o ReadWrite) (z (apart refl))
 write-number ok p o v GlobalIndex z = its-number p (writeRefusal ok o ReadWrite carriedOut) _ refl ∙ ap (writeRefusal ok o ReadWrite) (z (apart refl))
 write-number ok p o v (HostIndex h) z =
-    its-number p (writeRefusal ok o (hostAccess p h) carriedOut) _ refl ∙ ap (writeRefusal ok o (hostAccess p h)) (z (apart refl))
+    its-number p (writeRefusal ok o (hostAccess p (h .0)) carriedOut) _ refl ∙ ap (writeRefusal ok o (hostAccess p (h .0))) (z (apart refl))
 
 pub write-refusal : (p : Prioritised) (o v : ℕ) → write p o v .refusal ≡ writeRefusal (sound p) o (accessAt p o) (cic.refusalAt (p .cic) o v)
 unfolding stepAs
@@ -144,7 +144,7 @@ unfolding readAs cic.stepAs
 read-same ok p o Elsewhere d = ap (λ (a : CicAnswer). beside (p .held) a) (cic-same ok (p .cic) (Read o) d)
 read-same ok p o Control d = its-record p (readRefusal ok o ReadWrite) _ refl d
 read-same ok p o GlobalIndex d = its-record p (readRefusal ok o ReadWrite) _ refl d
-read-same ok p o (HostIndex h) d = its-record p (readRefusal ok o (hostAccess p h)) _ refl d
+read-same ok p o (HostIndex h) d = its-record p (readRefusal ok o (hostAccess p (h .0))) _ refl d
 
 -- a write that the CIC refuses
 pub written-refused : (p : Prioritised) (o v : ℕ) (a : CicAnswer) → a .refusal ≢ carriedOut → writtenBy p o v a ≡ refused p (a .refusal)
@@ -157,7 +157,7 @@ write-same ok p o v Elsewhere d =
     written-refused p o v a (λ e. d (written-number p o v a ∙ e)) ∙ ap (refused p) (sym (written-number p o v a))
 write-same ok p o v Control d = its-record p (writeRefusal ok o ReadWrite carriedOut) _ refl d
 write-same ok p o v GlobalIndex d = its-record p (writeRefusal ok o ReadWrite carriedOut) _ refl d
-write-same ok p o v (HostIndex h) d = its-record p (writeRefusal ok o (hostAccess p h) carriedOut) _ refl d
+write-same ok p o v (HostIndex h) d = its-record p (writeRefusal ok o (hostAccess p (h .0)) carriedOut) _ refl d
 
 pub refused-same : (p : Prioritised) (x : Step) → step p x .refusal ≢ carriedOut → step p x ≡ refused p (step p x .refusal)
 unfolding stepAs cic.stepAs
@@ -180,7 +180,7 @@ written-value ok p o v Elsewhere =
     pick-cases (λ (a : Answer). a .value ≡ 0) (eqb (cic.writeAs ok (p .cic) o v .refusal) carriedOut) (λ _. cic-written ok (p .cic) o v) (λ _. refl)
 written-value ok p o v Control = zero-value p (writeRefusal ok o ReadWrite carriedOut) (prioritised (p .cic) (controlled (p .held) v))
 written-value ok p o v GlobalIndex = zero-value p (writeRefusal ok o ReadWrite carriedOut) (prioritised (p .cic) (withGlobal (p .held) 0))
-written-value ok p o v (HostIndex h) = zero-value p (writeRefusal ok o (hostAccess p h) carriedOut) _
+written-value ok p o v (HostIndex h) = zero-value p (writeRefusal ok o (hostAccess p (h .0)) carriedOut) _
 
 pub write-value : (p : Prioritised) (o v : ℕ) → write p o v .value ≡ 0
 unfolding stepAs

@@ -10,6 +10,7 @@ use Rattle.words.specs.Choice.{pick}
 use Rattle.words.proofs.ChoiceLaws.{pick-true, pick-false}
 use Rattle.steps.specs.declared.Access.{Access}
 use Rattle.steps.specs.declared.Access.the-variants.{NoRegister, ReadWrite}
+use Rattle.cic_record.specs.Kinds.{hostNumber}
 use Rattle.cic_layout.specs.Map.{access}
 use Rattle.cic_layout.proofs.AccessLaws.{there-if}
 use Rattle.cic_held.specs.declared.Prioritised.{Prioritised}
@@ -42,7 +43,7 @@ chosen o =
     pick (eqb o 0x004) Control
     (pick (eqb o 0x080) GlobalIndex
     (pick (ltb o 0x900) Elsewhere
-    (pick (ltb o 0xD00) (HostIndex ((o - 0x900) / 4)) Elsewhere)))
+    (pick (ltb o 0xD00) (HostIndex (hostNumber ((o - 0x900) / 4))) Elsewhere)))
 
 own-on : (p : Prioritised) (o : ℕ) → p .held .choice ≡ 1 → ownAt p o ≡ chosen o
 unfolding ownAt
@@ -57,7 +58,7 @@ unfolding pick
 at-global p z = own-on p 0x080 z
 
 -- the indices of the hosts stand from 0x900 to 0xCFC
-at-indices : (p : Prioritised) (o : ℕ) → p .held .choice ≡ 1 → 0x900 ≤ o → o < 0xD00 → ownAt p o ≡ HostIndex ((o - 0x900) / 4)
+at-indices : (p : Prioritised) (o : ℕ) → p .held .choice ≡ 1 → 0x900 ≤ o → o < 0xD00 → ownAt p o ≡ HostIndex (hostNumber ((o - 0x900) / 4))
 at-indices p o z l m =
     own-on p o z
     ∙ sym (pick-false Control (ne-eqb o 0x004 (λ e. omega (arith, e, l))))
@@ -65,16 +66,16 @@ at-indices p o z l m =
     ∙ sym (pick-false Elsewhere (le-ltb o 0x900 l))
     ∙ sym (pick-true Elsewhere (lt-ltb o 0xD00 m))
 
-pub at-host : (p : Prioritised) (h : ℕ) → p .held .choice ≡ 1 → h < 256 → ownAt p (0x900 + 4 * h) ≡ HostIndex h
+pub at-host : (p : Prioritised) (h : ℕ) → p .held .choice ≡ 1 → h < 256 → ownAt p (0x900 + 4 * h) ≡ HostIndex (hostNumber h)
 at-host p h z l =
     let e : (0x900 + 4 * h - 0x900) / 4 ≡ h = omega arith in
-    at-indices p (0x900 + 4 * h) z (omega arith) (omega (arith, l)) ∙ ap HostIndex e
+    at-indices p (0x900 + 4 * h) z (omega arith) (omega (arith, l)) ∙ ap (λ (n : ℕ). HostIndex (hostNumber n)) e
 
 pub at-none : (p : Prioritised) (o : ℕ) → p .held .choice ≡ 1 → o ≢ 0x004 → o ≢ 0x080 → (o < 0x900) ⊎ (0xD00 ≤ o) → ownAt p o ≡ Elsewhere
 at-none p o z a b w =
     own-on p o z ∙ sym (pick-false Control (ne-eqb o 0x004 a)) ∙ sym (pick-false GlobalIndex (ne-eqb o 0x080 b)) ∙ go w
   where
-    go : (o < 0x900) ⊎ (0xD00 ≤ o) → pick (ltb o 0x900) Elsewhere (pick (ltb o 0xD00) (HostIndex ((o - 0x900) / 4)) Elsewhere) ≡ Elsewhere
+    go : (o < 0x900) ⊎ (0xD00 ≤ o) → pick (ltb o 0x900) Elsewhere (pick (ltb o 0xD00) (HostIndex (hostNumber ((o - 0x900) / 4))) Elsewhere) ≡ Elsewhere
     go (inl l) = sym (pick-true _ (lt-ltb o 0x900 l))
     go (inr l) = sym (pick-false Elsewhere (le-ltb o 0x900 (omega (arith, l)))) ∙ sym (pick-false _ (le-ltb o 0xD00 l))
 
@@ -83,7 +84,7 @@ at-none p o z a b w =
 pub data Place (p : Prioritised) (o : ℕ) : Type 0 where
   control : o ≡ 0x004 → ownAt p o ≡ Control → Place p o
   global : o ≡ 0x080 → ownAt p o ≡ GlobalIndex → Place p o
-  indices : 0x900 ≤ o → o < 0xD00 → ownAt p o ≡ HostIndex ((o - 0x900) / 4) → Place p o
+  indices : 0x900 ≤ o → o < 0xD00 → ownAt p o ≡ HostIndex (hostNumber ((o - 0x900) / 4)) → Place p o
   other : o ≢ 0x004 → o ≢ 0x080 → (o < 0x900) ⊎ (0xD00 ≤ o) → ownAt p o ≡ Elsewhere → Place p o
 
 pub place : (p : Prioritised) (o : ℕ) → p .held .choice ≡ 1 → Place p o

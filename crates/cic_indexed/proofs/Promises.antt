@@ -29,10 +29,11 @@ use Rattle.cic_indexed.specs.Tables.{Names}
 use Rattle.cic_indexed.proofs.CicLaws.{lines, off, reads-elsewhere, writes-elsewhere}
 use Rattle.cic_indexed.proofs.IndexLaws.{global-read, host-read, global-write, host-write, global-holds, host-holds, global-held, host-held, global-shows, host-shows, control-reads, control-off, control-on, control-again}
 use Rattle.cic_indexed.proofs.KeptLaws.{step-sound}
+use Rattle.cic_indexed.proofs.ModeLaws.{choice-stays, mode-turns}
 use Rattle.cic_indexed.proofs.NumberLaws.{read-numbers, write-numbers, line-numbers, refused-same, write-value, line-value}
 use Rattle.cic_indexed.proofs.PlaceLaws.{map-off, map-on}
 use Rattle.cic_indexed.proofs.StayLaws.{host-stays, global-stays}
-use Rattle.cic_indexed.proofs.WriteLaws.{host-ends, global-ends}
+use Rattle.cic_indexed.proofs.WriteLaws.{writes-leave, host-ends, global-ends}
 
 -- ---- indices that are not held
 
@@ -101,6 +102,9 @@ kept =
       lines = lines;
       readsElsewhere = reads-elsewhere;
       writesElsewhere = λ p o v e a b w. writes-elsewhere p o e a b w v;
+      choiceStays = choice-stays;
+      modeTurns = mode-turns;
+      writesLeave = writes-leave;
       map = map-on;
       readNumbers = read-numbers;
       writeNumbers = write-numbers;

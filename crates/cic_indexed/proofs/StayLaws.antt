@@ -80,8 +80,8 @@ module _ (f : Held → ℕ) (ways : Ways f) where
       pick-cases (λ (a : Answer). Stays (f (a .prioritised .held)) (f (p .held))) (eqb (writeRefusal ok o ReadWrite carriedOut) carriedOut)
       (λ _. ways .global (p .held)) (λ _. inr refl)
   own-stays ok p o v (HostIndex h) =
-      pick-cases (λ (a : Answer). Stays (f (a .prioritised .held)) (f (p .held))) (eqb (writeRefusal ok o (hostAccess p h) carriedOut) carriedOut)
-      (λ _. ways .host (p .held) h) (λ _. inr refl)
+      pick-cases (λ (a : Answer). Stays (f (a .prioritised .held)) (f (p .held))) (eqb (writeRefusal ok o (hostAccess p (h .0)) carriedOut) carriedOut)
+      (λ _. ways .host (p .held) (h .0)) (λ _. inr refl)
 
   stays : (p : Prioritised) (o v : ℕ) → Stays (f (write p o v .prioritised .held)) (f (p .held))
   unfolding stepAs

@@ -13,6 +13,7 @@ use Rattle.words.proofs.ChoiceLaws.{pick-true}
 use Rattle.words.proofs.TruthLaws.{told, clash}
 use Rattle.steps.specs.declared.Step.the-variants.{Write}
 use Rattle.steps.specs.Refusals.{carriedOut}
+use Rattle.cic_record.specs.Kinds.{hostNumber}
 use Rattle.cic_record.proofs.PartsLaws.{sound-counts}
 use Rattle.cic_steps.specs.Model as cic
 use Rattle.cic.proofs.Promises as of-cic
@@ -22,16 +23,16 @@ use Rattle.cic_held.specs.declared.Prioritised.{Prioritised}
 use Rattle.cic_held.specs.Held.{prioritised, sound}
 use Rattle.cic_index_registers.specs.declared.Own.the-variants.{Elsewhere, HostIndex}
 use Rattle.cic_index_registers.specs.Registers.{ownAt, heldAfter}
-use Rattle.cic_prioritised.specs.Model.{refused, answered, write}
+use Rattle.cic_prioritised.specs.Model.{refused, answered, beside, write}
 use Rattle.cic_prioritised.proofs.SoundLaws.{sound-cic, host-below}
 use Rattle.cic_prioritised.proofs.StepLaws.{no-write, not-there}
 use Rattle.cic_indexed.specs.Tables.{Changes, EndsHost, EndsGlobal}
-use Rattle.cic_indexed.proofs.CicLaws.{plain-write, own-not-written}
-use Rattle.cic_indexed.proofs.EndLaws.{decide-by, host-after, global-after}
+use Rattle.cic_indexed.proofs.CicLaws.{plain-write, written-plain, own-not-written, writes-elsewhere}
+use Rattle.cic_indexed.proofs.EndLaws.{decide-by, host-after, global-after, none-after}
 use Rattle.cic_indexed.proofs.FreedLaws.{Decided, ended, stayed, set-here, set-other}
 use Rattle.cic_indexed.proofs.IndexLaws.{mode-chosen, global-mode, host-mode, global-write, host-write, control-off, control-again}
 use Rattle.cic_indexed.proofs.NumberLaws.{written-number, write-numbers, refused-same}
-use Rattle.cic_indexed.proofs.PlaceLaws.{Place, control, global, indices, other, place}
+use Rattle.cic_indexed.proofs.PlaceLaws.{Place, control, global, indices, other, place, on-or-not}
 
 -- what is held after an answer
 left : Answer → Held
@@ -74,7 +75,7 @@ module _ (p : Prioritised) (o v : ℕ) (e : sound p ≡ true) (on : p .held .cho
           absurd (omega (arith, taken, ap (λ (i : ℕ). cic.refusalAt (p .cic) i v) f, of-cic.kept .limits (p .cic) v .hostIndex .1 .1 (omega (arith, n))))
 
   -- the index of a host that is written is that of a configured one
-  module _ (l : 0x900 ≤ o) (m : o < 0xD00) (at : ownAt p o ≡ HostIndex ((o - 0x900) / 4)) where
+  module _ (l : 0x900 ≤ o) (m : o < 0xD00) (at : ownAt p o ≡ HostIndex (hostNumber ((o - 0x900) / 4))) where
     its-host : (o - 0x900) / 4 < p .cic .hosts
     its-host = go (decLt ((o - 0x900) / 4) (p .cic .hosts))
       where
@@ -127,7 +128,7 @@ module _ (p : Prioritised) (o v : ℕ) (e : sound p ≡ true) (on : p .held .cho
       own-index l m (inr (inl (inr (inr g)))) = absurd (omega (arith, m, g .0))
       own-index l m (inr (inr g)) = absurd (omega (arith, l, g .0))
 
-      at-index : (l : 0x900 ≤ o) (m : o < 0xD00) (at : ownAt p o ≡ HostIndex ((o - 0x900) / 4)) → Dec (h ≡ (o - 0x900) / 4)
+      at-index : (l : 0x900 ≤ o) (m : o < 0xD00) (at : ownAt p o ≡ HostIndex (hostNumber ((o - 0x900) / 4))) → Dec (h ≡ (o - 0x900) / 4)
           → Decided (EndsHost h o v) (entry (left (write p o v))) (entry (p .held))
       at-index l m at (yes f) =
           ended (inl (its-offset l m at ∙ ap (λ (i : ℕ). 0x900 + 4 * i) (sym f)))
@@ -186,6 +187,44 @@ module _ (p : Prioritised) (o v : ℕ) (e : sound p ≡ true) (on : p .held .cho
       go (other a c w at) =
           decide-by (λ g. inr (inl g)) (elsewhere a c) (ap entry (plain-left z at))
           (global-after (p .cic) (p .held) o v (sound-counts (p .cic) (sound-cic p e) .hosts .1) b four set-below clear-below)
+
+-- ---- elsewhere, where no host is set or cleared
+
+module _ (p : Prioritised) (o v : ℕ) (e : sound p ≡ true) (b : v < 2 ^ 32) (a4 : o ≢ 0x004) (a80 : o ≢ 0x080) (out : (o < 0x900) ⊎ (0x900 + 4 * p .cic .hosts ≤ o)) (none : (h : ℕ) → h < p .cic .hosts → Changes h o v → ⊥) where
+  -- at no register of its own, in the mode and outside it
+  plain-leaves : write p o v .refusal ≡ carriedOut → ownAt p o ≡ Elsewhere → left (write p o v) ≡ p .held
+  unfolding left
+  plain-leaves done at = go (ℕ-discrete (p .held .hold) 1)
+    where
+      go : Dec (p .held .hold ≡ 1) → left (write p o v) ≡ p .held
+      go (yes z) =
+          let on = mode-chosen p e z in
+          plain-left p o v e on done z at ∙ none-after (p .cic) (p .held) o v b (four p o v e on done) (set-below p o v e on done) (clear-below p o v e on done) none
+      go (no n) =
+          ap left (plain-write p o v e at ∙ written-plain p o v (cic.write (p .cic) o v) n (unfold cic.stepAs in of-cic.kept .refusedSame (p .cic) (Write o v)))
+
+  held-leaves : Dec (write p o v .refusal ≡ carriedOut) → left (write p o v) ≡ p .held
+  held-leaves (no d) = unfold left in ap left (refused-same p (Write o v) d)
+  held-leaves (yes done) = go (on-or-not p o)
+    where
+      at : p .held .choice ≡ 1 → Place p o → left (write p o v) ≡ p .held
+      at on (control x _) = absurd (a4 x)
+      at on (global x _) = absurd (a80 x)
+      at on (indices l m x) = absurd (beyond out (its-host p o v e on done l m x))
+        where
+          beyond : (o < 0x900) ⊎ (0x900 + 4 * p .cic .hosts ≤ o) → (o - 0x900) / 4 < p .cic .hosts → ⊥
+          beyond (inl y) f = omega (arith, l, y)
+          beyond (inr y) f = omega (arith, y, f)
+      at on (other _ _ _ x) = plain-leaves done x
+
+      go : (p .held .choice ≡ 1) ⊎ (ownAt p o ≡ Elsewhere) → left (write p o v) ≡ p .held
+      go (inl on) = at on (place p o on)
+      go (inr x) = plain-leaves done x
+
+  pub writes-leave : write p o v ≡ beside (p .held) (cic.write (p .cic) o v)
+  unfolding left
+  writes-leave =
+      writes-elsewhere p o e a4 a80 out v ∙ ap (λ (y : Held). beside y (cic.write (p .cic) o v)) (held-leaves (ℕ-discrete (write p o v .refusal) carriedOut))
 
 -- ---- what ends a hold
 

@@ -19,7 +19,7 @@ use Rattle.cic_held.specs.declared.Held.{Held}
 use Rattle.cic_held.specs.declared.Prioritised.{Prioritised}
 use Rattle.cic_held.specs.Held.{prioritised, nothingHeld, withGlobal, withHosts, heldAs, wordHeld, sound, start}
 use Rattle.cic_prioritised.specs.Model.{refused, answered, beside, read, write, line, step, outputs}
-use Rattle.cic_indexed.specs.Tables.{Names, EndsHost, EndsGlobal, accessAt, MapTable}
+use Rattle.cic_indexed.specs.Tables.{Names, Changes, EndsHost, EndsGlobal, Turns, accessAt, MapTable}
 
 pub record Promises : Type 0 where
   -- a step is a read, a write or a line step (01, House trace)
@@ -34,6 +34,14 @@ pub record Promises : Type 0 where
       → read p o ≡ beside (p .held) (cic.read (p .cic) o)
   pub writesElsewhere : (p : Prioritised) (o v : ℕ) → sound p ≡ true → o ≢ 0x004 → o ≢ 0x080 → (o < 0x900) ⊎ (0x900 + 4 * p .cic .hosts ≤ o)
       → write p o v ≡ beside (write p o v .prioritised .held) (cic.write (p .cic) o v)
+  -- ---- what stays
+  -- no step changes the choice (02, 6/12)
+  pub choiceStays : (p : Prioritised) (x : Step) → step p x .prioritised .held .choice ≡ p .held .choice
+  -- a step changes the hold mode exactly if it is a write of 0x004, carried out since the choice is on, whose bit 4 is not the mode (001, 2.2.2)
+  pub modeTurns : (p : Prioritised) (x : Step) → sound p ≡ true → (step p x .prioritised .held .hold ≢ p .held .hold) ↔ Turns (p .held) x
+  -- a write elsewhere that sets or clears none of the hosts leaves the choice, the mode and every hold as they were (001, 1.3.5)
+  pub writesLeave : (p : Prioritised) (o v : ℕ) → sound p ≡ true → v < 2 ^ 32 → o ≢ 0x004 → o ≢ 0x080 → (o < 0x900) ⊎ (0x900 + 4 * p .cic .hosts ≤ o)
+      → ((h : ℕ) → h < p .cic .hosts → Changes h o v → ⊥) → write p o v ≡ beside (p .held) (cic.write (p .cic) o v)
   -- ---- refusals
   -- the registers that there are beside the CIC's (001, table 2-1)
   pub map : (p : Prioritised) → p .held .choice ≡ 1 → MapTable p

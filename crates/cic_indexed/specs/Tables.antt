@@ -1,4 +1,4 @@
--- The sentences of which the promises are made: which system interrupt an index names, what ends a hold, and the registers.
+-- The sentences of which the promises are made: which system interrupt an index names, what ends a hold, what turns the hold mode, and the registers.
 use mathlib.Core.Bool.{true, false}
 use mathlib.Core.Logic.{_↔_, _≢_, _⊎_}
 use mathlib.Core.Path.{_≡_}
@@ -6,10 +6,13 @@ use Prim.Native.Nat.{ℕ, _+_, _*_, _/_, _%_, _<_, _≤_}
 use Rattle.words.specs.Word.{bit}
 use Rattle.steps.specs.declared.Access.{Access}
 use Rattle.steps.specs.declared.Access.the-variants.{NoRegister, ReadWrite}
+use Rattle.steps.specs.declared.Step.{Step}
+use Rattle.steps.specs.declared.Step.the-variants.{Write}
 use Rattle.cic_record.specs.declared.Cic.{Cic}
 use Rattle.cic_record.specs.Kinds.{system}
 use Rattle.cic_layout.specs.Map.{access}
 use Rattle.cic_indices.specs.Order.{comesBefore}
+use Rattle.cic_held.specs.declared.Held.{Held}
 use Rattle.cic_held.specs.declared.Prioritised.{Prioritised}
 use Rattle.cic_index_registers.specs.Registers.{ownAt, accessOf}
 
@@ -41,6 +44,13 @@ EndsHost h o v = (o ≡ 0x900 + 4 * h) ⊎ (Changes h o v ⊎ TurnsOff o v)
 -- that of the global index: it is written, or one of the hosts is set or cleared
 abbrev pub EndsGlobal : ℕ → ℕ → ℕ → Type 0
 EndsGlobal hosts o v = (o ≡ 0x080) ⊎ (((h : ℕ) × (h < hosts) × Changes h o v) ⊎ TurnsOff o v)
+
+-- ---- which steps turn the hold mode off, or on (001, 2.2.2)
+
+-- a write of 0x004 where the choice is on, whose bit 4 is not the mode
+abbrev pub Turns : Held → Step → Type 0
+Turns held x =
+    (v : ℕ) × (x ≡ Write 0x004 v) × ((held .choice ≡ 1) × (((held .hold ≡ 1) × (bit v 4 ≡ false)) ⊎ ((held .hold ≡ 0) × (bit v 4 ≡ true))))
 
 -- ---- the registers (001, table 2-1)
 

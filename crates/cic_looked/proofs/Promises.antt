@@ -77,7 +77,7 @@ global-at : (p : Prioritised) → wordsAt p GlobalIndex ≡ wordsNow (p .cic) (p
 unfolding wordsAt
 global-at p = refl
 
-host-at : (p : Prioritised) (h : ℕ) → wordsAt p (HostIndex h) ≡ wordsNow (p .cic) (getD (p .held .host) h 0) false (hostNumber h)
+host-at : (p : Prioritised) (h : ℕ) → wordsAt p (HostIndex (hostNumber h)) ≡ wordsNow (p .cic) (getD (p .held .host) h 0) false (hostNumber h)
 unfolding wordsAt
 host-at p h = refl
 

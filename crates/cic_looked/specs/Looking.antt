@@ -37,7 +37,7 @@ unfoldable pub wordsAt : Prioritised → Own → ℕ
 wordsAt p Elsewhere = 0
 wordsAt p Control = 0
 wordsAt p GlobalIndex = wordsNow (p .cic) (p .held .global) true (hostNumber 0)
-wordsAt p (HostIndex h) = wordsNow (p .cic) (getD (p .held .host) h 0) false (hostNumber h)
+wordsAt p (HostIndex h) = wordsNow (p .cic) (getD (p .held .host) (h .0) 0) false h
 
 -- ---- answers
 

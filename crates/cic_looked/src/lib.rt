@@ -69,7 +69,7 @@ fn look_global(p: Prioritised, offset: u32) -> Looked
 }
 
 // The index of host interrupt h.
-fn look_host(p: Prioritised, offset: u32, h: u32) -> Looked
+fn look_host(p: Prioritised, offset: u32, h: Host) -> Looked
     requires { ⌜ sound p ≡ true ⌝ }
     ensures { λ r. ⌜ r ≡ lookAs true p offset (HostIndex h) ⌝ }
 {
@@ -78,7 +78,7 @@ fn look_host(p: Prioritised, offset: u32, h: u32) -> Looked
         return answer(n, 0, 0);
     }
     let was = cic_index_registers::host_held(p.held, h);
-    let f = look_now(p.cic, was, false, Host(h as u16));
+    let f = look_now(p.cic, was, false, h);
     answer(steps::CARRIED_OUT, f.index, f.words)
 }
 

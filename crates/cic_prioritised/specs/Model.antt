@@ -44,8 +44,8 @@ readAs ok p offset Control = unlessRefused p (readRefusal ok offset ReadWrite) (
 readAs ok p offset GlobalIndex =
     unlessRefused p (readRefusal ok offset ReadWrite) (answered (prioritised (p .cic) (withGlobal (p .held) (holdAfter p (globalWord p)))) (globalWord p))
 readAs ok p offset (HostIndex h) =
-    unlessRefused p (readRefusal ok offset (hostAccess p h))
-    (answered (prioritised (p .cic) (withHosts (p .held) (set (p .held .host) h (holdAfter p (hostWord p h))))) (hostWord p h))
+    unlessRefused p (readRefusal ok offset (hostAccess p (h .0)))
+    (answered (prioritised (p .cic) (withHosts (p .held) (set (p .held .host) (h .0) (holdAfter p (hostWord p (h .0)))))) (hostWord p (h .0)))
 
 -- the CIC's write, and if it is carried out in the mode, what it ends (001, 1.3.5)
 abbrev pub writtenBy : Prioritised → ℕ → ℕ → CicAnswer → Answer
@@ -60,8 +60,8 @@ writeAs ok p offset v Control =
 writeAs ok p offset v GlobalIndex =
     unlessRefused p (writeRefusal ok offset ReadWrite carriedOut) (answered (prioritised (p .cic) (withGlobal (p .held) 0)) 0)
 writeAs ok p offset v (HostIndex h) =
-    unlessRefused p (writeRefusal ok offset (hostAccess p h) carriedOut)
-    (answered (prioritised (p .cic) (withHosts (p .held) (set (p .held .host) h 0))) 0)
+    unlessRefused p (writeRefusal ok offset (hostAccess p (h .0)) carriedOut)
+    (answered (prioritised (p .cic) (withHosts (p .held) (set (p .held .host) (h .0) 0))) 0)
 
 unfoldable pub stepAs : Bool → Prioritised → Step → Answer
 stepAs ok p (Read offset) = readAs ok p offset (ownAt p offset)

@@ -196,7 +196,7 @@ fn read_global(p: Prioritised, offset: u32) -> Answer
 }
 
 // A read of the index of host interrupt h, which in the mode is held from then on.
-fn read_host(p: Prioritised, offset: u32, h: u32) -> Answer
+fn read_host(p: Prioritised, offset: u32, h: Host) -> Answer
     requires { ⌜ sound p ≡ true ⌝ }
     ensures { λ r. ⌜ r ≡ readAs true p offset (HostIndex h) ⌝ }
 {
@@ -205,7 +205,7 @@ fn read_host(p: Prioritised, offset: u32, h: u32) -> Answer
         return refuse(p, n);
     }
     let was = cic_index_registers::host_held(p.held, h);
-    let word = cic_index_registers::index_word(p.cic, was, false, Host(h as u16));
+    let word = cic_index_registers::index_word(p.cic, was, false, h);
     let x = cic_index_registers::hold_after(p, word);
     let d = cic_held::hold_host(p.held, h, x);
     carry_out(p.cic, d, word)
@@ -266,7 +266,7 @@ fn write_global(p: Prioritised, offset: u32, v: u32) -> Answer
 }
 
 // A write of the index of host interrupt h: it ends its hold, whatever the value.
-fn write_host(p: Prioritised, offset: u32, v: u32, h: u32) -> Answer
+fn write_host(p: Prioritised, offset: u32, v: u32, h: Host) -> Answer
     ensures { λ r. ⌜ r ≡ writeAs true p offset v (HostIndex h) ⌝ }
 {
     let access = cic_index_registers::host_access(p, h);

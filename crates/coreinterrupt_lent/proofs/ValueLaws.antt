@@ -41,18 +41,3 @@ rec-is r u is = LL.owed U.the-type U′.the-laws r (u ∷ []) is .1 .1 .0
 pub reply-is : (r : Answer) (u : Val) → Is U.the-row r (u ∷ []) → Is Q.the-row (replyOf r) (reply-val (replyOf r) ∷ [])
 reply-is r u is =
     LL.owes Q.the-type Q′.the-laws (replyOf r) (LL.owed U.the-type U′.the-laws r (u ∷ []) is .0, (LL.owed U.the-type U′.the-laws r (u ∷ []) is .1 .0, tt))
-
--- of a reply that is held: its machine value, and what is known of the answer made of it and a record
-pub reply-spelt : (r : Reply) (u : Val) → Is Q.the-row r (u ∷ []) → u ≡ reply-val r
-reply-spelt r u is = ap first (LL.tells Q.the-type Q′.the-laws r (u ∷ []) is)
-
-abbrev pub both : Reply → Core → Answer
-both r d = record { refusal = r .refusal; value = r .value; core = d }
-
-pub both-is : (r : Reply) (u : Val) (d : Core) → Is Q.the-row r (u ∷ []) → Is T.the-row d (vals d) → Is U.the-row (both r d) (answer-val (both r d) ∷ [])
-both-is r u d is d-is =
-    LL.owes U.the-type U′.the-laws (both r d)
-    (LL.owed Q.the-type Q′.the-laws r (u ∷ []) is .0, (LL.owed Q.the-type Q′.the-laws r (u ∷ []) is .1 .0, (d-is, tt)))
-
-pub whole-of : (r : Reply) (d : Core) (a : Answer) → r ≡ replyOf a → d ≡ a .core → both r d ≡ a
-whole-of r d a p q = λ i. both (p i) (q i)

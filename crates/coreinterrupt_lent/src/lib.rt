@@ -1,7 +1,7 @@
-// CoreInterrupt on a record that the caller lends and that is updated in it (01, "CoreInterrupt"): thin functions over the model by value.
+// CoreInterrupt on a record that the caller lends and that is updated in it (01, "CoreInterrupt"): what is answered, and what the record is afterwards. The
+// functions that are lent a record are those of `exports`, thin ones over these two.
 ghost use mathlib.Core.Path.{_≡_};
-ghost use Rattle.coreinterrupt.specs.Model.{step};
-ghost use Rattle.coreinterrupt_lent.specs.Lent.{startOver, Stepped, Started};
+ghost use Rattle.coreinterrupt_lent.specs.Lent.{startOver, stepTold};
 
 // What a step or a start answers; the record stays with the caller.
 #[repr(C)]
@@ -25,44 +25,20 @@ pub fn start_over(
     coreinterrupt::unless_refused(c, b.refusal, coreinterrupt::answer_of(d, 0))
 }
 
-// One step on the lent record. A refused one leaves it as it was.
-pub fn step_lent(c: &mut coreinterrupt::Core, s: steps::Step) -> Reply
-    ensures { λ r. ⌜ Stepped (now (c .entry)) (now (c .exit)) s r ⌝ }
+// A step that is told by its kind and its numbers, as a trace tells it: an offset; an offset and a value; a line and a level. Of a read the second number plays
+// no part. Any other kind is refused by 9, with the record as it was.
+pub fn step_told(
+    c: coreinterrupt::Core,
+    kind: u32,
+    first: u32,
+    second: u32,
+) -> coreinterrupt::Answer
+    ensures { λ r. ⌜ r ≡ stepTold c kind first second ⌝ }
 {
-    let a = coreinterrupt::step(*c, s);
-    *c = a.core;
-    Reply {
-        refusal: a.refusal,
-        value: a.value,
-    }
-}
-
-// A start of the lent record. A refused one leaves it as it was.
-pub fn start_lent(
-    c: &mut coreinterrupt::Core,
-    fiqs: u32,
-    irqs: u32,
-    fiqlevel: u32,
-    irqlevel: u32,
-) -> Reply
-    ensures { λ r. ⌜ Started (now (c .entry)) (now (c .exit)) fiqs irqs fiqlevel irqlevel r ⌝ }
-{
-    let a = start_over(*c, fiqs, irqs, fiqlevel, irqlevel);
-    *c = a.core;
-    Reply {
-        refusal: a.refusal,
-        value: a.value,
-    }
-}
-
-// The same step by value, through the lent one: a record of its own is lent and comes back.
-pub fn step_through(mut c: coreinterrupt::Core, s: steps::Step) -> coreinterrupt::Answer
-    ensures { λ r. ⌜ r ≡ step c s ⌝ }
-{
-    let r = step_lent(&mut c, s);
-    coreinterrupt::Answer {
-        refusal: r.refusal,
-        value: r.value,
-        core: c,
+    match kind {
+        trace::READ => coreinterrupt::step(c, steps::Step::Read(first)),
+        trace::WRITE => coreinterrupt::step(c, steps::Step::Write(first, second)),
+        trace::LINE => coreinterrupt::step(c, steps::Step::Line(first, second)),
+        _ => coreinterrupt::refusal_of(c, steps::UNKNOWN),
     }
 }

@@ -1,6 +1,6 @@
-// The player, the listing, the words that a read looks at, the figures of a trace and the stack size of a typed table for callers in Rust and C. A slice goes
-// as a pointer and a length, in this order; a length and an offset are of the width of a pointer. include/wisteria.h declares the functions for C, and says
-// what a caller answers for.
+// The player, the listing, the words that a read looks at, the figures of a trace, the stack size of a typed table, and CoreInterrupt on a lent record, for
+// callers in Rust and C. A slice goes as a pointer and a length, in this order; a length and an offset are of the width of a pointer. include/wisteria.h
+// declares the functions for C, and says what a caller answers for.
 ghost use mathlib.Core.Path.{_≡_};
 ghost use Rattle.text.specs.Text.{laid};
 ghost use Rattle.reports.specs.Play.{playOf};
@@ -8,6 +8,7 @@ ghost use Rattle.lines.specs.Listing.{listingOf};
 ghost use Rattle.play_looked.specs.After.{wordsAfter};
 ghost use Rattle.tally.specs.Tally.{tallyOf};
 ghost use Rattle.tables.specs.Reading.{answerTo};
+ghost use Rattle.coreinterrupt_lent.specs.Lent.{leftBy, startOver, stepTold};
 
 // Writes the listing of a trace of at most `limit` steps to the start of the lent buffer. Answers the number of bytes written: what finds no room
 // is dropped, and the rest of the buffer stays as it was. A listing of at most 99,999 steps has at most 29 bytes for each step and 58 more.
@@ -106,4 +107,42 @@ pub extern "C" fn wisteria_stack(text: &[u8], out: &mut [u8]) -> usize
     ensures { λ r. ⌜ (now (out .exit), r) ≡ laid (now (out .entry)) (answerTo (now (text .entry))) ⌝ }
 {
     tables::put_answer(out, text)
+}
+
+// Starts the lent CoreInterrupt (01, "CoreInterrupt"): a thin function over the start by value. A refused one leaves every word of the record as it was.
+#[no_mangle]
+pub extern "C" fn wisteria_core_start(
+    core: &mut coreinterrupt::Core,
+    fiqs: u32,
+    irqs: u32,
+    fiqlevel: u32,
+    irqlevel: u32,
+) -> coreinterrupt_lent::Reply
+    ensures { λ r. ⌜ (now (core .exit), r) ≡ leftBy (startOver (now (core .entry)) fiqs irqs fiqlevel irqlevel) ⌝ }
+{
+    let a = coreinterrupt_lent::start_over(*core, fiqs, irqs, fiqlevel, irqlevel);
+    *core = a.core;
+    coreinterrupt_lent::Reply {
+        refusal: a.refusal,
+        value: a.value,
+    }
+}
+
+// One step on the lent CoreInterrupt, told by its kind and its numbers as a trace tells it: a thin function over the step by value. A refused one leaves every
+// word of the record as it was.
+#[no_mangle]
+pub extern "C" fn wisteria_core_step(
+    core: &mut coreinterrupt::Core,
+    kind: u32,
+    first: u32,
+    second: u32,
+) -> coreinterrupt_lent::Reply
+    ensures { λ r. ⌜ (now (core .exit), r) ≡ leftBy (stepTold (now (core .entry)) kind first second) ⌝ }
+{
+    let a = coreinterrupt_lent::step_told(*core, kind, first, second);
+    *core = a.core;
+    coreinterrupt_lent::Reply {
+        refusal: a.refusal,
+        value: a.value,
+    }
 }

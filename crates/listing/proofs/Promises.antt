@@ -144,7 +144,6 @@ kept =
       bounded = length-listing;
       fits = λ s l limit h. sym (write-laid l (listingOf s limit)) ∙ text .fits l (listingOf s limit) h;
       partly = λ l bs. refl;
-      anyLoop = λ s l limit r q e f. e ∙ sym f;
       worked = aic-listed;
       nothing = nothing-listed;
       coreListed = core-listed;

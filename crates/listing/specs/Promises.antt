@@ -158,8 +158,6 @@ pub record Promises : Type 0 where
       → laid l (listingOf s limit) ≡ (listingOf s limit ++ drop (length (listingOf s limit)) l, length (listingOf s limit))
   -- in any other as much of it as finds room
   pub partly : (l bs : List ℕ) → laid l bs ≡ (take (length l) bs ++ drop (length bs) l, min (length bs) (length l))
-  -- whichever loop lists a trace, the bytes and their number are the same: `list` and `list_plain` have one contract, and it leaves no choice
-  pub anyLoop : (s l : List ℕ) (limit : ℕ) (r q : List ℕ × ℕ) → r ≡ laid l (listingOf s limit) → q ≡ laid l (listingOf s limit) → r ≡ q
   -- ---- worked out
 
   -- the example of 01, byte for byte, and nothing at all: E 8 0 (01, House trace)

@@ -256,5 +256,4 @@ kept =
       soundly = soundly;
       ends = ends;
       seven = λ s limit p. (seven-only s limit p, seven-so s limit p);
-      anyLoop = λ s limit r q e f. e ∙ sym f;
     }

@@ -15,7 +15,6 @@ use Rattle.machine.specs.Steps.{step}
 use Rattle.machine_record.specs.Promises.{startWith}
 use Rattle.beginning.specs.Asked.{Wanting, Configures}
 use Rattle.beginning.specs.Begin.{beginOf}
-use Rattle.reports.specs.declared.Played.{Played}
 use Rattle.reports.specs.Play.{recordsOf, runOf, playOf}
 
 -- a trace begins with a refusal, 0 for none, at a place
@@ -74,5 +73,3 @@ pub record Promises : Type 0 where
   pub seven : (s : List ℕ) (limit p : ℕ)
       → ((playOf s limit .refusal ≡ 7) × (playOf s limit .offset ≡ p))
       ↔ ((beginOf s .refusal ≡ 0) × Along (told s) s (beginOf s .place) (recordsOf s limit .steps) p × (playOf s limit .steps ≡ limit) × (p < length s))
-  -- whichever loop plays a trace, the report is the same: `play` and `play_plain` have one contract, and it leaves no choice
-  pub anyLoop : (s : List ℕ) (limit : ℕ) (r q : Played) → r ≡ playOf s limit → q ≡ playOf s limit → r ≡ q

@@ -1,17 +1,20 @@
--- Where a line ends.
+-- Where a line ends, where its name does, and how many line feeds there are.
 use Prim.Native.Nat.{ℕ, zero, suc, _+_, _-_, _≤_, _<_}
 use mathlib.Core.Path.{_≡_, refl, sym, ap, _∙_}
-use mathlib.Core.Bool.{Bool, true, false}
+use mathlib.Core.Bool.{Bool, true, false, _&&_}
 use mathlib.Core.List.{List}
 use mathlib.Core.Logic.{_≢_}
 use native.Mathlib.Omega.{arith}
 use native.Mathlib.Decide.{ℕ-discrete}
-use lib.Dec.{eqb}
-use lib.ListN.{getD, length}
-use borrow.Author.Tests.{eq-eqb, ne-eqb}
+use lib.Dec.{eqb, ltb}
+use lib.ListN.{getD, length, List·getD-eq-default}
+use borrow.Author.Tests.{eq-eqb, ne-eqb, lt-ltb, le-ltb, ltb-true}
 use Rattle.words.specs.Choice.{pick}
-use Rattle.words.proofs.ChoiceLaws.{pick-true, pick-false}
-use Rattle.report.specs.Lines.{lineFrom, lineEnd}
+use Rattle.words.specs.Counting.{one, countBelow}
+use Rattle.words.proofs.ChoiceLaws.{pick-true, pick-false, pick-cases}
+use Rattle.words.proofs.CountingLaws.{count-le, count-add}
+use Rattle.words.proofs.TruthLaws.{and-left, and-both}
+use Rattle.report.specs.Lines.{lineFrom, lineEnd, nameEnd, feedsBefore}
 
 pub line-here : (s : List ℕ) (k : ℕ) → k < length s → getD s k 0 ≡ 10 → k ≡ lineEnd s k
 unfolding lineEnd pick
@@ -92,3 +95,60 @@ end-before s at k a b = before-from (length s - at) s at k a b
 pub end-at : (s : List ℕ) (at : ℕ) → at ≤ length s → lineEnd s at < length s → getD s (lineEnd s at) 0 ≡ 10
 unfolding lineEnd
 end-at s at a b = at-from (length s - at) s at (omega arith)
+
+-- ---- the name
+
+module _ (s : List ℕ) (at e : ℕ) where
+  pub name-short : at < e → getD s (e - 1) 0 ≡ 13 → nameEnd s at e ≡ e - 1
+  unfolding nameEnd
+  name-short l c = sym (pick-true _ (and-both (lt-ltb at e l) (eq-eqb (getD s (e - 1) 0) 13 c)))
+
+  pub name-whole : (getD s (e - 1) 0 ≡ 13 → ⊥) → nameEnd s at e ≡ e
+  unfolding nameEnd pick
+  name-whole c = rw (ne-eqb (getD s (e - 1) 0) 13 c) (go (ltb at e))
+    where
+      go : (t : Bool) → pick (t && false) (e - 1) e ≡ e
+      go true = refl
+      go false = refl
+
+  pub name-beyond : length s ≤ e - 1 → nameEnd s at e ≡ e
+  name-beyond l = name-whole (λ c. absurd (omega (arith, c, List·getD-eq-default s 0 l)))
+
+  pub name-empty : e ≤ at → nameEnd s at e ≡ e
+  unfolding nameEnd pick
+  name-empty l = rw (le-ltb at e l)
+
+  -- a name ends within its line
+  pub name-within : (r : ℕ) → at ≤ e → r ≡ nameEnd s at e → (at ≤ r) × (r ≤ e)
+  unfolding nameEnd
+  name-within r l h =
+      rw h
+      (pick-cases (λ n. (at ≤ n) × (n ≤ e)) (ltb at e && eqb (getD s (e - 1) 0) 13)
+      (λ t. let b = ltb-true at e (and-left _ (eqb (getD s (e - 1) 0) 13) t) in (omega (arith, b), omega arith)) (λ _. (l, omega arith)))
+
+-- ---- line feeds
+
+feed-one : (s : List ℕ) (k : ℕ) (t : Bool) → eqb (getD s k 0) 10 ≡ t → feedsBefore s (suc k) ≡ feedsBefore s k + one t
+unfolding feedsBefore countBelow
+feed-one s k t e = rw e
+
+pub feeds-none : (s : List ℕ) → feedsBefore s 0 ≡ 0
+unfolding feedsBefore countBelow
+feeds-none s = refl
+
+pub feeds-feed : (s : List ℕ) (k : ℕ) → getD s k 0 ≡ 10 → feedsBefore s (suc k) ≡ feedsBefore s k + 1
+feeds-feed s k e = feed-one s k true (eq-eqb (getD s k 0) 10 e)
+
+pub feeds-else : (s : List ℕ) (k : ℕ) → getD s k 0 ≢ 10 → feedsBefore s (suc k) ≡ feedsBefore s k
+feeds-else s k n = feed-one s k false (ne-eqb (getD s k 0) 10 n) ∙ omega arith
+
+-- no more than bytes, and no fewer further on
+pub feeds-most : (s : List ℕ) (k : ℕ) → feedsBefore s k ≤ k
+unfolding feedsBefore
+feeds-most s k = count-le k (λ i. eqb (getD s i 0) 10)
+
+pub feeds-grow : (s : List ℕ) (k m : ℕ) → k ≤ m → feedsBefore s k ≤ feedsBefore s m
+unfolding feedsBefore
+feeds-grow s k m l =
+    let e : m ≡ k + (m - k) = omega arith in
+    rw e (omega (arith, count-add k (m - k) (λ i. eqb (getD s i 0) 10)))

@@ -3,6 +3,7 @@ use Prim.Native.Nat.{ℕ, suc, _+_, _≤_, _<_, min}
 use mathlib.Core.Path.{_≡_, refl, sym, ap, _∙_}
 use mathlib.Core.List.{List, [], _∷_, _++_, append-nil, append-assoc}
 use mathlib.Core.Logic.{_≢_}
+use native.Mathlib.Omega.{arith}
 use lib.Dec.{eqb}
 use lib.ListN.{length, getD, drop}
 use borrow.Author.Tests.{ne-eqb}
@@ -16,7 +17,7 @@ use Rattle.totals.specs.declared.Totals.{Totals}
 use Rattle.report.specs.Lines.{lineEnd}
 use Rattle.report.specs.Printed.{named, endedAt, traceLine, leftOutLine, sourceLine, sourceLines}
 use Rattle.report.specs.Promises.{Promises, Whole}
-use Rattle.report.proofs.LineLaws.{line-over, line-within, end-before, end-at}
+use Rattle.report.proofs.LineLaws.{line-over, line-within, end-before, end-at, name-short, name-whole, name-empty, feeds-none, feeds-feed, feeds-else}
 use Rattle.report.proofs.SizeLaws.{length-trace, length-left-out, length-sources}
 
 -- ---- the lines, written out
@@ -109,4 +110,10 @@ kept =
       endBefore = end-before;
       endAt = end-at;
       endBeyond = λ s at h. sym (line-over s at h);
+      nameShort = name-short;
+      nameWhole = λ s at e l c. name-whole s at e c;
+      nameEmpty = λ s at. name-empty s at at (omega arith);
+      feedsNone = feeds-none;
+      feedsFeed = feeds-feed;
+      feedsElse = feeds-else;
     }

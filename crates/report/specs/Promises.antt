@@ -1,5 +1,5 @@
 -- What is promised of the report: its words, how long its lines are at most, and where a line of names ends.
-use Prim.Native.Nat.{ℕ, suc, _+_, _*_, _<_, _≤_, _^_}
+use Prim.Native.Nat.{ℕ, suc, _+_, _-_, _*_, _<_, _≤_, _^_}
 use mathlib.Core.Path.{_≡_}
 use mathlib.Core.List.{List, [], _∷_, _++_}
 use mathlib.Core.Logic.{_≢_}
@@ -7,7 +7,7 @@ use lib.ListN.{length, getD, drop}
 use Rattle.text.specs.Text.{decimal, field, laid}
 use Rattle.phrases.specs.Phrases.{bytes}
 use Rattle.totals.specs.declared.Totals.{Totals}
-use Rattle.report.specs.Lines.{lineEnd}
+use Rattle.report.specs.Lines.{lineEnd, nameEnd, feedsBefore}
 use Rattle.report.specs.Printed.{traceLine, leftOutLine, sourceLine, sourceLines}
 
 -- the first n sources' figures are words of 32 bits, as those of every such record in the code are
@@ -67,3 +67,12 @@ pub record Promises : Type 0 where
   pub endAt : (s : List ℕ) (at : ℕ) → at ≤ length s → lineEnd s at < length s → getD s (lineEnd s at) 0 ≡ 10
   -- a place beyond the end is its own answer
   pub endBeyond : (s : List ℕ) (at : ℕ) → length s ≤ at → lineEnd s at ≡ at
+  -- one carriage return before the line feed at e is no part of the name that begins at `at`; all else is, a carriage return before that one too
+  pub nameShort : (s : List ℕ) (at e : ℕ) → at < e → getD s (e - 1) 0 ≡ 13 → nameEnd s at e ≡ e - 1
+  pub nameWhole : (s : List ℕ) (at e : ℕ) → at < e → getD s (e - 1) 0 ≢ 13 → nameEnd s at e ≡ e
+  -- an empty line is an empty name
+  pub nameEmpty : (s : List ℕ) (at : ℕ) → nameEnd s at at ≡ at
+  -- line feeds before a place, byte by byte
+  pub feedsNone : (s : List ℕ) → feedsBefore s 0 ≡ 0
+  pub feedsFeed : (s : List ℕ) (k : ℕ) → getD s k 0 ≡ 10 → feedsBefore s (suc k) ≡ feedsBefore s k + 1
+  pub feedsElse : (s : List ℕ) (k : ℕ) → getD s k 0 ≢ 10 → feedsBefore s (suc k) ≡ feedsBefore s k

@@ -1,10 +1,13 @@
 // The year's report as text, in a buffer that the caller lends: a line for each trace named, and a line for each source (02, 11/12).
 ghost use mathlib.Core.Path.{_≡_};
 ghost use Rattle.text.specs.Text.{write, laid};
-ghost use Rattle.report.specs.Lines.{lineEnd};
+ghost use Rattle.report.specs.Lines.{lineEnd, nameEnd};
 ghost use Rattle.report.specs.Printed.{endedAt, named, traceLine, leftOutLine, sourceLine, sourceLines};
 use text::NEWLINE;
 use totals::Totals;
+
+// The byte that some put before each line feed.
+const CARRIAGE_RETURN: u8 = 13;
 
 // Where the line that holds place `at` ends: the first line feed from there on, or the end; a place beyond the end is its own answer.
 pub fn line_end(s: &[u8], at: usize) -> usize
@@ -18,6 +21,22 @@ pub fn line_end(s: &[u8], at: usize) -> usize
         k = k + 1;
     }
     k
+}
+
+// Where the name ends that begins at `at`, its line feed standing at `e`: one carriage return before that is no part of it.
+pub fn name_end(s: &[u8], at: usize, e: usize) -> usize
+    ensures { λ r. ⌜ r ≡ nameEnd (now (s .entry)) at e ⌝ }
+{
+    if e <= at {
+        return e;
+    }
+    let last = e - 1;
+    if last < s.len() {
+        if s[last] == CARRIAGE_RETURN {
+            return last;
+        }
+    }
+    e
 }
 
 // The line of a trace that is in the totals: the steps played and refused, how it ended if with a refusal, and its name. It stands at the start of the buffer;

@@ -2,9 +2,11 @@
 ghost use mathlib.Core.Path.{_≡_};
 ghost use Prim.Native.Nat.{_+_, _≤_};
 ghost use lib.ListN.{length};
-ghost use Rattle.totals.specs.Totals.{zeros};
 use reading::Came;
 use report_lines::Sum;
+
+// Of a name that is too long so many bytes are printed; no file has a name of so many.
+const SHOWN: usize = 4096;
 
 // How many bytes of a begun name stand at the start of the room, whether a name that is too long is passed over, whether more names may come, whether
 // reading them failed, and the report so far.
@@ -16,15 +18,10 @@ pub struct State {
     pub sum: Sum,
 }
 
-// Before any name: nothing is held, and no trace is in the totals.
-pub fn begin() -> State
-    ensures { λ r. ⌜ (r .held ≡ 0) × (r .sum .totals ≡ zeros) ⌝ }
+// Before any name: nothing is held, and the report is the one given.
+pub fn begin(first: Sum) -> State
+    ensures { λ r. ⌜ (r .held ≡ 0) × (r .sum ≡ first) ⌝ }
 {
-    let t = totals::none();
-    let first = Sum {
-        totals: t,
-        written: true,
-    };
     State {
         held: 0,
         skipping: false,
@@ -43,9 +40,9 @@ pub fn fill(names: &mut [u8], held: usize) -> Came
 }
 
 // What is kept of a begun name: nothing where it is passed over, nor where it fills the room, for then it is too long to be opened. Of the one that is
-// passed over the first 4,096 bytes have been told.
+// passed over the first 4,096 bytes have been told. The totals are as they were.
 pub fn settle(names: &[u8], held: usize, skipping: bool, sum: Sum, came: Came) -> State
-    ensures { λ r. ⌜ r .held ≤ length (now (names .entry)) ⌝ }
+    ensures { λ r. ⌜ (r .held ≤ length (now (names .entry))) × (r .sum .totals ≡ sum .totals) ⌝ }
 {
     if skipping | !sum.written {
         return standing(0, true, sum, came);
@@ -53,13 +50,24 @@ pub fn settle(names: &[u8], held: usize, skipping: bool, sum: Sum, came: Came) -
     if held < names.len() {
         return standing(held, false, sum, came);
     }
-    let told = report_lines::unopened(names, sum);
+    let n = shown(names.len());
+    let told = report_lines::unopened(&names[..n], sum);
     standing(0, true, told, came)
+}
+
+// How many bytes of a name that is too long are printed.
+fn shown(n: usize) -> usize
+    ensures { λ r. ⌜ r ≤ n ⌝ }
+{
+    if n < SHOWN {
+        return n;
+    }
+    SHOWN
 }
 
 // More names may come while some came and the report could be written.
 fn standing(held: usize, skipping: bool, sum: Sum, came: Came) -> State
-    ensures { λ r. ⌜ r .held ≡ held ⌝ }
+    ensures { λ r. ⌜ (r .held ≡ held) × (r .sum ≡ sum) ⌝ }
 {
     State {
         held: held,

@@ -1,10 +1,12 @@
 // The lines of the year's report as they are printed: the report so far, the lines that need no trace, and buffers that every line fits (02, 11/12).
 ghost use mathlib.Core.Path.{_≡_};
+ghost use mathlib.Core.Bool.{true};
 ghost use mathlib.Core.List.{List};
 ghost use Prim.Native.Nat.{ℕ, _≤_, _<_, _^_};
 ghost use lib.ListN.{length};
 ghost use Rattle.text.specs.Text.{laid};
 ghost use Rattle.totals.specs.declared.Totals.{Totals as Figures};
+ghost use Rattle.totals.specs.Totals.{zeros};
 ghost use Rattle.report.specs.Printed.{traceLine, leftOutLine, sourceLines};
 ghost use Rattle.report.specs.Promises.{Words};
 use totals::Totals;
@@ -13,6 +15,17 @@ use totals::Totals;
 pub struct Sum {
     pub totals: Totals,
     pub written: bool,
+}
+
+// Before any name: no trace is in the totals, and nothing had to be written.
+pub fn none() -> Sum
+    ensures { λ r. ⌜ (r .totals ≡ zeros) × (r .written ≡ true) ⌝ }
+{
+    let t = totals::none();
+    Sum {
+        totals: t,
+        written: true,
+    }
 }
 
 // A name whose file cannot be opened or read: the totals are as they were.

@@ -1,6 +1,8 @@
 // The names of the year's report, one to a line on standard input: each is taken in order, and its trace put to the report (02, 11/12).
-ghost use Prim.Native.Nat.{_≤_, _<_};
+ghost use Prim.Native.Nat.{ℕ, _≤_, _<_};
 ghost use lib.ListN.{length};
+ghost use Rattle.report.specs.Lines.{feedsBefore};
+ghost use Rattle.report_traces.specs.Put.{Put};
 use report_held::State;
 use report_lines::Sum;
 
@@ -19,9 +21,11 @@ pub struct Taken {
 }
 
 // Plays the trace of every name on standard input, of which `names` is the room. The last one may have no line feed; it is passed over where nothing of it is
-// held, or reading failed.
-pub fn take(names: &mut [u8]) -> Taken {
-    let s = all_names(names);
+// held, or reading failed. The totals are those of the report given, with the traces put to them one after the other.
+pub fn take(names: &mut [u8], first: Sum) -> Taken
+    ensures { λ r. ⌜ ((n : ℕ) × Put (first .totals) n (r .sum .totals)) ⌝ }
+{
+    let s = all_names(names, first);
     let held = s.held;
     let sum = s.sum;
     let none = s.failed | (held == 0);
@@ -32,10 +36,10 @@ pub fn take(names: &mut [u8]) -> Taken {
 }
 
 // Plays the trace of every name that has a line feed. Nothing says that standard input ends: the turns are counted down from a number that no run uses up.
-fn all_names(names: &mut [u8]) -> State
-    ensures { λ r. ⌜ r .held ≤ length (now (names .exit)) ⌝ }
+fn all_names(names: &mut [u8], first: Sum) -> State
+    ensures { λ r. ⌜ (r .held ≤ length (now (names .exit))) × ((n : ℕ) × Put (first .totals) n (r .sum .totals)) ⌝ }
 {
-    let mut s = report_held::begin();
+    let mut s = report_held::begin(first);
     let mut turns = u64::MAX;
     while turns > 0 {
         s = turn(names, s);
@@ -55,10 +59,10 @@ fn left(turns: u64, going: bool) -> u64
     0
 }
 
-// Reads more names behind those that are held, plays the whole ones, and keeps the begun one.
+// Reads more names behind those that are held, plays the whole ones, of which there are no more than bytes, and keeps the begun one.
 fn turn(names: &mut [u8], s: State) -> State
     requires { ⌜ s .held ≤ length (now names) ⌝ }
-    ensures { λ r. ⌜ r .held ≤ length (now (names .exit)) ⌝ }
+    ensures { λ r. ⌜ (r .held ≤ length (now (names .exit))) × Put (s .sum .totals) (length (now (names .exit))) (r .sum .totals) ⌝ }
 {
     let held = s.held;
     let sum = s.sum;
@@ -71,9 +75,10 @@ fn turn(names: &mut [u8], s: State) -> State
     report_held::settle(names, end - at, r.skipping, rest, came)
 }
 
-// Plays the trace of each name that has a line feed, and tells where the one begins that has none.
+// Plays the trace of each name that has a line feed, and tells where the one begins that has none. At most one trace is put to the totals for each line
+// feed.
 fn lines(s: &[u8], skipping: bool, first: Sum) -> Rest
-    ensures { λ r. ⌜ r .at ≤ length (now (s .entry)) ⌝ }
+    ensures { λ r. ⌜ (r .at ≤ length (now (s .entry))) × Put (first .totals) (feedsBefore (now (s .entry)) (length (now (s .entry)))) (r .sum .totals) ⌝ }
 {
     let mut sum = first;
     let mut skips = skipping;
@@ -87,7 +92,8 @@ fn lines(s: &[u8], skipping: bool, first: Sum) -> Rest
                 sum: sum,
             };
         }
-        sum = report_traces::pass(&s[at..e], skips, sum);
+        let n = report::name_end(s, at, e);
+        sum = report_traces::pass(&s[at..n], skips, sum);
         skips = false;
         at = e + 1;
     }

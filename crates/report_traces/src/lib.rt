@@ -1,11 +1,14 @@
 // The traces of the year's report, one by one: each is played, its figures are put to the totals, and its line is printed (02, 11/12).
 ghost use mathlib.Core.Path.{_≡_};
+ghost use mathlib.Core.Bool.{not};
 ghost use lib.Dec.{eqb};
 ghost use Rattle.words.specs.Choice.{pick};
+ghost use Rattle.words.specs.Counting.{one};
 ghost use Rattle.text.specs.Text.{laid};
 ghost use Rattle.totals.specs.Totals.{added};
 ghost use Rattle.tally.specs.Tally.{tallyOf};
 ghost use Rattle.report.specs.Printed.{traceLine, leftOutLine};
+ghost use Rattle.report_traces.specs.Put.{Put};
 use report_lines::Sum;
 use tally::Tallied;
 
@@ -13,15 +16,22 @@ use tally::Tallied;
 const LIMIT: u32 = 20000;
 
 // A name up to its line feed: the rest of one that is too long is passed over, and nothing is played once a line could not be written.
-pub fn pass(name: &[u8], skipping: bool, sum: Sum) -> Sum {
-    if skipping | !sum.written {
+pub fn pass(name: &[u8], skipping: bool, sum: Sum) -> Sum
+    ensures { λ r. ⌜ Put (sum .totals) (one (not skipping)) (r .totals) ⌝ }
+{
+    if skipping {
+        return sum;
+    }
+    if !sum.written {
         return sum;
     }
     play(name, sum)
 }
 
 // Plays the trace of a name. One byte more is read than a trace may have, so that a longer one is told apart.
-fn play(name: &[u8], sum: Sum) -> Sum {
+fn play(name: &[u8], sum: Sum) -> Sum
+    ensures { λ r. ⌜ Put (sum .totals) 1 (r .totals) ⌝ }
+{
     let mut room = [0u8; 65537];
     let came = reading::read_file(name, &mut room);
     if came.failed {

@@ -1,19 +1,23 @@
 -- The promises of a stack size, kept.
-use Prim.Native.Nat.{_≤_}
-use mathlib.Core.Path.{_≡_, refl, ap}
+use Prim.Native.Nat.{ℕ, _/_, _%_, _^_, _≤_, _<_}
+use mathlib.Core.Path.{_≡_, refl, sym, ap, _∙_}
 use mathlib.Core.Bool.{true, false}
 use mathlib.Core.List.{List, [], _∷_}
-use mathlib.Core.Logic.{_⊎_, inl, inr}
+use mathlib.Core.Logic.{_↔_, _⊎_, inl, inr}
 use native.Mathlib.Omega.{arith}
+use native.Mathlib.Decide.{ℕ-discrete}
 use lib.Dec.{eqb}
 use lib.ListN.{getD}
+use borrow.Author.Tests.{eq-eqb, ne-eqb}
 use Rattle.words.specs.Choice.{pick}
 use Rattle.words.specs.Counting.{sumBelow}
-use Rattle.words.proofs.TruthLaws.{told}
+use Rattle.words.specs.Word.{bit}
+use Rattle.words.proofs.TruthLaws.{told, clash}
 use Rattle.steps.specs.declared.Step.{Step}
 use Rattle.steps.specs.declared.Step.the-variants.{Read, Write, Line}
 use Rattle.steps.specs.Refusals.{unsound}
 use Rattle.aic_record.specs.declared.Aic.{Aic}
+use Rattle.aic_record.specs.Mode.{priority, kind}
 use Rattle.aic_record.specs.Sound.{sourceAt, sound}
 use Rattle.aic_record.specs.Promises.{Shaped}
 use Rattle.aic_record.proofs.SoundLaws.{sound-is}
@@ -24,7 +28,7 @@ use Rattle.aic_runs.specs.Runs.{run, always}
 use Rattle.aic_runs.proofs.SoundRuns.{run-sound}
 use Rattle.stack.specs.declared.Table.{Table}
 use Rattle.stack.specs.Bytes.{stackBytes, frameOf, openBytes, Set}
-use Rattle.stack.specs.Promises.{Promises}
+use Rattle.stack.specs.Promises.{Outset, Promises}
 use Rattle.stack.proofs.BoundLaws.{set-fast, bounded, along}
 use Rattle.stack.proofs.SetupLaws.{reached}
 use Rattle.stack.proofs.FigureLaws.{refused-is, refused-none, within-not, answered-is, summed, most, level-mark, level-frame, level-met, bit-nought}
@@ -57,6 +61,34 @@ never-more t s xs h b q = go (told (sound s))
         (λ d l. absurd (omega (arith, b .none)), λ w. absurd (omega (arith, b .remembered))) q .0)
     go (inr e) = rw (run-stays s xs e, b .none) (unfold sumBelow in (omega arith))
 
+-- two bits are the same exactly if the digits are
+digit-same : (x y : ℕ) → x < 2 → y < 2 → eqb x 1 ≡ eqb y 1 → x ≡ y
+digit-same x y l m e = go (ℕ-discrete x 1) (ℕ-discrete y 1)
+  where
+    go : Dec (x ≡ 1) → Dec (y ≡ 1) → x ≡ y
+    go (yes p) (yes q) = omega arith
+    go (no p) (no q) = omega arith
+    go (yes p) (no q) = absurd (clash (sym e ∙ eq-eqb x 1 p) (ne-eqb y 1 q))
+    go (no p) (yes q) = absurd (clash (e ∙ eq-eqb y 1 q) (ne-eqb x 1 p))
+
+set-is : (t : Table) (s : Aic) → Set t s ↔ Outset t s
+unfolding priority kind bit
+set-is t s = (
+  λ b. record {
+    empty = b .none;
+    forgotten = b .remembered;
+    modes = λ i l. (b .levels i l, b .types i l);
+    forced = λ i l m. digit-same (s .forced / 2 ^ i % 2) (t .forced / 2 ^ i % 2) (omega arith) (omega arith) (b .forcings i l m);
+  },
+  λ o. record {
+    none = o .empty;
+    remembered = o .forgotten;
+    levels = λ i l. o .modes i l .0;
+    types = λ i l. o .modes i l .1;
+    forcings = λ i l m. ap (λ (x : ℕ). eqb x 1) (o .forced i l m);
+  },
+)
+
 open-is : (t : Table) (s : Aic) → openBytes t s
     ≡ sumBelow (s .depth) (λ d. pick (eqb (getD (s .source) d 0) 0) (t .mark) (getD (t .frame) (getD (s .source) d 0) 0))
 unfolding openBytes frameOf
@@ -75,6 +107,7 @@ kept =
       levelMet = level-met;
       bitNought = bit-nought;
       openIs = open-is;
+      setIs = set-is;
       neverMore = never-more;
       reached = λ t n. reached t (within-not t n);
       printed = printed;

@@ -1,5 +1,5 @@
 -- What is promised of a stack size: what is refused, what is summed, what it means for the runs of the controller, and its line (02, 4/12).
-use Prim.Native.Nat.{ℕ, _+_, _≤_, _<_}
+use Prim.Native.Nat.{ℕ, _+_, _/_, _%_, _^_, _≤_, _<_}
 use mathlib.Core.Path.{_≡_}
 use mathlib.Core.Bool.{true, false}
 use mathlib.Core.List.{List, [], _∷_, _++_}
@@ -48,6 +48,14 @@ pub record Reached (t : Table) : Type 0 where
   pub held : always steady (run (reset 0 0) setup) steps ≡ true
   pub full : openBytes t (run (run (reset 0 0) setup) steps) ≡ stackBytes t
 
+-- a record as a run of the table begins with it, by its fields and their bits: no entry open, nothing remembered, in each mode the table's priority
+-- (bits 2:0) and type (bits 6:5), and bits 1 to 31 of the forcing those of the table's word (02, 4/12 and 9/12; 003, 27.8.3)
+pub record Outset (t : Table) (s : Aic) : Type 0 where
+  pub empty : s .depth ≡ 0
+  pub forgotten : s .seen .what ≡ 0
+  pub modes : (i : ℕ) → i < 32 → (getD (s .mode) i 0 % 8 ≡ getD (t .priority) i 0) × (getD (s .mode) i 0 / 32 % 4 ≡ getD (t .kind) i 0)
+  pub forced : (i : ℕ) → 1 ≤ i → i < 32 → s .forced / 2 ^ i % 2 ≡ t .forced / 2 ^ i % 2
+
 pub record Promises : Type 0 where
   -- ---- the figure
 
@@ -70,6 +78,8 @@ pub record Promises : Type 0 where
   -- the open frames are added up over the entries: the mark's frame for one of source 0, else that of its source (02, 4/12)
   pub openIs : (t : Table) (s : Aic) → openBytes t s
       ≡ sumBelow (s .depth) (λ d. pick (eqb (getD (s .source) d 0) 0) (t .mark) (getD (t .frame) (getD (s .source) d 0) 0))
+  -- what a run starts with is this and nothing more: of lines, enables, memories, vectors, the mask and protect mode nothing is asked (02, 4/12, 9/12)
+  pub setIs : (t : Table) (s : Aic) → Set t s ↔ Outset t s
   -- in any run that starts with no entry open, nothing remembered and those modes and forcings, and carries out no write of a mode or a forcing,
   -- the open frames never add up to more; from any record, sound or not, in protect mode or not, whatever its lines, enables and memories
   -- (02, 4/12 and 9/12)

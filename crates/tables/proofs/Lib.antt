@@ -2,6 +2,7 @@
 pub mod BareLaws
 pub mod FillLaws
 pub mod LayoutLaws
+pub mod LimitLaws
 pub mod NumberLaws
 pub mod PlainLaws
 pub mod Promises

@@ -1,7 +1,7 @@
 -- What digits are worth, as the code adds them up.
-use Prim.Native.Nat.{ℕ, zero, suc, _+_, _-_, _*_, _^_, _≤_, _<_}
+use Prim.Native.Nat.{ℕ, zero, suc, _+_, _-_, _*_, _^_, _≤_, _<_, min}
 use mathlib.Core.Path.{_≡_, refl, sym, ap, _∙_, subst}
-use mathlib.Core.Bool.{Bool, true, false, not, _&&_, _||_, true≢false}
+use mathlib.Core.Bool.{Bool, true, false, not, _&&_, true≢false}
 use mathlib.Core.List.{List, [], _∷_}
 use mathlib.Core.Logic.{_≢_, _⊎_, inl, inr}
 use native.Mathlib.Nat.{mul-le-mul-right}
@@ -11,14 +11,14 @@ use native.Mathlib.Decide.{decLt, ℕ-discrete}
 use lib.Dec.{eqb, ltb, leb}
 use lib.ListN.{length, getD, take, drop, length-drop, drop-of-length-le, List·getD-eq-default}
 use lib.Seq.{drop-cons, take-all, getD-drop}
-use borrow.Author.Tests.{eqb-true, eqb-false, eq-eqb, ne-eqb, leb-true, leb-false, lt-leb, ltb-true, lt-ltb, not-true}
+use borrow.Author.Tests.{eqb-true, eqb-false, eq-eqb, ne-eqb, leb-true, lt-leb, ltb-true, lt-ltb, not-true}
 use Rattle.words.specs.Choice.{pick}
 use Rattle.words.proofs.ChoiceLaws.{pick-true, pick-false, pick-cases}
 use Rattle.words.proofs.CountingLaws.{all-at, at-all}
-use Rattle.words.proofs.TruthLaws.{and-left, and-right, and-both, or-either, or-neither, not-holds, told}
+use Rattle.words.proofs.TruthLaws.{and-left, and-right, and-both, not-holds, told}
 use Rattle.tables.specs.declared.Typed.{Typed}
-use Rattle.tables.specs.Number.{digit, worthFrom, digitsFit, isHex, isNumber, worth}
-use Rattle.tables.specs.Passes.{readDigits, readWord}
+use Rattle.tables.specs.Number.{digit, worthFrom, areDigits, isHex, isNumber, worth}
+use Rattle.tables.specs.Passes.{capped, readDigits, readWord}
 use Rattle.tables.specs.Promises.{Digits}
 
 pub digit-small : (b : ℕ) → digit b ≤ 16
@@ -28,23 +28,40 @@ digit-small b =
     (λ n. pick-cases (λ n. n ≤ 16) (leb 65 b && leb b 70) (λ e. omega (arith, leb-true b 70 (and-right (leb 65 b) _ e)))
     (λ n. pick-cases (λ n. n ≤ 16) (leb 97 b && leb b 102) (λ e. omega (arith, leb-true b 102 (and-right (leb 97 b) _ e))) (λ n. omega arith)))
 
--- ---- a sum that stops before it wraps
+-- ---- a sum that is capped before it wraps
+
+pub times-small : (b v : ℕ) → b ≤ 16 → v ≤ 2 ^ 32 → b * v ≤ 2 ^ 36
+times-small b v l m = omega (arith, mul-le-mul-right v l)
 
 times-le : (b v : ℕ) → 1 ≤ b → v ≤ b * v
 times-le b v l = omega (arith, mul-le-mul-right v l)
 
-pub times-small : (b v : ℕ) → b ≤ 16 → v < 2 ^ 32 → b * v ≤ 2 ^ 36
-times-small b v l m = omega (arith, mul-le-mul-right v l)
+pub capped-small : (v : ℕ) → capped v ≤ 2 ^ 32
+unfolding capped
+capped-small v = omega arith
 
-worth-le : (b v : ℕ) (ds : List ℕ) → 1 ≤ b → v ≤ worthFrom b v ds
+-- what is behind the cap stays there, whatever digits follow
+capped-more : (b u v : ℕ) (ds : List ℕ) → 1 ≤ b → capped u ≡ capped v → capped (worthFrom b u ds) ≡ capped (worthFrom b v ds)
 unfolding worthFrom
-worth-le b v [] l = omega arith
-worth-le b v (d ∷ ds) l = omega (arith, times-le b v l, worth-le b (b * v + digit d) ds l)
+capped-more b u v [] l e = e
+capped-more b u v (d ∷ ds) l e = capped-more b (b * u + digit d) (b * v + digit d) ds l (unfold capped in go (decLt u (2 ^ 32)) (unfold capped in e))
+  where
+    go : Dec (u < 2 ^ 32) → min u (2 ^ 32) ≡ min v (2 ^ 32) → min (b * u + digit d) (2 ^ 32) ≡ min (b * v + digit d) (2 ^ 32)
+    go (yes m) q = let p : u ≡ v = omega arith in rw p
+    go (no m) q = omega (arith, times-le b u l, times-le b v l)
 
--- a turn: the digit at k makes b * v + d of v
-pub worth-turn : (b v d k : ℕ) (ds : List ℕ) (o : ℕ) → k < length ds → d ≡ digit (getD ds k 0) → worthFrom b v (drop k ds) ≡ o
-    → worthFrom b (b * v + d) (drop (k + 1) ds) ≡ o
-worth-turn b v d k ds o h q f = ap (λ (x : ℕ). worthFrom b (b * v + x) (drop (k + 1) ds)) q ∙ sym whole ∙ f
+capped-twice : (v : ℕ) → capped (capped v) ≡ capped v
+unfolding capped
+capped-twice v = omega arith
+
+-- a turn: the digit at k makes b * v + d of v, and the cap is put on it
+pub worth-turn : (b v d c k : ℕ) (ds : List ℕ) (o : ℕ) → 1 ≤ b → k < length ds → d ≡ digit (getD ds k 0) → c ≡ capped (b * v + d)
+    → capped (worthFrom b v (drop k ds)) ≡ o → capped (worthFrom b c (drop (k + 1) ds)) ≡ o
+worth-turn b v d c k ds o l h q e f =
+    capped-more b c (b * v + d) (drop (k + 1) ds) l (ap capped e ∙ capped-twice (b * v + d))
+    ∙ ap (λ (x : ℕ). capped (worthFrom b (b * v + x) (drop (k + 1) ds))) q
+    ∙ sym (ap capped whole)
+    ∙ f
   where
     whole : worthFrom b v (drop k ds) ≡ worthFrom b (b * v + digit (getD ds k 0)) (drop (k + 1) ds)
     whole = rw (drop-cons ds k 0 h, add-one k) (unfold worthFrom in refl)
@@ -82,65 +99,59 @@ word-plain w h = rw h
 -- ---- what a number is
 
 -- the definition's test, taken apart and put together again
-pub digits-are : (b : ℕ) (ds : List ℕ) → digitsFit b ds ≡ true → Digits b ds
-unfolding digitsFit
+pub digits-are : (b : ℕ) (ds : List ℕ) → areDigits b ds ≡ true → Digits b ds
+unfolding areDigits
 digits-are b ds h =
     let some : length ds ≢ 0 = eqb-false (length ds) 0 (not-true (eqb (length ds) 0) (search (and-left, and-right))) in
     record {
       some = omega arith;
       each = λ k l. ltb-true (digit (getD ds k 0)) b (all-at (length ds) (λ k. ltb (digit (getD ds k 0)) b) (search (and-left, and-right)) k l);
-      small = ltb-true (worthFrom b 0 ds) (2 ^ 32) (search (and-left, and-right));
     }
 
-pub are-digits : (b : ℕ) (ds : List ℕ) → Digits b ds → digitsFit b ds ≡ true
-unfolding digitsFit
+pub are-digits : (b : ℕ) (ds : List ℕ) → Digits b ds → areDigits b ds ≡ true
+unfolding areDigits
 are-digits b ds d =
-    and-both (and-both (ap not (ne-eqb (length ds) 0 (λ e. omega (arith, d .some)))) (at-all (length ds) _ (λ k l. lt-ltb (digit (getD ds k 0)) b (d .each k l))))
-    (lt-ltb (worthFrom b 0 ds) (2 ^ 32) (d .small))
+    and-both (ap not (ne-eqb (length ds) 0 (λ e. omega (arith, d .some)))) (at-all (length ds) _ (λ k l. lt-ltb (digit (getD ds k 0)) b (d .each k l)))
 
--- the digit at k is none, or too much comes together with it
-pub digits-fault : (b v d k : ℕ) (ds : List ℕ) → 1 ≤ b → k < length ds → d ≡ digit (getD ds k 0) → worthFrom b v (drop k ds) ≡ worthFrom b 0 ds
-    → (leb b d || leb (2 ^ 32) (b * v + d)) ≡ true → record { taken = false; value = 0 } ≡ readDigits b ds
+-- the digit at k is none
+pub digits-fault : (b d k : ℕ) (ds : List ℕ) → k < length ds → d ≡ digit (getD ds k 0) → b ≤ d → record { taken = false; value = 0 } ≡ readDigits b ds
 unfolding readDigits
-digits-fault b v d k ds l h q f t = pick-false _ (not-holds (digitsFit b ds) (λ e. go (digits-are b ds e) (or-either (leb b d) _ t)))
-  where
-    go : Digits b ds → (leb b d ≡ true) ⊎ (leb (2 ^ 32) (b * v + d) ≡ true) → ⊥
-    go g (inl e) = omega (arith, g .each k h, leb-true b d e)
-    go g (inr e) = omega (arith, g .small, leb-true (2 ^ 32) (b * v + d) e, worth-turn b v d k ds _ h q f, worth-le b (b * v + d) (drop (k + 1) ds) l)
+digits-fault b d k ds h q l = pick-false _ (not-holds (areDigits b ds) (λ e. omega (arith, digits-are b ds e .each k h)))
 
--- it is one, and the sum still fits
-pub digits-more : (b d w k : ℕ) (ds : List ℕ) → d ≡ digit (getD ds k 0) → (leb b d || leb (2 ^ 32) w) ≡ false → ((j : ℕ) → j < k → digit (getD ds j 0) < b)
-    → (w < 2 ^ 32) × ((j : ℕ) → j < k + 1 → digit (getD ds j 0) < b)
-digits-more b d w k ds q t h = (leb-false (2 ^ 32) w (or-neither (leb b d) _ t .1), λ j l. go j l (ℕ-discrete j k))
+-- it is one
+pub digits-more : (b d k : ℕ) (ds : List ℕ) → d ≡ digit (getD ds k 0) → d < b → ((j : ℕ) → j < k → digit (getD ds j 0) < b)
+    → (j : ℕ) → j < k + 1 → digit (getD ds j 0) < b
+digits-more b d k ds q t h j l = go (ℕ-discrete j k)
   where
-    go : (j : ℕ) → j < k + 1 → Dec (j ≡ k) → digit (getD ds j 0) < b
-    go j l (yes e) = rw e (omega (arith, q, leb-false b d (or-neither (leb b d) _ t .0)))
-    go j l (no n) = h j (omega arith)
+    go : Dec (j ≡ k) → digit (getD ds j 0) < b
+    go (yes e) = rw e (omega (arith, q))
+    go (no n) = h j (omega arith)
 
--- all of them are digits, and the sum is what they are worth
-pub digits-done : (b v k : ℕ) (ds : List ℕ) → k ≤ length ds → length ds ≤ k → v < 2 ^ 32 → worthFrom b v (drop k ds) ≡ worthFrom b 0 ds
+-- all of them are digits, and the sum is what they are worth, under the cap
+pub digits-done : (b v k : ℕ) (ds : List ℕ) → k ≤ length ds → length ds ≤ k → v ≤ 2 ^ 32 → capped (worthFrom b v (drop k ds)) ≡ capped (worthFrom b 0 ds)
     → ((j : ℕ) → j < k → digit (getD ds j 0) < b) → record { taken = not (eqb k 0); value = v } ≡ readDigits b ds
 unfolding readDigits
 digits-done b v k ds l m small f h = go (ℕ-discrete k 0)
   where
-    empty : (l : List ℕ) → length l ≡ 0 → worthFrom b 0 l ≡ 0
-    empty [] z = unfold worthFrom in refl
+    empty : (l : List ℕ) → length l ≡ 0 → capped (worthFrom b 0 l) ≡ 0
+    empty [] z = unfold capped worthFrom in refl
     empty (x ∷ l) z = absurd (omega arith)
 
-    sum : v ≡ worthFrom b 0 ds
-    sum = sym (rw (drop-of-length-le ds m) (unfold worthFrom in refl)) ∙ f
+    own : v ≡ capped v
+    own = unfold capped in (omega arith)
 
-    go : Dec (k ≡ 0) → _≡_ {A = Typed} (record { taken = not (eqb k 0); value = v }) (pick (digitsFit b ds) (record { taken = true; value = worthFrom b 0 ds }) (record { taken = false; value = 0 }))
-    go (yes e) = rw (eq-eqb k 0 e, sum ∙ empty ds (omega arith)) (pick-false _ (not-holds (digitsFit b ds) (λ g. omega (arith, digits-are b ds g .some))))
-    go (no d) =
-        rw (ne-eqb k 0 d, sum)
-        (pick-true _ (are-digits b ds (record { some = omega arith; each = λ j n. h j (omega arith); small = omega (arith, sum) })))
+    sum : v ≡ capped (worthFrom b 0 ds)
+    sum = own ∙ sym (rw (drop-of-length-le ds m) (unfold worthFrom in refl)) ∙ f
 
-pub number-hex : (w : List ℕ) → isHex w ≡ true → (isNumber w ≡ digitsFit 16 (drop 2 w)) × (worth w ≡ worthFrom 16 0 (drop 2 w))
+    go : Dec (k ≡ 0) → _≡_ {A = Typed} (record { taken = not (eqb k 0); value = v }) (pick (areDigits b ds) (record { taken = true; value = capped (worthFrom b 0 ds) }) (record { taken = false; value = 0 }))
+    go (yes e) = rw (eq-eqb k 0 e, sum ∙ empty ds (omega arith)) (pick-false _ (not-holds (areDigits b ds) (λ g. omega (arith, digits-are b ds g .some))))
+    go (no d) = rw (ne-eqb k 0 d, sum) (pick-true _ (are-digits b ds (record { some = omega arith; each = λ j n. h j (omega arith) })))
+
+pub number-hex : (w : List ℕ) → isHex w ≡ true → (isNumber w ≡ areDigits 16 (drop 2 w)) × (worth w ≡ worthFrom 16 0 (drop 2 w))
 unfolding isNumber worth pick
 number-hex w h = rw h (refl, refl)
 
-pub number-plain : (w : List ℕ) → isHex w ≡ false → (isNumber w ≡ digitsFit 10 w) × (worth w ≡ worthFrom 10 0 w)
+pub number-plain : (w : List ℕ) → isHex w ≡ false → (isNumber w ≡ areDigits 10 w) × (worth w ≡ worthFrom 10 0 w)
 unfolding isNumber worth pick
 number-plain w h = rw h (refl, refl)
 

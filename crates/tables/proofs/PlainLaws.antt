@@ -16,9 +16,9 @@ use Rattle.text.specs.Text.{decimal}
 use Rattle.text.specs.Promises.{worthAfter}
 use Rattle.text.proofs.DigitLaws.{length-below}
 use Rattle.stack.specs.declared.Table.{Table}
-use Rattle.tables.specs.Typed.{bare, nthStart}
+use Rattle.tables.specs.Typed.{bare, nthStart, nthTyped}
 use Rattle.tables.specs.Number.{digit, worthFrom, isHex, isNumber, worth}
-use Rattle.tables.specs.Reading.{everyThird, tableOf, taken, readTable}
+use Rattle.tables.specs.Reading.{entered, everyThird, tableOf, taken, readTable}
 use Rattle.tables.specs.Layout.{Gap, nothing, space, Parted, Spread, done, more, linesFrom, plain}
 use Rattle.tables.specs.Promises.{Words}
 use Rattle.tables.proofs.BareLaws.{length-bare}
@@ -29,6 +29,14 @@ use Rattle.tables.proofs.RefusalLaws.{read, read-values}
 use Rattle.text.proofs.Promises as Text
 
 -- ---- a decimal is a number, and worth what it says
+
+pub entered-as : (v : ℕ) → v < 2 ^ 32 → entered v ≡ v
+unfolding entered
+entered-as v l = omega arith
+
+pub entered-most : (v : ℕ) → 2 ^ 32 ≤ v → entered v ≡ 0xFFFFFFFF
+unfolding entered
+entered-most v l = omega arith
 
 abbrev Tens : List ℕ → Type 0
 Tens ds = (k : ℕ) → k < length ds → (48 ≤ getD ds k 0) × (getD ds k 0 ≤ 57)
@@ -74,11 +82,13 @@ module _ (v : ℕ) (l : v < 2 ^ 32) where
       ∙ are-digits 10 (decimal v) (record {
         some = some-digit;
         each = λ k m. omega (arith, tens k m .0, tens k m .1, digit-plain (getD (decimal v) k 0) (tens k m .0) (tens k m .1));
-        small = omega (arith, worth-is);
       })
 
   decimal-worth : worth (decimal v) ≡ v
   decimal-worth = number-plain (decimal v) not-hex .1 ∙ worth-is
+
+  decimal-value : entered (worth (decimal v)) ≡ v
+  decimal-value = ap entered decimal-worth ∙ entered-as v l
 
   decimal-length : length (decimal v) ≤ 10
   decimal-length = length-below 20 10 v (omega arith) (omega arith)
@@ -160,26 +170,34 @@ module _ (t : Table) (w : Words t) where
   values-length zero i = refl
   values-length (suc k) i = omega (arith, values-length k (i + 1))
 
-  values-worth : (k i : ℕ) → i + k ≡ 32 → map worth (wordsFrom t k i) ≡ valuesFrom t k i
+  values-worth : (k i : ℕ) → i + k ≡ 32 → map (λ w. entered (worth w)) (wordsFrom t k i) ≡ valuesFrom t k i
   unfolding valuesFrom
-  values-worth zero i e = rw (decimal-worth (t .forced) (w .forced), decimal-worth (t .mark) (w .mark))
+  values-worth zero i e = rw (decimal-value (t .forced) (w .forced), decimal-value (t .mark) (w .mark))
   values-worth (suc k) i e =
-      rw (decimal-worth _ (w .priority i (omega arith)), decimal-worth _ (w .kind i (omega arith)), decimal-worth _ (w .frame i (omega arith)), values-worth k (i + 1) (omega arith))
+      rw (decimal-value _ (w .priority i (omega arith)), decimal-value _ (w .kind i (omega arith)), decimal-value _ (w .frame i (omega arith)), values-worth k (i + 1) (omega arith))
+
+  forced-worth : worth (getD (wordsFrom t 32 0) 96 []) < 2 ^ 32
+  forced-worth = let e : getD (wordsFrom t 32 0) 96 [] ≡ decimal (t .forced) = unfold valuesFrom in refl in rw (e, decimal-worth (t .forced) (w .forced)) (w .forced)
 
 -- ---- whatever stands between 98 numbers
 
-worth-none : worth [] ≡ 0
-unfolding worth isHex worthFrom pick
-worth-none = refl
+abbrev valueAs : List ℕ → ℕ
+valueAs w = entered (worth w)
 
-pub spread : (ws : List (List ℕ)) (s : List ℕ) → Spread ws s → length ws ≡ 98 → length s ≤ 65536 → readTable s ≡ taken (tableOf (map worth ws))
-spread ws s d e l =
+value-none : valueAs [] ≡ 0
+unfolding entered worth isHex worthFrom pick
+value-none = refl
+
+pub spread : (ws : List (List ℕ)) (s : List ℕ) → Spread ws s → length ws ≡ 98 → worth (getD ws 96 []) < 2 ^ 32 → length s ≤ 65536
+    → readTable s ≡ taken (tableOf (map valueAs ws))
+spread ws s d e w l =
     let f = found-words ws s d in
-    read-values s (map worth ws)
-    (read s .1 (l, (λ k m. f .0 k (omega arith) .1), ap (nthStart (bare s)) (sym e) ∙ f .1 ∙ length-bare false s))
-    (λ k m. ap (λ (x : ℕ). getD (map worth ws) k x) (sym worth-none) ∙ List·getD-map worth ws k [] ∙ ap worth (sym (f .0 k (omega arith) .0)))
+    let small : (k : ℕ) → k < 98 → k ≡ 96 → worth (nthTyped (bare s) k) < 2 ^ 32 = λ k m q. omega (arith, ap worth (f .0 k (omega arith) .0), ap (λ (n : ℕ). worth (getD ws n [])) q) in
+    read-values s (map valueAs ws)
+    (read s .1 (l, (λ k m. (f .0 k (omega arith) .1, small k m)), ap (nthStart (bare s)) (sym e) ∙ f .1 ∙ length-bare false s))
+    (λ k m. ap (λ (x : ℕ). getD (map valueAs ws) k x) (sym value-none) ∙ List·getD-map valueAs ws k [] ∙ ap valueAs (sym (f .0 k (omega arith) .0)))
 
 pub read-back : (t : Table) → Words t → readTable (plain t) ≡ taken t
 read-back t w =
-    spread (wordsFrom t 32 0) (plain t) (spread-lines t w 32 0 refl [] nothing) (length-map (valuesFrom t 32 0) decimal ∙ values-length t w 32 0) (omega (arith, lines-length t w 32 0 refl))
+    spread (wordsFrom t 32 0) (plain t) (spread-lines t w 32 0 refl [] nothing) (length-map (valuesFrom t 32 0) decimal ∙ values-length t w 32 0) (forced-worth t w) (omega (arith, lines-length t w 32 0 refl))
     ∙ ap taken (ap tableOf (values-worth t w 32 0 refl) ∙ table-back t w)

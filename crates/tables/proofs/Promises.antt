@@ -13,7 +13,7 @@ use Rattle.words.proofs.TruthLaws.{or-either, clash, not-holds}
 use Rattle.text.specs.Text.{decimal}
 use Rattle.stack.specs.declared.Table.{Table}
 use Rattle.tables.specs.Typed.{white, startFrom, endFrom, pastNth, nthStart, nthTyped}
-use Rattle.tables.specs.Number.{digit, worthFrom, digitsFit, isHex, isNumber, worth}
+use Rattle.tables.specs.Number.{digit, worthFrom, areDigits, isHex, isNumber, worth}
 use Rattle.tables.specs.Reading.{taken}
 use Rattle.tables.specs.Layout.{White, linesFrom}
 use Rattle.tables.specs.Promises.{Starts, Ends, Digits, Promises}
@@ -21,8 +21,9 @@ use Rattle.tables.proofs.BareLaws.{length-bare, bare-none, bare-ended, 
 use Rattle.tables.proofs.SeekLaws.{Sought, start-is, start-sought, end-is, end-sought, past-within}
 use Rattle.tables.proofs.NumberLaws.{digits-are, are-digits, number-hex, number-plain, number-some, hex-first}
 use Rattle.tables.proofs.LayoutLaws.{white-is}
-use Rattle.tables.proofs.PlainLaws.{digit-plain, spread, read-back}
+use Rattle.tables.proofs.PlainLaws.{digit-plain, entered-as, entered-most, spread, read-back}
 use Rattle.tables.proofs.RefusalLaws.{eleven, eleven-at, eight, read, only, refused-empty, read-values, rows, answer-read, answer-else, answer-most}
+use Rattle.tables.proofs.LimitLaws.{fourteen, figure}
 
 -- ---- white space
 
@@ -146,7 +147,7 @@ worth-cons base v b bs = refl
 
 -- ---- numbers
 
-told-so : (base : ℕ) (w ds : List ℕ) → isNumber w ≡ digitsFit base ds → (isNumber w ≡ true) ↔ Digits base ds
+told-so : (base : ℕ) (w ds : List ℕ) → isNumber w ≡ areDigits base ds → (isNumber w ≡ true) ↔ Digits base ds
 told-so base w ds e = (λ h. digits-are base ds (sym e ∙ h), λ d. e ∙ are-digits base ds d)
 
 hexadecimal : (ds : List ℕ) → ((isNumber (48 ∷ 120 ∷ ds) ≡ true) ↔ Digits 16 ds) × (worth (48 ∷ 120 ∷ ds) ≡ worthFrom 16 0 ds)
@@ -207,6 +208,8 @@ kept =
       eight = eight;
       read = read;
       readValues = read-values;
+      enteredAs = entered-as;
+      enteredMost = entered-most;
       rows = rows;
       only = only;
       refusedEmpty = refused-empty;
@@ -216,5 +219,7 @@ kept =
       plainMore = plain-more;
       answerRead = answer-read;
       answerRefused = answer-else;
+      fourteen = fourteen;
+      figure = figure;
       answerMost = answer-most;
     }

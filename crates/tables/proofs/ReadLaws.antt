@@ -1,19 +1,19 @@
 -- The numbers of a text one after the other, as the code reads them.
-use Prim.Native.Nat.{ℕ, _+_, _-_, _≤_, _<_}
+use Prim.Native.Nat.{ℕ, _+_, _-_, _^_, _≤_, _<_, min}
 use mathlib.Core.Path.{_≡_, refl, sym, ap, _∙_}
-use mathlib.Core.Bool.{Bool, true, false, not, _&&_}
+use mathlib.Core.Bool.{Bool, true, false, not, _&&_, _||_}
 use mathlib.Core.List.{List}
-use mathlib.Core.Logic.{_≢_}
+use mathlib.Core.Logic.{_≢_, _⊎_, inl, inr}
 use native.Mathlib.Numerals.{add-one}
 use native.Mathlib.Omega.{arith}
-use native.Mathlib.Decide.{ℕ-discrete}
-use lib.Dec.{eqb}
+use native.Mathlib.Decide.{decLt, ℕ-discrete}
+use lib.Dec.{eqb, ltb}
 use lib.ListN.{length, take, drop}
 use borrow.Author.Tests.{eqb-true, eq-eqb, ne-eqb, lt-ltb, le-ltb}
 use Rattle.words.specs.Choice.{pick}
 use Rattle.words.proofs.ChoiceLaws.{pick-true, pick-false}
 use Rattle.words.proofs.CountingLaws.{lowest-found, lowest-one}
-use Rattle.words.proofs.TruthLaws.{and-left}
+use Rattle.words.proofs.TruthLaws.{and-left, told}
 use Rattle.steps.specs.Refusals.{carriedOut, damaged, tooLong}
 use Rattle.stack.specs.declared.Table.{Table}
 use Rattle.stack.specs.declared.Needed.{Needed}
@@ -25,9 +25,8 @@ use Rattle.tables.specs.declared.Next.{Next}
 use Rattle.tables.specs.declared.Values.{Values}
 use Rattle.tables.specs.Typed.{bare, startFrom, endFrom, pastNth, nthStart, nthTyped}
 use Rattle.tables.specs.Number.{isNumber, worth}
-use Rattle.tables.specs.Reading.{listOf, tableOf, taken, refusedAt, firstFault, readBare, readTable, refusedLine, answerTo}
-use Rattle.tables.specs.Passes.{readWord, readNext, room, valuesOf}
-use Rattle.tables.specs.Promises.{Numbers}
+use Rattle.tables.specs.Reading.{fitsAt, fits, entered, listOf, tableOf, taken, refusedAt, firstFault, readBare, readTable, refusedLine, answerTo}
+use Rattle.tables.specs.Passes.{capped, readWord, readNext, room, valuesOf}
 use Rattle.tables.proofs.FillLaws.{room-full}
 
 -- ---- the next number
@@ -40,7 +39,7 @@ next-read s past start end t e f g = rw (g, f, e)
 -- after n numbers the next one is the nth
 pub record NextIs (s : List ℕ) (n : ℕ) (x : Next) : Type 0 where
   pub taken : x .taken ≡ isNumber (nthTyped s n)
-  pub value : x .taken ≡ true → x .value ≡ worth (nthTyped s n)
+  pub value : x .taken ≡ true → x .value ≡ capped (worth (nthTyped s n))
   pub start : x .start ≡ nthStart s n
   pub past : x .past ≡ pastNth s (n + 1)
 
@@ -48,11 +47,11 @@ word-taken : (w : List ℕ) → readWord w .taken ≡ isNumber w
 unfolding readWord pick
 word-taken w = go (isNumber w)
   where
-    go : (b : Bool) → _≡_ {A = Bool} (pick {A = Typed} b (record { taken = true; value = worth w }) (record { taken = false; value = 0 }) .taken) b
+    go : (b : Bool) → _≡_ {A = Bool} (pick {A = Typed} b (record { taken = true; value = capped (worth w) }) (record { taken = false; value = 0 }) .taken) b
     go true = refl
     go false = refl
 
-word-value : (w : List ℕ) → isNumber w ≡ true → readWord w .value ≡ worth w
+word-value : (w : List ℕ) → isNumber w ≡ true → readWord w .value ≡ capped (worth w)
 unfolding readWord pick
 word-value w e = rw e
 
@@ -68,30 +67,61 @@ unfolding readNext
 next-is s past n x e f =
     rw (f, e) (record {
       taken = word-taken _ ∙ ap isNumber (typed-is s n);
-      value = λ t. word-value _ (sym (word-taken _) ∙ t) ∙ ap worth (typed-is s n);
+      value = λ t. word-value _ (sym (word-taken _) ∙ t) ∙ ap (λ (w : List ℕ). capped (worth w)) (typed-is s n);
       start = unfold nthStart in refl;
       past = past-more s n;
     })
 
+-- ---- whether it is as it must be, and what the table has of it
+
+pub fits-taken : (n : ℕ) (b : Bool) (v : ℕ) → fitsAt n b v ≡ true → b ≡ true
+unfolding fitsAt
+fits-taken n b v h = and-left b _ h
+
+-- the cap changes neither
+pub fits-capped : (n : ℕ) (v : ℕ) → fitsAt n true (capped v) ≡ fitsAt n true v
+unfolding fitsAt capped
+fits-capped n v = ap (λ (b : Bool). not (eqb n 96) || b) (go (decLt v (2 ^ 32)))
+  where
+    go : Dec (v < 2 ^ 32) → ltb (min v (2 ^ 32)) (2 ^ 32) ≡ ltb v (2 ^ 32)
+    go (yes l) = lt-ltb (min v (2 ^ 32)) (2 ^ 32) (omega arith) ∙ sym (lt-ltb v (2 ^ 32) l)
+    go (no l) = le-ltb (min v (2 ^ 32)) (2 ^ 32) (omega arith) ∙ sym (le-ltb v (2 ^ 32) (omega arith))
+
+pub entered-capped : (v : ℕ) → entered (capped v) ≡ entered v
+unfolding entered capped
+entered-capped v = omega arith
+
+-- so the test of what was read is that of the nth number
+pub next-fits : (s : List ℕ) (n : ℕ) (x : Next) → NextIs s n x → fitsAt n (x .taken) (x .value) ≡ fits n (nthTyped s n)
+next-fits s n x h = go (told (x .taken))
+  where
+    go : (x .taken ≡ true) ⊎ (x .taken ≡ false) → fitsAt n (x .taken) (x .value) ≡ fits n (nthTyped s n)
+    go (inl e) = rw (e, h .value e, sym (h .taken) ∙ e) (fits-capped n (worth (nthTyped s n)))
+    go (inr e) = rw (e, sym (h .taken) ∙ e) (unfold fitsAt in refl)
+
 -- ---- the first fault
 
-pub numbers-more : (s : List ℕ) (n : ℕ) → Numbers s n → isNumber (nthTyped s n) ≡ true → Numbers s (n + 1)
-numbers-more s n h e k l = go (ℕ-discrete k n)
+-- the first n are as they must be
+abbrev pub Fit : List ℕ → ℕ → Type 0
+Fit s n = (k : ℕ) → k < n → fits k (nthTyped s k) ≡ true
+
+pub fit-more : (s : List ℕ) (n : ℕ) → Fit s n → fits n (nthTyped s n) ≡ true → Fit s (n + 1)
+fit-more s n h e k l = go (ℕ-discrete k n)
   where
-    go : Dec (k ≡ n) → isNumber (nthTyped s k) ≡ true
+    go : Dec (k ≡ n) → fits k (nthTyped s k) ≡ true
     go (yes q) = rw q e
     go (no d) = h k (omega arith)
 
-pub fault-is : (s : List ℕ) (n : ℕ) → n ≤ 98 → Numbers s n → (n < 98 → isNumber (nthTyped s n) ≡ false) → n ≡ firstFault s
+pub fault-is : (s : List ℕ) (n : ℕ) → n ≤ 98 → Fit s n → (n < 98 → fits n (nthTyped s n) ≡ false) → n ≡ firstFault s
 unfolding firstFault
 fault-is s n l h f =
-    lowest-one (λ k. not (isNumber (nthTyped s k))) 98 n _ (record { within = l; before = λ k m. ap not (h k m); found = λ m. ap not (f m) })
-    (lowest-found 98 (λ k. not (isNumber (nthTyped s k))))
+    lowest-one (λ k. not (fits k (nthTyped s k))) 98 n _ (record { within = l; before = λ k m. ap not (h k m); found = λ m. ap not (f m) })
+    (lowest-found 98 (λ k. not (fits k (nthTyped s k))))
 
 -- ---- the values up to it
 
 abbrev pub valueOf : List ℕ → ℕ → ℕ
-valueOf s n = worth (nthTyped s n)
+valueOf s n = entered (worth (nthTyped s n))
 
 pub values-are : (s : List ℕ) (n start : ℕ) (vs : List ℕ) → n ≡ firstFault s → start ≡ nthStart s n → vs ≡ room 98 n (valueOf s)
     → record { count = n; start = start; values = vs } ≡ valuesOf s

@@ -1,17 +1,18 @@
 -- Which of the three a text is, too long, slipped or whole, and what is answered and printed of each.
-use Prim.Native.Nat.{ℕ, _+_, _*_, _≤_, _<_}
+use Prim.Native.Nat.{ℕ, _+_, _*_, _^_, _≤_, _<_}
 use mathlib.Core.Path.{_≡_, refl, sym, ap, _∙_, subst}
-use mathlib.Core.Bool.{false, not}
+use mathlib.Core.Bool.{true, false, not, _||_}
 use mathlib.Core.List.{List, [], _∷_, _++_, append-assoc}
 use mathlib.Core.Logic.{_↔_, _≢_, _⊎_, inl, inr}
 use native.Mathlib.Nat.{add-zero}
 use native.Mathlib.Omega.{arith}
 use native.Mathlib.Decide.{decLt, ℕ-discrete}
+use lib.Dec.{eqb, ltb}
 use lib.ListN.{length, getD, replicate, length-append}
-use borrow.Author.Tests.{eq-eqb, ne-eqb, not-true, not-false}
+use borrow.Author.Tests.{eq-eqb, ne-eqb, ltb-true, lt-ltb, not-true, not-false}
 use Rattle.words.proofs.ChoiceLaws.{pick-true, pick-false}
 use Rattle.words.proofs.CountingLaws.{lowest-found}
-use Rattle.words.proofs.TruthLaws.{and-both}
+use Rattle.words.proofs.TruthLaws.{and-left, and-right, and-both, told, clash, not-holds}
 use Rattle.steps.specs.Refusals.{damaged, tooLong}
 use Rattle.text.specs.Text.{decimal, field}
 use Rattle.text.proofs.DigitLaws.{length-below}
@@ -21,28 +22,62 @@ use Rattle.stack.specs.Printed.{textOf}
 use Rattle.tables.specs.declared.Reading.{Reading}
 use Rattle.tables.specs.Typed.{bare, nthStart, nthTyped}
 use Rattle.tables.specs.Number.{isNumber, worth}
-use Rattle.tables.specs.Reading.{listOf, everyThird, tableOf, taken, refusedAt, firstFault, readBare, readTable, refusedLine, answerTo}
-use Rattle.tables.specs.Promises.{Numbers, SlipAt, Rows}
+use Rattle.tables.specs.Reading.{fitsAt, fits, listOf, everyThird, tableOf, taken, refusedAt, firstFault, readBare, readTable, refusedLine, answerTo}
+use Rattle.tables.specs.Promises.{Numbers, Slip, SlipAt, Whole, Rows}
 use Rattle.tables.proofs.BareLaws.{length-bare}
 use Rattle.tables.proofs.FillLaws.{length-listOf, getD-listOf, listOf-same}
 use Rattle.tables.proofs.SeekLaws.{nth-within}
-use Rattle.tables.proofs.ReadLaws.{fault-is, valueOf, too-long, not-long, answer-taken, answer-refused}
+use Rattle.tables.proofs.ReadLaws.{Fit, fault-is, valueOf, too-long, not-long, answer-taken, answer-refused}
 use Rattle.stack.proofs.Promises as Stack
+
+-- ---- a number as it must be
+
+-- the test, taken apart and put together again
+fits-good : (n : ℕ) (w : List ℕ) → fits n w ≡ true → (isNumber w ≡ true) × (n ≡ 96 → worth w < 2 ^ 32)
+unfolding fitsAt
+fits-good n w h = (and-left (isNumber w) _ h, λ e. ltb-true (worth w) (2 ^ 32) (sym (rw (eq-eqb n 96 e)) ∙ and-right (isNumber w) _ h))
+
+good-fits : (n : ℕ) (w : List ℕ) → isNumber w ≡ true → (n ≡ 96 → worth w < 2 ^ 32) → fits n w ≡ true
+unfolding fitsAt
+good-fits n w h f = rw h (go (ℕ-discrete n 96))
+  where
+    go : Dec (n ≡ 96) → (not (eqb n 96) || ltb (worth w) (2 ^ 32)) ≡ true
+    go (yes e) = rw (eq-eqb n 96 e) (lt-ltb (worth w) (2 ^ 32) (f e))
+    go (no d) = rw (ne-eqb n 96 d)
+
+fits-bad : (s : List ℕ) (n : ℕ) → fits n (nthTyped s n) ≡ false → Slip s n
+fits-bad s n h = go (told (isNumber (nthTyped s n))) (ℕ-discrete n 96) (decLt (worth (nthTyped s n)) (2 ^ 32))
+  where
+    go : (isNumber (nthTyped s n) ≡ true) ⊎ (isNumber (nthTyped s n) ≡ false) → Dec (n ≡ 96) → Dec (worth (nthTyped s n) < 2 ^ 32) → Slip s n
+    go (inr e) d l = inl e
+    go (inl e) (yes q) (no l) = inr (q, omega arith)
+    go (inl e) (yes q) (yes l) = absurd (clash (good-fits n (nthTyped s n) e (λ z. l)) h)
+    go (inl e) (no d) l = absurd (clash (good-fits n (nthTyped s n) e (λ z. absurd (d z))) h)
+
+bad-fits : (s : List ℕ) (n : ℕ) → Slip s n → fits n (nthTyped s n) ≡ false
+bad-fits s n h = not-holds (fits n (nthTyped s n)) (λ e. go (fits-good n (nthTyped s n) e) h)
+  where
+    go : (isNumber (nthTyped s n) ≡ true) × (n ≡ 96 → worth (nthTyped s n) < 2 ^ 32) → Slip s n → ⊥
+    go g (inl e) = clash (g .0) e
+    go g (inr (q, l)) = omega (arith, g .1 q)
+
+numbers-fit : (s : List ℕ) (n : ℕ) → Numbers s n → Fit s n
+numbers-fit s n h k l = good-fits k (nthTyped s k) (h k l .0) (h k l .1)
 
 -- ---- a text without comments
 
 module _ (s : List ℕ) where
   fault-within : firstFault s ≤ 98
   unfolding firstFault
-  fault-within = lowest-found 98 (λ n. not (isNumber (nthTyped s n))) .within
+  fault-within = lowest-found 98 (λ n. not (fits n (nthTyped s n))) .within
 
   before-fault : Numbers s (firstFault s)
   unfolding firstFault
-  before-fault k l = not-false _ (lowest-found 98 (λ n. not (isNumber (nthTyped s n))) .before k l)
+  before-fault k l = fits-good k (nthTyped s k) (not-false _ (lowest-found 98 (λ n. not (fits n (nthTyped s n))) .before k l))
 
-  at-fault : firstFault s < 98 → isNumber (nthTyped s (firstFault s)) ≡ false
+  at-fault : firstFault s < 98 → Slip s (firstFault s)
   unfolding firstFault
-  at-fault l = not-true _ (lowest-found 98 (λ n. not (isNumber (nthTyped s n))) .found l)
+  at-fault l = fits-bad s _ (not-true _ (lowest-found 98 (λ n. not (fits n (nthTyped s n))) .found l))
 
   -- it has a slip, or it is whole
   slip-or : SlipAt s (nthStart s (firstFault s)) ⊎ (Numbers s 98 × (nthStart s 98 ≡ length s))
@@ -61,16 +96,16 @@ module _ (s : List ℕ) where
   slip-answer : (p : ℕ) → SlipAt s p → readBare s ≡ refusedAt damaged p
   unfolding readBare
   slip-answer p (inl (n, l, h, z, e)) =
-      let f : n ≡ firstFault s = fault-is s n (omega arith) h (λ m. z) in
+      let f : n ≡ firstFault s = fault-is s n (omega arith) (numbers-fit s n h) (λ m. bad-fits s n z) in
       sym (pick-false _ (rw (← f, ne-eqb n 98 (λ q. omega arith)))) ∙ ap (refusedAt damaged) (ap (nthStart s) (sym f) ∙ sym e)
   slip-answer p (inr (h, e, l)) =
-      let f : 98 ≡ firstFault s = fault-is s 98 (omega arith) h (λ m. absurd (omega arith)) in
+      let f : 98 ≡ firstFault s = fault-is s 98 (omega arith) (numbers-fit s 98 h) (λ m. absurd (omega arith)) in
       sym (pick-false _ (rw (← f, ne-eqb (nthStart s 98) (length s) (λ q. omega arith)))) ∙ ap (refusedAt damaged) (ap (nthStart s) (sym f) ∙ sym e)
 
   whole-answer : Numbers s 98 → nthStart s 98 ≡ length s → readBare s ≡ taken (tableOf (listOf 98 (valueOf s)))
   unfolding readBare
   whole-answer h e =
-      let f : 98 ≡ firstFault s = fault-is s 98 (omega arith) h (λ m. absurd (omega arith)) in
+      let f : 98 ≡ firstFault s = fault-is s 98 (omega arith) (numbers-fit s 98 h) (λ m. absurd (omega arith)) in
       sym (pick-true _ (and-both (eq-eqb (firstFault s) 98 (sym f)) (eq-eqb (nthStart s 98) (length s) e)))
 
   slip-within : (p : ℕ) → SlipAt s p → p ≤ length s
@@ -82,7 +117,7 @@ module _ (s : List ℕ) where
 pub data Way (s : List ℕ) : Reading → Type 0 where
   overlong : 65536 < length s → Way s (refusedAt tooLong 65536)
   slipped : (p : ℕ) → length s ≤ 65536 → SlipAt (bare s) p → Way s (refusedAt damaged p)
-  whole : length s ≤ 65536 → Numbers (bare s) 98 → nthStart (bare s) 98 ≡ length s → Way s (taken (tableOf (listOf 98 (valueOf (bare s)))))
+  whole : Whole s → Way s (taken (tableOf (listOf 98 (valueOf (bare s)))))
 
 pub long-is : (s : List ℕ) → 65536 < length s → readTable s ≡ refusedAt tooLong 65536
 long-is s l = sym (too-long s _ l refl)
@@ -90,9 +125,8 @@ long-is s l = sym (too-long s _ l refl)
 pub slip-is : (s : List ℕ) (p : ℕ) → length s ≤ 65536 → SlipAt (bare s) p → readTable s ≡ refusedAt damaged p
 slip-is s p l d = sym (not-long s _ l refl) ∙ slip-answer (bare s) p d
 
-pub whole-is : (s : List ℕ) → length s ≤ 65536 → Numbers (bare s) 98 → nthStart (bare s) 98 ≡ length s
-    → readTable s ≡ taken (tableOf (listOf 98 (valueOf (bare s))))
-whole-is s l h e = sym (not-long s _ l refl) ∙ whole-answer (bare s) h (e ∙ sym (length-bare false s))
+pub whole-is : (s : List ℕ) → Whole s → readTable s ≡ taken (tableOf (listOf 98 (valueOf (bare s))))
+whole-is s (l, h, e) = sym (not-long s _ l refl) ∙ whole-answer (bare s) h (e ∙ sym (length-bare false s))
 
 pub way : (s : List ℕ) → Way s (readTable s)
 way s = go (decLt 65536 (length s))
@@ -106,7 +140,7 @@ way s = go (decLt 65536 (length s))
 
         by : SlipAt (bare s) (nthStart (bare s) (firstFault (bare s))) ⊎ (Numbers (bare s) 98 × (nthStart (bare s) 98 ≡ length (bare s))) → Way s (readTable s)
         by (inl d) = rw (slip-is s _ short d) (slipped _ short d)
-        by (inr (h, e)) = let f = e ∙ length-bare false s in rw (whole-is s short h f) (whole short h f)
+        by (inr (h, e)) = let w : Whole s = (short, h, e ∙ length-bare false s) in rw (whole-is s w) (whole w)
 
 -- ---- as they are promised
 
@@ -115,7 +149,7 @@ module _ (s : List ℕ) where
   unfolding refusedAt taken
   long-only r (overlong l) e = l
   long-only r (slipped p l d) e = absurd (omega arith)
-  long-only r (whole l h f) e = absurd (omega arith)
+  long-only r (whole w) e = absurd (omega arith)
 
   pub eleven : (readTable s .refusal ≡ 11) ↔ (65536 < length s)
   eleven = (long-only (readTable s) (way s), λ l. rw (long-is s l) (unfold refusedAt in refl))
@@ -127,25 +161,25 @@ module _ (s : List ℕ) where
   unfolding refusedAt taken
   slip-only p r (overlong l) (e, f) = absurd (omega arith)
   slip-only p r (slipped q l d) (e, f) = (l, subst (SlipAt (bare s)) f d)
-  slip-only p r (whole l h g) (e, f) = absurd (omega arith)
+  slip-only p r (whole w) (e, f) = absurd (omega arith)
 
   pub eight : (p : ℕ) → ((readTable s .refusal ≡ 8) × (readTable s .offset ≡ p)) ↔ ((length s ≤ 65536) × SlipAt (bare s) p)
   eight p = (slip-only p (readTable s) (way s), λ h. rw (slip-is s p (h .0) (h .1)) (unfold refusedAt in (refl, refl)))
 
-  whole-only : (r : Reading) → Way s r → r .refusal ≡ 0 → (length s ≤ 65536) × Numbers (bare s) 98 × (nthStart (bare s) 98 ≡ length s)
+  whole-only : (r : Reading) → Way s r → r .refusal ≡ 0 → Whole s
   unfolding refusedAt taken
   whole-only r (overlong l) e = absurd (omega arith)
   whole-only r (slipped q l d) e = absurd (omega arith)
-  whole-only r (whole l h g) e = (l, h, g)
+  whole-only r (whole w) e = w
 
-  pub read : (readTable s .refusal ≡ 0) ↔ ((length s ≤ 65536) × Numbers (bare s) 98 × (nthStart (bare s) 98 ≡ length s))
-  read = (whole-only (readTable s) (way s), λ h. rw (whole-is s (h .0) (h .1) (h .2)) (unfold taken in refl))
+  pub read : (readTable s .refusal ≡ 0) ↔ Whole s
+  read = (whole-only (readTable s) (way s), λ w. rw (whole-is s w) (unfold taken in refl))
 
   only-of : (r : Reading) → Way s r → (r .refusal ≡ 0) ⊎ ((r .refusal ≡ 8) ⊎ (r .refusal ≡ 11))
   unfolding refusedAt taken
   only-of r (overlong l) = inr (inr refl)
   only-of r (slipped q l d) = inr (inl refl)
-  only-of r (whole l h g) = inl refl
+  only-of r (whole w) = inl refl
 
   pub only : (readTable s .refusal ≡ 0) ⊎ ((readTable s .refusal ≡ 8) ⊎ (readTable s .refusal ≡ 11))
   only = only-of (readTable s) (way s)
@@ -157,7 +191,7 @@ module _ (s : List ℕ) where
   unfolding refusedAt taken
   empty-of r (overlong l) d = refl
   empty-of r (slipped q l e) d = refl
-  empty-of r (whole l h g) d = absurd (d refl)
+  empty-of r (whole w) d = absurd (d refl)
 
   pub refused-empty : readTable s .refusal ≢ 0 → readTable s .table ≡ Zeros
   refused-empty = empty-of (readTable s) (way s)
@@ -172,10 +206,9 @@ table-same vs us h =
     third : (f : ℕ) → f < 3 → listOf 32 (λ i. getD vs (3 * i + f) 0) ≡ listOf 32 (λ i. getD us (3 * i + f) 0)
     third f l = listOf-same 32 _ _ (λ i m. h (3 * i + f) (omega arith))
 
-pub read-values : (s vs : List ℕ) → readTable s .refusal ≡ 0 → ((k : ℕ) → k < 98 → getD vs k 0 ≡ worth (nthTyped (bare s) k)) → readTable s ≡ taken (tableOf vs)
+pub read-values : (s vs : List ℕ) → readTable s .refusal ≡ 0 → ((k : ℕ) → k < 98 → getD vs k 0 ≡ valueOf (bare s) k) → readTable s ≡ taken (tableOf vs)
 read-values s vs e h =
-    let w = read s .0 e in
-    whole-is s (w .0) (w .1) (w .2) ∙ ap taken (table-same (listOf 98 (valueOf (bare s))) vs (λ k l. getD-listOf 98 (valueOf (bare s)) k l ∙ sym (h k l)))
+    whole-is s (read s .0 e) ∙ ap taken (table-same (listOf 98 (valueOf (bare s))) vs (λ k l. getD-listOf 98 (valueOf (bare s)) k l ∙ sym (h k l)))
 
 pub rows : (vs : List ℕ) → Rows vs (tableOf vs)
 unfolding tableOf everyThird
@@ -217,4 +250,4 @@ answer-most s = go (readTable s) refl (way s)
     go : (r : Reading) → r ≡ readTable s → Way s r → length (answerTo s) ≤ 13
     go r e (overlong l) = none _ e (λ z. omega arith) (omega arith) (omega arith)
     go r e (slipped p l d) = none _ e (λ z. omega arith) (omega arith) (omega (arith, slip-within (bare s) p d, length-bare false s))
-    go r e (whole l h f) = rw (answer-read s (sym (ap (λ (x : Reading). x .refusal) e))) (Stack.kept .printedMost (readTable s .table))
+    go r e (whole w) = rw (answer-read s (sym (ap (λ (x : Reading). x .refusal) e))) (Stack.kept .printedMost (readTable s .table))

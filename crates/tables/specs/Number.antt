@@ -1,5 +1,5 @@
--- A typed number: decimal, or hexadecimal after 0x, of at most 32 bits (docs/STACK.md).
-use Prim.Native.Nat.{ℕ, _+_, _-_, _*_, _^_}
+-- A typed number: decimal, or hexadecimal after 0x, of any size (docs/STACK.md).
+use Prim.Native.Nat.{ℕ, _+_, _-_, _*_}
 use mathlib.Core.Bool.{Bool, not, _&&_}
 use mathlib.Core.List.{List, [], _∷_}
 use lib.Dec.{eqb, ltb, leb}
@@ -16,9 +16,9 @@ unfoldable pub worthFrom : ℕ → ℕ → List ℕ → ℕ
 worthFrom base v [] = v
 worthFrom base v (b ∷ bs) = worthFrom base (base * v + digit b) bs
 
--- there is a digit, all are digits to the base, and they are worth a word
-unfoldable pub digitsFit : ℕ → List ℕ → Bool
-digitsFit base ds = not (eqb (length ds) 0) && allBelow (length ds) (λ k. ltb (digit (getD ds k 0)) base) && ltb (worthFrom base 0 ds) (2 ^ 32)
+-- there is a digit, and all are digits to the base
+unfoldable pub areDigits : ℕ → List ℕ → Bool
+areDigits base ds = not (eqb (length ds) 0) && allBelow (length ds) (λ k. ltb (digit (getD ds k 0)) base)
 
 -- 0x begins a hexadecimal number, and 0X none
 unfoldable pub isHex : List ℕ → Bool
@@ -32,7 +32,7 @@ digitsOf w = pick (isHex w) (drop 2 w) w
 
 -- the characters w are a number, and what it is worth
 unfoldable pub isNumber : List ℕ → Bool
-isNumber w = digitsFit (baseOf w) (digitsOf w)
+isNumber w = areDigits (baseOf w) (digitsOf w)
 
 unfoldable pub worth : List ℕ → ℕ
 worth w = worthFrom (baseOf w) 0 (digitsOf w)

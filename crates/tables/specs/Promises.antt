@@ -8,11 +8,11 @@ use mathlib.Core.Logic.{_↔_, _≢_, _⊎_}
 use lib.ListN.{length, getD, take, drop, replicate}
 use Rattle.text.specs.Text.{decimal}
 use Rattle.stack.specs.declared.Table.{Table}
-use Rattle.stack.specs.Bytes.{needed}
+use Rattle.stack.specs.Bytes.{stackBytes, needed}
 use Rattle.stack.specs.Printed.{textOf}
 use Rattle.tables.specs.Typed.{bare, startFrom, endFrom, pastNth, nthStart, nthTyped}
 use Rattle.tables.specs.Number.{digit, worthFrom, isNumber, worth}
-use Rattle.tables.specs.Reading.{tableOf, readTable, answerTo}
+use Rattle.tables.specs.Reading.{entered, tableOf, readTable, answerTo}
 use Rattle.tables.specs.Layout.{White, Without, Spread, linesFrom, plain}
 
 -- from an offset on, i is the first byte that is not white, or the end of the text
@@ -29,21 +29,34 @@ pub record Ends (s : List ℕ) (at i : ℕ) : Type 0 where
   pub before : (j : ℕ) → at ≤ j → j < i → White (getD s j 0) → ⊥
   pub found : i < length s → White (getD s i 0)
 
--- one digit at least, each less than the base, and worth less than 2^32 together
+-- one digit at least, and each less than the base
 pub record Digits (base : ℕ) (ds : List ℕ) : Type 0 where
   pub some : 0 < length ds
   pub each : (k : ℕ) → k < length ds → digit (getD ds k 0) < base
-  pub small : worthFrom base 0 ds < 2 ^ 32
 
--- the first n numbers of a text without comments are numbers
+-- the first n numbers of a text without comments are numbers, and the word of forced sources, where it is among them, has 32 bits
 abbrev pub Numbers : List ℕ → ℕ → Type 0
-Numbers s n = (k : ℕ) → k < n → isNumber (nthTyped s k) ≡ true
+Numbers s n = (k : ℕ) → k < n → (isNumber (nthTyped s k) ≡ true) × (k ≡ 96 → worth (nthTyped s k) < 2 ^ 32)
 
--- the first slip of such a text begins at p: the nth of the 98 is no number, or all are and something follows
+-- the nth is no number, or it is the word of forced sources and has more than 32 bits
+abbrev pub Slip : List ℕ → ℕ → Type 0
+Slip s n = (isNumber (nthTyped s n) ≡ false) ⊎ ((n ≡ 96) × (2 ^ 32 ≤ worth (nthTyped s n)))
+
+-- the first slip of such a text begins at p: it is the nth of the 98, or there is none and something follows them
 abbrev pub SlipAt : List ℕ → ℕ → Type 0
 SlipAt s p =
-    ((n : ℕ) × (n < 98) × Numbers s n × (isNumber (nthTyped s n) ≡ false) × (p ≡ nthStart s n))
-    ⊎ (Numbers s 98 × (p ≡ nthStart s 98) × (p < length s))
+    ((n : ℕ) × (n < 98) × Numbers s n × Slip s n × (p ≡ nthStart s n)) ⊎ (Numbers s 98 × (p ≡ nthStart s 98) × (p < length s))
+
+-- a text of at most 65,536 bytes with the 98 numbers and nothing behind them
+abbrev pub Whole : List ℕ → Type 0
+Whole s = (length s ≤ 65536) × Numbers (bare s) 98 × (nthStart (bare s) 98 ≡ length s)
+
+-- among the numbers is a priority over 7, a type over 3 or a frame over 65,535, however many digits it has (02, 4/12, Refusals)
+abbrev pub TooLarge : List ℕ → Type 0
+TooLarge s =
+    (65535 < worth (nthTyped s 97))
+    ⊎ ((i : ℕ) × (i < 32) × ((7 < worth (nthTyped s (3 * i)))
+    ⊎ ((3 < worth (nthTyped s (3 * i + 1))) ⊎ (65535 < worth (nthTyped s (3 * i + 2))))))
 
 -- the arrays of a table have a number for each source, and every number is a word
 pub record Words (t : Table) : Type 0 where
@@ -95,7 +108,7 @@ pub record Promises : Type 0 where
   -- digits are worth the base times those before the last and the last one
   pub worthNone : (base v : ℕ) → worthFrom base v [] ≡ v
   pub worthMore : (base v b : ℕ) (bs : List ℕ) → worthFrom base v (b ∷ bs) ≡ worthFrom base (base * v + digit b) bs
-  -- after 0x hexadecimal digits, else decimal ones, are a number exactly if there is one and no other character, and they fit 32 bits
+  -- after 0x hexadecimal digits, else decimal ones, are a number exactly if there is one and no other character, however many there are
   pub hexadecimal : (ds : List ℕ) → ((isNumber (48 ∷ 120 ∷ ds) ≡ true) ↔ Digits 16 ds) × (worth (48 ∷ 120 ∷ ds) ≡ worthFrom 16 0 ds)
   pub decimals : (w : List ℕ) → (getD w 0 0 ≢ 48) ⊎ (getD w 1 0 ≢ 120) → ((isNumber w ≡ true) ↔ Digits 10 w) × (worth w ≡ worthFrom 10 0 w)
   -- 0X is no prefix
@@ -105,12 +118,16 @@ pub record Promises : Type 0 where
   -- 11 exactly if a text has more than 65,536 bytes, and its offset is 65,536
   pub eleven : (s : List ℕ) → (readTable s .refusal ≡ 11) ↔ (65536 < length s)
   pub elevenAt : (s : List ℕ) → readTable s .refusal ≡ 11 → readTable s .offset ≡ 65536
-  -- 8 at an offset exactly if the first slip begins there: at its first character, or at the end of the text where the number is missing
+  -- 8 at an offset exactly if the first slip begins there: at its first character, or at the end of the text where the number is missing. A number
+  -- that is too large is a slip as the word of forced sources alone
   pub eight : (s : List ℕ) (p : ℕ) → ((readTable s .refusal ≡ 8) × (readTable s .offset ≡ p)) ↔ ((length s ≤ 65536) × SlipAt (bare s) p)
   -- else the table is read, exactly if the 98 numbers are there and nothing follows them, and it is the table of their values
-  pub read : (s : List ℕ) → (readTable s .refusal ≡ 0) ↔ ((length s ≤ 65536) × Numbers (bare s) 98 × (nthStart (bare s) 98 ≡ length s))
-  pub readValues : (s vs : List ℕ) → readTable s .refusal ≡ 0 → ((k : ℕ) → k < 98 → getD vs k 0 ≡ worth (nthTyped (bare s) k))
+  pub read : (s : List ℕ) → (readTable s .refusal ≡ 0) ↔ Whole s
+  pub readValues : (s vs : List ℕ) → readTable s .refusal ≡ 0 → ((k : ℕ) → k < 98 → getD vs k 0 ≡ entered (worth (nthTyped (bare s) k)))
       → readTable s ≡ record { refusal = 0; offset = 0; table = tableOf vs }
+  -- a number stands in the table as it is, or as the largest word where it is larger than that
+  pub enteredAs : (v : ℕ) → v < 2 ^ 32 → entered v ≡ v
+  pub enteredMost : (v : ℕ) → 2 ^ 32 ≤ v → entered v ≡ 0xFFFFFFFF
   pub rows : (vs : List ℕ) → Rows vs (tableOf vs)
   -- no other number is given, and a refused text gives no table
   pub only : (s : List ℕ) → (readTable s .refusal ≡ 0) ⊎ ((readTable s .refusal ≡ 8) ⊎ (readTable s .refusal ≡ 11))
@@ -119,8 +136,8 @@ pub record Promises : Type 0 where
   -- ---- what is written out is read back
 
   -- 98 numbers are read as they stand, whatever white space and comments stand between them: these do not count
-  pub spread : (ws : List (List ℕ)) (s : List ℕ) → Spread ws s → length ws ≡ 98 → length s ≤ 65536
-      → readTable s ≡ record { refusal = 0; offset = 0; table = tableOf (map worth ws) }
+  pub spread : (ws : List (List ℕ)) (s : List ℕ) → Spread ws s → length ws ≡ 98 → worth (getD ws 96 []) < 2 ^ 32 → length s ≤ 65536
+      → readTable s ≡ record { refusal = 0; offset = 0; table = tableOf (map (λ w. entered (worth w)) ws) }
   -- a table that is written out in the plain way is read back as it is
   pub readBack : (t : Table) → Words t → readTable (plain t) ≡ record { refusal = 0; offset = 0; table = t }
   -- the plain way: for each source priority, type and frame in decimal with a space between and a line feed behind, then the last two numbers
@@ -134,5 +151,10 @@ pub record Promises : Type 0 where
   pub answerRead : (s : List ℕ) → readTable s .refusal ≡ 0 → answerTo s ≡ textOf (needed (readTable s .table))
   pub answerRefused : (s : List ℕ) → readTable s .refusal ≢ 0
       → answerTo s ≡ 69 ∷ 32 ∷ (decimal (readTable s .refusal) ++ (32 ∷ (decimal (readTable s .offset) ++ (10 ∷ []))))
+  -- so `E 14` is the line exactly of the 98 numbers with one among them that is too large for a priority, a type or a frame, and the figure is
+  -- that of the 98 numbers without one (02, 4/12, Refusals)
+  pub fourteen : (s : List ℕ) → (answerTo s ≡ 69 ∷ 32 ∷ 49 ∷ 52 ∷ 10 ∷ []) ↔ (Whole s × TooLarge (bare s))
+  pub figure : (s : List ℕ) → Whole s → (TooLarge (bare s) → ⊥)
+      → answerTo s ≡ decimal (stackBytes (readTable s .table)) ++ (32 ∷ 98 ∷ 121 ∷ 116 ∷ 101 ∷ 115 ∷ 10 ∷ [])
   -- no line is longer than 13 bytes
   pub answerMost : (s : List ℕ) → length (answerTo s) ≤ 13

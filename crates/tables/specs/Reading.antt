@@ -1,7 +1,7 @@
 -- What a typed table is read as: 98 numbers, for each source its priority, its type and its frame, then the word of forced sources and the
 -- mark's frame (docs/STACK.md; 02, 4/12).
-use Prim.Native.Nat.{ℕ, zero, suc, _+_, _*_}
-use mathlib.Core.Bool.{not, _&&_}
+use Prim.Native.Nat.{ℕ, zero, suc, _+_, _*_, _^_, min}
+use mathlib.Core.Bool.{Bool, not, _&&_, _||_}
 use mathlib.Core.List.{List, [], _∷_, _++_}
 use lib.Dec.{eqb, ltb}
 use lib.ListN.{length, getD, replicate}
@@ -31,6 +31,20 @@ unfoldable pub tableOf : List ℕ → Table
 tableOf vs =
     record { priority = everyThird vs 0; kind = everyThird vs 1; forced = getD vs 96 0; frame = everyThird vs 2; mark = getD vs 97 0 }
 
+-- ---- which numbers it may be made of
+
+-- the nth of the 98, counted from 0, is as it must be: a number, and as the word of forced sources one of 32 bits
+unfoldable pub fitsAt : ℕ → Bool → ℕ → Bool
+fitsAt n isOne value = isOne && (not (eqb n 96) || ltb value (2 ^ 32))
+
+abbrev pub fits : ℕ → List ℕ → Bool
+fits n w = fitsAt n (isNumber w) (worth w)
+
+-- what the table has of a number: its worth in 32 bits. All that is more stands there as the largest word; of a priority, a type and a frame
+-- that is beyond the limit too (02, 4/12, Refusals)
+unfoldable pub entered : ℕ → ℕ
+entered value = min value 0xFFFFFFFF
+
 -- ---- what is answered
 
 -- a table that was read
@@ -46,15 +60,15 @@ refusedAt refusal offset =
       table = record { priority = replicate 32 0; kind = replicate 32 0; forced = 0; frame = replicate 32 0; mark = 0 };
     }
 
--- the first of the 98 that is no number, 98 where all are
+-- the first of the 98 that is not as it must be, 98 where all are
 unfoldable pub firstFault : List ℕ → ℕ
-firstFault s = lowestBelow 98 (λ n. not (isNumber (nthTyped s n)))
+firstFault s = lowestBelow 98 (λ n. not (fits n (nthTyped s n)))
 
--- a text without comments: its table, where the 98 numbers are there and nothing follows; else 8 where the first that is none begins, or what follows
+-- a text without comments: its table, where the 98 numbers are there and nothing follows; else 8 where the first fault begins, or what follows
 unfoldable pub readBare : List ℕ → Reading
 readBare s =
     pick (eqb (firstFault s) 98 && eqb (nthStart s 98) (length s))
-    (taken (tableOf (listOf 98 (λ n. worth (nthTyped s n)))))
+    (taken (tableOf (listOf 98 (λ n. entered (worth (nthTyped s n))))))
     (refusedAt damaged (nthStart s (firstFault s)))
 
 -- a text is refused by 11 where it has more than 65,536 bytes, else its comments do not count

@@ -6,8 +6,8 @@ ghost use Rattle.words.specs.Choice.{pick};
 ghost use Rattle.text.specs.Text.{write, laid};
 ghost use Rattle.tables.specs.Typed.{white, bare, startFrom, endFrom};
 ghost use Rattle.tables.specs.Number.{digit, isHex};
-ghost use Rattle.tables.specs.Reading.{everyThird, tableOf, refusedAt, readBare, readTable, refusedLine, answerTo};
-ghost use Rattle.tables.specs.Passes.{readDigits, readWord, readNext, valuesOf};
+ghost use Rattle.tables.specs.Reading.{fitsAt, entered, everyThird, tableOf, refusedAt, readBare, readTable, refusedLine, answerTo};
+ghost use Rattle.tables.specs.Passes.{capped, readDigits, readWord, readNext, valuesOf};
 use stack::Table;
 
 // What came of a text: the table, or a refusal with the byte offset of what is at fault.
@@ -17,16 +17,16 @@ pub struct Reading {
     pub table: Table,
 }
 
-// A typed number: its value, or that the characters are none.
+// Whether characters are a number, and what it is worth; 2^32 stands for whatever is more.
 struct Typed {
     taken: bool,
-    value: u32,
+    value: u64,
 }
 
 // The next number of a text, where it begins, and the offset behind it.
 struct Next {
     taken: bool,
-    value: u32,
+    value: u64,
     start: usize,
     past: usize,
 }
@@ -39,6 +39,11 @@ struct Values {
 }
 
 const MOST: usize = 65536;
+
+// The place of the word of forced sources among the 98, and the first number over 32 bits.
+const FORCED: usize = 96;
+
+const OVER: u64 = 4294967296;
 
 // ---- what is read
 
@@ -152,14 +157,14 @@ fn read_values(text: &[u8]) -> Values
     let mut n: usize = 0;
     while n < 98 {
         let next = read_next(text, past);
-        if !next.taken {
+        if !fits_at(n, next.taken, next.value) {
             return Values {
                 count: n,
                 start: next.start,
                 values: values,
             };
         }
-        values[n] = next.value;
+        values[n] = entered_as(next.value);
         past = next.past;
         n = n + 1;
     }
@@ -168,6 +173,23 @@ fn read_values(text: &[u8]) -> Values
         start: seek(text, past, false),
         values: values,
     }
+}
+
+// Whether the nth of the 98 is as it must be: a number, and as the word of forced sources one of 32 bits.
+fn fits_at(n: usize, taken: bool, value: u64) -> bool
+    ensures { λ r. ⌜ r ≡ fitsAt n taken value ⌝ }
+{
+    taken & ((n != FORCED) | (value < OVER))
+}
+
+// What the table has of a number: the largest word where it is more than that.
+fn entered_as(value: u64) -> u32
+    ensures { λ r. ⌜ r ≡ entered value ⌝ }
+{
+    if value < OVER {
+        return value as u32;
+    }
+    4294967295
 }
 
 // The next number from an offset on.
@@ -221,7 +243,7 @@ fn is_hex(word: &[u8]) -> bool
     (word[0] == b'0') & (word[1] == b'x')
 }
 
-// Digits to a base: one at least, no other character, and no more than 32 bits. It stops at the first that breaks this, so no sum wraps.
+// Digits to a base: one at least, and no other character. However many there are, no sum wraps.
 fn read_digits(digits: &[u8], base: u32) -> Typed
     requires { ⌜ (1 ≤ base) × (base ≤ 16) ⌝ }
     ensures { λ r. ⌜ r ≡ readDigits base (now (digits .entry)) ⌝ }
@@ -230,19 +252,29 @@ fn read_digits(digits: &[u8], base: u32) -> Typed
     let mut k: usize = 0;
     while k < digits.len() {
         let d = digit_of(digits[k]);
-        worth = base as u64 * worth + d as u64;
-        if (base <= d) | (4294967296 <= worth) {
+        if base <= d {
             return Typed {
                 taken: false,
                 value: 0,
             };
         }
+        worth = capped_at(base as u64 * worth + d as u64);
         k = k + 1;
     }
     Typed {
         taken: k != 0,
-        value: worth as u32,
+        value: worth,
     }
+}
+
+// 2^32 where it is more.
+fn capped_at(worth: u64) -> u64
+    ensures { λ r. ⌜ r ≡ capped worth ⌝ }
+{
+    if worth < OVER {
+        return worth;
+    }
+    OVER
 }
 
 // What a character is worth as a digit; 16 says that it is none.

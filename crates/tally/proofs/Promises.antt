@@ -1,7 +1,7 @@
 -- The promises of the figures of a trace, kept.
 use Prim.Native.Nat.{ℕ, _+_, _≤_, _<_}
 use mathlib.Core.Path.{_≡_, refl, sym, ap, _∙_, subst}
-use mathlib.Core.Bool.{not}
+use mathlib.Core.Bool.{Bool, not}
 use mathlib.Core.List.{List, [], _∷_}
 use mathlib.Core.Logic.{_≢_}
 use native.Mathlib.Nat.{zero-add}
@@ -16,7 +16,10 @@ use Rattle.words.proofs.TruthLaws.{clash}
 use Rattle.steps.specs.Refusals.{carriedOut}
 use Rattle.steps.specs.declared.Recorded.{Recorded}
 use Rattle.steps.specs.declared.Step.{Step}
-use Rattle.kinds.specs.Kinds.{aicKind}
+use Rattle.trace.specs.Trace.{Trace, stepsFrom}
+use Rattle.trace.specs.Promises.{Along, Ends}
+use Rattle.trace.proofs.Promises as Traces
+use Rattle.kinds.specs.Kinds.{aicKind, tellsPrivilege}
 use Rattle.aic_record.specs.declared.Aic.{Aic}
 use Rattle.aic_runs.specs.Counted.{startsOf}
 use Rattle.aic_runs.specs.Runs.{count}
@@ -27,13 +30,14 @@ use Rattle.machine_record.specs.declared.Machine.{Machine}
 use Rattle.machine.specs.Steps.{step}
 use Rattle.beginning.specs.Begin.{beginOf}
 use Rattle.reports.specs.Play.{recordsOf, report, playOf}
+use Rattle.reports.proofs.PlayLaws.{records-begun}
 use Rattle.totals.specs.declared.Totals.{Totals}
 use Rattle.totals.specs.Promises.{Whole, Source}
 use Rattle.totals.specs.Totals.{zeros}
 use Rattle.totals.proofs.Promises as Sums
 use Rattle.tally.specs.declared.Tallied.{Tallied}
-use Rattle.tally.specs.Tally.{refusedIn, each, figuresOf, tallyOf}
-use Rattle.tally.specs.Promises.{Promises, aicOf, playedOf}
+use Rattle.tally.specs.Tally.{refusedIn, stepsIn, each, figuresOf, tallyOf}
+use Rattle.tally.specs.Promises.{Promises, aicOf, playedOf, Holds}
 use Rattle.tally.proofs.LengthLaws.{records-short}
 use Rattle.tally.proofs.TallyLaws.{each-length, each-at, Fresh, fresh, as-many, tally-refused}
 
@@ -64,6 +68,30 @@ refused-most : (m : Machine) (xs : List Recorded) → refusedIn m xs ≤ length 
 unfolding refusedIn
 refused-most m [] = omega arith
 refused-most m (x ∷ xs) = omega (arith, one-le (not (eqb (step m x .refusal) carriedOut)), refused-most (step m x .machine) xs)
+
+-- ---- the steps followed
+
+holds : (told : Bool) (s : List ℕ) (at : ℕ) (xs : List Recorded) (p : ℕ) → Along told s at xs p → Holds told s at (stepsIn xs) p
+holds told s at [] p h = h
+holds told s at (x ∷ xs) p h = (x .privilege, h .0, h .1, holds told s (h .0) xs p (h .2))
+
+-- the steps of step records stand as these do, and are as many
+abbrev Held : Bool → ℕ → List ℕ → ℕ → Trace → Type 0
+Held told limit s at t = (p : ℕ) × Holds told s at (stepsIn (t .steps)) p × Ends told limit s (length (stepsIn (t .steps))) p (t .refusal) (t .offset)
+
+held : (told : Bool) (limit : ℕ) (s : List ℕ) (at : ℕ) → Held told limit s at (stepsFrom told limit s at)
+held told limit s at =
+    let t = stepsFrom told limit s at in
+    let w = Traces.kept .trace told limit s at in
+    (w .0, holds told s at (t .steps) (w .0) (w .1), subst (λ (n : ℕ). Ends told limit s n (w .0) (t .refusal) (t .offset)) (sym (as-many (t .steps))) (w .2))
+
+follows : (s : List ℕ) (limit : ℕ) → beginOf s .refusal ≡ 0
+    → (p : ℕ) × Holds (tellsPrivilege (beginOf s .machine .kind)) s (beginOf s .place) (playedOf s limit) p
+    × Ends (tellsPrivilege (beginOf s .machine .kind)) limit s (length (playedOf s limit)) p (tallyOf s limit .refusal) (tallyOf s limit .offset)
+unfolding tallyOf playOf report
+follows s limit z =
+    let told = tellsPrivilege (beginOf s .machine .kind) in
+    subst (Held told limit s (beginOf s .place)) (sym (records-begun limit s (beginOf s) z)) (held told limit s (beginOf s .place))
 
 -- ---- figures
 
@@ -148,6 +176,8 @@ kept =
       refusedNone = refused-none;
       refusedMore = refused-more;
       refusedMost = λ s limit. omega (arith, refused s limit, refused-most (beginOf s .machine) (recordsOf s limit .steps), steps-are s limit);
+      follows = follows;
+      followsAll = λ s limit. as-many (recordsOf s limit .steps) ∙ sym (steps-are s limit);
       figure = figure;
       otherKinds = other-kinds;
       notBegun = not-begun;

@@ -1,14 +1,18 @@
 -- What is promised of the figures of a trace.
 use Prim.Native.Nat.{ℕ, _+_, _≤_, _<_}
 use mathlib.Core.Path.{_≡_}
-use mathlib.Core.Bool.{not}
+use mathlib.Core.Bool.{Bool, not}
 use mathlib.Core.List.{List, [], _∷_}
 use mathlib.Core.Logic.{_≢_}
 use lib.Dec.{eqb}
-use lib.ListN.{getD}
+use lib.ListN.{getD, length}
 use Rattle.words.specs.Counting.{one}
 use Rattle.steps.specs.declared.Recorded.{Recorded}
 use Rattle.steps.specs.declared.Step.{Step}
+use Rattle.trace.specs.declared.Turn.the-variants.{Found}
+use Rattle.trace.specs.Steps.{stepAt}
+use Rattle.trace.specs.Promises.{made, Ends}
+use Rattle.kinds.specs.Kinds.{tellsPrivilege}
 use Rattle.aic_record.specs.declared.Aic.{Aic}
 use Rattle.aic_waits.specs.Figures.{startedOf, waitedOf, entriesOf}
 use Rattle.machine_record.specs.declared.Machine.{Machine}
@@ -25,6 +29,11 @@ aicOf s = beginOf s .machine .aic
 abbrev pub playedOf : List ℕ → ℕ → List Step
 playedOf s limit = stepsIn (recordsOf s limit .steps)
 
+-- these steps stand in a trace one after the other from a place on, by whatever privilege each is made, and then comes the place p
+abbrev pub Holds : Bool → List ℕ → ℕ → List Step → ℕ → Type 0
+Holds told s at [] p = at ≡ p
+Holds told s at (x ∷ xs) p = (privilege : ℕ) × (next : ℕ) × (stepAt told s at ≡ Found (made x privilege) next) × Holds told s next xs p
+
 pub record Promises : Type 0 where
   -- the steps played, the number of E and its offset are those of the player (02, 11/12)
   pub played : (s : List ℕ) (limit : ℕ)
@@ -35,6 +44,12 @@ pub record Promises : Type 0 where
   pub refusedMore : (m : Machine) (x : Recorded) (xs : List Recorded) → refusedIn m (x ∷ xs) ≡ one (not (eqb (step m x .refusal) 0)) + refusedIn (step m x .machine) xs
   -- no more than are played
   pub refusedMost : (s : List ℕ) (limit : ℕ) → tallyOf s limit .refused ≤ tallyOf s limit .steps
+  -- the steps over which the figures go are those that the trace holds behind its beginning, from the first to where it ends, whether the machine refuses
+  -- them or not, and as many as are played; none where it has no beginning (01, House trace; 02, 11/12)
+  pub follows : (s : List ℕ) (limit : ℕ) → beginOf s .refusal ≡ 0
+      → (p : ℕ) × Holds (tellsPrivilege (beginOf s .machine .kind)) s (beginOf s .place) (playedOf s limit) p
+      × Ends (tellsPrivilege (beginOf s .machine .kind)) limit s (length (playedOf s limit)) p (tallyOf s limit .refusal) (tallyOf s limit .offset)
+  pub followsAll : (s : List ℕ) (limit : ℕ) → length (playedOf s limit) ≡ tallyOf s limit .steps
   -- of an AIC each figure of each source is its definition over the steps played, from the record that the trace begins with (02, 11/12)
   pub figure : (s : List ℕ) (limit i : ℕ) → beginOf s .machine .kind ≡ 0 → i < 32
       → Source (tallyOf s limit .figures) i (startedOf i (aicOf s) (playedOf s limit)) (waitedOf i (aicOf s) (playedOf s limit)) (entriesOf i (aicOf s) (playedOf s limit))

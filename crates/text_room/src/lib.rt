@@ -68,6 +68,9 @@ pub fn field_in(out: &mut [u8], at: usize, n: u32) -> usize
     ensures { λ r. ⌜ ((now (out .exit), r) ≡ write (now (out .entry), at) (field n)) × ((r ≤ at + 11) × (length (now (out .exit)) ≡ length (now (out .entry)))) ⌝ }
 {
     let next = put_in(out, at, SPACE);
+    if n < 10 {
+        return one_in(out, next, n);
+    }
     decimal_in(out, next, n)
 }
 

@@ -200,6 +200,17 @@ one-more : (t f : Totals) (fs : List Totals) → addedAll t (f ∷ fs) ≡ added
 unfolding addedAll
 one-more t f fs = refl
 
+all-none : (t : Totals) → allIn t [] ≡ true
+unfolding allIn
+all-none t = refl
+
+all-more : (t f : Totals) (fs : List Totals) → (allIn t (f ∷ fs) ≡ true) ↔ ((added t f .refusal ≡ 0) × (allIn (added t f .totals) fs ≡ true))
+unfolding allIn
+all-more t f fs = (
+  (λ a. (is-0 t f (first-in t f fs a), rest-in t f fs a)),
+  (λ h. and-both (ap not (told-0 t f (h .0))) (h .1)),
+)
+
 pub kept : Promises
 kept =
     record {
@@ -212,6 +223,8 @@ kept =
       workedPast = worked-past;
       noneYet = none-yet;
       oneMore = one-more;
+      allNone = all-none;
+      allMore = all-more;
       anyOrder =
           λ t xs ys w m v p a.
           let b = no-order t xs ys w m v p a in (

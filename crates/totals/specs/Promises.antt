@@ -52,6 +52,9 @@ pub record Promises : Type 0 where
   -- traces are put to the totals one after the other
   pub noneYet : (t : Totals) → addedAll t [] ≡ t
   pub oneMore : (t f : Totals) (fs : List Totals) → addedAll t (f ∷ fs) ≡ addedAll (added t f .totals) fs
+  -- and none of them is left out exactly if the first is not, nor one of those after it
+  pub allNone : (t : Totals) → allIn t [] ≡ true
+  pub allMore : (t f : Totals) (fs : List Totals) → (allIn t (f ∷ fs) ≡ true) ↔ ((added t f .refusal ≡ 0) × (allIn (added t f .totals) fs ≡ true))
   -- where no trace is left out, none is in another order, and the same traces give the same figures of every source (02, 11/12)
   pub anyOrder : (t : Totals) (xs ys : List Totals) → Whole t → Within t → EachWhole xs → Reordered xs ys → allIn t xs ≡ true
       → (allIn t ys ≡ true) × ((i : ℕ) → i < 32 → Alike (addedAll t xs) (addedAll t ys) i)

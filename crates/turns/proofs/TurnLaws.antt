@@ -4,6 +4,7 @@ use mathlib.Core.Path.{_≡_, refl, sym, ap, _∙_}
 use mathlib.Core.Bool.{Bool}
 use mathlib.Core.List.{List}
 use native.Mathlib.Omega.{arith}
+use native.Mathlib.Decide.{ℕ-discrete}
 use borrow.Author.Tests.{eq-eqb, ne-eqb}
 use lib.ListN.{length}
 use Rattle.words.proofs.ChoiceLaws.{pick-true, pick-false}
@@ -16,7 +17,7 @@ use Rattle.trace.specs.Steps.{readKind, writeKind, stepAt}
 use Rattle.trace.specs.Trace.{turnAt}
 use Rattle.trace.proofs.TraceLaws.{turn-cases, turn-found}
 use Rattle.turns.specs.declared.Told.{Told}
-use Rattle.turns.specs.Turns.{endedKind, made, stepOf, recordedOf, turnOf}
+use Rattle.turns.specs.Turns.{endedKind, made, stepOf, recordedOf, turnOf, toldOf, Spare}
 
 -- ---- the step of a kind
 
@@ -58,6 +59,32 @@ module _ (told : Bool) (s : List ℕ) (at left : ℕ) where
 
   pub turn-step : at < length s → (left ≡ 0 → ⊥) → stepAt told s at ≡ turnAt told s at left
   turn-step h n = turn-cases (λ (t : Turn). stepAt told s at ≡ t) told s at left (λ i. absurd (omega arith)) (λ i z. absurd (n z)) (λ i z. refl)
+
+-- ---- a turn is told in one way
+
+told-is : (t : Told) {k x y p n f : ℕ} → t .kind ≡ k → t .x ≡ x → t .y ≡ y → t .privilege ≡ p → t .next ≡ n → t .refusal ≡ f
+    → t ≡ record { kind = k; x = x; y = y; privilege = p; next = n; refusal = f }
+told-is t a b c d e g = λ i. record { kind = a i; x = b i; y = c i; privilege = d i; next = e i; refusal = g i }
+
+pub exact : (t : Told) → t .kind < 4 → Spare t → t ≡ toldOf (turnOf t)
+unfolding toldOf
+exact t l s = go (ℕ-discrete (t .kind) 0) (ℕ-discrete (t .kind) 1) (ℕ-discrete (t .kind) 2)
+  where
+    step : (x : Step) → (t .kind ≡ endedKind → ⊥) → stepOf (t .kind) (t .x) (t .y) ≡ x → toldOf (Found (made x (t .privilege)) (t .next)) ≡ toldOf (turnOf t)
+    step x n e = ap toldOf (sym (of-found t n ∙ same-step (t .privilege) (t .next) e))
+
+    go : Dec (t .kind ≡ 0) → Dec (t .kind ≡ 1) → Dec (t .kind ≡ 2) → t ≡ toldOf (turnOf t)
+    go (yes k) r w =
+        let z = s .ended k in
+        told-is t k (z .0) (z .1) (z .2) refl refl ∙ sym (ap toldOf (of-ended t k))
+    go (no n) (yes k) w = told-is t k refl (s .read k) refl refl (s .found n) ∙ step (Read (t .x)) n (step-read _ _ _ k)
+    go (no n) (no r) (yes k) = told-is t k refl refl refl refl (s .found n) ∙ step (Write (t .x) (t .y)) n (step-write _ _ _ k)
+    go (no n) (no r) (no w) =
+        let k : t .kind ≡ 3 = omega arith in
+        told-is t k refl refl refl refl (s .found n) ∙ step (Line (t .x) (t .y)) n (step-line _ _ _ r w)
+
+pub exact-as : (t : Told) (u : Turn) → t .kind < 4 → Spare t → turnOf t ≡ u → t ≡ toldOf u
+exact-as t u l s e = exact t l s ∙ ap toldOf e
 
 -- ---- a turn of a loop, of which t has been told
 

@@ -6,9 +6,9 @@ ghost use lib.ListN.{length};
 ghost use Rattle.numbers.specs.declared.Number.the-variants.{Value};
 ghost use Rattle.numbers.specs.Number.{numberAt};
 ghost use Rattle.trace.specs.declared.Turn.the-variants.{Found, Ended};
-ghost use Rattle.trace.specs.Steps.{stepAt};
+ghost use Rattle.trace.specs.Steps.{readKind, stepAt};
 ghost use Rattle.trace.specs.Trace.{turnAt};
-ghost use Rattle.turns.specs.Turns.{endedKind, unsureKind, made, stepOf, turnOf, privilegeAt};
+ghost use Rattle.turns.specs.Turns.{endedKind, unsureKind, made, stepOf, turnOf, toldOf, Spare, privilegeAt};
 use numbers::Short;
 use numbers::short_at;
 use steps::Step;
@@ -32,7 +32,7 @@ pub const UNSURE: u32 = 4;
 // The turn at a place with `left` of the limit, where it is an end or a step of short numbers; else UNSURE. Where `told`, a privilege
 // number follows each offset.
 pub fn quick(trace: &[u8], at: usize, left: u32, told: bool) -> Told
-    ensures { λ r. ⌜ ((r .kind ≡ unsureKind → ⊥) → turnOf r ≡ turnAt told (now (trace .entry)) at left) × (r .kind < 5) ⌝ }
+    ensures { λ r. ⌜ ((r .kind ≡ unsureKind → ⊥) → turnOf r ≡ turnAt told (now (trace .entry)) at left) × (r .kind < 5) × ((r .kind ≡ unsureKind → ⊥) → r ≡ toldOf (turnAt told (now (trace .entry)) at left)) ⌝ }
 {
     if trace.len() <= at {
         return ended(steps::CARRIED_OUT, trace.len());
@@ -45,15 +45,15 @@ pub fn quick(trace: &[u8], at: usize, left: u32, told: bool) -> Told
 
 // The turn at a place, whatever its numbers are.
 pub fn slow(trace: &[u8], at: usize, left: u32, told: bool) -> Told
-    ensures { λ r. ⌜ (turnOf r ≡ turnAt told (now (trace .entry)) at left) × (r .kind < 4) ⌝ }
+    ensures { λ r. ⌜ (turnOf r ≡ turnAt told (now (trace .entry)) at left) × (r .kind < 4) × (r ≡ toldOf (turnAt told (now (trace .entry)) at left)) ⌝ }
 {
     told_of(trace::turn_at(trace, at, left, told))
 }
 
 // What `quick` has answered of this turn, or the slow answer where that is UNSURE.
 pub fn sure(q: Told, trace: &[u8], at: usize, left: u32, told: bool) -> Told
-    requires { ⌜ ((q .kind ≡ unsureKind → ⊥) → turnOf q ≡ turnAt told (now trace) at left) × (q .kind < 5) ⌝ }
-    ensures { λ r. ⌜ (turnOf r ≡ turnAt told (now (trace .entry)) at left) × (r .kind < 4) ⌝ }
+    requires { ⌜ ((q .kind ≡ unsureKind → ⊥) → turnOf q ≡ turnAt told (now trace) at left) × (q .kind < 5) × ((q .kind ≡ unsureKind → ⊥) → q ≡ toldOf (turnAt told (now trace) at left)) ⌝ }
+    ensures { λ r. ⌜ (turnOf r ≡ turnAt told (now (trace .entry)) at left) × (r .kind < 4) × (r ≡ toldOf (turnAt told (now (trace .entry)) at left)) ⌝ }
 {
     if q.kind == UNSURE {
         return slow(trace, at, left, told);
@@ -64,7 +64,7 @@ pub fn sure(q: Told, trace: &[u8], at: usize, left: u32, told: bool) -> Told
 // The step at a place inside the trace, if its numbers are short.
 fn quick_step(trace: &[u8], at: usize, told: bool) -> Told
     requires { ⌜ at < length (now trace) ⌝ }
-    ensures { λ r. ⌜ ((r .kind ≡ unsureKind → ⊥) → turnOf r ≡ stepAt told (now (trace .entry)) at) × (r .kind < 5) ⌝ }
+    ensures { λ r. ⌜ ((r .kind ≡ unsureKind → ⊥) → turnOf r ≡ stepAt told (now (trace .entry)) at) × (r .kind < 5) × ((r .kind ≡ unsureKind → ⊥) → Spare r) ⌝ }
 {
     let kind = numbers::wide(trace[at]);
     if (0 < kind) & (kind < 4) {
@@ -76,7 +76,7 @@ fn quick_step(trace: &[u8], at: usize, told: bool) -> Told
 // The step of a kind that is one byte at a place, if its other numbers are short.
 fn by_kind(trace: &[u8], at: usize, told: bool, kind: u32) -> Told
     requires { ⌜ (at < length (now trace)) × ((0 < kind) × (kind < 4)) ⌝ }
-    ensures { λ r. ⌜ ((r .kind ≡ unsureKind → ⊥) → numberAt (now (trace .entry)) at ≡ Value kind (at + 1) → turnOf r ≡ stepAt told (now (trace .entry)) at) × (r .kind < 5) ⌝ }
+    ensures { λ r. ⌜ ((r .kind ≡ unsureKind → ⊥) → numberAt (now (trace .entry)) at ≡ Value kind (at + 1) → turnOf r ≡ stepAt told (now (trace .entry)) at) × (r .kind < 5) × ((r .kind ≡ unsureKind → ⊥) → Spare r) ⌝ }
 {
     let a = short_at(trace, at + 1);
     if a.next == 0 {
@@ -111,7 +111,7 @@ fn privilege_at(trace: &[u8], at: usize, told: bool, kind: u32) -> Short
 
 // A turn as numbers.
 fn told_of(t: Turn) -> Told
-    ensures { λ r. ⌜ (turnOf r ≡ t) × (r .kind < 4) ⌝ }
+    ensures { λ r. ⌜ (turnOf r ≡ t) × (r .kind < 4) × Spare r ⌝ }
 {
     match t {
         Turn::Ended(refusal, offset) => ended(refusal, offset),
@@ -124,7 +124,7 @@ fn told_of(t: Turn) -> Told
 
 // A step as numbers.
 fn by_step(x: Step, privilege: u32, next: usize) -> Told
-    ensures { λ r. ⌜ (turnOf r ≡ Found (made x privilege) next) × (r .kind < 4) ⌝ }
+    ensures { λ r. ⌜ (turnOf r ≡ Found (made x privilege) next) × (r .kind < 4) × Spare r ⌝ }
 {
     match x {
         Step::Read(offset) => found(trace::READ, offset, 0, privilege, next),
@@ -135,7 +135,7 @@ fn by_step(x: Step, privilege: u32, next: usize) -> Told
 
 // An end.
 fn ended(refusal: u32, offset: usize) -> Told
-    ensures { λ r. ⌜ (turnOf r ≡ Ended refusal offset) × (r .kind ≡ endedKind) ⌝ }
+    ensures { λ r. ⌜ (turnOf r ≡ Ended refusal offset) × (r .kind ≡ endedKind) × Spare r ⌝ }
 {
     Told {
         kind: ENDED,
@@ -149,7 +149,7 @@ fn ended(refusal: u32, offset: usize) -> Told
 
 // A step of a kind.
 fn found(kind: u32, x: u32, y: u32, privilege: u32, next: usize) -> Told
-    ensures { λ r. ⌜ (0 < kind → turnOf r ≡ Found (made (stepOf kind x y) privilege) next) × (r .kind ≡ kind) ⌝ }
+    ensures { λ r. ⌜ (0 < kind → turnOf r ≡ Found (made (stepOf kind x y) privilege) next) × (r .kind ≡ kind) × (0 < kind → (kind ≡ readKind → y ≡ 0) → Spare r) ⌝ }
 {
     Told {
         kind,

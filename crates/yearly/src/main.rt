@@ -2,8 +2,9 @@
 // source. Where the names cannot be read, or the report cannot be written, one line on standard error says so.
 
 fn main() {
-    let mut names = io::buffer();
-    let r = report_names::take(&mut names);
+    let mut names = room();
+    let first = report_lines::none();
+    let r = report_names::take(&mut names, first);
     if r.failed {
         tell(b"yearly: the names could not be read\n");
         return;
@@ -12,6 +13,11 @@ fn main() {
     if !report_lines::ended(sum) {
         tell(b"yearly: the report could not be written\n");
     }
+}
+
+// A file's name has at most 4,095 bytes; a carriage return and a line feed may stand behind it.
+fn room() -> [u8; 4097] {
+    [0; 4097]
 }
 
 fn tell(what: &[u8]) {

@@ -175,11 +175,11 @@ fn layouts() -> Vec<Sheet> {
     sheets
 }
 
-/// Each slip of each sort of number, at the first source and at the last; a number too many; and slips that come
-/// before another one or before a number beyond its limit.
+/// Each slip of each sort of number, at the first source and at the last, and more digits than 32 or 64 bits hold; a
+/// number too many; and slips that come before another one or before a number beyond its limit.
 fn slips() -> Vec<Sheet> {
     let last = 3 * (SOURCES - 1);
-    let words: [&[u8]; 8] = [
+    let words: [&[u8]; 9] = [
         b"0x",
         b"0X7",
         b"O",
@@ -188,6 +188,7 @@ fn slips() -> Vec<Sheet> {
         b"0x100000000",
         b"18446744073709551616",
         b"0x10000000000000000",
+        b"100000000000000000000000000000000000000000000000000000000000000000",
     ];
     let mut sheets = Vec::new();
     for nth in [0, 1, 2, last, last + 1, last + 2, last + 3, last + 4] {

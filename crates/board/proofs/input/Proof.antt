@@ -6,7 +6,7 @@ use Rattle.board.proofs.input.Tie as tie
 
 returns : tie.Need-returns
 unfolding input
-returns c = rw (c .reply-of .ensures, c .before .one-if .ensures, c .before .before .value-of-input .ensures, c .before .before .before .checked .ensures, c .before .before .before .before .is-there .ensures)
+returns c = rw (c .reply-of .ensures, c .before .one-if .ensures, c .before .before .input-value .ensures, c .before .before .before .checked .ensures, c .before .before .before .before .is-there .ensures)
 
 pub input-spec : {M : Type 1} → statement M
 input-spec =

@@ -18,10 +18,10 @@ use Rattle.cic_held.proofs.free_if.Statement.{statement}
 use Rattle.cic_held.proofs.free_if.Tie as tie
 
 -- there is such a host
-there : (c : tie.Then1) → c .before .args .n < length (c .before .args .host .now)
+there : (c : tie.Then1) → c .before .before .args .n .0 < length (c .before .before .args .host .now)
 there c =
-    let a = c .before .args in
-    ltb-true (a .n) (length (a .host .now)) (and-right (a .t) (ltb (a .n) (length (a .host .now))) (c .if1 .taken))
+    let a = c .before .before .args in
+    ltb-true (a .n .0) (length (a .host .now)) (and-right (a .t) (ltb (a .n .0) (length (a .host .now))) (c .if1 .taken))
 
 mul-host : tie.Need-mul-host
 mul-host c = let l = there c in search needs
@@ -31,8 +31,8 @@ slice-write-host c = there c
 
 returns : tie.Need-returns
 returns c =
-    let a = c .before .args in
-    pick-true _ (and-left (a .t) (ltb (a .n) (length (a .host .now))) (c .if1 .taken))
+    let a = c .before .before .args in
+    pick-true _ (and-left (a .t) (ltb (a .n .0) (length (a .host .now))) (c .if1 .taken))
 
 -- where the test fails, or there is no such host, nothing changes
 unchanged : (xs : List ℕ) (t : Bool) (n : ℕ) → (t && ltb n (length xs)) ≡ false → xs ≡ pick t (set xs n 0) xs
@@ -43,7 +43,7 @@ unchanged xs t n e = pick-cases (λ (ys : List ℕ). xs ≡ ys) t (λ h. past h 
     past h (no l) = sym (set-out xs n 0 (omega (arith, l)))
 
 returns-2 : tie.Need-returns-2
-returns-2 c = let a = c .before .args in unchanged (a .host .now) (a .t) (a .n) (c .if1 .left)
+returns-2 c = let a = c .before .before .args in unchanged (a .host .now) (a .t) (a .n .0) (c .if1 .left)
 
 pub free-if-spec : {M : Type 1} → statement M
-free-if-spec = tie.close (tie.spec mul-host slice-write-host (λ c. search needs) returns returns-2)
+free-if-spec = tie.close (tie.spec (λ c. search needs) mul-host slice-write-host (λ c. search needs) returns returns-2)

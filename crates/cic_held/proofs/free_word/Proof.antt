@@ -45,4 +45,4 @@ returns c =
     upto-done (turn (a .k) (a .v)) (a .host .now) (c .before .loop .j) 32 (c .before .loop .inv .0) (c .loop-test .left) (c .before .loop .inv .1)
 
 pub free-word-spec : {M : Type 1} → statement M
-free-word-spec = tie.close (tie.spec Inv-loop μ-loop (λ c. search needs) loop-holds (λ c κs. search needs) (λ c. search needs) (λ c. search needs) (λ c κs. search needs) (λ c. search needs) (λ c. search needs) loop-again returns)
+free-word-spec = tie.close (tie.spec Inv-loop μ-loop (λ c. search needs) (λ c. search needs) loop-holds (λ c κs. search needs) (λ c. search needs) (λ c. search needs) (λ c κs. search needs) (λ c. search needs) (λ c. search needs) loop-again returns)

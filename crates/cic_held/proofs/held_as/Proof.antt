@@ -16,9 +16,9 @@ returns c = λ small. pick-true _ (eq-eqb (c .before .args .word) _ (c .if1 .tak
 returns-2 : tie.Need-returns-2
 unfolding heldAs
 returns-2 c = λ small.
-    let w = c .before .args .word in
-    let e : w % 65534 + 2 ≡ w + 2 = omega (arith, small (c .if1 .left)) in
-    e ∙ pick-false _ (ne-eqb w _ (c .if1 .left))
+    let w = c .before .before .args .word in
+    let e : w % 65534 + 2 ≡ w + 2 = omega (arith, small (c .before .if1 .left)) in
+    c .held-system .ensures ∙ e ∙ pick-false _ (ne-eqb w _ (c .before .if1 .left))
 
 pub held-as-spec : {M : Type 1} → statement M
-held-as-spec = tie.close (tie.spec returns (λ c. search needs) (λ c. search needs) returns-2)
+held-as-spec = tie.close (tie.spec returns (λ c. search needs) (λ c κs. search needs) returns-2)

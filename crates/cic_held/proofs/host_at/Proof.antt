@@ -7,7 +7,7 @@ use Rattle.cic_held.proofs.host_at.Statement.{statement}
 use Rattle.cic_held.proofs.host_at.Tie as tie
 
 returns : tie.Need-returns
-returns c = sym (List·getD-eq-default (c .before .args .host .now) 0 (omega (arith, c .if1 .taken)))
+returns c = sym (List·getD-eq-default (c .before .before .args .host .now) 0 (omega (arith, c .if1 .taken)))
 
 pub host-at-spec : {M : Type 1} → statement M
-host-at-spec = tie.close (tie.spec returns (λ c. search needs) (λ c. search needs) (λ c. search needs))
+host-at-spec = tie.close (tie.spec (λ c. search needs) returns (λ c. search needs) (λ c. search needs) (λ c. search needs))

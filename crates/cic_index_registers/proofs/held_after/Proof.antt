@@ -9,13 +9,13 @@ use Rattle.cic_index_registers.proofs.held_after.Tie as tie
 
 returns : tie.Need-returns
 unfolding heldAfter
-returns c = c .after-host .ensures ∙ pick-true _ (eq-eqb (c .before .before .args .offset) 0x034 (c .before .if1 .taken))
+returns c = c .after-index .ensures ∙ pick-true _ (eq-eqb (c .before .before .args .offset) 0x034 (c .before .if1 .taken))
 
 returns-2 : tie.Need-returns-2
 unfolding heldAfter
 returns-2 c =
     let o = c .before .before .before .args .offset in
-    c .after-host2 .ensures ∙ pick-true _ (eq-eqb o 0x038 (c .before .if2 .taken)) ∙ pick-false _ (ne-eqb o 0x034 (c .before .before .if1 .left))
+    c .after-index2 .ensures ∙ pick-true _ (eq-eqb o 0x038 (c .before .if2 .taken)) ∙ pick-false _ (ne-eqb o 0x034 (c .before .before .if1 .left))
 
 returns-3 : tie.Need-returns-3
 unfolding heldAfter

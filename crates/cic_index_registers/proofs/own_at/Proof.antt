@@ -3,6 +3,7 @@ use mathlib.Core.Path.{_∙_}
 use borrow.Author.Tests.{eq-eqb, ne-eqb, lt-ltb, le-ltb}
 use Rattle.words.proofs.ChoiceLaws.{pick-true, pick-false}
 use Rattle.cic_index_registers.specs.Registers.{ownAt}
+use borrow.Author.Needs.{needs}
 use Rattle.cic_index_registers.proofs.own_at.Statement.{statement}
 use Rattle.cic_index_registers.proofs.own_at.Tie as tie
 
@@ -57,4 +58,4 @@ returns-6 c =
     ∙ pick-true _ (eq-eqb (a .p .held .choice) 1 (c .before .before .before .before .if1 .left))
 
 pub own-at-spec : {M : Type 1} → statement M
-own-at-spec = tie.close (tie.spec returns returns-2 returns-3 returns-4 returns-5 returns-6)
+own-at-spec = tie.close (tie.spec returns returns-2 returns-3 returns-4 (λ c. search needs) returns-5 returns-6)

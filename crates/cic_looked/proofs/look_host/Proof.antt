@@ -1,16 +1,13 @@
 -- That `look_host` of src/lib.rt keeps its contract.
 use mathlib.Core.Bool.{true, false}
-use mathlib.Core.Path.{_≡_, sym, ap, _∙_}
-use Prim.Native.Nat.{ℕ, _<_}
-use native.Mathlib.Omega.{arith}
+use mathlib.Core.Path.{_≡_, ap, _∙_}
+use Prim.Native.Nat.{ℕ}
 use Rattle.steps.specs.Refusals.{readRefusal}
-use Rattle.cic_record.specs.Kinds.{hostNumber}
 use Rattle.cic_record.proofs.PartsLaws.{sound-counts}
 use Rattle.cic_indices.specs.declared.Found.{Found}
 use Rattle.cic_index_registers.specs.Registers.{hostAccess}
 use Rattle.cic_prioritised.specs.Model.{readAs}
-use Rattle.cic_prioritised.proofs.SoundLaws.{sound-cic, host-below}
-use Rattle.cic_prioritised.proofs.StepLaws.{read-there}
+use Rattle.cic_prioritised.proofs.SoundLaws.{sound-cic}
 use Rattle.cic_looked.specs.Looking.{looked, foundNow, wordsAt}
 use Rattle.cic_looked.proofs.LookLaws.{refused-look, carried-look}
 use borrow.Author.Needs.{needs}
@@ -18,19 +15,12 @@ use Rattle.cic_looked.proofs.look_host.Statement.{statement}
 use Rattle.cic_looked.proofs.look_host.Tie as tie
 
 -- the number that the code reckons is the definition's
-number : (c : tie.After-read-refusal) → c .read-refusal .result ≡ readRefusal true (c .before .before .args .offset) (hostAccess (c .before .before .args .p) (c .before .before .args .h))
+number : (c : tie.After-read-refusal) → c .read-refusal .result ≡ readRefusal true (c .before .before .args .offset) (hostAccess (c .before .before .args .p) (c .before .before .args .h .0))
 number c = c .read-refusal .ensures ∙ ap (readRefusal true (c .before .before .args .offset)) (c .before .host-access .ensures)
 
 returns : tie.Need-returns
 unfolding readAs
 returns c = c .answer .ensures ∙ refused-look (c .before .before .before .before .args .p) _ _ (number (c .before .before)) (c .before .if1 .taken)
-
--- the host is one of the hosts
-there : (c : tie.Else1) → c .before .before .before .args .h < c .before .before .before .args .p .cic .hosts
-there c = let a = c .before .before .before .args in read-there (a .p) (a .offset) (a .h) (sym (number (c .before)) ∙ c .if1 .left)
-
-cast-t9 : tie.Need-cast-t9
-cast-t9 c = let a = c .before .before .before .before in omega (arith, host-below (a .args .p) (a .args .h) (a .pre) (there (c .before)))
 
 look-now-requires : tie.Need-look-now-requires
 look-now-requires c κs =
@@ -43,10 +33,10 @@ unfolding readAs wordsAt
 returns-2 c =
     let a = c .before .before .before .before .before .before .args in
     c .answer2 .ensures
-    ∙ ap (λ (f : Found). looked 0 (f .index) (f .words)) (c .before .look-now .ensures ∙ ap (λ (x : ℕ). foundNow (a .p .cic) x false (hostNumber (a .h))) (c .before .before .host-held .ensures))
+    ∙ ap (λ (f : Found). looked 0 (f .index) (f .words)) (c .before .look-now .ensures ∙ ap (λ (x : ℕ). foundNow (a .p .cic) x false (a .h)) (c .before .before .host-held .ensures))
     ∙ carried-look (a .p) _ _ _ (number (c .before .before .before .before)) (c .before .before .before .if1 .left)
 
 pub look-host-spec : {M : Type 1} → statement M
 look-host-spec =
     tie.close
-    (tie.spec (λ c κs. search needs) (λ c κs. search needs) (λ c κs. search needs) returns (λ c κs. search needs) cast-t9 look-now-requires (λ c κs. search needs) returns-2)
+    (tie.spec (λ c κs. search needs) (λ c κs. search needs) (λ c κs. search needs) returns (λ c κs. search needs) look-now-requires (λ c κs. search needs) returns-2)

@@ -4,7 +4,6 @@ use mathlib.Core.Logic.{_≢_}
 use mathlib.Core.Path.{_≡_, sym, ap, ap₂, subst, _∙_}
 use Prim.Native.Nat.{ℕ, _<_}
 use lib.ListN.{set}
-use native.Mathlib.Omega.{arith}
 use Rattle.steps.specs.Refusals.{readRefusal}
 use Rattle.cic_record.specs.Kinds.{hostNumber}
 use Rattle.cic_record.proofs.PartsLaws.{sound-counts}
@@ -20,7 +19,7 @@ use Rattle.cic_prioritised.proofs.read_host.Statement.{statement}
 use Rattle.cic_prioritised.proofs.read_host.Tie as tie
 
 -- the number that the code reckons is the definition's
-number : (c : tie.After-read-refusal) → c .read-refusal .result ≡ readRefusal true (c .before .before .args .offset) (hostAccess (c .before .before .args .p) (c .before .before .args .h))
+number : (c : tie.After-read-refusal) → c .read-refusal .result ≡ readRefusal true (c .before .before .args .offset) (hostAccess (c .before .before .args .p) (c .before .before .args .h .0))
 number c = c .read-refusal .ensures ∙ ap (readRefusal true (c .before .before .args .offset)) (c .before .host-access .ensures)
 
 returns : tie.Need-returns
@@ -28,11 +27,8 @@ unfolding readAs
 returns c = c .refuse .ensures ∙ refused-by (c .before .before .before .before .args .p) _ (number (c .before .before)) (c .before .if1 .taken)
 
 -- the host is one of the hosts
-there : (c : tie.Else1) → c .before .before .before .args .h < c .before .before .before .args .p .cic .hosts
-there c = let a = c .before .before .before .args in read-there (a .p) (a .offset) (a .h) (sym (number (c .before)) ∙ c .if1 .left)
-
-cast-t11 : tie.Need-cast-t11
-cast-t11 c = let a = c .before .before .before .before in omega (arith, host-below (a .args .p) (a .args .h) (a .pre) (there (c .before)))
+there : (c : tie.Else1) → c .before .before .before .args .h .0 < c .before .before .before .args .p .cic .hosts
+there c = let a = c .before .before .before .args in read-there (a .p) (a .offset) (a .h .0) (sym (number (c .before)) ∙ c .if1 .left)
 
 index-word-requires : tie.Need-index-word-requires
 index-word-requires c κs =
@@ -40,17 +36,17 @@ index-word-requires c κs =
     let n = sound-counts (a .args .p .cic) (sound-cic (a .args .p) (a .pre)) in
     (n .systems .1, n .channels .1)
 
-word : (c : tie.After-index-word) → c .index-word .result ≡ hostWord (c .before .before .before .before .before .args .p) (c .before .before .before .before .before .args .h)
+word : (c : tie.After-index-word) → c .index-word .result ≡ hostWord (c .before .before .before .before .before .args .p) (c .before .before .before .before .before .args .h .0)
 word c =
     let a = c .before .before .before .before .before .args in
-    c .index-word .ensures ∙ ap (λ (x : ℕ). indexRead x (indexOf (a .p .cic) false (hostNumber (a .h)))) (c .before .host-held .ensures)
+    c .index-word .ensures ∙ ap (λ (x : ℕ). indexRead x (indexOf (a .p .cic) false (a .h))) (c .before .host-held .ensures)
 
 returns-2 : tie.Need-returns-2
 unfolding readAs
 returns-2 c =
     let a = c .before .before .before .before .before .before .before .before in
     let p = a .args .p in
-    let h = a .args .h in
+    let h = a .args .h .0 in
     let w = word (c .before .before .before) in
     let below = host-below p h (a .pre) (there (c .before .before .before .before .before)) in
     let small = subst (λ (w : ℕ). w ≢ noneWord → w < 65534) (sym w) (word-small (p .cic) _ false (hostNumber h) (sound-cic p (a .pre)) (host-small p h (a .pre) below)) in
@@ -59,4 +55,4 @@ returns-2 c =
     (c .before .hold-host .ensures ∙ ap (λ (x : ℕ). withHosts (p .held) (set (p .held .host) h x)) (c .before .before .hold-after .ensures small ∙ ap (holdAfter p) w)) w)
 
 pub read-host-spec : {M : Type 1} → statement M
-read-host-spec = tie.close (tie.spec (λ c κs. search needs) (λ c κs. search needs) (λ c κs. search needs) returns (λ c κs. search needs) cast-t11 index-word-requires (λ c κs. search needs) (λ c κs. search needs) (λ c κs. search needs) returns-2)
+read-host-spec = tie.close (tie.spec (λ c κs. search needs) (λ c κs. search needs) (λ c κs. search needs) returns (λ c κs. search needs) index-word-requires (λ c κs. search needs) (λ c κs. search needs) (λ c κs. search needs) returns-2)

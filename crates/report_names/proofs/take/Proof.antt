@@ -1,12 +1,18 @@
 -- That `take` of src/lib.rt keeps its contract.
+use Prim.Native.Nat.{_+_}
 use mathlib.Core.Path.{sym}
 use lib.Seq.{length-take-le}
+use Rattle.report_traces.proofs.PutLaws.{put-then}
 use borrow.Author.Needs.{needs}
 use Rattle.report_names.proofs.take.Statement.{statement}
 use Rattle.report_names.proofs.take.Tie as tie
 
 slice-aggregate-pass : tie.Need-slice-aggregate-pass
-slice-aggregate-pass c = sym (length-take-le _ _ (c .before .before .before .before .before .all-names .ensures))
+slice-aggregate-pass c = sym (length-take-le _ _ (c .before .before .before .before .before .all-names .ensures .0))
+
+returns : tie.Need-returns
+returns c = let a = c .before .before .before .before .before .before .all-names .ensures .1 in
+    (a .0 + _, put-then (a .1) (c .pass .ensures))
 
 pub take-spec : {M : Type 1} → statement M
 take-spec =
@@ -17,4 +23,4 @@ take-spec =
     slice-aggregate-pass
     (λ c κs. search needs)
     (λ c. search needs)
-    (λ c. search needs))
+    returns)

@@ -3,6 +3,7 @@ use Prim.Native.Nat.{_+_}
 use mathlib.Core.Path.{sym}
 use native.Mathlib.Omega.{arith}
 use lib.Seq.{length-take-le}
+use Rattle.report_names.proofs.NameLaws.{lines-room}
 use borrow.Author.Needs.{needs}
 use Rattle.report_names.proofs.turn.Statement.{statement}
 use Rattle.report_names.proofs.turn.Tie as tie
@@ -14,7 +15,13 @@ sub-settle : tie.Need-sub-settle
 sub-settle c =
     let l = c .before .before .before .before .before .before in
     let f = l .before .before .before .before .before in
-    omega (arith, l .lines .ensures, length-take-le (f .before .before .before .before .args .s .held + f .fill .result .bytes) (f .fill .last .0) (f .fill .ensures))
+    omega (arith, l .lines .ensures .0, length-take-le (f .before .before .before .before .args .s .held + f .fill .result .bytes) (f .fill .last .0) (f .fill .ensures))
+
+returns : tie.Need-returns
+returns c = let l = c .before .before .before .before .before .before .before in
+    let f = l .before .before .before .before .before in
+    let n = f .before .before .before .before .args .s .held + f .fill .result .bytes in
+    (c .settle .ensures .0, lines-room _ _ (omega (arith, length-take-le n (f .fill .last .0) (f .fill .ensures), f .fill .ensures)) (l .lines .ensures .1) (c .settle .ensures .1))
 
 pub turn-spec : {M : Type 1} → statement M
 turn-spec =
@@ -29,4 +36,4 @@ turn-spec =
     sub-settle
     (λ c κs. search needs)
     (λ c. search needs)
-    (λ c. search needs))
+    returns)

@@ -3,14 +3,17 @@ use Prim.Native.Nat.{ℕ, _+_, _*_, _≤_, _<_, _-_, _^_}
 use mathlib.Core.Path.{_≡_, refl}
 use native.Mathlib.Omega.{arith}
 use lib.ListN.{length, getD, drop}
-use Rattle.tables.proofs.NumberLaws.{digit-small, times-small, worth-turn, digits-fault, digits-more, digits-done}
+use Rattle.tables.proofs.NumberLaws.{digit-small, times-small, capped-small, worth-turn, digits-fault, digits-more, digits-done}
 use Rattle.tables.specs.Number.{digit, worthFrom}
+use Rattle.tables.specs.Passes.{capped}
 use borrow.Author.Needs.{needs}
 use Rattle.tables.proofs.read_digits.Statement.{statement}
 use Rattle.tables.proofs.read_digits.Tie as tie
 
 abbrev Inv-loop : tie.InvT-loop
-Inv-loop digits base worth₀ k₀ worth k = (k ≤ length digits) × (worth < 2 ^ 32) × (worthFrom base worth (drop k digits) ≡ worthFrom base 0 digits) × ((j : ℕ) → j < k → digit (getD digits j 0) < base)
+Inv-loop digits base worth₀ k₀ worth k =
+    (k ≤ length digits) × (worth ≤ 2 ^ 32) × (capped (worthFrom base worth (drop k digits)) ≡ capped (worthFrom base 0 digits))
+    × ((j : ℕ) → j < k → digit (getD digits j 0) < base)
 
 abbrev μ-loop : tie.MeasureT-loop
 μ-loop digits base worth₀ k₀ worth k = length digits - k
@@ -18,29 +21,31 @@ abbrev μ-loop : tie.MeasureT-loop
 loop-holds : tie.Need-loop-holds Inv-loop μ-loop
 loop-holds c = (search needs, search needs, refl, λ j l. absurd (search needs))
 
-mul-worth : tie.Need-mul-worth Inv-loop μ-loop
-mul-worth c = omega (arith, times-small _ _ (c .before .before .before .before .before .pre .1) (c .before .before .before .loop .inv .1))
-
-add-worth : tie.Need-add-worth Inv-loop μ-loop
-add-worth c =
-    let l = c .before .before .before in
-    omega (arith, times-small _ _ (l .before .before .pre .1) (l .loop .inv .1), c .digit-of .ensures, digit-small (getD (l .before .before .args .digits .now) (l .loop .k) 0))
-
 returns : tie.Need-returns Inv-loop μ-loop
 returns c =
     let l = c .before .before .before .before in
-    let a = l .before .before in
-    digits-fault (a .args .base) (l .loop .worth) _ (l .loop .k) (a .args .digits .now) (a .pre .0) (search needs) (c .before .digit-of .ensures) (l .loop .inv .2) (c .if1 .taken)
+    digits-fault (l .before .before .args .base) (c .before .digit-of .result) (l .loop .k) _ (search needs) (c .before .digit-of .ensures) (c .if1 .taken)
+
+mul-capped-at : tie.Need-mul-capped-at Inv-loop μ-loop
+mul-capped-at c =
+    let l = c .before .before .before .before in
+    omega (arith, times-small _ _ (l .before .before .pre .1) (l .loop .inv .1))
+
+add-capped-at : tie.Need-add-capped-at Inv-loop μ-loop
+add-capped-at c =
+    let l = c .before .before .before .before in
+    omega (arith, times-small _ _ (l .before .before .pre .1) (l .loop .inv .1), c .before .digit-of .ensures, digit-small (getD (l .before .before .args .digits .now) (l .loop .k) 0))
 
 loop-again : tie.Need-loop-again Inv-loop μ-loop
 loop-again c =
-    let l = c .before .before .before .before in
+    let l = c .before .before .before .before .before in
     let a = l .before .before in
-    let m = digits-more (a .args .base) (c .before .digit-of .result) (a .args .base * l .loop .worth + c .before .digit-of .result) (l .loop .k) (a .args .digits .now) (c .before .digit-of .ensures) (c .if1 .left) (l .loop .inv .3) in
-    (search needs, m .0, worth-turn (a .args .base) (l .loop .worth) _ (l .loop .k) (a .args .digits .now) _ (search needs) (c .before .digit-of .ensures) (l .loop .inv .2), m .1)
-
-cast-t16 : tie.Need-cast-t16 Inv-loop μ-loop
-cast-t16 c = omega (arith, c .before .loop .inv .1)
+    let d = c .before .before .digit-of in (
+      search needs,
+      omega (arith, c .capped-at .ensures, capped-small (a .args .base * l .loop .worth + d .result)),
+      worth-turn (a .args .base) (l .loop .worth) (d .result) _ (l .loop .k) (a .args .digits .now) _ (a .pre .0) (search needs) (d .ensures) (c .capped-at .ensures) (l .loop .inv .2),
+      digits-more (a .args .base) (d .result) (l .loop .k) (a .args .digits .now) (d .ensures) (search needs) (l .loop .inv .3),
+    )
 
 returns-2 : tie.Need-returns-2 Inv-loop μ-loop
 returns-2 c =
@@ -57,12 +62,12 @@ read-digits-spec =
     loop-holds
     (λ c. search needs)
     (λ c κs. search needs)
-    mul-worth
-    (λ c. search needs)
-    add-worth
     returns
+    mul-capped-at
+    (λ c. search needs)
+    add-capped-at
+    (λ c κs. search needs)
     (λ c. search needs)
     (λ c. search needs)
     loop-again
-    cast-t16
     returns-2)

@@ -4,18 +4,18 @@ use mathlib.Core.Path.{_≡_, refl, sym, ap, _∙_}
 use mathlib.Core.Bool.{true}
 use native.Mathlib.Omega.{arith}
 use borrow.Author.Tests.{not-true, not-false}
-use Rattle.tables.proofs.ReadLaws.{next-is, numbers-more, fault-is, valueOf, values-are}
+use Rattle.tables.proofs.ReadLaws.{next-is, next-fits, fits-taken, entered-capped, Fit, fit-more, fault-is, valueOf, values-are}
 use Rattle.tables.proofs.SeekLaws.{past-within, started-at}
 use Rattle.tables.proofs.FillLaws.{room-none, room-more}
 use Rattle.tables.specs.Passes.{room}
-use Rattle.tables.specs.Typed.{pastNth, nthStart}
-use Rattle.tables.specs.Promises.{Numbers}
+use Rattle.tables.specs.Reading.{fits, entered}
+use Rattle.tables.specs.Typed.{pastNth, nthStart, nthTyped}
 use borrow.Author.Needs.{needs}
 use Rattle.tables.proofs.read_values.Statement.{statement}
 use Rattle.tables.proofs.read_values.Tie as tie
 
 abbrev Inv-loop : tie.InvT-loop
-Inv-loop text values₀ past₀ n₀ values past n = (n ≤ 98) × (past ≡ pastNth text n) × (values ≡ room 98 n (valueOf text)) × Numbers text n
+Inv-loop text values₀ past₀ n₀ values past n = (n ≤ 98) × (past ≡ pastNth text n) × (values ≡ room 98 n (valueOf text)) × Fit text n
 
 abbrev μ-loop : tie.MeasureT-loop
 μ-loop text values₀ past₀ n₀ values past n = 98 - n
@@ -31,15 +31,17 @@ returns c =
     let l = c .before .before .before .before .loop in
     let s = c .before .before .before .before .before .before .args .text .now in
     let x = next-is s (l .past) (l .n) _ (l .inv .1) (c .before .before .read-next .ensures) in
-    values-are s (l .n) _ (l .values) (fault-is s (l .n) (l .inv .0) (l .inv .3) (λ m. sym (x .taken) ∙ not-true _ (c .if1 .taken))) (x .start) (l .inv .2)
+    let f = c .before .fits-at .ensures ∙ next-fits s (l .n) _ x in
+    values-are s (l .n) _ (l .values) (fault-is s (l .n) (l .inv .0) (l .inv .3) (λ m. sym f ∙ not-true _ (c .if1 .taken))) (x .start) (l .inv .2)
 
 loop-again : tie.Need-loop-again Inv-loop μ-loop
 loop-again c =
-    let l = c .before .before .before .before .loop in
-    let s = c .before .before .before .before .before .before .args .text .now in
-    let x = next-is s (l .past) (l .n) _ (l .inv .1) (c .before .before .read-next .ensures) in
-    let t : c .before .before .read-next .result .taken ≡ true = not-false _ (c .if1 .left) in
-    (search needs, x .past, room-more 98 (l .n) (valueOf s) (l .values) _ (search needs) (l .inv .2) (x .value t), numbers-more s (l .n) (l .inv .3) (sym (x .taken) ∙ t))
+    let l = c .before .before .before .before .before .loop in
+    let s = c .before .before .before .before .before .before .before .args .text .now in
+    let x = next-is s (l .past) (l .n) _ (l .inv .1) (c .before .before .before .read-next .ensures) in
+    let f : fits (l .n) (nthTyped s (l .n)) ≡ true = sym (c .before .before .fits-at .ensures ∙ next-fits s (l .n) _ x) ∙ not-false _ (c .before .if1 .left) in
+    let v = c .entered-as .ensures ∙ ap entered (x .value (x .taken ∙ fits-taken (l .n) _ _ f)) ∙ entered-capped _ in
+    (search needs, x .past, room-more 98 (l .n) (valueOf s) (l .values) _ (search needs) (l .inv .2) v, fit-more s (l .n) (l .inv .3) f)
 
 returns-2 : tie.Need-returns-2 Inv-loop μ-loop
 returns-2 c =
@@ -56,7 +58,9 @@ read-values-spec =
     μ-loop
     loop-holds
     read-next-requires
+    (λ c κs. search needs)
     returns
+    (λ c κs. search needs)
     (λ c. search needs)
     (λ c. search needs)
     (λ c. search needs)

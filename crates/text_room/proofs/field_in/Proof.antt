@@ -1,5 +1,7 @@
 -- That `field_in` of src/lib.rt keeps its contract.
-use Rattle.text.specs.Text.{field}
+use mathlib.Core.Path.{ap, _∙_}
+use Rattle.text.specs.Text.{field, write}
+use Rattle.text.proofs.DigitLaws.{last-single}
 use Rattle.text.proofs.WriteLaws.{and-then}
 use Rattle.text_room.proofs.RoomLaws.{field-stands}
 use borrow.Author.Needs.{needs}
@@ -10,7 +12,15 @@ returns : tie.Need-returns
 unfolding field
 returns c =
     let d = c .before .before in
-    let p = d .before .before .before .before in
+    let i = d .before .before in
+    let p = i .before .before .before in
+    field-stands _ _ _ (search needs) (and-then _ _ _ (p .put-in .ensures .0) (d .one-in .ensures .0 ∙ ap (write _) (last-single 19 _ (i .if1 .taken))))
+
+returns-2 : tie.Need-returns-2
+unfolding field
+returns-2 c =
+    let d = c .before .before in
+    let p = d .before .before .before .before .before in
     field-stands _ _ _ (search needs) (and-then _ _ _ (p .put-in .ensures .0) (d .decimal-in .ensures .0))
 
 pub field-in-spec : {M : Type 1} → statement M
@@ -20,4 +30,7 @@ field-in-spec =
     (λ c κs. search needs)
     (λ c κs. search needs)
     (λ c. search needs)
-    returns)
+    returns
+    (λ c κs. search needs)
+    (λ c. search needs)
+    returns-2)

@@ -1,5 +1,5 @@
 -- That `by_kind` of src/lib.rt keeps its contract.
-use mathlib.Core.Path.{sym, _∙_}
+use mathlib.Core.Path.{refl, sym, _∙_}
 use native.Mathlib.Omega.{arith}
 use Rattle.turns.proofs.StepLaws.{read-found, other-found}
 use borrow.Author.Needs.{needs}
@@ -7,10 +7,10 @@ use Rattle.turns.proofs.by_kind.Statement.{statement}
 use Rattle.turns.proofs.by_kind.Tie as tie
 
 returns : tie.Need-returns
-returns c = (λ n e. absurd (n (c .unsure .ensures)), omega (arith, c .unsure .ensures))
+returns c = (λ n e. absurd (n (c .unsure .ensures)), omega (arith, c .unsure .ensures), λ n. absurd (n (c .unsure .ensures)))
 
 returns-2 : tie.Need-returns-2
-returns-2 c = (λ n e. absurd (n (c .unsure2 .ensures)), omega (arith, c .unsure2 .ensures))
+returns-2 c = (λ n e. absurd (n (c .unsure2 .ensures)), omega (arith, c .unsure2 .ensures), λ n. absurd (n (c .unsure2 .ensures)))
 
 returns-3 : tie.Need-returns-3
 returns-3 c =
@@ -21,10 +21,11 @@ returns-3 c =
           c .found .ensures .0 (b .pre .1 .0)
           ∙ sym (read-found _ _ _ _ _ _ _ _ (b .args .told) (c .before .if3 .taken) e (a .short-at .ensures (p .before .if1 .left)) (p .privilege-at .ensures (c .before .before .if2 .left))),
       omega (arith, c .found .ensures .1, b .pre .1 .1),
+      λ n. c .found .ensures .2 (b .pre .1 .0) (λ e. refl),
     )
 
 returns-4 : tie.Need-returns-4
-returns-4 c = (λ n e. absurd (n (c .unsure3 .ensures)), omega (arith, c .unsure3 .ensures))
+returns-4 c = (λ n e. absurd (n (c .unsure3 .ensures)), omega (arith, c .unsure3 .ensures), λ n. absurd (n (c .unsure3 .ensures)))
 
 returns-5 : tie.Need-returns-5
 returns-5 c =
@@ -38,6 +39,7 @@ returns-5 c =
           (other-found _ _ _ _ _ _ _ _ _ _ (b .args .told) (y .before .if3 .left) (b .pre .1 .0) (b .pre .1 .1) e (a .short-at .ensures (p .before .if1 .left))
           (p .privilege-at .ensures (y .before .before .if2 .left)) (y .short-at2 .ensures (c .before .if4 .left))),
       omega (arith, c .found2 .ensures .1, b .pre .1 .1),
+      λ n. c .found2 .ensures .2 (b .pre .1 .0) (λ e. absurd (y .before .if3 .left e)),
     )
 
 pub by-kind-spec : {M : Type 1} → statement M

@@ -5,7 +5,8 @@ use Rattle.turns.proofs.ended.Statement.{statement}
 use Rattle.turns.proofs.ended.Tie as tie
 
 returns : tie.Need-returns
-returns c = (of-ended _ refl, refl)
+returns c =
+    (of-ended _ refl, refl, record { ended = λ e. (refl, refl, refl); read = λ e. refl; found = λ n. absurd (n refl) })
 
 pub ended-spec : {M : Type 1} → statement M
 ended-spec = tie.close (tie.spec returns)

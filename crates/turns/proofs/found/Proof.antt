@@ -6,7 +6,8 @@ use Rattle.turns.proofs.found.Statement.{statement}
 use Rattle.turns.proofs.found.Tie as tie
 
 returns : tie.Need-returns
-returns c = (λ l. of-found _ (λ e. omega arith), refl)
+returns c =
+    (λ l. of-found _ (λ e. omega arith), refl, λ l z. record { ended = λ e. absurd (omega arith); read = z; found = λ n. refl })
 
 pub found-spec : {M : Type 1} → statement M
 found-spec = tie.close (tie.spec returns)

@@ -23,10 +23,11 @@ returns c =
           c .by-kind .ensures .0 n
           (one-byte (b .args .trace .now) (b .args .at) k (w .wide .ensures .0) (b .pre) (omega (arith, ltb-true k 4 (and-right (ltb 0 k) (ltb k 4) (c .before .if1 .taken))))),
       c .by-kind .ensures .1,
+      c .by-kind .ensures .2,
     )
 
 returns-2 : tie.Need-returns-2
-returns-2 c = (λ n. absurd (n (c .unsure .ensures)), omega (arith, c .unsure .ensures))
+returns-2 c = (λ n. absurd (n (c .unsure .ensures)), omega (arith, c .unsure .ensures), λ n. absurd (n (c .unsure .ensures)))
 
 pub quick-step-spec : {M : Type 1} → statement M
 quick-step-spec = tie.close (tie.spec (λ c. search needs) (λ c κs. search needs) by-kind-requires returns (λ c κs. search needs) returns-2)

@@ -1,2 +1,0 @@
--- Laws of what commands do to a record.
-pub mod CommandLaws

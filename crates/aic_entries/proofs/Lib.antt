@@ -1,2 +1,0 @@
--- Laws about the open entries on parts.
-pub mod EntryLaws

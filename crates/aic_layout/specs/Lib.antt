@@ -1,0 +1,3 @@
+-- The AT91 controller laid out in a room.
+pub mod Promises
+pub mod Room

@@ -1,2 +1,0 @@
--- Words of sources in a table, one of whose bits is put anew.
-pub mod Table

@@ -1,2 +1,0 @@
--- Laws of reads and writes of IVR in protect mode.
-pub mod ProtectLaws

@@ -1,3 +1,0 @@
--- Laws about steps on parts.
-pub mod AccessLaws
-pub mod ReplyLaws

@@ -1,2 +1,0 @@
--- Laws about the vector reads on parts.
-pub mod VectorLaws

@@ -1,2 +1,0 @@
--- Laws about the banks and lines of an AINTC on parts.
-pub mod BankLaws

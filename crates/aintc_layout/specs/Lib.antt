@@ -1,0 +1,3 @@
+-- The AINTC laid out in a room.
+pub mod Promises
+pub mod Room

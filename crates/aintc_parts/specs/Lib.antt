@@ -1,2 +1,0 @@
--- What a step on the parts of an AINTC answers.
-pub mod Reply

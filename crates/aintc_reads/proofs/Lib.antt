@@ -1,2 +1,0 @@
--- Laws about the reads of an AINTC on parts.
-pub mod ReadLaws

@@ -1,0 +1,3 @@
+-- CoreInterrupt laid out in a room.
+pub mod Promises
+pub mod Room

@@ -1,0 +1,2 @@
+-- The laws of names that are taken one by one.
+pub mod NameLaws
