@@ -16,8 +16,8 @@ use Rattle.aintc_registers.specs.declared.Answer.{Answer}
 use Rattle.aintc_registers.specs.Effects.{writtenAt, moved}
 use Rattle.aintc_registers.specs.Map.{protection, access}
 use Rattle.aintc_registers.specs.Registers.{answered, refused, readAt}
-use Rattle.aintc.specs.declared.Begun.{Begun}
-use Rattle.aintc.specs.declared.Signals.{Signals}
+use Rattle.aintc_steps.specs.declared.Begun.{Begun}
+use Rattle.aintc_steps.specs.declared.Signals.{Signals}
 
 -- there is no configuration number (02, 2/12)
 abbrev pub within : ℕ → ℕ → Bool
