@@ -109,8 +109,14 @@ pub fn first_of(room: &Room, w0: u32, w1: u32, w2: u32, w3: u32) -> u32
     let mut k: usize = 7;
     while 0 < k {
         k = k - 1;
-        let x = drop_bits(low, pair(room[BITS + (4 * k + 0)], room[BITS + (4 * k + 1)]));
-        let y = drop_bits(high, pair(room[BITS + (4 * k + 2)], room[BITS + (4 * k + 3)]));
+        let x = drop_bits(
+            low,
+            pair(room[BITS + (4 * k + 0)], room[BITS + (4 * k + 1)]),
+        );
+        let y = drop_bits(
+            high,
+            pair(room[BITS + (4 * k + 2)], room[BITS + (4 * k + 3)]),
+        );
         let some = holds(x, y);
         low = choose(some, x, low);
         high = choose(some, y, high);

@@ -1,6 +1,5 @@
 -- That `drop_bits` of src/search.rt keeps its contract.
 use Rattle.aintc_room.proofs.SearchLaws.{dropped}
-use borrow.Author.Needs.{needs}
 use Rattle.aintc_room.proofs.search.drop_bits.Statement.{statement}
 use Rattle.aintc_room.proofs.search.drop_bits.Tie as tie
 

@@ -3,7 +3,6 @@ use mathlib.Core.Path.{refl}
 use native.Mathlib.Omega.{arith}
 use lib.Count.{leading-top}
 use Rattle.aintc_room.proofs.SearchLaws.{highest-bit}
-use borrow.Author.Needs.{needs}
 use Rattle.aintc_room.proofs.search.highest.Statement.{statement}
 use Rattle.aintc_room.proofs.search.highest.Tie as tie
 

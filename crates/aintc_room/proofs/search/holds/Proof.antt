@@ -1,6 +1,5 @@
 -- That `holds` of src/search.rt keeps its contract.
 use Rattle.aintc_room.proofs.SearchLaws.{any-halves}
-use borrow.Author.Needs.{needs}
 use Rattle.aintc_room.proofs.search.holds.Statement.{statement}
 use Rattle.aintc_room.proofs.search.holds.Tie as tie
 
