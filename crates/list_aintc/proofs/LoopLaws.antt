@@ -12,8 +12,8 @@ use Rattle.turns.proofs.TurnLaws.{finds, found-here}
 use Rattle.rooms.specs.Reply.{Reply}
 use Rattle.aintc_record.specs.declared.Aintc.{Aintc}
 use Rattle.aintc_choice.specs.Settle.{sound}
-use Rattle.aintc.specs.declared.Signals.{Signals}
-use Rattle.aintc.specs.Model.{step, outputs}
+use Rattle.aintc_steps.specs.declared.Signals.{Signals}
+use Rattle.aintc_steps.specs.Model.{step, outputs}
 use Rattle.aintc_layout.specs.Room.{Laid}
 use Rattle.aintc_room.specs.Reply.{Done}
 use Rattle.machine_record.specs.declared.Columns.{Columns}

@@ -11,7 +11,7 @@ use Rattle.turns.proofs.TurnLaws.{finds, found-here}
 use Rattle.rooms.specs.Reply.{Reply}
 use Rattle.aintc_record.specs.declared.Aintc.{Aintc}
 use Rattle.aintc_choice.specs.Settle.{sound}
-use Rattle.aintc.specs.Model.{step}
+use Rattle.aintc_steps.specs.Model.{step}
 use Rattle.aintc_layout.specs.Room.{Laid}
 use Rattle.aintc_room.specs.Reply.{Done}
 use Rattle.machine_record.specs.Machine.{ofAintc}
