@@ -4,7 +4,7 @@ use mathlib.Core.Bool.{Bool, true, false, _&&_, _||_, and-false}
 use mathlib.Core.List.{List}
 use mathlib.Core.Logic.{_⊎_, inl, inr, ⊎-elim}
 use Prim.Native.Nat.{ℕ, _+_, _-_, _*_, _/_, _%_, _<_, _≤_}
-use native.Mathlib.Decide.{decLt}
+use native.Mathlib.Decide.{decLt, ℕ-discrete}
 use native.Mathlib.Omega.{arith}
 use borrow.Author.Tests.{eq-eqb, ne-eqb, lt-ltb, le-ltb, ltb-true, eqb-true, leb-true, leb-false, lt-leb, le-leb, ltb-false}
 use lib.Dec.{eqb, ltb, leb}
@@ -196,6 +196,15 @@ module _ (c : Cic) (o : ℕ) where
         → readReply (pick (ltb (32 * k) n) (answeredReply w) (refusedReply absent)) ≡ readReply (readIn c (registerAt o))
     unfolding accessOf valueOf
     told-clear e p q = group (32 * k) n (c .systems) w _ e p q refl
+
+    -- the enables stand in both groups
+    pub told-either : 0x200 ≤ o → o < 0x400 → o % 4 ≡ 0 → (o / 128 ≡ 4 → ⊥) → (o / 128 ≡ 5 → ⊥) → k ≡ o / 4 % 32 → n ≡ c .systems → w ≡ wordRead (c .systems) (c .enable) k
+        → readReply (pick (ltb (32 * k) n) (answeredReply w) (refusedReply absent)) ≡ readReply (readIn c (registerAt o))
+    told-either l m a x y e p q = go (ℕ-discrete (o / 128) 6)
+      where
+        go : Dec (o / 128 ≡ 6) → readReply (pick (ltb (32 * k) n) (answeredReply w) (refusedReply absent)) ≡ readReply (readIn c (registerAt o))
+        go (yes z) = told-set (at-set o a z ∙ ap EnableSet (sym e)) p q
+        go (no z) = told-clear (at-clear o a (omega (arith, l, m, x, y, z)) ∙ ap EnableClear (sym e)) p q
 
     pub told-channels : registerAt o ≡ ChannelMap k → n ≡ c .systems → w ≡ mapRead (c .systems) (c .channel) k
         → readReply (pick (ltb (4 * k) n) (answeredReply w) (refusedReply absent)) ≡ readReply (readIn c (registerAt o))

@@ -1,3 +1,9 @@
+-- That `write` of src/lib.rt keeps its contract.
+use mathlib.Core.Path.{refl}
+use Prim.Native.Nat.{_-_}
+use Rattle.cic_layout.proofs.Promises as of-layout
+use Rattle.cic_steps.proofs.StepLaws.{misaligned-write, aligned-write}
+use Rattle.cic_room.proofs.ReplyLaws.{done-as}
 use borrow.Author.Needs.{needs}
 use Rattle.cic_room.proofs.write.Statement.{statement}
 use Rattle.cic_room.proofs.write.Tie as tie
@@ -6,21 +12,17 @@ use Rattle.cic_room.proofs.write.Lts as lts
 use Rattle.cic_room.proofs.writes.write_at.Reads as write-at-reads
 use Rattle.rooms.proofs.refuse.Reads as refuse-reads
 
--- src/lib.rt:39:9
 refuse-requires : tie.Need-refuse-requires
 refuse-requires c κs = search needs
 
--- src/lib.rt:39:9
 returns : tie.Need-returns
-returns c = search needs
+returns c = let a = c .before .before .args in λ f d ok h. done-as (misaligned-write d (a .offset) (a .value) (c .before .if1 .taken)) (h, c .refuse .ensures)
 
--- src/lib.rt:41:5
 write-at-requires : tie.Need-write-at-requires
 write-at-requires c κs = search needs
 
--- src/lib.rt:35:1
 returns-2 : tie.Need-returns-2
-returns-2 c = search needs
+returns-2 c = let a = c .before .before .before .args in λ f d ok h. done-as (aligned-write d (a .offset) (a .value) (c .before .before .if1 .left) refl) (c .write-at .ensures f d ok h)
 
 pub write-spec : {M : Type 1} → statement M
 write-spec = tie.close (tie.spec refuse-requires returns write-at-requires returns-2)

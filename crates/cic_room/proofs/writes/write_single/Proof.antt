@@ -1,3 +1,15 @@
+-- That `write_single` of src/writes.rt keeps its contract.
+use mathlib.Core.Path.{refl, sym, ap, _∙_}
+use Prim.Native.Nat.{_-_}
+use native.Mathlib.Omega.{arith}
+use Rattle.steps.specs.Refusals.{absent, unwritable}
+use Rattle.cic_layout.specs.declared.Register.{Register}
+use Rattle.cic_layout.specs.declared.Register.the-variants.{Nothing, Revision}
+use Rattle.cic_layout.specs.Map.{registerAt, accessOf}
+use Rattle.cic_layout.proofs.Promises as of-layout
+use Rattle.cic_registers.specs.Registers.{valueRefusal, writtenTo}
+use Rattle.cic_registers.specs.Access.{writeIn}
+use Rattle.cic_room.proofs.ReplyLaws.{done-as, stopped}
 use borrow.Author.Needs.{needs}
 use Rattle.cic_room.proofs.writes.write_single.Statement.{statement}
 use Rattle.cic_room.proofs.writes.write_single.Tie as tie
@@ -9,77 +21,72 @@ use Rattle.cic_room.proofs.writes.index_status.Reads as index-status-re
 use Rattle.cic_room.proofs.writes.write_global.Reads as write-global-reads
 use Rattle.rooms.proofs.refuse.Reads as refuse-reads
 
--- src/writes.rt:184:18
 refuse-requires : tie.Need-refuse-requires
 refuse-requires c κs = search needs
 
--- src/writes.rt:185:18
 write-global-requires : tie.Need-write-global-requires
 write-global-requires c κs = search needs
 
--- src/writes.rt:186:18
 index-status-requires : tie.Need-index-status-requires
 index-status-requires c κs = search needs
 
--- src/writes.rt:187:18
 index-status-requires-2 : tie.Need-index-status-requires-2
 index-status-requires-2 c κs = search needs
 
--- src/writes.rt:188:18
 index-enable-requires : tie.Need-index-enable-requires
 index-enable-requires c κs = search needs
 
--- src/writes.rt:189:18
 index-enable-requires-2 : tie.Need-index-enable-requires-2
 index-enable-requires-2 c κs = search needs
 
--- src/writes.rt:190:18
 index-host-requires : tie.Need-index-host-requires
 index-host-requires c κs = search needs
 
--- src/writes.rt:191:18
 index-host-requires-2 : tie.Need-index-host-requires-2
 index-host-requires-2 c κs = search needs
 
--- src/writes.rt:192:14
 refuse-requires-2 : tie.Need-refuse-requires-2
 refuse-requires-2 c κs = search needs
 
--- src/writes.rt:179:1
 returns : tie.Need-returns
-returns c = search needs
+unfolding accessOf valueRefusal writtenTo
+returns c = let a = c .before .before in λ f d ok h. done-as (ap (λ (z : Register). writeIn d z (a .args .v)) (sym (ap registerAt (c .before .match .keys1) ∙ of-layout.kept .revision))) (stopped d (writtenTo d Revision (a .args .v)) unwritable unwritable refl (λ q. absurd (omega (arith, q))) (c .refuse .ensures) h)
 
--- src/writes.rt:179:1
 returns-2 : tie.Need-returns-2
-returns-2 c = search needs
+unfolding accessOf valueRefusal writtenTo
+returns-2 c = let a = c .before .before .before in λ f d ok h. done-as (ap (λ (z : Register). writeIn d z (a .args .v)) (sym (ap registerAt (c .before .before .match .keys2) ∙ of-layout.kept .globalEnable))) (c .write-global .ensures f d ok h)
 
--- src/writes.rt:179:1
 returns-3 : tie.Need-returns-3
-returns-3 c = search needs
+unfolding accessOf valueRefusal writtenTo
+returns-3 c = let a = c .before .before .before in λ f d ok h. done-as (ap (λ (z : Register). writeIn d z (a .args .v)) (sym (ap registerAt (c .before .before .match .keys3) ∙ of-layout.kept .statusIndex .0))) (c .index-status .ensures f d ok h)
 
--- src/writes.rt:179:1
 returns-4 : tie.Need-returns-4
-returns-4 c = search needs
+unfolding accessOf valueRefusal writtenTo
+returns-4 c = let a = c .before .before .before in λ f d ok h. done-as (ap (λ (z : Register). writeIn d z (a .args .v)) (sym (ap registerAt (c .before .before .match .keys4) ∙ of-layout.kept .statusIndex .1))) (c .index-status2 .ensures f d ok h)
 
--- src/writes.rt:179:1
 returns-5 : tie.Need-returns-5
-returns-5 c = search needs
+unfolding accessOf valueRefusal writtenTo
+returns-5 c = let a = c .before .before .before in λ f d ok h. done-as (ap (λ (z : Register). writeIn d z (a .args .v)) (sym (ap registerAt (c .before .before .match .keys5) ∙ of-layout.kept .enableIndex .0))) (c .index-enable .ensures f d ok h)
 
--- src/writes.rt:179:1
 returns-6 : tie.Need-returns-6
-returns-6 c = search needs
+unfolding accessOf valueRefusal writtenTo
+returns-6 c = let a = c .before .before .before in λ f d ok h. done-as (ap (λ (z : Register). writeIn d z (a .args .v)) (sym (ap registerAt (c .before .before .match .keys6) ∙ of-layout.kept .enableIndex .1))) (c .index-enable2 .ensures f d ok h)
 
--- src/writes.rt:179:1
 returns-7 : tie.Need-returns-7
-returns-7 c = search needs
+unfolding accessOf valueRefusal writtenTo
+returns-7 c = let a = c .before .before .before in λ f d ok h. done-as (ap (λ (z : Register). writeIn d z (a .args .v)) (sym (ap registerAt (c .before .before .match .keys7) ∙ of-layout.kept .hostIndex .0))) (c .index-host .ensures f d ok h)
 
--- src/writes.rt:179:1
 returns-8 : tie.Need-returns-8
-returns-8 c = search needs
+unfolding accessOf valueRefusal writtenTo
+returns-8 c = let a = c .before .before .before in λ f d ok h. done-as (ap (λ (z : Register). writeIn d z (a .args .v)) (sym (ap registerAt (c .before .before .match .keys8) ∙ of-layout.kept .hostIndex .1))) (c .index-host2 .ensures f d ok h)
 
--- src/writes.rt:179:1
 returns-9 : tie.Need-returns-9
-returns-9 c = search needs
+unfolding accessOf valueRefusal writtenTo
+returns-9 c =
+    let a = c .before .before in
+    let r = c .before .match .rest in
+    λ f d ok h.
+    done-as (ap (λ (z : Register). writeIn d z (a .args .v)) (sym (of-layout.kept .noOther (a .args .offset) (a .pre) (r .0 .0 .0 .0 .0 .0 .0 .1) (r .0 .0 .0 .0 .0 .0 .1) (r .0 .0 .0 .0 .0 .1) (r .0 .0 .0 .0 .1) (r .0 .0 .0 .1) (r .0 .0 .1) (r .0 .1) (r .1)))) (stopped d (writtenTo d Nothing (a .args .v)) absent absent refl (λ q. absurd (omega (arith, q))) (c .refuse2 .ensures) h)
 
 pub write-single-spec : {M : Type 1} → statement M
 write-single-spec =
