@@ -38,7 +38,8 @@ Room b m =
     (b .pending + m ≤ 4294967295) × (b .edges + m ≤ 4294967295) × (b .commands + m ≤ 4294967295) × (b .turns + m ≤ 4294967295) × (b .closed + m ≤ 4294967295)
 
 due-is : (n a : ℕ) (t : Aic) → n + 32 ≤ 4294967295 → plus n a (wordOf 32 (dues t)) ≡ n + sumOver (bit a) (due t)
-due-is n a t l = rw (due-sum a t) (sym (capped-is (n + sumOver (bit a) (due t)) (omega (arith, l, due-sum a t, count-le 32 (bit (both a (wordOf 32 (dues t))))))))
+due-is n a t l =
+    rw (due-sum a t) (sym (capped-is (n + sumOver (bit a) (due t)) (omega (arith, l, due-sum a t, count-le 32 (bit (both a (wordOf 32 (dues t))))))))
 
 grown-is : (w n : ℕ) (b : Bound) (s : Aic) (x : Step) → Room b 32 → grownBy w b n (marksOf s x) (step s x .aic) ≡ grown w b n s x
 grown-is w n b s x (p, e, c, t, h) =

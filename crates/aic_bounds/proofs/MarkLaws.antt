@@ -20,7 +20,7 @@ use Rattle.aic_runs.specs.Counted.{carried, closes, rises, edges, commands, rew
 use Rattle.aic_turns.specs.Turns.{closesOf, closesHot}
 use Rattle.aic_bounds.specs.declared.Marks.{Marks}
 use Rattle.aic_bounds.specs.Bounds.{sets, lifts}
-use Rattle.aic_bounds.specs.Following.{marksOf, noMarks, hotLast, writeMarks, lineMarks}
+use Rattle.aic_bounds.specs.Following.{marksOf, noMarks, hotLast, writeMarks, lineMarks, marksBy}
 
 -- no source
 nobody : wordOf 32 (λ i. false) ≡ 0
@@ -64,8 +64,10 @@ module _ (s : Aic) (k l : ℕ) where
         nobody,
         alone-word k (carried s (Line k l) && turns s k (eqb l 1) && edge s k) (λ i. carried s (Line k l) && eqb i k && turns s k (eqb l 1) && edge s i)
             (own (carried s (Line k l)) (turns s k (eqb l 1)) (edge s k)) (λ i d. other i (carried s (Line k l)) (turns s k (eqb l 1)) (edge s i) d),
-        alone-word k (carried s (Line k l) && turns s k (eqb l 1) && not (edge s k)) (λ i. carried s (Line k l) && eqb i k && turns s k (eqb l 1) && not (edge s i))
-            (own (carried s (Line k l)) (turns s k (eqb l 1)) (not (edge s k))) (λ i d. other i (carried s (Line k l)) (turns s k (eqb l 1)) (not (edge s i)) d),
+        alone-word k (carried s (Line k l) && turns s k (eqb l 1) && not (edge s k))
+            (λ i. carried s (Line k l) && eqb i k && turns s k (eqb l 1) && not (edge s i))
+            (own (carried s (Line k l)) (turns s k (eqb l 1)) (not (edge s k)))
+            (λ i d. other i (carried s (Line k l)) (turns s k (eqb l 1)) (not (edge s i)) d),
       )
     where
       own : (c t e : Bool) → (c && eqb k k && t && e) ≡ (c && t && e)
@@ -78,7 +80,8 @@ module _ (s : Aic) (k l : ℕ) where
 
 -- ---- of the functions
 
-pub hot-from : (s : Aic) (j : ℕ) {e a : Bool} {r : ℕ} → e ≡ edge s j → a ≡ active s j → r ≡ withBit 0 j (not (eqb j 0) && not e && a) → r ≡ wordOf 32 (hotLast s j)
+pub hot-from : (s : Aic) (j : ℕ) {e a : Bool} {r : ℕ} → e ≡ edge s j → a ≡ active s j → r ≡ withBit 0 j (not (eqb j 0) && not e && a)
+    → r ≡ wordOf 32 (hotLast s j)
 unfolding hotLast
 hot-from s j ee ea er =
     er ∙ rw (ee, ea) (alone-word j (not (eqb j 0) && not (edge s j) && active s j) (λ i. not (eqb i 0) && eqb j i && not (edge s i) && active s i) own other)
@@ -93,20 +96,32 @@ hot-from s j ee ea er =
     other : (i : ℕ) → (i ≡ j → ⊥) → (not (eqb i 0) && eqb j i && not (edge s i) && active s i) ≡ false
     other i d = rw (ne-eqb j i (λ q. d (sym q)), and-false (not (eqb i 0)))
 
-pub write-from : (c : Bool) (s : Aic) (o v : ℕ) {e m a j h b : ℕ} → e ≡ edgeWord s → m ≡ both v e → a ≡ pick (c && eqb o iscr) m 0 → j ≡ sourceAt s (s .depth - 1)
+pub write-from : (c : Bool) (s : Aic) (o v : ℕ) {e m a j h b : ℕ} → e ≡ edgeWord s → m ≡ both v e → a ≡ pick (c && eqb o iscr) m 0
+    → j ≡ sourceAt s (s .depth - 1)
     → h ≡ wordOf 32 (hotLast s j) → b ≡ pick (c && eqb o eoicr && not (eqb (s .depth) 0)) h 0
     → record { edges = 0; commands = a; turns = 0; closed = b; rewrote = c && (ltb o svr || eqb o ffer || eqb o ffdr) } ≡ writeMarks c s o v
 write-from c s o v ee em ea ej eh eb = rw (eb, eh, ej, ea, em, ee)
 
-pub line-from : (c : Bool) (s : Aic) (k l : ℕ) {t e : Bool} {a b : ℕ} → t ≡ turns s k (eqb l 1) → e ≡ edge s k → a ≡ withBit 0 k (c && t && e) → b ≡ withBit 0 k (c && t && not e)
+pub line-from : (c : Bool) (s : Aic) (k l : ℕ) {t e : Bool} {a b : ℕ} → t ≡ turns s k (eqb l 1) → e ≡ edge s k → a ≡ withBit 0 k (c && t && e)
+    → b ≡ withBit 0 k (c && t && not e)
     → record { edges = a; commands = 0; turns = b; closed = 0; rewrote = false } ≡ lineMarks c s k l
 line-from c s k l et ee ea eb = rw (eb, ea, ee, et)
 
-pub read-step : (s : Aic) (x : Step) (o : ℕ) {r : Marks} → x ≡ Read o → r ≡ noMarks → r ≡ marksOf s x
-read-step s x o e q = q ∙ read-marks s o ∙ sym (ap (marksOf s) e)
+pub marks-is : (s : Aic) (x : Step) → marksBy (carried s x) s x ≡ marksOf s x
+unfolding marksBy
+marks-is s (Read o) = read-marks s o
+marks-is s (Write o v) = write-marks s o v
+marks-is s (Line k l) = line-marks s k l
 
-pub write-step : (s : Aic) (x : Step) (o v : ℕ) {c : Bool} {r : Marks} → x ≡ Write o v → c ≡ carried s x → r ≡ writeMarks c s o v → r ≡ marksOf s x
-write-step s x o v e p q = q ∙ ap (λ (t : Bool). writeMarks t s o v) (p ∙ ap (carried s) e) ∙ write-marks s o v ∙ sym (ap (marksOf s) e)
+module _ (c : Bool) (s : Aic) (x : Step) {r : Marks} where
+  pub read-step : (o : ℕ) → x ≡ Read o → r ≡ noMarks → r ≡ marksBy c s x
+  unfolding marksBy
+  read-step o e q = q ∙ sym (ap (marksBy c s) e)
 
-pub line-step : (s : Aic) (x : Step) (k l : ℕ) {c : Bool} {r : Marks} → x ≡ Line k l → c ≡ carried s x → r ≡ lineMarks c s k l → r ≡ marksOf s x
-line-step s x k l e p q = q ∙ ap (λ (t : Bool). lineMarks t s k l) (p ∙ ap (carried s) e) ∙ line-marks s k l ∙ sym (ap (marksOf s) e)
+  pub write-step : (o v : ℕ) → x ≡ Write o v → r ≡ writeMarks c s o v → r ≡ marksBy c s x
+  unfolding marksBy
+  write-step o v e q = q ∙ sym (ap (marksBy c s) e)
+
+  pub line-step : (k l : ℕ) → x ≡ Line k l → r ≡ lineMarks c s k l → r ≡ marksBy c s x
+  unfolding marksBy
+  line-step k l e q = q ∙ sym (ap (marksBy c s) e)

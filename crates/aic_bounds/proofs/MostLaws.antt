@@ -78,7 +78,8 @@ most-append k n b m s [] ys = ap (λ (i : ℕ). mostOver k i b m s ys) (omega ar
 most-append k n b m s (x ∷ xs) ys =
     most-append k (n + 1) (boundAfter k (n + 1) b s x) _ (step s x .aic) xs ys
     ∙ ap (λ (i : ℕ). mostOver k i (boundOver k (n + 1) (boundAfter k (n + 1) b s x) (step s x .aic) xs)
-    (mostOver k (n + 1) (boundAfter k (n + 1) b s x) (pick (ltb (boundAfter k (n + 1) b s x .wait) 2) (withBound m b) m) (step s x .aic) xs) (run (step s x .aic) xs) ys) (omega arith)
+    (mostOver k (n + 1) (boundAfter k (n + 1) b s x) (pick (ltb (boundAfter k (n + 1) b s x .wait) 2) (withBound m b) m) (step s x .aic) xs)
+    (run (step s x .aic) xs) ys) (omega arith)
 
 no-less : (c : Bool) (m r : ℕ) → m ≤ r → m ≤ pick c r m
 unfolding pick
@@ -111,7 +112,8 @@ module _ (k n : ℕ) (b : Bound) (m : ℕ) (u : Aic) (l : 2 ≤ b .wait) (z : b 
   ended-most (y ∷ ys) e =
       let w = after-wait k (n + 1) b u y in
       let d : boundAfter k (n + 1) b u y .wait < 2 = omega (arith, w, ends-none (b .wait) (waiting (step u y .aic) k) (startsOf k u y) (startsOther k u y) e) in
-      let c : pick (ltb (boundAfter k (n + 1) b u y .wait) 2) (withBound m b) m ≡ withBound m b = rw (lt-ltb (boundAfter k (n + 1) b u y .wait) 2 d) (unfold pick in refl) in
+      let c : pick (ltb (boundAfter k (n + 1) b u y .wait) 2) (withBound m b) m ≡ withBound m b =
+      rw (lt-ltb (boundAfter k (n + 1) b u y .wait) 2 d) (unfold pick in refl) in
       omega (
         arith,
         c,
@@ -143,7 +145,8 @@ most-largest s k xs before x during after w h = rw (w .parts ∙ sym (append-ass
         let c = terms-of k s before x during (w .waits) in
         let e = outset-run s before x during in
         rw (over-append k 0 (idle 0) s (before ++ (x ∷ during)) after, most-append k 0 (idle 0) 0 s (before ++ (x ∷ during)) after)
-        (ended-most k (0 + length (before ++ (x ∷ during))) (boundOver k 0 (idle 0) s (before ++ (x ∷ during))) (mostOver k 0 (idle 0) 0 s (before ++ (x ∷ during))) (run s (before ++ (x ∷ during)))
+        (ended-most k (0 + length (before ++ (x ∷ during))) (boundOver k 0 (idle 0) s (before ++ (x ∷ during)))
+        (mostOver k 0 (idle 0) 0 s (before ++ (x ∷ during))) (run s (before ++ (x ∷ during)))
         (omega (arith, c .started)) (c .holds .1 h) after (rw e (w .ends))))
 
 -- ---- some wait has it
@@ -158,7 +161,8 @@ whole-now : (s : Aic) (k : ℕ) (ps rest : List Step) → 2 ≤ boundAt k s ps .
     → Found s k (ps ++ rest) (boundOf (boundAt k s ps))
 whole-now s k ps rest l z e = go (wait-where s k ps l)
   where
-    go : (before : List Step) × (x : Step) × (during : List Step) × (ps ≡ before ++ (x ∷ during)) × Waiting k s before x during → Found s k (ps ++ rest) (boundOf (boundAt k s ps))
+    go : (before : List Step) × (x : Step) × (during : List Step) × (ps ≡ before ++ (x ∷ during)) × Waiting k s before x during
+        → Found s k (ps ++ rest) (boundOf (boundAt k s ps))
     go (before, x, during, q, w) = (
       before,
       x,
@@ -179,7 +183,8 @@ pub record At (s : Aic) (k : ℕ) (ps : List Step) (n : ℕ) (b : Bound) (u : Ai
   pub reached : u ≡ run s ps
   pub passed : n ≡ length ps
 
-at-next : (s : Aic) (k : ℕ) (ps : List Step) (n : ℕ) (b : Bound) (u : Aic) (x : Step) → At s k ps n b u → At s k (ps ++ (x ∷ [])) (n + 1) (boundAfter k (n + 1) b u x) (step u x .aic)
+at-next : (s : Aic) (k : ℕ) (ps : List Step) (n : ℕ) (b : Bound) (u : Aic) (x : Step) → At s k ps n b u
+    → At s k (ps ++ (x ∷ [])) (n + 1) (boundAfter k (n + 1) b u x) (step u x .aic)
 unfolding boundAt boundOver
 at-next s k ps n b u x a =
     record {
@@ -211,7 +216,8 @@ module _ (s : Aic) (k : ℕ) (ps : List Step) (n : ℕ) (b : Bound) (u : Aic) (m
 
   found-here : r ≡ pick (ltb (b' .wait) 2) (withBound m b) m → (r ≡ m) ⊎ Found s k (ps ++ (x ∷ xs)) r
   found-here =
-      pick-cases (λ q. r ≡ q → (r ≡ m) ⊎ Found s k (ps ++ (x ∷ xs)) r) (ltb (b' .wait) 2) (λ c q. sort (ltb-true (b' .wait) 2 c) (with-which m r b q)) (λ c q. inl q)
+      pick-cases (λ q. r ≡ q → (r ≡ m) ⊎ Found s k (ps ++ (x ∷ xs)) r) (ltb (b' .wait) 2) (λ c q. sort (ltb-true (b' .wait) 2 c) (with-which m r b q))
+      (λ c q. inl q)
     where
       sort : b' .wait < 2 → (r ≡ m) ⊎ ((bounds b ≡ true) × (r ≡ boundOf b)) → (r ≡ m) ⊎ Found s k (ps ++ (x ∷ xs)) r
       sort l (inl e) = inl e
@@ -227,7 +233,8 @@ unfolding mostOver
 found s k ps n b u m [] a = inl refl
 found s k ps n b u m (x ∷ xs) a =
     found-more s k ps n b u m x xs a _
-    (found s k (ps ++ (x ∷ [])) (n + 1) (boundAfter k (n + 1) b u x) (step u x .aic) (pick (ltb (boundAfter k (n + 1) b u x .wait) 2) (withBound m b) m) xs (at-next s k ps n b u x a))
+    (found s k (ps ++ (x ∷ [])) (n + 1) (boundAfter k (n + 1) b u x) (step u x .aic)
+    (pick (ltb (boundAfter k (n + 1) b u x .wait) 2) (withBound m b) m) xs (at-next s k ps n b u x a))
 
 at-first : (s : Aic) (k : ℕ) → At s k [] 0 (idle 0) s
 unfolding boundAt boundOver run
@@ -237,11 +244,14 @@ pub most-reached : (s : Aic) (k : ℕ) (xs : List Step) → (boundedOf k s xs �
 unfolding boundedOf
 most-reached s k xs = go (with-which (mostOver k 0 (idle 0) 0 s xs) (withBound (mostOver k 0 (idle 0) 0 s xs) (boundAt k s xs)) (boundAt k s xs) refl)
   where
-    before : (r : ℕ) → r ≡ mostOver k 0 (idle 0) 0 s xs → (mostOver k 0 (idle 0) 0 s xs ≡ 0) ⊎ Found s k xs (mostOver k 0 (idle 0) 0 s xs) → (r ≡ 0) ⊎ Found s k xs r
+    before : (r : ℕ) → r ≡ mostOver k 0 (idle 0) 0 s xs → (mostOver k 0 (idle 0) 0 s xs ≡ 0) ⊎ Found s k xs (mostOver k 0 (idle 0) 0 s xs)
+        → (r ≡ 0) ⊎ Found s k xs r
     before r e f = rw e f
 
     last : (r : ℕ) → bounds (boundAt k s xs) ≡ true → r ≡ boundOf (boundAt k s xs) → Found s k xs r
-    last r e q = let o = bounds-is (boundAt k s xs) e in rw q (subst (λ (l : List Step). Found s k l (boundOf (boundAt k s xs))) (append-nil xs) (whole-now s k xs [] (o .0) (o .1) tt))
+    last r e q =
+        let o = bounds-is (boundAt k s xs) e in
+        rw q (subst (λ (l : List Step). Found s k l (boundOf (boundAt k s xs))) (append-nil xs) (whole-now s k xs [] (o .0) (o .1) tt))
 
     go : (withBound (mostOver k 0 (idle 0) 0 s xs) (boundAt k s xs) ≡ mostOver k 0 (idle 0) 0 s xs)
         ⊎ ((bounds (boundAt k s xs) ≡ true) × (withBound (mostOver k 0 (idle 0) 0 s xs) (boundAt k s xs) ≡ boundOf (boundAt k s xs)))
@@ -306,14 +316,23 @@ seen-step : (k n : ℕ) (b : Bound) (s : Aic) (x : Step) (m o : ℕ) → o ≤ w
     → max o (waitAfter k (b .wait) s x - 2) ≤ withBound (pick (ltb (boundAfter k n b s x .wait) 2) (withBound m b) m) (boundAfter k n b s x)
 seen-step k n b s x m o h =
     step-cases k n b s x
-    (λ r. r .broke ≡ 0 → (2 ≤ r .wait → r .wait ≤ boundOf r + 2) → max o (waitAfter k (b .wait) s x - 2) ≤ withBound (pick (ltb (r .wait) 2) (withBound m b) m) r)
+    (λ r. r .broke ≡ 0 → (2 ≤ r .wait → r .wait ≤ boundOf r + 2)
+    → max o (waitAfter k (b .wait) s x - 2) ≤ withBound (pick (ltb (r .wait) 2) (withBound m b) m) r)
     (λ l z q. rw (lt-ltb (waitAfter k (b .wait) s x) 2 l) (unfold pick in (omega (arith, l, h, with-more (withBound m b) (idle (waitAfter k (b .wait) s x))))))
     (λ e v z q. rw e (unfold pick in (omega (arith, h, with-none m b (omega (arith, v)), with-more m (fresh k (step s x .aic))))))
     (λ l v z q. rw (le-ltb (waitAfter k (b .wait) s x) 2 l)
-    (unfold pick in (omega (arith, h, with-most m b, with-bound m (grown (waitAfter k (b .wait) s x) b n s x) l z, grown-more (waitAfter k (b .wait) s x) n b s x, q l))))
+    (unfold pick in (omega (
+      arith,
+      h,
+      with-most m b,
+      with-bound m (grown (waitAfter k (b .wait) s x) b n s x) l z,
+      grown-more (waitAfter k (b .wait) s x) n b s x,
+      q l,
+    ))))
 
 module _ (s : Aic) (k : ℕ) (h : Shaped s) (small : k < 32) where
-  seen-run : (ps : List Step) (n : ℕ) (b : Bound) (u : Aic) (m o : ℕ) (xs : List Step) → At s k ps n b u → b .broke ≡ 0 → o ≤ withBound m b → unboundedOver k n b u xs ≡ 0
+  seen-run : (ps : List Step) (n : ℕ) (b : Bound) (u : Aic) (m o : ℕ) (xs : List Step) → At s k ps n b u → b .broke ≡ 0 → o ≤ withBound m b
+      → unboundedOver k n b u xs ≡ 0
       → waitMost k (b .wait) o u xs ≤ withBound (mostOver k n b m u xs) (boundOver k n b u xs)
   unfolding waitMost mostOver boundOver unboundedOver loses
   seen-run ps n b u m o [] a z l q = l

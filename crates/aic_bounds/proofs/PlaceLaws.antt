@@ -45,7 +45,8 @@ pub begun-more : (s : Aic) (k : ℕ) (xs : List Step) (x : Step) → standing k 
     → waitsBegun k s (xs ++ (x ∷ [])) ≡ waitsBegun k s xs + 1
 unfolding waitsBegun
 begun-more s k xs x l m =
-    begun-next k 0 s xs x ∙ ap (λ (c : Bool). begunOver k 0 s xs + one c) (and-both (lt-ltb (standing k 0 s xs) 2 l) (lt-ltb 1 (standing k 0 s (xs ++ (x ∷ []))) m))
+    begun-next k 0 s xs x ∙ ap (λ (c : Bool). begunOver k 0 s xs + one c)
+    (and-both (lt-ltb (standing k 0 s xs) 2 l) (lt-ltb 1 (standing k 0 s (xs ++ (x ∷ []))) m))
 
 pub begun-same : (s : Aic) (k : ℕ) (xs : List Step) (x : Step) → (2 ≤ standing k 0 s xs) ⊎ (standing k 0 s (xs ++ (x ∷ [])) < 2)
     → waitsBegun k s (xs ++ (x ∷ [])) ≡ waitsBegun k s xs
@@ -145,7 +146,8 @@ lost-from k n b u (x ∷ xs) h =
     go true e z r = unfold pick in (lost-here k n b u x xs e)
     go false {f} e z r = later z r
       where
-        later : pick false (n + 1) f ≢ 0 → (f ≢ 0 → Lost k (n + 1) (boundAfter k (n + 1) b u x) (step u x .aic) xs f) → Lost k n b u (x ∷ xs) (pick false (n + 1) f)
+        later : pick false (n + 1) f ≢ 0 → (f ≢ 0 → Lost k (n + 1) (boundAfter k (n + 1) b u x) (step u x .aic) xs f)
+            → Lost k n b u (x ∷ xs) (pick false (n + 1) f)
         later z r = unfold pick in (lost-later k n b u x xs f e (r z))
 
 pub first-is : (s : Aic) (k : ℕ) (xs : List Step) → firstUnbounded k s xs ≢ 0 → LostAt k s xs (firstUnbounded k s xs)

@@ -19,6 +19,7 @@ use Rattle.aic_bounds.proofs.TermLaws.{terms-of, bounded-of, same-figur
 use Rattle.aic_bounds.proofs.MostLaws.{most-reached, most-largest, fewer-unbounded, seen-bounded}
 use Rattle.aic_bounds.proofs.PlaceLaws.{begun-none, begun-more, begun-same, unended-one, unended-none, first-none, first-is}
 use Rattle.aic_bounds.proofs.FollowLaws.{followed-at}
+use Rattle.aic_bounds.proofs.MarkLaws.{marks-is}
 use Rattle.aic_bounds.proofs.Worked.{worked}
 
 sets-is : (i : ℕ) (s : Aic) (x : Step) → (sets i s x ≡ true) ↔ ((commands i s x ≡ true) × (edge s i ≡ true))
@@ -42,6 +43,7 @@ kept =
       waitWhere = wait-where;
       terms = λ s k before x during w. terms-of k s before x during w;
       brokeAt = broke-at;
+      marksIs = marks-is;
       followedIs = followed-at;
       bounded = λ s k before x during h l w q. bounded-of k s before x during h l w q;
       everyMoment = every-moment;

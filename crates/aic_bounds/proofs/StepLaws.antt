@@ -58,7 +58,8 @@ module _ (k n : ℕ) (b : Bound) (s : Aic) (x : Step) where
   abbrev w' : ℕ
   w' = waitAfter k (b .wait) s x
 
-  pub step-cases : (P : Bound → Type 0) → (w' < 2 → P (idle w')) → (w' ≡ 2 → b .wait ≡ 0 → P (fresh k (step s x .aic))) → (2 ≤ w' → 2 ≤ b .wait → P (grown w' b n s x))
+  pub step-cases : (P : Bound → Type 0) → (w' < 2 → P (idle w')) → (w' ≡ 2 → b .wait ≡ 0 → P (fresh k (step s x .aic)))
+      → (2 ≤ w' → 2 ≤ b .wait → P (grown w' b n s x))
       → P (boundAfter k n b s x)
   unfolding boundNext
   step-cases P f g h =
@@ -83,7 +84,8 @@ module _ (k n : ℕ) (b : Bound) (s : Aic) (x : Step) where
   unfolding boundNext pick
   after-begun e z = rw (le-ltb w' 2 (omega (arith, e)), lt-ltb (b .wait) 2 (omega (arith, z)))
 
-  pub after-on : 2 ≤ b .wait → waiting (step s x .aic) k ≡ true → startsOf k s x ≡ false → boundAfter k n b s x ≡ grown (b .wait + one (startsOther k s x)) b n s x
+  pub after-on : 2 ≤ b .wait → waiting (step s x .aic) k ≡ true → startsOf k s x ≡ false
+      → boundAfter k n b s x ≡ grown (b .wait + one (startsOther k s x)) b n s x
   unfolding boundNext pick
   after-on l e f =
       let q : w' ≡ b .wait + one (startsOther k s x) = next-on (b .wait) (waiting (step s x .aic) k) (startsOf k s x) (startsOther k s x) l e f in

@@ -34,7 +34,8 @@ use Rattle.aic_bounds.specs.declared.Bound.{Bound}
 use Rattle.aic_bounds.specs.Bounds.{sets, lifts, idle, rivalsOf, enabledOf, fresh, grown, boundOver, boundAt, boundOf}
 use Rattle.aic_bounds.specs.Promises.{outset, Waiting, fromOn, Terms}
 use Rattle.aic_bounds.proofs.StepLaws.{next-back, after-begun, after-on, over-wait, over-append}
-use Rattle.aic_bounds.proofs.SumLaws.{over-same, over-tests, over-within, since, dueLeft, since-count, since-one, since-due, since-now, due-now, allowed-parts}
+use Rattle.aic_bounds.proofs.SumLaws.{over-same, over-tests, over-within, since, dueLeft}
+use Rattle.aic_bounds.proofs.SumLaws.{since-count, since-one, since-due, since-now, due-now, allowed-parts}
 
 -- ---- a stretch in which it waits, and is not started
 
@@ -53,11 +54,13 @@ pub record Fit (b : Bound) (s : Aic) : Type 0 where
   pub within : (i : ℕ) → i < 32 → bit (b .on) i ≡ true → bit (b .rivals) i ≡ true
   pub lit : (i : ℕ) → i < 32 → bit (b .rivals) i ≡ true → bit (s .enabled) i ≡ true → bit (b .on) i ≡ true
 
-on-bit : (b : Bound) (t : Aic) (i : ℕ) → i < 32 → bit (either (b .on) (enabledOf (b .rivals) t)) i ≡ (bit (b .on) i || (bit (b .rivals) i && bit (t .enabled) i))
+on-bit : (b : Bound) (t : Aic) (i : ℕ) → i < 32
+    → bit (either (b .on) (enabledOf (b .rivals) t)) i ≡ (bit (b .on) i || (bit (b .rivals) i && bit (t .enabled) i))
 on-bit b t i l = bit-either (b .on) (enabledOf (b .rivals) t) i l ∙ ap (λ (y : Bool). bit (b .on) i || y) (bit-both (b .rivals) (t .enabled) i l)
 
 -- of a rival
-on-rival : (b : Bound) (t : Aic) (i : ℕ) → i < 32 → bit (b .rivals) i ≡ true → bit (either (b .on) (enabledOf (b .rivals) t)) i ≡ (bit (b .on) i || bit (t .enabled) i)
+on-rival : (b : Bound) (t : Aic) (i : ℕ) → i < 32 → bit (b .rivals) i ≡ true
+    → bit (either (b .on) (enabledOf (b .rivals) t)) i ≡ (bit (b .on) i || bit (t .enabled) i)
 on-rival b t i l r = on-bit b t i l ∙ ap (λ (y : Bool). bit (b .on) i || (y && bit (t .enabled) i)) r
 
 fit-fresh : (k : ℕ) (t : Aic) → Fit (fresh k t) t
@@ -292,7 +295,8 @@ module _ (k : ℕ) (s : Aic) (before : List Step) (x : Step) where
         over-within (bit (enabledOf (rivalsOf k t₀) t₀)) (bit (rivalsOf k t₀)) (due t₀) (fit-fresh k t₀ .within),
         over-add (bit (rivalsOf k t₀)) (λ i. pick (bit (enabledOf (rivalsOf k t₀) t₀) i) (due t₀ i) 0)
             (λ i. dueLeft (bit (enabledOf (rivalsOf k t₀) t₀) i) i t₀ during),
-        over-same (bit (rivalsOf k t₀)) (λ i. pick (bit (enabledOf (rivalsOf k t₀) t₀) i) (due t₀ i) 0 + dueLeft (bit (enabledOf (rivalsOf k t₀) t₀) i) i t₀ during)
+        over-same (bit (rivalsOf k t₀))
+            (λ i. pick (bit (enabledOf (rivalsOf k t₀) t₀) i) (due t₀ i) 0 + dueLeft (bit (enabledOf (rivalsOf k t₀) t₀) i) i t₀ during)
             (λ i. onceOn i (λ u ys. due u i) t₀ during) (λ i l r. due-now (bit (enabledOf (rivalsOf k t₀) t₀) i) i t₀ during (on-first i l r)),
         over-tests (bit (rivalsOf k t₀)) (rivalOf t₀ k) (λ i. onceOn i (λ u ys. due u i) t₀ during) rival-bit,
       )
@@ -393,7 +397,8 @@ Where k w s xs =
     (before : List Step) × (x : Step) × (during : List Step) × (xs ≡ before ++ (x ∷ during)) × (standing k w s before ≡ 0)
     × (waitAfter k 0 (run s before) x ≡ 2) × Waits k (outset s before x) during
 
-more-waits : (k : ℕ) (s : Aic) (x : Step) (xs : List Step) → waiting (step s x .aic) k ≡ true → startsOf k s x ≡ false → Waits k (step s x .aic) xs → Waits k s (x ∷ xs)
+more-waits : (k : ℕ) (s : Aic) (x : Step) (xs : List Step) → waiting (step s x .aic) k ≡ true → startsOf k s x ≡ false → Waits k (step s x .aic) xs
+    → Waits k s (x ∷ xs)
 unfolding always count
 more-waits k s x xs a o h = (rw a (h .0), rw o (omega (arith, h .1)))
 
@@ -410,7 +415,8 @@ where-from k w s (x ∷ xs) l = go (where-from k (waitAfter k w s x) (step s x .
     here m h (inl z) a o = inr ([], x, xs, refl, z, begun a o, h)
     here m h (inr g) a o = inl (g, more-waits k s x xs a o h)
 
-    go : ((2 ≤ waitAfter k w s x) × Waits k (step s x .aic) xs) ⊎ Where k (waitAfter k w s x) (step s x .aic) xs → ((2 ≤ w) × Waits k s (x ∷ xs)) ⊎ Where k w s (x ∷ xs)
+    go : ((2 ≤ waitAfter k w s x) × Waits k (step s x .aic) xs) ⊎ Where k (waitAfter k w s x) (step s x .aic) xs
+        → ((2 ≤ w) × Waits k s (x ∷ xs)) ⊎ Where k w s (x ∷ xs)
     go (inl (m, h)) =
         let v = next-back w (waiting (step s x .aic) k) (startsOf k s x) (startsOther k s x) m in
         here m h (v .2) (v .0) (v .1)
@@ -421,7 +427,8 @@ pub wait-where : (s : Aic) (k : ℕ) (xs : List Step) → 2 ≤ boundAt k s xs .
 unfolding boundAt
 wait-where s k xs l = go (where-from k 0 s xs (omega (arith, l, over-wait k 0 (idle 0) s xs)))
   where
-    go : ((2 ≤ 0) × Waits k s xs) ⊎ Where k 0 s xs → (before : List Step) × (x : Step) × (during : List Step) × (xs ≡ before ++ (x ∷ during)) × Waiting k s before x during
+    go : ((2 ≤ 0) × Waits k s xs) ⊎ Where k 0 s xs
+        → (before : List Step) × (x : Step) × (during : List Step) × (xs ≡ before ++ (x ∷ during)) × Waiting k s before x during
     go (inl (m, h)) = absurd (omega (arith, m))
     go (inr f) = (f .0, f .1, f .2, f .3, record { none = f .4; begun = f .5; on = f .6 })
 
@@ -439,7 +446,8 @@ every-moment s k xs h l m z = go (wait-where s k xs m)
 
 -- ---- where it breaks
 
-pub broke-over : (k n : ℕ) (b : Bound) (u : Aic) (ys : List Step) (y : Step) (zs : List Step) → 2 ≤ b .wait → Fit b u → Waits k u (ys ++ (y ∷ zs)) → b .broke ≡ 0
+pub broke-over : (k n : ℕ) (b : Bound) (u : Aic) (ys : List Step) (y : Step) (zs : List Step) → 2 ≤ b .wait → Fit b u → Waits k u (ys ++ (y ∷ zs))
+    → b .broke ≡ 0
     → always steady u ys ≡ true → rewrites (run u ys) y ≡ true → boundOver k n b u (ys ++ (y ∷ zs)) .broke ≡ n + length ys + 1
 unfolding boundOver run always
 broke-over k n b u [] y zs l f h z a q =

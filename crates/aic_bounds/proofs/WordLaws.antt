@@ -67,7 +67,8 @@ held-more s d w j r h o ew ej eh eo er =
 pub held-from : (s : Aic) (w r : ℕ) → w ≡ wordOf 32 (heldAmong s (s .depth)) → r ≡ without w 1 → r ≡ wordOf 32 (held s)
 unfolding without held
 held-from s w r e f =
-    f ∙ rw e (wordOf-same 32 _ (held s) (λ i l. rw (bit-wordOf 32 (heldAmong s (s .depth)) i l, bit-alone 0 i) (swap (heldAmong s (s .depth) i) (not (eqb i 0)))))
+    f ∙ rw e (wordOf-same 32 _ (held s)
+    (λ i l. rw (bit-wordOf 32 (heldAmong s (s .depth)) i l, bit-alone 0 i) (swap (heldAmong s (s .depth) i) (not (eqb i 0)))))
   where
     swap : (a b : Bool) → (a && b) ≡ (b && a)
     swap true true = refl
@@ -77,7 +78,8 @@ held-from s w r e f =
 
 -- ---- dues
 
-pub dues-from : (s : Aic) {p q h f e a r : ℕ} → p ≡ pendingWord s → h ≡ wordOf 32 (held s) → f ≡ without p h → q ≡ pendingWord s → e ≡ edgeWord s → a ≡ both q e → r ≡ either a f
+pub dues-from : (s : Aic) {p q h f e a r : ℕ} → p ≡ pendingWord s → h ≡ wordOf 32 (held s) → f ≡ without p h → q ≡ pendingWord s → e ≡ edgeWord s
+    → a ≡ both q e → r ≡ either a f
     → r ≡ wordOf 32 (dues s)
 unfolding pendingWord edgeWord either both without dues
 dues-from s ep eh ef eq ee ea er = er ∙ rw (ef, ea, ep, eh, eq, ee) (wordOf-same 32 _ (dues s) (λ i l. each i l))
@@ -87,7 +89,8 @@ dues-from s ep eh ef eq ee ea er = er ∙ rw (ef, ea, ep, eh, eq, ee) (wordOf-sa
     spread false e h = refl
 
     each : (i : ℕ) → i < 32
-        → (bit (wordOf 32 (λ k. bit (wordOf 32 (pending s)) k && bit (wordOf 32 (edge s)) k)) i || bit (wordOf 32 (λ k. bit (wordOf 32 (pending s)) k && not (bit (wordOf 32 (held s)) k))) i)
+        → (bit (wordOf 32 (λ k. bit (wordOf 32 (pending s)) k && bit (wordOf 32 (edge s)) k)) i
+        || bit (wordOf 32 (λ k. bit (wordOf 32 (pending s)) k && not (bit (wordOf 32 (held s)) k))) i)
         ≡ (pending s i && (edge s i || not (held s i)))
     each i l =
         rw (

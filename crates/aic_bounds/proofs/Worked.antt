@@ -21,7 +21,8 @@ use Rattle.aic_runs.specs.Runs.{sumOver}
 use Rattle.aic_turns.specs.Turns.{closesOf, closesHot, held, due}
 use Rattle.aic_waits.specs.Figures.{waitNext, standing, waitMost, waitedOf}
 use Rattle.aic_bounds.specs.Bounds.{sets, lifts, boundNext, boundOver, boundAt, boundOf}
-use Rattle.aic_bounds.specs.Over.{bounds, withBound, mostOver, boundedOf, begunOver, waitsBegun, waitsUnended, loses, unboundedOver, waitsUnbounded, firstOver, firstUnbounded}
+use Rattle.aic_bounds.specs.Over.{bounds, withBound, mostOver, boundedOf, begunOver, waitsBegun}
+use Rattle.aic_bounds.specs.Over.{waitsUnended, loses, unboundedOver, waitsUnbounded, firstOver, firstUnbounded}
 use Rattle.aic_bounds.specs.Worked as Runs
 
 pub record Worked : Type 0 where

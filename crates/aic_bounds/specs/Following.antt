@@ -7,6 +7,7 @@ use Rattle.words.specs.Choice.{pick}
 use Rattle.words.specs.Counting.{countBelow}
 use Rattle.words.specs.Word.{bit, wordOf, either, both, without, withBit}
 use Rattle.steps.specs.declared.Step.{Step}
+use Rattle.steps.specs.declared.Step.the-variants.{Read, Write, Line}
 use Rattle.aic_record.specs.declared.Aic.{Aic}
 use Rattle.aic_record.specs.Mode.{edge}
 use Rattle.aic_record.specs.Sound.{sourceAt}
@@ -87,7 +88,7 @@ writeMarks c s o v =
       rewrote = c && (ltb o svr || eqb o ffer || eqb o ffdr);
     }
 
--- the line k goes to the level l
+-- the line of source k goes to the level l
 abbrev pub lineMarks : Bool → Aic → ℕ → ℕ → Marks
 lineMarks c s k l =
     record {
@@ -97,3 +98,9 @@ lineMarks c s k l =
       closed = 0;
       rewrote = false;
     }
+
+-- of a step x; c says that it is carried out
+unfoldable pub marksBy : Bool → Aic → Step → Marks
+marksBy c s (Read o) = noMarks
+marksBy c s (Write o v) = writeMarks c s o v
+marksBy c s (Line k l) = lineMarks c s k l

@@ -15,7 +15,7 @@ use Rattle.aic_record.specs.Mode.{edge}
 use Rattle.aic_record.specs.Promises.{Shaped}
 use Rattle.aic_sources.specs.Normal.{waiting}
 use Rattle.aic.specs.Model.{step}
-use Rattle.aic_runs.specs.Counted.{carries, startsOf, startsOther, rises, edges, commands, rewrites, steady}
+use Rattle.aic_runs.specs.Counted.{carried, carries, startsOf, startsOther, rises, edges, commands, rewrites, steady}
 use Rattle.aic_runs.specs.Runs.{run, count, always, sumOver}
 use Rattle.aic_runs.specs.Promises.{rivalOf}
 use Rattle.aic_turns.specs.Turns.{closesHot, Cool, due}
@@ -26,7 +26,7 @@ use Rattle.aic_waits.specs.Promises.{Waits}
 use Rattle.aic_bounds.specs.declared.Bound.{Bound}
 use Rattle.aic_bounds.specs.Bounds.{sets, lifts, idle, boundAt, boundOf}
 use Rattle.aic_bounds.specs.Over.{boundedOf, waitsBegun, waitsUnended, waitsUnbounded, firstUnbounded}
-use Rattle.aic_bounds.specs.Following.{boundFollowed}
+use Rattle.aic_bounds.specs.Following.{boundFollowed, marksOf, marksBy}
 use Rattle.aic_bounds.specs.Worked.{met, noisy, raised, stale, off, midway}
 
 -- the record with which a wait begins: that after the step x
@@ -106,6 +106,8 @@ pub record Promises : Type 0 where
   pub brokeAt : (s : Aic) (k : ℕ) (before : List Step) (x : Step) (ys : List Step) (y : Step) (zs : List Step) → Waiting k s before x (ys ++ (y ∷ zs))
       → always steady (outset s before x) ys ≡ true → rewrites (run (outset s before x) ys) y ≡ true
       → boundAt k s (before ++ (x ∷ (ys ++ (y ∷ zs)))) .broke ≡ length before + length ys + 2
+  -- what a step brings, as words, by whether it is carried out, is what the definitions say of it
+  pub marksIs : (s : Aic) (x : Step) → marksBy (carried s x) s x ≡ marksOf s x
   -- on words of sources, with numbers of 32 bits, it is the same, for runs of up to 134,217,727 steps (a trace has at most 65,536)
   pub followedIs : (s : Aic) (k : ℕ) (xs : List Step) → length xs ≤ 134217727 → boundFollowed k 0 (idle 0) s xs ≡ boundAt k s xs
   -- ---- what it bounds

@@ -10,12 +10,12 @@ ghost use Rattle.aic_record.specs.Mode.{priority, edge};
 ghost use Rattle.aic_record.specs.Sound.{sourceAt, levelAt};
 ghost use Rattle.aic_sources.specs.Pending.{active};
 ghost use Rattle.aic_registers.specs.Effects.{turns};
-ghost use Rattle.aic_runs.specs.Counted.{carried, carries};
+ghost use Rattle.aic_runs.specs.Counted.{carries};
 ghost use Rattle.aic_runs.specs.Promises.{rivalOf};
 ghost use Rattle.aic_turns.specs.Turns.{held};
 ghost use Rattle.aic_waits.specs.Following.{capped};
 ghost use Rattle.aic_bounds.specs.Bounds.{idle, fresh};
-ghost use Rattle.aic_bounds.specs.Following.{dues, plus, grownBy, boundBy, marksOf, noMarks, hotLast, writeMarks, lineMarks};
+ghost use Rattle.aic_bounds.specs.Following.{dues, plus, grownBy, boundBy, noMarks, hotLast, writeMarks, lineMarks, marksBy};
 use aic_record::Aic;
 use steps::Step;
 
@@ -220,8 +220,7 @@ fn due_word(s: Aic) -> u32
 
 // What the step x brings to the record s that it meets; ok says that it is carried out.
 pub fn marks_of(s: Aic, x: Step, ok: bool) -> Marks
-    requires { ⌜ ok ≡ carried s x ⌝ }
-    ensures { λ r. ⌜ r ≡ marksOf s x ⌝ }
+    ensures { λ r. ⌜ r ≡ marksBy ok s x ⌝ }
 {
     match x {
         Step::Read(offset) => no_marks(),

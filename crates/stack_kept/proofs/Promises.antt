@@ -25,7 +25,8 @@ kept =
       neverMoreKept = never-more-kept;
       neverMoreNext = never-more-next;
       neverMoreReset = λ t external lines xs ys q.
-          never-more-kept t (reset external lines) xs (Record.kept .resetShaped external lines) (reset-bare external lines) (part-keeps t (reset external lines) xs ys q);
+          never-more-kept t (reset external lines) xs (Record.kept .resetShaped external lines) (reset-bare external lines)
+          (part-keeps t (reset external lines) xs ys q);
       neverMoreSet = λ t s xs h b q. never-more-kept t s xs h (b .none, b .remembered) (set-keeps t s xs b q);
       shiftedKeeps = worked .shifts;
       raisedPasses = worked .raises;

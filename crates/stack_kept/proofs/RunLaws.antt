@@ -140,5 +140,6 @@ along-next t s [] x h f q = fits-law t s x h (first-keeps t s [] q) f
 along-next t s (y ∷ ys) x h f q =
     along-next t (step s y .aic) ys x (Controller.kept .stepShaped s y h) (fits-law t s y h (first-keeps t s (y ∷ ys) q) f) (rest-keeps t s y ys q)
 
-pub never-more-next : (t : Table) (s : Aic) (xs : List Step) (x : Step) → Shaped s → Bare s → keepsAlong t s xs ≡ true → openBytes t (run s (xs ++ (x ∷ []))) ≤ stackBytes t
+pub never-more-next : (t : Table) (s : Aic) (xs : List Step) (x : Step) → Shaped s → Bare s → keepsAlong t s xs ≡ true
+    → openBytes t (run s (xs ++ (x ∷ []))) ≤ stackBytes t
 never-more-next t s xs x h b q = fitted-bytes t s (xs ++ (x ∷ [])) h b (along-next t s xs x h (bare-fits t s b) q)
