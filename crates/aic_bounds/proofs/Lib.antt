@@ -1,4 +1,5 @@
 -- Theorems about the bound of a wait.
+pub mod BestLaws
 pub mod FollowLaws
 pub mod MarkLaws
 pub mod MostLaws

@@ -30,7 +30,7 @@ use Rattle.aic_bounds.proofs.TermLaws.{stuck-here, terms-of, wait-where
 
 -- ---- the bound of the wait that stands
 
-bounds-is : (b : Bound) → bounds b ≡ true → (2 ≤ b .wait) × (b .broke ≡ 0)
+pub bounds-is : (b : Bound) → bounds b ≡ true → (2 ≤ b .wait) × (b .broke ≡ 0)
 unfolding bounds
 bounds-is b h = (ltb-true 1 (b .wait) (and-left (ltb 1 (b .wait)) _ h), eqb-true (b .broke) 0 (and-right (ltb 1 (b .wait)) _ h))
 
@@ -51,7 +51,7 @@ unfolding withBound
 with-most m b = pick-cases (λ r. r ≤ max m (boundOf b)) (bounds b) (λ _. omega arith) (λ _. omega arith)
 
 -- one that does not wait adds nothing
-with-none : (m : ℕ) (b : Bound) → b .wait < 2 → withBound m b ≡ m
+pub with-none : (m : ℕ) (b : Bound) → b .wait < 2 → withBound m b ≡ m
 unfolding withBound
 with-none m b l = pick-cases (λ r. r ≡ m) (bounds b) (λ e. absurd (omega (arith, l, bounds-is b e .0))) (λ _. refl)
 
@@ -71,7 +71,7 @@ unfolding run
 run-next s [] x = refl
 run-next s (p ∷ ps) x = run-next (step s p .aic) ps x
 
-most-append : (k n : ℕ) (b : Bound) (m : ℕ) (s : Aic) (xs ys : List Step)
+pub most-append : (k n : ℕ) (b : Bound) (m : ℕ) (s : Aic) (xs ys : List Step)
     → mostOver k n b m s (xs ++ ys) ≡ mostOver k (n + length xs) (boundOver k n b s xs) (mostOver k n b m s xs) (run s xs) ys
 unfolding mostOver boundOver run
 most-append k n b m s [] ys = ap (λ (i : ℕ). mostOver k i b m s ys) (omega arith)
@@ -86,7 +86,7 @@ unfolding pick
 no-less true m r h = h
 no-less false m r h = omega arith
 
-most-grows : (k n : ℕ) (b : Bound) (m : ℕ) (s : Aic) (xs : List Step) → m ≤ mostOver k n b m s xs
+pub most-grows : (k n : ℕ) (b : Bound) (m : ℕ) (s : Aic) (xs : List Step) → m ≤ mostOver k n b m s xs
 unfolding mostOver
 most-grows k n b m s [] = omega arith
 most-grows k n b m s (x ∷ xs) =
@@ -129,7 +129,7 @@ run-append s [] ys = refl
 run-append s (x ∷ xs) ys = run-append (step s x .aic) xs ys
 
 -- the record after a wait
-outset-run : (s : Aic) (before : List Step) (x : Step) (during : List Step) → run s (before ++ (x ∷ during)) ≡ run (outset s before x) during
+pub outset-run : (s : Aic) (before : List Step) (x : Step) (during : List Step) → run s (before ++ (x ∷ during)) ≡ run (outset s before x) during
 unfolding run
 outset-run s before x during = run-append s before (x ∷ during)
 
@@ -183,7 +183,7 @@ pub record At (s : Aic) (k : ℕ) (ps : List Step) (n : ℕ) (b : Bound) (u : Ai
   pub reached : u ≡ run s ps
   pub passed : n ≡ length ps
 
-at-next : (s : Aic) (k : ℕ) (ps : List Step) (n : ℕ) (b : Bound) (u : Aic) (x : Step) → At s k ps n b u
+pub at-next : (s : Aic) (k : ℕ) (ps : List Step) (n : ℕ) (b : Bound) (u : Aic) (x : Step) → At s k ps n b u
     → At s k (ps ++ (x ∷ [])) (n + 1) (boundAfter k (n + 1) b u x) (step u x .aic)
 unfolding boundAt boundOver
 at-next s k ps n b u x a =
@@ -197,7 +197,7 @@ at-next s k ps n b u x a =
     }
 
 -- a step after which a source that waited does not ends its wait
-none-ends : (w : ℕ) (waits own other : Bool) → 2 ≤ w → waitNext w waits own other < 2 → (waits ≡ false) ⊎ (own ≡ true)
+pub none-ends : (w : ℕ) (waits own other : Bool) → 2 ≤ w → waitNext w waits own other < 2 → (waits ≡ false) ⊎ (own ≡ true)
 none-ends w false own other l h = inl refl
 none-ends w true true other l h = inr refl
 none-ends w true false other l h = absurd (omega (arith, l, h, next-on w true false other l refl refl))
@@ -236,7 +236,7 @@ found s k ps n b u m (x ∷ xs) a =
     (found s k (ps ++ (x ∷ [])) (n + 1) (boundAfter k (n + 1) b u x) (step u x .aic)
     (pick (ltb (boundAfter k (n + 1) b u x .wait) 2) (withBound m b) m) xs (at-next s k ps n b u x a))
 
-at-first : (s : Aic) (k : ℕ) → At s k [] 0 (idle 0) s
+pub at-first : (s : Aic) (k : ℕ) → At s k [] 0 (idle 0) s
 unfolding boundAt boundOver run
 at-first s k = record { seen = refl; reached = refl; passed = refl }
 

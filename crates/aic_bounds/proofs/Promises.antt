@@ -19,6 +19,7 @@ use Rattle.aic_bounds.proofs.TermLaws.{terms-of, bounded-of, same-figur
 use Rattle.aic_bounds.proofs.MostLaws.{most-reached, most-largest, fewer-unbounded, seen-bounded}
 use Rattle.aic_bounds.proofs.PlaceLaws.{begun-none, begun-more, begun-same, unended-one, unended-none, first-none, first-is}
 use Rattle.aic_bounds.proofs.FollowLaws.{followed-at}
+use Rattle.aic_bounds.proofs.BestLaws.{largest-sum, largest-none, largest-first}
 use Rattle.aic_bounds.proofs.MarkLaws.{marks-is}
 use Rattle.aic_bounds.proofs.Worked.{worked}
 
@@ -52,6 +53,9 @@ kept =
       mostLargest = most-largest;
       mostBounds = λ s k xs before x during after h l w q.
           omega (arith, bounded-of k s before x during h l (w .waits) q, most-largest s k xs before x during after w q);
+      largestSum = largest-sum;
+      largestNone = largest-none;
+      largestFirst = largest-first;
       begunNone = begun-none;
       begunMore = begun-more;
       begunSame = begun-same;

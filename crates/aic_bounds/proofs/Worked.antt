@@ -1,6 +1,5 @@
 -- The worked runs, computed from the definitions.
 use mathlib.Core.Path.{_≡_, refl}
-use mathlib.Core.List.{_++_}
 use Rattle.words.specs.Choice.{pick}
 use Rattle.words.specs.Counting.{anyBelow, allBelow, lowestBelow, sumBelow}
 use Rattle.words.specs.Word.{bit, kept, wordOf, either, both, without, withBit}
@@ -45,7 +44,7 @@ pub record Worked : Type 0 where
       × (boundedOf 9 (reset 0 0) Runs.off ≡ 0)
 
 pub worked : Worked
-unfolding pick anyBelow allBelow lowestBelow sumBelow bit kept wordOf either both without withBit readRefusal writeRefusal lineRefusal reset priority kind edge levelBelow over entryFits entrySound freeSound entriesSound memorySound storedSound seenFits seenSound sound activeLow activeAt active pending asking edgeWord fast waiting above candidate ahead foremost candidates chosen access spent opened startedAt marked closedLast ended ivrTaken ivrLooked ivrRead begun ivrWritten moded enabledBy setBy debugBy turns moved readAt writtenAt readNumber writeNumber lineNumber read write line carried takes begins startedBy carries startsOf startsOther closes rises edges commands rewrites sumOver closesOf closesHot held due waitNext waitMost waitedOf sets lifts boundNext boundOver boundAt boundOf bounds withBound mostOver boundedOf standing begunOver waitsBegun waitsUnended loses unboundedOver waitsUnbounded firstOver firstUnbounded _++_ Runs.begun Runs.met Runs.noisy Runs.raised Runs.stale Runs.behind Runs.off Runs.midway
+unfolding pick anyBelow allBelow lowestBelow sumBelow bit kept wordOf either both without withBit readRefusal writeRefusal lineRefusal reset priority kind edge levelBelow over entryFits entrySound freeSound entriesSound memorySound storedSound seenFits seenSound sound activeLow activeAt active pending asking edgeWord fast waiting above candidate ahead foremost candidates chosen access spent opened startedAt marked closedLast ended ivrTaken ivrLooked ivrRead begun ivrWritten moded enabledBy setBy debugBy turns moved readAt writtenAt readNumber writeNumber lineNumber read write line carried takes begins startedBy carries startsOf startsOther closes rises edges commands rewrites sumOver closesOf closesHot held due waitNext waitMost waitedOf sets lifts boundNext boundOver boundAt boundOf bounds withBound mostOver boundedOf standing begunOver waitsBegun waitsUnended loses unboundedOver waitsUnbounded firstOver firstUnbounded Runs.begun Runs.met Runs.noisy Runs.raised Runs.stale Runs.behind Runs.off Runs.midway
 worked =
     record {
       met = (refl, refl, refl);

@@ -31,6 +31,20 @@ mostOver k n b m s (x ∷ xs) =
 unfoldable pub boundedOf : ℕ → Aic → List Step → ℕ
 boundedOf k s xs = withBound (mostOver k 0 (idle 0) 0 s xs) (boundAt k s xs)
 
+-- of two waits the second, if it has a bound and that is larger, else the first
+unfoldable pub better : Bound → Bound → Bound
+better c b = pick (bounds b && ltb (boundOf c) (boundOf b)) b c
+
+-- what was observed of the first of the waits that have ended with the largest bound, where it ended: from how it stands and the first so far
+unfoldable pub bestOver : ℕ → ℕ → Bound → Bound → Aic → List Step → Bound
+bestOver k n b c s [] = c
+bestOver k n b c s (x ∷ xs) =
+    bestOver k (n + 1) (boundAfter k (n + 1) b s x) (pick (ltb (boundAfter k (n + 1) b s x .wait) 2) (better c b) c) (step s x .aic) xs
+
+-- and of the waits of a run, that which stands at its end among them; as of a source that does not wait where none has a bound over 0
+unfoldable pub largestOf : ℕ → Aic → List Step → Bound
+largestOf k s xs = better (bestOver k 0 (idle 0) (idle 0) s xs) (boundAt k s xs)
+
 -- the waits that begin, from how it stands; and from a record in which it does not wait
 unfoldable pub begunOver : ℕ → ℕ → Aic → List Step → ℕ
 begunOver k w s [] = 0

@@ -25,7 +25,7 @@ use Rattle.aic_waits.specs.Figures.{waitAfter, standing, waitedOf}
 use Rattle.aic_waits.specs.Promises.{Waits}
 use Rattle.aic_bounds.specs.declared.Bound.{Bound}
 use Rattle.aic_bounds.specs.Bounds.{sets, lifts, idle, boundAt, boundOf}
-use Rattle.aic_bounds.specs.Over.{boundedOf, waitsBegun, waitsUnended, waitsUnbounded, firstUnbounded}
+use Rattle.aic_bounds.specs.Over.{boundedOf, largestOf, waitsBegun, waitsUnended, waitsUnbounded, firstUnbounded}
 use Rattle.aic_bounds.specs.Following.{boundFollowed, marksOf, marksBy}
 use Rattle.aic_bounds.specs.Worked.{met, noisy, raised, stale, off, midway}
 
@@ -88,6 +88,17 @@ pub record LostAt (k : ℕ) (s : Aic) (xs : List Step) (n : ℕ) : Type 0 where
   pub waited : 2 ≤ standing k 0 s before
   pub waits : 2 ≤ standing k 0 s (before ++ (by ∷ []))
 
+-- b is what is observed where a wait of the run ends that has a bound, and every wait before it that has one has a smaller one
+pub record First (k : ℕ) (s : Aic) (xs : List Step) (b : Bound) : Type 0 where
+  pub before : List Step
+  pub by : Step
+  pub during : List Step
+  pub after : List Step
+  pub whole : Whole k s xs before by during after
+  pub held : always steady (outset s before by) during ≡ true
+  pub is : b ≡ boundAt k s (before ++ (by ∷ during))
+  pub smaller : boundedOf k s before < boundOf b
+
 pub record Promises : Type 0 where
   -- ---- what is observed
 
@@ -133,6 +144,10 @@ pub record Promises : Type 0 where
   -- so no more handlers are started in a wait that has a bound
   pub mostBounds : (s : Aic) (k : ℕ) (xs before : List Step) (x : Step) (during after : List Step) → Shaped s → k < 32 → Whole k s xs before x during after
       → always steady (outset s before x) during ≡ true → count (startsOther k) (outset s before x) during ≤ boundedOf k s xs
+  -- the terms told with it are those of the first wait that has it; none are told where it is 0
+  pub largestSum : (s : Aic) (k : ℕ) (xs : List Step) → boundOf (largestOf k s xs) ≡ boundedOf k s xs
+  pub largestNone : (s : Aic) (k : ℕ) (xs : List Step) → boundedOf k s xs ≡ 0 → largestOf k s xs ≡ idle 0
+  pub largestFirst : (s : Aic) (k : ℕ) (xs : List Step) → boundedOf k s xs ≢ 0 → First k s xs (largestOf k s xs)
   -- with one step more one more wait has begun exactly if it did not wait before that step and waits after it
   pub begunNone : (s : Aic) (k : ℕ) → waitsBegun k s [] ≡ 0
   pub begunMore : (s : Aic) (k : ℕ) (xs : List Step) (x : Step) → standing k 0 s xs < 2 → 2 ≤ standing k 0 s (xs ++ (x ∷ []))

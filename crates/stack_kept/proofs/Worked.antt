@@ -32,5 +32,5 @@ pub record Worked : Type 0 where
   pub tells : unkept pair (run (reset 0 0) (stacked ++ (Write 0x04 0x67 ∷ []))) ≡ 1
 
 pub worked : Worked
-unfolding pick anyBelow allBelow lowestBelow sumBelow bit kept wordOf either both without withBit readRefusal writeRefusal lineRefusal reset priority kind edge levelBelow over entryFits entrySound freeSound entriesSound memorySound storedSound seenFits seenSound sound activeLow activeAt active pending asking edgeWord fast waiting above candidate ahead foremost candidates chosen access spent opened startedAt marked closedLast ended ivrTaken ivrLooked ivrRead begun ivrWritten moded enabledBy disabledBy forcedBy turns moved readAt writtenAt readNumber writeNumber lineNumber read write line carried rewrites steady run always normal isOf taller largest levelBytes stackBytes frameOf openBytes sameMode sameForcing sourceKeeps keeps unkept keepsAlong pair startUp shifted stacked raised _++_
+unfolding pick anyBelow allBelow lowestBelow sumBelow bit kept wordOf either both without withBit readRefusal writeRefusal lineRefusal reset priority kind edge levelBelow over entryFits entrySound freeSound entriesSound memorySound storedSound seenFits seenSound sound activeLow activeAt active pending asking edgeWord fast waiting above candidate ahead foremost candidates chosen access spent opened startedAt marked closedLast ended ivrTaken ivrLooked ivrRead begun ivrWritten moded enabledBy disabledBy forcedBy turns moved readAt writtenAt readNumber writeNumber lineNumber read write line carried rewrites steady run always normal isOf taller largest levelBytes stackBytes frameOf openBytes sameMode sameForcing sourceKeeps keeps unkept keepsAlong pair startUp shifted stacked raised
 worked = record { shifts = (refl, refl, refl, refl); raises = (refl, refl, refl, refl); tells = refl }
