@@ -33,7 +33,7 @@ term-is : (n a : ℕ) (f : ℕ → Bool) → n + 32 ≤ 4294967295 → plus n a 
 term-is n a f l = rw (shared-sum a f) (sym (capped-is (n + sumOver (bit a) (λ i. one (f i))) (omega (arith, l, shared-few a f))))
 
 -- the terms have room for m more
-abbrev Room : Bound → ℕ → Type 0
+abbrev pub Room : Bound → ℕ → Type 0
 Room b m =
     (b .pending + m ≤ 4294967295) × (b .edges + m ≤ 4294967295) × (b .commands + m ≤ 4294967295) × (b .turns + m ≤ 4294967295) × (b .closed + m ≤ 4294967295)
 
@@ -60,7 +60,7 @@ by-is k w n b s x r = ap (λ (g : Bound). pick (ltb w 2) (idle w) (pick (ltb (b 
 few-due : (a : ℕ) (t : Aic) → sumOver (bit a) (due t) ≤ 32
 few-due a t = omega (arith, due-sum a t, count-le 32 (bit (both a (wordOf 32 (dues t)))))
 
-after-room : (k n : ℕ) (b : Bound) (s : Aic) (x : Step) (m : ℕ) → Room b (32 + m) → Room (boundAfter k n b s x) m
+pub after-room : (k n : ℕ) (b : Bound) (s : Aic) (x : Step) (m : ℕ) → Room b (32 + m) → Room (boundAfter k n b s x) m
 after-room k n b s x m (p, e, c, t, h) =
     step-cases k n b s x (λ r. Room r m)
     (λ l. (omega (arith, e), omega (arith, e), omega (arith, e), omega (arith, e), omega (arith, e)))
@@ -79,7 +79,7 @@ after-room k n b s x m (p, e, c, t, h) =
       omega (arith, h, shared-few (b .on) (λ i. closesHot i s x)),
     ))
 
-less : (b : Bound) (m n : ℕ) → n ≤ m → Room b m → Room b n
+pub less : (b : Bound) (m n : ℕ) → n ≤ m → Room b m → Room b n
 less b m n l (p, e, c, t, h) = (omega (arith, p), omega (arith, e), omega (arith, c), omega (arith, t), omega (arith, h))
 
 followed-is : (k n : ℕ) (b : Bound) (s : Aic) (xs : List Step) → Room b (32 * length xs) → boundFollowed k n b s xs ≡ boundOver k n b s xs

@@ -128,7 +128,8 @@ fn grown(w: u32, b: Bound, n: u32, m: Marks, t: Aic) -> Bound
 
 // ---- numbers
 
-fn either(t: bool, a: u32, b: u32) -> u32
+// a where the test holds, else b.
+pub fn either(t: bool, a: u32, b: u32) -> u32
     ensures { λ r. ⌜ r ≡ pick t a b ⌝ }
 {
     if t {
@@ -137,7 +138,8 @@ fn either(t: bool, a: u32, b: u32) -> u32
     b
 }
 
-fn add(a: u32, b: u32) -> u32
+// The sum; where it would pass 4,294,967,295 it stays there.
+pub fn add(a: u32, b: u32) -> u32
     ensures { λ r. ⌜ r ≡ capped (a + b) ⌝ }
 {
     if 4294967295 - a < b {
