@@ -167,7 +167,7 @@ chosen-normal t s a c = go (normal t (chosen s)) (a .forcings (chosen s) (chosen
 
 module _ (t : Table) (s : Aic) (h : Shaped s) (f : Fits t (s .source) (s .level) (s .depth)) where
   -- a mark, or a normal source at its level
-  pushed : (j p : ℕ) → s .depth < 8 → (j ≢ 0 → (j < 32) × (normal t j ≡ true) × (p ≡ getD (t .priority) j 0))
+  pub pushed : (j p : ℕ) → s .depth < 8 → (j ≢ 0 → (j < 32) × (normal t j ≡ true) × (p ≡ getD (t .priority) j 0))
       → Fits t (set (s .source) (s .depth) j) (set (s .level) (s .depth) p) (s .depth + 1)
   pushed j p room real d l = go (ℕ-discrete d (s .depth))
     where
@@ -177,11 +177,11 @@ module _ (t : Table) (s : Aic) (h : Shaped s) (f : Fits t (s .source) (s .level)
       go (yes e) = rw (e, getD-set-same (s .source) (s .depth) j 0 (omega (arith, h .2)), getD-set-same (s .level) (s .depth) p 0 (omega (arith, h .3))) real
       go (no e) = rw (getD-set-other (s .source) (s .depth) d j 0 e, getD-set-other (s .level) (s .depth) d p 0 e) (f d (omega arith))
 
-  shut : s .depth ≢ 0 → Fits t (set (s .source) (s .depth - 1) 0) (set (s .level) (s .depth - 1) 0) (s .depth - 1)
+  pub shut : s .depth ≢ 0 → Fits t (set (s .source) (s .depth - 1) 0) (set (s .level) (s .depth - 1) 0) (s .depth - 1)
   shut z d l = rw (getD-set-other (s .source) (s .depth - 1) d 0 0 (omega arith), getD-set-other (s .level) (s .depth - 1) d 0 0 (omega arith)) (f d (omega arith))
 
 -- a source that is remembered is a normal one at its level (02, 9/12)
-abbrev Recalled : Table → Seen → Type 0
+abbrev pub Recalled : Table → Seen → Type 0
 Recalled t n = n .what ≡ 1 → (n .source < 32) × (normal t (n .source) ≡ true) × (n .level ≡ getD (t .priority) (n .source) 0)
 
 abbrev pub Fitted : Table → Aic → Type 0

@@ -45,7 +45,7 @@ twelve s (Line k l) e = Controller.kept .lineNumbers s k l .twelve .1 e
 stays : (s : Aic) (x : Step) → sound s ≡ false → step s x .aic ≡ s
 stays s x e = ap (λ (a : Answer). a .aic) (Controller.kept .refusedSame s x (λ z. omega (arith, twelve s x e)))
 
-run-stays : (s : Aic) (xs : List Step) → sound s ≡ false → run s xs ≡ s
+pub run-stays : (s : Aic) (xs : List Step) → sound s ≡ false → run s xs ≡ s
 unfolding run
 run-stays s [] e = refl
 run-stays s (x ∷ xs) e = rw (stays s x e) (run-stays s xs e)

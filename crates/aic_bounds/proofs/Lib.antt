@@ -1,0 +1,12 @@
+-- Theorems about the bound of a wait.
+pub mod BestLaws
+pub mod FollowLaws
+pub mod MarkLaws
+pub mod MostLaws
+pub mod PlaceLaws
+pub mod Promises
+pub mod StepLaws
+pub mod SumLaws
+pub mod TermLaws
+pub mod WordLaws
+pub mod Worked

@@ -1,0 +1,1 @@
+// What the sources ahead of one that waits may start meanwhile. Definitions and theorems only.
