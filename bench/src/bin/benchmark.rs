@@ -21,7 +21,7 @@ Nanoseconds per step in the fastest of several rounds; a round is one play of th
 - proved: the proved library through its C functions; plain: its loops over a controller of any kind.
 - model: the plain Rust model, its listing with digits made by hand; std text: with the standard library's formatting, as
   the differential test has it.
-- tuned: the Rust player that is tuned by hand; a CIC with indices is not tuned there, and goes by the model's steps.
+- tuned: the Rust player that is tuned by hand.
 - Listing is play and listing. Play is the steps alone, with no text and no outputs after each step. Figures are play and
   the count of a report, with no text.
 

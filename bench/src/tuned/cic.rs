@@ -9,11 +9,47 @@ use crate::model::{Answer, Kind, Refusal};
 /// What "lowest asserted host" shows where there is none.
 const NO_HOST: usize = 256;
 
-/// The controller; its outputs are kept up to date only if `SHOWN`.
-pub struct Cic<const SHOWN: bool> {
+/// What is kept beside the state and told of its changes; who needs nothing of it keeps `()`.
+pub trait Kept {
+    /// Whether there is anything to be told.
+    const ANY: bool = true;
+
+    fn new() -> Self;
+
+    /// A system turned active, or is so no more; its channel and the host of that are told too.
+    fn turn(&mut self, system: usize, channel: u8, host: u8, active: bool);
+
+    /// A channel is led to another host than before.
+    fn lead(&mut self, channel: usize, before: u8, after: u8);
+
+    /// After a change of the enables of hosts.
+    fn allow(&mut self, host_enable: &[u32; 8], all: bool);
+
+    /// How many hosts are asserted, and the lowest.
+    fn shown(&self) -> (usize, usize);
+}
+
+impl Kept for () {
+    const ANY: bool = false;
+
+    fn new() {}
+
+    fn turn(&mut self, _: usize, _: u8, _: u8, _: bool) {}
+
+    fn lead(&mut self, _: usize, _: u8, _: u8) {}
+
+    fn allow(&mut self, _: &[u32; 8], _: bool) {}
+
+    fn shown(&self) -> (usize, usize) {
+        (0, NO_HOST)
+    }
+}
+
+/// The controller, with what is kept beside it.
+pub struct Cic<K> {
     systems: u32,
     channels: u32,
-    hosts: u32,
+    pub hosts: u32,
     revision: u32,
     global_enable: bool,
     lines: [u32; 32],
@@ -22,11 +58,11 @@ pub struct Cic<const SHOWN: bool> {
     channel_of_system: [u8; 1_024],
     host_of_channel: [u8; 256],
     host_enable: [u32; 8],
-    outputs: Outputs,
+    pub kept: K,
 }
 
 /// What is kept beside the state for the outputs. An active system is set and enabled.
-struct Outputs {
+pub struct Outputs {
     /// The active systems of each channel and of each host.
     of_channel: [u16; 256],
     of_host: [u16; 256],
@@ -38,16 +74,6 @@ struct Outputs {
 }
 
 impl Outputs {
-    fn new() -> Outputs {
-        Outputs {
-            of_channel: [0; 256],
-            of_host: [0; 256],
-            reached: [0; 4],
-            allowed: [0; 4],
-            asserted: 0,
-        }
-    }
-
     #[inline(always)]
     fn add(&mut self, host: u8, systems: u16) {
         let before = self.of_host[usize::from(host)];
@@ -78,16 +104,6 @@ impl Outputs {
         self.asserted = self.asserted.wrapping_add(allowed * change);
     }
 
-    /// After a change of the enables of hosts.
-    fn allow(&mut self, host_enable: &[u32; 8], all: bool) {
-        self.asserted = 0;
-        for (word, pair) in host_enable.chunks_exact(2).enumerate() {
-            let enabled = u64::from(pair[1]) << 32 | u64::from(pair[0]);
-            self.allowed[word] = if all { enabled } else { 0 };
-            self.asserted += (self.allowed[word] & self.reached[word]).count_ones();
-        }
-    }
-
     #[inline(always)]
     fn lowest(&self) -> usize {
         for word in 0..4 {
@@ -100,7 +116,55 @@ impl Outputs {
     }
 }
 
-impl<const SHOWN: bool> Cic<SHOWN> {
+impl Kept for Outputs {
+    fn new() -> Outputs {
+        Outputs {
+            of_channel: [0; 256],
+            of_host: [0; 256],
+            reached: [0; 4],
+            allowed: [0; 4],
+            asserted: 0,
+        }
+    }
+
+    #[inline(always)]
+    fn turn(&mut self, _: usize, channel: u8, host: u8, active: bool) {
+        let count = &mut self.of_channel[usize::from(channel)];
+        if active {
+            *count = count.wrapping_add(1);
+            self.add(host, 1);
+        } else {
+            *count = count.wrapping_sub(1);
+            self.take(host, 1);
+        }
+    }
+
+    /// The active systems of the channel go along.
+    #[inline(always)]
+    fn lead(&mut self, channel: usize, before: u8, after: u8) {
+        let systems = self.of_channel[channel % 256];
+        if systems != 0 {
+            self.take(before, systems);
+            self.add(after, systems);
+        }
+    }
+
+    fn allow(&mut self, host_enable: &[u32; 8], all: bool) {
+        self.asserted = 0;
+        for (word, pair) in host_enable.chunks_exact(2).enumerate() {
+            let enabled = u64::from(pair[1]) << 32 | u64::from(pair[0]);
+            self.allowed[word] = if all { enabled } else { 0 };
+            self.asserted += (self.allowed[word] & self.reached[word]).count_ones();
+        }
+    }
+
+    #[inline(always)]
+    fn shown(&self) -> (usize, usize) {
+        (self.asserted as usize, self.lowest())
+    }
+}
+
+impl<K: Kept> Cic<K> {
     pub fn read_from(reader: &mut Reader) -> Result<Self, Fault> {
         let systems = reader.limited(1, 1_024)?;
         let channels = reader.limited(1, 256)?;
@@ -118,29 +182,22 @@ impl<const SHOWN: bool> Cic<SHOWN> {
             channel_of_system: [0; 1_024],
             host_of_channel: [0; 256],
             host_enable: [0; 8],
-            outputs: Outputs::new(),
+            kept: K::new(),
         })
     }
 
-    /// Counts a system that turned active, or one that is so no more.
+    /// Tells of a system that turned active, or of one that is so no more.
     #[inline(always)]
     fn turn(&mut self, system: usize, active: bool) {
         let channel = self.channel_of_system[system % 1_024];
         let host = self.host_of_channel[usize::from(channel)];
-        let count = &mut self.outputs.of_channel[usize::from(channel)];
-        if active {
-            *count = count.wrapping_add(1);
-            self.outputs.add(host, 1);
-        } else {
-            *count = count.wrapping_sub(1);
-            self.outputs.take(host, 1);
-        }
+        self.kept.turn(system, channel, host, active);
     }
 
-    /// Counts the systems of a word that are turned by a change of its status or enables.
+    /// Tells of the systems of a word that are turned by a change of its status or enables.
     #[inline(always)]
     fn turn_all(&mut self, word: usize, before: u32) {
-        if !SHOWN {
+        if !K::ANY {
             return;
         }
         let after = self.active(word);
@@ -164,7 +221,7 @@ impl<const SHOWN: bool> Cic<SHOWN> {
         let before = words[word];
         words[word] = if value { before | bit } else { before & !bit };
         let turned = (words[word] ^ before) & others[word] != 0;
-        if SHOWN && turned {
+        if K::ANY && turned {
             self.turn(system as usize, value);
         }
     }
@@ -191,9 +248,7 @@ impl<const SHOWN: bool> Cic<SHOWN> {
     }
 
     fn allow(&mut self) {
-        if SHOWN {
-            self.outputs.allow(&self.host_enable, self.global_enable);
-        }
+        self.kept.allow(&self.host_enable, self.global_enable);
     }
 
     /// Ones set or clear their bits in a word of status or enables, as far as there are such systems.
@@ -210,12 +265,12 @@ impl<const SHOWN: bool> Cic<SHOWN> {
         self.turn_all(word, before);
     }
 
-    /// Four channels, or as many as there are systems; an active system is counted where it goes.
+    /// Four channels, or as many as there are systems; an active system is told where it goes.
     fn write_channel_map(&mut self, first: usize, value: u32) -> Done {
         let entries = entries(value, self.systems - first as u32, self.channels)?;
         for (nth, channel) in entries.into_iter().enumerate() {
             let system = (first + nth) % 1_024;
-            let active = SHOWN && self.active(system / 32) >> (system % 32) & 1 == 1;
+            let active = K::ANY && self.active(system / 32) >> (system % 32) & 1 == 1;
             if active && self.channel_of_system[system] != channel {
                 self.turn(system, false);
                 self.channel_of_system[system] = channel;
@@ -226,16 +281,14 @@ impl<const SHOWN: bool> Cic<SHOWN> {
         Ok(())
     }
 
-    /// Four hosts, or as many as there are channels; the active systems of a channel go along.
+    /// Four hosts, or as many as there are channels.
     fn write_host_map(&mut self, first: usize, value: u32) -> Done {
         let entries = entries(value, self.channels - first as u32, self.hosts)?;
         for (nth, host) in entries.into_iter().enumerate() {
             let channel = (first + nth) % 256;
             let before = std::mem::replace(&mut self.host_of_channel[channel], host);
-            let systems = self.outputs.of_channel[channel];
-            if SHOWN && systems != 0 && before != host {
-                self.outputs.take(before, systems);
-                self.outputs.add(host, systems);
+            if before != host {
+                self.kept.lead(channel, before, host);
             }
         }
         Ok(())
@@ -309,7 +362,7 @@ const ENABLED_CLEAR: u32 = 5;
 const ENABLE_SET: u32 = 6;
 const ENABLE_CLEAR: u32 = 7;
 
-impl<const SHOWN: bool> Device for Cic<SHOWN> {
+impl<K: Kept> Device for Cic<K> {
     const KIND: Kind = Kind::Cic;
 
     #[inline(always)]
@@ -368,8 +421,8 @@ impl<const SHOWN: bool> Device for Cic<SHOWN> {
 
     #[inline(always)]
     fn show(&self, line: &mut Line, at: usize) -> usize {
-        let asserted = self.outputs.asserted as usize;
-        show_hosts(line, at, asserted, self.outputs.lowest())
+        let (asserted, lowest) = self.kept.shown();
+        show_hosts(line, at, asserted, lowest)
     }
 
     fn digest(&self) -> u64 {
@@ -400,7 +453,7 @@ fn each_bit(mut bits: u32, mut act: impl FnMut(usize)) {
 
 /// A 1 for each bit of a word that is below the count.
 #[inline(always)]
-fn existing(count: u32, word: usize) -> u32 {
+pub fn existing(count: u32, word: usize) -> u32 {
     match count - 32 * word as u32 {
         32.. => u32::MAX,
         some => (1 << some) - 1,
