@@ -11,13 +11,19 @@ const NO_HOST: usize = 256;
 
 /// What is kept beside the state and told of its changes; who needs nothing of it keeps `()`.
 pub trait Kept {
-    /// Whether there is anything to be told.
-    const ANY: bool = true;
+    /// Whether to tell of each system that turns.
+    const TURNS: bool;
 
     fn new() -> Self;
 
-    /// A system turned active, or is so no more; its channel and the host of that are told too.
-    fn turn(&mut self, system: usize, channel: u8, host: u8, active: bool);
+    /// A system of a channel and of the host of that turned active, or is so no more.
+    fn turn(&mut self, channel: u8, host: u8, active: bool);
+
+    /// A word of status or enables was written.
+    fn change(&mut self, _word: usize) {}
+
+    /// A system is mapped to another channel than before.
+    fn remap(&mut self, _system: usize, _before: u8, _after: u8) {}
 
     /// A channel is led to another host than before.
     fn lead(&mut self, channel: usize, before: u8, after: u8);
@@ -30,11 +36,11 @@ pub trait Kept {
 }
 
 impl Kept for () {
-    const ANY: bool = false;
+    const TURNS: bool = false;
 
     fn new() {}
 
-    fn turn(&mut self, _: usize, _: u8, _: u8, _: bool) {}
+    fn turn(&mut self, _: u8, _: u8, _: bool) {}
 
     fn lead(&mut self, _: usize, _: u8, _: u8) {}
 
@@ -53,9 +59,9 @@ pub struct Cic<K> {
     revision: u32,
     global_enable: bool,
     lines: [u32; 32],
-    status: [u32; 32],
-    enable: [u32; 32],
-    channel_of_system: [u8; 1_024],
+    pub status: [u32; 32],
+    pub enable: [u32; 32],
+    pub channel_of_system: [u8; 1_024],
     host_of_channel: [u8; 256],
     host_enable: [u32; 8],
     pub kept: K,
@@ -117,6 +123,8 @@ impl Outputs {
 }
 
 impl Kept for Outputs {
+    const TURNS: bool = true;
+
     fn new() -> Outputs {
         Outputs {
             of_channel: [0; 256],
@@ -128,7 +136,7 @@ impl Kept for Outputs {
     }
 
     #[inline(always)]
-    fn turn(&mut self, _: usize, channel: u8, host: u8, active: bool) {
+    fn turn(&mut self, channel: u8, host: u8, active: bool) {
         let count = &mut self.of_channel[usize::from(channel)];
         if active {
             *count = count.wrapping_add(1);
@@ -186,23 +194,24 @@ impl<K: Kept> Cic<K> {
         })
     }
 
-    /// Tells of a system that turned active, or of one that is so no more.
+    /// Tells of a system of a channel that turned active, or of one that is so no more.
     #[inline(always)]
-    fn turn(&mut self, system: usize, active: bool) {
-        let channel = self.channel_of_system[system % 1_024];
+    fn turn(&mut self, channel: u8, active: bool) {
         let host = self.host_of_channel[usize::from(channel)];
-        self.kept.turn(system, channel, host, active);
+        self.kept.turn(channel, host, active);
     }
 
     /// Tells of the systems of a word that are turned by a change of its status or enables.
     #[inline(always)]
     fn turn_all(&mut self, word: usize, before: u32) {
-        if !K::ANY {
+        self.kept.change(word);
+        if !K::TURNS {
             return;
         }
         let after = self.active(word);
-        each_bit(after & !before, |bit| self.turn(32 * word + bit, true));
-        each_bit(before & !after, |bit| self.turn(32 * word + bit, false));
+        let channel = |cic: &Self, bit| cic.channel_of_system[(32 * word + bit) % 1_024];
+        each_bit(after & !before, |bit| self.turn(channel(self, bit), true));
+        each_bit(before & !after, |bit| self.turn(channel(self, bit), false));
     }
 
     #[inline(always)]
@@ -221,8 +230,9 @@ impl<K: Kept> Cic<K> {
         let before = words[word];
         words[word] = if value { before | bit } else { before & !bit };
         let turned = (words[word] ^ before) & others[word] != 0;
-        if K::ANY && turned {
-            self.turn(system as usize, value);
+        self.kept.change(word);
+        if K::TURNS && turned {
+            self.turn(self.channel_of_system[system as usize % 1_024], value);
         }
     }
 
@@ -270,13 +280,15 @@ impl<K: Kept> Cic<K> {
         let entries = entries(value, self.systems - first as u32, self.channels)?;
         for (nth, channel) in entries.into_iter().enumerate() {
             let system = (first + nth) % 1_024;
-            let active = K::ANY && self.active(system / 32) >> (system % 32) & 1 == 1;
-            if active && self.channel_of_system[system] != channel {
-                self.turn(system, false);
-                self.channel_of_system[system] = channel;
-                self.turn(system, true);
+            let before = std::mem::replace(&mut self.channel_of_system[system], channel);
+            if before == channel {
+                continue;
             }
-            self.channel_of_system[system] = channel;
+            self.kept.remap(system, before, channel);
+            if K::TURNS && self.active(system / 32) >> (system % 32) & 1 == 1 {
+                self.turn(before, false);
+                self.turn(channel, true);
+            }
         }
         Ok(())
     }
@@ -444,7 +456,7 @@ impl<K: Kept> Device for Cic<K> {
 
 /// Does something with each set bit, the lowest first.
 #[inline(always)]
-fn each_bit(mut bits: u32, mut act: impl FnMut(usize)) {
+pub fn each_bit(mut bits: u32, mut act: impl FnMut(usize)) {
     while bits != 0 {
         act(bits.trailing_zeros() as usize);
         bits &= bits - 1;

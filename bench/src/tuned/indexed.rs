@@ -1,7 +1,8 @@
 //! The CIC with prioritised indices (02, 6/12; 001, 1.3.5, 2.2.2, 2.2.10 and 2.2.17): what an index names comes from kept
-//! words, three looks for the lowest bit, however many systems and channels there are.
+//! words, by three looks for the lowest bit, however many systems and channels there are. A step says which word of systems
+//! it wrote; the systems that turned in it are sorted by the next read of an index.
 
-use super::cic::{existing, Cic, Kept};
+use super::cic::{each_bit, existing, Cic, Kept};
 use super::reader::{Fault, Reader};
 use super::text::Line;
 use super::{mixed, Device, Done};
@@ -14,8 +15,11 @@ const FREE: u32 = u32::MAX;
 /// Where the control register has the hold mode.
 const HOLD: u32 = 4;
 
-/// The active systems by channel.
+/// The active systems by channel, as they were when they were sorted last.
 pub struct Waiting {
+    /// The words of systems that were written since, and what all of them were.
+    written: u32,
+    sorted: [u32; 32],
     /// Of each channel the words of its active systems.
     systems: Box<[[u32; 32]; 256]>,
     /// Which of those words have any.
@@ -27,6 +31,20 @@ pub struct Waiting {
 }
 
 impl Waiting {
+    /// The bit of a system turns; what says that a word or a channel has any is made anew from what it is about.
+    #[inline(always)]
+    fn flip(&mut self, system: usize, channel: u8) {
+        let (word, nth) = (system / 32 % 32, usize::from(channel));
+        let systems = &mut self.systems[nth][word];
+        *systems ^= 1 << (system % 32);
+        let any = u32::from(*systems != 0);
+        let words = &mut self.words[nth];
+        *words = *words & !(1 << word) | any << word;
+        let any = u64::from(*words != 0);
+        let channels = &mut self.channels[nth / 64];
+        *channels = *channels & !(1 << (nth % 64)) | any << (nth % 64);
+    }
+
     /// The word of an index over some channels: the lowest of them with an active system, and of it the lowest system.
     #[inline(always)]
     fn first(&self, over: &[u64; 4]) -> u32 {
@@ -51,11 +69,15 @@ fn zeros<T: Clone, const N: usize>(zero: T) -> Box<[T; N]> {
 }
 
 impl Kept for Waiting {
+    const TURNS: bool = false;
+
     /// Every channel leads to host 0.
     fn new() -> Waiting {
         let mut led = zeros([0; 4]);
         led[0] = [u64::MAX; 4];
         Waiting {
+            written: 0,
+            sorted: [0; 32],
             systems: zeros([0; 32]),
             words: [0; 256],
             channels: [0; 4],
@@ -63,18 +85,20 @@ impl Kept for Waiting {
         }
     }
 
-    /// The bit of the system turns; what says that a word or a channel has any is made anew from what it is about.
+    fn turn(&mut self, _: u8, _: u8, _: bool) {}
+
     #[inline(always)]
-    fn turn(&mut self, system: usize, channel: u8, _: u8, _: bool) {
-        let (word, nth) = (system / 32 % 32, usize::from(channel));
-        let systems = &mut self.systems[nth][word];
-        *systems ^= 1 << (system % 32);
-        let any = u32::from(*systems != 0);
-        let words = &mut self.words[nth];
-        *words = *words & !(1 << word) | any << word;
-        let any = u64::from(*words != 0);
-        let channels = &mut self.channels[nth / 64];
-        *channels = *channels & !(1 << (nth % 64)) | any << (nth % 64);
+    fn change(&mut self, word: usize) {
+        self.written |= 1 << (word % 32);
+    }
+
+    /// A system that is sorted goes along.
+    #[inline(always)]
+    fn remap(&mut self, system: usize, before: u8, after: u8) {
+        if self.sorted[system / 32 % 32] >> (system % 32) & 1 == 1 {
+            self.flip(system, before);
+            self.flip(system, after);
+        }
     }
 
     #[inline(always)]
@@ -93,14 +117,25 @@ impl Kept for Waiting {
 
 /// What the outputs need, and what waits; the first shows.
 impl<K: Kept> Kept for (K, Waiting) {
+    const TURNS: bool = K::TURNS;
+
     fn new() -> Self {
         (K::new(), Waiting::new())
     }
 
     #[inline(always)]
-    fn turn(&mut self, system: usize, channel: u8, host: u8, active: bool) {
-        self.0.turn(system, channel, host, active);
-        self.1.turn(system, channel, host, active);
+    fn turn(&mut self, channel: u8, host: u8, active: bool) {
+        self.0.turn(channel, host, active);
+    }
+
+    #[inline(always)]
+    fn change(&mut self, word: usize) {
+        self.1.change(word);
+    }
+
+    #[inline(always)]
+    fn remap(&mut self, system: usize, before: u8, after: u8) {
+        self.1.remap(system, before, after);
     }
 
     #[inline(always)]
@@ -116,6 +151,24 @@ impl<K: Kept> Kept for (K, Waiting) {
     #[inline(always)]
     fn shown(&self) -> (usize, usize) {
         self.0.shown()
+    }
+}
+
+impl<K: Kept> Cic<(K, Waiting)> {
+    /// The active systems by channel, as they are now.
+    #[inline(always)]
+    fn waiting(&mut self) -> &Waiting {
+        let waiting = &mut self.kept.1;
+        each_bit(std::mem::take(&mut waiting.written), |word| {
+            let turned =
+                waiting.sorted[word % 32] ^ self.status[word % 32] & self.enable[word % 32];
+            waiting.sorted[word % 32] ^= turned;
+            each_bit(turned, |bit| {
+                let system = 32 * word + bit;
+                waiting.flip(system, self.channel_of_system[system % 1_024]);
+            });
+        });
+        waiting
     }
 }
 
@@ -175,7 +228,7 @@ impl<K: Kept> Indexed<K> {
         if self.global != FREE {
             return self.global;
         }
-        let word = self.cic.kept.1.first(&[u64::MAX; 4]);
+        let word = self.cic.waiting().first(&[u64::MAX; 4]);
         if self.hold {
             self.global = word;
         }
@@ -188,7 +241,7 @@ impl<K: Kept> Indexed<K> {
         if self.held[nth] & bit != 0 {
             return self.words[host % 256];
         }
-        let waiting = &self.cic.kept.1;
+        let waiting = self.cic.waiting();
         let word = waiting.first(&waiting.led[host % 256]);
         if self.hold {
             self.held[nth] |= bit;
