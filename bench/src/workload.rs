@@ -1,6 +1,6 @@
 //! The traces that are timed, with no step refused: for each controller a small and a full one, of any number of steps;
-//! writes to a full CIC of either kind of which every system is active; polls of a full one with prioritised indices; and reads of an
-//! index beside the words that they look at.
+//! writes to a full CIC, with prioritised indices and without, of which every system is active; polls of a full one with
+//! indices; and reads of an index beside the words that they look at.
 
 mod looks;
 

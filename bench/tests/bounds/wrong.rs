@@ -437,3 +437,27 @@ fn what_is_left_out_is_needed() {
     }
     assert_eq!(left, []);
 }
+
+/// Where all rivals are enabled at the outset it is the figure of 02, 12/12, which asks for no enable, with what is closed
+/// while active put to it; elsewhere it is at most that.
+#[test]
+fn where_all_rivals_are_enabled_it_is_the_figure_of_12_12() {
+    let mut same = 0;
+    for (number, records) in random(10, 1_500) {
+        for source in 1..SOURCES {
+            let old = second(&records, source, OffRivalsCount);
+            for (wait, old) in records.history.waits(source).iter().zip(old) {
+                let (outset, rivals) = (&records.aics[wait.from], records.rivals(wait));
+                let bounded = records.bounded(wait);
+                if rivals.iter().all(|&n| outset.sources()[n].enabled) {
+                    assert_eq!(bounded, old, "case {number}, source {source}");
+                    same += u32::from(!rivals.is_empty());
+                } else if let (Bound::Terms(terms), Bound::Terms(old)) = (bounded.bound, old.bound)
+                {
+                    assert!(terms.sum() <= old.sum(), "case {number}, source {source}");
+                }
+            }
+        }
+    }
+    assert!(same > 500, "{same}");
+}
