@@ -1,6 +1,6 @@
-//! The CIC with prioritised indices (02, 6/12; 001, 1.3.5, 2.2.2, 2.2.10 and 2.2.17): what an index names comes from kept
-//! words, by three looks for the lowest bit, however many systems and channels there are. A step says which word of systems
-//! it wrote; the systems that turned in it are sorted by the next read of an index.
+//! The CIC with prioritised indices (02, 6/12; 001, 1.3.5, 2.2.2, 2.2.10 and 2.2.17): what an index names comes from
+//! kept words, by three looks for the lowest bit, however many systems and channels there are. A step says which word
+//! of systems it wrote; the systems that turned in it are sorted by the next read of an index.
 
 use super::cic::{each_bit, existing, Cic, Kept};
 use super::reader::{Fault, Reader};
@@ -31,6 +31,20 @@ pub struct Waiting {
 }
 
 impl Waiting {
+    /// Every channel leads to host 0.
+    fn new() -> Waiting {
+        let mut led = zeros([0; 4]);
+        led[0] = [u64::MAX; 4];
+        Waiting {
+            written: 0,
+            sorted: [0; 32],
+            systems: zeros([0; 32]),
+            words: [0; 256],
+            channels: [0; 4],
+            led,
+        }
+    }
+
     /// The bit of a system turns; what says that a word or a channel has any is made anew from what it is about.
     #[inline(always)]
     fn flip(&mut self, system: usize, channel: u8) {
@@ -43,6 +57,22 @@ impl Waiting {
         let any = u64::from(*words != 0);
         let channels = &mut self.channels[nth / 64];
         *channels = *channels & !(1 << (nth % 64)) | any << (nth % 64);
+    }
+
+    /// A system that is sorted goes from one channel to another.
+    #[inline(always)]
+    fn remap(&mut self, system: usize, before: u8, after: u8) {
+        if self.sorted[system / 32 % 32] >> (system % 32) & 1 == 1 {
+            self.flip(system, before);
+            self.flip(system, after);
+        }
+    }
+
+    #[inline(always)]
+    fn lead(&mut self, channel: usize, before: u8, after: u8) {
+        let (word, bit) = (channel / 64 % 4, 1 << (channel % 64));
+        self.led[usize::from(before)][word] &= !bit;
+        self.led[usize::from(after)][word] |= bit;
     }
 
     /// The word of an index over some channels: the lowest of them with an active system, and of it the lowest system.
@@ -68,53 +98,6 @@ fn zeros<T: Clone, const N: usize>(zero: T) -> Box<[T; N]> {
     whole.try_into().ok().expect("it has that length")
 }
 
-impl Kept for Waiting {
-    const TURNS: bool = false;
-
-    /// Every channel leads to host 0.
-    fn new() -> Waiting {
-        let mut led = zeros([0; 4]);
-        led[0] = [u64::MAX; 4];
-        Waiting {
-            written: 0,
-            sorted: [0; 32],
-            systems: zeros([0; 32]),
-            words: [0; 256],
-            channels: [0; 4],
-            led,
-        }
-    }
-
-    fn turn(&mut self, _: u8, _: u8, _: bool) {}
-
-    #[inline(always)]
-    fn change(&mut self, word: usize) {
-        self.written |= 1 << (word % 32);
-    }
-
-    /// A system that is sorted goes along.
-    #[inline(always)]
-    fn remap(&mut self, system: usize, before: u8, after: u8) {
-        if self.sorted[system / 32 % 32] >> (system % 32) & 1 == 1 {
-            self.flip(system, before);
-            self.flip(system, after);
-        }
-    }
-
-    #[inline(always)]
-    fn lead(&mut self, channel: usize, before: u8, after: u8) {
-        let (word, bit) = (channel / 64 % 4, 1 << (channel % 64));
-        self.led[usize::from(before)][word] &= !bit;
-        self.led[usize::from(after)][word] |= bit;
-    }
-
-    fn allow(&mut self, _: &[u32; 8], _: bool) {}
-
-    fn shown(&self) -> (usize, usize) {
-        <()>::new().shown()
-    }
-}
-
 /// What the outputs need, and what waits; the first shows.
 impl<K: Kept> Kept for (K, Waiting) {
     const TURNS: bool = K::TURNS;
@@ -130,7 +113,7 @@ impl<K: Kept> Kept for (K, Waiting) {
 
     #[inline(always)]
     fn change(&mut self, word: usize) {
-        self.1.change(word);
+        self.1.written |= 1 << (word % 32);
     }
 
     #[inline(always)]
