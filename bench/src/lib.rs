@@ -11,6 +11,7 @@ macro_rules! say {
 
 pub mod batch;
 pub mod boards;
+pub mod bounds;
 pub mod compare;
 pub mod coverage;
 pub mod digits;

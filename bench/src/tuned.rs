@@ -2,7 +2,6 @@
 //! outputs kept up to date, numbers of one and two bytes first, a line of text under one test for room. In safe Rust.
 //!
 //! It is no second opinion: the model is what the documents are read into, and every byte here has to be the model's.
-//! The CIC with prioritised indices is not tuned: it goes by the model's own steps.
 
 #![forbid(unsafe_code)]
 
@@ -16,9 +15,9 @@ mod text;
 
 use self::aic::Aic;
 use self::aintc::Aintc;
-use self::cic::Cic;
+use self::cic::{Cic, Kept};
 use self::core::CoreInterrupt;
-use self::indexed::Plain;
+use self::indexed::Indexed;
 use self::reader::{Fault, Reader};
 use self::text::{Line, Text};
 use crate::model::{Answer, Kind, Refusal, PRIVILEGED};
@@ -54,7 +53,7 @@ pub fn added(answers: u64, answer: Answer) -> u64 {
 /// Plays a trace up to a number of steps, with no text.
 pub fn play(trace: &[u8], limit: u32) -> Played {
     let mut answers = Answers(0);
-    let mut played = run::<false>(trace, limit, &mut answers);
+    let mut played = run(trace, limit, &mut answers);
     played.answers = answers.0;
     played
 }
@@ -62,7 +61,7 @@ pub fn play(trace: &[u8], limit: u32) -> Played {
 /// Writes the listing of a trace to the start of the room and answers how many bytes; what finds no room is dropped.
 pub fn list(trace: &[u8], limit: u32, out: &mut [u8]) -> usize {
     let mut text = Text::new(out);
-    let played = run::<true>(trace, limit, &mut text);
+    let played = run(trace, limit, &mut text);
     text.ended(played.refusal, played.offset);
     text.written()
 }
@@ -86,6 +85,9 @@ trait Device {
 
 /// Who is told of the steps.
 trait Sink {
+    /// What a CIC keeps for the outputs that are told.
+    type Outputs: Kept;
+
     fn started(&mut self, kind: Kind);
 
     /// A step was carried out, with its letter in the listing and the value read.
@@ -98,6 +100,8 @@ trait Sink {
 struct Answers(u64);
 
 impl Sink for Answers {
+    type Outputs = ();
+
     fn started(&mut self, _: Kind) {}
 
     #[inline(always)]
@@ -111,10 +115,10 @@ impl Sink for Answers {
     }
 }
 
-/// Plays into a sink. Only where outputs are `SHOWN` are they kept up to date.
-fn run<const SHOWN: bool>(trace: &[u8], limit: u32, sink: &mut impl Sink) -> Played {
+/// Plays into a sink.
+fn run(trace: &[u8], limit: u32, sink: &mut impl Sink) -> Played {
     let mut played = Played::default();
-    let ending = started::<SHOWN>(&mut played, trace, limit, sink);
+    let ending = started(&mut played, trace, limit, sink);
     (played.refusal, played.offset) = match ending {
         Ok(()) => (0, trace.len()),
         Err(fault) => (fault.refusal.number(), fault.offset),
@@ -123,11 +127,11 @@ fn run<const SHOWN: bool>(trace: &[u8], limit: u32, sink: &mut impl Sink) -> Pla
 }
 
 /// Reads the configuration, judging each number as it is read, and plays on the controller it asks for.
-fn started<const SHOWN: bool>(
+fn started<S: Sink>(
     played: &mut Played,
     trace: &[u8],
     limit: u32,
-    sink: &mut impl Sink,
+    sink: &mut S,
 ) -> Result<(), Fault> {
     if trace.len() > LONGEST {
         return Err(Fault::new(Refusal::TraceTooLong, LONGEST));
@@ -140,11 +144,14 @@ fn started<const SHOWN: bool>(
             steps(core, played, reader, limit, sink)
         }
         2 => {
-            let cic = Cic::<SHOWN>::read_from(&mut reader)?;
+            let cic = Cic::<S::Outputs>::read_from(&mut reader)?;
             steps(cic, played, reader, limit, sink)
         }
         3 => steps(Aintc::new(), played, reader, limit, sink),
-        4 => steps(Plain::read_from(&mut reader)?, played, reader, limit, sink),
+        4 => {
+            let indexed = Indexed::<S::Outputs>::read_from(&mut reader)?;
+            steps(indexed, played, reader, limit, sink)
+        }
         _ => Err(Fault::new(Refusal::UnknownKind, 0)),
     }
 }

@@ -1,6 +1,6 @@
 //! The traces that are timed, with no step refused: for each controller a small and a full one, of any number of steps;
-//! writes to a full CIC of which every system is active; polls of a full one with prioritised indices; and reads of an
-//! index beside the words that they look at.
+//! writes to a full CIC, with prioritised indices and without, of which every system is active; polls of a full one with
+//! indices; and reads of an index beside the words that they look at.
 
 mod looks;
 
@@ -88,24 +88,42 @@ const PLANS: [Plan; 10] = [
     },
 ];
 
-/// A CIC of full size with all systems active, and what is written to it.
-const BUSY: [Plan; 3] = [
+/// A CIC of full size with all systems active, of either kind, and what is written to it.
+const BUSY: [Plan; 6] = [
     Plan {
         controller: "busy CIC",
         size: "writes of the channel map",
         opening: || cic(1_024, 256, 256, u32::MAX),
-        step: |random, script, _| script.write(0x400 + 4 * random.below(256), random.bits() as u32),
+        step: busy_channel_step,
     },
     Plan {
         controller: "busy CIC",
         size: "writes of the host map",
         opening: || cic(1_024, 256, 256, u32::MAX),
-        step: |random, script, _| script.write(0x800 + 4 * random.below(64), random.bits() as u32),
+        step: busy_host_step,
     },
     Plan {
         controller: "busy CIC",
         size: "writes of status words",
         opening: || cic(1_024, 256, 256, u32::MAX),
+        step: busy_status_step,
+    },
+    Plan {
+        controller: "busy CIC with indices",
+        size: "writes of the channel map",
+        opening: || indexed(1_024, 256, 256, u32::MAX),
+        step: busy_channel_step,
+    },
+    Plan {
+        controller: "busy CIC with indices",
+        size: "writes of the host map",
+        opening: || indexed(1_024, 256, 256, u32::MAX),
+        step: busy_host_step,
+    },
+    Plan {
+        controller: "busy CIC with indices",
+        size: "writes of status words",
+        opening: || indexed(1_024, 256, 256, u32::MAX),
         step: busy_status_step,
     },
 ];
@@ -322,6 +340,16 @@ fn indexed_step(random: &mut Random, script: &mut Script, at: u32, systems: u32,
         6 => script.read(0x004),
         _ => script.read(0x010),
     }
+}
+
+/// Four systems go to any channels.
+fn busy_channel_step(random: &mut Random, script: &mut Script, _: u32) {
+    script.write(0x400 + 4 * random.below(256), random.bits() as u32);
+}
+
+/// Four channels go to any hosts.
+fn busy_host_step(random: &mut Random, script: &mut Script, _: u32) {
+    script.write(0x800 + 4 * random.below(64), random.bits() as u32);
 }
 
 /// A whole word of systems is cleared, and the same one set again in the next step.

@@ -134,6 +134,38 @@ fn the_state_is_in_the_figure() {
     }
 }
 
+/// What an index holds is told apart by which index it is and by its word.
+#[test]
+fn what_is_held_is_in_the_figure() {
+    let [.., mut script] = short_traces();
+    script.write(0x028, 3);
+    let state = |writes: &[(u32, u32)], reads: &[u32]| {
+        let mut changed = script.clone();
+        for &(offset, value) in writes {
+            changed.write(offset, value);
+        }
+        for &offset in reads {
+            changed.read(offset);
+        }
+        // Once it is cleared nothing but what is held tells of system 3.
+        changed.write(0x02C, 3);
+        play(&changed.bytes, 99).state
+    };
+    let mut states = vec![
+        state(&[], &[]),
+        state(&[], &[0x080]),
+        state(&[], &[0x900]),
+        state(&[], &[0x904]),
+        state(&[], &[0x080, 0x900]),
+        state(&[(0x02C, 3)], &[0x080]),
+        state(&[(0x02C, 3)], &[0x900]),
+    ];
+    let all = states.len();
+    states.sort_unstable();
+    states.dedup();
+    assert_eq!(states.len(), all);
+}
+
 #[test]
 fn the_differential_test_asks_it() {
     let status = |words: &[&str]| {

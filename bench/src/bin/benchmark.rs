@@ -21,7 +21,7 @@ Nanoseconds per step in the fastest of several rounds; a round is one play of th
 - proved: the proved library through its C functions; plain: its loops over a controller of any kind.
 - model: the plain Rust model, its listing with digits made by hand; std text: with the standard library's formatting, as
   the differential test has it.
-- tuned: the Rust player that is tuned by hand; a CIC with indices is not tuned there, and goes by the model's steps.
+- tuned: the Rust player that is tuned by hand.
 - Listing is play and listing. Play is the steps alone, with no text and no outputs after each step. Figures are play and
   the count of a report, with no text.
 
@@ -38,8 +38,8 @@ and nanoseconds, for a CIC with indices of 1,024 systems, 256 channels and 256 h
 - question: one call of `wisteria_looked` (the model's `looked`) on a trace of those first steps, less one call of
   `wisteria_steps` (the model's play) on the same trace, each the mean of 1,000 calls in the fastest round.
 
-| channels searched | pending | words looked at | read, proved | read, model | question, proved | question, model |
-|---|---|--:|--:|--:|--:|--:|";
+| channels searched | pending | words looked at | read, proved | read, model | read, tuned | question, proved | question, model |
+|---|---|--:|--:|--:|--:|--:|--:|";
 
 /// How many calls of a question are timed together.
 const CALLS: u32 = 1_000;
@@ -61,35 +61,45 @@ fn main() {
     let most: Vec<_> = few.chain(workloads(PROGRAM_LIMIT)).collect();
     let times: Vec<_> = most.iter().map(|each| measure(each, rounds)).collect();
     let rows = || most.iter().zip(&times);
-    println!("Listing:\n\n{}", head("trace bytes | listing bytes", true));
-    rows().for_each(|(workload, times)| println!("{}", listing_row(workload, times)));
-    println!("\nPlay:\n\n{}", head("trace bytes", false));
-    rows().for_each(|(workload, times)| println!("{}", play_row(workload, times)));
+    print_tables("Listing:", "Play:", rows());
     println!("\nFigures, beside play and listing, all proved, and the figures of the model:\n");
     println!("{FIGURES_HEAD}");
     for (workload, times) in rows() {
         println!("{}", figures_row(workload, times, rounds));
     }
-    println!(
-        "\nListing of a full CIC, 1,024 systems active:\n\n{}",
-        head("trace bytes | listing bytes", true)
-    );
-    for workload in busy() {
-        println!("{}", listing_row(&workload, &measure(&workload, rounds)));
+    println!();
+    let full = [
+        ("a full CIC, 1,024 systems active", busy()),
+        ("polls of a full CIC with indices", polls(PROGRAM_LIMIT)),
+    ];
+    for (what, workloads) in full {
+        let times: Vec<_> = workloads.iter().map(|each| measure(each, rounds)).collect();
+        let (listing, play) = (format!("Listing of {what}:"), format!("Play of {what}:"));
+        print_tables(&listing, &play, workloads.iter().zip(&times));
+        println!();
     }
-    println!(
-        "\nListing of polls of a full CIC with indices:\n\n{}",
-        head("trace bytes | listing bytes", true)
-    );
-    for workload in polls(PROGRAM_LIMIT) {
-        println!("{}", listing_row(&workload, &measure(&workload, rounds)));
-    }
-    println!("\n{LOOK_NOTES}");
+    println!("{LOOK_NOTES}");
     for look in looks(PROGRAM_LIMIT) {
         println!("{}", look_row(&look, rounds));
     }
     if let Some(peak) = peak_memory() {
         println!("\nPeak memory of this process, all sides and all buffers: {peak}.");
+    }
+}
+
+/// Two tables of the same workloads.
+fn print_tables<'a>(
+    listing: &str,
+    play: &str,
+    rows: impl Iterator<Item = (&'a Workload, &'a Times)> + Clone,
+) {
+    println!("{listing}\n\n{}", head("trace bytes | listing bytes", true));
+    for (workload, times) in rows.clone() {
+        println!("{}", listing_row(workload, times));
+    }
+    println!("\n{play}\n\n{}", head("trace bytes", false));
+    for (workload, times) in rows {
+        println!("{}", play_row(workload, times));
     }
 }
 
@@ -167,7 +177,7 @@ fn look_row(look: &Look, rounds: usize) -> String {
     proved.check_words(look);
     let (opening, offset) = (look.opening.as_slice(), look.offset);
     let calls = |run: &dyn Fn()| nanoseconds(|| (0..CALLS).for_each(|_| run()));
-    let mut samples = [const { Vec::new() }; 6];
+    let mut samples = [const { Vec::new() }; 7];
     for _ in 0..rounds {
         samples[0].push(nanoseconds(|| proved.play()));
         samples[1].push(nanoseconds(|| play_model(&look.reads)));
@@ -179,14 +189,17 @@ fn look_row(look: &Look, rounds: usize) -> String {
         samples[5].push(calls(&|| {
             black_box(play(black_box(opening), PROGRAM_LIMIT, &mut ()));
         }));
+        samples[6].push(nanoseconds(|| play_tuned(&look.reads)));
     }
-    let [read, read_model, asked, played, asked_model, played_model] = samples.map(fastest);
+    let [read, read_model, asked, played, asked_model, played_model, read_tuned] =
+        samples.map(fastest);
     let question = |asked: u128, played: u128| {
         format!("{:.0}", (asked as f64 - played as f64) / f64::from(CALLS))
     };
     let cells = [
         linked(per_step(&look.reads, read)),
         per_step(&look.reads, read_model),
+        per_step(&look.reads, read_tuned),
         linked(question(asked, played)),
         question(asked_model, played_model),
     ];

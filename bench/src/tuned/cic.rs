@@ -9,24 +9,66 @@ use crate::model::{Answer, Kind, Refusal};
 /// What "lowest asserted host" shows where there is none.
 const NO_HOST: usize = 256;
 
-/// The controller; its outputs are kept up to date only if `SHOWN`.
-pub struct Cic<const SHOWN: bool> {
+/// What is kept beside the state and told of its changes; who needs nothing of it keeps `()`.
+pub trait Kept {
+    /// Whether to tell of each system that turns.
+    const TURNS: bool;
+
+    fn new() -> Self;
+
+    /// A system of a channel and of the host of that turned active, or is so no more.
+    fn turn(&mut self, channel: u8, host: u8, active: bool);
+
+    /// A word of status or enables was written.
+    fn change(&mut self, _word: usize) {}
+
+    /// A system is mapped to another channel than before.
+    fn remap(&mut self, _system: usize, _before: u8, _after: u8) {}
+
+    /// A channel is led to another host than before.
+    fn lead(&mut self, channel: usize, before: u8, after: u8);
+
+    /// After a change of the enables of hosts.
+    fn allow(&mut self, host_enable: &[u32; 8], all: bool);
+
+    /// How many hosts are asserted, and the lowest.
+    fn shown(&self) -> (usize, usize);
+}
+
+impl Kept for () {
+    const TURNS: bool = false;
+
+    fn new() {}
+
+    fn turn(&mut self, _: u8, _: u8, _: bool) {}
+
+    fn lead(&mut self, _: usize, _: u8, _: u8) {}
+
+    fn allow(&mut self, _: &[u32; 8], _: bool) {}
+
+    fn shown(&self) -> (usize, usize) {
+        (0, NO_HOST)
+    }
+}
+
+/// The controller, with what is kept beside it.
+pub struct Cic<K> {
     systems: u32,
     channels: u32,
-    hosts: u32,
+    pub hosts: u32,
     revision: u32,
     global_enable: bool,
     lines: [u32; 32],
-    status: [u32; 32],
-    enable: [u32; 32],
-    channel_of_system: [u8; 1_024],
+    pub status: [u32; 32],
+    pub enable: [u32; 32],
+    pub channel_of_system: [u8; 1_024],
     host_of_channel: [u8; 256],
     host_enable: [u32; 8],
-    outputs: Outputs,
+    pub kept: K,
 }
 
 /// What is kept beside the state for the outputs. An active system is set and enabled.
-struct Outputs {
+pub struct Outputs {
     /// The active systems of each channel and of each host.
     of_channel: [u16; 256],
     of_host: [u16; 256],
@@ -38,16 +80,6 @@ struct Outputs {
 }
 
 impl Outputs {
-    fn new() -> Outputs {
-        Outputs {
-            of_channel: [0; 256],
-            of_host: [0; 256],
-            reached: [0; 4],
-            allowed: [0; 4],
-            asserted: 0,
-        }
-    }
-
     #[inline(always)]
     fn add(&mut self, host: u8, systems: u16) {
         let before = self.of_host[usize::from(host)];
@@ -78,16 +110,6 @@ impl Outputs {
         self.asserted = self.asserted.wrapping_add(allowed * change);
     }
 
-    /// After a change of the enables of hosts.
-    fn allow(&mut self, host_enable: &[u32; 8], all: bool) {
-        self.asserted = 0;
-        for (word, pair) in host_enable.chunks_exact(2).enumerate() {
-            let enabled = u64::from(pair[1]) << 32 | u64::from(pair[0]);
-            self.allowed[word] = if all { enabled } else { 0 };
-            self.asserted += (self.allowed[word] & self.reached[word]).count_ones();
-        }
-    }
-
     #[inline(always)]
     fn lowest(&self) -> usize {
         for word in 0..4 {
@@ -100,7 +122,57 @@ impl Outputs {
     }
 }
 
-impl<const SHOWN: bool> Cic<SHOWN> {
+impl Kept for Outputs {
+    const TURNS: bool = true;
+
+    fn new() -> Outputs {
+        Outputs {
+            of_channel: [0; 256],
+            of_host: [0; 256],
+            reached: [0; 4],
+            allowed: [0; 4],
+            asserted: 0,
+        }
+    }
+
+    #[inline(always)]
+    fn turn(&mut self, channel: u8, host: u8, active: bool) {
+        let count = &mut self.of_channel[usize::from(channel)];
+        if active {
+            *count = count.wrapping_add(1);
+            self.add(host, 1);
+        } else {
+            *count = count.wrapping_sub(1);
+            self.take(host, 1);
+        }
+    }
+
+    /// The active systems of the channel go along.
+    #[inline(always)]
+    fn lead(&mut self, channel: usize, before: u8, after: u8) {
+        let systems = self.of_channel[channel % 256];
+        if systems != 0 {
+            self.take(before, systems);
+            self.add(after, systems);
+        }
+    }
+
+    fn allow(&mut self, host_enable: &[u32; 8], all: bool) {
+        self.asserted = 0;
+        for (word, pair) in host_enable.chunks_exact(2).enumerate() {
+            let enabled = u64::from(pair[1]) << 32 | u64::from(pair[0]);
+            self.allowed[word] = if all { enabled } else { 0 };
+            self.asserted += (self.allowed[word] & self.reached[word]).count_ones();
+        }
+    }
+
+    #[inline(always)]
+    fn shown(&self) -> (usize, usize) {
+        (self.asserted as usize, self.lowest())
+    }
+}
+
+impl<K: Kept> Cic<K> {
     pub fn read_from(reader: &mut Reader) -> Result<Self, Fault> {
         let systems = reader.limited(1, 1_024)?;
         let channels = reader.limited(1, 256)?;
@@ -118,34 +190,28 @@ impl<const SHOWN: bool> Cic<SHOWN> {
             channel_of_system: [0; 1_024],
             host_of_channel: [0; 256],
             host_enable: [0; 8],
-            outputs: Outputs::new(),
+            kept: K::new(),
         })
     }
 
-    /// Counts a system that turned active, or one that is so no more.
+    /// Tells of a system of a channel that turned active, or of one that is so no more.
     #[inline(always)]
-    fn turn(&mut self, system: usize, active: bool) {
-        let channel = self.channel_of_system[system % 1_024];
+    fn turn(&mut self, channel: u8, active: bool) {
         let host = self.host_of_channel[usize::from(channel)];
-        let count = &mut self.outputs.of_channel[usize::from(channel)];
-        if active {
-            *count = count.wrapping_add(1);
-            self.outputs.add(host, 1);
-        } else {
-            *count = count.wrapping_sub(1);
-            self.outputs.take(host, 1);
-        }
+        self.kept.turn(channel, host, active);
     }
 
-    /// Counts the systems of a word that are turned by a change of its status or enables.
+    /// Tells of the systems of a word that are turned by a change of its status or enables.
     #[inline(always)]
     fn turn_all(&mut self, word: usize, before: u32) {
-        if !SHOWN {
+        self.kept.change(word);
+        if !K::TURNS {
             return;
         }
         let after = self.active(word);
-        each_bit(after & !before, |bit| self.turn(32 * word + bit, true));
-        each_bit(before & !after, |bit| self.turn(32 * word + bit, false));
+        let channel = |cic: &Self, bit| cic.channel_of_system[(32 * word + bit) % 1_024];
+        each_bit(after & !before, |bit| self.turn(channel(self, bit), true));
+        each_bit(before & !after, |bit| self.turn(channel(self, bit), false));
     }
 
     #[inline(always)]
@@ -164,8 +230,9 @@ impl<const SHOWN: bool> Cic<SHOWN> {
         let before = words[word];
         words[word] = if value { before | bit } else { before & !bit };
         let turned = (words[word] ^ before) & others[word] != 0;
-        if SHOWN && turned {
-            self.turn(system as usize, value);
+        self.kept.change(word);
+        if K::TURNS && turned {
+            self.turn(self.channel_of_system[system as usize % 1_024], value);
         }
     }
 
@@ -191,9 +258,7 @@ impl<const SHOWN: bool> Cic<SHOWN> {
     }
 
     fn allow(&mut self) {
-        if SHOWN {
-            self.outputs.allow(&self.host_enable, self.global_enable);
-        }
+        self.kept.allow(&self.host_enable, self.global_enable);
     }
 
     /// Ones set or clear their bits in a word of status or enables, as far as there are such systems.
@@ -210,32 +275,32 @@ impl<const SHOWN: bool> Cic<SHOWN> {
         self.turn_all(word, before);
     }
 
-    /// Four channels, or as many as there are systems; an active system is counted where it goes.
+    /// Four channels, or as many as there are systems; an active system is told where it goes.
     fn write_channel_map(&mut self, first: usize, value: u32) -> Done {
         let entries = entries(value, self.systems - first as u32, self.channels)?;
         for (nth, channel) in entries.into_iter().enumerate() {
             let system = (first + nth) % 1_024;
-            let active = SHOWN && self.active(system / 32) >> (system % 32) & 1 == 1;
-            if active && self.channel_of_system[system] != channel {
-                self.turn(system, false);
-                self.channel_of_system[system] = channel;
-                self.turn(system, true);
+            let before = std::mem::replace(&mut self.channel_of_system[system], channel);
+            if before == channel {
+                continue;
             }
-            self.channel_of_system[system] = channel;
+            self.kept.remap(system, before, channel);
+            if K::TURNS && self.active(system / 32) >> (system % 32) & 1 == 1 {
+                self.turn(before, false);
+                self.turn(channel, true);
+            }
         }
         Ok(())
     }
 
-    /// Four hosts, or as many as there are channels; the active systems of a channel go along.
+    /// Four hosts, or as many as there are channels.
     fn write_host_map(&mut self, first: usize, value: u32) -> Done {
         let entries = entries(value, self.channels - first as u32, self.hosts)?;
         for (nth, host) in entries.into_iter().enumerate() {
             let channel = (first + nth) % 256;
             let before = std::mem::replace(&mut self.host_of_channel[channel], host);
-            let systems = self.outputs.of_channel[channel];
-            if SHOWN && systems != 0 && before != host {
-                self.outputs.take(before, systems);
-                self.outputs.add(host, systems);
+            if before != host {
+                self.kept.lead(channel, before, host);
             }
         }
         Ok(())
@@ -309,7 +374,7 @@ const ENABLED_CLEAR: u32 = 5;
 const ENABLE_SET: u32 = 6;
 const ENABLE_CLEAR: u32 = 7;
 
-impl<const SHOWN: bool> Device for Cic<SHOWN> {
+impl<K: Kept> Device for Cic<K> {
     const KIND: Kind = Kind::Cic;
 
     #[inline(always)]
@@ -368,8 +433,8 @@ impl<const SHOWN: bool> Device for Cic<SHOWN> {
 
     #[inline(always)]
     fn show(&self, line: &mut Line, at: usize) -> usize {
-        let asserted = self.outputs.asserted as usize;
-        show_hosts(line, at, asserted, self.outputs.lowest())
+        let (asserted, lowest) = self.kept.shown();
+        show_hosts(line, at, asserted, lowest)
     }
 
     fn digest(&self) -> u64 {
@@ -391,7 +456,7 @@ impl<const SHOWN: bool> Device for Cic<SHOWN> {
 
 /// Does something with each set bit, the lowest first.
 #[inline(always)]
-fn each_bit(mut bits: u32, mut act: impl FnMut(usize)) {
+pub fn each_bit(mut bits: u32, mut act: impl FnMut(usize)) {
     while bits != 0 {
         act(bits.trailing_zeros() as usize);
         bits &= bits - 1;
@@ -400,7 +465,7 @@ fn each_bit(mut bits: u32, mut act: impl FnMut(usize)) {
 
 /// A 1 for each bit of a word that is below the count.
 #[inline(always)]
-fn existing(count: u32, word: usize) -> u32 {
+pub fn existing(count: u32, word: usize) -> u32 {
     match count - 32 * word as u32 {
         32.. => u32::MAX,
         some => (1 << some) - 1,

@@ -1,5 +1,6 @@
 //! The lines of a listing, each written under one test for room.
 
+use super::cic::Outputs;
 use super::{Device, Sink};
 use crate::model::{Kind, Refusal};
 
@@ -53,6 +54,8 @@ impl<'a> Text<'a> {
 }
 
 impl Sink for Text<'_> {
+    type Outputs = Outputs;
+
     fn started(&mut self, kind: Kind) {
         self.at = cut(self.out, self.at, kind.name().as_bytes());
         self.at = cut(self.out, self.at, b"\n");
