@@ -1,0 +1,3 @@
+-- The CIC with prioritised indices in a room.
+pub mod Marks
+pub mod Words
