@@ -17,7 +17,7 @@ use Rattle.words.proofs.ChoiceLaws.{pick-true}
 use Rattle.words.proofs.CountingLaws.{any-some, some-any, any-fails, any-none, all-at}
 use Rattle.words.proofs.HopLaws.{lowest-in, lowest-before, hop-here, hop-other}
 use Rattle.words.proofs.TruthLaws.{and-left, and-right, and-both, clash, not-holds, same-test, told}
-use Rattle.words.proofs.WordLaws.{bit-wordOf, bit-both}
+use Rattle.words.proofs.WordLaws.{bit-wordOf, bit-both, bit-none}
 use Rattle.cic_record.specs.declared.Channel.{Channel}
 use Rattle.cic_record.specs.declared.Cic.{Cic}
 use Rattle.cic_record.specs.declared.Host.{Host}
@@ -27,6 +27,13 @@ use Rattle.cic_record.proofs.PartsLaws.{sound-parts, sound-counts}
 use Rattle.cic_indices.specs.Order.{noneWord, pendingIn, busy, firstIn, leads, indexOver, indexOf}
 use Rattle.cic_indices.proofs.IndexLaws.{passes, first-parts, found-channel, found-no-channel}
 use Rattle.cic_indices.proofs.SearchLaws.{found-here}
+use Rattle.cic_held.specs.declared.Prioritised.{Prioritised}
+use Rattle.rooms.proofs.PartLaws.{made-get}
+use Rattle.indexed_room.specs.Marks.{Marks}
+use Rattle.indexed_room.specs.Room.{Laid}
+use Rattle.indexed_room.specs.Search.{Lit, Asked}
+use Rattle.indexed_room.proofs.AskLaws.{asked-every, asked-none, asked-host, host-idle, index-none}
+use Rattle.indexed_room.proofs.FrameLaws.{words-is, active-is, busy-is, host-count-is, channel-marks, host-marks}
 use Rattle.indexed_room.specs.Words.{inWord, wordsOf}
 
 -- system interrupt 32 * w + i is set and enabled, and its channel is k
@@ -119,3 +126,51 @@ nothing-left c k left ok h z =
     (λ s l. let e : 32 * (s / 32) + s % 32 ≡ s = omega arith in
     ap (λ (x : ℕ). pendingIn c (channelNumber k) (system x)) (sym e) ∙ sym (lit-pending c k (s / 32) (s % 32) (omega arith))
     ∙ h (s / 32) (omega (arith, l, sound-counts c ok .systems)) (z (s / 32)) (s % 32) (omega arith))
+
+-- ---- word by word
+
+module _ (c : Cic) (k left w x : ℕ) (h : OnlyLeft c k left) (fits : left < 2 ^ 32) (some : left ≢ 0) (low : w ≡ lowestBelow 32 (bit left)) (lit : Lit c k w x) where
+  -- the lowest bit of the lowest word that is left, if it has one
+  pub first-found : (i : ℕ) → sound c ≡ true → x < 2 ^ 32 → x ≢ 0 → i ≡ lowestBelow 32 (bit x) → 32 * w + i ≡ firstIn c (channelNumber k)
+  first-found i ok f n e =
+      let m = lowest-in x i f n e in
+      first-here c k left w i ok h (lowest-in left w fits some low .0) (lowest-before left w low) (m .0) (sym (lit .bits i (m .0)) ∙ m .1)
+      (λ j l. sym (lit .bits j (omega (arith, l, m .0))) ∙ lowest-before x i e j l)
+
+  -- else the word is left out
+  pub first-on : (y : ℕ) → x ≡ 0 → y ≡ withBit left w false → OnlyLeft c k y
+  first-on y z e =
+      rw e (left-less c k left w h (lowest-in left w fits some low .0) (λ i l. sym (lit .bits i l) ∙ ap (λ (n : ℕ). bit n i) z ∙ bit-none i))
+
+pub first-never : (c : Cic) (k left : ℕ) → sound c ≡ true → OnlyLeft c k left → left ≡ 0 → busy c (channelNumber k) ≡ false
+first-never c k left ok h z = nothing-left c k left ok h (λ w. ap (λ (n : ℕ). bit n w) z ∙ bit-none w)
+
+-- ---- in a room
+
+module _ {p : Prioritised} {room : List ℕ} (h : Laid p room) where
+  pub lit-none : (k w : ℕ) → w < 32 → getD room (160 + w) 0 ≡ 0 → Lit (p .cic) k w 0
+  lit-none k w l z =
+      record { bits = λ i m. bit-none i ∙ sym (ap (λ (x : ℕ). bit x i && eqb (getD (p .cic .channel) (32 * w + i) 0) k) (sym (active-is h refl w l) ∙ z) ∙ ap (λ (b : Bool). b && eqb (getD (p .cic .channel) (32 * w + i) 0) k) (bit-none i)) }
+
+  pub lit-some : (k w m x : ℕ) → w < 32 → Marks room (256 + 8 * w) k 32 m → x ≡ both (getD room (160 + w) 0) m → Lit (p .cic) k w x
+  lit-some k w m x l a e =
+      record {
+        bits = λ i n. ap (λ (y : ℕ). bit y i) e ∙ bit-both (getD room (160 + w) 0) m i n
+          ∙ ap₂ (λ (y z : Bool). y && z) (ap (λ (y : ℕ). bit y i) (active-is h refl w l)) (channel-marks h w k m l a i n);
+      }
+
+  pub left-first : (k x : ℕ) → k < 256 → x ≡ getD room (1280 + k) 0 → OnlyLeft (p .cic) k x
+  left-first k x l e = rw (e ∙ words-is h k l ∙ made-get 256 (wordsOf (p .cic .channel)) k l) (left-all (p .cic) k)
+
+  pub asked-some : (every : Bool) (g : Host) (w x : ℕ) → sound (p .cic) ≡ true → w < 8 → x ≡ getD room (32 + w) 0 → (every || eqb x 0) ≡ true → Asked (p .cic) every g w x
+  asked-some true g w x ok l e t = asked-every (p .cic) g w x ok (e ∙ busy-is h refl w l)
+  asked-some false g w x ok l e t = asked-none (p .cic) false g w x ok (e ∙ busy-is h refl w l) (eqb-true x 0 t)
+
+  pub asked-of : (every : Bool) (g : Host) (w x m y : ℕ) → sound (p .cic) ≡ true → w < 8 → x ≡ getD room (32 + w) 0 → (every || eqb x 0) ≡ false
+      → Marks room (192 + 8 * w) (g .0) 32 m → y ≡ both x m → Asked (p .cic) every g w y
+  asked-of true g w x m y ok l e t a f = clash refl t
+  asked-of false g w x m y ok l e t a f = rw f (asked-host (p .cic) g w x m ok (e ∙ busy-is h refl w l) (host-marks h w (g .0) m l a))
+
+  pub idle-host : (every : Bool) (g : Host) → sound (p .cic) ≡ true → g .0 < 256 → (not every && eqb (getD room (768 + g .0) 0) 0) ≡ true → noneWord ≡ indexOf (p .cic) every g
+  idle-host true g ok l t = clash t refl
+  idle-host false g ok l t = index-none (p .cic) false g ok (host-idle (p .cic) g ok (sym (host-count-is h refl (g .0) l) ∙ eqb-true _ 0 t))

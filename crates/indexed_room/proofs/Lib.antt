@@ -1,4 +1,6 @@
--- Laws of a CIC with prioritised indices in a room: bits of bytes, the search, and the words of a channel.
+-- Laws of a CIC with prioritised indices in a room: the frame, bits of bytes, the search, and the words of a channel.
+pub mod AskLaws
 pub mod ByteLaws
 pub mod FirstLaws
+pub mod FrameLaws
 pub mod WordLaws

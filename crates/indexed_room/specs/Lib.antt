@@ -1,3 +1,6 @@
 -- The CIC with prioritised indices in a room.
 pub mod Marks
+pub mod Reply
+pub mod Room
+pub mod Search
 pub mod Words
