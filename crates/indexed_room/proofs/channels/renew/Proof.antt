@@ -4,7 +4,7 @@ use mathlib.Core.Path.{refl, sym}
 use native.Mathlib.Omega.{arith}
 use Rattle.words.specs.Array.{byteOf}
 use Rattle.indexed_room.specs.Words.{oneOf}
-use mathlib.Core.Bool.{false, _||_}
+use mathlib.Core.Bool.{Bool, false, _||_}
 use Rattle.indexed_room.proofs.WordLaws.{in-its-word, register-bytes, renewing-first, renewing-last, none-differ}
 use borrow.Author.Needs.{needs}
 use Rattle.indexed_room.proofs.channels.renew.Statement.{statement}
@@ -55,9 +55,9 @@ returns-2 c =
     let n = getD (a .before .args .room .now) (256 + a .before .args .q) 0 in
     λ f d m w h.
         let is = register-bytes _ (a .before .pre) h in
-        let r3 = λ (j : ℕ). oneOf (byteOf o 3) (byteOf n 3) j || false in
-        let r2 = λ (j : ℕ). oneOf (byteOf o 2) (byteOf n 2) j || r3 j in
-        let r1 = λ (j : ℕ). oneOf (byteOf o 1) (byteOf n 1) j || r2 j in
+        let r3 : ℕ → Bool = λ j. oneOf (byteOf o 3) (byteOf n 3) j || false in
+        let r2 : ℕ → Bool = λ j. oneOf (byteOf o 2) (byteOf n 2) j || r3 j in
+        let r1 : ℕ → Bool = λ j. oneOf (byteOf o 1) (byteOf n 1) j || r2 j in
         renewing-last (λ j. refl)
         (c .replace-byte4 .ensures f d (λ j. false) (in-its-word _ _ 3 _ (omega arith) (is 3 (omega arith)))
         (c .before .before .replace-byte3 .ensures f d r3 (in-its-word _ _ 2 _ (omega arith) (is 2 (omega arith)))
