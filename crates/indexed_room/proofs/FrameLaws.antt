@@ -51,6 +51,9 @@ module _ {f : Frame} {c : Cic} {room : List ℕ} (h : Laid f c room) where
   pub words-is : (k : ℕ) → k < 256 → getD room (1280 + k) 0 ≡ getD (f .words) k 0
   words-is k l = part-is 17 k l
 
+  pub hosts-is : getD room 3 0 ≡ c .hosts
+  hosts-is = part-is 0 3 (omega arith)
+
   -- ---- what is kept
 
   kept-is : (t : ℕ → ℕ) (k : ℕ) → f .kept ≡ true → ifKept f t k ≡ t k

@@ -3,4 +3,5 @@ pub mod AskLaws
 pub mod ByteLaws
 pub mod FirstLaws
 pub mod FrameLaws
+pub mod HoldLaws
 pub mod WordLaws
