@@ -4,4 +4,5 @@ pub mod ByteLaws
 pub mod FirstLaws
 pub mod FrameLaws
 pub mod HoldLaws
+pub mod ReplyLaws
 pub mod WordLaws
