@@ -5,6 +5,7 @@ pub mod KeptLaws
 pub mod LeftLaws
 pub mod LoadLaws
 pub mod MapLaws
+pub mod Promises
 pub mod PutLaws
 pub mod RoomLaws
 pub mod ShownLaws

@@ -1,60 +1,67 @@
--- A step on the parts of a CIC is one of its machine.
-use Prim.Native.Nat.{ℕ}
-use mathlib.Core.Bool.{Bool, true}
+-- What holds at each turn of a loop over the steps of a CIC in a room, and that a step keeps it.
+use Prim.Native.Nat.{ℕ, _+_, _-_}
+use mathlib.Core.Bool.{Bool, true, false}
 use mathlib.Core.List.{List}
-use mathlib.Core.Path.{_≡_, refl, sym, ap, _∙_, subst}
-use Rattle.steps.specs.declared.Recorded.{Recorded}
-use Rattle.trace.specs.Steps.{readKind, writeKind}
-use Rattle.turns.specs.Turns.{stepOf}
-use Rattle.turns.proofs.TurnLaws.{step-read, step-write, step-line}
-use Rattle.cic_record.specs.declared.Answer.{Answer as CicAnswer}
+use mathlib.Core.Path.{_≡_, refl, sym, ap, _∙_}
+use native.Mathlib.Omega.{arith}
+use Rattle.trace.specs.Trace.{turnAt, stepsFrom}
+use Rattle.turns.specs.declared.Told.{Told}
+use Rattle.turns.specs.Turns.{endedKind, stepOf, recordedOf, turnOf}
+use Rattle.turns.proofs.TurnLaws.{finds, found-here}
+use Rattle.rooms.specs.Reply.{Reply}
 use Rattle.cic_record.specs.declared.Cic.{Cic}
-use Rattle.cic_record.specs.declared.Size.{Size}
-use Rattle.cic_record.specs.Parts.{sizeOf, cicOf}
-use Rattle.cic_record.specs.Sound.{sound as cicSound}
-use Rattle.cic_steps.specs.Model.{readAs, writeAs, lineAs, stepAs}
+use Rattle.cic_record.specs.Sound.{sound}
+use Rattle.cic_steps.specs.Model.{stepAs}
+use Rattle.cic_laid.specs.Room.{Frame, Laid}
+use Rattle.cic_room.specs.Reply.{Done}
 use Rattle.machine_record.specs.Machine.{ofCic}
 use Rattle.machine_record.specs.Promises.{Ready}
 use Rattle.machine_record.proofs.MachineLaws.{sound-cic}
-use Rattle.machine.specs.Steps.{afterCic, step}
+use Rattle.machine.specs.Steps.{afterCic, step as machineStep}
 use Rattle.machine.proofs.StepLaws.{cic-steps}
-
--- ---- the parts that a loop begins with
-
--- the record with the configured numbers of c beside its other parts
-abbrev pub sized : Cic → Size → Cic
-sized c z = cicOf z (c .global) (c .lines) (c .status) (c .enable) (c .channel) (c .host) (c .allow)
-
-module _ (c : Cic) (z : Size) (e : z ≡ sizeOf c) where
-  -- it is the record that they are taken from
-  pub together : sized c z ≡ c
-  together = ap (sized c) e
-
-  -- so its machine is ready if that is
-  pub begins : Ready (ofCic c) → Ready (ofCic (sized c z))
-  begins r = subst (λ (d : Cic). Ready (ofCic d)) (sym together) r
-
--- ---- a step of the loop
-
--- what a step of each kind answers
-module _ (c : Cic) (a : CicAnswer) (kind x y : ℕ) where
-  pub by-read : a ≡ readAs true c x → kind ≡ readKind → a ≡ stepAs true c (stepOf kind x y)
-  unfolding stepAs
-  by-read e k = e ∙ sym (ap (stepAs true c) (step-read kind x y k))
-
-  pub by-write : a ≡ writeAs true c x y → kind ≡ writeKind → a ≡ stepAs true c (stepOf kind x y)
-  unfolding stepAs
-  by-write e k = e ∙ sym (ap (stepAs true c) (step-write kind x y k))
-
-  pub by-line : a ≡ lineAs true c x y → (kind ≡ readKind → ⊥) → (kind ≡ writeKind → ⊥) → a ≡ stepAs true c (stepOf kind x y)
-  unfolding stepAs
-  by-line e r w = e ∙ sym (ap (stepAs true c) (step-line kind x y r w))
+use Rattle.reports.specs.Play.{report}
+use Rattle.reports.proofs.PlayLaws.{played, next-ready}
 
 -- the record of a machine that is ready is sound
-pub its-sound : (c : Cic) → Ready (ofCic c) → cicSound c ≡ true
+pub its-sound : (c : Cic) → Ready (ofCic c) → sound c ≡ true
 its-sound c r = sound-cic (ofCic c) refl ∙ r .0
 
--- what the record answers, with its machine around it, is what the machine answers
-pub stepped : (c : Cic) (x : Recorded) (a : CicAnswer) → Ready (ofCic c) → a ≡ stepAs true c (x .step) → afterCic (ofCic c) a ≡ step (ofCic c) x
-stepped c x a r e =
-    ap (afterCic (ofCic c)) (e ∙ ap (λ (t : Bool). stepAs t c (x .step)) (sym (its-sound c r))) ∙ sym (cic-steps (ofCic c) x refl)
+-- a record that is ready stands in the room
+pub record Standing (f : Frame) (room : List ℕ) : Type 0 where
+  pub cic : Cic
+  pub laid : Laid f cic room
+  pub ready : Ready (ofCic cic)
+
+-- after a step of the trace
+module _ {f : Frame} {room room′ : List ℕ} (s : Standing f room) (t : Told) {r : Reply}
+    (d : (f : Frame) (c : Cic) → sound c ≡ true → Laid f c room → Done f (stepAs true c (stepOf (t .kind) (t .x) (t .y))) room′ r) where
+  pub done : Done f (stepAs true (s .cic) (stepOf (t .kind) (t .x) (t .y))) room′ r
+  done = d f (s .cic) (its-sound (s .cic) (s .ready)) (s .laid)
+
+  -- the machine answers what its CIC does
+  pub answers : afterCic (ofCic (s .cic)) (stepAs true (s .cic) (stepOf (t .kind) (t .x) (t .y))) ≡ machineStep (ofCic (s .cic)) (recordedOf t)
+  answers =
+      ap (λ (b : Bool). afterCic (ofCic (s .cic)) (stepAs b (s .cic) (stepOf (t .kind) (t .x) (t .y)))) (sym (its-sound (s .cic) (s .ready)))
+      ∙ sym (cic-steps (ofCic (s .cic)) (recordedOf t) refl)
+
+  abbrev pub next : Standing f room′
+  next =
+      record { cic = stepAs true (s .cic) (stepOf (t .kind) (t .x) (t .y)) .cic; laid = done .0; ready = next-ready (ofCic (s .cic)) _ _ answers (s .ready) }
+
+-- what is left from here gives the whole; the steps played and those left are the limit
+pub record Going (f : Frame) (trace : List ℕ) (limit start : ℕ) (first : Cic) (count left at : ℕ) (room : List ℕ) : Type 0 where
+  pub stood : Standing f room
+  pub reported : report count (ofCic (stood .cic)) (stepsFrom false left trace at) ≡ report 0 (ofCic first) (stepsFrom false limit trace start)
+  pub counted : count + left ≡ limit
+
+-- one step more
+pub goes-on : {f : Frame} {trace : List ℕ} {limit start : ℕ} {first : Cic} {count left at : ℕ} {room room′ : List ℕ} (t : Told) {r : Reply}
+    → Going f trace limit start first count left at room → turnOf t ≡ turnAt false trace at left → (t .kind ≡ endedKind → ⊥)
+    → ((f : Frame) (c : Cic) → sound c ≡ true → Laid f c room → Done f (stepAs true c (stepOf (t .kind) (t .x) (t .y))) room′ r)
+    → Going f trace limit start first (count + 1) (left - 1) (t .next) room′
+goes-on {trace = trace} {limit} {start} {first} {count} {left} {at} t g e n d =
+    record {
+      stood = next (g .stood) t d;
+      reported = played count (ofCic (g .stood .cic)) false left trace at _ (t .next) _ _ (finds t false trace at left e n) (answers (g .stood) t d) (g .reported);
+      counted = omega (arith, g .counted, found-here t false trace at left e n .1 .0);
+    }
