@@ -5,4 +5,5 @@ pub mod FirstLaws
 pub mod FrameLaws
 pub mod HoldLaws
 pub mod ReplyLaws
+pub mod StepLaws
 pub mod WordLaws
