@@ -17,7 +17,7 @@ use Rattle.cic_maps.specs.Maps.{mapRead}
 use Rattle.cic_maps.proofs.Promises as maps
 use Rattle.cic_laid.specs.Room.{Frame, Framed, activeWord, ofChannel, ofHost, someWord, shownWord, permitted, ifKept, parts, sizes, laid, Laid}
 use Rattle.indexed_room.specs.Marks.{Marks}
-use Rattle.indexed_room.specs.Room.{withIndex, withHeld, withWords}
+use Rattle.indexed_room.specs.Room.{withKind, withIndex, withHeld, withWords}
 
 -- a room of a record in a frame is one in each equal frame
 pub frame-as : {f g : Frame} {c : Cic} {room : List ℕ} → f ≡ g → Laid f c room → Laid g c room
@@ -78,6 +78,16 @@ module _ {f : Frame} {c : Cic} {room : List ℕ} (h : Laid f c room) where
         shaped = h .shaped;
         bytes = h .bytes;
         words = ap (λ (x : List ℕ). set x (9 + k) v) (h .words) ∙ part-set (parts f c) sizes (sized f c (h .framed) (h .shaped)) 2 k v l;
+      }
+
+  pub put-kind : (v : ℕ) → Laid (withKind f v) c (set room 0 v)
+  unfolding laid
+  put-kind v =
+      record {
+        framed = record { index = h .framed .index; held = h .framed .held; words = h .framed .words };
+        shaped = h .shaped;
+        bytes = h .bytes;
+        words = ap (λ (x : List ℕ). set x 0 v) (h .words) ∙ part-set (parts f c) sizes (sized f c (h .framed) (h .shaped)) 0 0 v (omega arith);
       }
 
   pub put-held : (k v : ℕ) → k < 256 → Laid (withHeld f (set (f .held) k v)) c (set room (1024 + k) v)

@@ -27,6 +27,9 @@ Laid p room = cic.Laid (framed p) (p .cic) room
 
 -- ---- a frame with one part of it put anew
 
+abbrev pub withKind : Frame → ℕ → Frame
+withKind f x = record { kind = x; kept = f .kept; index = f .index; held = f .held; words = f .words }
+
 abbrev pub withIndex : Frame → List ℕ → Frame
 withIndex f x = record { kind = f .kind; kept = f .kept; index = x; held = f .held; words = f .words }
 
