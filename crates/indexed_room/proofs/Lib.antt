@@ -4,6 +4,7 @@ pub mod ByteLaws
 pub mod FirstLaws
 pub mod FrameLaws
 pub mod HoldLaws
+pub mod Promises
 pub mod ReplyLaws
 pub mod StepLaws
 pub mod WordLaws

@@ -1,5 +1,6 @@
 -- The CIC with prioritised indices in a room.
 pub mod Marks
+pub mod Promises
 pub mod Reply
 pub mod Room
 pub mod Search

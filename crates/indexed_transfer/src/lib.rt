@@ -58,7 +58,7 @@ fn wide(x: u16) -> u32
 
 // What is held for each host.
 fn lay_held<'a>(room: &'a mut Room, held: &'a [u16; 256])
-    ensures { λ _. ⌜ ((f : Frame) (c : Cic) → Stands f c (now (room .entry)) → Stands (withHeld f (now (held .entry))) c (now (room .exit))) ⌝ }
+    ensures { λ _. ⌜ ((f : Frame) (c : Cic) → length (now (held .entry)) ≡ 256 → Stands f c (now (room .entry)) → Stands (withHeld f (now (held .entry))) c (now (room .exit))) ⌝ }
 {
     let mut k: usize = 0;
     while k < 256 {
@@ -66,6 +66,14 @@ fn lay_held<'a>(room: &'a mut Room, held: &'a [u16; 256])
         room[HELD + k] = x;
         k = k + 1;
     }
+}
+
+// The same, where it stands beside the rest of what is held.
+fn lay_hosts(room: &mut Room, h: Held)
+    ensures { λ _. ⌜ ((f : Frame) (c : Cic) → Stands f c (now (room .entry)) → Stands (withHeld f (h .host)) c (now (room .exit))) ⌝ }
+{
+    let host = h.host;
+    lay_held(room, &host);
 }
 
 // The room of a sound record.
@@ -76,9 +84,8 @@ pub fn lay(p: Prioritised) -> Room
     let choice = p.held.choice;
     let hold = p.held.hold;
     let global = wide(p.held.global);
-    let host = p.held.host;
     lay_words(&mut room);
-    lay_held(&mut room, &host);
+    lay_hosts(&mut room, p.held);
     room[KIND] = INDEXED;
     room[CHOICE] = choice;
     room[MODE] = hold;

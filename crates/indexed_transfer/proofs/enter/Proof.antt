@@ -1,3 +1,4 @@
+use Rattle.indexed_transfer.proofs.TransferLaws.{entered-more}
 use borrow.Author.Needs.{needs}
 use Rattle.indexed_transfer.proofs.enter.Statement.{statement}
 use Rattle.indexed_transfer.proofs.enter.Tie as tie
@@ -56,7 +57,9 @@ element-write-room c = search needs
 
 -- src/lib.rt:32:1
 returns : tie.Need-returns
-returns c = search needs
+returns c =
+    let x = c .before .before .before in
+    λ f d h. entered-more h (x .before .before .pre) _ _ (x .channel-in .ensures .0) (x .channel-in .ensures .1) (c .with-bit .ensures)
 
 pub enter-spec : {M : Type 1} → statement M
 enter-spec =

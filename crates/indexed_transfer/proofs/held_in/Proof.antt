@@ -1,3 +1,9 @@
+use mathlib.Core.Path.{_≡_, refl}
+use Prim.Native.Nat.{ℕ, _+_, _-_, _%_, _<_, _≤_}
+use native.Mathlib.Omega.{arith}
+use borrow.Author.Count.{below-none}
+use lib.ListN.{length, getD, length-set}
+use Rattle.words.proofs.ArrayLaws.{filled}
 use borrow.Author.Needs.{needs}
 use Rattle.indexed_transfer.proofs.held_in.Statement.{statement}
 use Rattle.indexed_transfer.proofs.held_in.Tie as tie
@@ -6,14 +12,14 @@ use Rattle.indexed_transfer.proofs.held_in.Lts as lts
 use Rattle.indexed_transfer.proofs.narrow.Reads as narrow-reads
 
 abbrev Inv-loop : tie.InvT-loop
-Inv-loop room out₀ k₀ out k = ?
+Inv-loop room out₀ k₀ out k = (k ≤ 256) × ((length out ≡ 256) × ((j : ℕ) → j < k → getD out j 0 ≡ getD room (1024 + j) 0 % 65536))
 
 abbrev μ-loop : tie.MeasureT-loop
-μ-loop room out₀ k₀ out k = ?
+μ-loop room out₀ k₀ out k = 256 - k
 
 -- src/lib.rt:103:5
 loop-holds : tie.Need-loop-holds Inv-loop μ-loop
-loop-holds c = search needs
+loop-holds c = (omega arith, (refl, below-none _))
 
 -- src/lib.rt:104:29
 add-narrow : tie.Need-add-narrow Inv-loop μ-loop
@@ -49,11 +55,14 @@ loop-less c = search needs
 
 -- src/lib.rt:103:5
 loop-again : tie.Need-loop-again Inv-loop μ-loop
-loop-again c = search needs
+loop-again c =
+    let l = c .before .before .before .loop in
+    let a = c .before .before .before .before .args in
+    (omega (arith, c .before .before .loop-test .taken), (simp length-set (l .inv .1 .0), filled (l .out) (λ j. getD (a .room .now) (1024 + j) 0 % 65536) (l .k) (omega (arith, l .inv .1 .0, c .before .before .loop-test .taken)) (l .inv .1 .1) _ (c .narrow .ensures)))
 
 -- src/lib.rt:98:1
 returns : tie.Need-returns Inv-loop μ-loop
-returns c = search needs
+returns c = let l = c .before .loop in (l .inv .1 .0, λ j m. l .inv .1 .1 j (omega (arith, m, c .loop-test .left)))
 
 pub held-in-spec : {M : Type 1} → statement M
 held-in-spec =
