@@ -1,33 +1,31 @@
 -- Which channels have an active system interrupt, which of them an index is over, and that the first of them is the one that an index goes by.
 use mathlib.Core.Path.{_≡_, refl, sym, ap, ap₂, _∙_}
 use mathlib.Core.Bool.{Bool, true, false, not, _&&_, _||_}
-use mathlib.Core.List.{List}
-use mathlib.Core.Logic.{_≢_, _⊎_, inl, inr}
-use Prim.Native.Nat.{ℕ, zero, suc, _+_, _-_, _*_, _/_, _%_, _^_, _≤_, _<_}
+use mathlib.Core.Logic.{_≢_, _⊎_}
+use Prim.Native.Nat.{ℕ, zero, suc, _+_, _-_, _*_, _^_, _<_}
 use native.Mathlib.Decide.{decLt}
 use native.Mathlib.Omega.{arith}
-use borrow.Author.Tests.{lt-ltb, ltb-true, eq-eqb, ne-eqb, eqb-true}
-use lib.Dec.{eqb, ltb}
+use borrow.Author.Tests.{lt-ltb, ltb-true, ne-eqb, eqb-true}
+use lib.Dec.{eqb}
 use lib.ListN.{getD}
 use Rattle.words.specs.Array.{bitAt}
 use Rattle.words.specs.Counting.{one, anyBelow, countBelow, lowestBelow}
-use Rattle.words.specs.Word.{bit, wordOf, both}
+use Rattle.words.specs.Word.{bit, both}
 use Rattle.words.proofs.ArrayLaws.{clean-bit}
 use Rattle.words.proofs.ChoiceLaws.{pick-true}
-use Rattle.words.proofs.CountingLaws.{any-some, some-any, any-fails, any-none, any-same, all-at}
+use Rattle.words.proofs.CountingLaws.{any-some, some-any, all-at}
 use Rattle.words.proofs.HopLaws.{lowest-in, lowest-before}
-use Rattle.words.proofs.TruthLaws.{and-left, and-right, and-both, or-neither, clash, not-holds, same-test, told}
+use Rattle.words.proofs.TruthLaws.{and-left, and-right, and-both, clash, not-holds, same-test, told}
 use Rattle.words.proofs.WordLaws.{bit-wordOf, bit-both, bit-none}
-use Rattle.cic_record.specs.declared.Channel.{Channel}
 use Rattle.cic_record.specs.declared.Cic.{Cic}
 use Rattle.cic_record.specs.declared.Host.{Host}
-use Rattle.cic_record.specs.Kinds.{system, channelNumber, hostNumber}
+use Rattle.cic_record.specs.Kinds.{channelNumber}
 use Rattle.cic_record.specs.Sound.{entrySound, sound}
 use Rattle.cic_record.proofs.PartsLaws.{sound-parts, sound-counts}
-use Rattle.cic_indices.specs.Order.{noneWord, pendingIn, busy, firstIn, leads, indexOver, indexOf}
+use Rattle.cic_indices.specs.Order.{noneWord, pendingIn, busy, firstIn, leads, indexOf}
 use Rattle.cic_indices.proofs.IndexLaws.{passes, first-parts, found-channel, found-no-channel}
-use Rattle.cic_laid.specs.Room.{active, activeWord, ofChannel, ofHost, someWord}
-use Rattle.indexed_room.specs.Search.{Lit, Asked}
+use Rattle.cic_laid.specs.Room.{active, ofChannel, ofHost, someWord}
+use Rattle.indexed_room.specs.Search.{Asked}
 
 -- ---- counts
 
@@ -124,7 +122,7 @@ pub asked-host : (c : Cic) (h : Host) (w x m : ℕ) → sound c ≡ true → x �
 asked-host c h w x m ok e f =
     record {
       bits = λ j l. bit-both x m j l ∙ ap₂ (λ (a b : Bool). a && b) (busy-bits c w x ok e j l) (f j l)
-        ∙ flip (busy c (channelNumber (32 * w + j))) (eqb (getD (c .host) (32 * w + j) 0) (h .0));
+          ∙ flip (busy c (channelNumber (32 * w + j))) (eqb (getD (c .host) (32 * w + j) 0) (h .0));
     }
   where
     flip : (a b : Bool) → (a && b) ≡ (b && a)

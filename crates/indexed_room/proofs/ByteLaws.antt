@@ -26,12 +26,12 @@ pub four-marks : (room : List ℕ) (at b p q r s : ℕ) → p ≡ one (eqb (getD
     → r ≡ one (eqb (getD room at 0 / 65536 % 256) b) → s ≡ one (eqb (getD room at 0 / 16777216 % 256) b)
     → (s * 8 + (r * 4 + (q * 2 + p)) < 16) × Marks room at b 4 (s * 8 + (r * 4 + (q * 2 + p)))
 four-marks room at b p q r s e f g h = (
-      omega (arith, d, wordOf-lt 4 test),
-      record {
-        bits =
-            λ j l. ap (λ (y : ℕ). bit y j) d ∙ bit-wordOf 4 test j l ∙ ap₂ (λ (x y : ℕ). eqb (byteOf (getD room x 0) y) b) (omega (arith, l)) (omega (arith, l));
-      },
-    )
+  omega (arith, d, wordOf-lt 4 test),
+  record {
+    bits =
+        λ j l. ap (λ (y : ℕ). bit y j) d ∙ bit-wordOf 4 test j l ∙ ap₂ (λ (x y : ℕ). eqb (byteOf (getD room x 0) y) b) (omega (arith, l)) (omega (arith, l));
+  },
+)
   where
     test : ℕ → Bool
     test j = eqb (byteOf (getD room at 0) j) b

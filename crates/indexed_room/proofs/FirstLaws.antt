@@ -3,29 +3,26 @@ use mathlib.Core.Path.{_≡_, refl, sym, ap, ap₂, _∙_}
 use mathlib.Core.Bool.{Bool, true, false, not, _&&_, _||_}
 use mathlib.Core.List.{List}
 use mathlib.Core.Logic.{_≢_, _⊎_, inl, inr}
-use Prim.Native.Nat.{ℕ, _+_, _-_, _*_, _/_, _%_, _^_, _≤_, _<_}
+use Prim.Native.Nat.{ℕ, _+_, _-_, _*_, _/_, _%_, _^_, _<_}
 use native.Mathlib.Decide.{decLt}
 use native.Mathlib.Omega.{arith}
-use borrow.Author.Tests.{lt-ltb, ltb-true, eq-eqb, ne-eqb, eqb-true}
-use lib.Dec.{eqb, ltb}
+use borrow.Author.Tests.{eq-eqb, eqb-true}
+use lib.Dec.{eqb}
 use lib.ListN.{getD}
 use Rattle.words.specs.Array.{bitAt}
-use Rattle.words.specs.Counting.{anyBelow, countBelow, lowestBelow}
-use Rattle.words.specs.Word.{bit, wordOf, both, withBit}
+use Rattle.words.specs.Counting.{anyBelow, lowestBelow}
+use Rattle.words.specs.Word.{bit, both, withBit}
 use Rattle.words.proofs.ArrayLaws.{bitAt-word, clean-bit}
-use Rattle.words.proofs.ChoiceLaws.{pick-true}
-use Rattle.words.proofs.CountingLaws.{any-some, some-any, any-fails, any-none, all-at}
-use Rattle.words.proofs.HopLaws.{lowest-in, lowest-before, hop-here, hop-other}
-use Rattle.words.proofs.TruthLaws.{and-left, and-right, and-both, clash, not-holds, same-test, told}
+use Rattle.words.proofs.CountingLaws.{any-fails, any-none}
+use Rattle.words.proofs.HopLaws.{lowest-in, lowest-before, hop-other}
+use Rattle.words.proofs.TruthLaws.{and-left, clash, told}
 use Rattle.words.proofs.WordLaws.{bit-wordOf, bit-both, bit-none}
-use Rattle.cic_record.specs.declared.Channel.{Channel}
 use Rattle.cic_record.specs.declared.Cic.{Cic}
 use Rattle.cic_record.specs.declared.Host.{Host}
-use Rattle.cic_record.specs.Kinds.{system, channelNumber, hostNumber}
-use Rattle.cic_record.specs.Sound.{entrySound, sound}
+use Rattle.cic_record.specs.Kinds.{system, channelNumber}
+use Rattle.cic_record.specs.Sound.{sound}
 use Rattle.cic_record.proofs.PartsLaws.{sound-parts, sound-counts}
-use Rattle.cic_indices.specs.Order.{noneWord, pendingIn, busy, firstIn, leads, indexOver, indexOf}
-use Rattle.cic_indices.proofs.IndexLaws.{passes, first-parts, found-channel, found-no-channel}
+use Rattle.cic_indices.specs.Order.{noneWord, pendingIn, busy, firstIn, indexOf}
 use Rattle.cic_indices.proofs.SearchLaws.{found-here}
 use Rattle.cic_held.specs.declared.Prioritised.{Prioritised}
 use Rattle.rooms.proofs.PartLaws.{made-get}
@@ -156,7 +153,7 @@ module _ {p : Prioritised} {room : List ℕ} (h : Laid p room) where
   lit-some k w m x l a e =
       record {
         bits = λ i n. ap (λ (y : ℕ). bit y i) e ∙ bit-both (getD room (160 + w) 0) m i n
-          ∙ ap₂ (λ (y z : Bool). y && z) (ap (λ (y : ℕ). bit y i) (active-is h refl w l)) (channel-marks h w k m l a i n);
+            ∙ ap₂ (λ (y z : Bool). y && z) (ap (λ (y : ℕ). bit y i) (active-is h refl w l)) (channel-marks h w k m l a i n);
       }
 
   pub left-first : (k x : ℕ) → k < 256 → x ≡ getD room (1280 + k) 0 → OnlyLeft (p .cic) k x

@@ -1,15 +1,15 @@
 -- What stands in the room of a CIC in a frame, and what a store to the frame makes of it.
 use mathlib.Core.Path.{_≡_, refl, sym, ap, ap₂, _∙_, subst}
-use mathlib.Core.Bool.{Bool, true, false}
+use mathlib.Core.Bool.{true}
 use mathlib.Core.List.{List, []}
 use Prim.Native.Nat.{ℕ, _+_, _*_, _/_, _%_, _<_}
 use native.Mathlib.Omega.{arith}
 use lib.Dec.{eqb}
-use lib.ListN.{length, getD, set, length-set, length-replicate}
+use lib.ListN.{getD, set, length-set, length-replicate}
 use Rattle.words.specs.Array.{byteOf}
 use Rattle.words.specs.Word.{bit}
 use Rattle.words.proofs.ChoiceLaws.{pick-true}
-use Rattle.rooms.specs.Parts.{flat, Sized, place, made}
+use Rattle.rooms.specs.Parts.{Sized, place}
 use Rattle.rooms.proofs.PartLaws.{part-get, part-set, made-length, made-get}
 use Rattle.cic_record.specs.declared.Cic.{Cic}
 use Rattle.cic_record.specs.Promises.{Shaped}
@@ -25,15 +25,54 @@ frame-as {c = c} {room = room} e h = subst (λ (t : Frame). Laid t c room) e h
 
 sized : (f : Frame) (c : Cic) → Framed f → Shaped c → Sized (parts f c) sizes
 sized f c g s = (
-      refl,
-      (made-length 2 (ifKept f (shownWord (permitted c) (ofHost c))),
-      (g .index, (length-replicate {A = ℕ} 4 0, (s .5,
-      (made-length 8 (ifKept f (someWord (ofHost c))), (made-length 8 (ifKept f (someWord (ofChannel c))), (length-replicate {A = ℕ} 24 0,
-      (s .0, (s .1, (s .2, (made-length 32 (ifKept f (activeWord c)),
-      (made-length 64 (mapRead 256 (c .host)), (made-length 256 (mapRead 1024 (c .channel)),
-      (made-length 256 (ifKept f (ofChannel c)), (made-length 256 (ifKept f (ofHost c)),
-      (g .held, (g .words, (length-replicate {A = ℕ} 512 0, refl)))))))))))))))))),
-    )
+  refl,
+  (
+    made-length 2 (ifKept f (shownWord (permitted c) (ofHost c))),
+    (
+      g .index,
+      (
+        length-replicate {A = ℕ} 4 0,
+        (
+          s .5,
+          (
+            made-length 8 (ifKept f (someWord (ofHost c))),
+            (
+              made-length 8 (ifKept f (someWord (ofChannel c))),
+              (
+                length-replicate {A = ℕ} 24 0,
+                (
+                  s .0,
+                  (
+                    s .1,
+                    (
+                      s .2,
+                      (
+                        made-length 32 (ifKept f (activeWord c)),
+                        (
+                          made-length 64 (mapRead 256 (c .host)),
+                          (
+                            made-length 256 (mapRead 1024 (c .channel)),
+                            (
+                              made-length 256 (ifKept f (ofChannel c)),
+                              (
+                                made-length 256 (ifKept f (ofHost c)),
+                                (g .held, (g .words, (length-replicate {A = ℕ} 512 0, refl))),
+                              ),
+                            ),
+                          ),
+                        ),
+                      ),
+                    ),
+                  ),
+                ),
+              ),
+            ),
+          ),
+        ),
+      ),
+    ),
+  ),
+)
 
 module _ {f : Frame} {c : Cic} {room : List ℕ} (h : Laid f c room) where
   part-is : (i k : ℕ) → k < getD sizes i 0 → getD room (place sizes i + k) 0 ≡ getD (getD (parts f c) i []) k 0

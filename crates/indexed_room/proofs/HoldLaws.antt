@@ -1,13 +1,12 @@
 -- What is held in a room, and what begins and ends a hold.
 use mathlib.Core.Path.{_≡_, refl, sym, ap, ap₂, _∙_, subst}
-use mathlib.Core.Bool.{Bool, true, false, not, _&&_, _||_}
+use mathlib.Core.Bool.{Bool, true, false}
 use mathlib.Core.List.{List}
 use mathlib.Core.Logic.{_≢_}
-use Prim.Native.Nat.{ℕ, zero, suc, _+_, _-_, _*_, _/_, _%_, _≤_, _<_}
+use Prim.Native.Nat.{ℕ, zero, suc, _+_, _-_, _*_, _/_, _≤_, _<_}
 use native.Mathlib.Decide.{ℕ-discrete}
 use native.Mathlib.Omega.{arith}
 use borrow.Author.Tests.{eq-eqb, ne-eqb, lt-ltb, le-ltb}
-use lib.Dec.{eqb}
 use lib.ListN.{getD, set, length, replicate, length-set, length-replicate}
 use lib.Seq.{getD-set-same, getD-set-other, ext-getD, set-out}
 use Rattle.words.specs.Array.{restAt}
@@ -17,13 +16,11 @@ use Rattle.words.specs.Word.{bit, kept}
 use Rattle.words.proofs.ArrayLaws.{zeros-getD}
 use Rattle.words.proofs.ChoiceLaws.{pick-true, pick-false}
 use Rattle.words.proofs.CountingLaws.{upto-none, upto-more, upto-done}
-use Rattle.cic_record.specs.declared.Cic.{Cic}
 use Rattle.cic_held.specs.declared.Held.{Held}
 use Rattle.cic_held.specs.declared.Prioritised.{Prioritised}
 use Rattle.cic_held.specs.Held.{prioritised, nothingHeld, withGlobal, withHosts, freedHosts, controlled}
 use Rattle.cic_index_registers.specs.Registers.{afterHost, hostsWritten, heldAfter}
-use Rattle.cic_laid.specs.Room.{Frame}
-use Rattle.indexed_room.specs.Room.{framed, Laid}
+use Rattle.indexed_room.specs.Room.{Laid}
 use Rattle.indexed_room.proofs.FrameLaws.{index-is, held-is, put-index, put-held}
 
 -- a room of a record is one of each equal record

@@ -1,15 +1,13 @@
 -- What a step in a room answers is what the step of the record answers.
-use mathlib.Core.Path.{_≡_, refl, sym, ap, ap₂, _∙_, subst}
-use mathlib.Core.Bool.{Bool, true, false}
+use mathlib.Core.Path.{_≡_, refl, sym, ap, _∙_, subst}
+use mathlib.Core.Bool.{true, false}
 use mathlib.Core.List.{List}
 use mathlib.Core.Logic.{_≢_}
-use Prim.Native.Nat.{ℕ, _+_, _-_, _*_, _/_, _%_, _≤_, _<_}
+use Prim.Native.Nat.{ℕ, _-_, _*_, _/_, _%_, _≤_, _<_}
 use native.Mathlib.Decide.{decLt}
 use native.Mathlib.Omega.{arith}
 use borrow.Author.Tests.{eq-eqb, ne-eqb, lt-ltb, le-ltb}
-use lib.Dec.{eqb}
 use lib.ListN.{getD, set}
-use Rattle.words.specs.Choice.{pick}
 use Rattle.words.proofs.ChoiceLaws.{pick-true, pick-false}
 use Rattle.steps.specs.declared.Access.{Access}
 use Rattle.steps.specs.declared.Access.the-variants.{NoRegister, ReadWrite}
@@ -19,18 +17,16 @@ use Rattle.cic_record.specs.declared.Host.{Host}
 use Rattle.cic_record.specs.Kinds.{hostNumber}
 use Rattle.cic_indices.specs.Order.{noneWord, indexOf}
 use Rattle.cic_held.specs.declared.Answer.{Answer}
-use Rattle.cic_held.specs.declared.Held.{Held}
 use Rattle.cic_held.specs.declared.Prioritised.{Prioritised}
 use Rattle.cic_held.specs.Held.{prioritised, withGlobal, withHosts, sound, controlled}
-use Rattle.cic_index_registers.specs.declared.Own.{Own}
 use Rattle.cic_index_registers.specs.declared.Own.the-variants.{Elsewhere, Control, GlobalIndex, HostIndex}
 use Rattle.cic_index_registers.specs.Registers.{ownAt, hostAccess, indexRead, holdAfter, globalWord, hostWord}
-use Rattle.cic_prioritised.specs.Model.{refused, answered, unlessRefused, readAs, writeAs}
+use Rattle.cic_prioritised.specs.Model.{answered, unlessRefused, readAs, writeAs}
 use Rattle.cic_prioritised.proofs.SoundLaws.{sound-cic, hold-small, global-small, host-small, host-below, word-small}
 use Rattle.cic_prioritised.proofs.StepLaws.{refused-by, carried-by, no-write, not-there, read-there}
 use Rattle.indexed_room.specs.Reply.{Done}
 use Rattle.indexed_room.specs.Room.{Laid}
-use Rattle.indexed_room.proofs.HoldLaws.{holds-as, global-is, host-held-is, mode-is}
+use Rattle.indexed_room.proofs.HoldLaws.{holds-as, mode-is}
 
 -- a reply to one answer is one to an equal answer
 pub done-as : {x y : Answer} {room : List ℕ} {r : Reply} → x ≡ y → Done x room r → Done y room r

@@ -1,49 +1,42 @@
 -- What the CIC's own steps make of a record with prioritised indices.
-use mathlib.Core.Path.{_≡_, refl, sym, ap, ap₂, _∙_, subst}
+use mathlib.Core.Path.{_≡_, refl, sym, ap, ap₂, _∙_}
 use mathlib.Core.Bool.{Bool, true, false, not, _&&_}
 use mathlib.Core.List.{List}
 use mathlib.Core.Logic.{_≢_, _⊎_, inl, inr}
-use Prim.Native.Nat.{ℕ, _+_, _-_, _*_, _/_, _%_, _≤_, _<_}
+use Prim.Native.Nat.{ℕ, _+_, _-_, _/_, _%_, _<_}
 use native.Mathlib.Decide.{ℕ-discrete, decLt}
 use native.Mathlib.Omega.{arith}
 use borrow.Author.Tests.{eq-eqb, ne-eqb, lt-ltb, le-ltb, ltb-true}
 use lib.Dec.{eqb, ltb}
 use lib.ListN.{getD}
-use Rattle.words.specs.Array.{bitAt, byteOf}
+use Rattle.words.specs.Array.{bitAt}
 use Rattle.words.specs.Choice.{pick}
 use Rattle.words.proofs.ChoiceLaws.{pick-true, pick-false, pick-cases}
-use Rattle.words.proofs.TruthLaws.{clash, told}
+use Rattle.words.proofs.TruthLaws.{clash}
 use Rattle.steps.specs.Refusals.{carriedOut, readRefusal, writeRefusal, lineRefusal}
-use Rattle.steps.specs.declared.Step.{Step}
-use Rattle.steps.specs.declared.Step.the-variants.{Read, Write, Line}
 use Rattle.rooms.specs.Parts.{made}
-use Rattle.rooms.specs.Reply.{Reply, reply}
+use Rattle.rooms.specs.Reply.{Reply}
 use Rattle.cic_record.specs.declared.Answer.{Answer as CicAnswer}
 use Rattle.cic_record.specs.declared.Cic.{Cic}
 use Rattle.cic_record.specs.declared.Signals.{Signals}
 use Rattle.cic_record.specs.declared.System.{System}
 use Rattle.cic_record.specs.Kinds.{system}
 use Rattle.cic_record.specs.Record.{refused, answered}
-use Rattle.cic_record.specs.Sound as cicSound
 use Rattle.cic_hosts.specs.Hosts as hosts
-use Rattle.cic_maps.specs.Maps.{mapPut}
 use Rattle.cic_maps.proofs.Promises as maps
 use Rattle.cic_layout.specs.declared.Register.{Register}
 use Rattle.cic_layout.specs.declared.Register.the-variants.{Nothing, Revision, GlobalEnable, StatusIndexSet, StatusIndexClear, EnableIndexSet, EnableIndexClear, HostIndexSet, HostIndexClear, RawSet, EnabledClear, EnableSet, EnableClear, ChannelMap, HostMap, HostEnable}
 use Rattle.cic_layout.specs.Map.{singleAt, registerAt, access}
 use Rattle.cic_registers.specs.Registers.{writtenTo}
 use Rattle.cic_steps.specs.Model as cic
-use Rattle.cic_laid.specs.Room as laid
 use Rattle.cic_room.specs.Reply as inRoom
-use Rattle.cic_held.specs.declared.Answer.{Answer}
 use Rattle.cic_held.specs.declared.Held.{Held}
 use Rattle.cic_held.specs.declared.Prioritised.{Prioritised}
 use Rattle.cic_held.specs.Held.{prioritised, sound}
 use Rattle.cic_index_registers.specs.declared.Own.{Own}
-use Rattle.cic_index_registers.specs.declared.Own.the-variants.{Elsewhere, Control, GlobalIndex, HostIndex}
+use Rattle.cic_index_registers.specs.declared.Own.the-variants.{Elsewhere}
 use Rattle.cic_index_registers.specs.Registers.{ownAt, hostsWritten, heldAfter}
 use Rattle.cic_prioritised.specs.Model.{beside, writtenBy, readAs, writeAs, stepAs, read, write, line, outputs}
-use Rattle.cic_prioritised.specs.Model as model
 use Rattle.cic_prioritised.proofs.SoundLaws.{sound-cic}
 use Rattle.indexed_room.specs.Reply.{Done}
 use Rattle.indexed_room.specs.Room.{framed, Laid, withWords}
@@ -158,7 +151,7 @@ register-map o e =
 -- ---- what a write of the CIC's leaves
 
 -- it is carried out, or refused with the same record
-write-cases : (c : Cic) (o v : ℕ) → (cic.writeAs true c o v ≡ answered (writtenTo c (registerAt o) v) 0) ⊎ (cic.writeAs true c o v ≡ refused c (cic.writeAs true c o v .refusal) )
+write-cases : (c : Cic) (o v : ℕ) → (cic.writeAs true c o v ≡ answered (writtenTo c (registerAt o) v) 0) ⊎ (cic.writeAs true c o v ≡ refused c (cic.writeAs true c o v .refusal))
 unfolding cic.writeAs
 write-cases c o v = go (ℕ-discrete n carriedOut)
   where

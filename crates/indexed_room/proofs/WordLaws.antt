@@ -2,13 +2,12 @@
 use mathlib.Core.Path.{_≡_, refl, sym, ap, ap₂, _∙_, subst}
 use mathlib.Core.Bool.{Bool, true, false, not, _&&_, _||_}
 use mathlib.Core.List.{List}
-use mathlib.Core.Logic.{_≢_, _⊎_, inl, inr}
-use Prim.Native.Nat.{ℕ, zero, suc, _+_, _-_, _*_, _/_, _%_, _^_, _≤_, _<_}
-use native.Mathlib.Decide.{decLt, ℕ-discrete}
+use Prim.Native.Nat.{ℕ, zero, suc, _+_, _-_, _*_, _/_, _%_, _<_}
+use native.Mathlib.Decide.{ℕ-discrete}
 use native.Mathlib.Omega.{arith}
-use borrow.Author.Tests.{eq-eqb, ne-eqb, eqb-true}
+use borrow.Author.Tests.{eq-eqb, ne-eqb}
 use lib.Dec.{eqb}
-use lib.ListN.{getD, set, length, length-set}
+use lib.ListN.{getD, set, length}
 use lib.Seq.{getD-set-same, getD-set-other, ext-getD}
 use Rattle.words.specs.Array.{byteOf}
 use Rattle.words.specs.Choice.{pick}
@@ -16,8 +15,8 @@ use Rattle.words.specs.Counting.{anyBelow}
 use Rattle.words.specs.Word.{bit, wordOf, withBit}
 use Rattle.words.proofs.ChoiceLaws.{pick-true, pick-false}
 use Rattle.words.proofs.CountingLaws.{some-any, any-same}
-use Rattle.words.proofs.TruthLaws.{or-neither, clash, told}
-use Rattle.words.proofs.WordLaws.{bit-wordOf, wordOf-lt, wordOf-same, bit-withBit, withBit-lt, same-word, nonzero-any}
+use Rattle.words.proofs.TruthLaws.{or-neither, clash}
+use Rattle.words.proofs.WordLaws.{bit-wordOf, wordOf-lt, wordOf-same, bit-withBit, withBit-lt, same-word}
 use Rattle.rooms.specs.Parts.{made}
 use Rattle.rooms.proofs.PartLaws.{made-length, made-get}
 use Rattle.cic_record.specs.declared.Channel.{Channel}
@@ -27,7 +26,7 @@ use Rattle.cic_laid.specs.Room.{Frame, Laid}
 use Rattle.indexed_room.specs.Marks.{Marks}
 use Rattle.indexed_room.specs.Room.{Renewing, withWords}
 use Rattle.indexed_room.specs.Words.{inWord, wordsOf, Written, oneOf, Right}
-use Rattle.indexed_room.proofs.FrameLaws.{words-is, put-words, channel-marks, channel-byte, frame-as}
+use Rattle.indexed_room.proofs.FrameLaws.{words-is, put-words, channel-marks, channel-byte}
 
 -- bit w of the word of channel k tells whether it has one in word w
 words-bit : (m : List ℕ) (k w : ℕ) → w < 32 → bit (wordsOf m k) w ≡ inWord m k w

@@ -1,7 +1,7 @@
 // What is held for the indices: words as they are held, what begins and what ends holds, and the hold mode.
 ghost use mathlib.Core.Path.{_≡_};
 ghost use mathlib.Core.Logic.{_≢_};
-ghost use Prim.Native.Nat.{ℕ, _<_};
+ghost use Prim.Native.Nat.{_<_};
 ghost use lib.ListN.{set};
 ghost use Rattle.words.specs.Array.{restAt};
 ghost use Rattle.words.specs.Choice.{pick};

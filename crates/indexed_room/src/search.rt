@@ -1,6 +1,6 @@
 // Which system interrupt an index names: the first busy channel, and the first active system interrupt of it, found by words of 32.
 ghost use mathlib.Core.Path.{_≡_};
-ghost use Prim.Native.Nat.{ℕ, _+_, _*_, _/_, _%_, _<_, _≤_};
+ghost use Prim.Native.Nat.{_+_, _*_, _/_, _%_, _<_, _≤_};
 ghost use mathlib.Core.Bool.{true};
 ghost use Rattle.words.specs.Counting.{one};
 ghost use Rattle.cic_record.specs.Kinds.{system};

@@ -1,11 +1,9 @@
 -- The words of the channels system interrupt by system interrupt, what is held host by host, and the record in a room.
-use mathlib.Core.Path.{_≡_, refl, sym, ap, ap₂, _∙_, subst}
+use mathlib.Core.Path.{_≡_, refl, sym, ap, _∙_, subst}
 use mathlib.Core.Bool.{Bool, true, false, _&&_, _||_}
-use mathlib.Core.List.{List, [], _∷_}
-use mathlib.Core.Logic.{_⊎_, inl, inr}
+use mathlib.Core.List.{List}
 use Prim.Native.Nat.{ℕ, zero, suc, _+_, _-_, _*_, _/_, _%_, _^_, _≤_, _<_}
 use native.Mathlib.Decide.{ℕ-discrete}
-use native.Mathlib.Numerals.{add-one}
 use native.Mathlib.Omega.{arith}
 use borrow.Author.Tests.{eq-eqb, ne-eqb, eqb-true}
 use lib.Dec.{eqb}
@@ -14,7 +12,7 @@ use lib.Seq.{getD-set-same, getD-set-other, ext-getD}
 use Rattle.words.specs.Array.{byteOf}
 use Rattle.words.specs.Choice.{pick}
 use Rattle.words.specs.Counting.{anyBelow, upto}
-use Rattle.words.specs.Word.{bit, wordOf, withBit}
+use Rattle.words.specs.Word.{bit, withBit}
 use Rattle.words.proofs.ArrayLaws.{zeros-getD}
 use Rattle.words.proofs.ChoiceLaws.{pick-true, pick-false}
 use Rattle.words.proofs.CountingLaws.{any-none-yet, any-more, any-some, some-any, upto-none, upto-more, upto-done}
@@ -26,13 +24,12 @@ use Rattle.cic_record.specs.declared.Channel.{Channel}
 use Rattle.cic_record.specs.declared.Cic.{Cic}
 use Rattle.cic_record.specs.Kinds.{channelNumber}
 use Rattle.cic_record.proofs.PartsLaws.{sound-counts}
-use Rattle.cic_laid.specs.Room.{Frame, plain, laid, parts, sizes}
+use Rattle.cic_laid.specs.Room.{Frame, plain}
 use Rattle.cic_laid.specs.Room as stands
-use Rattle.cic_held.specs.declared.Held.{Held}
 use Rattle.cic_held.specs.declared.Prioritised.{Prioritised}
 use Rattle.cic_held.specs.Held.{prioritised, sound}
 use Rattle.cic_prioritised.proofs.SoundLaws.{sound-cic, global-small, host-small}
-use Rattle.indexed_room.specs.Room.{Laid, withIndex, withHeld, withWords}
+use Rattle.indexed_room.specs.Room.{Laid, withHeld, withWords}
 use Rattle.indexed_room.specs.Words.{inWord, wordsOf}
 use Rattle.indexed_room.proofs.FrameLaws.{words-is, put-words, put-index, put-held, put-kind, channel-byte}
 use Rattle.indexed_room.proofs.HoldLaws.{choice-is, mode-is, global-is, host-held-is}

@@ -1,7 +1,7 @@
 // A record of a CIC with prioritised indices into a room, and out of it.
 ghost use mathlib.Core.Path.{_≡_};
 ghost use mathlib.Core.Bool.{true};
-ghost use Prim.Native.Nat.{ℕ, _+_, _%_, _<_, _≤_};
+ghost use Prim.Native.Nat.{ℕ, _+_, _%_, _<_};
 ghost use lib.ListN.{length, getD, replicate};
 ghost use Rattle.rooms.specs.Parts.{made};
 ghost use Rattle.cic_record.specs.declared.Cic.{Cic};

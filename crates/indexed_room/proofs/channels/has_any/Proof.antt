@@ -1,11 +1,8 @@
+-- That `has_any` of src/channels.rt keeps its contract.
 use Rattle.words.proofs.WordLaws.{nonzero-any}
-use borrow.Author.Needs.{needs}
 use Rattle.indexed_room.proofs.channels.has_any.Statement.{statement}
 use Rattle.indexed_room.proofs.channels.has_any.Tie as tie
-use Rattle.indexed_room.proofs.channels.has_any.Reads as reads
-use Rattle.indexed_room.proofs.channels.has_any.Lts as lts
 
--- src/channels.rt:23:1
 returns : tie.Need-returns
 returns c = nonzero-any 32 _ (c .fits .w .fits)
 

@@ -1,3 +1,4 @@
+-- That `held_as` of src/holds.rt keeps its contract.
 use mathlib.Core.Path.{_≡_, _∙_}
 use Prim.Native.Nat.{_+_, _%_}
 use native.Mathlib.Omega.{arith}
@@ -7,19 +8,11 @@ use Rattle.cic_held.specs.Held.{heldAs}
 use borrow.Author.Needs.{needs}
 use Rattle.indexed_room.proofs.holds.held_as.Statement.{statement}
 use Rattle.indexed_room.proofs.holds.held_as.Tie as tie
-use Rattle.indexed_room.proofs.holds.held_as.Reads as reads
-use Rattle.indexed_room.proofs.holds.held_as.Lts as lts
 
--- src/holds.rt:45:9
 returns : tie.Need-returns
 unfolding heldAs
 returns c = λ small. pick-true _ (eq-eqb (c .before .args .word) _ (c .if1 .taken))
 
--- src/holds.rt:47:5
-add-result : tie.Need-add-result
-add-result c = search needs
-
--- src/holds.rt:41:1
 returns-2 : tie.Need-returns-2
 unfolding heldAs
 returns-2 c = λ small.
@@ -28,4 +21,4 @@ returns-2 c = λ small.
     e ∙ pick-false _ (ne-eqb w _ (c .if1 .left))
 
 pub held-as-spec : {M : Type 1} → statement M
-held-as-spec = tie.close (tie.spec returns add-result returns-2)
+held-as-spec = tie.close (tie.spec returns (λ c. search needs) returns-2)
