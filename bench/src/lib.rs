@@ -31,5 +31,6 @@ pub mod stack;
 pub mod tally;
 pub mod trace;
 pub mod tuned;
+pub mod typed;
 pub mod waves;
 pub mod workload;
