@@ -1,3 +1,5 @@
 -- Laws and theorems about texts that are encoded.
-pub mod LineLaws
 pub mod EncodeLaws
+pub mod LineLaws
+pub mod Promises
+pub mod StatementLaws

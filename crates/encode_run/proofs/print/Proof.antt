@@ -7,10 +7,10 @@ use Rattle.encode_run.proofs.print.Statement.{statement}
 use Rattle.encode_run.proofs.print.Tie as tie
 
 array-share-prefix-out : tie.Need-array-share-prefix-out
-array-share-prefix-out c = laid-fits _ _ _ (c .before .before .before .encode .ensures .1)
+array-share-prefix-out c = laid-fits _ _ _ (c .before .before .before .before .encode .ensures .1)
 
 slice-aggregate-write-all : tie.Need-slice-aggregate-write-all
-slice-aggregate-write-all c = sym (length-take-le _ _ (laid-fits _ _ _ (c .before .before .before .before .encode .ensures .1)))
+slice-aggregate-write-all c = sym (length-take-le _ _ (laid-fits _ _ _ (c .before .before .before .before .before .encode .ensures .1)))
 
 pub print-spec : {M : Type 1} → statement M
 print-spec =
