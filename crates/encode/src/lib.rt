@@ -123,13 +123,21 @@ fn put_expected(out: &mut [u8], at: usize, expected: u32, word: usize) -> usize
     ensures { λ r. ⌜ (now (out .exit), r) ≡ write (now (out .entry), at) (expectedWords expected word) ⌝ }
 {
     if expected == statements::CONTROLLER {
-        return text::put_all(out, at, b": a controller was expected: aic, coreinterrupt, cic, aintc or indexed");
+        return text::put_all(
+            out,
+            at,
+            b": a controller was expected: aic, coreinterrupt, cic, aintc or indexed",
+        );
     }
     if expected == statements::STEP {
         return text::put_all(out, at, b": a step was expected: read, write or line");
     }
     if expected == statements::NUMBER {
-        let next = text::put_all(out, at, b": a number of at most 32 bits was expected as word ");
+        let next = text::put_all(
+            out,
+            at,
+            b": a number of at most 32 bits was expected as word ",
+        );
         return text::put_decimal(out, next, word as u64);
     }
     if expected == statements::LINE_END {

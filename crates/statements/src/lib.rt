@@ -155,7 +155,11 @@ fn controller_by(kind: u32) -> Opening
 {
     let n = kinds::wanted(kind);
     Opening {
-        expected: if kind == NO_KIND { CONTROLLER } else { AS_IT_SHOULD_BE },
+        expected: if kind == NO_KIND {
+            CONTROLLER
+        } else {
+            AS_IT_SHOULD_BE
+        },
         kind: kind,
         first: kind,
         numbers: n,
@@ -167,7 +171,11 @@ fn step_by(kind: u32, step: u32) -> Opening
 {
     let n = operands(kinds::tells_privilege(kind), step);
     Opening {
-        expected: if step == NO_STEP { STEP } else { AS_IT_SHOULD_BE },
+        expected: if step == NO_STEP {
+            STEP
+        } else {
+            AS_IT_SHOULD_BE
+        },
         kind: kind,
         first: step,
         numbers: n,

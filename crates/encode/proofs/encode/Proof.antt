@@ -23,8 +23,7 @@ abbrev μ-loop : tie.MeasureT-loop
 
 loop-holds : tie.Need-loop-holds Inv-loop μ-loop
 loop-holds c =
-    let t = c .before .before .args .text .now in
-    (
+    let t = c .before .before .args .text .now in (
       ap (λ (e : Encoding). e .refusal) (left-first t),
       ap (write _) (ap (λ (e : Encoding). e .bytes) (left-first t)),
       refl,
@@ -62,8 +61,7 @@ returns c =
     let l = f .before .before in
     let t = l .before .before .before .args .text .now in
     let q = ap (λ (n : ℕ). take (n - l .loop .at) (drop (l .loop .at) t)) (f .find .ensures) in
-    let x = left-refused t (l .loop .lines) (l .loop .at) (l .loop .kind) (l .loop .size) (f .find .result) (f .before .loop-test .taken) (f .find .ensures) (c .before .before .line-of .result) _ q (c .before .before .line-of .ensures) (c .if1 .taken) in
-    (
+    let x = left-refused t (l .loop .lines) (l .loop .at) (l .loop .kind) (l .loop .size) (f .find .result) (f .before .loop-test .taken) (f .find .ensures) (c .before .before .line-of .result) _ q (c .before .before .line-of .ensures) (c .if1 .taken) in (
       sym (ap (λ (e : Encoding). e .refusal) x) ∙ l .loop .inv .0,
       nothing _ ∙ ap (write _) (sym (ap (λ (e : Encoding). e .bytes) x)) ∙ l .loop .inv .1 ∙ write-laid _ _,
     )
@@ -117,8 +115,7 @@ loop-again c =
     let t = l .before .before .before .args .text .now in
     let q = ap (λ (n : ℕ). take (n - l .loop .at) (drop (l .loop .at) t)) (f .find .ensures) in
     let z = c .before .before .before .before .before .before .if1 .left in
-    let x = left-more t (l .loop .lines) (l .loop .at) (l .loop .kind) (l .loop .size) (f .find .result) (f .before .loop-test .taken) (f .find .ensures) (s .line-of .result) _ q (s .line-of .ensures) z in
-    (
+    let x = left-more t (l .loop .lines) (l .loop .at) (l .loop .kind) (l .loop .size) (f .find .result) (f .before .loop-test .taken) (f .find .ensures) (s .line-of .result) _ q (s .line-of .ensures) z in (
       sym (ap (λ (e : Encoding). e .refusal) x) ∙ l .loop .inv .0,
       rest-of _ _ _ _ (c .before .before .before .put-statement .ensures) ∙ ap (write _) (sym (ap (λ (e : Encoding). e .bytes) x)) ∙ l .loop .inv .1,
       same-length-of _ _ _ (c .before .before .before .put-statement .ensures) ∙ l .loop .inv .2,
@@ -131,8 +128,7 @@ returns-2 : tie.Need-returns-2 Inv-loop μ-loop
 returns-2 c =
     let l = c .before .before in
     let t = l .before .before .before .args .text .now in
-    let x = left-none t (l .loop .lines) (l .loop .at) (l .loop .kind) (l .loop .size) (c .before .loop-test .left) in
-    (
+    let x = left-none t (l .loop .lines) (l .loop .at) (l .loop .kind) (l .loop .size) (c .before .loop-test .left) in (
       c .ended-by .ensures ∙ sym (ap (λ (e : Encoding). e .refusal) x) ∙ l .loop .inv .0,
       nothing _ ∙ ap (write _) (sym (ap (λ (e : Encoding). e .bytes) x)) ∙ l .loop .inv .1 ∙ write-laid _ _,
     )

@@ -1,3 +1,4 @@
+-- That `put_statement` of src/lib.rt keeps its contract.
 use Prim.Native.Nat.{ℕ}
 use mathlib.Core.Path.{sym, ap, _∙_}
 use native.Mathlib.Omega.{arith}
@@ -10,30 +11,12 @@ use Rattle.statements.proofs.PlaceLaws.{place-within}
 use borrow.Author.Needs.{needs}
 use Rattle.statements.proofs.put_statement.Statement.{statement}
 use Rattle.statements.proofs.put_statement.Tie as tie
-use Rattle.statements.proofs.put_statement.Reads as reads
-use Rattle.statements.proofs.put_statement.Lts as lts
-use Rattle.statements.proofs.find.Reads as find-reads
-use Rattle.statements.proofs.put_words.Reads as put-words-reads
 
--- src/lib.rt:309:9
-find-requires : tie.Need-find-requires
-find-requires c κs = search needs
-
--- src/lib.rt:310:24
 slice-aggregate-put-words : tie.Need-slice-aggregate-put-words
 slice-aggregate-put-words c =
     let a = c .before .before .before .before .before .args in
     sym (length-take-le _ _ (omega (arith, c .before .before .find .ensures, place-within 35 (a .line .now) 0 (omega arith))))
 
--- src/lib.rt:310:5
-put-words-requires : tie.Need-put-words-requires
-put-words-requires c κs = search needs
-
--- src/lib.rt:306:1
-same-length : tie.Need-same-length
-same-length c = search needs
-
--- src/lib.rt:306:1
 returns : tie.Need-returns
 unfolding bytesIn uncommented
 returns c =
@@ -44,4 +27,4 @@ returns c =
 pub put-statement-spec : {M : Type 1} → statement M
 put-statement-spec =
     tie.close
-    (tie.spec find-requires slice-aggregate-put-words put-words-requires same-length returns)
+    (tie.spec (λ c κs. search needs) slice-aggregate-put-words (λ c κs. search needs) (λ c. search needs) returns)

@@ -37,8 +37,7 @@ loop-again c =
     let l = p .before .before .before .before .before .loop in
     let s = p .before .before .before .before .before .before .before .before .before .args .line .now in
     let r = p .before .before .before .read-next2 .ensures in
-    let v = next-worth s (l .past) (l .k + 1) _ _ (l .inv .1) r (p .before .entered-as .ensures) in
-    (
+    let v = next-worth s (l .past) (l .k + 1) _ _ (l .inv .1) r (p .before .entered-as .ensures) in (
       search needs,
       next-is s (l .past) (l .k + 1) _ (l .inv .1) r .past,
       and-then _ _ _ (l .inv .2) (p .put-number .ensures) ∙ ap (write _) (values-more s (l .k) _ v),
