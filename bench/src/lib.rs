@@ -32,5 +32,6 @@ pub mod stack;
 pub mod tally;
 pub mod trace;
 pub mod tuned;
+pub mod typed;
 pub mod waves;
 pub mod workload;

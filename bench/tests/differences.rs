@@ -131,6 +131,6 @@ fn the_exit_status_tells() {
     let count = &THROUGH_THE_PROGRAM.to_string();
     assert_eq!(status(reference, count), Some(0));
     assert_eq!(status(reference, "3"), Some(1), "a gap in coverage");
-    assert_eq!(status(env!("CARGO_BIN_EXE_assemble"), count), Some(1));
+    assert_eq!(status(env!("CARGO_BIN_EXE_report"), count), Some(1));
     assert_eq!(status(reference, "many"), Some(2));
 }

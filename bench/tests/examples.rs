@@ -9,10 +9,20 @@ use bench::hex;
 use bench::listing::listing;
 use bench::stack::{line, text};
 use bench::trace::{decode, encode, NUMBER_BYTES, PROGRAM_LIMIT};
-use bench::{picture, waves};
+use bench::{picture, typed, waves};
 
 /// The contents of a sort of examples' files, by name and then by ending.
 type Examples = BTreeMap<String, BTreeMap<String, Vec<u8>>>;
+
+/// The traces that no text stands for: damaged, cut, empty, not in shortest forms, or with a step that there is not.
+const AS_BYTES: [&str; 6] = [
+    "beyond-limit",
+    "cut-short",
+    "damaged-number",
+    "empty",
+    "padded",
+    "unknown-step",
+];
 
 /// The traces.
 fn examples() -> Examples {
@@ -53,7 +63,10 @@ fn each_example_has_its_three_files() {
     for (name, mut files) in examples {
         files.retain(|ending, _| ending != "vcd" && ending != "svg");
         let endings: Vec<&str> = files.keys().map(String::as_str).collect();
-        assert_eq!(endings, ["hex", "listing", "trace"], "{name}");
+        match AS_BYTES.contains(&name.as_str()) {
+            true => assert_eq!(endings, ["hex", "listing", "trace"], "{name}"),
+            false => assert_eq!(endings, ["listing", "trace", "txt"], "{name}"),
+        }
     }
 }
 
@@ -83,8 +96,11 @@ fn waves_and_pictures_are_what_the_model_says() {
 #[test]
 fn each_trace_is_what_its_text_says() {
     for (name, files) in examples() {
-        let text = String::from_utf8(files["hex"].clone()).expect("hex is plain text");
-        assert_eq!(hex::parse(&text).as_ref(), Ok(&files["trace"]), "{name}");
+        let bytes = match files.get("txt") {
+            Some(text) => typed::encode(text),
+            None => hex::parse(&String::from_utf8_lossy(&files["hex"])),
+        };
+        assert_eq!(bytes.as_ref(), Ok(&files["trace"]), "{name}");
     }
 }
 

@@ -51,9 +51,13 @@ word-taken w = go (isNumber w)
     go true = refl
     go false = refl
 
-word-value : (w : List ℕ) → isNumber w ≡ true → readWord w .value ≡ capped (worth w)
+pub word-value : (w : List ℕ) → isNumber w ≡ true → readWord w .value ≡ capped (worth w)
 unfolding readWord pick
 word-value w e = rw e
+
+pub word-none : (w : List ℕ) → isNumber w ≡ false → readWord w .value ≡ 0
+unfolding readWord pick
+word-none w e = rw e
 
 typed-is : (s : List ℕ) (n : ℕ) → take (endFrom s (startFrom s (pastNth s n)) - startFrom s (pastNth s n)) (drop (startFrom s (pastNth s n)) s) ≡ nthTyped s n
 unfolding nthTyped nthStart pastNth

@@ -20,10 +20,10 @@ pub record Sought (p : ℕ → Bool) (s : List ℕ) (at i : ℕ) : Type 0 where
   pub found : i < length s → p (getD s i 0) ≡ true
 
 module _ (p : ℕ → Bool) (s : List ℕ) (at : ℕ) where
-  abbrev seek : ℕ
+  abbrev pub seek : ℕ
   seek = at + lowestBelow (length s - at) (λ k. p (getD s (at + k) 0))
 
-  sought : Sought p s at seek
+  pub sought : Sought p s at seek
   sought =
       let l = lowest-found (length s - at) (λ k. p (getD s (at + k) 0)) in
       record {
@@ -33,7 +33,7 @@ module _ (p : ℕ → Bool) (s : List ℕ) (at : ℕ) where
         found = λ b. l .found (omega arith);
       }
 
-  sought-is : (i : ℕ) → Sought p s at i → i ≡ seek
+  pub sought-is : (i : ℕ) → Sought p s at i → i ≡ seek
   sought-is i h =
       let e : at + (i - at) ≡ i = omega (arith, h .from) in
       let q : i - at ≡ lowestBelow (length s - at) (λ k. p (getD s (at + k) 0))

@@ -24,11 +24,11 @@ struct Typed {
 }
 
 // The next number of a text, where it begins, and the offset behind it.
-struct Next {
-    taken: bool,
-    value: u64,
-    start: usize,
-    past: usize,
+pub struct Next {
+    pub taken: bool,
+    pub value: u64,
+    pub start: usize,
+    pub past: usize,
 }
 
 // How many of the 98 numbers come before the first fault, their values, and where the fault or what follows them begins.
@@ -183,7 +183,7 @@ fn fits_at(n: usize, taken: bool, value: u64) -> bool
 }
 
 // What the table has of a number: the largest word where it is more than that.
-fn entered_as(value: u64) -> u32
+pub fn entered_as(value: u64) -> u32
     ensures { λ r. ⌜ r ≡ entered value ⌝ }
 {
     if value < OVER {
@@ -193,7 +193,7 @@ fn entered_as(value: u64) -> u32
 }
 
 // The next number from an offset on.
-fn read_next(text: &[u8], past: usize) -> Next
+pub fn read_next(text: &[u8], past: usize) -> Next
     requires { ⌜ past ≤ length (now text) ⌝ }
     ensures { λ r. ⌜ r ≡ readNext (now (text .entry)) past ⌝ }
 {
@@ -209,7 +209,7 @@ fn read_next(text: &[u8], past: usize) -> Next
 }
 
 // The first byte from an offset on that is white, or that is not, as `wanted` says.
-fn seek(text: &[u8], at: usize, wanted: bool) -> usize
+pub fn seek(text: &[u8], at: usize, wanted: bool) -> usize
     ensures { λ r. ⌜ r ≡ pick wanted (endFrom (now (text .entry)) at) (startFrom (now (text .entry)) at) ⌝ }
 {
     let mut i = at;

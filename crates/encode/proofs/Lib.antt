@@ -1,0 +1,5 @@
+-- Laws and theorems about texts that are encoded.
+pub mod EncodeLaws
+pub mod LineLaws
+pub mod Promises
+pub mod StatementLaws

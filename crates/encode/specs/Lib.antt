@@ -1,0 +1,4 @@
+-- A trace that is typed as text: its lines, its bytes, what is said where it is refused, and what is promised of that.
+pub mod Encode
+pub mod Lines
+pub mod Promises

@@ -1,0 +1,5 @@
+-- Laws and theorems about statements.
+pub mod ByteLaws
+pub mod NumberLaws
+pub mod PlaceLaws
+pub mod WordLaws
