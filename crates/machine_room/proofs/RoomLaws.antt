@@ -19,7 +19,7 @@ use Rattle.coreinterrupt.specs.Model.{step as coreStep, outputs as coreOutputs}
 use Rattle.coreinterrupt_room.specs.Room.{Laid as CoreLaid, Done as CoreDone}
 use Rattle.coreinterrupt_room.proofs.RoomLaws.{kind-is as core-kind}
 use Rattle.aintc_record.specs.declared.Aintc.{Aintc}
-use Rattle.aintc.specs.Model.{step as aintcStep, outputs as aintcOutputs}
+use Rattle.aintc_steps.specs.Model.{step as aintcStep, outputs as aintcOutputs}
 use Rattle.aintc_layout.specs.Room.{Laid as AintcLaid}
 use Rattle.aintc_layout.proofs.CellLaws.{kind-is as aintc-kind}
 use Rattle.aintc_room.specs.Reply.{Done as AintcDone}
