@@ -1,0 +1,52 @@
+-- That `clear_enable` of src/lib.rt keeps its contract.
+use mathlib.Core.Path.{ap, _∙_}
+use Prim.Native.Nat.{ℕ, _-_}
+use lib.ListN.{set}
+use Rattle.words.specs.Word.{without}
+use Rattle.cic_record.specs.Record.{withEnable}
+use Rattle.cic_words.specs.Bits.{bitsCleared}
+use Rattle.cic_laid.proofs.PutLaws.{enable-is}
+use Rattle.cic_laid.proofs.RoomLaws.{laid-as}
+use borrow.Author.Needs.{needs}
+use Rattle.cic_laid.proofs.clear_enable.Statement.{statement}
+use Rattle.cic_laid.proofs.clear_enable.Tie as tie
+use Rattle.cic_laid.proofs.clear_enable.Reads as reads
+use Rattle.cic_laid.proofs.clear_enable.Lts as lts
+use Rattle.cic_laid.proofs.store_enable.Reads as store-enable-reads
+use Rattle.words.proofs.drop_bits.Reads as drop-bits-reads
+
+add-drop-bits : tie.Need-add-drop-bits
+add-drop-bits c = search needs
+
+mul-drop-bits : tie.Need-mul-drop-bits
+mul-drop-bits c = search needs
+
+element-copy-out-drop-bits : tie.Need-element-copy-out-drop-bits
+element-copy-out-drop-bits c = search needs
+
+drop-bits-requires : tie.Need-drop-bits-requires
+drop-bits-requires c κs = search needs
+
+store-enable-requires : tie.Need-store-enable-requires
+store-enable-requires c κs = search needs
+
+returns : tie.Need-returns
+unfolding bitsCleared
+returns c =
+    let x = c .before .before in
+    let a = x .before .before in
+    let k = a .args .k in
+    λ f d h.
+    laid-as (ap (λ (w : ℕ). withEnable d (set (d .enable) k w)) (x .drop-bits .ensures ∙ ap (λ (w : ℕ). without w (a .args .v)) (enable-is h k (a .pre))))
+    (c .store-enable .ensures f d h)
+
+pub clear-enable-spec : {M : Type 1} → statement M
+clear-enable-spec =
+    tie.close
+    (tie.spec
+    add-drop-bits
+    mul-drop-bits
+    element-copy-out-drop-bits
+    drop-bits-requires
+    store-enable-requires
+    returns)

@@ -1,0 +1,45 @@
+-- That `replace_hosts` of src/lib.rt keeps its contract.
+use mathlib.Core.Path.{ap, _∙_}
+use Prim.Native.Nat.{ℕ, _-_}
+use lib.ListN.{set}
+use Rattle.words.specs.Array.{restAt}
+use Rattle.words.specs.Word.{kept}
+use Rattle.cic_record.specs.Record.{withAllow}
+use Rattle.cic_words.specs.Bits.{wordReplaced}
+use Rattle.cic_laid.proofs.PutLaws.{hosts-is}
+use Rattle.cic_laid.proofs.RoomLaws.{laid-as}
+use borrow.Author.Needs.{needs}
+use Rattle.cic_laid.proofs.replace_hosts.Statement.{statement}
+use Rattle.cic_laid.proofs.replace_hosts.Tie as tie
+use Rattle.cic_laid.proofs.replace_hosts.Reads as reads
+use Rattle.cic_laid.proofs.replace_hosts.Lts as lts
+use Rattle.cic_laid.proofs.rest_at.Reads as rest-at-reads
+use Rattle.cic_laid.proofs.store_allow.Reads as store-allow-reads
+use Rattle.words.proofs.keep.Reads as keep-reads
+
+element-copy-out-rest-at : tie.Need-element-copy-out-rest-at
+element-copy-out-rest-at c = search needs
+
+rest-at-requires : tie.Need-rest-at-requires
+rest-at-requires c κs = search needs
+
+keep-requires : tie.Need-keep-requires
+keep-requires c κs = search needs
+
+store-allow-requires : tie.Need-store-allow-requires
+store-allow-requires c κs = search needs
+
+returns : tie.Need-returns
+unfolding wordReplaced
+returns c =
+    let y = c .before .before in
+    let a = y .before .before .before in
+    let k = a .args .k in
+    λ f d h.
+    laid-as (ap (λ (w : ℕ). withAllow d (set (d .allow) k w)) (y .keep .ensures ∙ ap (λ (n : ℕ). kept n (a .args .v)) (y .before .rest-at .ensures ∙ ap (λ (n : ℕ). restAt n k) (hosts-is h))))
+    (c .store-allow .ensures f d h)
+
+pub replace-hosts-spec : {M : Type 1} → statement M
+replace-hosts-spec =
+    tie.close
+    (tie.spec element-copy-out-rest-at rest-at-requires keep-requires store-allow-requires returns)

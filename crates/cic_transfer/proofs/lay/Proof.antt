@@ -1,0 +1,32 @@
+-- That `lay` of src/lib.rt keeps its contract.
+use mathlib.Core.Path.{_≡_}
+use mathlib.Core.Bool.{true}
+use Prim.Native.Nat.{_-_}
+use Rattle.cic_laid.specs.Room.{plain}
+use Rattle.cic_laid.proofs.RoomLaws.{laid-of}
+use Rattle.cic_laid.proofs.TurnLaws.{stood-bare}
+use borrow.Author.Needs.{needs}
+use Rattle.cic_transfer.proofs.lay.Statement.{statement}
+use Rattle.cic_transfer.proofs.lay.Tie as tie
+use Rattle.cic_transfer.proofs.lay.Reads as reads
+use Rattle.cic_transfer.proofs.lay.Lts as lts
+use Rattle.cic_transfer.proofs.copies.Reads as copies-reads
+use Rattle.cic_transfer.proofs.keep_all.Reads as keep-all-reads
+
+copies-requires : tie.Need-copies-requires
+copies-requires c κs = search needs
+
+keep-all-requires : tie.Need-keep-all-requires
+keep-all-requires c κs = search needs
+
+returns : tie.Need-returns
+returns c =
+    let a = c .before .before .before .before in
+    let t : a .args .kept ≡ true = c .before .before .if1 .taken in
+    λ ok. let x = c .before .before .before .copies .ensures ok in laid-of (c .keep-all .ensures (plain (a .args .kept)) (a .args .c) t (x .0) (x .1))
+
+returns-2 : tie.Need-returns-2
+returns-2 c = λ ok. let x = c .before .copies .ensures ok in laid-of (stood-bare (x .0) (c .if1 .left, x .1))
+
+pub lay-spec : {M : Type 1} → statement M
+lay-spec = tie.close (tie.spec copies-requires keep-all-requires returns returns-2)
