@@ -1,7 +1,7 @@
 -- A step in a room is the step of the record that was laid into it.
 use Prim.Native.Nat.{ℕ}
 use mathlib.Core.List.{List}
-use mathlib.Core.Path.{_≡_, ap, ap₂, _∙_}
+use mathlib.Core.Path.{_≡_, ap₂}
 use Rattle.rooms.specs.Reply.{Reply}
 use Rattle.cic_record.specs.declared.Answer.{Answer}
 use Rattle.cic_record.specs.declared.Cic.{Cic}

@@ -2,19 +2,19 @@
 use mathlib.Core.Path.{_≡_, refl, sym, ap, ap₂, _∙_}
 use mathlib.Core.Bool.{Bool, true, false, _&&_, not}
 use mathlib.Core.List.{List, [], _∷_}
-use Prim.Native.Nat.{ℕ, _+_, _*_, _/_, _%_, _^_, _<_, _≤_}
+use Prim.Native.Nat.{ℕ, _+_, _*_, _/_, _%_, _<_, _≤_}
 use native.Mathlib.Decide.{decLt}
 use native.Mathlib.Nat.{mod-lt}
 use native.Mathlib.Omega.{arith}
 use borrow.Author.Tests.{eq-eqb, ne-eqb}
 use lib.Dec.{eqb}
-use lib.ListN.{length, getD, set}
+use lib.ListN.{getD, set}
 use lib.Seq.{getD-set-other}
 use Rattle.words.specs.Array.{bitAt}
 use Rattle.words.specs.Counting.{countBelow, lowestBelow}
 use Rattle.words.specs.Word.{bit, both}
 use Rattle.words.proofs.ArrayLaws.{bitAt-word}
-use Rattle.words.proofs.CountingLaws.{count-same, count-add, count-le, Lowest, lowest-found, lowest-one}
+use Rattle.words.proofs.CountingLaws.{count-same, count-add, count-le, lowest-found, lowest-one}
 use Rattle.words.proofs.WordLaws.{bit-both, bit-wordOf, bit-none}
 use Rattle.cic_record.specs.declared.Cic.{Cic}
 use Rattle.cic_laid.specs.Room.{Frame, permitted, reached, someWord, shownWord}

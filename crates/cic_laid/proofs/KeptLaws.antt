@@ -3,7 +3,7 @@ use mathlib.Core.Path.{_≡_, refl, sym, ap, subst, _∙_}
 use mathlib.Core.Bool.{Bool, true, false, not}
 use mathlib.Core.List.{List}
 use mathlib.Core.Logic.{_⊎_, inl, inr}
-use Prim.Native.Nat.{ℕ, _+_, _*_, _/_, _%_, _<_, _≤_}
+use Prim.Native.Nat.{ℕ, _+_, _/_, _%_, _<_}
 use native.Mathlib.Omega.{arith}
 use lib.Dec.{eqb}
 use lib.ListN.{length, getD, set}
@@ -14,8 +14,8 @@ use Rattle.words.specs.Word.{withBit}
 use Rattle.words.proofs.ChoiceLaws.{pick-true, pick-false}
 use Rattle.words.proofs.TruthLaws.{told}
 use Rattle.cic_record.specs.declared.Cic.{Cic}
-use Rattle.cic_laid.specs.Room.{Frame, permitted, someWord, shownWord, ifKept, activeWord}
-use Rattle.cic_laid.specs.Tables.{Held, Tables, Beside, channelAt, hostAt, loadBy, Counted, Standing, Stale, Dim}
+use Rattle.cic_laid.specs.Room.{Frame, permitted, someWord, shownWord}
+use Rattle.cic_laid.specs.Tables.{Held, Tables, Beside, channelAt, hostAt, loadBy, Counted, Dim}
 use Rattle.cic_laid.proofs.TableLaws.{held-raised, held-busy, held-active, held-ofChannel, held-ofHost, put-raised, put-busy, put-active, put-ofChannel, put-ofHost, put-same, put-other}
 use Rattle.cic_laid.proofs.ShownLaws.{tables-as, some-put, some-others}
 
@@ -94,10 +94,10 @@ renumbered p {f} {c} {a} {u} {g} y room room′ h x t l e o d r k b =
     subst (λ (s : List ℕ). Held f c s × Tables (shownWord p g) (someWord y) (someWord u) a u y s) (sym r) (
       held-raised (h / 32) _ w (held-ofHost h x l k),
       put-raised (h / 32) _ (someWord y) w
-      (ap (λ (z : ℕ). withBit z (h % 32) t) (getD-set-other room (768 + h) (24 + h / 32) x 0 (λ q. absurd (omega (arith, q, l))) ∙ b .raised .holds (h / 32) w)
-      ∙ some-put g y h t (d ∙ ap (λ (z : ℕ). not (eqb z 0)) e) o)
-      (λ j _ n. some-others g y h o j n)
-      (put-ofHost h x y l e (λ j _ n. o j n) b),
+          (ap (λ (z : ℕ). withBit z (h % 32) t) (getD-set-other room (768 + h) (24 + h / 32) x 0 (λ q. absurd (omega (arith, q, l))) ∙ b .raised .holds (h / 32) w)
+          ∙ some-put g y h t (d ∙ ap (λ (z : ℕ). not (eqb z 0)) e) o)
+          (λ j _ n. some-others g y h o j n)
+          (put-ofHost h x y l e (λ j _ n. o j n) b),
     )
   where
     w : h / 32 < 8
@@ -115,9 +115,9 @@ turned p {f} {c} {g} ws u u′ room r2 r3 s k x t on l m long e o d e2 e3 h b =
     subst (λ (r : List ℕ). Held f c r × Beside p (λ i. getD (withBitAt ws s on) i 0) u′ g r) (sym e3) (
       held-active (s / 32) _ (omega (arith, l)) (two .0),
       put-active (s / 32) _ _ (omega (arith, l))
-      (ap (λ (w : ℕ). withBit w (s % 32) on) (two .1 .active .holds (s / 32) (omega (arith, l))) ∙ put-same ws (s / 32) _ 32 long (omega (arith, l)))
-      (λ j _ n. put-other ws (s / 32) _ j n)
-      (two .1),
+          (ap (λ (w : ℕ). withBit w (s % 32) on) (two .1 .active .holds (s / 32) (omega (arith, l))) ∙ put-same ws (s / 32) _ 32 long (omega (arith, l)))
+          (λ j _ n. put-other ws (s / 32) _ j n)
+          (two .1),
     )
   where
     q : k / 32 < 8
@@ -128,10 +128,10 @@ turned p {f} {c} {g} ws u u′ room r2 r3 s k x t on l m long e o d e2 e3 h b =
         subst (λ (r : List ℕ). Held f c r × Beside p (λ i. getD ws i 0) u′ g r) (sym e2) (
           held-busy (k / 32) _ q (held-ofChannel k x m h),
           put-busy (k / 32) _ (someWord u′) q
-          (ap (λ (z : ℕ). withBit z (k % 32) t) (getD-set-other room (512 + k) (32 + k / 32) x 0 (λ i. absurd (omega (arith, i, m))) ∙ b .busy .holds (k / 32) q)
-          ∙ some-put u u′ k t (d ∙ ap (λ (z : ℕ). not (eqb z 0)) e) o)
-          (λ j _ n. some-others u u′ k o j n)
-          (put-ofChannel k x u′ m e (λ j _ n. o j n) b),
+              (ap (λ (z : ℕ). withBit z (k % 32) t) (getD-set-other room (512 + k) (32 + k / 32) x 0 (λ i. absurd (omega (arith, i, m))) ∙ b .busy .holds (k / 32) q)
+              ∙ some-put u u′ k t (d ∙ ap (λ (z : ℕ). not (eqb z 0)) e) o)
+              (λ j _ n. some-others u u′ k o j n)
+              (put-ofChannel k x u′ m e (λ j _ n. o j n) b),
         )
 
 -- a test that is turned round

@@ -8,19 +8,19 @@ use lib.Dec.{eqb}
 use lib.ListN.{length, getD}
 use lib.Seq.{ext-getD}
 use Rattle.words.specs.Array.{bitAt, byteOf}
-use Rattle.words.specs.Counting.{anyBelow, countBelow, lowestBelow}
-use Rattle.words.specs.Word.{bit, both}
+use Rattle.words.specs.Counting.{anyBelow, countBelow}
+use Rattle.words.specs.Word.{bit}
 use Rattle.words.proofs.ArrayLaws.{bitAt-word, clean-bit, zeros-getD}
 use Rattle.words.proofs.ChoiceLaws.{pick-true}
 use Rattle.words.proofs.CountingLaws.{count-same, lowest-same}
 use Rattle.words.proofs.WordLaws.{bit-both, bit-wordOf}
 use Rattle.cic_record.specs.declared.Cic.{Cic}
-use Rattle.cic_record.specs.Kinds.{system, hostNumber, channelOf}
+use Rattle.cic_record.specs.Kinds.{system, hostNumber}
 use Rattle.cic_record.specs.Sound.{sound}
 use Rattle.cic_record.proofs.PartsLaws.{sound-parts, sound-counts}
 use Rattle.cic_hosts.specs.Hosts.{raises, asserted, shown}
 use Rattle.cic_maps.specs.Maps.{mapRead}
-use Rattle.cic_laid.specs.Room.{Frame, activeWord, ofChannel, ofHost, someWord, cells, permitted, reached, shownWord, laid, Laid}
+use Rattle.cic_laid.specs.Room.{Frame, ofChannel, ofHost, someWord, cells, permitted, reached, shownWord, laid, Laid}
 use Rattle.cic_laid.specs.Tables.{Held, hostAt}
 use Rattle.cic_laid.specs.Promises.{Promises}
 use Rattle.cic_laid.proofs.LoadLaws.{count-cut, any-count}

@@ -1,13 +1,13 @@
 -- The room as one list and table by table: each follows from the other.
-use mathlib.Core.Path.{_≡_, refl, sym, ap, ap₂, subst, _∙_}
-use mathlib.Core.Bool.{Bool, true, false, _&&_}
+use mathlib.Core.Path.{_≡_, refl, sym, ap, subst, _∙_}
+use mathlib.Core.Bool.{Bool, _&&_}
 use mathlib.Core.List.{List, [], _∷_, _++_}
-use Prim.Native.Nat.{ℕ, zero, suc, _+_, _-_, _*_, _<_, _≤_}
+use Prim.Native.Nat.{ℕ, _+_, _-_, _*_, _<_}
 use native.Mathlib.Decide.{decLt}
-use native.Mathlib.Nat.{zero-add, add-assoc}
+use native.Mathlib.Nat.{zero-add}
 use native.Mathlib.Omega.{arith}
 use lib.Dec.{eqb}
-use lib.ListN.{length, getD, replicate, length-replicate, length-append, List·getD-append, List·getD-eq-default}
+use lib.ListN.{length, getD, replicate, length-replicate, List·getD-append, List·getD-eq-default}
 use lib.Seq.{ext-getD, getD-append-add}
 use Rattle.words.specs.Array.{bitAt}
 use Rattle.words.specs.Choice.{pick}
@@ -18,8 +18,8 @@ use Rattle.rooms.proofs.PartLaws.{part-get, flat-length, made-length, made-get}
 use Rattle.cic_record.specs.declared.Cic.{Cic}
 use Rattle.cic_record.specs.Promises.{Shaped}
 use Rattle.cic_maps.specs.Maps.{mapRead}
-use Rattle.cic_laid.specs.Room.{Frame, Framed, activeWord, ofChannel, ofHost, someWord, permitted, shownWord, ifKept, cells, parts, sizes, laid, Laid}
-use Rattle.cic_laid.specs.Tables.{Table, Held, Tables, channelAt, hostAt, loadBy, Counted, Standing}
+use Rattle.cic_laid.specs.Room.{Frame, Framed, activeWord, ofChannel, ofHost, someWord, permitted, shownWord, ifKept, parts, sizes, laid, Laid}
+use Rattle.cic_laid.specs.Tables.{Table, Held, Tables, channelAt, hostAt, loadBy, Standing}
 use Rattle.cic_laid.proofs.FourLaws.{words-active}
 use Rattle.cic_laid.proofs.ShownLaws.{some-same, shown-same, reached-as, tables-as}
 

@@ -2,7 +2,7 @@
 use mathlib.Core.Path.{_≡_, refl, sym, ap, ap₂, _∙_}
 use mathlib.Core.Bool.{Bool, true, false, _&&_, not, and-false}
 use mathlib.Core.List.{List, [], _∷_}
-use Prim.Native.Nat.{ℕ, zero, suc, _+_, _*_, _/_, _%_, _<_, _≤_}
+use Prim.Native.Nat.{ℕ, _+_, _*_, _/_, _%_, _<_, _≤_}
 use native.Mathlib.Decide.{ℕ-discrete, decLt}
 use native.Mathlib.Omega.{arith}
 use borrow.Author.Tests.{eq-eqb, ne-eqb}
@@ -12,7 +12,7 @@ use Rattle.words.specs.Choice.{pick}
 use Rattle.words.specs.Counting.{countBelow, lowestBelow}
 use Rattle.words.specs.Word.{bit, wordOf, withBit}
 use Rattle.words.proofs.ChoiceLaws.{pick-true, pick-false}
-use Rattle.words.proofs.CountingLaws.{count-same, count-le, lowest-same, Lowest, lowest-found, lowest-one}
+use Rattle.words.proofs.CountingLaws.{count-same, lowest-same, Lowest, lowest-found, lowest-one}
 use Rattle.words.proofs.TruthLaws.{clash}
 use Rattle.words.proofs.WordLaws.{bit-wordOf, wordOf-same}
 use Rattle.cic_laid.specs.Room.{someWord, reached, shownWord}

@@ -2,12 +2,12 @@
 use mathlib.Core.Path.{_≡_, refl, sym, ap, subst, _∙_}
 use mathlib.Core.Bool.{Bool, true, false, not}
 use mathlib.Core.List.{List}
-use Prim.Native.Nat.{ℕ, _+_, _*_, _/_, _%_, _^_, _<_, _≤_}
+use Prim.Native.Nat.{ℕ, _+_, _*_, _/_, _%_, _^_, _<_}
 use native.Mathlib.Decide.{ℕ-discrete}
 use native.Mathlib.Omega.{arith}
 use borrow.Author.Tests.{ne-eqb}
 use lib.Dec.{eqb}
-use lib.ListN.{length, getD, set, length-set}
+use lib.ListN.{getD, set}
 use lib.Seq.{set-set, set-getD, getD-set-same, getD-set-other}
 use Rattle.words.specs.Array.{bitAt, withBitAt}
 use Rattle.words.specs.Word.{bit, both, withBit}
@@ -16,7 +16,7 @@ use Rattle.rooms.specs.Parts.{made}
 use Rattle.rooms.proofs.PartLaws.{made-length, made-get}
 use Rattle.cic_record.specs.declared.Cic.{Cic}
 use Rattle.cic_laid.specs.Room.{Frame, permitted, activeWord}
-use Rattle.cic_laid.specs.Tables.{Held, Beside, channelAt, hostAt, loadBy, more, Counted, Standing, Stale, Dim}
+use Rattle.cic_laid.specs.Tables.{Held, Beside, channelAt, hostAt, loadBy, more, Counted, Standing, Stale}
 use Rattle.cic_laid.proofs.LeftLaws.{differs, Left, left-none, was-not, word-put, left-less}
 use Rattle.cic_laid.proofs.LoadLaws.{load-most, more-at, more-off, long-put, load-on, load-off}
 use Rattle.cic_laid.proofs.ShownLaws.{beside-as}

@@ -1,5 +1,5 @@
 -- A register of the channel map or of the host map is written.
-use mathlib.Core.Path.{_≡_, refl, sym, ap, subst, _∙_}
+use mathlib.Core.Path.{_≡_, refl, sym, ap, _∙_}
 use mathlib.Core.Bool.{Bool, true, false, _&&_, _||_, not}
 use mathlib.Core.Logic.{⊎-elim}
 use mathlib.Core.List.{List}
@@ -22,7 +22,7 @@ use Rattle.cic_maps.proofs.Promises as of-maps
 use Rattle.cic_laid.specs.Room.{Frame, permitted, activeWord, Laid}
 use Rattle.cic_laid.specs.Tables.{Held, Beside, channelAt, hostAt, loadBy, more, Counted, Standing, Stale, Taken, Move}
 use Rattle.cic_laid.proofs.TableLaws.{put-channel, put-host, kept-channel, kept-host}
-use Rattle.cic_laid.proofs.LoadLaws.{load-stays, load-most, Moves, moves}
+use Rattle.cic_laid.proofs.LoadLaws.{load-stays, load-most, moves}
 use Rattle.cic_laid.proofs.ShownLaws.{beside-as, beside-for}
 use Rattle.cic_laid.proofs.FourLaws.{four-out}
 use Rattle.cic_laid.proofs.KeptLaws.{counted-on, on-counted, bare-of}

@@ -7,8 +7,8 @@ use Prim.Native.Nat.{ℕ, _+_, _-_, _*_, _/_, _%_, _<_, _≤_}
 use native.Mathlib.Decide.{decLt, ℕ-discrete}
 use native.Mathlib.Omega.{arith}
 use borrow.Author.Tests.{eq-eqb, ne-eqb, lt-ltb, le-ltb, ltb-true, eqb-true, leb-true, leb-false, lt-leb, le-leb, ltb-false}
-use lib.Dec.{eqb, ltb, leb}
-use lib.ListN.{getD, length}
+use lib.Dec.{ltb, leb}
+use lib.ListN.{getD}
 use Rattle.words.specs.Choice.{pick}
 use Rattle.words.specs.Word.{both, kept, clean}
 use Rattle.words.specs.Array.{restAt, cleanBelow}
@@ -26,8 +26,6 @@ use Rattle.cic_record.specs.declared.Size.{Size}
 use Rattle.cic_record.specs.Parts.{sizeOf, answeredReply, refusedReply, answerOf}
 use Rattle.cic_record.specs.Record.{answered, refused}
 use Rattle.cic_record.specs.Sound.{sound}
-use Rattle.cic_record.proofs.RuleLaws.{sound-is}
-use Rattle.cic_record.proofs.PartsLaws.{sound-parts}
 use Rattle.cic_maps.specs.Maps.{byteRead, mapRead}
 use Rattle.cic_maps.proofs.MapLaws.{read-four}
 use Rattle.cic_words.specs.Bits.{wordRead}
@@ -37,7 +35,7 @@ use Rattle.cic_layout.specs.Map.{registerAt, accessOf, ifAny}
 use Rattle.cic_layout.proofs.Promises as of-layout
 use Rattle.cic_registers.specs.Registers.{unless, valueOf}
 use Rattle.cic_registers.proofs.ReplyLaws.{absent-read, unreadable-read, only-read, plain-read, group-read}
-use Rattle.cic_registers.specs.Access.{replyBy, answerBy, readIn, writeIn}
+use Rattle.cic_registers.specs.Access.{replyBy, answerBy, readIn}
 use Rattle.cic_steps.specs.Model.{readAs}
 use Rattle.cic_steps.proofs.StepLaws.{aligned-read}
 use Rattle.rooms.specs.Reply.{Reply, reply}
@@ -45,7 +43,7 @@ use Rattle.cic_hosts.specs.Hosts.{shown, outputs}
 use Rattle.cic_laid.specs.Room.{Frame, Laid}
 use Rattle.cic_laid.proofs.Promises as of-laid
 use Rattle.cic_laid.proofs.PutLaws.{systems-is, channels-is, hosts-is, revision-is}
-use Rattle.cic_room.specs.Reply.{replyOf, readReply, Done}
+use Rattle.cic_room.specs.Reply.{readReply, Done}
 
 -- ---- answers
 

@@ -1,8 +1,8 @@
 -- A room of zeros into which the parts of a record are copied, and the record that a room holds.
-use mathlib.Core.Path.{_≡_, refl, sym, ap, subst, _∙_}
+use mathlib.Core.Path.{_≡_, refl, sym, ap, _∙_}
 use mathlib.Core.Bool.{Bool, true, false, _&&_, not, and-false}
-use mathlib.Core.List.{List, [], _∷_}
-use Prim.Native.Nat.{ℕ, _+_, _*_, _<_, _≤_, _^_}
+use mathlib.Core.List.{List}
+use Prim.Native.Nat.{ℕ, _+_, _*_, _<_, _≤_}
 use native.Mathlib.Decide.{ℕ-discrete, decLt}
 use native.Mathlib.Omega.{arith}
 use borrow.Author.Tests.{eq-eqb}
@@ -10,18 +10,16 @@ use lib.Dec.{eqb}
 use lib.ListN.{length, getD, set, replicate, length-replicate, List·getD-eq-default}
 use lib.Seq.{ext-getD, getD-set-same, getD-set-other}
 use Rattle.words.specs.Array.{bitAt}
-use Rattle.words.specs.Counting.{one, countBelow, lowestBelow}
-use Rattle.words.specs.Word.{bit, both, wordOf}
+use Rattle.words.specs.Word.{both}
 use Rattle.words.proofs.ArrayLaws.{zeros-getD, zeros-bitAt}
-use Rattle.words.proofs.ChoiceLaws.{pick-true}
 use Rattle.words.proofs.WordLaws.{bit-some, bit-wordOf, wordOf-lt}
 use Rattle.cic_record.specs.declared.Cic.{Cic}
 use Rattle.cic_record.specs.Promises.{Shaped}
 use Rattle.cic_record.specs.Sound.{sound}
 use Rattle.cic_record.proofs.RuleLaws.{sound-is}
 use Rattle.cic_maps.specs.Maps.{mapRead}
-use Rattle.cic_laid.specs.Room.{Frame, plain, cells, Bytes, activeWord, permitted, reached, someWord, shownWord, Laid}
-use Rattle.cic_laid.specs.Tables.{Table, Held, Tables, channelAt, hostAt, loadBy, Counted, Standing}
+use Rattle.cic_laid.specs.Room.{Frame, plain, cells, Bytes, activeWord, permitted, reached, someWord, shownWord}
+use Rattle.cic_laid.specs.Tables.{Table, Held, channelAt, hostAt, loadBy, Counted, Standing}
 use Rattle.cic_laid.proofs.AssertLaws.{lowest-none}
 use Rattle.cic_laid.proofs.KeptLaws.{on-counted}
 use Rattle.cic_laid.proofs.LoadLaws.{count-nothing}

@@ -7,20 +7,6 @@ use Rattle.cic.proofs.FaceLaws.{answer-is, same-record}
 use borrow.Author.Needs.{needs}
 use Rattle.cic.proofs.read_in.Statement.{statement}
 use Rattle.cic.proofs.read_in.Tie as tie
-use Rattle.cic.proofs.read_in.Reads as reads
-use Rattle.cic.proofs.read_in.Lts as lts
-use Rattle.cic.proofs.answer_with.Reads as answer-with-reads
-use Rattle.cic_room.proofs.read.Reads as read-reads
-use Rattle.cic_transfer.proofs.lay.Reads as lay-reads
-
-lay-requires : tie.Need-lay-requires
-lay-requires c κs = search needs
-
-read-requires : tie.Need-read-requires
-read-requires c κs = search needs
-
-answer-with-requires : tie.Need-answer-with-requires
-answer-with-requires c κs = search needs
 
 returns : tie.Need-returns
 returns c =
@@ -31,4 +17,4 @@ returns c =
     c .answer-with .ensures ∙ answer-is (readAs true d (z .args .offset)) (x .1) (same-record (plain false) d (readAs true d (z .args .offset)) h x)
 
 pub read-in-spec : {M : Type 1} → statement M
-read-in-spec = tie.close (tie.spec lay-requires read-requires answer-with-requires returns)
+read-in-spec = tie.close (tie.spec (λ c κs. search needs) (λ c κs. search needs) (λ c κs. search needs) returns)

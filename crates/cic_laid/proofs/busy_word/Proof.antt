@@ -6,20 +6,9 @@ use Rattle.cic_laid.proofs.RoomLaws.{tables-of}
 use borrow.Author.Needs.{needs}
 use Rattle.cic_laid.proofs.busy_word.Statement.{statement}
 use Rattle.cic_laid.proofs.busy_word.Tie as tie
-use Rattle.cic_laid.proofs.busy_word.Reads as reads
-use Rattle.cic_laid.proofs.busy_word.Lts as lts
-
-add-result : tie.Need-add-result
-add-result c = search needs
-
-mul-result : tie.Need-mul-result
-mul-result c = search needs
-
-element-copy-out-result : tie.Need-element-copy-out-result
-element-copy-out-result c = search needs
 
 returns : tie.Need-returns
 returns c = let x = c .before in λ f d on h. tables-of h .busy .holds (x .args .k) (x .pre) ∙ sym (pick-true 0 on)
 
 pub busy-word-spec : {M : Type 1} → statement M
-busy-word-spec = tie.close (tie.spec add-result mul-result element-copy-out-result returns)
+busy-word-spec = tie.close (tie.spec (λ c. search needs) (λ c. search needs) (λ c. search needs) returns)

@@ -10,25 +10,6 @@ use Rattle.cic_laid.proofs.RoomLaws.{laid-as}
 use borrow.Author.Needs.{needs}
 use Rattle.cic_laid.proofs.clear_status.Statement.{statement}
 use Rattle.cic_laid.proofs.clear_status.Tie as tie
-use Rattle.cic_laid.proofs.clear_status.Reads as reads
-use Rattle.cic_laid.proofs.clear_status.Lts as lts
-use Rattle.cic_laid.proofs.store_status.Reads as store-status-reads
-use Rattle.words.proofs.drop_bits.Reads as drop-bits-reads
-
-add-drop-bits : tie.Need-add-drop-bits
-add-drop-bits c = search needs
-
-mul-drop-bits : tie.Need-mul-drop-bits
-mul-drop-bits c = search needs
-
-element-copy-out-drop-bits : tie.Need-element-copy-out-drop-bits
-element-copy-out-drop-bits c = search needs
-
-drop-bits-requires : tie.Need-drop-bits-requires
-drop-bits-requires c κs = search needs
-
-store-status-requires : tie.Need-store-status-requires
-store-status-requires c κs = search needs
 
 returns : tie.Need-returns
 unfolding bitsCleared
@@ -44,9 +25,9 @@ pub clear-status-spec : {M : Type 1} → statement M
 clear-status-spec =
     tie.close
     (tie.spec
-    add-drop-bits
-    mul-drop-bits
-    element-copy-out-drop-bits
-    drop-bits-requires
-    store-status-requires
+    (λ c. search needs)
+    (λ c. search needs)
+    (λ c. search needs)
+    (λ c κs. search needs)
+    (λ c κs. search needs)
     returns)

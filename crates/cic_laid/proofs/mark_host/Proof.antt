@@ -11,31 +11,6 @@ use Rattle.cic_laid.proofs.RoomLaws.{laid-as}
 use borrow.Author.Needs.{needs}
 use Rattle.cic_laid.proofs.mark_host.Statement.{statement}
 use Rattle.cic_laid.proofs.mark_host.Tie as tie
-use Rattle.cic_laid.proofs.mark_host.Reads as reads
-use Rattle.cic_laid.proofs.mark_host.Lts as lts
-use Rattle.cic_laid.proofs.store_allow.Reads as store-allow-reads
-use Rattle.words.proofs.with_bit.Reads as with-bit-reads
-
-cast-n : tie.Need-cast-n
-cast-n c = search needs
-
-cast-with-bit : tie.Need-cast-with-bit
-cast-with-bit c = search needs
-
-add-with-bit : tie.Need-add-with-bit
-add-with-bit c = search needs
-
-mul-with-bit : tie.Need-mul-with-bit
-mul-with-bit c = search needs
-
-element-copy-out-with-bit : tie.Need-element-copy-out-with-bit
-element-copy-out-with-bit c = search needs
-
-with-bit-requires : tie.Need-with-bit-requires
-with-bit-requires c κs = search needs
-
-store-allow-requires : tie.Need-store-allow-requires
-store-allow-requires c κs = search needs
 
 returns : tie.Need-returns
 unfolding withBitAt
@@ -50,11 +25,11 @@ pub mark-host-spec : {M : Type 1} → statement M
 mark-host-spec =
     tie.close
     (tie.spec
-    cast-n
-    cast-with-bit
-    add-with-bit
-    mul-with-bit
-    element-copy-out-with-bit
-    with-bit-requires
-    store-allow-requires
+    (λ c. search needs)
+    (λ c. search needs)
+    (λ c. search needs)
+    (λ c. search needs)
+    (λ c. search needs)
+    (λ c κs. search needs)
+    (λ c κs. search needs)
     returns)

@@ -12,35 +12,6 @@ use Rattle.cic_laid.proofs.RoomLaws.{laid-as}
 use borrow.Author.Needs.{needs}
 use Rattle.cic_laid.proofs.move_line.Statement.{statement}
 use Rattle.cic_laid.proofs.move_line.Tie as tie
-use Rattle.cic_laid.proofs.move_line.Reads as reads
-use Rattle.cic_laid.proofs.move_line.Lts as lts
-use Rattle.cic_laid.proofs.mark_status.Reads as mark-status-reads
-use Rattle.cic_laid.proofs.put_line.Reads as put-line-reads
-use Rattle.words.proofs.has.Reads as has-reads
-
-cast-n : tie.Need-cast-n
-cast-n c = search needs
-
-cast-has : tie.Need-cast-has
-cast-has c = search needs
-
-add-has : tie.Need-add-has
-add-has c = search needs
-
-mul-has : tie.Need-mul-has
-mul-has c = search needs
-
-element-copy-out-has : tie.Need-element-copy-out-has
-element-copy-out-has c = search needs
-
-has-requires : tie.Need-has-requires
-has-requires c κs = search needs
-
-put-line-requires : tie.Need-put-line-requires
-put-line-requires c κs = search needs
-
-mark-status-requires : tie.Need-mark-status-requires
-mark-status-requires c κs = search needs
 
 returns : tie.Need-returns
 unfolding moved bitAt
@@ -66,13 +37,13 @@ pub move-line-spec : {M : Type 1} → statement M
 move-line-spec =
     tie.close
     (tie.spec
-    cast-n
-    cast-has
-    add-has
-    mul-has
-    element-copy-out-has
-    has-requires
-    put-line-requires
-    mark-status-requires
+    (λ c. search needs)
+    (λ c. search needs)
+    (λ c. search needs)
+    (λ c. search needs)
+    (λ c. search needs)
+    (λ c κs. search needs)
+    (λ c κs. search needs)
+    (λ c κs. search needs)
     returns
     returns-2)

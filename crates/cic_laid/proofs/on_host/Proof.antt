@@ -6,24 +6,10 @@ use Rattle.cic_laid.proofs.RoomLaws.{tables-of}
 use borrow.Author.Needs.{needs}
 use Rattle.cic_laid.proofs.on_host.Statement.{statement}
 use Rattle.cic_laid.proofs.on_host.Tie as tie
-use Rattle.cic_laid.proofs.on_host.Reads as reads
-use Rattle.cic_laid.proofs.on_host.Lts as lts
-
-cast-result : tie.Need-cast-result
-cast-result c = search needs
-
-add-result : tie.Need-add-result
-add-result c = search needs
-
-mul-result : tie.Need-mul-result
-mul-result c = search needs
-
-element-copy-out-result : tie.Need-element-copy-out-result
-element-copy-out-result c = search needs
 
 returns : tie.Need-returns
 returns c = let x = c .before .before in λ f d on h. tables-of h .ofHost .holds (x .args .h .0) (x .pre) ∙ sym (pick-true 0 on)
 
 pub on-host-spec : {M : Type 1} → statement M
 on-host-spec =
-    tie.close (tie.spec cast-result add-result mul-result element-copy-out-result returns)
+    tie.close (tie.spec (λ c. search needs) (λ c. search needs) (λ c. search needs) (λ c. search needs) returns)

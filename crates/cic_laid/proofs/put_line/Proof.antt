@@ -11,39 +11,6 @@ use Rattle.cic_laid.proofs.RoomLaws.{laid-as}
 use borrow.Author.Needs.{needs}
 use Rattle.cic_laid.proofs.put_line.Statement.{statement}
 use Rattle.cic_laid.proofs.put_line.Tie as tie
-use Rattle.cic_laid.proofs.put_line.Reads as reads
-use Rattle.cic_laid.proofs.put_line.Lts as lts
-use Rattle.words.proofs.with_bit.Reads as with-bit-reads
-
-cast-n : tie.Need-cast-n
-cast-n c = search needs
-
-cast-with-bit : tie.Need-cast-with-bit
-cast-with-bit c = search needs
-
-add-with-bit : tie.Need-add-with-bit
-add-with-bit c = search needs
-
-mul-with-bit : tie.Need-mul-with-bit
-mul-with-bit c = search needs
-
-element-copy-out-with-bit : tie.Need-element-copy-out-with-bit
-element-copy-out-with-bit c = search needs
-
-with-bit-requires : tie.Need-with-bit-requires
-with-bit-requires c κs = search needs
-
-cast-room : tie.Need-cast-room
-cast-room c = search needs
-
-add-room : tie.Need-add-room
-add-room c = search needs
-
-mul-room : tie.Need-mul-room
-mul-room c = search needs
-
-element-write-room : tie.Need-element-write-room
-element-write-room c = search needs
 
 returns : tie.Need-returns
 unfolding withBitAt
@@ -58,14 +25,14 @@ pub put-line-spec : {M : Type 1} → statement M
 put-line-spec =
     tie.close
     (tie.spec
-    cast-n
-    cast-with-bit
-    add-with-bit
-    mul-with-bit
-    element-copy-out-with-bit
-    with-bit-requires
-    cast-room
-    add-room
-    mul-room
-    element-write-room
+    (λ c. search needs)
+    (λ c. search needs)
+    (λ c. search needs)
+    (λ c. search needs)
+    (λ c. search needs)
+    (λ c κs. search needs)
+    (λ c. search needs)
+    (λ c. search needs)
+    (λ c. search needs)
+    (λ c. search needs)
     returns)

@@ -11,23 +11,6 @@ use Rattle.cic_laid.proofs.RoomLaws.{laid-as}
 use borrow.Author.Needs.{needs}
 use Rattle.cic_laid.proofs.replace_hosts.Statement.{statement}
 use Rattle.cic_laid.proofs.replace_hosts.Tie as tie
-use Rattle.cic_laid.proofs.replace_hosts.Reads as reads
-use Rattle.cic_laid.proofs.replace_hosts.Lts as lts
-use Rattle.cic_laid.proofs.rest_at.Reads as rest-at-reads
-use Rattle.cic_laid.proofs.store_allow.Reads as store-allow-reads
-use Rattle.words.proofs.keep.Reads as keep-reads
-
-element-copy-out-rest-at : tie.Need-element-copy-out-rest-at
-element-copy-out-rest-at c = search needs
-
-rest-at-requires : tie.Need-rest-at-requires
-rest-at-requires c κs = search needs
-
-keep-requires : tie.Need-keep-requires
-keep-requires c κs = search needs
-
-store-allow-requires : tie.Need-store-allow-requires
-store-allow-requires c κs = search needs
 
 returns : tie.Need-returns
 unfolding wordReplaced
@@ -42,4 +25,4 @@ returns c =
 pub replace-hosts-spec : {M : Type 1} → statement M
 replace-hosts-spec =
     tie.close
-    (tie.spec element-copy-out-rest-at rest-at-requires keep-requires store-allow-requires returns)
+    (tie.spec (λ c. search needs) (λ c κs. search needs) (λ c κs. search needs) (λ c κs. search needs) returns)

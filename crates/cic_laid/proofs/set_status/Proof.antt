@@ -11,36 +11,6 @@ use Rattle.cic_laid.proofs.RoomLaws.{laid-as}
 use borrow.Author.Needs.{needs}
 use Rattle.cic_laid.proofs.set_status.Statement.{statement}
 use Rattle.cic_laid.proofs.set_status.Tie as tie
-use Rattle.cic_laid.proofs.set_status.Reads as reads
-use Rattle.cic_laid.proofs.set_status.Lts as lts
-use Rattle.cic_laid.proofs.rest_at.Reads as rest-at-reads
-use Rattle.cic_laid.proofs.store_status.Reads as store-status-reads
-use Rattle.words.proofs.join.Reads as join-reads
-use Rattle.words.proofs.keep.Reads as keep-reads
-
-element-copy-out-rest-at : tie.Need-element-copy-out-rest-at
-element-copy-out-rest-at c = search needs
-
-rest-at-requires : tie.Need-rest-at-requires
-rest-at-requires c κs = search needs
-
-keep-requires : tie.Need-keep-requires
-keep-requires c κs = search needs
-
-add-join : tie.Need-add-join
-add-join c = search needs
-
-mul-join : tie.Need-mul-join
-mul-join c = search needs
-
-element-copy-out-join : tie.Need-element-copy-out-join
-element-copy-out-join c = search needs
-
-join-requires : tie.Need-join-requires
-join-requires c κs = search needs
-
-store-status-requires : tie.Need-store-status-requires
-store-status-requires c κs = search needs
 
 returns : tie.Need-returns
 unfolding bitsSet
@@ -58,12 +28,12 @@ pub set-status-spec : {M : Type 1} → statement M
 set-status-spec =
     tie.close
     (tie.spec
-    element-copy-out-rest-at
-    rest-at-requires
-    keep-requires
-    add-join
-    mul-join
-    element-copy-out-join
-    join-requires
-    store-status-requires
+    (λ c. search needs)
+    (λ c κs. search needs)
+    (λ c κs. search needs)
+    (λ c. search needs)
+    (λ c. search needs)
+    (λ c. search needs)
+    (λ c κs. search needs)
+    (λ c κs. search needs)
     returns)

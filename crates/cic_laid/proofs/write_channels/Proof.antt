@@ -12,41 +12,9 @@ use Rattle.cic_laid.proofs.WriteLaws.{channels-bare, stale-channel}
 use borrow.Author.Needs.{needs}
 use Rattle.cic_laid.proofs.write_channels.Statement.{statement}
 use Rattle.cic_laid.proofs.write_channels.Tie as tie
-use Rattle.cic_laid.proofs.write_channels.Reads as reads
-use Rattle.cic_laid.proofs.write_channels.Lts as lts
-use Rattle.cic_laid.proofs.counts.renew_word.Reads as renew-word-reads
-use Rattle.cic_laid.proofs.counts.take_four.Reads as take-four-reads
-use Rattle.cic_laid.proofs.existing.Reads as existing-reads
-
-element-copy-out-n : tie.Need-element-copy-out-n
-element-copy-out-n c = search needs
-
-mul-if1 : tie.Need-mul-if1
-mul-if1 c = search needs
 
 returns : tie.Need-returns
 returns c = λ f d ok l h. absurd (omega (arith, c .if1 .taken, systems-is h, l))
-
-mul-existing : tie.Need-mul-existing
-mul-existing c = search needs
-
-sub-existing : tie.Need-sub-existing
-sub-existing c = search needs
-
-existing-requires : tie.Need-existing-requires
-existing-requires c κs = search needs
-
-element-copy-out-if2 : tie.Need-element-copy-out-if2
-element-copy-out-if2 c = search needs
-
-add-room : tie.Need-add-room
-add-room c = search needs
-
-mul-room : tie.Need-mul-room
-mul-room c = search needs
-
-element-write-room : tie.Need-element-write-room
-element-write-room c = search needs
 
 returns-2 : tie.Need-returns-2
 returns-2 c =
@@ -59,21 +27,6 @@ returns-2 c =
     (new-word 1024 (d .systems) k (a .args .v) (d .channel) (h .shaped .3) (omega (arith, a .pre)) _ l (x .1 .1) (sound-is d ok .spareChannels)
     (λ m. x .0 (omega (arith, m, n))) (λ m. x .1 .0 (omega (arith, m, n)) ∙ ap (λ (y : ℕ). kept (8 * (y - 4 * k)) (a .args .v)) n))
     (bare-told (held-of h) (c .if2 .taken)) h
-
-take-four-requires : tie.Need-take-four-requires
-take-four-requires c κs = search needs
-
-add-room-2 : tie.Need-add-room-2
-add-room-2 c = search needs
-
-mul-room-2 : tie.Need-mul-room-2
-mul-room-2 c = search needs
-
-element-write-room-2 : tie.Need-element-write-room-2
-element-write-room-2 c = search needs
-
-renew-word-requires : tie.Need-renew-word-requires
-renew-word-requires c κs = search needs
 
 returns-3 : tie.Need-returns-3
 returns-3 c =
@@ -94,20 +47,20 @@ pub write-channels-spec : {M : Type 1} → statement M
 write-channels-spec =
     tie.close
     (tie.spec
-    element-copy-out-n
-    mul-if1
+    (λ c. search needs)
+    (λ c. search needs)
     returns
-    mul-existing
-    sub-existing
-    existing-requires
-    element-copy-out-if2
-    add-room
-    mul-room
-    element-write-room
+    (λ c. search needs)
+    (λ c. search needs)
+    (λ c κs. search needs)
+    (λ c. search needs)
+    (λ c. search needs)
+    (λ c. search needs)
+    (λ c. search needs)
     returns-2
-    take-four-requires
-    add-room-2
-    mul-room-2
-    element-write-room-2
-    renew-word-requires
+    (λ c κs. search needs)
+    (λ c. search needs)
+    (λ c. search needs)
+    (λ c. search needs)
+    (λ c κs. search needs)
     returns-3)

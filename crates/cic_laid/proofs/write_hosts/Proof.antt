@@ -12,49 +12,9 @@ use Rattle.cic_laid.proofs.WriteLaws.{put-hosts}
 use borrow.Author.Needs.{needs}
 use Rattle.cic_laid.proofs.write_hosts.Statement.{statement}
 use Rattle.cic_laid.proofs.write_hosts.Tie as tie
-use Rattle.cic_laid.proofs.write_hosts.Reads as reads
-use Rattle.cic_laid.proofs.write_hosts.Lts as lts
-use Rattle.cic_laid.proofs.counts.move_byte.Reads as move-byte-reads
-use Rattle.cic_laid.proofs.existing.Reads as existing-reads
-
-element-copy-out-n : tie.Need-element-copy-out-n
-element-copy-out-n c = search needs
-
-mul-if1 : tie.Need-mul-if1
-mul-if1 c = search needs
 
 returns : tie.Need-returns
 returns c = λ f d ok l h. absurd (omega (arith, c .if1 .taken, channels-is h, l))
-
-add-old : tie.Need-add-old
-add-old c = search needs
-
-mul-old : tie.Need-mul-old
-mul-old c = search needs
-
-element-copy-out-old : tie.Need-element-copy-out-old
-element-copy-out-old c = search needs
-
-mul-existing : tie.Need-mul-existing
-mul-existing c = search needs
-
-sub-existing : tie.Need-sub-existing
-sub-existing c = search needs
-
-existing-requires : tie.Need-existing-requires
-existing-requires c κs = search needs
-
-add-room : tie.Need-add-room
-add-room c = search needs
-
-mul-room : tie.Need-mul-room
-mul-room c = search needs
-
-element-write-room : tie.Need-element-write-room
-element-write-room c = search needs
-
-element-copy-out-if2 : tie.Need-element-copy-out-if2
-element-copy-out-if2 c = search needs
 
 returns-2 : tie.Need-returns-2
 returns-2 c =
@@ -66,18 +26,6 @@ returns-2 c =
     let w = (new-word 256 (d .channels) k (a .args .v) (d .host) (h .shaped .4) (omega (arith, a .pre)) _ l (x .1 .1) (sound-is d ok .spareHosts)
     (λ m. x .0 (omega (arith, m, n))) (λ m. x .1 .0 (omega (arith, m, n)) ∙ ap (λ (y : ℕ). kept (8 * (y - 4 * k)) (a .args .v)) n)) in
     hosts-bare (a .args .room .now) k (a .args .v) _ (a .pre) h w (bare-told (put-hosts (a .args .room .now) k (a .args .v) _ (a .pre) h w) (c .if2 .taken))
-
-move-byte-requires : tie.Need-move-byte-requires
-move-byte-requires c κs = search needs
-
-move-byte-requires-2 : tie.Need-move-byte-requires-2
-move-byte-requires-2 c κs = search needs
-
-move-byte-requires-3 : tie.Need-move-byte-requires-3
-move-byte-requires-3 c κs = search needs
-
-move-byte-requires-4 : tie.Need-move-byte-requires-4
-move-byte-requires-4 c κs = search needs
 
 returns-3 : tie.Need-returns-3
 returns-3 c =
@@ -96,22 +44,22 @@ pub write-hosts-spec : {M : Type 1} → statement M
 write-hosts-spec =
     tie.close
     (tie.spec
-    element-copy-out-n
-    mul-if1
+    (λ c. search needs)
+    (λ c. search needs)
     returns
-    add-old
-    mul-old
-    element-copy-out-old
-    mul-existing
-    sub-existing
-    existing-requires
-    add-room
-    mul-room
-    element-write-room
-    element-copy-out-if2
+    (λ c. search needs)
+    (λ c. search needs)
+    (λ c. search needs)
+    (λ c. search needs)
+    (λ c. search needs)
+    (λ c κs. search needs)
+    (λ c. search needs)
+    (λ c. search needs)
+    (λ c. search needs)
+    (λ c. search needs)
     returns-2
-    move-byte-requires
-    move-byte-requires-2
-    move-byte-requires-3
-    move-byte-requires-4
+    (λ c κs. search needs)
+    (λ c κs. search needs)
+    (λ c κs. search needs)
+    (λ c κs. search needs)
     returns-3)

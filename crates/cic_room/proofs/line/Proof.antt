@@ -16,17 +16,6 @@ use Rattle.cic_room.proofs.ReplyLaws.{done-as, line-stops, line-goes}
 use borrow.Author.Needs.{needs}
 use Rattle.cic_room.proofs.line.Statement.{statement}
 use Rattle.cic_room.proofs.line.Tie as tie
-use Rattle.cic_room.proofs.line.Reads as reads
-use Rattle.cic_room.proofs.line.Lts as lts
-use Rattle.cic_laid.proofs.move_line.Reads as move-line-reads
-use Rattle.rooms.proofs.answer.Reads as answer-reads
-use Rattle.rooms.proofs.refuse.Reads as refuse-reads
-
-element-copy-out-if1 : tie.Need-element-copy-out-if1
-element-copy-out-if1 c = search needs
-
-refuse-requires : tie.Need-refuse-requires
-refuse-requires c κs = search needs
 
 returns : tie.Need-returns
 returns c =
@@ -48,9 +37,6 @@ move-line-requires c κs =
     let b = line-goes (getD (a .room .now) 1 0) (a .number) (a .level) (c .before .if1 .left) .1 in
     b
 
-answer-requires : tie.Need-answer-requires
-answer-requires c κs = search needs
-
 returns-2 : tie.Need-returns-2
 returns-2 c =
     let a = c .before .before .before .before .before .args in
@@ -63,10 +49,10 @@ pub line-spec : {M : Type 1} → statement M
 line-spec =
     tie.close
     (tie.spec
-    element-copy-out-if1
-    refuse-requires
+    (λ c. search needs)
+    (λ c κs. search needs)
     returns
     cast-t14
     move-line-requires
-    answer-requires
+    (λ c κs. search needs)
     returns-2)

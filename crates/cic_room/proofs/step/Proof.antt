@@ -11,28 +11,14 @@ use Rattle.cic_room.proofs.ReplyLaws.{done-as}
 use borrow.Author.Needs.{needs}
 use Rattle.cic_room.proofs.step.Statement.{statement}
 use Rattle.cic_room.proofs.step.Tie as tie
-use Rattle.cic_room.proofs.step.Reads as reads
-use Rattle.cic_room.proofs.step.Lts as lts
-use Rattle.cic_room.proofs.line.Reads as line-reads
-use Rattle.cic_room.proofs.read.Reads as read-reads
-use Rattle.cic_room.proofs.write.Reads as write-reads
-
-read-requires : tie.Need-read-requires
-read-requires c κs = search needs
 
 returns : tie.Need-returns
 unfolding stepOf
 returns c = let x = c .before .before .before .args in λ f d ok h. done-as (step-read true d (x .x) (sym (pick-true _ (eq-eqb _ _ (c .before .before .if1 .taken))))) (c .read .ensures f d ok h)
 
-write-requires : tie.Need-write-requires
-write-requires c κs = search needs
-
 returns-2 : tie.Need-returns-2
 unfolding stepOf
 returns-2 c = let x = c .before .before .before .before .args in λ f d ok h. done-as (step-write true d (x .x) (x .y) (sym (pick-true _ (eq-eqb _ _ (c .before .before .if2 .taken)) ∙ pick-false _ (ne-eqb _ _ (c .before .before .before .if1 .left))))) (c .write .ensures f d ok h)
-
-line-requires : tie.Need-line-requires
-line-requires c κs = search needs
 
 returns-3 : tie.Need-returns-3
 unfolding stepOf
@@ -40,4 +26,4 @@ returns-3 c = let x = c .before .before .before .before .args in λ f d ok h. do
 
 pub step-spec : {M : Type 1} → statement M
 step-spec =
-    tie.close (tie.spec read-requires returns write-requires returns-2 line-requires returns-3)
+    tie.close (tie.spec (λ c κs. search needs) returns (λ c κs. search needs) returns-2 (λ c κs. search needs) returns-3)

@@ -7,22 +7,12 @@ use Rattle.cic_room.proofs.ReplyLaws.{done-as}
 use borrow.Author.Needs.{needs}
 use Rattle.cic_room.proofs.write.Statement.{statement}
 use Rattle.cic_room.proofs.write.Tie as tie
-use Rattle.cic_room.proofs.write.Reads as reads
-use Rattle.cic_room.proofs.write.Lts as lts
-use Rattle.cic_room.proofs.writes.write_at.Reads as write-at-reads
-use Rattle.rooms.proofs.refuse.Reads as refuse-reads
-
-refuse-requires : tie.Need-refuse-requires
-refuse-requires c κs = search needs
 
 returns : tie.Need-returns
 returns c = let a = c .before .before .args in λ f d ok h. done-as (misaligned-write d (a .offset) (a .value) (c .before .if1 .taken)) (h, c .refuse .ensures)
-
-write-at-requires : tie.Need-write-at-requires
-write-at-requires c κs = search needs
 
 returns-2 : tie.Need-returns-2
 returns-2 c = let a = c .before .before .before .args in λ f d ok h. done-as (aligned-write d (a .offset) (a .value) (c .before .before .if1 .left) refl) (c .write-at .ensures f d ok h)
 
 pub write-spec : {M : Type 1} → statement M
-write-spec = tie.close (tie.spec refuse-requires returns write-at-requires returns-2)
+write-spec = tie.close (tie.spec (λ c κs. search needs) returns (λ c κs. search needs) returns-2)

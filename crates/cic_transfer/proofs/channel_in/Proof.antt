@@ -11,10 +11,6 @@ use Rattle.cic_transfer.proofs.CopyLaws.{words-more}
 use borrow.Author.Needs.{needs}
 use Rattle.cic_transfer.proofs.channel_in.Statement.{statement}
 use Rattle.cic_transfer.proofs.channel_in.Tie as tie
-use Rattle.cic_transfer.proofs.channel_in.Reads as reads
-use Rattle.cic_transfer.proofs.channel_in.Lts as lts
-use Rattle.cic_laid.proofs.channel_at.Reads as channel-at-reads
-use Rattle.cic_transfer.proofs.byte.Reads as byte-reads
 
 abbrev Inv-loop : tie.InvT-loop
 Inv-loop room out₀ s₀ out s = (s ≤ 1024) × ((length out ≡ 1024) × ((j : ℕ) → j < s → (f : Frame) (c : Cic) → Held f c room → getD out j 0 ≡ getD (c .channel) j 0))
@@ -25,34 +21,15 @@ abbrev μ-loop : tie.MeasureT-loop
 loop-holds : tie.Need-loop-holds Inv-loop μ-loop
 loop-holds c = (omega arith, (refl, λ j l. absurd (omega (arith, l))))
 
-cast-at : tie.Need-cast-at Inv-loop μ-loop
-cast-at c = search needs
-
-channel-at-requires : tie.Need-channel-at-requires Inv-loop μ-loop
-channel-at-requires c κs = search needs
-
-byte-requires : tie.Need-byte-requires Inv-loop μ-loop
-byte-requires c κs = search needs
-
-array-write-out : tie.Need-array-write-out Inv-loop μ-loop
-array-write-out c = search needs
-
-add-s : tie.Need-add-s Inv-loop μ-loop
-add-s c = search needs
-
-loop-less : tie.Need-loop-less Inv-loop μ-loop
-loop-less c = search needs
-
 loop-again : tie.Need-loop-again Inv-loop μ-loop
 loop-again c =
     let l = c .before .before .before .loop in
-    let a = c .before .before .before .before .args in
-    (
+    let a = c .before .before .before .before .args in (
       omega (arith, c .before .before .loop-test .taken),
       (
         simp length-set (l .inv .1 .0),
         words-more (λ j x. (f : Frame) (c : Cic) → Held f c (a .room .now) → x ≡ getD (c .channel) j 0) (l .out) (l .s) _ (omega (arith, l .inv .1 .0, c .before .before .loop-test .taken)) (l .inv .1 .1)
-        (λ f d h. c .byte .ensures ∙ ap (λ (y : Channel). y .0) (c .before .channel-at .ensures .0 f d h)),
+            (λ f d h. c .byte .ensures ∙ ap (λ (y : Channel). y .0) (c .before .channel-at .ensures .0 f d h)),
       ),
     )
 
@@ -66,11 +43,11 @@ channel-in-spec =
     Inv-loop
     μ-loop
     loop-holds
-    cast-at
-    channel-at-requires
-    byte-requires
-    array-write-out
-    add-s
-    loop-less
+    (λ c. search needs)
+    (λ c κs. search needs)
+    (λ c κs. search needs)
+    (λ c. search needs)
+    (λ c. search needs)
+    (λ c. search needs)
     loop-again
     returns)

@@ -9,38 +9,6 @@ use Rattle.cic_transfer.proofs.CopyLaws.{copied-as}
 use borrow.Author.Needs.{needs}
 use Rattle.cic_transfer.proofs.copies.Statement.{statement}
 use Rattle.cic_transfer.proofs.copies.Tie as tie
-use Rattle.cic_transfer.proofs.copies.Reads as reads
-use Rattle.cic_transfer.proofs.copies.Lts as lts
-use Rattle.cic_transfer.proofs.copy_allow.Reads as copy-allow-reads
-use Rattle.cic_transfer.proofs.copy_cells.Reads as copy-cells-reads
-use Rattle.cic_transfer.proofs.copy_channel.Reads as copy-channel-reads
-use Rattle.cic_transfer.proofs.copy_host.Reads as copy-host-reads
-use Rattle.cic_transfer.proofs.copy_words.Reads as copy-words-reads
-use Rattle.words.proofs.one_if.Reads as one-if-reads
-
-one-if-requires : tie.Need-one-if-requires
-one-if-requires c κs = search needs
-
-copy-cells-requires : tie.Need-copy-cells-requires
-copy-cells-requires c κs = search needs
-
-copy-allow-requires : tie.Need-copy-allow-requires
-copy-allow-requires c κs = search needs
-
-copy-words-requires : tie.Need-copy-words-requires
-copy-words-requires c κs = search needs
-
-copy-words-requires-2 : tie.Need-copy-words-requires-2
-copy-words-requires-2 c κs = search needs
-
-copy-words-requires-3 : tie.Need-copy-words-requires-3
-copy-words-requires-3 c κs = search needs
-
-copy-host-requires : tie.Need-copy-host-requires
-copy-host-requires c κs = search needs
-
-copy-channel-requires : tie.Need-copy-channel-requires
-copy-channel-requires c κs = search needs
 
 returns : tie.Need-returns
 returns c =
@@ -70,12 +38,12 @@ pub copies-spec : {M : Type 1} → statement M
 copies-spec =
     tie.close
     (tie.spec
-    one-if-requires
-    copy-cells-requires
-    copy-allow-requires
-    copy-words-requires
-    copy-words-requires-2
-    copy-words-requires-3
-    copy-host-requires
-    copy-channel-requires
+    (λ c κs. search needs)
+    (λ c κs. search needs)
+    (λ c κs. search needs)
+    (λ c κs. search needs)
+    (λ c κs. search needs)
+    (λ c κs. search needs)
+    (λ c κs. search needs)
+    (λ c κs. search needs)
     returns)

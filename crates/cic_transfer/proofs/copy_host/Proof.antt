@@ -9,9 +9,6 @@ use Rattle.cic_transfer.proofs.CopyLaws.{copied-none, copied-more, copi
 use borrow.Author.Needs.{needs}
 use Rattle.cic_transfer.proofs.copy_host.Statement.{statement}
 use Rattle.cic_transfer.proofs.copy_host.Tie as tie
-use Rattle.cic_transfer.proofs.copy_host.Reads as reads
-use Rattle.cic_transfer.proofs.copy_host.Lts as lts
-use Rattle.cic_transfer.proofs.host_word.Reads as host-word-reads
 
 abbrev Inv-loop : tie.InvT-loop
 Inv-loop room₀ m k₀ room k = (k ≤ 64) × (length room₀ ≡ 2048 → Copied 192 k (mapRead 256 m) room₀ room)
@@ -21,24 +18,6 @@ abbrev μ-loop : tie.MeasureT-loop
 
 loop-holds : tie.Need-loop-holds Inv-loop μ-loop
 loop-holds c = (omega arith, λ _. copied-none 192 _ (c .args .room .now))
-
-host-word-requires : tie.Need-host-word-requires Inv-loop μ-loop
-host-word-requires c κs = search needs
-
-add-room : tie.Need-add-room Inv-loop μ-loop
-add-room c = search needs
-
-mul-room : tie.Need-mul-room Inv-loop μ-loop
-mul-room c = search needs
-
-element-write-room : tie.Need-element-write-room Inv-loop μ-loop
-element-write-room c = search needs
-
-add-k : tie.Need-add-k Inv-loop μ-loop
-add-k c = search needs
-
-loop-less : tie.Need-loop-less Inv-loop μ-loop
-loop-less c = search needs
 
 loop-again : tie.Need-loop-again Inv-loop μ-loop
 loop-again c = let l = c .before .before .loop in (omega arith, λ e. copied-more (l .k) _ (omega (arith, e, c .before .loop-test .taken)) (c .host-word .ensures) (l .inv .1 e))
@@ -53,11 +32,11 @@ copy-host-spec =
     Inv-loop
     μ-loop
     loop-holds
-    host-word-requires
-    add-room
-    mul-room
-    element-write-room
-    add-k
-    loop-less
+    (λ c κs. search needs)
+    (λ c. search needs)
+    (λ c. search needs)
+    (λ c. search needs)
+    (λ c. search needs)
+    (λ c. search needs)
     loop-again
     returns)

@@ -8,8 +8,6 @@ use Rattle.cic_transfer.proofs.CopyLaws.{copied-none, copied-more, copi
 use borrow.Author.Needs.{needs}
 use Rattle.cic_transfer.proofs.copy_words.Statement.{statement}
 use Rattle.cic_transfer.proofs.copy_words.Tie as tie
-use Rattle.cic_transfer.proofs.copy_words.Reads as reads
-use Rattle.cic_transfer.proofs.copy_words.Lts as lts
 
 abbrev Inv-loop : tie.InvT-loop
 Inv-loop room₀ at ws k₀ room k = (k ≤ 32) × (length room₀ ≡ 2048 → Copied at k (λ i. getD ws i 0) room₀ room)
@@ -19,27 +17,6 @@ abbrev μ-loop : tie.MeasureT-loop
 
 loop-holds : tie.Need-loop-holds Inv-loop μ-loop
 loop-holds c = (omega arith, λ _. copied-none (c .args .at) _ (c .args .room .now))
-
-mul-room : tie.Need-mul-room Inv-loop μ-loop
-mul-room c = search needs
-
-element-copy-out-room : tie.Need-element-copy-out-room Inv-loop μ-loop
-element-copy-out-room c = search needs
-
-add-room : tie.Need-add-room Inv-loop μ-loop
-add-room c = search needs
-
-mul-room-2 : tie.Need-mul-room-2 Inv-loop μ-loop
-mul-room-2 c = search needs
-
-element-write-room : tie.Need-element-write-room Inv-loop μ-loop
-element-write-room c = search needs
-
-add-k : tie.Need-add-k Inv-loop μ-loop
-add-k c = search needs
-
-loop-less : tie.Need-loop-less Inv-loop μ-loop
-loop-less c = search needs
 
 loop-again : tie.Need-loop-again Inv-loop μ-loop
 loop-again c = let l = c .before .before .loop in (omega arith, λ e. copied-more (l .k) _ (omega (arith, e, c .before .loop-test .taken, c .before .before .before .pre)) refl (l .inv .1 e))
@@ -54,12 +31,12 @@ copy-words-spec =
     Inv-loop
     μ-loop
     loop-holds
-    mul-room
-    element-copy-out-room
-    add-room
-    mul-room-2
-    element-write-room
-    add-k
-    loop-less
+    (λ c. search needs)
+    (λ c. search needs)
+    (λ c. search needs)
+    (λ c. search needs)
+    (λ c. search needs)
+    (λ c. search needs)
+    (λ c. search needs)
     loop-again
     returns)

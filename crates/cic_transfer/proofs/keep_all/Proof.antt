@@ -4,18 +4,9 @@ use Rattle.cic_transfer.proofs.LayLaws.{counted-first}
 use borrow.Author.Needs.{needs}
 use Rattle.cic_transfer.proofs.keep_all.Statement.{statement}
 use Rattle.cic_transfer.proofs.keep_all.Tie as tie
-use Rattle.cic_transfer.proofs.keep_all.Reads as reads
-use Rattle.cic_transfer.proofs.keep_all.Lts as lts
-use Rattle.cic_transfer.proofs.renew_all.Reads as renew-all-reads
-
-element-write-room : tie.Need-element-write-room
-element-write-room c = search needs
-
-renew-all-requires : tie.Need-renew-all-requires
-renew-all-requires c κs = search needs
 
 returns : tie.Need-returns
 returns c = let a = c .before .before in λ f d on h b. c .renew-all .ensures f d _ on (counted-first (a .args .room .now) on h b)
 
 pub keep-all-spec : {M : Type 1} → statement M
-keep-all-spec = tie.close (tie.spec element-write-room renew-all-requires returns)
+keep-all-spec = tie.close (tie.spec (λ c. search needs) (λ c κs. search needs) returns)

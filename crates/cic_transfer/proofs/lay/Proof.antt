@@ -8,16 +8,6 @@ use Rattle.cic_laid.proofs.TurnLaws.{stood-bare}
 use borrow.Author.Needs.{needs}
 use Rattle.cic_transfer.proofs.lay.Statement.{statement}
 use Rattle.cic_transfer.proofs.lay.Tie as tie
-use Rattle.cic_transfer.proofs.lay.Reads as reads
-use Rattle.cic_transfer.proofs.lay.Lts as lts
-use Rattle.cic_transfer.proofs.copies.Reads as copies-reads
-use Rattle.cic_transfer.proofs.keep_all.Reads as keep-all-reads
-
-copies-requires : tie.Need-copies-requires
-copies-requires c κs = search needs
-
-keep-all-requires : tie.Need-keep-all-requires
-keep-all-requires c κs = search needs
 
 returns : tie.Need-returns
 returns c =
@@ -29,4 +19,4 @@ returns-2 : tie.Need-returns-2
 returns-2 c = λ ok. let x = c .before .copies .ensures ok in laid-of (stood-bare (x .0) (c .if1 .left, x .1))
 
 pub lay-spec : {M : Type 1} → statement M
-lay-spec = tie.close (tie.spec copies-requires keep-all-requires returns returns-2)
+lay-spec = tie.close (tie.spec (λ c κs. search needs) (λ c κs. search needs) returns returns-2)

@@ -5,45 +5,6 @@ use Rattle.cic_transfer.proofs.LayLaws.{words-told, map-told, record-to
 use borrow.Author.Needs.{needs}
 use Rattle.cic_transfer.proofs.record_of.Statement.{statement}
 use Rattle.cic_transfer.proofs.record_of.Tie as tie
-use Rattle.cic_transfer.proofs.record_of.Reads as reads
-use Rattle.cic_transfer.proofs.record_of.Lts as lts
-use Rattle.cic_transfer.proofs.allow_in.Reads as allow-in-reads
-use Rattle.cic_transfer.proofs.channel_in.Reads as channel-in-reads
-use Rattle.cic_transfer.proofs.host_in.Reads as host-in-reads
-use Rattle.cic_transfer.proofs.words_in.Reads as words-in-reads
-
-words-in-requires : tie.Need-words-in-requires
-words-in-requires c κs = search needs
-
-words-in-requires-2 : tie.Need-words-in-requires-2
-words-in-requires-2 c κs = search needs
-
-words-in-requires-3 : tie.Need-words-in-requires-3
-words-in-requires-3 c κs = search needs
-
-channel-in-requires : tie.Need-channel-in-requires
-channel-in-requires c κs = search needs
-
-host-in-requires : tie.Need-host-in-requires
-host-in-requires c κs = search needs
-
-allow-in-requires : tie.Need-allow-in-requires
-allow-in-requires c κs = search needs
-
-element-copy-out-t10 : tie.Need-element-copy-out-t10
-element-copy-out-t10 c = search needs
-
-element-copy-out-t13 : tie.Need-element-copy-out-t13
-element-copy-out-t13 c = search needs
-
-element-copy-out-t16 : tie.Need-element-copy-out-t16
-element-copy-out-t16 c = search needs
-
-element-copy-out-t19 : tie.Need-element-copy-out-t19
-element-copy-out-t19 c = search needs
-
-element-copy-out-t22 : tie.Need-element-copy-out-t22
-element-copy-out-t22 c = search needs
 
 returns : tie.Need-returns
 returns c =
@@ -63,15 +24,15 @@ pub record-of-spec : {M : Type 1} → statement M
 record-of-spec =
     tie.close
     (tie.spec
-    words-in-requires
-    words-in-requires-2
-    words-in-requires-3
-    channel-in-requires
-    host-in-requires
-    allow-in-requires
-    element-copy-out-t10
-    element-copy-out-t13
-    element-copy-out-t16
-    element-copy-out-t19
-    element-copy-out-t22
+    (λ c κs. search needs)
+    (λ c κs. search needs)
+    (λ c κs. search needs)
+    (λ c κs. search needs)
+    (λ c κs. search needs)
+    (λ c κs. search needs)
+    (λ c. search needs)
+    (λ c. search needs)
+    (λ c. search needs)
+    (λ c. search needs)
+    (λ c. search needs)
     returns)

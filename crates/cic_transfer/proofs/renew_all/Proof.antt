@@ -12,10 +12,6 @@ use Rattle.cic_transfer.proofs.LayLaws.{upto-first, upto-next, upto-all
 use borrow.Author.Needs.{needs}
 use Rattle.cic_transfer.proofs.renew_all.Statement.{statement}
 use Rattle.cic_transfer.proofs.renew_all.Tie as tie
-use Rattle.cic_transfer.proofs.renew_all.Reads as reads
-use Rattle.cic_transfer.proofs.renew_all.Lts as lts
-use Rattle.cic_laid.proofs.counts.renew.Reads as renew-reads
-use Rattle.words.proofs.meet.Reads as meet-reads
 
 abbrev Inv-loop : tie.InvT-loop
 Inv-loop room₀ k₀ room k = (k ≤ 32) × ((f : Frame) (c : Cic) (ws : List ℕ) → f .kept ≡ true → Counted f c ws room₀ → Upto f c k room)
@@ -25,42 +21,6 @@ abbrev μ-loop : tie.MeasureT-loop
 
 loop-holds : tie.Need-loop-holds Inv-loop μ-loop
 loop-holds c = (omega arith, λ f d ws on u. upto-first u)
-
-cast-meet : tie.Need-cast-meet Inv-loop μ-loop
-cast-meet c = search needs
-
-add-meet : tie.Need-add-meet Inv-loop μ-loop
-add-meet c = search needs
-
-mul-meet : tie.Need-mul-meet Inv-loop μ-loop
-mul-meet c = search needs
-
-element-copy-out-meet : tie.Need-element-copy-out-meet Inv-loop μ-loop
-element-copy-out-meet c = search needs
-
-cast-meet-2 : tie.Need-cast-meet-2 Inv-loop μ-loop
-cast-meet-2 c = search needs
-
-add-meet-2 : tie.Need-add-meet-2 Inv-loop μ-loop
-add-meet-2 c = search needs
-
-mul-meet-2 : tie.Need-mul-meet-2 Inv-loop μ-loop
-mul-meet-2 c = search needs
-
-element-copy-out-meet-2 : tie.Need-element-copy-out-meet-2 Inv-loop μ-loop
-element-copy-out-meet-2 c = search needs
-
-meet-requires : tie.Need-meet-requires Inv-loop μ-loop
-meet-requires c κs = search needs
-
-renew-requires : tie.Need-renew-requires Inv-loop μ-loop
-renew-requires c κs = search needs
-
-add-k : tie.Need-add-k Inv-loop μ-loop
-add-k c = search needs
-
-loop-less : tie.Need-loop-less Inv-loop μ-loop
-loop-less c = search needs
 
 loop-again : tie.Need-loop-again Inv-loop μ-loop
 loop-again c =
@@ -78,17 +38,17 @@ renew-all-spec =
     Inv-loop
     μ-loop
     loop-holds
-    cast-meet
-    add-meet
-    mul-meet
-    element-copy-out-meet
-    cast-meet-2
-    add-meet-2
-    mul-meet-2
-    element-copy-out-meet-2
-    meet-requires
-    renew-requires
-    add-k
-    loop-less
+    (λ c. search needs)
+    (λ c. search needs)
+    (λ c. search needs)
+    (λ c. search needs)
+    (λ c. search needs)
+    (λ c. search needs)
+    (λ c. search needs)
+    (λ c. search needs)
+    (λ c κs. search needs)
+    (λ c κs. search needs)
+    (λ c. search needs)
+    (λ c. search needs)
     loop-again
     returns)

@@ -8,8 +8,6 @@ use Rattle.words.proofs.ArrayLaws.{filled}
 use borrow.Author.Needs.{needs}
 use Rattle.cic_transfer.proofs.words_in.Statement.{statement}
 use Rattle.cic_transfer.proofs.words_in.Tie as tie
-use Rattle.cic_transfer.proofs.words_in.Reads as reads
-use Rattle.cic_transfer.proofs.words_in.Lts as lts
 
 abbrev Inv-loop : tie.InvT-loop
 Inv-loop room at out₀ k₀ out k = (k ≤ 32) × ((length out ≡ 32) × ((j : ℕ) → j < k → getD out j 0 ≡ getD room (at + j) 0))
@@ -19,27 +17,6 @@ abbrev μ-loop : tie.MeasureT-loop
 
 loop-holds : tie.Need-loop-holds Inv-loop μ-loop
 loop-holds c = (omega arith, (refl, below-none _))
-
-add-out : tie.Need-add-out Inv-loop μ-loop
-add-out c = search needs
-
-mul-out : tie.Need-mul-out Inv-loop μ-loop
-mul-out c = search needs
-
-element-copy-out-out : tie.Need-element-copy-out-out Inv-loop μ-loop
-element-copy-out-out c = search needs
-
-mul-out-2 : tie.Need-mul-out-2 Inv-loop μ-loop
-mul-out-2 c = search needs
-
-array-write-out : tie.Need-array-write-out Inv-loop μ-loop
-array-write-out c = search needs
-
-add-k : tie.Need-add-k Inv-loop μ-loop
-add-k c = search needs
-
-loop-less : tie.Need-loop-less Inv-loop μ-loop
-loop-less c = search needs
 
 loop-again : tie.Need-loop-again Inv-loop μ-loop
 loop-again c =
@@ -57,12 +34,12 @@ words-in-spec =
     Inv-loop
     μ-loop
     loop-holds
-    add-out
-    mul-out
-    element-copy-out-out
-    mul-out-2
-    array-write-out
-    add-k
-    loop-less
+    (λ c. search needs)
+    (λ c. search needs)
+    (λ c. search needs)
+    (λ c. search needs)
+    (λ c. search needs)
+    (λ c. search needs)
+    (λ c. search needs)
     loop-again
     returns)

@@ -13,37 +13,6 @@ use Rattle.cic_laid.proofs.ShownLaws.{shown-stays, tables-as}
 use borrow.Author.Needs.{needs}
 use Rattle.cic_laid.proofs.counts.add.Statement.{statement}
 use Rattle.cic_laid.proofs.counts.add.Tie as tie
-use Rattle.cic_laid.proofs.counts.add.Reads as reads
-use Rattle.cic_laid.proofs.counts.add.Lts as lts
-use Rattle.cic_laid.proofs.counts.admit.Reads as admit-reads
-use Rattle.cic_laid.proofs.counts.mark_raised.Reads as mark-raised-reads
-
-cast-at : tie.Need-cast-at
-cast-at c = search needs
-
-add-at : tie.Need-add-at
-add-at c = search needs
-
-mul-before : tie.Need-mul-before
-mul-before c = search needs
-
-element-copy-out-before : tie.Need-element-copy-out-before
-element-copy-out-before c = search needs
-
-add-room : tie.Need-add-room
-add-room c = search needs
-
-mul-room : tie.Need-mul-room
-mul-room c = search needs
-
-element-write-room : tie.Need-element-write-room
-element-write-room c = search needs
-
-mark-raised-requires : tie.Need-mark-raised-requires
-mark-raised-requires c κs = search needs
-
-admit-requires : tie.Need-admit-requires
-admit-requires c κs = search needs
 
 returns : tie.Need-returns
 returns c =
@@ -65,25 +34,24 @@ returns-2 c =
     λ f d a u g k t l.
     let is : getD (o .args .room .now) (768 + h) 0 % 2048 ≡ g h = omega (arith, l, t .ofHost .holds h (o .pre .0)) in
     let r = renumbered (permitted d) (more g h n) (o .args .room .now) _ h _ _ (o .pre .0) (omega (arith, is) ∙ more-at g h n) (λ j i. more-off g h n j i)
-    (sym (ap not (ne-eqb (getD (o .args .room .now) (768 + h) 0 % 2048 + n) 0 (λ e. absurd (omega (arith, e, o .pre .1 .0)))))) (c .before .mark-raised .ensures) k t in
-    (
+    (sym (ap not (ne-eqb (getD (o .args .room .now) (768 + h) 0 % 2048 + n) 0 (λ e. absurd (omega (arith, e, o .pre .1 .0)))))) (c .before .mark-raised .ensures) k t in (
       r .0,
       tables-as (λ i _. shown-stays (permitted d) g (more g h n) h (λ e. c .if1 .left (is ∙ e)) (λ e. absurd (omega (arith, e, more-at g h n, o .pre .1 .0))) (λ j q. more-off g h n j q) i) (λ i _. refl)
-      (λ i _. refl) (λ i _. refl) (λ i _. refl) (λ i _. refl) (r .1),
+          (λ i _. refl) (λ i _. refl) (λ i _. refl) (λ i _. refl) (r .1),
     )
 
 pub add-spec : {M : Type 1} → statement M
 add-spec =
     tie.close
     (tie.spec
-    cast-at
-    add-at
-    mul-before
-    element-copy-out-before
-    add-room
-    mul-room
-    element-write-room
-    mark-raised-requires
-    admit-requires
+    (λ c. search needs)
+    (λ c. search needs)
+    (λ c. search needs)
+    (λ c. search needs)
+    (λ c. search needs)
+    (λ c. search needs)
+    (λ c. search needs)
+    (λ c κs. search needs)
+    (λ c κs. search needs)
     returns
     returns-2)

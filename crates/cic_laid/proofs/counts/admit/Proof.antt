@@ -8,38 +8,11 @@ use Rattle.cic_laid.proofs.KeptLaws.{not-true, not-false}
 use borrow.Author.Needs.{needs}
 use Rattle.cic_laid.proofs.counts.admit.Statement.{statement}
 use Rattle.cic_laid.proofs.counts.admit.Tie as tie
-use Rattle.cic_laid.proofs.counts.admit.Reads as reads
-use Rattle.cic_laid.proofs.counts.admit.Lts as lts
-use Rattle.cic_laid.proofs.counts.is_permitted.Reads as is-permitted-reads
-
-is-permitted-requires : tie.Need-is-permitted-requires
-is-permitted-requires c κs = search needs
 
 returns : tie.Need-returns
 returns c =
     let o = c .before .before .before in
     λ f d r b a u x g y z k t. (k, not-admitted (permitted d) (o .args .room .now) (o .args .h .0) 0 (o .pre) z k (sym (c .before .is-permitted .ensures f d k) ∙ not-true _ (c .if1 .taken)) t)
-
-element-copy-out-count : tie.Need-element-copy-out-count
-element-copy-out-count c = search needs
-
-add-count : tie.Need-add-count
-add-count c = search needs
-
-element-write-room : tie.Need-element-write-room
-element-write-room c = search needs
-
-cast-if2 : tie.Need-cast-if2
-cast-if2 c = search needs
-
-element-copy-out-if2 : tie.Need-element-copy-out-if2
-element-copy-out-if2 c = search needs
-
-cast-room : tie.Need-cast-room
-cast-room c = search needs
-
-element-write-room-2 : tie.Need-element-write-room-2
-element-write-room-2 c = search needs
 
 returns-2 : tie.Need-returns-2
 returns-2 c =
@@ -59,14 +32,14 @@ pub admit-spec : {M : Type 1} → statement M
 admit-spec =
     tie.close
     (tie.spec
-    is-permitted-requires
+    (λ c κs. search needs)
     returns
-    element-copy-out-count
-    add-count
-    element-write-room
-    cast-if2
-    element-copy-out-if2
-    cast-room
-    element-write-room-2
+    (λ c. search needs)
+    (λ c. search needs)
+    (λ c. search needs)
+    (λ c. search needs)
+    (λ c. search needs)
+    (λ c. search needs)
+    (λ c. search needs)
     returns-2
     returns-3)

@@ -12,13 +12,9 @@ use Rattle.cic_laid.proofs.AssertLaws.{count-more}
 use borrow.Author.Needs.{needs}
 use Rattle.cic_laid.proofs.counts.count_asserted.Statement.{statement}
 use Rattle.cic_laid.proofs.counts.count_asserted.Tie as tie
-use Rattle.cic_laid.proofs.counts.count_asserted.Reads as reads
-use Rattle.cic_laid.proofs.counts.count_asserted.Lts as lts
-use Rattle.cic_laid.proofs.counts.asserted_word.Reads as asserted-word-reads
-use Rattle.words.proofs.count.Reads as count-reads
 
 abbrev Inv-loop : tie.InvT-loop
-Inv-loop room sum₀ k₀ sum k = 
+Inv-loop room sum₀ k₀ sum k =
     (k ≤ 8)
     × ((sum ≤ 32 * k)
     × ((f : Frame) (d : Cic) (n b a u x g : ℕ → ℕ) → Held f d room → Tables n (someWord g) b a u x room → sum ≡ countBelow (32 * k) (reached (permitted d) g)))
@@ -29,26 +25,13 @@ abbrev μ-loop : tie.MeasureT-loop
 loop-holds : tie.Need-loop-holds Inv-loop μ-loop
 loop-holds c = (omega arith, (omega arith, λ f d n b a u x g h t. count-none-yet (reached (permitted d) g)))
 
-asserted-word-requires : tie.Need-asserted-word-requires Inv-loop μ-loop
-asserted-word-requires c κs = search needs
-
-count-requires : tie.Need-count-requires Inv-loop μ-loop
-count-requires c κs = search needs
-
 add-sum : tie.Need-add-sum Inv-loop μ-loop
 add-sum c = let l = c .before .before .before .loop in omega (arith, l .inv .1 .0, l .inv .0, c .count .ensures, count-le 32 (bit (c .before .asserted-word .result)))
-
-add-k : tie.Need-add-k Inv-loop μ-loop
-add-k c = search needs
-
-loop-less : tie.Need-loop-less Inv-loop μ-loop
-loop-less c = search needs
 
 loop-again : tie.Need-loop-again Inv-loop μ-loop
 loop-again c =
     let l = c .before .before .before .loop in
-    let q = c .before .before .loop-test .taken in
-    (
+    let q = c .before .before .loop-test .taken in (
       omega (arith, q),
       (
         omega (arith, l .inv .1 .0, c .count .ensures, count-le 32 (bit (c .before .asserted-word .result))),
@@ -66,10 +49,10 @@ count-asserted-spec =
     Inv-loop
     μ-loop
     loop-holds
-    asserted-word-requires
-    count-requires
+    (λ c κs. search needs)
+    (λ c κs. search needs)
     add-sum
-    add-k
-    loop-less
+    (λ c. search needs)
+    (λ c. search needs)
     loop-again
     returns)

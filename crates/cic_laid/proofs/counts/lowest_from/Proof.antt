@@ -15,13 +15,9 @@ use mir.Val.{Fits}
 use borrow.Author.Needs.{needs}
 use Rattle.cic_laid.proofs.counts.lowest_from.Statement.{statement}
 use Rattle.cic_laid.proofs.counts.lowest_from.Tie as tie
-use Rattle.cic_laid.proofs.counts.lowest_from.Reads as reads
-use Rattle.cic_laid.proofs.counts.lowest_from.Lts as lts
-use Rattle.cic_laid.proofs.counts.asserted_word.Reads as asserted-word-reads
-use Rattle.words.proofs.lowest.Reads as lowest-reads
 
 abbrev Inv-loop : tie.InvT-loop
-Inv-loop room from k₀ k = 
+Inv-loop room from k₀ k =
     (k ≤ 8)
     × ((f : Frame) (d : Cic) (n b a u x g : ℕ → ℕ) → Held f d room → Tables n (someWord g) b a u x room → ((h : ℕ) → h < 32 * from → reached (permitted d) g h ≡ false)
     → (h : ℕ) → h < 32 * k → reached (permitted d) g h ≡ false)
@@ -31,15 +27,6 @@ abbrev μ-loop : tie.MeasureT-loop
 
 loop-holds : tie.Need-loop-holds Inv-loop μ-loop
 loop-holds c = (c .pre, λ f d n b a u x g h t z. z)
-
-asserted-word-requires : tie.Need-asserted-word-requires Inv-loop μ-loop
-asserted-word-requires c κs = search needs
-
-mul-result : tie.Need-mul-result Inv-loop μ-loop
-mul-result c = search needs
-
-lowest-requires : tie.Need-lowest-requires Inv-loop μ-loop
-lowest-requires c κs = search needs
 
 add-result : tie.Need-add-result Inv-loop μ-loop
 add-result c = let l = c .before .before .before .before .loop in omega (arith, c .before .before .before .loop-test .taken, c .lowest .ensures, lowest-found 32 (bit (c .before .before .asserted-word .result)) .within)
@@ -53,17 +40,10 @@ returns c =
     lowest-here (reached (permitted d) g) (l .k) _ (c .lowest .result) (c .before .before .before .loop-test .taken) (c .before .before .asserted-word .ensures f d n b a u x g h t) m (c .lowest .ensures)
     (l .inv .1 f d n b a u x g h t z)
 
-add-k : tie.Need-add-k Inv-loop μ-loop
-add-k c = search needs
-
-loop-less : tie.Need-loop-less Inv-loop μ-loop
-loop-less c = search needs
-
 loop-again : tie.Need-loop-again Inv-loop μ-loop
 loop-again c =
     let l = c .before .before .before .loop in
-    let q = c .before .before .loop-test .taken in
-    (
+    let q = c .before .before .loop-test .taken in (
       omega (arith, q),
       λ f d n b a u x g h t z. none-more (reached (permitted d) g) (l .k) _ (c .before .asserted-word .ensures f d n b a u x g h t) (c .if1 .left) (l .inv .1 f d n b a u x g h t z),
     )
@@ -78,12 +58,12 @@ lowest-from-spec =
     Inv-loop
     μ-loop
     loop-holds
-    asserted-word-requires
-    mul-result
-    lowest-requires
+    (λ c κs. search needs)
+    (λ c. search needs)
+    (λ c κs. search needs)
     add-result
     returns
-    add-k
-    loop-less
+    (λ c. search needs)
+    (λ c. search needs)
     loop-again
     returns-2)

@@ -5,33 +5,6 @@ use lib.ListN.{set}
 use borrow.Author.Needs.{needs}
 use Rattle.cic_laid.proofs.counts.mark_busy.Statement.{statement}
 use Rattle.cic_laid.proofs.counts.mark_busy.Tie as tie
-use Rattle.cic_laid.proofs.counts.mark_busy.Reads as reads
-use Rattle.cic_laid.proofs.counts.mark_busy.Lts as lts
-use Rattle.words.proofs.with_bit.Reads as with-bit-reads
-
-cast-at : tie.Need-cast-at
-cast-at c = search needs
-
-add-at : tie.Need-add-at
-add-at c = search needs
-
-mul-with-bit : tie.Need-mul-with-bit
-mul-with-bit c = search needs
-
-element-copy-out-with-bit : tie.Need-element-copy-out-with-bit
-element-copy-out-with-bit c = search needs
-
-cast-with-bit : tie.Need-cast-with-bit
-cast-with-bit c = search needs
-
-with-bit-requires : tie.Need-with-bit-requires
-with-bit-requires c κs = search needs
-
-mul-room : tie.Need-mul-room
-mul-room c = search needs
-
-element-write-room : tie.Need-element-write-room
-element-write-room c = search needs
 
 returns : tie.Need-returns
 returns c = let a = c .before .before .before .before .args in ap (set (a .room .now) (32 + a .k .0 / 32)) (c .with-bit .ensures)
@@ -40,12 +13,12 @@ pub mark-busy-spec : {M : Type 1} → statement M
 mark-busy-spec =
     tie.close
     (tie.spec
-    cast-at
-    add-at
-    mul-with-bit
-    element-copy-out-with-bit
-    cast-with-bit
-    with-bit-requires
-    mul-room
-    element-write-room
+    (λ c. search needs)
+    (λ c. search needs)
+    (λ c. search needs)
+    (λ c. search needs)
+    (λ c. search needs)
+    (λ c κs. search needs)
+    (λ c. search needs)
+    (λ c. search needs)
     returns)

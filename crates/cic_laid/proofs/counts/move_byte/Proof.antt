@@ -9,28 +9,6 @@ use Rattle.cic_laid.proofs.ShownLaws.{beside-as}
 use borrow.Author.Needs.{needs}
 use Rattle.cic_laid.proofs.counts.move_byte.Statement.{statement}
 use Rattle.cic_laid.proofs.counts.move_byte.Tie as tie
-use Rattle.cic_laid.proofs.counts.move_byte.Reads as reads
-use Rattle.cic_laid.proofs.counts.move_byte.Lts as lts
-use Rattle.cic_laid.proofs.byte_of.Reads as byte-of-reads
-use Rattle.cic_laid.proofs.counts.move_channel.Reads as move-channel-reads
-
-byte-of-requires : tie.Need-byte-of-requires
-byte-of-requires c κs = search needs
-
-byte-of-requires-2 : tie.Need-byte-of-requires-2
-byte-of-requires-2 c κs = search needs
-
-mul-t11 : tie.Need-mul-t11
-mul-t11 c = search needs
-
-add-t12 : tie.Need-add-t12
-add-t12 c = search needs
-
-cast-t8 : tie.Need-cast-t8
-cast-t8 c = search needs
-
-move-channel-requires : tie.Need-move-channel-requires
-move-channel-requires c κs = search needs
 
 returns : tie.Need-returns
 returns c =
@@ -46,10 +24,10 @@ pub move-byte-spec : {M : Type 1} → statement M
 move-byte-spec =
     tie.close
     (tie.spec
-    byte-of-requires
-    byte-of-requires-2
-    mul-t11
-    add-t12
-    cast-t8
-    move-channel-requires
+    (λ c κs. search needs)
+    (λ c κs. search needs)
+    (λ c. search needs)
+    (λ c. search needs)
+    (λ c. search needs)
+    (λ c κs. search needs)
     returns)

@@ -12,22 +12,6 @@ use Rattle.cic_laid.proofs.WriteLaws.{stays-put, some-moves}
 use borrow.Author.Needs.{needs}
 use Rattle.cic_laid.proofs.counts.move_channel.Statement.{statement}
 use Rattle.cic_laid.proofs.counts.move_channel.Tie as tie
-use Rattle.cic_laid.proofs.counts.move_channel.Reads as reads
-use Rattle.cic_laid.proofs.counts.move_channel.Lts as lts
-use Rattle.cic_laid.proofs.counts.add.Reads as add-reads
-use Rattle.cic_laid.proofs.counts.take.Reads as take-reads
-
-cast-n : tie.Need-cast-n
-cast-n c = search needs
-
-add-n : tie.Need-add-n
-add-n c = search needs
-
-mul-n : tie.Need-mul-n
-mul-n c = search needs
-
-element-copy-out-n : tie.Need-element-copy-out-n
-element-copy-out-n c = search needs
 
 returns : tie.Need-returns
 returns c =
@@ -62,4 +46,4 @@ returns-2 c =
 pub move-channel-spec : {M : Type 1} → statement M
 move-channel-spec =
     tie.close
-    (tie.spec cast-n add-n mul-n element-copy-out-n returns take-requires add-requires returns-2)
+    (tie.spec (λ c. search needs) (λ c. search needs) (λ c. search needs) (λ c. search needs) returns take-requires add-requires returns-2)

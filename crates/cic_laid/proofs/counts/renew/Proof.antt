@@ -15,13 +15,6 @@ use Rattle.cic_laid.proofs.TurnLaws.{Going, going-first, going-on, goin
 use borrow.Author.Needs.{needs}
 use Rattle.cic_laid.proofs.counts.renew.Statement.{statement}
 use Rattle.cic_laid.proofs.counts.renew.Tie as tie
-use Rattle.cic_laid.proofs.counts.renew.Reads as reads
-use Rattle.cic_laid.proofs.counts.renew.Lts as lts
-use Rattle.cic_laid.proofs.counts.differing.Reads as differing-reads
-use Rattle.cic_laid.proofs.counts.turn.Reads as turn-reads
-use Rattle.words.proofs.has.Reads as has-reads
-use Rattle.words.proofs.lowest.Reads as lowest-reads
-use Rattle.words.proofs.with_bit.Reads as with-bit-reads
 
 abbrev Inv-loop : tie.InvT-loop
 Inv-loop room₀ k new left₀ room left = (left < 2 ^ 32) × ((new < 2 ^ 32) × ((f : Frame) (c : Cic) (ws : List ℕ) → f .kept ≡ true → Counted f c ws room₀ → Going f c ws k new left room))
@@ -29,32 +22,13 @@ Inv-loop room₀ k new left₀ room left = (left < 2 ^ 32) × ((new < 2 ^ 32) ×
 abbrev μ-loop : tie.MeasureT-loop
 μ-loop room₀ k new left₀ room left = countBelow 32 (bit left)
 
-add-differing : tie.Need-add-differing Inv-loop μ-loop
-add-differing c = search needs
-
-mul-differing : tie.Need-mul-differing Inv-loop μ-loop
-mul-differing c = search needs
-
-element-copy-out-differing : tie.Need-element-copy-out-differing Inv-loop μ-loop
-element-copy-out-differing c = search needs
-
-differing-requires : tie.Need-differing-requires Inv-loop μ-loop
-differing-requires c κs = search needs
-
 loop-holds : tie.Need-loop-holds Inv-loop μ-loop
 loop-holds c =
     let a = c .before .before in
-    let d = c .differing .ensures in
-    (
+    let d = c .differing .ensures in (
       subst (λ (x : ℕ). x < 2 ^ 32) (sym (d .0)) (either-lt _ _),
       (d .1 .1, λ f e ws on u. going-first (a .args .room .now) (a .args .k) (a .args .new) _ (a .pre) on u (d .1 .0) (left-first _ _ _ (d .0))),
     )
-
-lowest-requires : tie.Need-lowest-requires Inv-loop μ-loop
-lowest-requires c κs = search needs
-
-mul-t15 : tie.Need-mul-t15 Inv-loop μ-loop
-mul-t15 c = search needs
 
 add-t16 : tie.Need-add-t16 Inv-loop μ-loop
 add-t16 c =
@@ -66,16 +40,10 @@ cast-t17 c =
     let m = lowest-in (c .before .before .before .loop .left) (c .before .lowest .result) (c .before .before .before .loop .inv .0) (c .before .before .loop-test .taken) (c .before .lowest .ensures) in
     omega (arith, m .0, c .before .before .before .before .before .before .pre)
 
-has-requires : tie.Need-has-requires Inv-loop μ-loop
-has-requires c κs = search needs
-
 turn-requires : tie.Need-turn-requires Inv-loop μ-loop
 turn-requires c κs =
     let m = lowest-in (c .before .before .before .before .loop .left) (c .before .before .lowest .result) (c .before .before .before .before .loop .inv .0) (c .before .before .before .loop-test .taken) (c .before .before .lowest .ensures) in
     omega (arith, m .0, c .before .before .before .before .before .before .before .pre)
-
-with-bit-requires : tie.Need-with-bit-requires Inv-loop μ-loop
-with-bit-requires c κs = search needs
 
 loop-less : tie.Need-loop-less Inv-loop μ-loop
 loop-less c =
@@ -87,8 +55,7 @@ loop-again c =
     let l = c .before .before .before .before .before .before .loop in
     let a = c .before .before .before .before .before .before .before .before .before in
     let i = c .before .before .before .before .lowest .result in
-    let m = lowest-in (l .left) i (l .inv .0) (c .before .before .before .before .before .loop-test .taken) (c .before .before .before .before .lowest .ensures) in
-    (
+    let m = lowest-in (l .left) i (l .inv .0) (c .before .before .before .before .before .loop-test .taken) (c .before .before .before .before .lowest .ensures) in (
       subst (λ (x : ℕ). x < 2 ^ 32) (sym (c .with-bit .ensures)) (withBit-lt _ _ _),
       (
         l .inv .1 .0,
@@ -108,18 +75,18 @@ renew-spec =
     (tie.spec
     Inv-loop
     μ-loop
-    add-differing
-    mul-differing
-    element-copy-out-differing
-    differing-requires
+    (λ c. search needs)
+    (λ c. search needs)
+    (λ c. search needs)
+    (λ c κs. search needs)
     loop-holds
-    lowest-requires
-    mul-t15
+    (λ c κs. search needs)
+    (λ c. search needs)
     add-t16
     cast-t17
-    has-requires
+    (λ c κs. search needs)
     turn-requires
-    with-bit-requires
+    (λ c κs. search needs)
     loop-less
     loop-again
     returns)

@@ -9,28 +9,9 @@ use Rattle.cic_laid.proofs.KeptLaws.{dim-on}
 use borrow.Author.Needs.{needs}
 use Rattle.cic_laid.proofs.counts.show_anew.Statement.{statement}
 use Rattle.cic_laid.proofs.counts.show_anew.Tie as tie
-use Rattle.cic_laid.proofs.counts.show_anew.Reads as reads
-use Rattle.cic_laid.proofs.counts.show_anew.Lts as lts
-use Rattle.cic_laid.proofs.counts.count_asserted.Reads as count-asserted-reads
-use Rattle.cic_laid.proofs.counts.lowest_from.Reads as lowest-from-reads
-
-element-copy-out-if1 : tie.Need-element-copy-out-if1
-element-copy-out-if1 c = search needs
 
 returns : tie.Need-returns
 returns c = λ f d ws u. dim-bare (bare-told (u .held) (c .if1 .taken)) u
-
-count-asserted-requires : tie.Need-count-asserted-requires
-count-asserted-requires c κs = search needs
-
-lowest-from-requires : tie.Need-lowest-from-requires
-lowest-from-requires c κs = search needs
-
-element-write-room : tie.Need-element-write-room
-element-write-room c = search needs
-
-element-write-room-2 : tie.Need-element-write-room-2
-element-write-room-2 c = search needs
 
 returns-2 : tie.Need-returns-2
 returns-2 c =
@@ -46,10 +27,10 @@ pub show-anew-spec : {M : Type 1} → statement M
 show-anew-spec =
     tie.close
     (tie.spec
-    element-copy-out-if1
+    (λ c. search needs)
     returns
-    count-asserted-requires
-    lowest-from-requires
-    element-write-room
-    element-write-room-2
+    (λ c κs. search needs)
+    (λ c κs. search needs)
+    (λ c. search needs)
+    (λ c. search needs)
     returns-2)

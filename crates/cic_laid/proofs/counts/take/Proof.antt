@@ -11,40 +11,12 @@ use Rattle.cic_laid.proofs.ShownLaws.{shown-stays, tables-as}
 use borrow.Author.Needs.{needs}
 use Rattle.cic_laid.proofs.counts.take.Statement.{statement}
 use Rattle.cic_laid.proofs.counts.take.Tie as tie
-use Rattle.cic_laid.proofs.counts.take.Reads as reads
-use Rattle.cic_laid.proofs.counts.take.Lts as lts
-use Rattle.cic_laid.proofs.counts.dismiss.Reads as dismiss-reads
-use Rattle.cic_laid.proofs.counts.mark_raised.Reads as mark-raised-reads
-
-cast-at : tie.Need-cast-at
-cast-at c = search needs
-
-add-at : tie.Need-add-at
-add-at c = search needs
-
-mul-before : tie.Need-mul-before
-mul-before c = search needs
-
-element-copy-out-before : tie.Need-element-copy-out-before
-element-copy-out-before c = search needs
 
 returns : tie.Need-returns
 returns c =
     let o = c .before .before .before in
     let h = o .args .h .0 in
     λ f d a u g k t. absurd (omega (arith, c .if1 .taken, t .ofHost .holds h (o .pre .0), more-at g h (o .args .n)))
-
-mul-room : tie.Need-mul-room
-mul-room c = search needs
-
-element-write-room : tie.Need-element-write-room
-element-write-room c = search needs
-
-mark-raised-requires : tie.Need-mark-raised-requires
-mark-raised-requires c κs = search needs
-
-dismiss-requires : tie.Need-dismiss-requires
-dismiss-requires c κs = search needs
 
 returns-2 : tie.Need-returns-2
 returns-2 c =
@@ -64,25 +36,24 @@ returns-3 c =
     let n = o .args .n in
     λ f d a u g k t.
     let is : getD (o .args .room .now) (768 + h) 0 ≡ g h + n = t .ofHost .holds h (o .pre .0) ∙ sym (more-at g h n) in
-    let r = renumbered (permitted d) g (o .args .room .now) _ h _ _ (o .pre .0) (omega (arith, is)) (λ j i. sym (more-off g h n j i)) refl (c .before .mark-raised .ensures) k t in
-    (
+    let r = renumbered (permitted d) g (o .args .room .now) _ h _ _ (o .pre .0) (omega (arith, is)) (λ j i. sym (more-off g h n j i)) refl (c .before .mark-raised .ensures) k t in (
       r .0,
       tables-as (λ i _. shown-stays (permitted d) (more g h n) g h (λ e. absurd (omega (arith, e, more-at g h n, o .pre .1))) (λ e. c .if2 .left (omega (arith, is, e))) (λ j q. sym (more-off g h n j q)) i)
-      (λ i _. refl) (λ i _. refl) (λ i _. refl) (λ i _. refl) (λ i _. refl) (r .1),
+          (λ i _. refl) (λ i _. refl) (λ i _. refl) (λ i _. refl) (λ i _. refl) (r .1),
     )
 
 pub take-spec : {M : Type 1} → statement M
 take-spec =
     tie.close
     (tie.spec
-    cast-at
-    add-at
-    mul-before
-    element-copy-out-before
+    (λ c. search needs)
+    (λ c. search needs)
+    (λ c. search needs)
+    (λ c. search needs)
     returns
-    mul-room
-    element-write-room
-    mark-raised-requires
-    dismiss-requires
+    (λ c. search needs)
+    (λ c. search needs)
+    (λ c κs. search needs)
+    (λ c κs. search needs)
     returns-2
     returns-3)

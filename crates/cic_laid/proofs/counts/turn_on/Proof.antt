@@ -10,49 +10,6 @@ use Rattle.cic_record.specs.declared.Host.{Host}
 use borrow.Author.Needs.{needs}
 use Rattle.cic_laid.proofs.counts.turn_on.Statement.{statement}
 use Rattle.cic_laid.proofs.counts.turn_on.Tie as tie
-use Rattle.cic_laid.proofs.counts.turn_on.Reads as reads
-use Rattle.cic_laid.proofs.counts.turn_on.Lts as lts
-use Rattle.cic_laid.proofs.channel_at.Reads as channel-at-reads
-use Rattle.cic_laid.proofs.counts.add.Reads as add-reads
-use Rattle.cic_laid.proofs.counts.mark_active.Reads as mark-active-reads
-use Rattle.cic_laid.proofs.counts.mark_busy.Reads as mark-busy-reads
-use Rattle.cic_laid.proofs.host_at.Reads as host-at-reads
-
-channel-at-requires : tie.Need-channel-at-requires
-channel-at-requires c κs = search needs
-
-host-at-requires : tie.Need-host-at-requires
-host-at-requires c κs = search needs
-
-cast-at : tie.Need-cast-at
-cast-at c = search needs
-
-add-at : tie.Need-add-at
-add-at c = search needs
-
-mul-n : tie.Need-mul-n
-mul-n c = search needs
-
-element-copy-out-n : tie.Need-element-copy-out-n
-element-copy-out-n c = search needs
-
-add-n : tie.Need-add-n
-add-n c = search needs
-
-mul-room : tie.Need-mul-room
-mul-room c = search needs
-
-element-write-room : tie.Need-element-write-room
-element-write-room c = search needs
-
-mark-busy-requires : tie.Need-mark-busy-requires
-mark-busy-requires c κs = search needs
-
-mark-active-requires : tie.Need-mark-active-requires
-mark-active-requires c κs = search needs
-
-add-requires : tie.Need-add-requires
-add-requires c κs = search needs
 
 returns : tie.Need-returns
 returns c =
@@ -70,16 +27,16 @@ pub turn-on-spec : {M : Type 1} → statement M
 turn-on-spec =
     tie.close
     (tie.spec
-    channel-at-requires
-    host-at-requires
-    cast-at
-    add-at
-    mul-n
-    element-copy-out-n
-    add-n
-    mul-room
-    element-write-room
-    mark-busy-requires
-    mark-active-requires
-    add-requires
+    (λ c κs. search needs)
+    (λ c κs. search needs)
+    (λ c. search needs)
+    (λ c. search needs)
+    (λ c. search needs)
+    (λ c. search needs)
+    (λ c. search needs)
+    (λ c. search needs)
+    (λ c. search needs)
+    (λ c κs. search needs)
+    (λ c κs. search needs)
+    (λ c κs. search needs)
     returns)

@@ -9,22 +9,12 @@ use Rattle.cic_room.specs.Reply.{readReply}
 use borrow.Author.Needs.{needs}
 use Rattle.cic_room.proofs.reads.if_any.Statement.{statement}
 use Rattle.cic_room.proofs.reads.if_any.Tie as tie
-use Rattle.cic_room.proofs.reads.if_any.Reads as reads
-use Rattle.cic_room.proofs.reads.if_any.Lts as lts
-use Rattle.rooms.proofs.answer.Reads as answer-reads
-use Rattle.rooms.proofs.refuse.Reads as refuse-reads
-
-answer-requires : tie.Need-answer-requires
-answer-requires c κs = search needs
 
 returns : tie.Need-returns
 returns c = let a = c .before .before .args in c .answer .ensures ∙ ap readReply (pick-true _ (lt-ltb (a .first) (a .n) (c .before .if1 .taken)))
-
-refuse-requires : tie.Need-refuse-requires
-refuse-requires c κs = search needs
 
 returns-2 : tie.Need-returns-2
 returns-2 c = let a = c .before .before .args in c .refuse .ensures ∙ ap readReply (pick-false _ (le-ltb (a .first) (a .n) (omega (arith, c .before .if1 .left))))
 
 pub if-any-spec : {M : Type 1} → statement M
-if-any-spec = tie.close (tie.spec answer-requires returns refuse-requires returns-2)
+if-any-spec = tie.close (tie.spec (λ c κs. search needs) returns (λ c κs. search needs) returns-2)

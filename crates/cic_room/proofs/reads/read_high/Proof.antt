@@ -13,13 +13,6 @@ use borrow.Author.Tests.{ltb-false}
 use borrow.Author.Needs.{needs}
 use Rattle.cic_room.proofs.reads.read_high.Statement.{statement}
 use Rattle.cic_room.proofs.reads.read_high.Tie as tie
-use Rattle.cic_room.proofs.reads.read_high.Reads as reads
-use Rattle.cic_room.proofs.reads.read_high.Lts as lts
-use Rattle.cic_room.proofs.reads.if_any.Reads as if-any-reads
-use Rattle.rooms.proofs.refuse.Reads as refuse-reads
-
-refuse-requires : tie.Need-refuse-requires
-refuse-requires c κs = search needs
 
 returns : tie.Need-returns
 returns c = let a = c .before .before in λ f d ok h. c .refuse .ensures ∙ told-nothing d (a .args .offset) (at-none (a .args .offset) (a .pre .0) (c .before .if1 .taken))
@@ -40,18 +33,6 @@ mul-if-any c =
     let m : o < 0x1520 = leb-false 0x1520 o (q .1) in
     omega (arith, l, m)
 
-element-copy-out-if-any : tie.Need-element-copy-out-if-any
-element-copy-out-if-any c = search needs
-
-cast-if-any : tie.Need-cast-if-any
-cast-if-any c = search needs
-
-add-if-any : tie.Need-add-if-any
-add-if-any c = search needs
-
-mul-if-any-2 : tie.Need-mul-if-any-2
-mul-if-any-2 c = search needs
-
 element-copy-out-if-any-2 : tie.Need-element-copy-out-if-any-2
 element-copy-out-if-any-2 c =
     let o = c .before .before .args .offset in
@@ -59,9 +40,6 @@ element-copy-out-if-any-2 c =
     let l : 0x1500 ≤ o = ltb-false o 0x1500 (q .0) in
     let m : o < 0x1520 = leb-false 0x1520 o (q .1) in
     omega (arith, l, m)
-
-if-any-requires : tie.Need-if-any-requires
-if-any-requires c κs = search needs
 
 returns-2 : tie.Need-returns-2
 returns-2 c =
@@ -79,14 +57,14 @@ pub read-high-spec : {M : Type 1} → statement M
 read-high-spec =
     tie.close
     (tie.spec
-    refuse-requires
+    (λ c κs. search needs)
     returns
     sub-k
     mul-if-any
-    element-copy-out-if-any
-    cast-if-any
-    add-if-any
-    mul-if-any-2
+    (λ c. search needs)
+    (λ c. search needs)
+    (λ c. search needs)
+    (λ c. search needs)
     element-copy-out-if-any-2
-    if-any-requires
+    (λ c κs. search needs)
     returns-2)

@@ -10,33 +10,6 @@ use Rattle.cic_room.proofs.ReplyLaws.{at-channels, at-hosts, map-as, to
 use borrow.Author.Needs.{needs}
 use Rattle.cic_room.proofs.reads.read_map.Statement.{statement}
 use Rattle.cic_room.proofs.reads.read_map.Tie as tie
-use Rattle.cic_room.proofs.reads.read_map.Reads as reads
-use Rattle.cic_room.proofs.reads.read_map.Lts as lts
-use Rattle.cic_room.proofs.reads.if_any.Reads as if-any-reads
-
-sub-k : tie.Need-sub-k
-sub-k c = search needs
-
-mul-if-any : tie.Need-mul-if-any
-mul-if-any c = search needs
-
-element-copy-out-if-any : tie.Need-element-copy-out-if-any
-element-copy-out-if-any c = search needs
-
-cast-if-any : tie.Need-cast-if-any
-cast-if-any c = search needs
-
-add-if-any : tie.Need-add-if-any
-add-if-any c = search needs
-
-mul-if-any-2 : tie.Need-mul-if-any-2
-mul-if-any-2 c = search needs
-
-element-copy-out-if-any-2 : tie.Need-element-copy-out-if-any-2
-element-copy-out-if-any-2 c = search needs
-
-if-any-requires : tie.Need-if-any-requires
-if-any-requires c κs = search needs
 
 returns : tie.Need-returns
 returns c =
@@ -48,27 +21,6 @@ returns c =
     c .if-any .ensures
     ∙ told-channels d o k _ _ (at-channels o (a .pre .1 .1) (a .pre .0) l) (systems-is h)
     (held-of h .channel .holds k (omega (arith, l, a .pre .0)) ∙ map-as (d .systems) 1024 (d .channel) k (sound-is d ok .counts .0 .1) (omega (arith, l, a .pre .0)) (sound-is d ok .spareChannels))
-
-mul-if-any-3 : tie.Need-mul-if-any-3
-mul-if-any-3 c = search needs
-
-element-copy-out-if-any-3 : tie.Need-element-copy-out-if-any-3
-element-copy-out-if-any-3 c = search needs
-
-cast-if-any-2 : tie.Need-cast-if-any-2
-cast-if-any-2 c = search needs
-
-add-if-any-2 : tie.Need-add-if-any-2
-add-if-any-2 c = search needs
-
-mul-if-any-4 : tie.Need-mul-if-any-4
-mul-if-any-4 c = search needs
-
-element-copy-out-if-any-4 : tie.Need-element-copy-out-if-any-4
-element-copy-out-if-any-4 c = search needs
-
-if-any-requires-2 : tie.Need-if-any-requires-2
-if-any-requires-2 c κs = search needs
 
 returns-2 : tie.Need-returns-2
 returns-2 c =
@@ -85,20 +37,20 @@ pub read-map-spec : {M : Type 1} → statement M
 read-map-spec =
     tie.close
     (tie.spec
-    sub-k
-    mul-if-any
-    element-copy-out-if-any
-    cast-if-any
-    add-if-any
-    mul-if-any-2
-    element-copy-out-if-any-2
-    if-any-requires
+    (λ c. search needs)
+    (λ c. search needs)
+    (λ c. search needs)
+    (λ c. search needs)
+    (λ c. search needs)
+    (λ c. search needs)
+    (λ c. search needs)
+    (λ c κs. search needs)
     returns
-    mul-if-any-3
-    element-copy-out-if-any-3
-    cast-if-any-2
-    add-if-any-2
-    mul-if-any-4
-    element-copy-out-if-any-4
-    if-any-requires-2
+    (λ c. search needs)
+    (λ c. search needs)
+    (λ c. search needs)
+    (λ c. search needs)
+    (λ c. search needs)
+    (λ c. search needs)
+    (λ c κs. search needs)
     returns-2)

@@ -9,43 +9,6 @@ use Rattle.cic_room.proofs.ReplyLaws.{told-revision, told-global, told-
 use borrow.Author.Needs.{needs}
 use Rattle.cic_room.proofs.reads.read_single.Statement.{statement}
 use Rattle.cic_room.proofs.reads.read_single.Tie as tie
-use Rattle.cic_room.proofs.reads.read_single.Reads as reads
-use Rattle.cic_room.proofs.reads.read_single.Lts as lts
-use Rattle.rooms.proofs.answer.Reads as answer-reads
-use Rattle.rooms.proofs.refuse.Reads as refuse-reads
-
-element-copy-out-answer : tie.Need-element-copy-out-answer
-element-copy-out-answer c = search needs
-
-answer-requires : tie.Need-answer-requires
-answer-requires c κs = search needs
-
-element-copy-out-answer-2 : tie.Need-element-copy-out-answer-2
-element-copy-out-answer-2 c = search needs
-
-answer-requires-2 : tie.Need-answer-requires-2
-answer-requires-2 c κs = search needs
-
-refuse-requires : tie.Need-refuse-requires
-refuse-requires c κs = search needs
-
-refuse-requires-2 : tie.Need-refuse-requires-2
-refuse-requires-2 c κs = search needs
-
-refuse-requires-3 : tie.Need-refuse-requires-3
-refuse-requires-3 c κs = search needs
-
-refuse-requires-4 : tie.Need-refuse-requires-4
-refuse-requires-4 c κs = search needs
-
-refuse-requires-5 : tie.Need-refuse-requires-5
-refuse-requires-5 c κs = search needs
-
-refuse-requires-6 : tie.Need-refuse-requires-6
-refuse-requires-6 c κs = search needs
-
-refuse-requires-7 : tie.Need-refuse-requires-7
-refuse-requires-7 c κs = search needs
 
 returns : tie.Need-returns
 returns c = let a = c .before .before .before .args in λ f d ok h. c .answer .ensures ∙ ap (λ (v : ℕ). reply 0 v) (revision-is h) ∙ told-revision d (a .offset) (ap registerAt (c .before .before .match .keys1) ∙ of-layout.kept .revision)
@@ -87,17 +50,17 @@ pub read-single-spec : {M : Type 1} → statement M
 read-single-spec =
     tie.close
     (tie.spec
-    element-copy-out-answer
-    answer-requires
-    element-copy-out-answer-2
-    answer-requires-2
-    refuse-requires
-    refuse-requires-2
-    refuse-requires-3
-    refuse-requires-4
-    refuse-requires-5
-    refuse-requires-6
-    refuse-requires-7
+    (λ c. search needs)
+    (λ c κs. search needs)
+    (λ c. search needs)
+    (λ c κs. search needs)
+    (λ c κs. search needs)
+    (λ c κs. search needs)
+    (λ c κs. search needs)
+    (λ c κs. search needs)
+    (λ c κs. search needs)
+    (λ c κs. search needs)
+    (λ c κs. search needs)
     returns
     returns-2
     returns-3

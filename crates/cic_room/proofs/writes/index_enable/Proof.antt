@@ -17,17 +17,6 @@ use Rattle.cic_room.proofs.ReplyLaws.{carried, stopped, within-limit, p
 use borrow.Author.Needs.{needs}
 use Rattle.cic_room.proofs.writes.index_enable.Statement.{statement}
 use Rattle.cic_room.proofs.writes.index_enable.Tie as tie
-use Rattle.cic_room.proofs.writes.index_enable.Reads as reads
-use Rattle.cic_room.proofs.writes.index_enable.Lts as lts
-use Rattle.cic_laid.proofs.mark_enable.Reads as mark-enable-reads
-use Rattle.rooms.proofs.answer.Reads as answer-reads
-use Rattle.rooms.proofs.refuse.Reads as refuse-reads
-
-element-copy-out-if1 : tie.Need-element-copy-out-if1
-element-copy-out-if1 c = search needs
-
-refuse-requires : tie.Need-refuse-requires
-refuse-requires c κs = search needs
 
 returns : tie.Need-returns
 returns c =
@@ -48,9 +37,6 @@ mark-enable-requires c κs =
     let b = before-both (getD (a .room .now) 1 0) 1024 (a .v) (c .before .if1 .left) in
     b .1
 
-answer-requires : tie.Need-answer-requires
-answer-requires c κs = search needs
-
 returns-2 : tie.Need-returns-2
 returns-2 c =
     let a = c .before .before .before .before .before .args in
@@ -62,10 +48,10 @@ pub index-enable-spec : {M : Type 1} → statement M
 index-enable-spec =
     tie.close
     (tie.spec
-    element-copy-out-if1
-    refuse-requires
+    (λ c. search needs)
+    (λ c κs. search needs)
     returns
     cast-t12
     mark-enable-requires
-    answer-requires
+    (λ c κs. search needs)
     returns-2)

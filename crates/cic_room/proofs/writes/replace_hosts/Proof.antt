@@ -11,30 +11,10 @@ use Rattle.cic_room.proofs.ReplyLaws.{carried, stopped, there, not-ther
 use borrow.Author.Needs.{needs}
 use Rattle.cic_room.proofs.writes.replace_hosts.Statement.{statement}
 use Rattle.cic_room.proofs.writes.replace_hosts.Tie as tie
-use Rattle.cic_room.proofs.writes.replace_hosts.Reads as reads
-use Rattle.cic_room.proofs.writes.replace_hosts.Lts as lts
-use Rattle.cic_laid.proofs.replace_hosts.Reads as replace-hosts-reads
-use Rattle.rooms.proofs.answer.Reads as answer-reads
-use Rattle.rooms.proofs.refuse.Reads as refuse-reads
-
-element-copy-out-if1 : tie.Need-element-copy-out-if1
-element-copy-out-if1 c = search needs
-
-mul-if1 : tie.Need-mul-if1
-mul-if1 c = search needs
-
-refuse-requires : tie.Need-refuse-requires
-refuse-requires c κs = search needs
 
 returns : tie.Need-returns
 unfolding accessOf valueRefusal writtenTo
 returns c = let a = c .before .before .before .args in λ f d ok h. stopped d (writtenTo d (HostEnable (a .k)) (a .v)) (writeAccess (ifAny (32 * a .k) (d .hosts)) 0) absent (not-there (32 * a .k) (d .hosts) 0 (omega (arith, c .before .if1 .taken, hosts-is h))) (λ q. absurd (omega (arith, q))) (c .refuse .ensures) h
-
-replace-hosts-requires : tie.Need-replace-hosts-requires
-replace-hosts-requires c κs = search needs
-
-answer-requires : tie.Need-answer-requires
-answer-requires c κs = search needs
 
 returns-2 : tie.Need-returns-2
 unfolding accessOf valueRefusal writtenTo
@@ -44,10 +24,10 @@ pub replace-hosts-spec : {M : Type 1} → statement M
 replace-hosts-spec =
     tie.close
     (tie.spec
-    element-copy-out-if1
-    mul-if1
-    refuse-requires
+    (λ c. search needs)
+    (λ c. search needs)
+    (λ c κs. search needs)
     returns
-    replace-hosts-requires
-    answer-requires
+    (λ c κs. search needs)
+    (λ c κs. search needs)
     returns-2)

@@ -9,24 +9,6 @@ use Rattle.cic_room.proofs.ReplyLaws.{done-as, at-raw, at-enabled, at-s
 use borrow.Author.Needs.{needs}
 use Rattle.cic_room.proofs.writes.write_bits.Statement.{statement}
 use Rattle.cic_room.proofs.writes.write_bits.Tie as tie
-use Rattle.cic_room.proofs.writes.write_bits.Reads as reads
-use Rattle.cic_room.proofs.writes.write_bits.Lts as lts
-use Rattle.cic_room.proofs.writes.clear_enable.Reads as clear-enable-reads
-use Rattle.cic_room.proofs.writes.clear_status.Reads as clear-status-reads
-use Rattle.cic_room.proofs.writes.set_enable.Reads as set-enable-reads
-use Rattle.cic_room.proofs.writes.set_status.Reads as set-status-reads
-
-set-status-requires : tie.Need-set-status-requires
-set-status-requires c κs = search needs
-
-clear-status-requires : tie.Need-clear-status-requires
-clear-status-requires c κs = search needs
-
-set-enable-requires : tie.Need-set-enable-requires
-set-enable-requires c κs = search needs
-
-clear-enable-requires : tie.Need-clear-enable-requires
-clear-enable-requires c κs = search needs
 
 returns : tie.Need-returns
 returns c = let a = c .before .before .before in λ f d ok h. done-as (ap (λ (z : Register). writeIn d z (a .args .v)) (sym (at-raw (a .args .offset) (a .pre .1 .1) (c .before .before .match .keys1)))) (c .set-status .ensures f d ok h)
@@ -47,10 +29,10 @@ pub write-bits-spec : {M : Type 1} → statement M
 write-bits-spec =
     tie.close
     (tie.spec
-    set-status-requires
-    clear-status-requires
-    set-enable-requires
-    clear-enable-requires
+    (λ c κs. search needs)
+    (λ c κs. search needs)
+    (λ c κs. search needs)
+    (λ c κs. search needs)
     returns
     returns-2
     returns-3

@@ -14,38 +14,10 @@ use Rattle.cic_room.proofs.ReplyLaws.{carried, stopped, within-limit, p
 use borrow.Author.Needs.{needs}
 use Rattle.cic_room.proofs.writes.write_channels.Statement.{statement}
 use Rattle.cic_room.proofs.writes.write_channels.Tie as tie
-use Rattle.cic_room.proofs.writes.write_channels.Reads as reads
-use Rattle.cic_room.proofs.writes.write_channels.Lts as lts
-use Rattle.cic_laid.proofs.write_channels.Reads as write-channels-reads
-use Rattle.cic_maps.proofs.channels_taken.Reads as channels-taken-reads
-use Rattle.cic_room.proofs.writes.size_of.Reads as size-of-reads
-use Rattle.rooms.proofs.answer.Reads as answer-reads
-use Rattle.rooms.proofs.refuse.Reads as refuse-reads
-
-element-copy-out-if1 : tie.Need-element-copy-out-if1
-element-copy-out-if1 c = search needs
-
-mul-if1 : tie.Need-mul-if1
-mul-if1 c = search needs
-
-refuse-requires : tie.Need-refuse-requires
-refuse-requires c κs = search needs
 
 returns : tie.Need-returns
 unfolding accessOf valueRefusal writtenTo
 returns c = let a = c .before .before .before .args in λ f d ok h. stopped d (writtenTo d (ChannelMap (a .k)) (a .v)) (writeAccess (ifAny (4 * a .k) (d .systems)) (unless (mapTaken (d .systems) (d .channels) (a .k) (a .v)))) absent (not-there (4 * a .k) (d .systems) (unless (mapTaken (d .systems) (d .channels) (a .k) (a .v))) (omega (arith, c .before .if1 .taken, systems-is h))) (λ q. absurd (omega (arith, q))) (c .refuse .ensures) h
-
-size-of-requires : tie.Need-size-of-requires
-size-of-requires c κs = search needs
-
-channels-taken-requires : tie.Need-channels-taken-requires
-channels-taken-requires c κs = search needs
-
-write-channels-requires : tie.Need-write-channels-requires
-write-channels-requires c κs = search needs
-
-answer-requires : tie.Need-answer-requires
-answer-requires c κs = search needs
 
 returns-2 : tie.Need-returns-2
 unfolding accessOf valueRefusal writtenTo
@@ -55,9 +27,6 @@ returns-2 c =
     let l : 4 * a .k < d .systems = omega (arith, c .before .before .before .before .before .before .before .if1 .left, systems-is h) in
     let t = c .before .before .before .before .channels-taken .ensures ∙ ap (λ (z : Size). mapTaken (z .systems) (z .channels) (a .k) (a .v)) (c .before .before .before .before .before .size-of .ensures f d h) in
     carried d (writtenTo d (ChannelMap (a .k)) (a .v)) (writeAccess (ifAny (4 * a .k) (d .systems)) (unless (mapTaken (d .systems) (d .channels) (a .k) (a .v)))) (there (4 * a .k) (d .systems) (unless (mapTaken (d .systems) (d .channels) (a .k) (a .v))) l ∙ within-limit (sym t ∙ c .before .before .before .if2 .taken)) (c .answer .ensures) (c .before .write-channels .ensures f d ok l h)
-
-refuse-requires-2 : tie.Need-refuse-requires-2
-refuse-requires-2 c κs = search needs
 
 returns-3 : tie.Need-returns-3
 unfolding accessOf valueRefusal writtenTo
@@ -72,14 +41,14 @@ pub write-channels-spec : {M : Type 1} → statement M
 write-channels-spec =
     tie.close
     (tie.spec
-    element-copy-out-if1
-    mul-if1
-    refuse-requires
+    (λ c. search needs)
+    (λ c. search needs)
+    (λ c κs. search needs)
     returns
-    size-of-requires
-    channels-taken-requires
-    write-channels-requires
-    answer-requires
+    (λ c κs. search needs)
+    (λ c κs. search needs)
+    (λ c κs. search needs)
+    (λ c κs. search needs)
     returns-2
-    refuse-requires-2
+    (λ c κs. search needs)
     returns-3)

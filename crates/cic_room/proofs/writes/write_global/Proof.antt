@@ -9,20 +9,10 @@ use Rattle.cic_room.proofs.ReplyLaws.{carried}
 use borrow.Author.Needs.{needs}
 use Rattle.cic_room.proofs.writes.write_global.Statement.{statement}
 use Rattle.cic_room.proofs.writes.write_global.Tie as tie
-use Rattle.cic_room.proofs.writes.write_global.Reads as reads
-use Rattle.cic_room.proofs.writes.write_global.Lts as lts
-use Rattle.cic_laid.proofs.set_global.Reads as set-global-reads
-use Rattle.rooms.proofs.answer.Reads as answer-reads
-
-set-global-requires : tie.Need-set-global-requires
-set-global-requires c κs = search needs
-
-answer-requires : tie.Need-answer-requires
-answer-requires c κs = search needs
 
 returns : tie.Need-returns
 unfolding accessOf valueRefusal writtenTo
 returns c = let a = c .before .before .before .args in λ f d ok h. carried d (withGlobal d (a .v % 2)) 0 refl (c .answer .ensures) (c .before .set-global .ensures f d h)
 
 pub write-global-spec : {M : Type 1} → statement M
-write-global-spec = tie.close (tie.spec set-global-requires answer-requires returns)
+write-global-spec = tie.close (tie.spec (λ c κs. search needs) (λ c κs. search needs) returns)

@@ -17,13 +17,6 @@ use borrow.Author.Tests.{ltb-false}
 use borrow.Author.Needs.{needs}
 use Rattle.cic_room.proofs.writes.write_high.Statement.{statement}
 use Rattle.cic_room.proofs.writes.write_high.Tie as tie
-use Rattle.cic_room.proofs.writes.write_high.Reads as reads
-use Rattle.cic_room.proofs.writes.write_high.Lts as lts
-use Rattle.cic_room.proofs.writes.replace_hosts.Reads as replace-hosts-reads
-use Rattle.rooms.proofs.refuse.Reads as refuse-reads
-
-refuse-requires : tie.Need-refuse-requires
-refuse-requires c κs = search needs
 
 returns : tie.Need-returns
 unfolding accessOf valueRefusal writtenTo
@@ -56,4 +49,4 @@ returns-2 c =
 
 pub write-high-spec : {M : Type 1} → statement M
 write-high-spec =
-    tie.close (tie.spec refuse-requires returns sub-replace-hosts replace-hosts-requires returns-2)
+    tie.close (tie.spec (λ c κs. search needs) returns sub-replace-hosts replace-hosts-requires returns-2)

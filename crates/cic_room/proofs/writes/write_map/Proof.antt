@@ -9,22 +9,9 @@ use Rattle.cic_room.proofs.ReplyLaws.{done-as, at-channels, at-hosts}
 use borrow.Author.Needs.{needs}
 use Rattle.cic_room.proofs.writes.write_map.Statement.{statement}
 use Rattle.cic_room.proofs.writes.write_map.Tie as tie
-use Rattle.cic_room.proofs.writes.write_map.Reads as reads
-use Rattle.cic_room.proofs.writes.write_map.Lts as lts
-use Rattle.cic_room.proofs.writes.write_channels.Reads as write-channels-reads
-use Rattle.cic_room.proofs.writes.write_hosts.Reads as write-hosts-reads
-
-sub-write-channels : tie.Need-sub-write-channels
-sub-write-channels c = search needs
-
-write-channels-requires : tie.Need-write-channels-requires
-write-channels-requires c κs = search needs
 
 returns : tie.Need-returns
 returns c = let a = c .before .before .before in λ f d ok h. done-as (ap (λ (z : Register). writeIn d z (a .args .v)) (sym (at-channels (a .args .offset) (a .pre .1 .1) (a .pre .0) (c .before .before .if1 .taken)))) (c .write-channels .ensures f d ok h)
-
-write-hosts-requires : tie.Need-write-hosts-requires
-write-hosts-requires c κs = search needs
 
 returns-2 : tie.Need-returns-2
 returns-2 c = let a = c .before .before .before in λ f d ok h. done-as (ap (λ (z : Register). writeIn d z (a .args .v)) (sym (at-hosts (a .args .offset) (a .pre .1 .1) (omega (arith, c .before .before .if1 .left)) (a .pre .1 .0)))) (c .write-hosts .ensures f d ok h)
@@ -32,4 +19,4 @@ returns-2 c = let a = c .before .before .before in λ f d ok h. done-as (ap (λ 
 pub write-map-spec : {M : Type 1} → statement M
 write-map-spec =
     tie.close
-    (tie.spec sub-write-channels write-channels-requires returns write-hosts-requires returns-2)
+    (tie.spec (λ c. search needs) (λ c κs. search needs) returns (λ c κs. search needs) returns-2)

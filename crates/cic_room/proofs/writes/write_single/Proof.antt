@@ -13,40 +13,6 @@ use Rattle.cic_room.proofs.ReplyLaws.{done-as, stopped}
 use borrow.Author.Needs.{needs}
 use Rattle.cic_room.proofs.writes.write_single.Statement.{statement}
 use Rattle.cic_room.proofs.writes.write_single.Tie as tie
-use Rattle.cic_room.proofs.writes.write_single.Reads as reads
-use Rattle.cic_room.proofs.writes.write_single.Lts as lts
-use Rattle.cic_room.proofs.writes.index_enable.Reads as index-enable-reads
-use Rattle.cic_room.proofs.writes.index_host.Reads as index-host-reads
-use Rattle.cic_room.proofs.writes.index_status.Reads as index-status-reads
-use Rattle.cic_room.proofs.writes.write_global.Reads as write-global-reads
-use Rattle.rooms.proofs.refuse.Reads as refuse-reads
-
-refuse-requires : tie.Need-refuse-requires
-refuse-requires c κs = search needs
-
-write-global-requires : tie.Need-write-global-requires
-write-global-requires c κs = search needs
-
-index-status-requires : tie.Need-index-status-requires
-index-status-requires c κs = search needs
-
-index-status-requires-2 : tie.Need-index-status-requires-2
-index-status-requires-2 c κs = search needs
-
-index-enable-requires : tie.Need-index-enable-requires
-index-enable-requires c κs = search needs
-
-index-enable-requires-2 : tie.Need-index-enable-requires-2
-index-enable-requires-2 c κs = search needs
-
-index-host-requires : tie.Need-index-host-requires
-index-host-requires c κs = search needs
-
-index-host-requires-2 : tie.Need-index-host-requires-2
-index-host-requires-2 c κs = search needs
-
-refuse-requires-2 : tie.Need-refuse-requires-2
-refuse-requires-2 c κs = search needs
 
 returns : tie.Need-returns
 unfolding accessOf valueRefusal writtenTo
@@ -92,15 +58,15 @@ pub write-single-spec : {M : Type 1} → statement M
 write-single-spec =
     tie.close
     (tie.spec
-    refuse-requires
-    write-global-requires
-    index-status-requires
-    index-status-requires-2
-    index-enable-requires
-    index-enable-requires-2
-    index-host-requires
-    index-host-requires-2
-    refuse-requires-2
+    (λ c κs. search needs)
+    (λ c κs. search needs)
+    (λ c κs. search needs)
+    (λ c κs. search needs)
+    (λ c κs. search needs)
+    (λ c κs. search needs)
+    (λ c κs. search needs)
+    (λ c κs. search needs)
+    (λ c κs. search needs)
     returns
     returns-2
     returns-3
