@@ -1,2 +1,3 @@
--- What a text that found room comes to.
+-- What a text that found room comes to, and eight digits at once.
+pub mod DigitsLaws
 pub mod RoomLaws

@@ -2,9 +2,10 @@
 // each function says how far it goes at most, and that the buffer keeps its length, so that the next one finds its room.
 ghost use mathlib.Core.Path.{_≡_};
 ghost use mathlib.Core.List.{[], _∷_};
-ghost use Prim.Native.Nat.{_+_, _%_, _<_, _≤_};
+ghost use Prim.Native.Nat.{_+_, _<_, _≤_};
 ghost use lib.ListN.{length};
-ghost use Rattle.text.specs.Text.{write, decimal, lastOf, field, hex, hexDigit};
+ghost use Rattle.text.specs.Text.{write, decimal, lastOf, field, hex};
+ghost use Rattle.text_room.specs.Bytes.{bytesOf};
 use text::SPACE;
 
 // One byte where the next one goes; answers where the one after it goes.
@@ -19,24 +20,37 @@ pub fn put_in(out: &mut [u8], at: usize, b: u8) -> usize
 // The eight hexadecimal digits of a word.
 pub fn hex_in(out: &mut [u8], at: usize, v: u32) -> usize
     requires { ⌜ at + 8 ≤ length (now out) ⌝ }
-    ensures { λ r. ⌜ ((now (out .exit), r) ≡ write (now (out .entry), at) (hex v)) × ((r ≤ at + 8) × (length (now (out .exit)) ≡ length (now (out .entry)))) ⌝ }
+    ensures { λ r. ⌜ ((now (out .exit), r) ≡ write (now (out .entry), at) (hex v)) × ((r ≡ at + 8) × (length (now (out .exit)) ≡ length (now (out .entry)))) ⌝ }
 {
-    let a = hex_digit_in(out, at, v / 268435456);
-    let b = hex_digit_in(out, a, v / 16777216);
-    let c = hex_digit_in(out, b, v / 1048576);
-    let d = hex_digit_in(out, c, v / 65536);
-    let e = hex_digit_in(out, d, v / 4096);
-    let f = hex_digit_in(out, e, v / 256);
-    let g = hex_digit_in(out, f, v / 16);
-    hex_digit_in(out, g, v)
+    word_in(out, at, digits(v))
 }
 
-// The lowest hexadecimal digit of v.
-fn hex_digit_in(out: &mut [u8], at: usize, v: u32) -> usize
-    requires { ⌜ at < length (now out) ⌝ }
-    ensures { λ r. ⌜ ((now (out .exit), r) ≡ write (now (out .entry), at) (hexDigit (v % 16) ∷ [])) × ((r ≡ at + 1) × (length (now (out .exit)) ≡ length (now (out .entry)))) ⌝ }
+// All eight digits at once, the first in the lowest byte: the halves of the word change places, then its bytes and its half bytes move apart, and
+// `text::digit`'s rule makes a digit of each: 48 is added, and 7 more from ten on.
+pub fn digits(v: u32) -> u64
+    ensures { λ r. ⌜ bytesOf 8 r ≡ hex v ⌝ }
 {
-    put_in(out, at, text::digit((v % 16) as usize))
+    let a = v as u64;
+    let b = a / 65536 + a % 65536 * 4294967296;
+    let c = ((b / 256) & 0x000000FF000000FF) + (b & 0x000000FF000000FF) * 65536;
+    let d = ((c / 16) & 0x000F000F000F000F) + (c & 0x000F000F000F000F) * 256;
+    let letters = ((d + 0x0606060606060606) / 16) & 0x0101010101010101;
+    d + 0x3030303030303030 + 7 * letters
+}
+
+// The eight bytes of a word, the lowest first: the compiler makes one store of them.
+pub fn word_in(out: &mut [u8], at: usize, w: u64) -> usize
+    requires { ⌜ at + 8 ≤ length (now out) ⌝ }
+    ensures { λ r. ⌜ ((now (out .exit), r) ≡ write (now (out .entry), at) (bytesOf 8 w)) × ((r ≡ at + 8) × (length (now (out .exit)) ≡ length (now (out .entry)))) ⌝ }
+{
+    let a = put_in(out, at, (w % 256) as u8);
+    let b = put_in(out, a, (w / 256 % 256) as u8);
+    let c = put_in(out, b, (w / 65536 % 256) as u8);
+    let d = put_in(out, c, (w / 16777216 % 256) as u8);
+    let e = put_in(out, d, (w / 4294967296 % 256) as u8);
+    let f = put_in(out, e, (w / 1099511627776 % 256) as u8);
+    let g = put_in(out, f, (w / 281474976710656 % 256) as u8);
+    put_in(out, g, (w / 72057594037927936 % 256) as u8)
 }
 
 // The decimal digits of a number. Nearly all numbers of a listing have at most five.

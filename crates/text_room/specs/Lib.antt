@@ -1,0 +1,2 @@
+-- The bytes of a word.
+pub mod Bytes
