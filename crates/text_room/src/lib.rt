@@ -2,11 +2,21 @@
 // each function says how far it goes at most, and that the buffer keeps its length, so that the next one finds its room.
 ghost use mathlib.Core.Path.{_≡_};
 ghost use mathlib.Core.List.{[], _∷_};
-ghost use Prim.Native.Nat.{_+_, _<_, _≤_};
+ghost use Prim.Native.Nat.{_+_, _%_, _<_, _≤_};
 ghost use lib.ListN.{length};
 ghost use Rattle.text.specs.Text.{write, decimal, lastOf, field, hex};
 ghost use Rattle.text_room.specs.Bytes.{bytesOf};
+ghost use Rattle.text_room.specs.Numeral.{packed, numeralOf};
 use text::SPACE;
+
+// The text of a number of at most five digits in a word, its first byte in the lowest; how many bytes that is, and 1 where the last of them stands; and the
+// number's last digit. So the text of the next number is a sum, but after a 9. Of a longer number no text is kept.
+pub struct Numeral {
+    pub digits: u64,
+    pub width: usize,
+    pub unit: u64,
+    pub last: u32,
+}
 
 // One byte where the next one goes; answers where the one after it goes.
 pub fn put_in(out: &mut [u8], at: usize, b: u8) -> usize
@@ -130,4 +140,98 @@ fn five_in(out: &mut [u8], at: usize, n: u32) -> usize
 {
     let next = four_in(out, at, n / 10);
     one_in(out, next, n)
+}
+
+// The text of a number in a word.
+pub fn numeral_of(n: u32) -> Numeral
+    ensures { λ r. ⌜ r ≡ numeralOf n ⌝ }
+{
+    if n < 10 {
+        return kept(one_digit(n), 1, 1, n);
+    }
+    if n < 100 {
+        return kept(two_digits(n), 2, 256, n);
+    }
+    if n < 1000 {
+        return kept(three_digits(n), 3, 65536, n);
+    }
+    if n < 10000 {
+        return kept(four_digits(n), 4, 16777216, n);
+    }
+    if n < 100000 {
+        return kept(five_digits(n), 5, 4294967296, n);
+    }
+    kept(0, 0, 0, 9)
+}
+
+fn kept(digits: u64, width: usize, unit: u64, n: u32) -> Numeral
+    ensures { λ r. ⌜ r ≡ record { digits = digits; width = width; unit = unit; last = n % 10 } ⌝ }
+{
+    Numeral {
+        digits,
+        width,
+        unit,
+        last: n % 10,
+    }
+}
+
+// The last decimal digit of n in a word.
+fn one_digit(n: u32) -> u64
+    ensures { λ r. ⌜ r ≡ packed (lastOf 1 n) ⌝ }
+{
+    (n % 10 + 48) as u64
+}
+
+// Its last two.
+fn two_digits(n: u32) -> u64
+    ensures { λ r. ⌜ r ≡ packed (lastOf 2 n) ⌝ }
+{
+    (n / 10 % 10 + 48) as u64 + 256 * (n % 10 + 48) as u64
+}
+
+// Its last three.
+fn three_digits(n: u32) -> u64
+    ensures { λ r. ⌜ r ≡ packed (lastOf 3 n) ⌝ }
+{
+    (n / 100 % 10 + 48) as u64 + 256 * (n / 10 % 10 + 48) as u64 + 65536 * (n % 10 + 48) as u64
+}
+
+// Its last four.
+fn four_digits(n: u32) -> u64
+    ensures { λ r. ⌜ r ≡ packed (lastOf 4 n) ⌝ }
+{
+    let first = (n / 1000 % 10 + 48) as u64 + 256 * (n / 100 % 10 + 48) as u64;
+    first + 65536 * (n / 10 % 10 + 48) as u64 + 16777216 * (n % 10 + 48) as u64
+}
+
+// Its last five.
+fn five_digits(n: u32) -> u64
+    ensures { λ r. ⌜ r ≡ packed (lastOf 5 n) ⌝ }
+{
+    let first = (n / 10000 % 10 + 48) as u64
+        + 256 * (n / 1000 % 10 + 48) as u64
+        + 65536 * (n / 100 % 10 + 48) as u64;
+    first + 16777216 * (n / 10 % 10 + 48) as u64 + 4294967296 * (n % 10 + 48) as u64
+}
+
+// The text of the next number: after a 9 it is made anew.
+pub fn following(t: Numeral, n: u32) -> Numeral
+    requires { ⌜ (t ≡ numeralOf n) × (n < 4294967295) ⌝ }
+    ensures { λ r. ⌜ r ≡ numeralOf (n + 1) ⌝ }
+{
+    if t.last == 9 {
+        let z = numeral_of(n + 1);
+        return Numeral {
+            digits: z.digits,
+            width: z.width,
+            unit: z.unit,
+            last: z.last,
+        };
+    }
+    Numeral {
+        digits: t.digits + t.unit,
+        width: t.width,
+        unit: t.unit,
+        last: t.last + 1,
+    }
 }
