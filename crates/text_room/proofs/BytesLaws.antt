@@ -2,11 +2,15 @@
 use Prim.Native.Nat.{ℕ, zero, suc, _+_, _*_, _/_, _%_, _^_, _<_}
 use mathlib.Core.Path.{_≡_, refl, sym, ap, ap₂, _∙_}
 use mathlib.Core.List.{List, [], _∷_, _++_}
-use native.Mathlib.Nat.{div-div-eq-div-mul, pow-succ', div-one, zero-add}
+use native.Mathlib.Nat.{div-div-eq-div-mul, pow-succ', div-one, zero-add, pow-suc}
 use native.Mathlib.Omega.{arith}
+use lib.Arith.{mod-mul}
 use lib.ListN.{length}
 use Rattle.text_room.specs.Bytes.{bytesOf}
-use Rattle.text_room.specs.Numeral.{packed}
+
+pub positive : (k : ℕ) → 0 < 256 ^ k
+positive zero = omega arith
+positive (suc k) = omega (arith, positive k, pow-succ' 256 k)
 
 pub length-bytes : (k w : ℕ) → length (bytesOf k w) ≡ k
 unfolding bytesOf
@@ -30,6 +34,12 @@ bytes-first k b w h =
     let f : (b + 256 * w) / 256 ≡ w = omega arith in
     ap₂ (λ (x y : ℕ). x ∷ bytesOf k y) e f
 
--- a byte of another word before the others
-pub bytes-one : (k a w : ℕ) → bytesOf (suc k) (a % 256 + 256 * w) ≡ a % 256 ∷ bytesOf k w
-bytes-one k a w = bytes-first k (a % 256) w (omega arith)
+-- the bytes from k on do not count
+pub bytes-low : (k w : ℕ) → bytesOf k (w % 256 ^ k) ≡ bytesOf k w
+unfolding bytesOf
+bytes-low zero w = refl
+bytes-low (suc k) w =
+    let e : w % 256 ^ suc k ≡ w / 256 % 256 ^ k * 256 + w % 256 = ap (λ (m : ℕ). w % m) (pow-suc 256 k) ∙ mod-mul w (positive k) (omega arith) in
+    let f : w % 256 ^ suc k % 256 ≡ w % 256 = rw e (omega arith) in
+    let g : w % 256 ^ suc k / 256 ≡ w / 256 % 256 ^ k = rw e (omega arith) in
+    ap₂ (λ (x : ℕ) (l : List ℕ). x ∷ l) f (ap (bytesOf k) g ∙ bytes-low k (w / 256))

@@ -16,7 +16,7 @@ use Rattle.text.proofs.DigitLaws.{decimal-digits, length-below}
 use Rattle.text_room.specs.declared.Numeral.{Numeral}
 use Rattle.text_room.specs.Bytes.{bytesOf}
 use Rattle.text_room.specs.Numeral.{packed, keeps, numeralOf}
-use Rattle.text_room.proofs.BytesLaws.{bytes-first}
+use Rattle.text_room.proofs.BytesLaws.{positive, bytes-first}
 
 -- ---- made anew
 
@@ -151,10 +151,6 @@ unpacked : (l : List ℕ) → Bytes l → bytesOf (length l) (packed l) ≡ l
 unfolding packed bytesOf
 unpacked [] h = refl
 unpacked (x ∷ l) h = bytes-first (length l) x (packed l) (h 0 (omega arith)) ∙ ap (λ (r : List ℕ). x ∷ r) (unpacked l (λ k m. h (suc k) (omega arith)))
-
-positive : (k : ℕ) → 0 < 256 ^ k
-positive zero = omega arith
-positive (suc k) = omega (arith, positive k, pow-succ' 256 k)
 
 bounded : (l : List ℕ) (k : ℕ) → Bytes l → length l ≤ k → packed l < 256 ^ k
 unfolding packed
