@@ -19,34 +19,23 @@ use text::NEWLINE;
 use text::SPACE;
 use text_room::Numeral;
 
-// The line of a step: its number, its letter, the value in eight digits, and the machine's three numbers. One test for room serves for all its bytes.
+// The line of a step: its number, its letter, the value in eight digits, and the machine's three numbers. Byte by byte: what finds no room is dropped.
 pub fn put_line(out: &mut [u8], at: usize, n: u32, letter: u8, value: u32, c: Columns) -> usize
     ensures { λ r. ⌜ (now (out .exit), r) ≡ write (now (out .entry), at) (lineOf n letter value c) ⌝ }
 {
-    if has_room(out.len(), at) {
-        return put_line_in(out, at, n, letter, value, c);
-    }
-    put_line_cut(out, at, n, letter, value, c)
+    let a = text::put_decimal(out, at, n as u64);
+    let b = text::put(out, a, SPACE);
+    let d = text::put(out, b, letter);
+    let e = text::put(out, d, SPACE);
+    let f = text::put_hex(out, e, value);
+    let g = text::put_field(out, f, c.first as u64);
+    let h = text::put_field(out, g, c.second as u64);
+    let i = text::put_field(out, h, c.third as u64);
+    text::put(out, i, NEWLINE)
 }
 
-// The line of a step of which the number of its kind is known, with what it answered.
-pub fn put_step(
-    out: &mut [u8],
-    at: usize,
-    n: u32,
-    kind: u32,
-    refusal: u32,
-    value: u32,
-    c: Columns,
-) -> usize
-    ensures { λ r. ⌜ (now (out .exit), r) ≡ write (now (out .entry), at) (lineOf n (letterBy kind refusal) (shownValue refusal value) c) ⌝ }
-{
-    let letter = letter_by(kind, refusal);
-    let shown = shown_value(refusal, value);
-    put_line(out, at, n, letter, shown, c)
-}
-
-// The same by a loop that keeps the text of the line's number (text_room, `following`).
+// The line of a step of which the number of its kind is known, with what it answered, by a loop that keeps the text of the line's number (text_room,
+// `following`). It has one caller, of which it becomes a part; one test for room serves for all its bytes.
 pub fn put_numbered(
     out: &mut [u8],
     at: usize,
@@ -79,12 +68,12 @@ fn put_numbered_line(
     ensures { λ r. ⌜ (now (out .exit), r) ≡ write (now (out .entry), at) (lineOf n letter value c) ⌝ }
 {
     if t.width == 0 {
-        return put_line_cut(out, at, n, letter, value, c);
+        return put_line(out, at, n, letter, value, c);
     }
     if has_room(out.len(), at) {
         return numbered_in(out, at, t.digits, t.width, letter, value, c);
     }
-    put_line_cut(out, at, n, letter, value, c)
+    put_line(out, at, n, letter, value, c)
 }
 
 // Whether a line finds room, however long its numbers are: it has at most 55 bytes.
@@ -95,15 +84,6 @@ fn has_room(length: usize, at: usize) -> bool
         return false;
     }
     at <= length - 55
-}
-
-// A line that finds room.
-fn put_line_in(out: &mut [u8], at: usize, n: u32, letter: u8, value: u32, c: Columns) -> usize
-    requires { ⌜ at + 55 ≤ length (now out) ⌝ }
-    ensures { λ r. ⌜ (now (out .exit), r) ≡ write (now (out .entry), at) (lineOf n letter value c) ⌝ }
-{
-    let a = text_room::decimal_in(out, at, n);
-    behind_in(out, a, letter, value, c)
 }
 
 // A line that finds room, the text of its number in a word: eight bytes are stored, and what follows the number is written over those that are none of it.
@@ -177,21 +157,6 @@ fn long_in(out: &mut [u8], at: usize, letter: u8, value: u32, c: Columns) -> usi
     let g = text_room::field_in(out, f, c.second);
     let h = text_room::field_in(out, g, c.third);
     text_room::put_in(out, h, NEWLINE)
-}
-
-// A line near the end of the buffer: what finds no room is dropped.
-fn put_line_cut(out: &mut [u8], at: usize, n: u32, letter: u8, value: u32, c: Columns) -> usize
-    ensures { λ r. ⌜ (now (out .exit), r) ≡ write (now (out .entry), at) (lineOf n letter value c) ⌝ }
-{
-    let a = text::put_decimal(out, at, n as u64);
-    let b = text::put(out, a, SPACE);
-    let d = text::put(out, b, letter);
-    let e = text::put(out, d, SPACE);
-    let f = text::put_hex(out, e, value);
-    let g = text::put_field(out, f, c.first as u64);
-    let h = text::put_field(out, g, c.second as u64);
-    let i = text::put_field(out, h, c.third as u64);
-    text::put(out, i, NEWLINE)
 }
 
 // The last line of a listing that ends with a refusal; nothing where there is none.
