@@ -1,0 +1,31 @@
+use mathlib.Core.Path.{_≡_, _∙_}
+use Prim.Native.Nat.{_+_, _%_}
+use native.Mathlib.Omega.{arith}
+use borrow.Author.Tests.{eq-eqb, ne-eqb}
+use Rattle.words.proofs.ChoiceLaws.{pick-true, pick-false}
+use Rattle.cic_held.specs.Held.{heldAs}
+use borrow.Author.Needs.{needs}
+use Rattle.indexed_room.proofs.holds.held_as.Statement.{statement}
+use Rattle.indexed_room.proofs.holds.held_as.Tie as tie
+use Rattle.indexed_room.proofs.holds.held_as.Reads as reads
+use Rattle.indexed_room.proofs.holds.held_as.Lts as lts
+
+-- src/holds.rt:45:9
+returns : tie.Need-returns
+unfolding heldAs
+returns c = λ small. pick-true _ (eq-eqb (c .before .args .word) _ (c .if1 .taken))
+
+-- src/holds.rt:47:5
+add-result : tie.Need-add-result
+add-result c = search needs
+
+-- src/holds.rt:41:1
+returns-2 : tie.Need-returns-2
+unfolding heldAs
+returns-2 c = λ small.
+    let w = c .before .args .word in
+    let e : w % 65534 + 2 ≡ w + 2 = omega (arith, small (c .if1 .left)) in
+    e ∙ pick-false _ (ne-eqb w _ (c .if1 .left))
+
+pub held-as-spec : {M : Type 1} → statement M
+held-as-spec = tie.close (tie.spec returns add-result returns-2)

@@ -1,0 +1,20 @@
+use Rattle.cic_prioritised.proofs.SoundLaws.{sound-cic}
+use Rattle.indexed_room.specs.Room.{framed}
+use Rattle.indexed_room.proofs.StepLaws.{line-done}
+use borrow.Author.Needs.{needs}
+use Rattle.indexed_room.proofs.line.Statement.{statement}
+use Rattle.indexed_room.proofs.line.Tie as tie
+use Rattle.indexed_room.proofs.line.Reads as reads
+use Rattle.indexed_room.proofs.line.Lts as lts
+use Rattle.cic_room.proofs.line.Reads as line-reads
+
+-- src/lib.rt:96:5
+line-requires : tie.Need-line-requires
+line-requires c κs = search needs
+
+-- src/lib.rt:93:1
+returns : tie.Need-returns
+returns c = λ p ok h. line-done p _ _ ok (c .line .ensures (framed p) (p .cic) (sound-cic p ok) h)
+
+pub line-spec : {M : Type 1} → statement M
+line-spec = tie.close (tie.spec line-requires returns)
