@@ -91,8 +91,8 @@ pub fn step(room: &mut Room, kind: u32, x: u32, y: u32, privilege: u32) -> u64
         13 => aintc_room::read(room, x, privilege),
         14 => aintc_room::write(room, x, y, privilege),
         15 => aintc_room::line(room, x, y),
-        17 => indexed_room::read(room, x),
-        18 => indexed_room::write(room, x, y),
+        17 => indexed_room::step(room, kind, x, y),
+        18 => indexed_room::step(room, kind, x, y),
         _ => indexed_room::line(room, x, y),
     }
 }

@@ -1,9 +1,10 @@
 -- That `step` of src/lib.rt keeps its contract.
-use mathlib.Core.Path.{sym, _∙_}
+use mathlib.Core.Path.{refl, sym, _∙_}
 use native.Mathlib.Omega.{arith}
 use Rattle.cic_steps.specs.Model.{stepAs}
 use Rattle.cic_laid.specs.Room.{plain}
 use Rattle.turns.proofs.TurnLaws.{step-read, step-write}
+use Rattle.machine_record.specs.Machine.{indexed}
 use Rattle.machine_record.proofs.MachineLaws.{sound-aic, sound-core, sound-cic, sound-aintc, sound-indexed}
 use Rattle.machine_room.proofs.RoomLaws.{of-kind, told-kind, told-step, line-step, last-step, aic-done, core-done, cic-done, aintc-done, indexed-done}
 use borrow.Author.Needs.{needs}
@@ -143,8 +144,7 @@ returns-13 c =
     let e = sym (p .place .ensures) ∙ c .before .before .match .keys13 in
     λ kept m ok h.
     let k = of-kind h (told-kind _ _ 4 1 (f .pre .1) (omega arith) e) in
-    let t = told-step _ _ 4 1 (f .pre .1) (omega arith) e in
-    indexed-done kept m _ _ _ _ k (step-read _ _ _ t) (c .read5 .ensures (indexed m) (sound-indexed m k ∙ ok) (h .indexed k))
+    indexed-done kept m _ _ _ _ k refl (c .step .ensures (indexed m) (sound-indexed m k ∙ ok) (h .indexed k))
 
 returns-14 : tie.Need-returns-14
 returns-14 c =
@@ -153,8 +153,7 @@ returns-14 c =
     let e = sym (p .place .ensures) ∙ c .before .before .match .keys14 in
     λ kept m ok h.
     let k = of-kind h (told-kind _ _ 4 2 (f .pre .1) (omega arith) e) in
-    let t = told-step _ _ 4 2 (f .pre .1) (omega arith) e in
-    indexed-done kept m _ _ _ _ k (step-write _ _ _ t) (c .write5 .ensures (indexed m) (sound-indexed m k ∙ ok) (h .indexed k))
+    indexed-done kept m _ _ _ _ k refl (c .step2 .ensures (indexed m) (sound-indexed m k ∙ ok) (h .indexed k))
 
 returns-15 : tie.Need-returns-15
 returns-15 c =
