@@ -34,9 +34,13 @@ returns-4 c =
 
 returns-5 : tie.Need-returns-5
 returns-5 c =
+    let p = c .before .before in
+    let x = p .before .before .before in
+    let y = x .before .before in
+    let z = y .before .before in
     λ kept m ok h b.
-    let k = last-kind m ok (not-kind h (c .before .before .before .before .before .before .before .if1 .left)) (not-kind h (c .before .before .before .before .before .if2 .left)) (not-kind h (c .before .before .before .if3 .left)) (not-kind h (c .before .if4 .left)) in
-    indexed-record (c .before .before .before .before .before .before .before .before .before .args .first) m _ k b (c .record-of5 .ensures (indexed m) (sound-indexed m k ∙ ok) (h .indexed k))
+    let k = last-kind m ok (not-kind h (z .if1 .left)) (not-kind h (y .if2 .left)) (not-kind h (x .if3 .left)) (not-kind h (p .before .if4 .left)) in
+    indexed-record (z .before .before .args .first) m _ k b (p .record-of5 .ensures (indexed m) (sound-indexed m k ∙ ok) (h .indexed k))
 
 pub record-of-spec : {M : Type 1} → statement M
 record-of-spec =
