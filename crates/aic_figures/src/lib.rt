@@ -162,7 +162,10 @@ fn waits_after(asks: u32, by: u32, asked: u32, waiting: u32) -> u32
     ensures { λ r. ⌜ ((i : ℕ) → i < 32 → bit r i ≡ ((bit asks i && not (eqb i by)) && (bit waiting i || not (bit asked i)))) × (r < 4294967296) ⌝ }
 {
     let others = words::with_bit(asks, by, false);
-    words::join(words::meet(others, waiting), words::drop_bits(others, asked))
+    words::join(
+        words::meet(others, waiting),
+        words::drop_bits(others, asked),
+    )
 }
 
 // The book after a step after which other sources ask, or an entry is open that was not.
@@ -203,13 +206,12 @@ pub fn start() -> Book
 // The 32 words of the book from a place on.
 fn words_from(book: &Book, at: usize) -> [u32; 32]
     requires { ⌜ at ≤ 128 ⌝ }
-    ensures { λ r. ⌜ ((i : ℕ) → i < 32 → getD r i 0 ≡ getD (now (book .entry)) (at + i) 0) × (length r ≡ 32) ⌝ }
+    ensures { λ r. ⌜ (length r ≡ 32) × ((k : ℕ) → k < 32 → getD r k 0 ≡ getD (now (book .entry)) (at + k) 0) ⌝ }
 {
     let mut out = [0u32; 32];
     let mut k: usize = 0;
     while k < 32 {
-        let w = book[at + k];
-        out[k] = w;
+        out[k] = book[at + k];
         k = k + 1;
     }
     out

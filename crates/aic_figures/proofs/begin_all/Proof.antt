@@ -15,10 +15,6 @@ use Rattle.aic_figures.proofs.BookLaws.{Done, done-none, done-all, done
 use borrow.Author.Needs.{needs}
 use Rattle.aic_figures.proofs.begin_all.Statement.{statement}
 use Rattle.aic_figures.proofs.begin_all.Tie as tie
-use Rattle.aic_figures.proofs.begin_all.Reads as reads
-use Rattle.aic_figures.proofs.begin_all.Lts as lts
-use Rattle.words.proofs.lowest.Reads as lowest-reads
-use Rattle.words.proofs.with_bit.Reads as with-bit-reads
 
 abbrev Inv-loop : tie.InvT-loop
 Inv-loop book₀ some left₀ book left =
@@ -27,39 +23,15 @@ Inv-loop book₀ some left₀ book left =
 abbrev μ-loop : tie.MeasureT-loop
 μ-loop book₀ some left₀ book left = 32 - lowestBelow 32 (bit left)
 
--- src/lib.rt:90:5
 loop-holds : tie.Need-loop-holds Inv-loop μ-loop
 loop-holds c = let f : Fits w32 (c .args .some) = search needs in (f .fits, (λ j n b. b), λ _. done-none 64 (λ _. getD (c .args .book .now) 2 0) (c .args .some) (c .args .book .now))
 
--- src/lib.rt:91:13
-lowest-requires : tie.Need-lowest-requires Inv-loop μ-loop
-lowest-requires c κs = search needs
-
--- src/lib.rt:92:22
-element-copy-out-starts : tie.Need-element-copy-out-starts Inv-loop μ-loop
-element-copy-out-starts c = search needs
-
--- src/lib.rt:93:22
-cast-book : tie.Need-cast-book Inv-loop μ-loop
-cast-book c = search needs
-
--- src/lib.rt:93:14
 add-book : tie.Need-add-book Inv-loop μ-loop
 add-book c = omega (arith, lowest-in _ _ (c .before .before .before .loop .inv .0) (c .before .before .loop-test .taken) (c .before .lowest .ensures) .0)
 
--- src/lib.rt:93:9
-mul-book : tie.Need-mul-book Inv-loop μ-loop
-mul-book c = search needs
-
--- src/lib.rt:93:9
 element-write-book : tie.Need-element-write-book Inv-loop μ-loop
 element-write-book c = omega (arith, lowest-in _ _ (c .before .before .before .loop .inv .0) (c .before .before .loop-test .taken) (c .before .lowest .ensures) .0)
 
--- src/lib.rt:94:9
-with-bit-requires : tie.Need-with-bit-requires Inv-loop μ-loop
-with-bit-requires c κs = search needs
-
--- src/lib.rt:90:5
 loop-less : tie.Need-loop-less Inv-loop μ-loop
 loop-less c =
     let l = c .before .before .before .before .loop in
@@ -67,21 +39,18 @@ loop-less c =
     subst (λ (x : ℕ). 32 - lowestBelow 32 (bit x) < 32 - lowestBelow 32 (bit (l .left))) (sym (c .with-bit .ensures))
     (hop-less (l .left) (i .result) (l .inv .0) (c .before .before .before .loop-test .taken) (i .ensures))
 
--- src/lib.rt:90:5
 loop-again : tie.Need-loop-again Inv-loop μ-loop
 loop-again c =
     let a = c .before .before .before .before .before .args in
     let l = c .before .before .before .before .loop in
     let i = c .before .before .lowest in
-    let m = lowest-in (l .left) (i .result) (l .inv .0) (c .before .before .before .loop-test .taken) (i .ensures) in
-    (
+    let m = lowest-in (l .left) (i .result) (l .inv .0) (c .before .before .before .loop-test .taken) (i .ensures) in (
       subst (λ (x : ℕ). x < 2 ^ 32) (sym (c .with-bit .ensures)) (withBit-lt (l .left) (i .result) false),
       within (a .some) (l .left) _ (i .result) (c .with-bit .ensures) (l .inv .1),
       λ h. done-more 64 (λ _. getD (a .book .now) 2 0) (a .some) (l .left) _ (a .book .now) (l .book) (i .result) _ (omega (arith, h)) (m .0) (l .inv .1 (i .result) (m .0) (m .1)) (c .with-bit .ensures)
-      (l .inv .2 h .outside 2 (inl (omega arith))) (l .inv .2 h),
+          (l .inv .2 h .outside 2 (inl (omega arith))) (l .inv .2 h),
     )
 
--- src/lib.rt:86:1
 returns : tie.Need-returns Inv-loop μ-loop
 returns c = λ h. done-all 64 _ _ _ _ _ (c .loop-test .left) (c .before .loop .inv .2 h)
 
@@ -92,13 +61,13 @@ begin-all-spec =
     Inv-loop
     μ-loop
     loop-holds
-    lowest-requires
-    element-copy-out-starts
-    cast-book
+    (λ c κs. search needs)
+    (λ c. search needs)
+    (λ c. search needs)
     add-book
-    mul-book
+    (λ c. search needs)
     element-write-book
-    with-bit-requires
+    (λ c κs. search needs)
     loop-less
     loop-again
     returns)

@@ -27,29 +27,12 @@ use Rattle.aic_figures.proofs.KeptLaws.{kept-on, moved-none}
 use borrow.Author.Needs.{needs}
 use Rattle.aic_figures.proofs.follow.Statement.{statement}
 use Rattle.aic_figures.proofs.follow.Tie as tie
-use Rattle.aic_figures.proofs.follow.Reads as reads
-use Rattle.aic_figures.proofs.follow.Lts as lts
-use Rattle.aic_figures.proofs.move_on.Reads as move-on-reads
-use Rattle.aic_layout.proofs.waiting.Reads as waiting-reads
 
 -- the record after a step is sound
 then-sound : (s : Aic) (x : Step) → Shaped s → sound s ≡ true → sound (step s x .aic) ≡ true
 unfolding run
 then-sound s x h ok = run-sound s (x ∷ []) h ok
 
--- src/lib.rt:186:9
-waiting-requires : tie.Need-waiting-requires
-waiting-requires c κs = search needs
-
--- src/lib.rt:187:17
-element-copy-out-if1 : tie.Need-element-copy-out-if1
-element-copy-out-if1 c = search needs
-
--- src/lib.rt:187:33
-element-copy-out-if1-2 : tie.Need-element-copy-out-if1-2
-element-copy-out-if1-2 c = search needs
-
--- src/lib.rt:188:9
 returns : tie.Need-returns
 returns c =
     let w = c .before .before .before .waiting in
@@ -66,11 +49,6 @@ returns c =
     (subst (λ (q : ℕ). Moved (startedBy s x) q u (a .book .now) (a .book .now)) asks
     (moved-none f s n x (a .book .now) k (w .result) (eqb-true (w .result) (getD (a .book .now) 0 0) (and-left y z b)) none shut (shrinks s x shut)))
 
--- src/lib.rt:190:5
-move-on-requires : tie.Need-move-on-requires
-move-on-requires c κs = search needs
-
--- src/lib.rt:183:1
 returns-2 : tie.Need-returns-2
 returns-2 c =
     let w = c .before .before .before .before .before .waiting in
@@ -86,9 +64,9 @@ pub follow-spec : {M : Type 1} → statement M
 follow-spec =
     tie.close
     (tie.spec
-    waiting-requires
-    element-copy-out-if1
-    element-copy-out-if1-2
+    (λ c κs. search needs)
+    (λ c. search needs)
+    (λ c. search needs)
     returns
-    move-on-requires
+    (λ c κs. search needs)
     returns-2)

@@ -16,11 +16,6 @@ use Rattle.aic_figures.proofs.BookLaws.{Done, done-none, done-all, done
 use borrow.Author.Needs.{needs}
 use Rattle.aic_figures.proofs.settle_all.Statement.{statement}
 use Rattle.aic_figures.proofs.settle_all.Tie as tie
-use Rattle.aic_figures.proofs.settle_all.Reads as reads
-use Rattle.aic_figures.proofs.settle_all.Lts as lts
-use Rattle.aic_figures.proofs.settle.Reads as settle-reads
-use Rattle.words.proofs.lowest.Reads as lowest-reads
-use Rattle.words.proofs.with_bit.Reads as with-bit-reads
 
 abbrev Inv-loop : tie.InvT-loop
 Inv-loop book₀ some left₀ book left =
@@ -29,23 +24,12 @@ Inv-loop book₀ some left₀ book left =
 abbrev μ-loop : tie.MeasureT-loop
 μ-loop book₀ some left₀ book left = 32 - lowestBelow 32 (bit left)
 
--- src/lib.rt:78:5
 loop-holds : tie.Need-loop-holds Inv-loop μ-loop
 loop-holds c = let f : Fits w32 (c .args .some) = search needs in (f .fits, (λ j n b. b), λ _. done-none 96 (settledAt (c .args .book .now)) (c .args .some) (c .args .book .now))
 
--- src/lib.rt:79:13
-lowest-requires : tie.Need-lowest-requires Inv-loop μ-loop
-lowest-requires c κs = search needs
-
--- src/lib.rt:80:9
 settle-requires : tie.Need-settle-requires Inv-loop μ-loop
 settle-requires c κs = lowest-in _ _ (c .before .before .before .loop .inv .0) (c .before .before .loop-test .taken) (c .before .lowest .ensures) .0
 
--- src/lib.rt:81:9
-with-bit-requires : tie.Need-with-bit-requires Inv-loop μ-loop
-with-bit-requires c κs = search needs
-
--- src/lib.rt:78:5
 loop-less : tie.Need-loop-less Inv-loop μ-loop
 loop-less c =
     let l = c .before .before .before .before .before .loop in
@@ -53,22 +37,19 @@ loop-less c =
     subst (λ (x : ℕ). 32 - lowestBelow 32 (bit x) < 32 - lowestBelow 32 (bit (l .left))) (sym (c .with-bit .ensures))
     (hop-less (l .left) (i .result) (l .inv .0) (c .before .before .before .before .loop-test .taken) (i .ensures))
 
--- src/lib.rt:78:5
 loop-again : tie.Need-loop-again Inv-loop μ-loop
 loop-again c =
     let a = c .before .before .before .before .before .before .args in
     let l = c .before .before .before .before .before .loop in
     let i = c .before .before .before .lowest in
-    let m = lowest-in (l .left) (i .result) (l .inv .0) (c .before .before .before .before .loop-test .taken) (i .ensures) in
-    (
+    let m = lowest-in (l .left) (i .result) (l .inv .0) (c .before .before .before .before .loop-test .taken) (i .ensures) in (
       subst (λ (x : ℕ). x < 2 ^ 32) (sym (c .with-bit .ensures)) (withBit-lt (l .left) (i .result) false),
       within (a .some) (l .left) _ (i .result) (c .with-bit .ensures) (l .inv .1),
       λ h. rw (c .before .settle .ensures)
-      (done-more 96 (settledAt (a .book .now)) (a .some) (l .left) _ (a .book .now) (l .book) (i .result) _ (omega (arith, h)) (m .0) (l .inv .1 (i .result) (m .0) (m .1)) (c .with-bit .ensures)
-      (settled-still (settledAt (a .book .now)) (a .some) (l .left) (a .book .now) (l .book) (i .result) (m .0) (m .1) (l .inv .2 h)) (l .inv .2 h)),
+          (done-more 96 (settledAt (a .book .now)) (a .some) (l .left) _ (a .book .now) (l .book) (i .result) _ (omega (arith, h)) (m .0) (l .inv .1 (i .result) (m .0) (m .1)) (c .with-bit .ensures)
+          (settled-still (settledAt (a .book .now)) (a .some) (l .left) (a .book .now) (l .book) (i .result) (m .0) (m .1) (l .inv .2 h)) (l .inv .2 h)),
     )
 
--- src/lib.rt:74:1
 returns : tie.Need-returns Inv-loop μ-loop
 returns c = λ h. done-all 96 _ _ _ _ _ (c .loop-test .left) (c .before .loop .inv .2 h)
 
@@ -79,9 +60,9 @@ settle-all-spec =
     Inv-loop
     μ-loop
     loop-holds
-    lowest-requires
+    (λ c κs. search needs)
     settle-requires
-    with-bit-requires
+    (λ c κs. search needs)
     loop-less
     loop-again
     returns)
