@@ -1,21 +1,18 @@
 -- The words of the inputs, from the words of the record.
-use Prim.Native.Nat.{ℕ, _+_, _-_, _*_, _<_, _≤_}
+use Prim.Native.Nat.{ℕ, _+_, _-_, _*_, _<_}
 use mathlib.Core.Path.{_≡_, sym, ap, ap₂, _∙_}
-use mathlib.Core.Bool.{Bool, false, not, _&&_, _||_}
-use mathlib.Core.List.{List}
+use mathlib.Core.Bool.{Bool, not, _&&_, _||_}
 use native.Mathlib.Omega.{arith}
 use native.Mathlib.Decide.{decLt, ℕ-discrete}
 use lib.Dec.{eqb, ltb, leb}
-use lib.ListN.{length, getD}
+use lib.ListN.{getD}
 use borrow.Author.Tests.{eq-eqb, ne-eqb, lt-ltb, le-ltb, le-leb, lt-leb}
-use Rattle.words.specs.Array.{bitAt}
 use Rattle.words.specs.Counting.{one}
-use Rattle.words.specs.Word.{bit, wordOf, either, both, without}
+use Rattle.words.specs.Word.{bit, either, both, without}
 use Rattle.words.proofs.ArrayLaws.{bitAt-word}
-use Rattle.words.proofs.WordLaws.{bit-wordOf, wordOf-lt, wordOf-same, bit-none, bit-some, bit-either}
+use Rattle.words.proofs.WordLaws.{bit-wordOf, wordOf-same, bit-either}
 use Rattle.aintc_record.specs.declared.Aintc.{Aintc}
 use Rattle.aintc_record.specs.Route.{routeOf, routed}
-use Rattle.aintc_record.proofs.TableLaws.{past-getD}
 use Rattle.aintc_choice.specs.Inputs.{raised, unmasked, pending, passes, openWord, pendingWord}
 use Rattle.aintc_choice.specs.Search.{routeWord}
 
@@ -40,20 +37,6 @@ pending-from s f n q o w r eq eo ew er =
     ∙ wordOf-same 32 (λ k. bit o k && bit w k) (λ i. unmasked s (32 * n + i) && eqb (routeOf (getD (s .routes) (32 * n + i) 0)) (one f))
     (λ k l. ap₂ _&&_ (ap (λ (x : ℕ). bit x k) eo ∙ bit-wordOf 32 (λ i. unmasked s (32 * n + i)) k l)
     (ap (λ (x : ℕ). bit x k) ew ∙ bit-wordOf 32 (λ i. eqb (routeOf (getD (s .routes) (32 * n + i) 0)) q) k l ∙ ap (eqb (routeOf (getD (s .routes) (32 * n + k) 0))) eq))
-
--- past the last word no input is raised, so none is pending
-raised-past : (s : Aintc) (n i : ℕ) → length (s .lines) ≡ 4 → length (s .soft) ≡ 4 → 4 ≤ n → i < 32 → raised s (32 * n + i) ≡ false
-unfolding raised
-raised-past s n i a b h l = ap₂ _||_ (none (s .lines) a) (none (s .soft) b)
-  where
-    none : (ws : List ℕ) → length ws ≡ 4 → bitAt ws (32 * n + i) ≡ false
-    none ws e = bitAt-word ws n i l ∙ ap (λ (w : ℕ). bit w i) (sym (past-getD ws 4 n e h)) ∙ bit-none i
-
-pub pending-past : (s : Aintc) (f : Bool) (n : ℕ) → length (s .lines) ≡ 4 → length (s .soft) ≡ 4 → 4 ≤ n → _≡_ {A = ℕ} 0 (pendingWord s f n)
-unfolding pendingWord
-pending-past s f n a b h =
-    sym (bit-some 32 (wordOf 32 (λ i. pending s f (32 * n + i))) (wordOf-lt 32 (λ i. pending s f (32 * n + i)))
-    (λ k l. bit-wordOf 32 (λ i. pending s f (32 * n + i)) k l ∙ unfold pending unmasked in (ap (λ (t : Bool). (t && not (bitAt (s .masks) (32 * n + k))) && routed s f (32 * n + k)) (raised-past s n k a b h l))))
 
 -- a priority passes the threshold exactly if it is no lower than the first limit
 pub passes-limit : (s : Aintc) (p : ℕ) → leb p (s .threshold - 1) ≡ passes s p

@@ -1,5 +1,5 @@
 -- What the outputs take and keep, and what makes a record sound.
-use Prim.Native.Nat.{ℕ, _-_, _≤_, _<_}
+use Prim.Native.Nat.{ℕ, _≤_, _<_}
 use mathlib.Core.Path.{_≡_, refl, sym, ap, ap₂, _∙_}
 use mathlib.Core.Bool.{Bool, true, false, not, _&&_, _||_}
 use mathlib.Core.Logic.{_⊎_, inl, inr, ⊎-elim}
@@ -8,7 +8,7 @@ use lib.Dec.{eqb}
 use borrow.Author.Tests.{not-true, eq-eqb, ne-eqb}
 use Rattle.words.specs.Choice.{pick}
 use Rattle.words.proofs.ChoiceLaws.{pick-true, pick-false, pick-cases}
-use Rattle.words.proofs.TruthLaws.{and-left, and-right, and-both, or-either, or-left, or-right, clash, not-holds, told}
+use Rattle.words.proofs.TruthLaws.{and-left, and-right, and-both, or-either, or-left, or-right, clash, told}
 use Rattle.words.proofs.CountingLaws.{any-some, some-any, any-fails, any-none}
 use Rattle.aintc_record.specs.declared.Aintc.{Aintc}
 use Rattle.aintc_record.specs.declared.Chosen.{Chosen}
@@ -17,14 +17,12 @@ use Rattle.aintc_record.specs.Promises.{Bounds}
 use Rattle.aintc_record.specs.Record.{side, withSides, chosenAt}
 use Rattle.aintc_record.specs.Route.{priority, routed}
 use Rattle.aintc_record.proofs.RecordLaws.{bounded-is, is-bounded, priority-fits}
-use Rattle.aintc_choice.specs.declared.Best.{Best}
 use Rattle.aintc_choice.specs.Inputs.{raised, unmasked, pending, passes, eligible}
 use Rattle.aintc_choice.specs.Order.{some, first}
 use Rattle.aintc_choice.specs.Promises.{SomeEligible, NoneEligible, First}
-use Rattle.aintc_choice.specs.Search.{searched}
 use Rattle.aintc_choice.specs.Settle.{settledSide, settle, sideQuiet, sound}
 use Rattle.aintc_choice.proofs.OrderLaws.{first-none}
-use Rattle.aintc_choice.proofs.SearchLaws.{searched-first, searched-limit, first-cases}
+use Rattle.aintc_choice.proofs.SearchLaws.{first-cases}
 
 -- ---- some input is eligible
 
@@ -60,9 +58,6 @@ module _ (s : Aintc) (f : Bool) where
       go (inl (n, e)) = absurd (omega arith)
       go (inr x) = is-some (first s f, x .within, x .fit)
 
-  pub past-none : 128 ≤ first s f → some s f ≡ false
-  past-none l = not-holds (some s f) (λ h. omega (arith, first-is h .within))
-
   -- ---- one output
 
   pub settled-held : side s f .active ≡ true → side s f ≡ settledSide s f
@@ -82,26 +77,8 @@ module _ (s : Aintc) (f : Bool) where
       go (inl e) = pick-true _ e
       go (inr e) = pick-false _ h ∙ pick-false _ e
 
-  -- as the code has it: c is the one that was, x what the search ends with
+  -- as the code has it: c is the one that is chosen
   module _ (c : Chosen) (ec : c ≡ side s f) where
-    pub held-from : c .active ≡ true → c ≡ settledSide s f
-    held-from e = ec ∙ settled-held (ap (λ (d : Chosen). d .active) (sym ec) ∙ e)
-
-    module _ (x : Best) (ex : x ≡ searched s f) where
-      number : x .number ≡ first s f
-      number = ap (λ (y : Best). y .number) ex ∙ searched-first s f
-
-      limit : x .number < 128 → x .limit ≡ priority s (first s f)
-      limit l = ap (λ (y : Best). y .limit) ex ∙ searched-limit s f (rw (ap (λ (y : Best). y .number) ex) at l)
-
-      pub first-from : c .active ≡ false → x .number < 128 → chosenAt (x .number) (x .limit) ≡ settledSide s f
-      first-from e l =
-          ap₂ chosenAt number (limit l)
-          ∙ settled-first (ap (λ (d : Chosen). d .active) (sym ec) ∙ e) (below-some (rw number at l))
-
-      pub none-from : 128 ≤ x .number → c ≡ settledSide s f
-      none-from l = ec ∙ settled-none (past-none (rw number at l))
-
     pub quiet-from : (n : ℕ) → n ≡ first s f → c .active ≡ false → eqb n 128 ≡ sideQuiet s f
     unfolding sideQuiet
     quiet-from n en e = rw (en, ap (λ (d : Chosen). d .active) (sym ec) ∙ e) (go (told (some s f)))

@@ -1,16 +1,15 @@
-// The AINTC's inputs: which are raised, pending and eligible, which one is before all others, and what an output with none chosen takes.
+// The AINTC's inputs: which one is before all others, and whether a record is sound. What is pending, and what an output takes, is defined here; the
+// code of that stands in aintc_room.
 ghost use mathlib.Core.Path.{_≡_};
-ghost use mathlib.Core.Bool.{not};
 ghost use Prim.Native.Nat.{_-_, _%_, _≤_, _<_};
 ghost use lib.Dec.{eqb};
 ghost use Rattle.words.specs.Counting.{one};
 ghost use Rattle.words.specs.Word.{bit};
-ghost use Rattle.aintc_choice.specs.Inputs.{openWord, pendingWord};
+ghost use Rattle.aintc_choice.specs.Inputs.{openWord};
 ghost use Rattle.aintc_choice.specs.Order.{first};
 ghost use Rattle.aintc_choice.specs.Search.{routeWord, turned, wordSearched, searched};
-ghost use Rattle.aintc_choice.specs.Settle.{settledSide, settle, sideQuiet, sound};
+ghost use Rattle.aintc_choice.specs.Settle.{sideQuiet, sound};
 use aintc_record::Aintc;
-use aintc_record::Chosen;
 
 // ---- inputs, as words
 
@@ -23,7 +22,7 @@ fn open_word(s: Aintc, n: u32) -> u32
 }
 
 // The bit of a route that asks for an output: 1 for FIQ, 0 for IRQ.
-pub fn side_number(fast: bool) -> u8
+fn side_number(fast: bool) -> u8
     ensures { λ r. ⌜ r ≡ one fast ⌝ }
 {
     if fast {
@@ -54,17 +53,6 @@ pub fn route_word(routes: &[u8; 128], base: u32, side: u8) -> u32
     w
 }
 
-// Word n of the inputs that are pending for FIQ, where `fast`, or for IRQ: the threshold plays no part. Past the last word none is.
-pub fn pending_word(s: Aintc, fast: bool, n: u32) -> u32
-    ensures { λ r. ⌜ r ≡ pendingWord s fast n ⌝ }
-{
-    if 4 <= n {
-        return 0;
-    }
-    let side = side_number(fast);
-    words::meet(open_word(s, n), route_word(&s.routes, 32 * n, side))
-}
-
 // ---- the one before all others
 
 // What a search has come to: the best input so far, 128 if there is none, and the lowest priority that may take its place.
@@ -89,7 +77,7 @@ fn turn(x: Best, waits: bool, k: u32, route: u8, side: u8) -> Best
 }
 
 // The search through the 32 inputs from `base` on, of which the word w waits: from one that waits to the next.
-pub fn search_word(w: u32, base: u32, routes: &[u8; 128], side: u8, x: Best) -> Best
+fn search_word(w: u32, base: u32, routes: &[u8; 128], side: u8, x: Best) -> Best
     requires { ⌜ base ≤ 96 ⌝ }
     ensures { λ r. ⌜ r ≡ wordSearched w base (now (routes .entry)) side x ⌝ }
 {
@@ -106,7 +94,7 @@ pub fn search_word(w: u32, base: u32, routes: &[u8; 128], side: u8, x: Best) -> 
 }
 
 // The lowest priority that the threshold lets pass: 0 always does.
-pub fn limit_of(threshold: u8) -> u8
+fn limit_of(threshold: u8) -> u8
     ensures { λ r. ⌜ r ≡ threshold - 1 ⌝ }
 {
     if threshold == 0 {
@@ -136,35 +124,6 @@ pub fn first_of(s: Aintc, fast: bool) -> u32
 {
     let best = search(s, fast);
     best.number
-}
-
-// ---- the two outputs
-
-// The one chosen for an output after a step: the one that was, or the first eligible one where none was.
-fn settled_side(s: Aintc, fast: bool) -> Chosen
-    ensures { λ r. ⌜ r ≡ settledSide s fast ⌝ }
-{
-    let held = aintc_record::side_of(s, fast);
-    if held.active {
-        return held;
-    }
-    let best = search(s, fast);
-    if best.number < 128 {
-        let number = best.number as u8;
-        return Chosen {
-            active: true,
-            number: number,
-            priority: best.limit,
-        };
-    }
-    held
-}
-
-// The record after a step: each output with none chosen takes its first.
-pub fn settle(s: Aintc) -> Aintc
-    ensures { λ r. ⌜ r ≡ settle s ⌝ }
-{
-    aintc_record::with_sides(s, settled_side(s, false), settled_side(s, true))
 }
 
 // ---- the rules of a sound record

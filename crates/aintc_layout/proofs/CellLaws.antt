@@ -26,7 +26,7 @@ sized a s = (refl, (s .0, (s .1, (s .2, (refl, (refl, (length-replicate {A = ℕ
 
 module _ {a : Aintc} {room : List ℕ} (h : Laid a room) where
   -- a single word
-  cell-is : (i : ℕ) → getD room i 0 ≡ getD (flat (parts a)) i 0
+  pub cell-is : (i : ℕ) → getD room i 0 ≡ getD (flat (parts a)) i 0
   unfolding laid
   cell-is i = ap (λ (l : List ℕ). getD l i 0) (h .words)
 

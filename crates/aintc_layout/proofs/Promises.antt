@@ -4,7 +4,7 @@ use mathlib.Core.List.{List}
 use Prim.Native.Nat.{ℕ, _+_, _*_, _/_, _%_, _<_}
 use native.Mathlib.Omega.{arith}
 use lib.Dec.{eqb}
-use lib.ListN.{length, getD}
+use lib.ListN.{length, getD, getD-replicate}
 use Rattle.words.specs.Word.{bit}
 use Rattle.words.proofs.WordLaws.{bit-wordOf}
 use Rattle.aintc_record.specs.declared.Aintc.{Aintc}
@@ -12,7 +12,7 @@ use Rattle.aintc_record.specs.Route.{routeAt, routeOf, priorityOf, priority}
 use Rattle.aintc_choice.specs.Search.{routeWord}
 use Rattle.aintc_layout.specs.Room.{priorityWord, laid, Laid}
 use Rattle.aintc_layout.specs.Promises.{Promises}
-use Rattle.aintc_layout.proofs.CellLaws.{kind-is, fiqs-is, bits-is}
+use Rattle.aintc_layout.proofs.CellLaws.{cell-is, kind-is, part-is, fiqs-is, bits-is}
 use Rattle.aintc_layout.proofs.RecordLaws.{room-length, rest-is, one-record}
 
 module _ (a : Aintc) (r : List ℕ) (h : Laid a r) where
@@ -37,5 +37,7 @@ kept =
       size = λ a r h. (room-length h, kind-is h);
       fiqs = λ a r n i h. fiq-bit a r h n i;
       bits = λ a r b n i h. priority-bit a r h b n i;
+      spare = λ a r h. (cell-is h 7, cell-is h 11, cell-is h 15);
+      before = λ a r i h l. part-is h 6 i l ∙ getD-replicate 68 i 0 0 l;
       rest = λ a r i h l. rest-is h i l;
     }

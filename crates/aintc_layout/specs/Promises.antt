@@ -23,5 +23,8 @@ pub record Promises : Type 0 where
   pub fiqs : (a : Aintc) (r : List ℕ) (n i : ℕ) → Laid a r → n < 4 → i < 32 → bit (getD r (28 + n) 0) i ≡ eqb (routeOf (routeAt a (32 * n + i))) 1
   -- bit i of word 32 + 4 b + n is bit b of the priority of input 32 n + i (000, 4.3.1.2.2)
   pub bits : (a : Aintc) (r : List ℕ) (b n i : ℕ) → Laid a r → b < 7 → n < 4 → i < 32 → bit (getD r (32 + (4 * b + n)) 0) i ≡ bit (priority a (32 * n + i)) b
+  -- words 7, 11 and 15, which no number needs, are 0, and so are the 68 before the routes
+  pub spare : (a : Aintc) (r : List ℕ) → Laid a r → (getD r 7 0 ≡ 0) × (getD r 11 0 ≡ 0) × (getD r 15 0 ≡ 0)
+  pub before : (a : Aintc) (r : List ℕ) (i : ℕ) → Laid a r → i < 68 → getD r (60 + i) 0 ≡ 0
   -- what no number needs is 0
   pub rest : (a : Aintc) (r : List ℕ) (i : ℕ) → Laid a r → i < 1792 → getD r (256 + i) 0 ≡ 0

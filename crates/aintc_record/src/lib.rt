@@ -1,8 +1,7 @@
 // The AINTC's record: its registers, its line levels and the two chosen inputs (000, chapter 4).
 ghost use mathlib.Core.Path.{_≡_};
-ghost use lib.ListN.{getD, set};
-ghost use Rattle.aintc_record.specs.Route.{priorityOf, routeValue, routeByte, routeAt};
-ghost use Rattle.aintc_record.specs.Record.{withLines, withSoft, withMasks, withRoutes, withThreshold, withRevision, withGuarded, withAutoidle, withIdle, withSides};
+ghost use lib.ListN.{getD};
+ghost use Rattle.aintc_record.specs.Route.{priorityOf};
 ghost use Rattle.aintc_record.specs.Record.{nobody, side, reset, blank};
 ghost use Rattle.aintc_record.specs.Bounds.{chosenBounded, bounded};
 
@@ -31,7 +30,7 @@ pub struct Aintc {
 }
 
 // None is chosen.
-pub fn nobody() -> Chosen
+fn nobody() -> Chosen
     ensures { λ r. ⌜ r ≡ nobody ⌝ }
 {
     Chosen {
@@ -83,108 +82,6 @@ pub fn blank() -> Aintc
     }
 }
 
-// ---- the record with one part put anew
-
-// Word n of the lines put anew. Past the last word nothing changes; so below.
-pub fn put_lines(s: Aintc, n: u32, w: u32) -> Aintc
-    ensures { λ r. ⌜ r ≡ withLines s (set (s .lines) n w) ⌝ }
-{
-    if 4 <= n {
-        return s;
-    }
-    let at = n as usize;
-    let mut t = s;
-    t.lines[at] = w;
-    t
-}
-
-pub fn put_soft(s: Aintc, n: u32, w: u32) -> Aintc
-    ensures { λ r. ⌜ r ≡ withSoft s (set (s .soft) n w) ⌝ }
-{
-    if 4 <= n {
-        return s;
-    }
-    let at = n as usize;
-    let mut t = s;
-    t.soft[at] = w;
-    t
-}
-
-pub fn put_masks(s: Aintc, n: u32, w: u32) -> Aintc
-    ensures { λ r. ⌜ r ≡ withMasks s (set (s .masks) n w) ⌝ }
-{
-    if 4 <= n {
-        return s;
-    }
-    let at = n as usize;
-    let mut t = s;
-    t.masks[at] = w;
-    t
-}
-
-pub fn put_route(s: Aintc, k: u32, b: u8) -> Aintc
-    ensures { λ r. ⌜ r ≡ withRoutes s (set (s .routes) k b) ⌝ }
-{
-    if 128 <= k {
-        return s;
-    }
-    let at = k as usize;
-    let mut t = s;
-    t.routes[at] = b;
-    t
-}
-
-pub fn with_threshold(s: Aintc, v: u8) -> Aintc
-    ensures { λ r. ⌜ r ≡ withThreshold s v ⌝ }
-{
-    let mut t = s;
-    t.threshold = v;
-    t
-}
-
-pub fn with_revision(s: Aintc, v: u8) -> Aintc
-    ensures { λ r. ⌜ r ≡ withRevision s v ⌝ }
-{
-    let mut t = s;
-    t.revision = v;
-    t
-}
-
-pub fn with_guarded(s: Aintc, on: bool) -> Aintc
-    ensures { λ r. ⌜ r ≡ withGuarded s on ⌝ }
-{
-    let mut t = s;
-    t.guarded = on;
-    t
-}
-
-pub fn with_autoidle(s: Aintc, on: bool) -> Aintc
-    ensures { λ r. ⌜ r ≡ withAutoidle s on ⌝ }
-{
-    let mut t = s;
-    t.autoidle = on;
-    t
-}
-
-pub fn with_idle(s: Aintc, turbo: bool, funcidle: bool) -> Aintc
-    ensures { λ r. ⌜ r ≡ withIdle s turbo funcidle ⌝ }
-{
-    let mut t = s;
-    t.turbo = turbo;
-    t.funcidle = funcidle;
-    t
-}
-
-// The chosen ones of the IRQ output and of the FIQ output put anew.
-pub fn with_sides(s: Aintc, irq: Chosen, fiq: Chosen) -> Aintc
-    ensures { λ r. ⌜ r ≡ withSides s irq fiq ⌝ }
-{
-    let mut t = s;
-    t.irq = irq;
-    t.fiq = fiq;
-    t
-}
-
 // ---- what stands in an array, 0 past its end
 
 pub fn line_word(s: Aintc, n: u32) -> u32
@@ -217,16 +114,6 @@ pub fn mask_word(s: Aintc, n: u32) -> u32
     s.masks[at]
 }
 
-pub fn route_at(s: Aintc, k: u32) -> u8
-    ensures { λ r. ⌜ r ≡ routeAt s k ⌝ }
-{
-    if 128 <= k {
-        return 0;
-    }
-    let at = k as usize;
-    s.routes[at]
-}
-
 // The chosen one of the FIQ output, where `fast`, or of the IRQ output.
 pub fn side_of(s: Aintc, fast: bool) -> Chosen
     ensures { λ r. ⌜ r ≡ side s fast ⌝ }
@@ -237,28 +124,13 @@ pub fn side_of(s: Aintc, fast: bool) -> Chosen
     s.irq
 }
 
-// ---- the fields of a route
+// ---- a route
 
 // The priority of an input whose route is the byte b: 0 is the highest.
 pub fn priority_of(b: u8) -> u8
     ensures { λ r. ⌜ r ≡ priorityOf b ⌝ }
 {
     b / 2
-}
-
-// What its register reads: the priority in bits 8:2, the output in bit 0.
-pub fn route_value(b: u8) -> u32
-    ensures { λ r. ⌜ r ≡ routeValue b ⌝ }
-{
-    let wide = b as u32;
-    wide / 2 * 4 + wide % 2
-}
-
-// The byte of a value that is written to its register.
-pub fn route_byte(v: u32) -> u8
-    ensures { λ r. ⌜ r ≡ routeByte v ⌝ }
-{
-    (v / 4 % 128 * 2 + v % 2) as u8
 }
 
 // ---- the bounds of the two chosen ones

@@ -1,10 +1,9 @@
-// The AINTC's registers: what each allows, what a read of it answers, and what a write of it or a line step does.
+// The AINTC's registers: what each allows. What a read of one answers and what a write of it does is defined here; the code of that stands in
+// aintc_room.
 ghost use mathlib.Core.Path.{_≡_};
-ghost use Rattle.aintc_registers.specs.Registers.{answered, refused};
+ghost use Rattle.aintc_registers.specs.Registers.{refused};
 
 pub mod map;
-pub mod reads;
-pub mod writes;
 
 use aintc_record::Aintc;
 
@@ -13,17 +12,6 @@ pub struct Answer {
     pub refusal: u32,
     pub value: u32,
     pub aintc: Aintc,
-}
-
-// The answer of a step that is carried out.
-pub fn answer_of(s: Aintc, v: u32) -> Answer
-    ensures { λ r. ⌜ r ≡ answered s v ⌝ }
-{
-    Answer {
-        refusal: steps::CARRIED_OUT,
-        value: v,
-        aintc: s,
-    }
 }
 
 // The answer of a step that is refused by number n.

@@ -8,17 +8,19 @@ use native.Mathlib.Decide.{decLt, ℕ-discrete}
 use native.Mathlib.Nat.{le-div-iff-mul-le, div-lt-iff-lt-mul, pow-suc}
 use native.Mathlib.Omega.{arith}
 use borrow.Author.Tests.{eq-eqb, ne-eqb, eqb-true}
+use lib.Bits.{bitAnd}
 use lib.Count.{leadingZeros, leading-top}
 use lib.Dec.{eqb}
 use lib.ListN.{getD}
 use lib.Pow.{pow-pos, shr-shr}
 use Rattle.words.specs.Array.{bitAt}
 use Rattle.words.specs.Choice.{pick}
-use Rattle.words.specs.Counting.{one}
+use Rattle.words.specs.Counting.{one, anyBelow}
 use Rattle.words.specs.Word.{bit, wordOf, either, both, without}
 use Rattle.words.proofs.ChoiceLaws.{pick-true, pick-false}
+use Rattle.words.proofs.CountingLaws.{any-some, some-any, any-fails, any-none}
 use Rattle.words.proofs.TruthLaws.{and-left, and-right, and-both, or-left, or-right, or-neither, clash, told}
-use Rattle.words.proofs.WordLaws.{bit-wordOf, wordOf-same, bit-without, bit-either, bit-past, bit-none, either-lt, some-bit}
+use Rattle.words.proofs.WordLaws.{bit-mod, bit-wordOf, wordOf-same, bit-and, bit-not, bit-either, bit-past, bit-none, either-lt, some-bit}
 use Rattle.aintc_record.specs.declared.Aintc.{Aintc}
 use Rattle.aintc_record.specs.Route.{routeOf, priorityOf, priority, routed}
 use Rattle.aintc_record.proofs.RecordLaws.{priority-fits}
@@ -30,7 +32,7 @@ use Rattle.aintc_choice.proofs.Promises as choice-promises
 use Rattle.aintc_layout.specs.Room.{priorityWord, Laid}
 use Rattle.aintc_layout.proofs.CellLaws.{lines-is, soft-is, masks-is, fiqs-is, bits-is}
 use Rattle.aintc_layout.proofs.Promises.{priority-bit}
-use Rattle.aintc_room.specs.First.{held, SomeOf, FirstOf, HighestOf}
+use Rattle.aintc_room.specs.First.{held, halves, SomeOf, FirstOf, HighestOf}
 
 -- ---- the words of what is pending
 
@@ -121,12 +123,102 @@ module _ (w x y z : ℕ) where
       which i l t (inr p) (inr q) (inr r) =
           at 3 i (omega arith) l (sym (ap₂ (λ (u v : Bool). u || v) (ap₂ _||_ p q) (ap (λ (u : Bool). u || bit z i) r)) ∙ t)
 
+-- ---- two halves
+
+-- half n of two
+abbrev half-at : ℕ → ℕ → ℕ → ℕ
+half-at x y n = getD (x ∷ y ∷ []) n 0
+
+bit-up : (r n j : ℕ) → bit r (n + j) ≡ bit (r / 2 ^ n) j
+unfolding bit
+bit-up r n j = ap (λ (w : ℕ). eqb (w % 2) 1) (sym (shr-shr r n j))
+
+-- two words as one number
+pub pair-bit : (a b r : ℕ) → a < 4294967296 → r ≡ 4294967296 * b + a → (i : ℕ) → i < 64 → bit r i ≡ bitAt (a ∷ b ∷ []) i
+unfolding bitAt
+pair-bit a b r l e i m = go (decLt i 32)
+  where
+    low : r % 4294967296 ≡ a
+    low = omega (arith, l, e)
+
+    high : r / 4294967296 ≡ b
+    high = omega (arith, l, e)
+
+    go : Dec (i < 32) → bit r i ≡ bit (half-at a b (i / 32)) (i % 32)
+    go (yes u) =
+        let q : i / 32 ≡ 0 = omega (arith, u) in
+        let s : i % 32 ≡ i = omega (arith, u) in
+        sym (bit-mod r 32 i u) ∙ ap (λ (w : ℕ). bit w i) low ∙ sym (ap₂ (λ (n j : ℕ). bit (half-at a b n) j) q s)
+    go (no u) =
+        let q : i / 32 ≡ 1 = omega (arith, u, m) in
+        let s : i ≡ 32 + i % 32 = omega (arith, u, m) in
+        ap (bit r) s ∙ bit-up r 32 (i % 32) ∙ ap (λ (w : ℕ). bit w (i % 32)) high ∙ sym (ap (λ (n : ℕ). bit (half-at a b n) (i % 32)) q)
+
+-- four words as two halves
+pub halves-held : (a b c d x y : ℕ) → ((i : ℕ) → i < 64 → bit x i ≡ bitAt (a ∷ b ∷ []) i) → ((i : ℕ) → i < 64 → bit y i ≡ bitAt (c ∷ d ∷ []) i)
+    → (k : ℕ) → k < 128 → halves x y k ≡ held a b c d k
+unfolding bitAt
+halves-held a b c d x y ex ey k l = go (decLt k 64)
+  where
+    below : (n : ℕ) → n < 2 → half-at a b n ≡ nth a b c d n
+    below zero m = refl
+    below (suc zero) m = refl
+    below (suc (suc n)) m = absurd (omega (arith, m))
+
+    above-two : (n : ℕ) → n < 2 → half-at c d n ≡ nth a b c d (2 + n)
+    above-two zero m = refl
+    above-two (suc zero) m = refl
+    above-two (suc (suc n)) m = absurd (omega (arith, m))
+
+    go : Dec (k < 64) → halves x y k ≡ bit (nth a b c d (k / 32)) (k % 32)
+    go (yes u) =
+        let q : k / 64 ≡ 0 = omega (arith, u) in
+        let n : k % 64 / 32 ≡ k / 32 = omega (arith, u) in
+        let r : k % 64 % 32 ≡ k % 32 = omega arith in
+        ap (λ (v : ℕ). bit (half-at x y v) (k % 64)) q ∙ ex (k % 64) (omega arith) ∙ ap (λ (w : ℕ). bit w (k % 64 % 32)) (below (k % 64 / 32) (omega arith))
+        ∙ ap₂ (λ (v j : ℕ). bit (nth a b c d v) j) n r
+    go (no u) =
+        let q : k / 64 ≡ 1 = omega (arith, u, l) in
+        let n : 2 + k % 64 / 32 ≡ k / 32 = omega (arith, u, l) in
+        let r : k % 64 % 32 ≡ k % 32 = omega arith in
+        ap (λ (v : ℕ). bit (half-at x y v) (k % 64)) q ∙ ey (k % 64) (omega arith) ∙ ap (λ (w : ℕ). bit w (k % 64 % 32)) (above-two (k % 64 / 32) (omega arith))
+        ∙ ap₂ (λ (v j : ℕ). bit (nth a b c d v) j) n r
+
+pub dropped : (a b : ℕ) → a < 2 ^ 64 → b < 2 ^ 64 → (i : ℕ) → i < 64 → bit (bitAnd a (2 ^ 64 - 1 - b)) i ≡ (bit a i && not (bit b i))
+dropped a b la lb i l = bit-and a (2 ^ 64 - 1 - b) i ∙ ap (λ (t : Bool). bit a i && t) (bit-not 64 b i lb l)
+
+-- none is held where both are 0, and one where one is not
+none-halves : (x y : ℕ) → x ≡ 0 → y ≡ 0 → (k : ℕ) → k < 128 → halves x y k ≡ false
+none-halves x y ex ey k l = at (k / 64) (omega (arith, l))
+  where
+    at : (n : ℕ) → n < 2 → bit (half-at x y n) (k % 64) ≡ false
+    at zero m = ap (λ (w : ℕ). bit w (k % 64)) ex ∙ bit-none (k % 64)
+    at (suc zero) m = ap (λ (w : ℕ). bit w (k % 64)) ey ∙ bit-none (k % 64)
+    at (suc (suc n)) m = absurd (omega (arith, m))
+
+in-half : (x y n i : ℕ) → n < 2 → i < 64 → bit (half-at x y n) i ≡ true → SomeOf (halves x y)
+in-half x y n i m l t =
+    let q : (64 * n + i) / 64 ≡ n = omega (arith, l) in
+    let r : (64 * n + i) % 64 ≡ i = omega (arith, l) in
+    (64 * n + i, omega (arith, m, l), ap₂ (λ (u v : ℕ). bit (half-at x y u) v) q r ∙ t)
+
+pub any-halves : (x y : ℕ) → x < 2 ^ 64 → y < 2 ^ 64 → (not (eqb x 0) || not (eqb y 0)) ≡ anyBelow 128 (halves x y)
+any-halves x y lx ly = go (ℕ-discrete x 0) (ℕ-discrete y 0)
+  where
+    found : SomeOf (halves x y) → anyBelow 128 (halves x y) ≡ true
+    found (k, l, e) = some-any 128 (halves x y) k l e
+
+    go : Dec (x ≡ 0) → Dec (y ≡ 0) → (not (eqb x 0) || not (eqb y 0)) ≡ anyBelow 128 (halves x y)
+    go (yes p) (yes q) = ap₂ (λ (s t : Bool). not s || not t) (eq-eqb x 0 p) (eq-eqb y 0 q) ∙ sym (any-none 128 (halves x y) (none-halves x y p q))
+    go (no p) _ = or-left _ (ap not (ne-eqb x 0 p)) ∙ sym (found (let b = some-bit 64 x lx p in in-half x y 0 (b .0) (omega arith) (b .1) (b .2)))
+    go (yes p) (no q) = or-right (not (eqb x 0)) (ap not (ne-eqb y 0 q)) ∙ sym (found (let b = some-bit 64 y ly q in in-half x y 1 (b .0) (omega arith) (b .1) (b .2)))
+
 -- ---- the highest
 
-pub highest-bit : (w r : ℕ) → w < 2 ^ 32 → w ≢ 0 → r ≡ 31 - leadingZeros 32 w → HighestOf (bit w) 32 r
+pub highest-bit : (w r : ℕ) → w < 2 ^ 64 → w ≢ 0 → r ≡ 63 - leadingZeros 64 w → HighestOf (bit w) 64 r
 unfolding bit
 highest-bit w r l d e =
-    let t = leading-top 32 w (omega (arith, d)) l in
+    let t = leading-top 64 w (omega (arith, d)) l in
     let j = t .0 in
     let q : r ≡ j = omega (arith, e, t .1) in
     let m : 1 ≤ w / 2 ^ j = le-div-iff-mul-le (pow-pos j) .1 (omega (arith, t .2)) in
@@ -138,31 +230,25 @@ highest-bit w r l d e =
       above = λ i u v. bit-past (suc j) w i (t .3) (omega (arith, q, v));
     }
 
--- of four words, the higher being 0
-pub highest-in : (w x y z n r k : ℕ) → n < 4 → HighestOf (bit (nth w x y z n)) 32 r → ((m : ℕ) → n < m → m < 4 → nth w x y z m ≡ 0) → k ≡ 32 * n + r → HighestOf (held w x y z) 128 k
-unfolding bitAt
-highest-in w x y z n r k l h o e =
-    let q : k / 32 ≡ n = omega (arith, e, h .within) in
-    let s : k % 32 ≡ r = omega (arith, e, h .within) in
+-- of two halves, a higher one being 0
+pub highest-in : (x y n r k : ℕ) → n < 2 → HighestOf (bit (half-at x y n)) 64 r → (n < 1 → y ≡ 0) → k ≡ 64 * n + r → HighestOf (halves x y) 128 k
+highest-in x y n r k l h o e =
+    let q : k / 64 ≡ n = omega (arith, e, h .within) in
+    let s : k % 64 ≡ r = omega (arith, e, h .within) in
     record {
       within = omega (arith, e, h .within, l);
-      fit = ap₂ (λ (u v : ℕ). bit (nth w x y z u) v) q s ∙ h .fit;
-      above = λ j m u. go j m u (ℕ-discrete (j / 32) n);
+      fit = ap₂ (λ (u v : ℕ). bit (half-at x y u) v) q s ∙ h .fit;
+      above = λ j m u. go j m u (ℕ-discrete (j / 64) n);
     }
   where
-    go : (j : ℕ) → j < 128 → k < j → Dec (j / 32 ≡ n) → held w x y z j ≡ false
-    go j m u (yes p) = ap (λ (v : ℕ). bit (nth w x y z v) (j % 32)) p ∙ h .above (j % 32) (omega arith) (omega (arith, e, u, p, h .within))
-    go j m u (no p) = ap (λ (v : ℕ). bit v (j % 32)) (o (j / 32) (omega (arith, e, u, p, h .within)) (omega (arith, m))) ∙ bit-none (j % 32)
+    go : (j : ℕ) → j < 128 → k < j → Dec (j / 64 ≡ n) → halves x y j ≡ false
+    go j m u (yes p) = ap (λ (v : ℕ). bit (half-at x y v) (j % 64)) p ∙ h .above (j % 64) (omega arith) (omega (arith, e, u, p, h .within))
+    go j m u (no p) =
+        let q : j / 64 ≡ 1 = omega (arith, e, u, m, p, h .within) in
+        ap (λ (v : ℕ). bit (half-at x y v) (j % 64)) q ∙ ap (λ (v : ℕ). bit v (j % 64)) (o (omega (arith, e, u, m, p, l, h .within))) ∙ bit-none (j % 64)
 
-pub above : (w x y z n : ℕ) → (n < 1 → x ≡ 0) → (n < 2 → y ≡ 0) → (n < 3 → z ≡ 0) → (m : ℕ) → n < m → m < 4 → nth w x y z m ≡ 0
-above w x y z n ex ey ez zero l u = absurd (omega (arith, l))
-above w x y z n ex ey ez (suc zero) l u = ex l
-above w x y z n ex ey ez (suc (suc zero)) l u = ey l
-above w x y z n ex ey ez (suc (suc (suc zero))) l u = ez l
-above w x y z n ex ey ez (suc (suc (suc (suc m)))) l u = absurd (omega (arith, u))
-
-pub none-of : {A : Type 0} (w x y z : ℕ) → w ≡ 0 → x ≡ 0 → y ≡ 0 → z ≡ 0 → SomeOf (held w x y z) → A
-none-of w x y z ew ex ey ez (k, l, e) = clash e (held-is w x y z (λ _. 0) ew ex ey ez k l ∙ bit-none (k % 32))
+pub none-of : {A : Type 0} (x y : ℕ) → x ≡ 0 → y ≡ 0 → SomeOf (halves x y) → A
+none-of x y ex ey (k, l, e) = clash e (none-halves x y ex ey k l)
 
 -- ---- those of the lowest priority, by the bits from k on
 
@@ -175,13 +261,13 @@ pub record Least (s : Aintc) (p q : ℕ → Bool) (k : ℕ) : Type 0 where
   pub whole : (i j : ℕ) → i < 128 → j < 128 → q i ≡ true → p j ≡ true → priority s j / 2 ^ k ≤ priority s i / 2 ^ k → q j ≡ true
 
 -- at first all
-pub least-all : (s : Aintc) (p : ℕ → Bool) → SomeOf p → Least s p p 7
-least-all s p o =
+pub least-all : (s : Aintc) (p q : ℕ → Bool) → ((i : ℕ) → i < 128 → q i ≡ p i) → SomeOf p → Least s p q 7
+least-all s p q e (k, l, o) =
     record {
-      some = o;
-      among = λ i l e. e;
-      lowest = λ i j l m e f. omega (arith, priority-fits s i, priority-fits s j);
-      whole = λ i j l m e f g. f;
+      some = (k, l, e k l ∙ o);
+      among = λ i m f. sym (e i m) ∙ f;
+      lowest = λ i j m n f g. omega (arith, priority-fits s i, priority-fits s j);
+      whole = λ i j m n f g u. e j n ∙ g;
     }
 
 module _ (s : Aintc) (p q t : ℕ → Bool) (k : ℕ) (h : Least s p q (suc k)) (e : (i : ℕ) → i < 128 → t i ≡ (q i && not (bit (priority s i) k))) where
@@ -268,38 +354,39 @@ first-least s p q k h t =
 
 -- ---- a turn of the search
 
-module _ {s : Aintc} {room : List ℕ} (h : Laid s room) (k : ℕ) (l : k < 7) (a b c d x y z t : ℕ)
-    (ex : x ≡ without a (getD room (32 + (4 * k + 0)) 0)) (ey : y ≡ without b (getD room (32 + (4 * k + 1)) 0))
-    (ez : z ≡ without c (getD room (32 + (4 * k + 2)) 0)) (et : t ≡ without d (getD room (32 + (4 * k + 3)) 0)) where
+module _ {s : Aintc} {room : List ℕ} (h : Laid s room) (k : ℕ) (l : k < 7) (low high u v x y : ℕ)
+    (eu : (i : ℕ) → i < 64 → bit u i ≡ bitAt (getD room (32 + (4 * k + 0)) 0 ∷ getD room (32 + (4 * k + 1)) 0 ∷ []) i)
+    (ev : (i : ℕ) → i < 64 → bit v i ≡ bitAt (getD room (32 + (4 * k + 2)) 0 ∷ getD room (32 + (4 * k + 3)) 0 ∷ []) i)
+    (ex : (i : ℕ) → i < 64 → bit x i ≡ (bit low i && not (bit u i))) (ey : (i : ℕ) → i < 64 → bit y i ≡ (bit high i && not (bit v i))) where
+  by-half : (n : ℕ) → n < 2 → (j : ℕ) → j < 64 → bit (half-at x y n) j ≡ (bit (half-at low high n) j && not (bit (half-at u v n) j))
+  by-half zero m j r = ex j r
+  by-half (suc zero) m j r = ey j r
+  by-half (suc (suc n)) m j r = absurd (omega (arith, m))
+
   -- those of which bit k of the priority is 0
-  narrowed : (i : ℕ) → i < 128 → held x y z t i ≡ (held a b c d i && not (bit (priority s i) k))
-  unfolding bitAt
+  narrowed : (i : ℕ) → i < 128 → halves x y i ≡ (halves low high i && not (bit (priority s i) k))
   narrowed i m =
-      let u : 32 * (i / 32) + i % 32 ≡ i = omega arith in
-      held-is x y z t (λ n. without (nth a b c d n) (getD room (32 + (4 * k + n)) 0)) ex ey ez et i m
-      ∙ bit-without (nth a b c d (i / 32)) (getD room (32 + (4 * k + i / 32)) 0) (i % 32) (omega arith)
-      ∙ ap (λ (v : Bool). bit (nth a b c d (i / 32)) (i % 32) && not v) (priority-bit s room h k (i / 32) (i % 32) l (omega (arith, m)) (omega arith) ∙ ap (λ (n : ℕ). bit (priority s n) k) u)
+      let e : 32 * (i / 32) + i % 32 ≡ i = omega arith in
+      by-half (i / 64) (omega (arith, m)) (i % 64) (omega arith)
+      ∙ ap (λ (t : Bool). halves low high i && not t)
+      (halves-held _ _ _ _ u v eu ev i m ∙ held-is _ _ _ _ (λ n. getD room (32 + (4 * k + n)) 0) refl refl refl refl i m
+      ∙ priority-bit s room h k (i / 32) (i % 32) l (omega (arith, m)) (omega arith) ∙ ap (λ (n : ℕ). bit (priority s n) k) e)
 
-  module _ (p : ℕ → Bool) (g : Least s p (held a b c d) (suc k)) (v : ℕ) (ev : v ≡ either (either x y) (either z t)) (a′ b′ c′ d′ : ℕ) (w : Bool) (ew : w ≡ not (eqb v 0))
-      (ea : a′ ≡ pick w x a) (eb : b′ ≡ pick w y b) (ec : c′ ≡ pick w z c) (ed : d′ ≡ pick w t d) where
-    abbrev Now : (ℕ → Bool) → Type 0
-    Now q = Least s p q k
+  module _ (p : ℕ → Bool) (g : Least s p (halves low high) (suc k)) (w : Bool) (ew : w ≡ anyBelow 128 (halves x y)) (low′ high′ : ℕ)
+      (el : low′ ≡ pick w x low) (eh : high′ ≡ pick w y high) where
+    abbrev Now : ℕ → ℕ → Type 0
+    Now a b = Least s p (halves a b) k
 
-    same : (a₁ b₁ c₁ d₁ : ℕ) → a′ ≡ a₁ → b′ ≡ b₁ → c′ ≡ c₁ → d′ ≡ d₁ → Now (held a₁ b₁ c₁ d₁) → Now (held a′ b′ c′ d′)
-    same a₁ b₁ c₁ d₁ e₁ e₂ e₃ e₄ n = subst (λ (o : List ℕ). Now (bitAt o)) (sym (four e₁ e₂ e₃ e₄)) n
+    same : (a b : ℕ) → low′ ≡ a → high′ ≡ b → Now a b → Now low′ high′
+    same a b e f n = subst (λ (z : ℕ). Now z high′) (sym e) (subst (λ (z : ℕ). Now a z) (sym f) n)
+
+    pub turned : Now low′ high′
+    turned = go (told w)
       where
-        four : a′ ≡ a₁ → b′ ≡ b₁ → c′ ≡ c₁ → d′ ≡ d₁ → _≡_ {A = List ℕ} (a′ ∷ b′ ∷ c′ ∷ d′ ∷ []) (a₁ ∷ b₁ ∷ c₁ ∷ d₁ ∷ [])
-        four f₁ f₂ f₃ f₄ = rw (f₁, f₂, f₃, f₄)
-
-    pub turned : Now (held a′ b′ c′ d′)
-    turned = go (ℕ-discrete v 0)
-      where
-        go : Dec (v ≡ 0) → Now (held a′ b′ c′ d′)
-        go (yes o) =
-            let n : w ≡ false = ew ∙ ap not (eq-eqb v 0 o) in
-            same a b c d (ea ∙ sym (pick-false x n)) (eb ∙ sym (pick-false y n)) (ec ∙ sym (pick-false z n)) (ed ∙ sym (pick-false t n))
-            (least-none s p (held a b c d) (held x y z t) k g narrowed (none-held x y z t v ev o))
-        go (no o) =
-            let n : w ≡ true = ew ∙ ap not (ne-eqb v 0 o) in
-            same x y z t (ea ∙ sym (pick-true a n)) (eb ∙ sym (pick-true b n)) (ec ∙ sym (pick-true c n)) (ed ∙ sym (pick-true d n))
-            (least-some s p (held a b c d) (held x y z t) k g narrowed (some-held x y z t v ev o))
+        go : (w ≡ true) ⊎ (w ≡ false) → Now low′ high′
+        go (inl t) =
+            same x y (el ∙ sym (pick-true low t)) (eh ∙ sym (pick-true high t))
+            (least-some s p (halves low high) (halves x y) k g narrowed (any-some 128 (halves x y) (sym ew ∙ t)))
+        go (inr t) =
+            same low high (el ∙ sym (pick-false x t)) (eh ∙ sym (pick-false y t))
+            (least-none s p (halves low high) (halves x y) k g narrowed (any-fails 128 (halves x y) (sym ew ∙ t)))

@@ -1,10 +1,12 @@
 -- The first of some inputs, and when one input alone may be chosen.
-use Prim.Native.Nat.{ℕ, _<_}
+use Prim.Native.Nat.{ℕ, _/_, _%_, _<_}
 use mathlib.Core.Path.{_≡_}
 use mathlib.Core.Bool.{Bool, true, false}
 use mathlib.Core.List.{List, [], _∷_}
 use mathlib.Core.Logic.{_≢_}
+use lib.ListN.{getD}
 use Rattle.words.specs.Array.{bitAt}
+use Rattle.words.specs.Word.{bit}
 use Rattle.aintc_record.specs.declared.Aintc.{Aintc}
 use Rattle.aintc_record.specs.Record.{side}
 use Rattle.aintc_choice.specs.Inputs.{pending, eligible}
@@ -13,6 +15,10 @@ use Rattle.aintc_choice.specs.Order.{before}
 -- the inputs that four words hold
 abbrev pub held : ℕ → ℕ → ℕ → ℕ → ℕ → Bool
 held a b c d = bitAt (a ∷ b ∷ c ∷ d ∷ [])
+
+-- the inputs that two halves of 64 hold
+abbrev pub halves : ℕ → ℕ → ℕ → Bool
+halves low high k = bit (getD (low ∷ high ∷ []) (k / 64) 0) (k % 64)
 
 -- there is one
 abbrev pub SomeOf : (ℕ → Bool) → Type 0

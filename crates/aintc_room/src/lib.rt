@@ -8,7 +8,7 @@ ghost use Rattle.aintc_record.specs.Record.{side};
 ghost use Rattle.aintc_choice.specs.Settle.{sound};
 ghost use Rattle.aintc_record.specs.Route.{routeAt, routeValue};
 ghost use Rattle.aintc_registers.specs.Registers.{shown, singleRead, bankRead, readAt};
-ghost use Rattle.aintc.specs.Model.{barred, accessNumber, read, write, line, step, outputs};
+ghost use Rattle.aintc_steps.specs.Model.{isRegister, barred, accessNumber, read, write, line, step, outputs};
 ghost use Rattle.rooms.specs.Reply.{told};
 ghost use Rattle.turns.specs.Turns.{stepOf};
 ghost use Rattle.aintc_layout.specs.Room.{Laid};
@@ -18,7 +18,6 @@ pub mod effects;
 pub mod search;
 pub mod sides;
 
-use aintc::Signals;
 use aintc_layout::AUTOIDLE;
 use aintc_layout::FIQ;
 use aintc_layout::FUNCIDLE;
@@ -33,8 +32,10 @@ use aintc_layout::THRESHOLD;
 use aintc_layout::TURBO;
 use aintc_registers::map;
 use aintc_registers::map::access_of;
+use aintc_steps::Signals;
 use rooms::Room;
 use sides::place_of;
+use steps::Access;
 
 // ---- registers that may be read
 
@@ -122,7 +123,41 @@ fn read_at(room: &Room, offset: u32) -> u32
     read_route(room, (offset - map::ILR) / 4)
 }
 
-// ---- steps
+// ---- privilege
+
+fn is_register(access: Access) -> bool
+    ensures { λ r. ⌜ r ≡ isRegister access ⌝ }
+{
+    match access {
+        Access::NoRegister => false,
+        Access::ReadOnly => true,
+        Access::WriteOnly => true,
+        Access::ReadWrite => true,
+    }
+}
+
+// Whether an access at this privilege is barred: unprivileged, of a register, and either all are protected or it is the protection
+// register itself.
+fn is_barred(guarded: bool, privilege: u32, offset: u32) -> bool
+    ensures { λ r. ⌜ r ≡ barred guarded privilege offset ⌝ }
+{
+    let register = is_register(access_of(offset));
+    (privilege == 0) & (offset % 4 == 0) & register & (guarded | (offset == map::PROTECTION))
+}
+
+// The checks of an access to a sound record in their order, 6, 13, then those of the read or the write itself; 1 and 2 of those come
+// before 13, since a barred access is aligned and of a register.
+fn access_number(privilege: u32, barred: bool, rest: u32) -> u32
+    ensures { λ r. ⌜ r ≡ accessNumber true privilege barred rest ⌝ }
+{
+    if 1 < privilege {
+        return steps::BEYOND;
+    }
+    if barred {
+        return steps::UNPRIVILEGED;
+    }
+    rest
+}
 
 // By which number an access is refused, 0 for none, where `rest` is that of a privileged one. Privileged ones are asked for first.
 fn number(room: &Room, privilege: u32, offset: u32, rest: u32) -> u32
@@ -132,12 +167,10 @@ fn number(room: &Room, privilege: u32, offset: u32, rest: u32) -> u32
         return rest;
     }
     let guarded = room[GUARDED] == 1;
-    aintc::access_number(
-        privilege,
-        aintc::is_barred(guarded, privilege, offset),
-        rest,
-    )
+    access_number(privilege, is_barred(guarded, privilege, offset), rest)
 }
+
+// ---- steps
 
 // A read of the register at an offset; privilege 1 is privileged, 0 is not. Nothing changes.
 pub fn read(room: &Room, offset: u32, privilege: u32) -> u64

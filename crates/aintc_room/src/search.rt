@@ -1,13 +1,17 @@
 // Which input is before all others: the bits of the priorities are looked at from the highest to the lowest, 128 inputs at once, and no input by itself.
 ghost use mathlib.Core.Path.{_≡_};
+ghost use mathlib.Core.Bool.{not, _&&_};
+ghost use mathlib.Core.List.{[], _∷_};
 ghost use mathlib.Core.Logic.{_≢_};
 ghost use Prim.Native.Nat.{ℕ, _<_};
+ghost use Rattle.words.specs.Array.{bitAt};
 ghost use Rattle.words.specs.Choice.{pick};
+ghost use Rattle.words.specs.Counting.{anyBelow};
 ghost use Rattle.words.specs.Word.{bit, either};
 ghost use Rattle.aintc_record.specs.declared.Aintc.{Aintc};
 ghost use Rattle.aintc_choice.specs.Inputs.{openWord, pendingWord};
 ghost use Rattle.aintc_layout.specs.Room.{Laid};
-ghost use Rattle.aintc_room.specs.First.{held, SomeOf, FirstOf, HighestOf};
+ghost use Rattle.aintc_room.specs.First.{held, halves, SomeOf, FirstOf, HighestOf};
 use aintc_layout::BITS;
 use aintc_layout::FIQS;
 use aintc_layout::LINES;
@@ -46,35 +50,52 @@ pub fn any_of(a: u32, b: u32, c: u32, d: u32) -> u32
     words::join(words::join(a, b), words::join(c, d))
 }
 
-fn choose(some: bool, x: u32, w: u32) -> u32
+// ---- 128 inputs as two halves of 64. The search goes by these, since of four words a compiler makes one of 128 bits, whose test takes long.
+
+// Two words as one number, the first of them below.
+fn pair(a: u32, b: u32) -> u64
+    ensures { λ r. ⌜ ((i : ℕ) → i < 64 → bit r i ≡ bitAt (a ∷ b ∷ []) i) ⌝ }
+{
+    4294967296 * (b as u64) + (a as u64)
+}
+
+// The bits of a that are not bits of b.
+fn drop_bits(a: u64, b: u64) -> u64
+    ensures { λ r. ⌜ ((i : ℕ) → i < 64 → bit r i ≡ (bit a i && not (bit b i))) ⌝ }
+{
+    a & !b
+}
+
+// Whether two halves hold any input.
+fn holds(low: u64, high: u64) -> bool
+    ensures { λ r. ⌜ r ≡ anyBelow 128 (halves low high) ⌝ }
+{
+    (low != 0) | (high != 0)
+}
+
+fn choose(some: bool, x: u64, w: u64) -> u64
     ensures { λ r. ⌜ r ≡ pick some x w ⌝ }
 {
     if some { x } else { w }
 }
 
-// The highest bit of a word that has one.
-fn highest(w: u32) -> u32
+// The highest bit of a half that has one.
+fn highest(w: u64) -> u32
     requires { ⌜ w ≢ 0 ⌝ }
-    ensures { λ r. ⌜ HighestOf (bit w) 32 r ⌝ }
+    ensures { λ r. ⌜ HighestOf (bit w) 64 r ⌝ }
 {
-    31 - u32::leading_zeros(w)
+    63 - u64::leading_zeros(w)
 }
 
-// The highest input of those that four words hold.
-fn highest_of(a: u32, b: u32, c: u32, d: u32) -> u32
-    ensures { λ r. ⌜ (SomeOf (held a b c d) → HighestOf (held a b c d) 128 r) ⌝ }
+// The highest input of those that two halves hold.
+fn highest_of(low: u64, high: u64) -> u32
+    ensures { λ r. ⌜ (SomeOf (halves low high) → HighestOf (halves low high) 128 r) ⌝ }
 {
-    if d != 0 {
-        return 96 + highest(d);
+    if high != 0 {
+        return 64 + highest(high);
     }
-    if c != 0 {
-        return 64 + highest(c);
-    }
-    if b != 0 {
-        return 32 + highest(b);
-    }
-    if a != 0 {
-        return highest(a);
+    if low != 0 {
+        return highest(low);
     }
     0
 }
@@ -83,22 +104,22 @@ fn highest_of(a: u32, b: u32, c: u32, d: u32) -> u32
 pub fn first_of(room: &Room, w0: u32, w1: u32, w2: u32, w3: u32) -> u32
     ensures { λ r. ⌜ ((s : Aintc) → Laid s (now (room .entry)) → SomeOf (held w0 w1 w2 w3) → FirstOf s (held w0 w1 w2 w3) r) ⌝ }
 {
-    let mut a = w0;
-    let mut b = w1;
-    let mut c = w2;
-    let mut d = w3;
+    let mut low = pair(w0, w1);
+    let mut high = pair(w2, w3);
     let mut k: usize = 7;
     while 0 < k {
         k = k - 1;
-        let x = words::drop_bits(a, room[BITS + (4 * k + 0)]);
-        let y = words::drop_bits(b, room[BITS + (4 * k + 1)]);
-        let z = words::drop_bits(c, room[BITS + (4 * k + 2)]);
-        let t = words::drop_bits(d, room[BITS + (4 * k + 3)]);
-        let some = any_of(x, y, z, t) != 0;
-        a = choose(some, x, a);
-        b = choose(some, y, b);
-        c = choose(some, z, c);
-        d = choose(some, t, d);
+        let x = drop_bits(
+            low,
+            pair(room[BITS + (4 * k + 0)], room[BITS + (4 * k + 1)]),
+        );
+        let y = drop_bits(
+            high,
+            pair(room[BITS + (4 * k + 2)], room[BITS + (4 * k + 3)]),
+        );
+        let some = holds(x, y);
+        low = choose(some, x, low);
+        high = choose(some, y, high);
     }
-    highest_of(a, b, c, d)
+    highest_of(low, high)
 }

@@ -66,17 +66,17 @@ pub fn settle(room: &mut Room)
     settle_side(room, true);
 }
 
-// The same where no other input than k may be taken.
+// The same where no other input than k may be taken. Most outputs hold one already, while a line is high as often as low: so this is asked first.
 pub fn offer(room: &mut Room, k: u32)
     requires { ⌜ k < 128 ⌝ }
     ensures { λ _. ⌜ ((a : Aintc) → Laid a (now (room .entry)) → Alone a k → Laid (settle a) (now (room .exit))) ⌝ }
 {
     let n = (k / 32) as usize;
-    if !words::has(search::open_word(room, n), k % 32) {
-        return;
-    }
     let fast = words::has(room[FIQS + n], k % 32);
     if room[place_of(fast)] != 0 {
+        return;
+    }
+    if !words::has(search::open_word(room, n), k % 32) {
         return;
     }
     take(room, fast, k);

@@ -36,7 +36,7 @@ use Rattle.aintc_registers.specs.Map.{threshold}
 use Rattle.aintc_registers.specs.Map as AintcMap
 use Rattle.aintc_registers.specs.Effects as Effects
 use Rattle.aintc_registers.specs.Registers as AintcRegisters
-use Rattle.aintc.specs.Model as Aintc
+use Rattle.aintc_steps.specs.Model as Aintc
 use Rattle.cic_held.specs.Held as Held
 use Rattle.cic_index_registers.specs.Registers.{ownAt}
 use Rattle.cic_prioritised.specs.Model as Indexed

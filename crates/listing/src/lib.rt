@@ -39,19 +39,14 @@ fn list_by_kind(trace: &[u8], limit: u32, b: Begun, out: &mut [u8], at: usize) -
     ensures { λ r. ⌜ (now (out .exit), r) ≡ write (now (out .entry), at) (textFrom 0 (b .machine) (stepsFrom (tellsPrivilege (b .machine .kind)) limit (now (trace .entry)) (b .place))) ⌝ }
 {
     let m = b.machine;
-    if m.kind == kinds::AIC {
-        return list_aic::list_steps(trace, limit, b.place, m.aic, out, at);
-    }
-    if m.kind == kinds::CORE {
-        return loops_core::list_steps(trace, limit, b.place, m.core, out, at);
-    }
     if m.kind == kinds::CIC {
         return list_cic::list_steps(trace, limit, b.place, m.cic, out, at);
     }
-    if m.kind == kinds::AINTC {
-        return list_aintc::list_steps(trace, limit, b.place, m.aintc, out, at);
+    if m.kind == kinds::INDEXED {
+        return list_any(trace, limit, b, out, at);
     }
-    list_any(trace, limit, b, out, at)
+    let told = kinds::tells_privilege(m.kind);
+    loops::list_steps(trace, limit, told, b.place, m, out, at)
 }
 
 // The steps of a trace that has begun, by the loop over any machine.

@@ -38,7 +38,7 @@ use Rattle.aintc_choice.specs.Settle.{settledSide, settle, sideQuiet, sound as 
 use Rattle.aintc_registers.specs.Effects.{released, agreed, configured as aintcConfigured, singleWritten, bankWritten, writtenAt as aintcWrittenAt, moved as aintcMoved}
 use Rattle.aintc_registers.specs.Map.{rowOf, rowAccess, access as aintcAccess}
 use Rattle.aintc_registers.specs.Registers.{shown as aintcShown, singleRead, bankRead, readAt as aintcReadAt}
-use Rattle.aintc.specs.Model.{start as aintcStart, barred, accessNumber, readNumber as aintcReadNumber, writeNumber as aintcWriteNumber, lineNumber as aintcLineNumber, read as aintcRead, write as aintcWrite, line as aintcLine, outputs as aintcOutputs}
+use Rattle.aintc_steps.specs.Model.{start as aintcStart, barred, accessNumber, readNumber as aintcReadNumber, writeNumber as aintcWriteNumber, lineNumber as aintcLineNumber, read as aintcRead, write as aintcWrite, line as aintcLine, outputs as aintcOutputs}
 use Rattle.kinds.specs.Configuration.{withNumber}
 use Rattle.kinds.specs.Kinds.{cicKind, byKind, isKind, wanted, within, name}
 use Rattle.machine.specs.declared.Answer.{Answer}

@@ -21,7 +21,7 @@ use Rattle.cic_held.specs.Held.{sound as indexedSound}
 use Rattle.cic_prioritised.specs.Model.{step as indexedStep}
 use Rattle.cic_indexed.proofs.Promises.{kept as prioritised}
 use Rattle.aintc_choice.specs.Settle.{sound as aintcSound}
-use Rattle.aintc.specs.Model.{step as aintcStep}
+use Rattle.aintc_steps.specs.Model.{step as aintcStep}
 use Rattle.aintc.proofs.Promises.{kept as aintc}
 use Rattle.machine.specs.declared.Answer.{Answer}
 use Rattle.machine_record.specs.declared.Machine.{Machine}

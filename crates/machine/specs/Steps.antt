@@ -11,7 +11,7 @@ use Rattle.cic_steps.specs.Model.{step as cicStep}
 use Rattle.cic_held.specs.declared.Answer.{Answer as IndexedAnswer}
 use Rattle.cic_prioritised.specs.Model.{step as indexedStep}
 use Rattle.aintc_registers.specs.declared.Answer.{Answer as AintcAnswer}
-use Rattle.aintc.specs.Model.{step as aintcStep}
+use Rattle.aintc_steps.specs.Model.{step as aintcStep}
 use Rattle.kinds.specs.Kinds.{byKind}
 use Rattle.machine_record.specs.declared.Machine.{Machine}
 use Rattle.machine_record.specs.Machine.{indexed}

@@ -11,7 +11,7 @@ ghost use Rattle.cic_steps.specs.Model.{step as cicStep};
 ghost use Rattle.cic_held.specs.Held.{sound as indexedSound};
 ghost use Rattle.cic_prioritised.specs.Model.{step as indexedStep};
 ghost use Rattle.aintc_choice.specs.Settle.{sound as aintcSound};
-ghost use Rattle.aintc.specs.Model.{step as aintcStep};
+ghost use Rattle.aintc_steps.specs.Model.{step as aintcStep};
 ghost use Rattle.machine_record.specs.Machine.{indexed, sound};
 ghost use Rattle.machine.specs.Steps.{afterAic, afterCore, afterCic, afterAintc, afterIndexed, step};
 use machine_record::Machine;

@@ -26,7 +26,7 @@ use Rattle.cic_held.specs.declared.Begun.{Begun as IndexedBegun}
 use Rattle.cic_held.specs.Held.{within as indexedWithin, sound as indexedSound, start as indexedStart}
 use Rattle.cic_held.proofs.Promises.{kept as held}
 use Rattle.aintc_choice.specs.Settle.{sound as aintcSound}
-use Rattle.aintc.specs.Model.{start as aintcStart}
+use Rattle.aintc_steps.specs.Model.{start as aintcStart}
 use Rattle.aintc.proofs.Promises.{kept as aintc}
 use Rattle.kinds.specs.Configuration.{withNumber, filled}
 use Rattle.kinds.specs.Kinds.{aicKind, coreKind, cicKind, aintcKind, indexedKind, byKind, isKind, wanted, within}

@@ -27,7 +27,7 @@ use Rattle.cic_prioritised.specs.Model.{outputs as indexedOutputs}
 use Rattle.aintc_record.specs.declared.Chosen.{Chosen}
 use Rattle.aintc_record.specs.Promises.{Bounds}
 use Rattle.aintc_choice.proofs.Promises.{kept as choice}
-use Rattle.aintc.specs.Model.{outputs as aintcOutputs}
+use Rattle.aintc_steps.specs.Model.{outputs as aintcOutputs}
 use Rattle.aintc.proofs.Promises.{kept as aintc}
 use Rattle.machine_record.specs.declared.Machine.{Machine}
 use Rattle.kinds.specs.Kinds.{aicKind, coreKind, cicKind, aintcKind, indexedKind}

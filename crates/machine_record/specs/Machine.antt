@@ -16,7 +16,7 @@ use Rattle.cic_held.specs.Held.{prioritised, nothingHeld, start as indexedStart
 use Rattle.aintc_record.specs.declared.Aintc.{Aintc}
 use Rattle.aintc_record.specs.Record.{blank as aintcBlank}
 use Rattle.aintc_choice.specs.Settle.{sound as aintcSound}
-use Rattle.aintc.specs.Model.{start as aintcStart}
+use Rattle.aintc_steps.specs.Model.{start as aintcStart}
 use Rattle.kinds.specs.declared.Configuration.{Configuration}
 use Rattle.kinds.specs.Configuration.{numberIn}
 use Rattle.kinds.specs.Kinds.{aicKind, coreKind, cicKind, aintcKind, indexedKind, byKind}

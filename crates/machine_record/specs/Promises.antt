@@ -15,7 +15,7 @@ use Rattle.cic_hosts.specs.Hosts.{outputs as cicOutputs}
 use Rattle.cic_held.specs.Held.{start as indexedStart, sound as indexedSound}
 use Rattle.cic_prioritised.specs.Model.{outputs as indexedOutputs}
 use Rattle.aintc_choice.specs.Settle.{sound as aintcSound}
-use Rattle.aintc.specs.Model.{start as aintcStart, outputs as aintcOutputs}
+use Rattle.aintc_steps.specs.Model.{start as aintcStart, outputs as aintcOutputs}
 use Rattle.kinds.specs.declared.Configuration.{Configuration}
 use Rattle.kinds.specs.Configuration.{noNumbers, filled}
 use Rattle.kinds.specs.Kinds.{isKind, wanted}

@@ -7,8 +7,8 @@ use Rattle.coreinterrupt.specs.Model.{outputs as coreOutputs}
 use Rattle.cic_record.specs.declared.Signals.{Signals as CicSignals}
 use Rattle.cic_hosts.specs.Hosts.{outputs as cicOutputs}
 use Rattle.cic_prioritised.specs.Model.{outputs as indexedOutputs}
-use Rattle.aintc.specs.declared.Signals.{Signals as AintcSignals}
-use Rattle.aintc.specs.Model.{outputs as aintcOutputs}
+use Rattle.aintc_steps.specs.declared.Signals.{Signals as AintcSignals}
+use Rattle.aintc_steps.specs.Model.{outputs as aintcOutputs}
 use Rattle.kinds.specs.Kinds.{byKind}
 use Rattle.machine_record.specs.declared.Columns.{Columns}
 use Rattle.machine_record.specs.declared.Machine.{Machine}

@@ -203,7 +203,7 @@ pub fn cic_columns(o: cic_record::Signals) -> Columns
 }
 
 // IRQ active, FIQ active, the number of the input that is active for IRQ.
-pub fn aintc_columns(o: aintc::Signals) -> Columns
+pub fn aintc_columns(o: aintc_steps::Signals) -> Columns
     ensures { λ r. ⌜ r ≡ aintcColumns o ⌝ }
 {
     Columns {

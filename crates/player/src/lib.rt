@@ -34,19 +34,14 @@ fn play_by_kind(trace: &[u8], limit: u32, b: Begun) -> Played
     ensures { λ r. ⌜ r ≡ playOf (now (trace .entry)) limit ⌝ }
 {
     let m = b.machine;
-    if m.kind == kinds::AIC {
-        return play_aic::play_steps(trace, limit, b.place, m.aic);
-    }
-    if m.kind == kinds::CORE {
-        return loops_core::play_steps(trace, limit, b.place, m.core);
-    }
     if m.kind == kinds::CIC {
         return play_cic::play_steps(trace, limit, b.place, m.cic);
     }
-    if m.kind == kinds::AINTC {
-        return play_aintc::play_steps(trace, limit, b.place, m.aintc);
+    if m.kind == kinds::INDEXED {
+        return play_any(trace, limit, b);
     }
-    play_any(trace, limit, b)
+    let told = kinds::tells_privilege(m.kind);
+    loops::play_steps(trace, limit, told, b.place, m)
 }
 
 // Plays a trace that has begun by the loop over any machine.

@@ -20,7 +20,7 @@ use Rattle.coreinterrupt.proofs.Promises.{kept as core}
 use Rattle.cic_hosts.proofs.Promises.{kept as hosts}
 use Rattle.cic_prioritised.specs.Model.{outputs as indexedOutputs}
 use Rattle.aintc_choice.proofs.Promises.{kept as choice}
-use Rattle.aintc.specs.Model.{outputs as aintcOutputs}
+use Rattle.aintc_steps.specs.Model.{outputs as aintcOutputs}
 use Rattle.aintc.proofs.Promises.{kept as aintc}
 use Rattle.vcd.specs.Dump.{Signal}
 use Rattle.kinds.specs.Kinds.{byKind, isKind}

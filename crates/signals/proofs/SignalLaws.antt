@@ -18,8 +18,8 @@ use Rattle.cic_record.specs.declared.Signals.{Signals as CicSignals}
 use Rattle.cic_hosts.specs.Hosts.{outputs as cicOutputs}
 use Rattle.cic_prioritised.specs.Model.{outputs as indexedOutputs}
 use Rattle.aintc_record.specs.declared.Aintc.{Aintc}
-use Rattle.aintc.specs.declared.Signals.{Signals as AintcSignals}
-use Rattle.aintc.specs.Model.{outputs as aintcOutputs}
+use Rattle.aintc_steps.specs.declared.Signals.{Signals as AintcSignals}
+use Rattle.aintc_steps.specs.Model.{outputs as aintcOutputs}
 use Rattle.kinds.specs.Kinds.{aicKind, coreKind, cicKind, aintcKind, indexedKind, byKind}
 use Rattle.kinds.proofs.KindLaws.{at-aic, at-core, at-cic, at-aintc, at-indexed, at-none}
 use Rattle.machine_record.specs.declared.Machine.{Machine}

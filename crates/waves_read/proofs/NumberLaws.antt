@@ -33,7 +33,7 @@ use Rattle.aintc_record.specs.declared.Aintc.{Aintc}
 use Rattle.aintc_choice.specs.Settle.{sound as aintcSound}
 use Rattle.aintc_registers.specs.declared.Answer.{Answer as AintcAnswer}
 use Rattle.aintc_registers.specs.Map.{access}
-use Rattle.aintc.specs.Model.{barred, accessNumber, readNumber, writeNumber, read, write, step as aintcStep}
+use Rattle.aintc_steps.specs.Model.{barred, accessNumber, readNumber, writeNumber, read, write, step as aintcStep}
 use Rattle.aintc.proofs.Promises.{kept as aintc}
 use Rattle.kinds.proofs.KindLaws.{KindOf, isAic, isCore, isCic, isAintc, isIndexed, isNone, kind-of}
 use Rattle.machine_record.specs.declared.Machine.{Machine}

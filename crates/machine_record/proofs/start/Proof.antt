@@ -4,7 +4,7 @@ use Rattle.aic.specs.declared.Begun.{Begun}
 use Rattle.coreinterrupt.specs.declared.Begun.{Begun as CoreBegun}
 use Rattle.cic_held.specs.declared.Begun.{Begun as IndexedBegun}
 use Rattle.cic_record.specs.declared.Begun.{Begun as CicBegun}
-use Rattle.aintc.specs.declared.Begun.{Begun as AintcBegun}
+use Rattle.aintc_steps.specs.declared.Begun.{Begun as AintcBegun}
 use Rattle.kinds.proofs.KindLaws.{at-aic, at-core, at-cic, at-aintc, at-indexed, at-none}
 use Rattle.machine_record.specs.Machine.{start, ofAic, ofCore, ofCic, ofAintc, ofIndexed}
 use borrow.Author.Needs.{needs}

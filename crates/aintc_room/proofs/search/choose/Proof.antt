@@ -1,6 +1,5 @@
 -- That `choose` of src/search.rt keeps its contract.
 use Rattle.words.proofs.ChoiceLaws.{pick-true, pick-false}
-use borrow.Author.Needs.{needs}
 use Rattle.aintc_room.proofs.search.choose.Statement.{statement}
 use Rattle.aintc_room.proofs.search.choose.Tie as tie
 

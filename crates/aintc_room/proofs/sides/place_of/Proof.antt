@@ -2,7 +2,6 @@
 use mathlib.Core.Path.{_≡_, refl, sym, ap}
 use native.Mathlib.Omega.{arith}
 use Rattle.aintc_layout.specs.Room.{chosenFrom}
-use borrow.Author.Needs.{needs}
 use Rattle.aintc_room.proofs.sides.place_of.Statement.{statement}
 use Rattle.aintc_room.proofs.sides.place_of.Tie as tie
 

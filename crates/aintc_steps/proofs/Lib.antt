@@ -1,0 +1,2 @@
+-- Laws about the AINTC's steps.
+pub mod CallLaws

@@ -1,0 +1,2 @@
+-- The AINTC's start, its steps and its outputs.
+pub mod Model

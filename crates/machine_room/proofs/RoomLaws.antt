@@ -1,0 +1,175 @@
+-- The machine in a room by its kind, what a step makes of it, and what it shows.
+use mathlib.Core.Path.{_≡_, refl, sym, ap, _∙_, subst}
+use mathlib.Core.Bool.{Bool, true}
+use mathlib.Core.List.{List}
+use mathlib.Core.Logic.{_≢_}
+use Prim.Native.Nat.{ℕ, _+_, _*_, _<_}
+use native.Mathlib.Omega.{arith}
+use lib.ListN.{getD}
+use Rattle.steps.specs.declared.Recorded.{Recorded}
+use Rattle.steps.specs.declared.Step.{Step}
+use Rattle.steps.specs.declared.Step.the-variants.{Line}
+use Rattle.aic_record.specs.declared.Aic.{Aic}
+use Rattle.aic.specs.Model.{step as aicStep, outputs as aicOutputs}
+use Rattle.aic_layout.specs.Room.{Laid as AicLaid}
+use Rattle.aic_layout.proofs.CellLaws.{kind-is as aic-kind}
+use Rattle.aic_room.specs.Reply.{Done as AicDone}
+use Rattle.coreinterrupt.specs.declared.Core.{Core}
+use Rattle.coreinterrupt.specs.Model.{step as coreStep, outputs as coreOutputs}
+use Rattle.coreinterrupt_room.specs.Room.{Laid as CoreLaid, Done as CoreDone}
+use Rattle.coreinterrupt_room.proofs.RoomLaws.{kind-is as core-kind}
+use Rattle.aintc_record.specs.declared.Aintc.{Aintc}
+use Rattle.aintc_steps.specs.Model.{step as aintcStep, outputs as aintcOutputs}
+use Rattle.aintc_layout.specs.Room.{Laid as AintcLaid}
+use Rattle.aintc_layout.proofs.CellLaws.{kind-is as aintc-kind}
+use Rattle.aintc_room.specs.Reply.{Done as AintcDone}
+use Rattle.kinds.specs.Kinds.{aicKind, coreKind, cicKind, aintcKind, indexedKind}
+use Rattle.kinds.proofs.KindLaws.{KindOf, isAic, isCore, isCic, isAintc, isIndexed, isNone, kind-of}
+use Rattle.machine_record.specs.declared.Machine.{Machine}
+use Rattle.machine_record.specs.declared.Columns.{Columns}
+use Rattle.machine_record.specs.Machine.{sound}
+use Rattle.machine_record.specs.Shown.{aicColumns, coreColumns, aintcColumns, shown}
+use Rattle.machine_record.proofs.MachineLaws.{fifth-kind}
+use Rattle.machine_record.proofs.ShownLaws.{aic-shows, core-shows, aintc-shows}
+use Rattle.machine.specs.declared.Answer.{Answer}
+use Rattle.machine.specs.Steps.{afterAic, afterCore, afterAintc, refused, step}
+use Rattle.machine.proofs.StepLaws.{aic-steps, core-steps, aintc-steps, no-steps}
+use Rattle.turns.specs.Turns.{made, stepOf}
+use Rattle.turns.proofs.TurnLaws.{step-line}
+use Rattle.rooms.specs.Reply.{Reply}
+use Rattle.machine_room.specs.Room.{Roomed, Laid, Done, withAic, withCore, withAintc, Beside}
+
+-- ---- a machine laid
+
+module _ (kept : Bool) (m : Machine) (room : List ℕ) where
+  pub aic-laid : m .kind ≡ aicKind → AicLaid (m .aic) room → Laid kept m room
+  aic-laid k h = record { kind = aic-kind h ∙ sym k; aic = λ _. h; core = λ e. absurd (omega (arith, k, e)); aintc = λ e. absurd (omega (arith, k, e)) }
+
+  pub core-laid : m .kind ≡ coreKind → CoreLaid (m .core) room → Laid kept m room
+  core-laid k h = record { kind = core-kind h ∙ sym k; aic = λ e. absurd (omega (arith, k, e)); core = λ _. h; aintc = λ e. absurd (omega (arith, k, e)) }
+
+  pub aintc-laid : m .kind ≡ aintcKind → AintcLaid (m .aintc) room → Laid kept m room
+  aintc-laid k h = record { kind = aintc-kind h ∙ sym k; aic = λ e. absurd (omega (arith, k, e)); core = λ e. absurd (omega (arith, k, e)); aintc = λ _. h }
+
+-- the last of the kinds
+pub last-kind : (m : Machine) → sound m ≡ true → Roomed m → m .kind ≢ aicKind → m .kind ≢ coreKind → m .kind ≡ aintcKind
+last-kind m ok r a b = go (kind-of (m .kind))
+  where
+    go : KindOf (m .kind) → m .kind ≡ aintcKind
+    go (isAic k) = absurd (a k)
+    go (isCore k) = absurd (b k)
+    go (isCic k) = absurd (r .0 k)
+    go (isAintc k) = k
+    go (isIndexed k) = absurd (r .1 k)
+    go (isNone x y z w v) = absurd (v (fifth-kind m ok x y z w))
+
+module _ {kept : Bool} {m : Machine} {room : List ℕ} (h : Laid kept m room) where
+  -- the kind that word 0 says
+  pub of-kind : {k : ℕ} → getD room 0 0 ≡ k → m .kind ≡ k
+  of-kind e = sym (h .kind) ∙ e
+
+  pub not-kind : {k : ℕ} → getD room 0 0 ≢ k → m .kind ≢ k
+  not-kind n e = n (h .kind ∙ e)
+
+-- ---- a step
+
+-- the kind of controller and that of step which a number of both tells
+pub told-kind : (k s a b : ℕ) → s < 4 → b < 4 → 4 * k + s ≡ 4 * a + b → k ≡ a
+told-kind k s a b l n e = omega (arith, l, n, e)
+
+pub told-step : (k s a b : ℕ) → s < 4 → b < 4 → 4 * k + s ≡ 4 * a + b → s ≡ b
+told-step k s a b l n e = omega (arith, l, n, e)
+
+-- a step of the third kind
+pub line-step : (s x y : ℕ) → s ≡ 3 → stepOf s x y ≡ Line x y
+line-step s x y e = step-line s x y (λ z. absurd (omega (arith, e, z))) (λ z. absurd (omega (arith, e, z)))
+
+-- of three steps one is meant, and the third if neither of the others is
+one-of : (w s n a : ℕ) → (0 < s) × (s < 4) → n ≡ 4 * w + s → w ≡ a → n ≢ 4 * a + 1 → n ≢ 4 * a + 2 → n ≢ 4 * a + 3 → ⊥
+one-of w s n a b e k x y z = omega (arith, b .0, b .1, e, k, x, y, z)
+
+third : (w s n a : ℕ) → (0 < s) × (s < 4) → n ≡ 4 * w + s → w ≡ a → n ≢ 4 * a + 1 → n ≢ 4 * a + 2 → s ≡ 3
+third w s n a b e k x y = omega (arith, b .0, b .1, e, k, x, y)
+
+-- what is left where no other place is meant: the last kind, and its line step
+pub last-step : {kept : Bool} {m : Machine} {room : List ℕ} → Laid kept m room → sound m ≡ true → Roomed m → (s n : ℕ) → (0 < s) × (s < 4) → n ≡ 4 * getD room 0 0 + s
+    → n ≢ 1 → n ≢ 2 → n ≢ 3 → n ≢ 5 → n ≢ 6 → n ≢ 7 → n ≢ 13 → n ≢ 14 → (m .kind ≡ aintcKind) × (s ≡ 3)
+last-step {m = m} h ok l s n b e n1 n2 n3 n5 n6 n7 n13 n14 = go (kind-of (m .kind))
+  where
+    go : KindOf (m .kind) → (m .kind ≡ aintcKind) × (s ≡ 3)
+    go (isAic k) = absurd (one-of _ s n 0 b e (h .kind ∙ k) n1 n2 n3)
+    go (isCore k) = absurd (one-of _ s n 1 b e (h .kind ∙ k) n5 n6 n7)
+    go (isAintc k) = (k, third _ s n 3 b e (h .kind ∙ k) n13 n14)
+    go (isCic k) = absurd (l .0 k)
+    go (isIndexed k) = absurd (l .1 k)
+    go (isNone p q r u v) = absurd (v (fifth-kind m ok p q r u))
+
+module _ (kept : Bool) (m : Machine) (kind x y privilege : ℕ) {z : Step} {room : List ℕ} {r : Reply} where
+  pub aic-done : m .kind ≡ aicKind → stepOf kind x y ≡ z → AicDone (aicStep (m .aic) z) room r → Done kept (step m (made (stepOf kind x y) privilege)) room r
+  aic-done k e d =
+      subst (λ (w : Step). Done kept (step m (made w privilege)) room r) (sym e)
+      (subst (λ (a : Answer). Done kept a room r) (sym (aic-steps m (made z privilege) k)) (aic-laid kept (afterAic m (aicStep (m .aic) z) .machine) room k (d .0), d .1))
+
+  pub core-done : m .kind ≡ coreKind → stepOf kind x y ≡ z → CoreDone (coreStep (m .core) z) room r → Done kept (step m (made (stepOf kind x y) privilege)) room r
+  core-done k e d =
+      subst (λ (w : Step). Done kept (step m (made w privilege)) room r) (sym e)
+      (subst (λ (a : Answer). Done kept a room r) (sym (core-steps m (made z privilege) k)) (core-laid kept (afterCore m (coreStep (m .core) z) .machine) room k (d .0), d .1))
+
+  pub aintc-done : m .kind ≡ aintcKind → stepOf kind x y ≡ z → AintcDone (aintcStep (m .aintc) privilege z) room r → Done kept (step m (made (stepOf kind x y) privilege)) room r
+  aintc-done k e d =
+      subst (λ (w : Step). Done kept (step m (made w privilege)) room r) (sym e)
+      (subst (λ (a : Answer). Done kept a room r) (sym (aintc-steps m (made z privilege) k)) (aintc-laid kept (afterAintc m (aintcStep (m .aintc) privilege z) .machine) room k (d .0), d .1))
+
+-- ---- what it shows
+
+pub aic-columns : (m : Machine) (k : m .kind ≡ aicKind) (r : Columns) → r ≡ aicColumns (aicOutputs (m .aic)) → r ≡ shown m
+aic-columns m k r e = e ∙ sym (aic-shows m k)
+
+pub core-columns : (m : Machine) (k : m .kind ≡ coreKind) (r : Columns) → r ≡ coreColumns (coreOutputs (m .core)) → r ≡ shown m
+core-columns m k r e = e ∙ sym (core-shows m k)
+
+pub aintc-columns : (m : Machine) (k : m .kind ≡ aintcKind) (r : Columns) → r ≡ aintcColumns (aintcOutputs (m .aintc)) → r ≡ shown m
+aintc-columns m k r e = e ∙ sym (aintc-shows m k)
+
+-- ---- nothing but the record of its kind
+
+pub beside-same : (m : Machine) → Beside m m
+beside-same m = record { aic = λ _. refl; core = λ _. refl; aintc = λ _. refl }
+
+pub beside-step : (first m : Machine) (x : Recorded) → sound m ≡ true → Roomed m → Beside first m → Beside first (step m x .machine)
+beside-step first m x ok l b = go (kind-of (m .kind))
+  where
+    go : KindOf (m .kind) → Beside first (step m x .machine)
+    go (isAic k) =
+        subst (λ (a : Answer). Beside first (a .machine)) (sym (aic-steps m x k))
+        (record {
+          aic = λ _. ap (λ (n : Machine). withAic n (aicStep (m .aic) (x .step) .aic)) (b .aic k);
+          core = λ e. absurd (omega (arith, k, e));
+          aintc = λ e. absurd (omega (arith, k, e));
+        })
+    go (isCore k) =
+        subst (λ (a : Answer). Beside first (a .machine)) (sym (core-steps m x k))
+        (record {
+          aic = λ e. absurd (omega (arith, k, e));
+          core = λ _. ap (λ (n : Machine). withCore n (coreStep (m .core) (x .step) .core)) (b .core k);
+          aintc = λ e. absurd (omega (arith, k, e));
+        })
+    go (isAintc k) =
+        subst (λ (a : Answer). Beside first (a .machine)) (sym (aintc-steps m x k))
+        (record {
+          aic = λ e. absurd (omega (arith, k, e));
+          core = λ e. absurd (omega (arith, k, e));
+          aintc = λ _. ap (λ (n : Machine). withAintc n (aintcStep (m .aintc) (x .privilege) (x .step) .aintc)) (b .aintc k);
+        })
+    go (isCic k) = absurd (l .0 k)
+    go (isIndexed k) = absurd (l .1 k)
+    go (isNone p q r s t) = absurd (t (fifth-kind m ok p q r s))
+
+pub aic-record : (first m : Machine) (a : Aic) → m .kind ≡ aicKind → Beside first m → a ≡ m .aic → withAic first a ≡ m
+aic-record first m a k b e = ap (withAic first) e ∙ sym (b .aic k)
+
+pub core-record : (first m : Machine) (c : Core) → m .kind ≡ coreKind → Beside first m → c ≡ m .core → withCore first c ≡ m
+core-record first m c k b e = ap (withCore first) e ∙ sym (b .core k)
+
+pub aintc-record : (first m : Machine) (a : Aintc) → m .kind ≡ aintcKind → Beside first m → a ≡ m .aintc → withAintc first a ≡ m
+aintc-record first m a k b e = ap (withAintc first) e ∙ sym (b .aintc k)

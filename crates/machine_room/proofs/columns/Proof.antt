@@ -1,0 +1,31 @@
+-- That `columns` of src/lib.rt keeps its contract.
+use mathlib.Core.Path.{ap, _∙_}
+use Rattle.machine_record.specs.Shown.{aicColumns, coreColumns, aintcColumns}
+use Rattle.machine_record.proofs.MachineLaws.{sound-aic, sound-core, sound-aintc}
+use Rattle.machine_room.proofs.RoomLaws.{of-kind, not-kind, aic-columns, core-columns, aintc-columns, last-kind}
+use borrow.Author.Needs.{needs}
+use Rattle.machine_room.proofs.columns.Statement.{statement}
+use Rattle.machine_room.proofs.columns.Tie as tie
+
+returns : tie.Need-returns
+returns c =
+    λ m ok l h.
+    let k = of-kind h (c .before .before .if1 .taken) in
+    aic-columns m k _ (c .aic-columns .ensures ∙ ap aicColumns (c .before .outputs .ensures (m .aic) (sound-aic m k ∙ ok) (h .aic k)))
+
+returns-2 : tie.Need-returns-2
+returns-2 c =
+    λ m ok l h.
+    let k = of-kind h (c .before .before .if2 .taken) in
+    core-columns m k _ (c .core-columns .ensures ∙ ap coreColumns (c .before .outputs2 .ensures (m .core) (sound-core m k ∙ ok) (h .core k)))
+
+returns-3 : tie.Need-returns-3
+returns-3 c =
+    λ m ok l h.
+    let k = last-kind m ok l (not-kind h (c .before .before .before .before .if1 .left)) (not-kind h (c .before .before .if2 .left)) in
+    aintc-columns m k _ (c .aintc-columns .ensures ∙ ap aintcColumns (c .before .outputs3 .ensures (m .aintc) (sound-aintc m k ∙ ok) (h .aintc k)))
+
+pub columns-spec : {M : Type 1} → statement M
+columns-spec =
+    tie.close
+    (tie.spec (λ c. search needs) (λ c κs. search needs) (λ c κs. search needs) returns (λ c. search needs) (λ c κs. search needs) (λ c κs. search needs) returns-2 (λ c κs. search needs) (λ c κs. search needs) returns-3)

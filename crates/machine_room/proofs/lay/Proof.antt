@@ -1,0 +1,25 @@
+-- That `lay` of src/lib.rt keeps its contract.
+use Rattle.machine_room.proofs.RoomLaws.{aic-laid, core-laid, aintc-laid, last-kind}
+use borrow.Author.Needs.{needs}
+use Rattle.machine_room.proofs.lay.Statement.{statement}
+use Rattle.machine_room.proofs.lay.Tie as tie
+
+returns : tie.Need-returns
+returns c =
+    let m = c .before .before .before .before .args .m in
+    λ r l. aic-laid _ m _ (c .before .before .if1 .taken) (c .lay .ensures (r .1))
+
+returns-2 : tie.Need-returns-2
+returns-2 c =
+    let m = c .before .before .before .before .before .before .args .m in
+    λ r l. core-laid _ m _ (c .before .before .if2 .taken) (c .lay2 .ensures)
+
+returns-3 : tie.Need-returns-3
+returns-3 c =
+    let m = c .before .before .before .before .before .before .args .m in
+    λ r l. aintc-laid _ m _ (last-kind m (r .0) l (c .before .before .before .before .if1 .left) (c .before .before .if2 .left)) (c .lay3 .ensures)
+
+pub lay-spec : {M : Type 1} → statement M
+lay-spec =
+    tie.close
+    (tie.spec (λ c κs. search needs) returns (λ c κs. search needs) returns-2 (λ c κs. search needs) returns-3)

@@ -1,0 +1,30 @@
+-- That `record_of` of src/lib.rt keeps its contract.
+use mathlib.Core.Path.{_∙_}
+use Rattle.machine_record.proofs.MachineLaws.{sound-aic, sound-aintc}
+use Rattle.machine_room.proofs.RoomLaws.{of-kind, not-kind, aic-record, core-record, aintc-record, last-kind}
+use borrow.Author.Needs.{needs}
+use Rattle.machine_room.proofs.record_of.Statement.{statement}
+use Rattle.machine_room.proofs.record_of.Tie as tie
+
+returns : tie.Need-returns
+returns c =
+    λ kept m ok l h b.
+    let k = of-kind h (c .before .if1 .taken) in
+    aic-record (c .before .before .before .args .first) m _ k b (c .record-of .ensures (m .aic) (sound-aic m k ∙ ok) (h .aic k))
+
+returns-2 : tie.Need-returns-2
+returns-2 c =
+    λ kept m ok l h b.
+    let k = of-kind h (c .before .if2 .taken) in
+    core-record (c .before .before .before .before .before .args .first) m _ k b (c .record-of2 .ensures (m .core) (h .core k))
+
+returns-3 : tie.Need-returns-3
+returns-3 c =
+    λ kept m ok l h b.
+    let k = last-kind m ok l (not-kind h (c .before .before .before .if1 .left)) (not-kind h (c .before .if2 .left)) in
+    aintc-record (c .before .before .before .before .before .args .first) m _ k b (c .record-of3 .ensures (m .aintc) (sound-aintc m k ∙ ok) (h .aintc k))
+
+pub record-of-spec : {M : Type 1} → statement M
+record-of-spec =
+    tie.close
+    (tie.spec (λ c. search needs) (λ c κs. search needs) returns (λ c. search needs) (λ c κs. search needs) returns-2 (λ c κs. search needs) returns-3)

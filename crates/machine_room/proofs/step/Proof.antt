@@ -1,0 +1,108 @@
+-- That `step` of src/lib.rt keeps its contract.
+use mathlib.Core.Path.{sym, _∙_}
+use native.Mathlib.Omega.{arith}
+use Rattle.turns.proofs.TurnLaws.{step-read, step-write}
+use Rattle.machine_record.proofs.MachineLaws.{sound-aic, sound-core, sound-aintc}
+use Rattle.machine_room.proofs.RoomLaws.{of-kind, told-kind, told-step, line-step, last-step, aic-done, core-done, aintc-done}
+use borrow.Author.Needs.{needs}
+use Rattle.machine_room.proofs.step.Statement.{statement}
+use Rattle.machine_room.proofs.step.Tie as tie
+
+returns : tie.Need-returns
+returns c =
+    let p = c .before .before .before in
+    let f = p .before .before in
+    let e = sym (p .place .ensures) ∙ c .before .before .match .keys1 in
+    λ kept m ok l h.
+    let k = of-kind h (told-kind _ _ 0 1 (f .pre .1) (omega arith) e) in
+    let t = told-step _ _ 0 1 (f .pre .1) (omega arith) e in
+    aic-done kept m _ _ _ _ k (step-read _ _ _ t) (c .read .ensures (m .aic) (sound-aic m k ∙ ok) (h .aic k))
+
+returns-2 : tie.Need-returns-2
+returns-2 c =
+    let p = c .before .before .before in
+    let f = p .before .before in
+    let e = sym (p .place .ensures) ∙ c .before .before .match .keys2 in
+    λ kept m ok l h.
+    let k = of-kind h (told-kind _ _ 0 2 (f .pre .1) (omega arith) e) in
+    let t = told-step _ _ 0 2 (f .pre .1) (omega arith) e in
+    aic-done kept m _ _ _ _ k (step-write _ _ _ t) (c .write .ensures (m .aic) (sound-aic m k ∙ ok) (h .aic k))
+
+returns-3 : tie.Need-returns-3
+returns-3 c =
+    let p = c .before .before .before in
+    let f = p .before .before in
+    let e = sym (p .place .ensures) ∙ c .before .before .match .keys3 in
+    λ kept m ok l h.
+    let k = of-kind h (told-kind _ _ 0 3 (f .pre .1) (omega arith) e) in
+    let t = told-step _ _ 0 3 (f .pre .1) (omega arith) e in
+    aic-done kept m _ _ _ _ k (line-step _ _ _ t) (c .line .ensures (m .aic) (sound-aic m k ∙ ok) (h .aic k))
+
+returns-4 : tie.Need-returns-4
+returns-4 c =
+    let p = c .before .before .before in
+    let f = p .before .before in
+    let e = sym (p .place .ensures) ∙ c .before .before .match .keys4 in
+    λ kept m ok l h.
+    let k = of-kind h (told-kind _ _ 1 1 (f .pre .1) (omega arith) e) in
+    let t = told-step _ _ 1 1 (f .pre .1) (omega arith) e in
+    core-done kept m _ _ _ _ k (step-read _ _ _ t) (c .read2 .ensures (m .core) (sound-core m k ∙ ok) (h .core k))
+
+returns-5 : tie.Need-returns-5
+returns-5 c =
+    let p = c .before .before .before in
+    let f = p .before .before in
+    let e = sym (p .place .ensures) ∙ c .before .before .match .keys5 in
+    λ kept m ok l h.
+    let k = of-kind h (told-kind _ _ 1 2 (f .pre .1) (omega arith) e) in
+    let t = told-step _ _ 1 2 (f .pre .1) (omega arith) e in
+    core-done kept m _ _ _ _ k (step-write _ _ _ t) (c .write2 .ensures (m .core) (sound-core m k ∙ ok) (h .core k))
+
+returns-6 : tie.Need-returns-6
+returns-6 c =
+    let p = c .before .before .before in
+    let f = p .before .before in
+    let e = sym (p .place .ensures) ∙ c .before .before .match .keys6 in
+    λ kept m ok l h.
+    let k = of-kind h (told-kind _ _ 1 3 (f .pre .1) (omega arith) e) in
+    let t = told-step _ _ 1 3 (f .pre .1) (omega arith) e in
+    core-done kept m _ _ _ _ k (line-step _ _ _ t) (c .line2 .ensures (m .core) (sound-core m k ∙ ok) (h .core k))
+
+returns-7 : tie.Need-returns-7
+returns-7 c =
+    let p = c .before .before .before in
+    let f = p .before .before in
+    let e = sym (p .place .ensures) ∙ c .before .before .match .keys7 in
+    λ kept m ok l h.
+    let k = of-kind h (told-kind _ _ 3 1 (f .pre .1) (omega arith) e) in
+    let t = told-step _ _ 3 1 (f .pre .1) (omega arith) e in
+    aintc-done kept m _ _ _ _ k (step-read _ _ _ t) (c .read3 .ensures (m .aintc) (sound-aintc m k ∙ ok) (h .aintc k))
+
+returns-8 : tie.Need-returns-8
+returns-8 c =
+    let p = c .before .before .before in
+    let f = p .before .before in
+    let e = sym (p .place .ensures) ∙ c .before .before .match .keys8 in
+    λ kept m ok l h.
+    let k = of-kind h (told-kind _ _ 3 2 (f .pre .1) (omega arith) e) in
+    let t = told-step _ _ 3 2 (f .pre .1) (omega arith) e in
+    aintc-done kept m _ _ _ _ k (step-write _ _ _ t) (c .write3 .ensures (m .aintc) (sound-aintc m k ∙ ok) (h .aintc k))
+
+returns-9 : tie.Need-returns-9
+returns-9 c =
+    let p = c .before .before .before in
+    let f = p .before .before in
+    λ kept m ok l h.
+    let r = c .before .before .match .rest in
+    let w = last-step h ok l _ _ (f .pre) (p .place .ensures) (r .0 .0 .0 .0 .0 .0 .0 .1) (r .0 .0 .0 .0 .0 .0 .1) (r .0 .0 .0 .0 .0 .1) (r .0 .0 .0 .0 .1) (r .0 .0 .0 .1) (r .0 .0 .1) (r .0 .1) (r .1) in
+    let k = w .0 in
+    let t = w .1 in
+    aintc-done kept m _ _ _ _ k (line-step _ _ _ t) (c .line3 .ensures (m .aintc) (sound-aintc m k ∙ ok) (h .aintc k))
+
+pub step-spec : {M : Type 1} → statement M
+step-spec =
+    tie.close
+    (tie.spec
+    (λ c. search needs) (λ c κs. search needs) (λ c κs. search needs) (λ c κs. search needs) (λ c κs. search needs) (λ c κs. search needs)
+    (λ c κs. search needs) (λ c κs. search needs) (λ c κs. search needs) (λ c κs. search needs) (λ c κs. search needs) returns returns-2
+    returns-3 returns-4 returns-5 returns-6 returns-7 returns-8 returns-9)
