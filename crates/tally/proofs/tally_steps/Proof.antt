@@ -1,69 +1,93 @@
--- That `tally_steps` of src/lib.rt keeps its contract.
-use Prim.Native.Nat.{_+_, _≤_}
-use mathlib.Core.Path.{_≡_, refl, sym, _∙_}
-use mathlib.Core.Bool.{not}
-use native.Mathlib.Omega.{arith}
-use lib.Dec.{eqb}
-use Rattle.words.proofs.CountingLaws.{one-le}
-use Rattle.steps.specs.Refusals.{carriedOut}
-use Rattle.trace.specs.Trace.{stepsFrom}
-use Rattle.trace.proofs.TraceLaws.{turn-found}
-use Rattle.aic_waits.specs.Following.{tables, noFigures}
-use Rattle.machine_record.specs.Promises.{Ready}
-use Rattle.reports.proofs.PlayLaws.{next-ready}
-use Rattle.tally.specs.Following.{tallied}
-use Rattle.tally.proofs.TurnLaws.{tells, tallied-ended, tallied-found}
 use borrow.Author.Needs.{needs}
 use Rattle.tally.proofs.tally_steps.Statement.{statement}
 use Rattle.tally.proofs.tally_steps.Tie as tie
+use Rattle.tally.proofs.tally_steps.Reads as reads
+use Rattle.tally.proofs.tally_steps.Lts as lts
+use Rattle.aic_figures.proofs.start.Reads as start-reads
+use Rattle.aic_figures.proofs.totals_in.Reads as totals-in-reads
+use Rattle.machine_room.proofs.lay.Reads as lay-reads
+use Rattle.machine_room.proofs.step.Reads as step-reads
+use Rattle.rooms.proofs.refusal_in.Reads as refusal-in-reads
+use Rattle.tally.proofs.follow_any.Reads as follow-any-reads
+use Rattle.tally.proofs.refused_one.Reads as refused-one-reads
+use Rattle.turns.proofs.quick.Reads as quick-reads
+use Rattle.turns.proofs.sure.Reads as sure-reads
 
 abbrev Inv-loop : tie.InvT-loop
-Inv-loop trace limit told start started₀ wait₀ waited₀ entries₀ at₀ m₀ left₀ count₀ refused₀ started wait waited entries at m left count refused =
-    (tallied count refused (tables started wait waited entries) m (stepsFrom told left trace at) ≡ tallied 0 0 noFigures m₀ (stepsFrom told limit trace start))
-    × (count + left ≡ limit) × (refused ≤ count) × Ready m
+Inv-loop trace limit told start room₀ book₀ at₀ left₀ count₀ refused₀ room book at left count refused =
+    ?
 
 abbrev μ-loop : tie.MeasureT-loop
-μ-loop trace limit told start started₀ wait₀ waited₀ entries₀ at₀ m₀ left₀ count₀ refused₀ started wait waited entries at m left count refused = left
+μ-loop trace limit told start room₀ book₀ at₀ left₀ count₀ refused₀ room book at left count refused =
+    ?
 
+-- src/lib.rt:76:20
+lay-requires : tie.Need-lay-requires Inv-loop μ-loop
+lay-requires c κs = search needs
+
+-- src/lib.rt:77:20
+start-requires : tie.Need-start-requires Inv-loop μ-loop
+start-requires c κs = search needs
+
+-- src/lib.rt:82:5
 loop-holds : tie.Need-loop-holds Inv-loop μ-loop
-loop-holds c = (refl, omega arith, omega arith, c .before .pre)
+loop-holds c = search needs
 
+-- src/lib.rt:83:29
+quick-requires : tie.Need-quick-requires Inv-loop μ-loop
+quick-requires c κs = search needs
+
+-- src/lib.rt:83:13
+sure-requires : tie.Need-sure-requires Inv-loop μ-loop
+sure-requires c κs = search needs
+
+-- src/lib.rt:85:17
+totals-in-requires : tie.Need-totals-in-requires Inv-loop μ-loop
+totals-in-requires c κs = search needs
+
+-- src/lib.rt:86:13
 returns : tie.Need-returns Inv-loop μ-loop
-returns c = let m = c .before .before .before in
-    let l = m .before .loop in
-    tallied-ended _ _ (tables (l .started) (l .wait) (l .waited) (l .entries)) _ _ _ _ _ _ _ (sym (m .turn-at .ensures) ∙ c .before .refusal .given .1) ∙ l .inv .0
+returns c = search needs
 
--- a step is found only while something is left of the limit
-sub-left : tie.Need-sub-left Inv-loop μ-loop
-sub-left c = let x = c .before .before .before .before .before .before .before .before .before .before in
-    omega (arith, turn-found _ _ _ _ _ _ (sym (x .before .before .turn-at .ensures) ∙ x .x .given .1) .1 .0)
+-- src/lib.rt:94:22
+array-read-before : tie.Need-array-read-before Inv-loop μ-loop
+array-read-before c = search needs
 
+-- src/lib.rt:95:13
+step-requires : tie.Need-step-requires Inv-loop μ-loop
+step-requires c κs = search needs
+
+-- src/lib.rt:96:9
+follow-any-requires : tie.Need-follow-any-requires Inv-loop μ-loop
+follow-any-requires c κs = search needs
+
+-- src/lib.rt:97:41
+refusal-in-requires : tie.Need-refusal-in-requires Inv-loop μ-loop
+refusal-in-requires c κs = search needs
+
+-- src/lib.rt:97:29
+refused-one-requires : tie.Need-refused-one-requires Inv-loop μ-loop
+refused-one-requires c κs = search needs
+
+-- src/lib.rt:97:19
 add-refused : tie.Need-add-refused Inv-loop μ-loop
-add-refused c = let x = c .before .before .before .before .before .before .before .before .before .before in
-    let l = x .before .before .before .loop in
-    omega (arith, turn-found _ _ _ _ _ _ (sym (x .before .before .turn-at .ensures) ∙ x .x .given .1) .1 .0, l .inv .1, l .inv .2, c .refused-one .ensures, one-le (not (eqb (c .before .before .before .before .before .before .before .step-sound .result .refusal) carriedOut)), x .before .before .before .before .before .fits .limit)
+add-refused c = search needs
 
+-- src/lib.rt:99:16
+sub-left : tie.Need-sub-left Inv-loop μ-loop
+sub-left c = search needs
+
+-- src/lib.rt:100:17
 add-count : tie.Need-add-count Inv-loop μ-loop
-add-count c = let x = c .before .before .before .before .before .before .before .before .before .before in
-    let l = x .before .before .before .loop in
-    omega (arith, turn-found _ _ _ _ _ _ (sym (x .before .before .turn-at .ensures) ∙ x .x .given .1) .1 .0, l .inv .1, x .before .before .before .before .before .fits .limit)
+add-count c = search needs
 
+-- src/lib.rt:82:5
 loop-less : tie.Need-loop-less Inv-loop μ-loop
-loop-less c = let x = c .before .before .before .before .before .before .before .before .before .before in
-    omega (arith, turn-found _ _ _ _ _ _ (sym (x .before .before .turn-at .ensures) ∙ x .x .given .1) .1 .0)
+loop-less c = search needs
 
+-- src/lib.rt:82:5
 loop-again : tie.Need-loop-again Inv-loop μ-loop
-loop-again c = let x = c .before .before .before .before .before .before .before .before .before .before in
-    let l = x .before .before .before .loop in
-    let e = sym (x .before .before .turn-at .ensures) ∙ x .x .given .1 in
-    let s = c .before .before .before .before .before .before .before .step-sound in
-    let f = tables (l .started) (l .wait) (l .waited) (l .entries) in
-    let g = tells f _ _ _ _ _ (l .inv .3) (s .ensures) (c .before .before .before .before .before .before .before .before .open-entries .ensures) (c .before .follow-any .ensures) in (
-      tallied-found _ _ f _ _ _ _ _ _ _ _ _ _ _ e (s .ensures) g (c .refused-one .ensures) (l .inv .0),
-      omega (arith, turn-found _ _ _ _ _ _ e .1 .0, l .inv .1),
-      omega (arith, l .inv .2, c .refused-one .ensures, one-le (not (eqb (s .result .refusal) carriedOut))),
-      next-ready _ _ _ (s .ensures) (l .inv .3),
-    )
+loop-again c = search needs
 
 pub tally-steps-spec : {M : Type 1} → statement M
 tally-steps-spec =
@@ -71,15 +95,18 @@ tally-steps-spec =
     (tie.spec
     Inv-loop
     μ-loop
+    lay-requires
+    start-requires
     loop-holds
-    (λ c κs. search needs)
-    (λ c. search needs)
+    quick-requires
+    sure-requires
+    totals-in-requires
     returns
-    (λ c. search needs)
-    (λ c κs. search needs)
-    (λ c κs. c .before .before .before .before .before .loop .inv .3 .0)
-    (λ c κs. search needs)
-    (λ c κs. search needs)
+    array-read-before
+    step-requires
+    follow-any-requires
+    refusal-in-requires
+    refused-one-requires
     add-refused
     sub-left
     add-count
