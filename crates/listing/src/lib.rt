@@ -39,9 +39,6 @@ fn list_by_kind(trace: &[u8], limit: u32, b: Begun, out: &mut [u8], at: usize) -
     ensures { λ r. ⌜ (now (out .exit), r) ≡ write (now (out .entry), at) (textFrom 0 (b .machine) (stepsFrom (tellsPrivilege (b .machine .kind)) limit (now (trace .entry)) (b .place))) ⌝ }
 {
     let m = b.machine;
-    if m.kind == kinds::CIC {
-        return list_cic::list_steps(trace, limit, b.place, m.cic, out, at);
-    }
     if m.kind == kinds::INDEXED {
         return list_any(trace, limit, b, out, at);
     }

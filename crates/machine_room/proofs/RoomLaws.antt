@@ -18,6 +18,13 @@ use Rattle.coreinterrupt.specs.declared.Core.{Core}
 use Rattle.coreinterrupt.specs.Model.{step as coreStep, outputs as coreOutputs}
 use Rattle.coreinterrupt_room.specs.Room.{Laid as CoreLaid, Done as CoreDone}
 use Rattle.coreinterrupt_room.proofs.RoomLaws.{kind-is as core-kind}
+use Rattle.cic_record.specs.declared.Cic.{Cic}
+use Rattle.cic_record.specs.Sound.{sound as cicSound}
+use Rattle.cic_hosts.specs.Hosts.{outputs as cicOutputs}
+use Rattle.cic_steps.specs.Model.{step as cicStep, stepAs as cicStepAs}
+use Rattle.cic_laid.specs.Room.{plain, Laid as CicLaid}
+use Rattle.cic_laid.proofs.Promises.{kept as laidCic}
+use Rattle.cic_room.specs.Reply.{Done as CicDone}
 use Rattle.aintc_record.specs.declared.Aintc.{Aintc}
 use Rattle.aintc_steps.specs.Model.{step as aintcStep, outputs as aintcOutputs}
 use Rattle.aintc_layout.specs.Room.{Laid as AintcLaid}
@@ -28,39 +35,42 @@ use Rattle.kinds.proofs.KindLaws.{KindOf, isAic, isCore, isCic, isAintc, isInde
 use Rattle.machine_record.specs.declared.Machine.{Machine}
 use Rattle.machine_record.specs.declared.Columns.{Columns}
 use Rattle.machine_record.specs.Machine.{sound}
-use Rattle.machine_record.specs.Shown.{aicColumns, coreColumns, aintcColumns, shown}
+use Rattle.machine_record.specs.Shown.{aicColumns, coreColumns, cicColumns, aintcColumns, shown}
 use Rattle.machine_record.proofs.MachineLaws.{fifth-kind}
-use Rattle.machine_record.proofs.ShownLaws.{aic-shows, core-shows, aintc-shows}
+use Rattle.machine_record.proofs.ShownLaws.{aic-shows, core-shows, cic-shows, aintc-shows}
 use Rattle.machine.specs.declared.Answer.{Answer}
-use Rattle.machine.specs.Steps.{afterAic, afterCore, afterAintc, refused, step}
-use Rattle.machine.proofs.StepLaws.{aic-steps, core-steps, aintc-steps, no-steps}
+use Rattle.machine.specs.Steps.{afterAic, afterCore, afterCic, afterAintc, step}
+use Rattle.machine.proofs.StepLaws.{aic-steps, core-steps, cic-steps, aintc-steps}
 use Rattle.turns.specs.Turns.{made, stepOf}
 use Rattle.turns.proofs.TurnLaws.{step-line}
 use Rattle.rooms.specs.Reply.{Reply}
-use Rattle.machine_room.specs.Room.{Roomed, Laid, Done, withAic, withCore, withAintc, Beside}
+use Rattle.machine_room.specs.Room.{Roomed, Laid, Done, withAic, withCore, withCic, withAintc, Beside}
 
 -- ---- a machine laid
 
 module _ (kept : Bool) (m : Machine) (room : List ℕ) where
   pub aic-laid : m .kind ≡ aicKind → AicLaid (m .aic) room → Laid kept m room
-  aic-laid k h = record { kind = aic-kind h ∙ sym k; aic = λ _. h; core = λ e. absurd (omega (arith, k, e)); aintc = λ e. absurd (omega (arith, k, e)) }
+  aic-laid k h = record { kind = aic-kind h ∙ sym k; aic = λ _. h; core = λ e. absurd (omega (arith, k, e)); cic = λ e. absurd (omega (arith, k, e)); aintc = λ e. absurd (omega (arith, k, e)) }
 
   pub core-laid : m .kind ≡ coreKind → CoreLaid (m .core) room → Laid kept m room
-  core-laid k h = record { kind = core-kind h ∙ sym k; aic = λ e. absurd (omega (arith, k, e)); core = λ _. h; aintc = λ e. absurd (omega (arith, k, e)) }
+  core-laid k h = record { kind = core-kind h ∙ sym k; aic = λ e. absurd (omega (arith, k, e)); core = λ _. h; cic = λ e. absurd (omega (arith, k, e)); aintc = λ e. absurd (omega (arith, k, e)) }
+
+  pub cic-laid : m .kind ≡ cicKind → CicLaid (plain kept) (m .cic) room → Laid kept m room
+  cic-laid k h = record { kind = laidCic .size (plain kept) (m .cic) room h .1 ∙ sym k; aic = λ e. absurd (omega (arith, k, e)); core = λ e. absurd (omega (arith, k, e)); cic = λ _. h; aintc = λ e. absurd (omega (arith, k, e)) }
 
   pub aintc-laid : m .kind ≡ aintcKind → AintcLaid (m .aintc) room → Laid kept m room
-  aintc-laid k h = record { kind = aintc-kind h ∙ sym k; aic = λ e. absurd (omega (arith, k, e)); core = λ e. absurd (omega (arith, k, e)); aintc = λ _. h }
+  aintc-laid k h = record { kind = aintc-kind h ∙ sym k; aic = λ e. absurd (omega (arith, k, e)); core = λ e. absurd (omega (arith, k, e)); cic = λ e. absurd (omega (arith, k, e)); aintc = λ _. h }
 
 -- the last of the kinds
-pub last-kind : (m : Machine) → sound m ≡ true → Roomed m → m .kind ≢ aicKind → m .kind ≢ coreKind → m .kind ≡ aintcKind
-last-kind m ok r a b = go (kind-of (m .kind))
+pub last-kind : (m : Machine) → sound m ≡ true → Roomed m → m .kind ≢ aicKind → m .kind ≢ coreKind → m .kind ≢ cicKind → m .kind ≡ aintcKind
+last-kind m ok r a b c = go (kind-of (m .kind))
   where
     go : KindOf (m .kind) → m .kind ≡ aintcKind
     go (isAic k) = absurd (a k)
     go (isCore k) = absurd (b k)
-    go (isCic k) = absurd (r .0 k)
+    go (isCic k) = absurd (c k)
     go (isAintc k) = k
-    go (isIndexed k) = absurd (r .1 k)
+    go (isIndexed k) = absurd (r k)
     go (isNone x y z w v) = absurd (v (fifth-kind m ok x y z w))
 
 module _ {kept : Bool} {m : Machine} {room : List ℕ} (h : Laid kept m room) where
@@ -93,15 +103,15 @@ third w s n a b e k x y = omega (arith, b .0, b .1, e, k, x, y)
 
 -- what is left where no other place is meant: the last kind, and its line step
 pub last-step : {kept : Bool} {m : Machine} {room : List ℕ} → Laid kept m room → sound m ≡ true → Roomed m → (s n : ℕ) → (0 < s) × (s < 4) → n ≡ 4 * getD room 0 0 + s
-    → n ≢ 1 → n ≢ 2 → n ≢ 3 → n ≢ 5 → n ≢ 6 → n ≢ 7 → n ≢ 13 → n ≢ 14 → (m .kind ≡ aintcKind) × (s ≡ 3)
-last-step {m = m} h ok l s n b e n1 n2 n3 n5 n6 n7 n13 n14 = go (kind-of (m .kind))
+    → n ≢ 1 → n ≢ 2 → n ≢ 3 → n ≢ 5 → n ≢ 6 → n ≢ 7 → n ≢ 9 → n ≢ 10 → n ≢ 11 → n ≢ 13 → n ≢ 14 → (m .kind ≡ aintcKind) × (s ≡ 3)
+last-step {m = m} h ok l s n b e n1 n2 n3 n5 n6 n7 n9 n10 n11 n13 n14 = go (kind-of (m .kind))
   where
     go : KindOf (m .kind) → (m .kind ≡ aintcKind) × (s ≡ 3)
     go (isAic k) = absurd (one-of _ s n 0 b e (h .kind ∙ k) n1 n2 n3)
     go (isCore k) = absurd (one-of _ s n 1 b e (h .kind ∙ k) n5 n6 n7)
     go (isAintc k) = (k, third _ s n 3 b e (h .kind ∙ k) n13 n14)
-    go (isCic k) = absurd (l .0 k)
-    go (isIndexed k) = absurd (l .1 k)
+    go (isCic k) = absurd (one-of _ s n 2 b e (h .kind ∙ k) n9 n10 n11)
+    go (isIndexed k) = absurd (l k)
     go (isNone p q r u v) = absurd (v (fifth-kind m ok p q r u))
 
 module _ (kept : Bool) (m : Machine) (kind x y privilege : ℕ) {z : Step} {room : List ℕ} {r : Reply} where
@@ -114,6 +124,13 @@ module _ (kept : Bool) (m : Machine) (kind x y privilege : ℕ) {z : Step} {room
   core-done k e d =
       subst (λ (w : Step). Done kept (step m (made w privilege)) room r) (sym e)
       (subst (λ (a : Answer). Done kept a room r) (sym (core-steps m (made z privilege) k)) (core-laid kept (afterCore m (coreStep (m .core) z) .machine) room k (d .0), d .1))
+
+  pub cic-done : m .kind ≡ cicKind → cicSound (m .cic) ≡ true → stepOf kind x y ≡ z → CicDone (plain kept) (cicStepAs true (m .cic) z) room r
+      → Done kept (step m (made (stepOf kind x y) privilege)) room r
+  cic-done k ok e d =
+      let f = subst (λ (b : Bool). CicDone (plain kept) (cicStepAs b (m .cic) z) room r) (sym ok) d in
+      subst (λ (w : Step). Done kept (step m (made w privilege)) room r) (sym e)
+      (subst (λ (a : Answer). Done kept a room r) (sym (cic-steps m (made z privilege) k)) (cic-laid kept (afterCic m (cicStep (m .cic) z) .machine) room k (f .0), f .1))
 
   pub aintc-done : m .kind ≡ aintcKind → stepOf kind x y ≡ z → AintcDone (aintcStep (m .aintc) privilege z) room r → Done kept (step m (made (stepOf kind x y) privilege)) room r
   aintc-done k e d =
@@ -128,13 +145,16 @@ aic-columns m k r e = e ∙ sym (aic-shows m k)
 pub core-columns : (m : Machine) (k : m .kind ≡ coreKind) (r : Columns) → r ≡ coreColumns (coreOutputs (m .core)) → r ≡ shown m
 core-columns m k r e = e ∙ sym (core-shows m k)
 
+pub cic-columns : (m : Machine) (k : m .kind ≡ cicKind) (r : Columns) → r ≡ cicColumns (cicOutputs (m .cic)) → r ≡ shown m
+cic-columns m k r e = e ∙ sym (cic-shows m k)
+
 pub aintc-columns : (m : Machine) (k : m .kind ≡ aintcKind) (r : Columns) → r ≡ aintcColumns (aintcOutputs (m .aintc)) → r ≡ shown m
 aintc-columns m k r e = e ∙ sym (aintc-shows m k)
 
 -- ---- nothing but the record of its kind
 
 pub beside-same : (m : Machine) → Beside m m
-beside-same m = record { aic = λ _. refl; core = λ _. refl; aintc = λ _. refl }
+beside-same m = record { aic = λ _. refl; core = λ _. refl; cic = λ _. refl; aintc = λ _. refl }
 
 pub beside-step : (first m : Machine) (x : Recorded) → sound m ≡ true → Roomed m → Beside first m → Beside first (step m x .machine)
 beside-step first m x ok l b = go (kind-of (m .kind))
@@ -145,6 +165,7 @@ beside-step first m x ok l b = go (kind-of (m .kind))
         (record {
           aic = λ _. ap (λ (n : Machine). withAic n (aicStep (m .aic) (x .step) .aic)) (b .aic k);
           core = λ e. absurd (omega (arith, k, e));
+          cic = λ e. absurd (omega (arith, k, e));
           aintc = λ e. absurd (omega (arith, k, e));
         })
     go (isCore k) =
@@ -152,6 +173,7 @@ beside-step first m x ok l b = go (kind-of (m .kind))
         (record {
           aic = λ e. absurd (omega (arith, k, e));
           core = λ _. ap (λ (n : Machine). withCore n (coreStep (m .core) (x .step) .core)) (b .core k);
+          cic = λ e. absurd (omega (arith, k, e));
           aintc = λ e. absurd (omega (arith, k, e));
         })
     go (isAintc k) =
@@ -159,10 +181,18 @@ beside-step first m x ok l b = go (kind-of (m .kind))
         (record {
           aic = λ e. absurd (omega (arith, k, e));
           core = λ e. absurd (omega (arith, k, e));
+          cic = λ e. absurd (omega (arith, k, e));
           aintc = λ _. ap (λ (n : Machine). withAintc n (aintcStep (m .aintc) (x .privilege) (x .step) .aintc)) (b .aintc k);
         })
-    go (isCic k) = absurd (l .0 k)
-    go (isIndexed k) = absurd (l .1 k)
+    go (isCic k) =
+        subst (λ (a : Answer). Beside first (a .machine)) (sym (cic-steps m x k))
+        (record {
+          aic = λ e. absurd (omega (arith, k, e));
+          core = λ e. absurd (omega (arith, k, e));
+          cic = λ _. ap (λ (n : Machine). withCic n (cicStep (m .cic) (x .step) .cic)) (b .cic k);
+          aintc = λ e. absurd (omega (arith, k, e));
+        })
+    go (isIndexed k) = absurd (l k)
     go (isNone p q r s t) = absurd (t (fifth-kind m ok p q r s))
 
 pub aic-record : (first m : Machine) (a : Aic) → m .kind ≡ aicKind → Beside first m → a ≡ m .aic → withAic first a ≡ m
@@ -170,6 +200,9 @@ aic-record first m a k b e = ap (withAic first) e ∙ sym (b .aic k)
 
 pub core-record : (first m : Machine) (c : Core) → m .kind ≡ coreKind → Beside first m → c ≡ m .core → withCore first c ≡ m
 core-record first m c k b e = ap (withCore first) e ∙ sym (b .core k)
+
+pub cic-record : (first m : Machine) (c : Cic) → m .kind ≡ cicKind → Beside first m → c ≡ m .cic → withCic first c ≡ m
+cic-record first m c k b e = ap (withCic first) e ∙ sym (b .cic k)
 
 pub aintc-record : (first m : Machine) (a : Aintc) → m .kind ≡ aintcKind → Beside first m → a ≡ m .aintc → withAintc first a ≡ m
 aintc-record first m a k b e = ap (withAintc first) e ∙ sym (b .aintc k)

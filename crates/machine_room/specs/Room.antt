@@ -9,6 +9,8 @@ use Rattle.aic_record.specs.declared.Aic.{Aic}
 use Rattle.aic_layout.specs.Room.{Laid as AicLaid}
 use Rattle.coreinterrupt.specs.declared.Core.{Core}
 use Rattle.coreinterrupt_room.specs.Room.{Laid as CoreLaid}
+use Rattle.cic_record.specs.declared.Cic.{Cic}
+use Rattle.cic_laid.specs.Room.{plain, Laid as CicLaid}
 use Rattle.aintc_record.specs.declared.Aintc.{Aintc}
 use Rattle.aintc_layout.specs.Room.{Laid as AintcLaid}
 use Rattle.kinds.specs.Kinds.{aicKind, coreKind, cicKind, aintcKind, indexedKind}
@@ -18,13 +20,14 @@ use Rattle.rooms.specs.Reply.{Reply, reply}
 
 -- the kinds that stand in a room
 abbrev pub Roomed : Machine → Type 0
-Roomed m = (m .kind ≢ cicKind) × (m .kind ≢ indexedKind)
+Roomed m = m .kind ≢ indexedKind
 
 -- the machine stands in the room: its kind in word 0, and the record of its kind as that kind lays it. Where `kept`, so does what a listing shows of a CIC
 pub record Laid (kept : Bool) (m : Machine) (room : List ℕ) : Type 0 where
   pub kind : getD room 0 0 ≡ m .kind
   pub aic : m .kind ≡ aicKind → AicLaid (m .aic) room
   pub core : m .kind ≡ coreKind → CoreLaid (m .core) room
+  pub cic : m .kind ≡ cicKind → CicLaid (plain kept) (m .cic) room
   pub aintc : m .kind ≡ aintcKind → AintcLaid (m .aintc) room
 
 -- the refusal and the value of an answer
@@ -42,6 +45,9 @@ withAic m a = record { kind = m .kind; aic = a; core = m .core; cic = m .cic; ai
 abbrev pub withCore : Machine → Core → Machine
 withCore m c = record { kind = m .kind; aic = m .aic; core = c; cic = m .cic; aintc = m .aintc; held = m .held }
 
+abbrev pub withCic : Machine → Cic → Machine
+withCic m c = record { kind = m .kind; aic = m .aic; core = m .core; cic = c; aintc = m .aintc; held = m .held }
+
 abbrev pub withAintc : Machine → Aintc → Machine
 withAintc m a = record { kind = m .kind; aic = m .aic; core = m .core; cic = m .cic; aintc = a; held = m .held }
 
@@ -49,4 +55,5 @@ withAintc m a = record { kind = m .kind; aic = m .aic; core = m .core; cic = m .
 pub record Beside (first m : Machine) : Type 0 where
   pub aic : m .kind ≡ aicKind → m ≡ withAic first (m .aic)
   pub core : m .kind ≡ coreKind → m ≡ withCore first (m .core)
+  pub cic : m .kind ≡ cicKind → m ≡ withCic first (m .cic)
   pub aintc : m .kind ≡ aintcKind → m ≡ withAintc first (m .aintc)

@@ -29,6 +29,10 @@ pub fn lay(m: Machine, kept: bool) -> Room
         let c = m.core;
         return coreinterrupt_room::lay(c);
     }
+    if m.kind == kinds::CIC {
+        let c = m.cic;
+        return cic_transfer::lay(c, kept);
+    }
     let a = m.aintc;
     aintc_layout::lay(a)
 }
@@ -48,6 +52,11 @@ pub fn record_of(room: &Room, first: Machine) -> Machine
         m.core = c;
         return m;
     }
+    if room[KIND] == kinds::CIC {
+        let c = cic_transfer::record_of(room);
+        m.cic = c;
+        return m;
+    }
     let a = aintc_layout::record_of(room);
     m.aintc = a;
     m
@@ -65,6 +74,9 @@ pub fn step(room: &mut Room, kind: u32, x: u32, y: u32, privilege: u32) -> u64
         5 => coreinterrupt_room::read(room, x),
         6 => coreinterrupt_room::write(room, x, y),
         7 => coreinterrupt_room::line(room, x, y),
+        9 => cic_room::read(room, x),
+        10 => cic_room::write(room, x, y),
+        11 => cic_room::line(room, x, y),
         13 => aintc_room::read(room, x, privilege),
         14 => aintc_room::write(room, x, y, privilege),
         _ => aintc_room::line(room, x, y),
@@ -87,6 +99,9 @@ pub fn columns(room: &Room) -> Columns
     }
     if room[KIND] == kinds::CORE {
         return machine_record::core_columns(coreinterrupt_room::outputs(room));
+    }
+    if room[KIND] == kinds::CIC {
+        return machine_record::cic_columns(cic_room::outputs(room));
     }
     machine_record::aintc_columns(aintc_room::outputs(room))
 }

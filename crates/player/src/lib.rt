@@ -34,9 +34,6 @@ fn play_by_kind(trace: &[u8], limit: u32, b: Begun) -> Played
     ensures { λ r. ⌜ r ≡ playOf (now (trace .entry)) limit ⌝ }
 {
     let m = b.machine;
-    if m.kind == kinds::CIC {
-        return play_cic::play_steps(trace, limit, b.place, m.cic);
-    }
     if m.kind == kinds::INDEXED {
         return play_any(trace, limit, b);
     }

@@ -8,7 +8,7 @@ use Rattle.cic.proofs.read.Statement.{statement}
 use Rattle.cic.proofs.read.Tie as tie
 
 returns : tie.Need-returns
-returns c = c .read-parts .ensures ∙ ap (λ (t : Bool). readAs t (c .before .before .before .args .c) (c .before .before .before .args .offset)) (sym (c .before .if1 .taken) ∙ c .before .before .is-sound .ensures)
+returns c = c .read-in .ensures ∙ ap (λ (t : Bool). readAs t (c .before .before .before .args .c) (c .before .before .before .args .offset)) (sym (c .before .if1 .taken) ∙ c .before .before .is-sound .ensures)
 
 returns-2 : tie.Need-returns-2
 returns-2 c =
@@ -18,4 +18,4 @@ returns-2 c =
 pub read-spec : {M : Type 1} → statement M
 read-spec =
     tie.close
-    (tie.spec (λ c κs. search needs) (λ c κs. search needs) returns (λ c κs. search needs) returns-2)
+    (tie.spec (λ c κs. search needs) (λ c κs. sym (c .before .is-sound .ensures) ∙ c .if1 .taken) returns (λ c κs. search needs) returns-2)

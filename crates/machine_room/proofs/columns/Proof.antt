@@ -1,8 +1,10 @@
 -- That `columns` of src/lib.rt keeps its contract.
-use mathlib.Core.Path.{ap, _∙_}
-use Rattle.machine_record.specs.Shown.{aicColumns, coreColumns, aintcColumns}
-use Rattle.machine_record.proofs.MachineLaws.{sound-aic, sound-core, sound-aintc}
-use Rattle.machine_room.proofs.RoomLaws.{of-kind, not-kind, aic-columns, core-columns, aintc-columns, last-kind}
+use mathlib.Core.Path.{refl, ap, _∙_}
+use mathlib.Core.Bool.{true}
+use Rattle.cic_laid.specs.Room.{plain}
+use Rattle.machine_record.specs.Shown.{aicColumns, coreColumns, cicColumns, aintcColumns}
+use Rattle.machine_record.proofs.MachineLaws.{sound-aic, sound-core, sound-cic, sound-aintc}
+use Rattle.machine_room.proofs.RoomLaws.{of-kind, not-kind, aic-columns, core-columns, cic-columns, aintc-columns, last-kind}
 use borrow.Author.Needs.{needs}
 use Rattle.machine_room.proofs.columns.Statement.{statement}
 use Rattle.machine_room.proofs.columns.Tie as tie
@@ -22,10 +24,16 @@ returns-2 c =
 returns-3 : tie.Need-returns-3
 returns-3 c =
     λ m ok l h.
-    let k = last-kind m ok l (not-kind h (c .before .before .before .before .if1 .left)) (not-kind h (c .before .before .if2 .left)) in
-    aintc-columns m k _ (c .aintc-columns .ensures ∙ ap aintcColumns (c .before .outputs3 .ensures (m .aintc) (sound-aintc m k ∙ ok) (h .aintc k)))
+    let k = of-kind h (c .before .before .if3 .taken) in
+    cic-columns m k _ (c .cic-columns .ensures ∙ ap cicColumns (c .before .outputs3 .ensures (plain true) (m .cic) refl (sound-cic m k ∙ ok) (h .cic k)))
+
+returns-4 : tie.Need-returns-4
+returns-4 c =
+    λ m ok l h.
+    let k = last-kind m ok l (not-kind h (c .before .before .before .before .before .before .if1 .left)) (not-kind h (c .before .before .before .before .if2 .left)) (not-kind h (c .before .before .if3 .left)) in
+    aintc-columns m k _ (c .aintc-columns .ensures ∙ ap aintcColumns (c .before .outputs4 .ensures (m .aintc) (sound-aintc m k ∙ ok) (h .aintc k)))
 
 pub columns-spec : {M : Type 1} → statement M
 columns-spec =
     tie.close
-    (tie.spec (λ c. search needs) (λ c κs. search needs) (λ c κs. search needs) returns (λ c. search needs) (λ c κs. search needs) (λ c κs. search needs) returns-2 (λ c κs. search needs) (λ c κs. search needs) returns-3)
+    (tie.spec (λ c. search needs) (λ c κs. search needs) (λ c κs. search needs) returns (λ c. search needs) (λ c κs. search needs) (λ c κs. search needs) returns-2 (λ c. search needs) (λ c κs. search needs) (λ c κs. search needs) returns-3 (λ c κs. search needs) (λ c κs. search needs) returns-4)

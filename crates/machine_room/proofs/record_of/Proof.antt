@@ -1,7 +1,8 @@
 -- That `record_of` of src/lib.rt keeps its contract.
 use mathlib.Core.Path.{_∙_}
+use Rattle.cic_laid.specs.Room.{plain}
 use Rattle.machine_record.proofs.MachineLaws.{sound-aic, sound-aintc}
-use Rattle.machine_room.proofs.RoomLaws.{of-kind, not-kind, aic-record, core-record, aintc-record, last-kind}
+use Rattle.machine_room.proofs.RoomLaws.{of-kind, not-kind, aic-record, core-record, cic-record, aintc-record, last-kind}
 use borrow.Author.Needs.{needs}
 use Rattle.machine_room.proofs.record_of.Statement.{statement}
 use Rattle.machine_room.proofs.record_of.Tie as tie
@@ -21,10 +22,16 @@ returns-2 c =
 returns-3 : tie.Need-returns-3
 returns-3 c =
     λ kept m ok l h b.
-    let k = last-kind m ok l (not-kind h (c .before .before .before .if1 .left)) (not-kind h (c .before .if2 .left)) in
-    aintc-record (c .before .before .before .before .before .args .first) m _ k b (c .record-of3 .ensures (m .aintc) (sound-aintc m k ∙ ok) (h .aintc k))
+    let k = of-kind h (c .before .if3 .taken) in
+    cic-record (c .before .before .before .before .before .before .before .args .first) m _ k b (c .record-of3 .ensures (plain kept) (m .cic) (h .cic k))
+
+returns-4 : tie.Need-returns-4
+returns-4 c =
+    λ kept m ok l h b.
+    let k = last-kind m ok l (not-kind h (c .before .before .before .before .before .if1 .left)) (not-kind h (c .before .before .before .if2 .left)) (not-kind h (c .before .if3 .left)) in
+    aintc-record (c .before .before .before .before .before .before .before .args .first) m _ k b (c .record-of4 .ensures (m .aintc) (sound-aintc m k ∙ ok) (h .aintc k))
 
 pub record-of-spec : {M : Type 1} → statement M
 record-of-spec =
     tie.close
-    (tie.spec (λ c. search needs) (λ c κs. search needs) returns (λ c. search needs) (λ c κs. search needs) returns-2 (λ c κs. search needs) returns-3)
+    (tie.spec (λ c. search needs) (λ c κs. search needs) returns (λ c. search needs) (λ c κs. search needs) returns-2 (λ c. search needs) (λ c κs. search needs) returns-3 (λ c κs. search needs) returns-4)

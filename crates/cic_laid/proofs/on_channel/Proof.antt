@@ -1,0 +1,15 @@
+-- That `on_channel` of src/lib.rt keeps its contract.
+use mathlib.Core.Path.{sym, _∙_}
+use Prim.Native.Nat.{_-_}
+use Rattle.words.proofs.ChoiceLaws.{pick-true}
+use Rattle.cic_laid.proofs.RoomLaws.{tables-of}
+use borrow.Author.Needs.{needs}
+use Rattle.cic_laid.proofs.on_channel.Statement.{statement}
+use Rattle.cic_laid.proofs.on_channel.Tie as tie
+
+returns : tie.Need-returns
+returns c = let x = c .before .before in λ f d on h. tables-of h .ofChannel .holds (x .args .k .0) (x .pre) ∙ sym (pick-true 0 on)
+
+pub on-channel-spec : {M : Type 1} → statement M
+on-channel-spec =
+    tie.close (tie.spec (λ c. search needs) (λ c. search needs) (λ c. search needs) (λ c. search needs) returns)

@@ -1,3 +1,0 @@
--- The laws of renewed words.
-pub mod RenewLaws
-pub mod RecountLaws

@@ -1,1 +1,0 @@
--- What renews the kept words and counts has no definitions of its own: it is said by those of crate cic_counts.

@@ -1,0 +1,2 @@
+-- Laws of what a step in a room answers.
+pub mod ReplyLaws

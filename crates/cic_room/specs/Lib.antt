@@ -1,0 +1,2 @@
+-- The steps of a CIC in a room.
+pub mod Reply

@@ -1,2 +1,0 @@
--- The answer of a step that is listed.
-pub mod Answers

@@ -1,0 +1,3 @@
+-- Laws of a record laid into a room, and taken out of it.
+pub mod CopyLaws
+pub mod LayLaws

@@ -1,0 +1,2 @@
+-- A record into a room and back.
+pub mod Copies
