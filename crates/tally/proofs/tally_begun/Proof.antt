@@ -7,7 +7,9 @@ use Rattle.tally.proofs.tally_begun.Statement.{statement}
 use Rattle.tally.proofs.tally_begun.Tie as tie
 
 tally-steps-requires : tie.Need-tally-steps-requires
-tally-steps-requires c κs = let p = c .before .before .before .pre in begin-ready _ _ (p .0) (p .1)
+tally-steps-requires c κs = 
+    let p = c .before .before .before .pre in
+    (begin-ready _ _ (p .0) (p .1), c .before .if1 .left, none-open _ _ (p .0), begun-length _ _ (p .0) (p .1))
 
 returns : tie.Need-returns
 returns c = let p = c .before .before .before .before .pre in
