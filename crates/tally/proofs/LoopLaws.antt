@@ -39,19 +39,19 @@ pub record Tallying (trace : List ℕ) (limit : ℕ) (told : Bool) (start : ℕ)
   pub far : count ≤ at
 
 -- one step more
-module _ {trace : List ℕ} {limit : ℕ} {told : Bool} {start : ℕ} {first : Machine} {count refused left at : ℕ} {room book room′ book′ : List ℕ} (t : Told) {q : Reply}
+module _ {trace : List ℕ} {limit : ℕ} {told : Bool} {start : ℕ} {first : Machine} {count refused left at : ℕ} {room book : List ℕ} (t : Told)
     (g : Tallying trace limit told start first count refused left at room book) (short : length trace ≤ 65536)
-    (e : turnOf t ≡ turnAt told trace at left) (n : t .kind ≡ endedKind → ⊥)
-    (d : (k : Bool) (m : Machine) → sound m ≡ true → Roomed m → Laid k m room → Done k (step m (recordedOf t)) room′ q) where
+    (e : turnOf t ≡ turnAt told trace at left) (n : t .kind ≡ endedKind → ⊥) where
   pub small : count < 65536
   small = omega (arith, g .far, short, found-far told trace at left _ (t .next) (finds t told trace at left e n) .0, found-far told trace at left _ (t .next) (finds t told trace at left e n) .1)
 
-  pub tallies-on : (o r : ℕ) → o ≡ one (not (eqb r carriedOut)) → r ≡ q .0
+  pub tallies-on : (room′ book′ : List ℕ) (q : Reply) (d : (k : Bool) (m : Machine) → sound m ≡ true → Roomed m → Laid k m room → Done k (step m (recordedOf t)) room′ q)
+      (o r : ℕ) → o ≡ one (not (eqb r carriedOut)) → r ≡ q .0
       → ((f : Figures) (m : Machine) (k : ℕ) (x : Recorded) → Ready m → k < 4294967290 → (m .kind ≡ aicKind → getD room 7 0 ≡ m .aic .depth) → Followed f m k book
       → Laid false (step m x .machine) room′ → Followed (followedBy f m x) (step m x .machine) (k + 1) book′)
       → Tallying trace limit told start first (count + 1) (refused + o) (left - 1) (t .next) room′ book′
   unfolding next step
-  tallies-on o r eo er f =
+  tallies-on room′ book′ q d o r eo er f =
       let s = g .stood in
       let m = s .machine in
       let x = recordedOf t in

@@ -66,10 +66,11 @@ kept-later f s n book h =
 module _ (f : Figures) (m : Machine) (n : ℕ) (x : Recorded) (book : List ℕ) (h : Followed f m n book) where
   pub follow-aic : (last : List ℕ) → m .kind ≡ aicKind → Kept (followed f (m .aic) (x .step)) (aicStep (m .aic) (x .step) .aic) (n + 1) last
       → Followed (followedBy f m x) (step m x .machine) (n + 1) last
-  follow-aic last z k =
-      (aicStep (m .aic) (x .step) .aic,
-      subst (λ (g : Figures). Kept g (aicStep (m .aic) (x .step) .aic) (n + 1) last) (sym (followed-aic f m x z)) k,
-      λ _. sym (aic-after m x z))
+  follow-aic last z k = (
+    aicStep (m .aic) (x .step) .aic,
+    subst (λ (g : Figures). Kept g (aicStep (m .aic) (x .step) .aic) (n + 1) last) (sym (followed-aic f m x z)) k,
+    λ _. sym (aic-after m x z),
+  )
 
   pub follow-other : (m .kind ≡ aicKind → ⊥) → Followed (followedBy f m x) (step m x .machine) (n + 1) book
   follow-other z =

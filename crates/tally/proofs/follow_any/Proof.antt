@@ -10,19 +10,7 @@ use Rattle.tally.proofs.TurnLaws.{aic-after, follow-aic, follow-other}
 use borrow.Author.Needs.{needs}
 use Rattle.tally.proofs.follow_any.Statement.{statement}
 use Rattle.tally.proofs.follow_any.Tie as tie
-use Rattle.tally.proofs.follow_any.Reads as reads
-use Rattle.tally.proofs.follow_any.Lts as lts
-use Rattle.aic_figures.proofs.follow.Reads as follow-reads
 
--- src/lib.rt:118:8
-element-copy-out-if1 : tie.Need-element-copy-out-if1
-element-copy-out-if1 c = search needs
-
--- src/lib.rt:119:9
-follow-requires : tie.Need-follow-requires
-follow-requires c κs = search needs
-
--- src/lib.rt:115:1
 returns : tie.Need-returns
 returns c =
     let a = c .before .before .before .before .args in
@@ -33,11 +21,10 @@ returns c =
     (c .follow .ensures f (m .aic) n (x .step) (sound-aic m z ∙ r .0) (r .1) l (e z) k
     (subst (λ (s : Aic). Laid s (a .room .now)) (aic-after m x z) (d .aic (step-kind m x ∙ z))))
 
--- src/lib.rt:115:1
 returns-2 : tie.Need-returns-2
 returns-2 c =
     let a = c .before .before .args in
     λ f m n x r l e h d. follow-other f m n x (a .book .now) h (λ z. c .if1 .left (d .kind ∙ step-kind m x ∙ z))
 
 pub follow-any-spec : {M : Type 1} → statement M
-follow-any-spec = tie.close (tie.spec element-copy-out-if1 follow-requires returns returns-2)
+follow-any-spec = tie.close (tie.spec (λ c. search needs) (λ c κs. search needs) returns returns-2)
