@@ -1,0 +1,7 @@
+-- The CIC with prioritised indices in a room.
+pub mod Marks
+pub mod Promises
+pub mod Reply
+pub mod Room
+pub mod Search
+pub mod Words

@@ -1,0 +1,2 @@
+-- Laws of a record into a room and back.
+pub mod TransferLaws
