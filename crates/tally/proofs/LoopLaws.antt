@@ -22,7 +22,7 @@ use Rattle.machine_record.specs.declared.Machine.{Machine}
 use Rattle.machine_record.specs.Machine.{sound}
 use Rattle.machine_record.specs.Promises.{Ready}
 use Rattle.machine.specs.Steps.{step}
-use Rattle.machine_room.specs.Room.{Roomed, Laid, Done}
+use Rattle.machine_room.specs.Room.{Laid, Done}
 use Rattle.loops.proofs.LoopLaws.{Standing, next, done}
 use Rattle.tally.specs.Following.{followedBy, tallied, Followed}
 use Rattle.tally.proofs.LengthLaws.{found-far}
@@ -45,7 +45,7 @@ module _ {trace : List ℕ} {limit : ℕ} {told : Bool} {start : ℕ} {first : M
   pub small : count < 65536
   small = omega (arith, g .far, short, found-far told trace at left _ (t .next) (finds t told trace at left e n) .0, found-far told trace at left _ (t .next) (finds t told trace at left e n) .1)
 
-  pub tallies-on : (room′ book′ : List ℕ) (q : Reply) (d : (k : Bool) (m : Machine) → sound m ≡ true → Roomed m → Laid k m room → Done k (step m (recordedOf t)) room′ q)
+  pub tallies-on : (room′ book′ : List ℕ) (q : Reply) (d : (k : Bool) (m : Machine) → sound m ≡ true → Laid k m room → Done k (step m (recordedOf t)) room′ q)
       (o r : ℕ) → o ≡ one (not (eqb r carriedOut)) → r ≡ q .0
       → ((f : Figures) (m : Machine) (k : ℕ) (x : Recorded) → Ready m → k < 4294967290 → (m .kind ≡ aicKind → getD room 7 0 ≡ m .aic .depth) → Followed f m k book
       → Laid false (step m x .machine) room′ → Followed (followedBy f m x) (step m x .machine) (k + 1) book′)

@@ -1,5 +1,4 @@
 // The figures of one trace: the steps played and refused, and of an AIC what each source did over them (02, 11/12).
-ghost use mathlib.Core.Logic.{_≢_};
 ghost use mathlib.Core.Path.{_≡_};
 ghost use mathlib.Core.Bool.{false, not};
 ghost use Prim.Native.Nat.{ℕ, _+_, _<_, _≤_};
@@ -15,7 +14,7 @@ ghost use Rattle.steps.specs.declared.Recorded.{Recorded};
 ghost use Rattle.aic_waits.specs.Following.{Figures, noFigures};
 ghost use Rattle.machine_record.specs.declared.Machine.{Machine};
 ghost use Rattle.machine.specs.Steps.{step};
-ghost use Rattle.machine_room.specs.Room.{Roomed, Laid};
+ghost use Rattle.machine_room.specs.Room.{Laid};
 ghost use Rattle.tally.specs.Tally.{tallyOf};
 ghost use Rattle.tally.specs.Following.{followedBy, tallied, notTallied, Followed};
 use aic_figures::Book;
@@ -23,7 +22,6 @@ use beginning::Begun;
 use machine_record::Machine;
 use rooms::Room;
 use totals::Totals;
-use trace::Turn;
 
 // The steps played, the steps refused among them, how the trace ended and where, and the figures of each source.
 pub struct Tallied {
@@ -66,16 +64,13 @@ fn tally_begun(trace: &[u8], limit: u32, b: Begun) -> Tallied
 {
     let m = b.machine;
     let told = kinds::tells_privilege(m.kind);
-    if m.kind == kinds::INDEXED {
-        return tally_plain(trace, limit, told, b.place, m);
-    }
     tally_steps(trace, limit, told, b.place, m)
 }
 
 // Plays the steps from a place on in a room, and moves the figures on with each; where `told`, they tell their privilege. The limit falls by one with
 // each step.
 fn tally_steps(trace: &[u8], limit: u32, told: bool, start: usize, first: Machine) -> Tallied
-    requires { ⌜ Ready first × Roomed first × (first .aic .depth ≡ 0) × (length (now trace) ≤ 65536) ⌝ }
+    requires { ⌜ Ready first × (first .aic .depth ≡ 0) × (length (now trace) ≤ 65536) ⌝ }
     ensures { λ r. ⌜ r ≡ tallied 0 0 noFigures first (stepsFrom told limit (now (trace .entry)) start) ⌝ }
 {
     let mut room = machine_room::lay(first, false);
@@ -103,40 +98,6 @@ fn tally_steps(trace: &[u8], limit: u32, told: bool, start: usize, first: Machin
         at = t.next;
         left = left - 1;
         count = count + 1;
-    }
-}
-
-// The same by value, for a kind that stands in no room: no source has figures there.
-fn tally_plain(trace: &[u8], limit: u32, told: bool, start: usize, first: Machine) -> Tallied
-    requires { ⌜ Ready first × (first .kind ≢ aicKind) ⌝ }
-    ensures { λ r. ⌜ r ≡ tallied 0 0 noFigures first (stepsFrom told limit (now (trace .entry)) start) ⌝ }
-{
-    let mut at = start;
-    let mut m = first;
-    let mut left = limit;
-    let mut count: u32 = 0;
-    let mut refused: u32 = 0;
-    loop {
-        match trace::turn_at(trace, at, left, told) {
-            Turn::Ended(refusal, offset) => {
-                let f = totals::none();
-                return Tallied {
-                    steps: count,
-                    refused,
-                    refusal,
-                    offset,
-                    figures: f,
-                };
-            }
-            Turn::Found(x, next) => {
-                let a = machine::step_sound(m, x);
-                m = a.machine;
-                refused = refused + refused_one(a.refusal);
-                at = next;
-                left = left - 1;
-                count = count + 1;
-            }
-        }
     }
 }
 

@@ -1,32 +1,21 @@
 -- That `tally_begun` of src/lib.rt keeps its contract.
 use mathlib.Core.Path.{_∙_}
 use Rattle.beginning.proofs.BeginningLaws.{begin-ready}
-use native.Mathlib.Omega.{arith}
 use Rattle.tally.proofs.LengthLaws.{begun-length}
 use Rattle.tally.proofs.TallyLaws.{tally-begun, none-open}
 use borrow.Author.Needs.{needs}
 use Rattle.tally.proofs.tally_begun.Statement.{statement}
 use Rattle.tally.proofs.tally_begun.Tie as tie
 
-tally-plain-requires : tie.Need-tally-plain-requires
-tally-plain-requires c κs =
-    let p = c .before .before .before .before .before .pre in
-    (begin-ready _ _ (p .0) (p .1), λ z. absurd (omega (arith, z, c .if1 .taken)))
+tally-steps-requires : tie.Need-tally-steps-requires
+tally-steps-requires c κs =
+    let p = c .before .before .before .pre in
+    (begin-ready _ _ (p .0) (p .1), none-open _ _ (p .0), begun-length _ _ (p .0) (p .1))
 
 returns : tie.Need-returns
 returns c =
-    let p = c .before .before .before .before .before .before .pre in
-    c .tally-plain .ensures ∙ tally-begun _ _ _ _ (p .0) (p .1) (c .before .before .before .tells-privilege .ensures)
-
-tally-steps-requires : tie.Need-tally-steps-requires
-tally-steps-requires c κs =
-    let p = c .before .before .before .before .before .pre in
-    (begin-ready _ _ (p .0) (p .1), c .if1 .left, none-open _ _ (p .0), begun-length _ _ (p .0) (p .1))
-
-returns-2 : tie.Need-returns-2
-returns-2 c =
-    let p = c .before .before .before .before .before .before .pre in
-    c .tally-steps .ensures ∙ tally-begun _ _ _ _ (p .0) (p .1) (c .before .before .before .tells-privilege .ensures)
+    let p = c .before .before .before .before .pre in
+    c .tally-steps .ensures ∙ tally-begun _ _ _ _ (p .0) (p .1) (c .before .tells-privilege .ensures)
 
 pub tally-begun-spec : {M : Type 1} → statement M
-tally-begun-spec = tie.close (tie.spec (λ c κs. search needs) tally-plain-requires returns tally-steps-requires returns-2)
+tally-begun-spec = tie.close (tie.spec (λ c κs. search needs) tally-steps-requires returns)

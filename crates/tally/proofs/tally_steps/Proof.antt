@@ -12,7 +12,7 @@ use Rattle.aic_waits.specs.Following.{noFigures}
 use Rattle.aic_figures.specs.Book.{Kept}
 use Rattle.machine_record.specs.declared.Machine.{Machine}
 use Rattle.machine_record.specs.Promises.{Ready}
-use Rattle.machine_room.specs.Room.{Roomed, Laid}
+use Rattle.machine_room.specs.Room.{Laid}
 use Rattle.loops.proofs.LoopLaws.{stands}
 use Rattle.tally.proofs.LoopLaws.{Tallying, tallies-on}
 use Rattle.tally.proofs.TurnLaws.{tallied-ended}
@@ -22,7 +22,7 @@ use Rattle.tally.proofs.tally_steps.Tie as tie
 
 abbrev Inv-loop : tie.InvT-loop
 Inv-loop trace limit told start room₀ book₀ at₀ left₀ count₀ refused₀ room book at left count refused =
-    (first : Machine) → Ready first → Roomed first → length trace ≤ 65536 → Laid false first room₀ → Kept noFigures (first .aic) 0 book₀
+    (first : Machine) → Ready first → length trace ≤ 65536 → Laid false first room₀ → Kept noFigures (first .aic) 0 book₀
     → Tallying trace limit told start first count refused left at room book
 
 abbrev μ-loop : tie.MeasureT-loop
@@ -30,8 +30,8 @@ abbrev μ-loop : tie.MeasureT-loop
 
 loop-holds : tie.Need-loop-holds Inv-loop μ-loop
 loop-holds c =
-    λ first r l n h k.
-    record { stood = stands false first _ r l h; figures = noFigures; followed = (first .aic, k, λ _. refl); whole = refl; counted = omega arith; few = omega arith; far = omega arith }
+    λ first r n h k.
+    record { stood = stands false first _ r h; figures = noFigures; followed = (first .aic, k, λ _. refl); whole = refl; counted = omega arith; few = omega arith; far = omega arith }
 
 returns : tie.Need-returns Inv-loop μ-loop
 returns c =
@@ -40,7 +40,7 @@ returns c =
     let l = s .before .before in
     let f = l .before .before .before .before in
     let p = f .pre in
-    let g = l .loop .inv (f .args .first) (p .0) (p .1) (p .3) (l .before .before .lay .ensures (p .0) (p .1)) (l .before .start .ensures (f .args .first .aic) (p .2)) in
+    let g = l .loop .inv (f .args .first) (p .0) (p .2) (l .before .before .lay .ensures (p .0)) (l .before .start .ensures (f .args .first .aic) (p .1)) in
     let k = g .followed in
     rw (c .totals-in .ensures (g .figures) (k .0) _ (k .1))
     (tallied-ended _ _ (g .figures) _ _ _ _ _ _ _ (ends-here _ _ _ _ _ (s .sure .ensures .0) (i .if1 .taken)) ∙ g .whole)
@@ -56,7 +56,7 @@ add-refused c =
     let l = s .before .before in
     let f = l .before .before .before .before in
     let p = f .pre in
-    let g = l .loop .inv (f .args .first) (p .0) (p .1) (p .3) (l .before .before .lay .ensures (p .0) (p .1)) (l .before .start .ensures (f .args .first .aic) (p .2)) in
+    let g = l .loop .inv (f .args .first) (p .0) (p .2) (l .before .before .lay .ensures (p .0)) (l .before .start .ensures (f .args .first .aic) (p .1)) in
     omega (arith, found-here _ _ _ _ _ (s .sure .ensures .0) (i .if1 .left) .1 .0, g .counted, g .few, c .refused-one .ensures, one-le (not (eqb (c .before .refusal-in .result) carriedOut)), f .fits .limit)
 
 sub-left : tie.Need-sub-left Inv-loop μ-loop
@@ -72,7 +72,7 @@ add-count c =
     let l = s .before .before in
     let f = l .before .before .before .before in
     let p = f .pre in
-    let g = l .loop .inv (f .args .first) (p .0) (p .1) (p .3) (l .before .before .lay .ensures (p .0) (p .1)) (l .before .start .ensures (f .args .first .aic) (p .2)) in
+    let g = l .loop .inv (f .args .first) (p .0) (p .2) (l .before .before .lay .ensures (p .0)) (l .before .start .ensures (f .args .first .aic) (p .1)) in
     omega (arith, found-here _ _ _ _ _ (s .sure .ensures .0) (i .if1 .left) .1 .0, g .counted, f .fits .limit)
 
 loop-less : tie.Need-loop-less Inv-loop μ-loop
@@ -86,8 +86,8 @@ loop-again c =
     let i = c .before .before .before .before .before .before .before in
     let s = i .before .before in
     let l = s .before .before in
-    λ first r o n h k.
-    tallies-on _ (l .loop .inv first r o n h k) n (s .sure .ensures .0) (i .if1 .left) (c .before .before .before .before .before .step .last .0) (c .before .before .follow-any .last .0) _
+    λ first r n h k.
+    tallies-on _ (l .loop .inv first r n h k) n (s .sure .ensures .0) (i .if1 .left) (c .before .before .before .before .before .step .last .0) (c .before .before .follow-any .last .0) _
     (c .before .before .before .before .before .step .ensures) (c .refused-one .result) (c .before .refusal-in .result) (c .refused-one .ensures) (c .before .refusal-in .ensures)
     (c .before .before .follow-any .ensures)
 
