@@ -31,7 +31,9 @@ pub fn encode(text: &[u8]) -> Result<Vec<u8>, String> {
         lines += 1;
         let told = |why: String| format!("line {lines}: {why}\n");
         if begins + line.len() > LONGEST_TEXT {
-            return Err(told(format!("the text is longer than {LONGEST_TEXT} bytes")));
+            return Err(told(format!(
+                "the text is longer than {LONGEST_TEXT} bytes"
+            )));
         }
         begins += line.len() + 1;
         let words = words(line);
@@ -67,13 +69,17 @@ fn no_controller() -> String {
 fn statement(controller: &mut Option<usize>, words: &[&[u8]]) -> Result<Vec<u32>, String> {
     let (first, more) = match *controller {
         None => {
-            let found = CONTROLLERS.iter().position(|(name, _)| name.as_bytes() == words[0]);
+            let found = CONTROLLERS
+                .iter()
+                .position(|(name, _)| name.as_bytes() == words[0]);
             let kind = found.ok_or_else(no_controller)?;
             *controller = Some(kind);
             (kind as u32, CONTROLLERS[kind].1)
         }
         Some(kind) => {
-            let found = STEPS.iter().position(|(name, _, _)| name.as_bytes() == words[0]);
+            let found = STEPS
+                .iter()
+                .position(|(name, _, _)| name.as_bytes() == words[0]);
             let step = found.ok_or("a step was expected: read, write or line")?;
             let (_, plain, told) = STEPS[step];
             (step as u32 + 1, if kind == AINTC { told } else { plain })
@@ -88,7 +94,10 @@ fn statement(controller: &mut Option<usize>, words: &[&[u8]]) -> Result<Vec<u32>
         })?);
     }
     match words.len() > more + 1 {
-        true => Err(format!("the end of the line was expected before word {}", more + 2)),
+        true => Err(format!(
+            "the end of the line was expected before word {}",
+            more + 2
+        )),
         false => Ok(numbers),
     }
 }
@@ -119,30 +128,62 @@ mod tests {
     #[test]
     fn statements_are_their_numbers() {
         let text = "# a question\naic 0 0x80\r\n\n\twrite 0X0 1 # no\n";
-        assert_eq!(refused(text), "line 4: a number of at most 32 bits was expected as word 2\n");
+        assert_eq!(
+            refused(text),
+            "line 4: a number of at most 32 bits was expected as word 2\n"
+        );
         let text = "aic 0 0x80\r\n\n\twrite 0x120 32#1\nread 4294967295\nline 007 1";
         let bytes = encode(text.as_bytes()).expect("it is of the form");
-        assert_eq!(bytes, [0, 0, 0x80, 1, 2, 0xA0, 2, 32, 1, 0xFF, 0xFF, 0xFF, 0xFF, 0x0F, 3, 7, 1]);
-        assert_eq!(encode(b"aintc\nwrite 4 0 9\nread 4 1\nline 3 1"), Ok(vec![3, 2, 4, 0, 9, 1, 4, 1, 3, 3, 1]));
+        assert_eq!(
+            bytes,
+            [0, 0, 0x80, 1, 2, 0xA0, 2, 32, 1, 0xFF, 0xFF, 0xFF, 0xFF, 0x0F, 3, 7, 1]
+        );
+        assert_eq!(
+            encode(b"aintc\nwrite 4 0 9\nread 4 1\nline 3 1"),
+            Ok(vec![3, 2, 4, 0, 9, 1, 4, 1, 3, 3, 1])
+        );
     }
 
     #[test]
     fn refusals_tell_line_and_word() {
         assert_eq!(refused(""), format!("line 1: {}\n", no_controller()));
-        assert_eq!(refused("# nothing\n\n"), format!("line 3: {}\n", no_controller()));
+        assert_eq!(
+            refused("# nothing\n\n"),
+            format!("line 3: {}\n", no_controller())
+        );
         assert_eq!(refused("read 0"), format!("line 1: {}\n", no_controller()));
-        assert_eq!(refused("aintc\naintc"), "line 2: a step was expected: read, write or line\n");
-        assert_eq!(refused("aic 0 0\nread 4294967296"), "line 2: a number of at most 32 bits was expected as word 2\n");
-        assert_eq!(refused("aic 0 0 0"), "line 1: the end of the line was expected before word 4\n");
+        assert_eq!(
+            refused("aintc\naintc"),
+            "line 2: a step was expected: read, write or line\n"
+        );
+        assert_eq!(
+            refused("aic 0 0\nread 4294967296"),
+            "line 2: a number of at most 32 bits was expected as word 2\n"
+        );
+        assert_eq!(
+            refused("aic 0 0 0"),
+            "line 1: the end of the line was expected before word 4\n"
+        );
     }
 
     #[test]
     fn the_limits_are_met_and_not_passed() {
-        let steps = |count| "aintc\n".to_owned() + &"read 0 0\n".repeat(count) + "line 4294967295 4294967295\n";
-        assert_eq!(encode(steps(21_841).as_bytes()).map(|bytes| bytes.len()), Ok(65_535));
-        assert_eq!(refused(&steps(21_842)), "line 21844: the trace is longer than 65536 bytes\n");
+        let steps = |count| {
+            "aintc\n".to_owned() + &"read 0 0\n".repeat(count) + "line 4294967295 4294967295\n"
+        };
+        assert_eq!(
+            encode(steps(21_841).as_bytes()).map(|bytes| bytes.len()),
+            Ok(65_535)
+        );
+        assert_eq!(
+            refused(&steps(21_842)),
+            "line 21844: the trace is longer than 65536 bytes\n"
+        );
         let padded = |count| "aintc\n".to_owned() + &" ".repeat(count);
         assert_eq!(encode(padded(LONGEST_TEXT - 6).as_bytes()), Ok(vec![3]));
-        assert_eq!(refused(&padded(LONGEST_TEXT - 5)), "line 2: the text is longer than 1048576 bytes\n");
+        assert_eq!(
+            refused(&padded(LONGEST_TEXT - 5)),
+            "line 2: the text is longer than 1048576 bytes\n"
+        );
     }
 }

@@ -25,7 +25,11 @@ fn main() -> ExitCode {
     };
     let more: Vec<&str> = more.iter().map(String::as_str).collect();
     let program = Program::new(path, &more);
-    let (next, refused, wrong) = (AtomicUsize::new(0), AtomicUsize::new(0), AtomicUsize::new(0));
+    let (next, refused, wrong) = (
+        AtomicUsize::new(0),
+        AtomicUsize::new(0),
+        AtomicUsize::new(0),
+    );
     let workers = thread::available_parallelism().map_or(1, |number| number.get());
     thread::scope(|scope| {
         for _ in 0..workers {
@@ -39,13 +43,19 @@ fn main() -> ExitCode {
                 refused.fetch_add(usize::from(expected.is_err()), Ordering::Relaxed);
                 if let Err(why) = compared(&program, &text, expected) {
                     wrong.fetch_add(1, Ordering::Relaxed);
-                    say!("text {item}: {why}\n{}", text[..text.len().min(600)].escape_ascii());
+                    say!(
+                        "text {item}: {why}\n{}",
+                        text[..text.len().min(600)].escape_ascii()
+                    );
                 }
             });
         }
     });
     let (refused, wrong) = (refused.into_inner(), wrong.into_inner());
-    say!("{} texts, {refused} of them refused, {wrong} differ", 2 * count);
+    say!(
+        "{} texts, {refused} of them refused, {wrong} differ",
+        2 * count
+    );
     ExitCode::from(u8::from(wrong > 0))
 }
 
@@ -57,7 +67,11 @@ fn asked(words: &[String]) -> Option<(usize, &str, &[String])> {
 }
 
 /// Whether the program does with a text what the model does.
-fn compared(program: &Program, text: &[u8], expected: Result<Vec<u8>, String>) -> Result<(), String> {
+fn compared(
+    program: &Program,
+    text: &[u8],
+    expected: Result<Vec<u8>, String>,
+) -> Result<(), String> {
     let (printed, told) = program.run(&[], text)?;
     let expected = match expected {
         Ok(trace) => (trace, Vec::new()),

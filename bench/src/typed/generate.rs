@@ -23,7 +23,12 @@ fn at_a_limit(sort: usize) -> Vec<u8> {
         // 1 byte of the kind, and steps of 2, 3 and 4 bytes up to 65,533 + more
         let left = 65_532 + more;
         let (threes, rest) = ((left - 8) / 3, (left - 8) % 3);
-        let steps = "line 0 0\n".repeat(threes) + ["line 999 999\nline 0 0\n", "line 999 999\nline 999 0\n", "line 999 999\nline 999 999\n"][rest];
+        let steps = "line 0 0\n".repeat(threes)
+            + [
+                "line 999 999\nline 0 0\n",
+                "line 999 999\nline 999 0\n",
+                "line 999 999\nline 999 999\n",
+            ][rest];
         return ("aic 0 0\n".to_owned() + &steps).into_bytes();
     }
     let room = LONGEST_TEXT - 3 + more;
@@ -43,7 +48,12 @@ fn some(random: &mut Random) -> Vec<u8> {
     for _ in 0..random.below(30) {
         silence(random, &mut text);
         let (name, plain, told) = random.pick(&STEPS);
-        statement(random, &mut text, name, if kind == AINTC { told } else { plain });
+        statement(
+            random,
+            &mut text,
+            name,
+            if kind == AINTC { told } else { plain },
+        );
     }
     match random.below(3) {
         0 => {
@@ -80,7 +90,11 @@ fn statement(random: &mut Random, text: &mut Vec<u8>, name: &str, numbers: usize
 
 fn number(random: &mut Random, text: &mut Vec<u8>) {
     let value = random.word();
-    let zeros = "0".repeat(if random.one_in(8) { random.below(40) as usize } else { 0 });
+    let zeros = "0".repeat(if random.one_in(8) {
+        random.below(40) as usize
+    } else {
+        0
+    });
     let typed = match random.below(4) {
         0 => format!("0x{zeros}{value:X}"),
         1 => format!("0x{zeros}{value:x}"),
@@ -134,7 +148,15 @@ fn damaged(random: &mut Random, mut text: Vec<u8>) -> Vec<u8> {
             text.splice(at..at, piece);
         }
         _ => {
-            let word = random.pick(&[" 0", " 4294967296", " 0x", " 99999999999999999999", "\nread\n", "\naic 0 0\n", "\nREAD 0\n"]);
+            let word = random.pick(&[
+                " 0",
+                " 4294967296",
+                " 0x",
+                " 99999999999999999999",
+                "\nread\n",
+                "\naic 0 0\n",
+                "\nREAD 0\n",
+            ]);
             text.splice(at..at, word.bytes());
         }
     }

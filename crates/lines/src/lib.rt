@@ -1,43 +1,79 @@
 // The lines of a listing, as text in a buffer that the caller lends (01, "House trace").
 ghost use mathlib.Core.Path.{_≡_};
 ghost use mathlib.Core.Bool.{true};
-ghost use Prim.Native.Nat.{_+_, _≤_};
+ghost use mathlib.Core.List.{[], _∷_, _++_};
+ghost use Prim.Native.Nat.{_+_, _/_, _^_, _<_, _≤_};
+ghost use lib.Bits.{bitOr};
 ghost use lib.Dec.{eqb};
 ghost use lib.ListN.{length};
 ghost use Rattle.words.specs.Choice.{pick};
 ghost use Rattle.steps.specs.Refusals.{carriedOut};
-ghost use Rattle.text.specs.Text.{write};
+ghost use Rattle.text.specs.Text.{space, write};
+ghost use Rattle.text_room.specs.Bytes.{bytesOf};
+ghost use Rattle.text_room.specs.Numeral.{numeralOf};
+ghost use Rattle.lines.specs.Behind.{behind};
 ghost use Rattle.lines.specs.Listing.{letterOf, letter, letterOfKind, letterBy, shownValue, lineOf, endLine, endOf};
 use machine_record::Columns;
 use steps::Step;
 use text::NEWLINE;
 use text::SPACE;
+use text_room::Numeral;
 
-// The line of a step: its number, its letter, the value in eight digits, and the machine's three numbers. One test for room serves for all its bytes.
+// The line of a step: its number, its letter, the value in eight digits, and the machine's three numbers. Byte by byte: what finds no room is dropped.
 pub fn put_line(out: &mut [u8], at: usize, n: u32, letter: u8, value: u32, c: Columns) -> usize
     ensures { λ r. ⌜ (now (out .exit), r) ≡ write (now (out .entry), at) (lineOf n letter value c) ⌝ }
 {
-    if has_room(out.len(), at) {
-        return put_line_in(out, at, n, letter, value, c);
-    }
-    put_line_cut(out, at, n, letter, value, c)
+    let a = text::put_decimal(out, at, n as u64);
+    let b = text::put(out, a, SPACE);
+    let d = text::put(out, b, letter);
+    let e = text::put(out, d, SPACE);
+    let f = text::put_hex(out, e, value);
+    let g = text::put_field(out, f, c.first as u64);
+    let h = text::put_field(out, g, c.second as u64);
+    let i = text::put_field(out, h, c.third as u64);
+    text::put(out, i, NEWLINE)
 }
 
-// The line of a step of which the number of its kind is known, with what it answered.
-pub fn put_step(
+// The line of a step of which the number of its kind is known, with what it answered, by a loop that keeps the text of the line's number (text_room,
+// `following`). It has one caller, of which it becomes a part; one test for room serves for all its bytes.
+pub fn put_numbered(
     out: &mut [u8],
     at: usize,
     n: u32,
+    t: Numeral,
     kind: u32,
     refusal: u32,
     value: u32,
     c: Columns,
 ) -> usize
+    requires { ⌜ t ≡ numeralOf n ⌝ }
     ensures { λ r. ⌜ (now (out .exit), r) ≡ write (now (out .entry), at) (lineOf n (letterBy kind refusal) (shownValue refusal value) c) ⌝ }
 {
     let letter = letter_by(kind, refusal);
     let shown = shown_value(refusal, value);
-    put_line(out, at, n, letter, shown, c)
+    put_numbered_line(out, at, n, t, letter, shown, c)
+}
+
+// A line whose number has its text in a word; one that finds no room, or has no such text, is written byte by byte.
+fn put_numbered_line(
+    out: &mut [u8],
+    at: usize,
+    n: u32,
+    t: Numeral,
+    letter: u8,
+    value: u32,
+    c: Columns,
+) -> usize
+    requires { ⌜ t ≡ numeralOf n ⌝ }
+    ensures { λ r. ⌜ (now (out .exit), r) ≡ write (now (out .entry), at) (lineOf n letter value c) ⌝ }
+{
+    if t.width == 0 {
+        return put_line(out, at, n, letter, value, c);
+    }
+    if has_room(out.len(), at) {
+        return numbered_in(out, at, t.digits, t.width, letter, value, c);
+    }
+    put_line(out, at, n, letter, value, c)
 }
 
 // Whether a line finds room, however long its numbers are: it has at most 55 bytes.
@@ -50,35 +86,77 @@ fn has_room(length: usize, at: usize) -> bool
     at <= length - 55
 }
 
-// A line that finds room.
-fn put_line_in(out: &mut [u8], at: usize, n: u32, letter: u8, value: u32, c: Columns) -> usize
-    requires { ⌜ at + 55 ≤ length (now out) ⌝ }
-    ensures { λ r. ⌜ (now (out .exit), r) ≡ write (now (out .entry), at) (lineOf n letter value c) ⌝ }
+// A line that finds room, the text of its number in a word: eight bytes are stored, and what follows the number is written over those that are none of it.
+fn numbered_in(
+    out: &mut [u8],
+    at: usize,
+    digits: u64,
+    width: usize,
+    letter: u8,
+    value: u32,
+    c: Columns,
+) -> usize
+    requires { ⌜ (at + 55 ≤ length (now out)) × (width ≤ 8) ⌝ }
+    ensures { λ r. ⌜ (now (out .exit), r) ≡ write (now (out .entry), at) (bytesOf width digits ++ behind letter value c) ⌝ }
 {
-    let a = text_room::decimal_in(out, at, n);
-    let b = text_room::put_in(out, a, SPACE);
-    let d = text_room::put_in(out, b, letter);
-    let e = text_room::put_in(out, d, SPACE);
-    let f = text_room::hex_in(out, e, value);
-    let g = text_room::field_in(out, f, c.first);
-    let h = text_room::field_in(out, g, c.second);
-    let i = text_room::field_in(out, h, c.third);
-    text_room::put_in(out, i, NEWLINE)
+    text_room::word_in(out, at, digits);
+    behind_in(out, at + width, letter, value, c)
 }
 
-// A line near the end of the buffer: what finds no room is dropped.
-fn put_line_cut(out: &mut [u8], at: usize, n: u32, letter: u8, value: u32, c: Columns) -> usize
-    ensures { λ r. ⌜ (now (out .exit), r) ≡ write (now (out .entry), at) (lineOf n letter value c) ⌝ }
+// What follows the number. Nearly always the three decimals have one digit each.
+fn behind_in(out: &mut [u8], at: usize, letter: u8, value: u32, c: Columns) -> usize
+    requires { ⌜ at + 45 ≤ length (now out) ⌝ }
+    ensures { λ r. ⌜ (now (out .exit), r) ≡ write (now (out .entry), at) (behind letter value c) ⌝ }
 {
-    let a = text::put_decimal(out, at, n as u64);
-    let b = text::put(out, a, SPACE);
-    let d = text::put(out, b, letter);
-    let e = text::put(out, d, SPACE);
-    let f = text::put_hex(out, e, value);
-    let g = text::put_field(out, f, c.first as u64);
-    let h = text::put_field(out, g, c.second as u64);
-    let i = text::put_field(out, h, c.third as u64);
-    text::put(out, i, NEWLINE)
+    if (c.first | c.second | c.third) < 8 {
+        return short_in(out, at, letter, value, c);
+    }
+    long_in(out, at, letter, value, c)
+}
+
+// With three decimals of one digit: eighteen bytes, of which two words are stored.
+fn short_in(out: &mut [u8], at: usize, letter: u8, value: u32, c: Columns) -> usize
+    requires { ⌜ (at + 18 ≤ length (now out)) × (bitOr (bitOr (c .first) (c .second)) (c .third) < 8) ⌝ }
+    ensures { λ r. ⌜ (now (out .exit), r) ≡ write (now (out .entry), at) (behind letter value c) ⌝ }
+{
+    let w = text_room::digits(value);
+    let a = text_room::word_in(out, at, opening(letter, w));
+    let b = text_room::word_in(out, a, middle(w, c.first, c.second));
+    let d = text_room::put_in(out, b, (c.third + 48) as u8);
+    text_room::put_in(out, d, NEWLINE)
+}
+
+// A space, the letter, a space, and the first five of eight digits.
+fn opening(letter: u8, digits: u64) -> u64
+    ensures { λ r. ⌜ bytesOf 8 r ≡ space ∷ letter ∷ space ∷ bytesOf 5 digits ⌝ }
+{
+    0x200020 + 256 * letter as u64 + digits % 1099511627776 * 16777216
+}
+
+// The last three of eight digits, and two numbers below ten, with a space before each and behind them.
+fn middle(digits: u64, first: u32, second: u32) -> u64
+    requires { ⌜ (first < 10) × (second < 10) ⌝ }
+    ensures { λ r. ⌜ bytesOf 8 r ≡ bytesOf 3 (digits / 256 ^ 5) ++ (space ∷ (48 + first) ∷ space ∷ (48 + second) ∷ space ∷ []) ⌝ }
+{
+    digits / 1099511627776
+        + 0x2030203020000000
+        + first as u64 * 4294967296
+        + second as u64 * 281474976710656
+}
+
+// With decimals of any length.
+fn long_in(out: &mut [u8], at: usize, letter: u8, value: u32, c: Columns) -> usize
+    requires { ⌜ at + 45 ≤ length (now out) ⌝ }
+    ensures { λ r. ⌜ (now (out .exit), r) ≡ write (now (out .entry), at) (behind letter value c) ⌝ }
+{
+    let a = text_room::put_in(out, at, SPACE);
+    let b = text_room::put_in(out, a, letter);
+    let d = text_room::put_in(out, b, SPACE);
+    let e = text_room::hex_in(out, d, value);
+    let f = text_room::field_in(out, e, c.first);
+    let g = text_room::field_in(out, f, c.second);
+    let h = text_room::field_in(out, g, c.third);
+    text_room::put_in(out, h, NEWLINE)
 }
 
 // The last line of a listing that ends with a refusal; nothing where there is none.

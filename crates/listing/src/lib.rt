@@ -1,4 +1,4 @@
-// The listing of a recorded trace, as text in a buffer that the caller lends, by the loop of the trace's kind (01, "House trace"; 02, 2/12).
+// The listing of a recorded trace, as text in a buffer that the caller lends (01, "House trace"; 02, 2/12).
 ghost use mathlib.Core.Path.{_≡_};
 ghost use Rattle.steps.specs.Refusals.{carriedOut};
 ghost use Rattle.text.specs.Text.{write, laid};
@@ -18,10 +18,10 @@ pub fn list(trace: &[u8], limit: u32, out: &mut [u8]) -> usize
         return lines::put_end(out, 0, b.refusal, b.place);
     }
     let at = kinds::put_name(out, 0, b.machine.kind);
-    list_by_kind(trace, limit, b, out, at)
+    list_begun(trace, limit, b, out, at)
 }
 
-// The same by the loop over any machine, whatever the kind.
+// The same by the loop over a machine by value.
 pub fn list_plain(trace: &[u8], limit: u32, out: &mut [u8]) -> usize
     ensures { λ r. ⌜ (now (out .exit), r) ≡ laid (now (out .entry)) (listingOf (now (trace .entry)) limit) ⌝ }
 {
@@ -33,28 +33,17 @@ pub fn list_plain(trace: &[u8], limit: u32, out: &mut [u8]) -> usize
     list_any(trace, limit, b, out, at)
 }
 
-// The steps of a trace that has begun, by the loop of its kind; a kind that has none of its own goes through the one over any machine.
-fn list_by_kind(trace: &[u8], limit: u32, b: Begun, out: &mut [u8], at: usize) -> usize
+// The steps of a trace that has begun, on a machine in a room.
+fn list_begun(trace: &[u8], limit: u32, b: Begun, out: &mut [u8], at: usize) -> usize
     requires { ⌜ (b ≡ beginOf (now trace)) × (b .refusal ≡ carriedOut) ⌝ }
     ensures { λ r. ⌜ (now (out .exit), r) ≡ write (now (out .entry), at) (textFrom 0 (b .machine) (stepsFrom (tellsPrivilege (b .machine .kind)) limit (now (trace .entry)) (b .place))) ⌝ }
 {
     let m = b.machine;
-    if m.kind == kinds::AIC {
-        return list_aic::list_steps(trace, limit, b.place, m.aic, out, at);
-    }
-    if m.kind == kinds::CORE {
-        return loops_core::list_steps(trace, limit, b.place, m.core, out, at);
-    }
-    if m.kind == kinds::CIC {
-        return list_cic::list_steps(trace, limit, b.place, m.cic, out, at);
-    }
-    if m.kind == kinds::AINTC {
-        return list_aintc::list_steps(trace, limit, b.place, m.aintc, out, at);
-    }
-    list_any(trace, limit, b, out, at)
+    let told = kinds::tells_privilege(m.kind);
+    loops::list_steps(trace, limit, told, b.place, m, out, at)
 }
 
-// The steps of a trace that has begun, by the loop over any machine.
+// The steps of a trace that has begun, on a machine by value.
 fn list_any(trace: &[u8], limit: u32, b: Begun, out: &mut [u8], at: usize) -> usize
     requires { ⌜ (b ≡ beginOf (now trace)) × (b .refusal ≡ carriedOut) ⌝ }
     ensures { λ r. ⌜ (now (out .exit), r) ≡ write (now (out .entry), at) (textFrom 0 (b .machine) (stepsFrom (tellsPrivilege (b .machine .kind)) limit (now (trace .entry)) (b .place))) ⌝ }

@@ -1,4 +1,4 @@
-// Plays a recorded trace on the machine that it names, by the loop of its kind (01, "House trace"; 02, 2/12).
+// Plays a recorded trace on the machine that it names (01, "House trace"; 02, 2/12).
 ghost use mathlib.Core.Path.{_≡_};
 ghost use Rattle.steps.specs.Refusals.{carriedOut};
 ghost use Rattle.beginning.specs.Begin.{beginOf};
@@ -14,10 +14,10 @@ pub fn play(trace: &[u8], limit: u32) -> Played
     if b.refusal != steps::CARRIED_OUT {
         return reports::not_played(b);
     }
-    play_by_kind(trace, limit, b)
+    play_begun(trace, limit, b)
 }
 
-// The same by the loop over any machine, whatever the kind.
+// The same by the loop over a machine by value.
 pub fn play_plain(trace: &[u8], limit: u32) -> Played
     ensures { λ r. ⌜ r ≡ playOf (now (trace .entry)) limit ⌝ }
 {
@@ -28,28 +28,17 @@ pub fn play_plain(trace: &[u8], limit: u32) -> Played
     play_any(trace, limit, b)
 }
 
-// Plays a trace that has begun by the loop of its kind; a kind that has none of its own goes through the one over any machine.
-fn play_by_kind(trace: &[u8], limit: u32, b: Begun) -> Played
+// Plays a trace that has begun, on a machine in a room.
+fn play_begun(trace: &[u8], limit: u32, b: Begun) -> Played
     requires { ⌜ (b ≡ beginOf (now trace)) × (b .refusal ≡ carriedOut) ⌝ }
     ensures { λ r. ⌜ r ≡ playOf (now (trace .entry)) limit ⌝ }
 {
     let m = b.machine;
-    if m.kind == kinds::AIC {
-        return play_aic::play_steps(trace, limit, b.place, m.aic);
-    }
-    if m.kind == kinds::CORE {
-        return loops_core::play_steps(trace, limit, b.place, m.core);
-    }
-    if m.kind == kinds::CIC {
-        return play_cic::play_steps(trace, limit, b.place, m.cic);
-    }
-    if m.kind == kinds::AINTC {
-        return play_aintc::play_steps(trace, limit, b.place, m.aintc);
-    }
-    play_any(trace, limit, b)
+    let told = kinds::tells_privilege(m.kind);
+    loops::play_steps(trace, limit, told, b.place, m)
 }
 
-// Plays a trace that has begun by the loop over any machine.
+// Plays a trace that has begun, on a machine by value.
 fn play_any(trace: &[u8], limit: u32, b: Begun) -> Played
     requires { ⌜ (b ≡ beginOf (now trace)) × (b .refusal ≡ carriedOut) ⌝ }
     ensures { λ r. ⌜ r ≡ playOf (now (trace .entry)) limit ⌝ }

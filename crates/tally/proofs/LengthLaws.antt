@@ -1,6 +1,6 @@
 -- A trace has no more steps than bytes.
 use Prim.Native.Nat.{ℕ, zero, suc, _+_, _-_, _≤_, _<_}
-use mathlib.Core.Path.{_≡_, refl, sym, ap, _∙_}
+use mathlib.Core.Path.{_≡_, refl, sym, ap, _∙_, subst}
 use mathlib.Core.Bool.{Bool}
 use mathlib.Core.List.{List, [], _∷_}
 use native.Mathlib.Omega.{arith}
@@ -52,6 +52,19 @@ module _ (told : Bool) (s : List ℕ) (at : ℕ) where
   turn-further : (left : ℕ) → Further s at (turnAt told s at left)
   turn-further left = turn-cases (Further s at) told s at left (λ h. tt) (λ h z. tt) (λ h z. found-further _ (outcome told s at))
 
+begun-short : (s : List ℕ) (b : Begun) → Beginning s b → b .refusal ≡ carriedOut → length s ≤ longest
+begun-short s b (overlong l) z = absurd (omega arith)
+begun-short s b (damagedAt ns p l h w t) z = absurd (omega arith)
+begun-short s b (noKind l t k) z = absurd (omega arith)
+begun-short s b (beyondAt kind ns p l h w t o) z = absurd (omega arith)
+begun-short s b (configured kind ns p l h w) z = l
+
+pub found-far : (told : Bool) (s : List ℕ) (at left : ℕ) (x : Recorded) (next : ℕ) → turnAt told s at left ≡ Found x next → (at < next) × (next ≤ length s)
+found-far told s at left x next e = subst (Further s at) e (turn-further told s at left)
+
+pub begun-length : (s : List ℕ) (b : Begun) → b ≡ beginOf s → b .refusal ≡ carriedOut → length s ≤ 65536
+begun-length s b e z = begun-short s (beginOf s) (beginning s) (ap (λ (d : Begun). d .refusal) (sym e) ∙ z)
+
 steps-short : (told : Bool) (limit : ℕ) (s : List ℕ) (at : ℕ) → length (stepsFrom told limit s at .steps) ≤ length s - at
 unfolding stepsFrom
 steps-short told zero s at = go (turnAt told s at 0) (turn-further told s at 0)
@@ -64,13 +77,6 @@ steps-short told (suc limit) s at = go (turnAt told s at (suc limit)) (turn-furt
     go : (t : Turn) → Further s at t → ((p : ℕ) → length (stepsFrom told limit s p .steps) ≤ length s - p) → length (goOn (stepsFrom told limit s) t .steps) ≤ length s - at
     go (Found x p) f h = omega (arith, f .0, f .1, h p)
     go (Ended n p) f h = omega arith
-
-begun-short : (s : List ℕ) (b : Begun) → Beginning s b → b .refusal ≡ carriedOut → length s ≤ longest
-begun-short s b (overlong l) z = absurd (omega arith)
-begun-short s b (damagedAt ns p l h w t) z = absurd (omega arith)
-begun-short s b (noKind l t k) z = absurd (omega arith)
-begun-short s b (beyondAt kind ns p l h w t o) z = absurd (omega arith)
-begun-short s b (configured kind ns p l h w) z = l
 
 pub records-short : (s : List ℕ) (limit : ℕ) → length (recordsOf s limit .steps) ≤ 65536
 records-short s limit = go (ℕ-discrete (beginOf s .refusal) carriedOut)

@@ -164,3 +164,8 @@ tally-refused s limit b e r =
     ap (λ (f : Totals). record { steps = 0; refused = 0; refusal = b .refusal; offset = b .place; figures = f }) (sym zeros-are)
     ∙ tallied-ends 0 0 noFigures (b .machine) (b .refusal) (b .place) ∙ ap (tallied 0 0 noFigures (b .machine)) (sym (records-refused limit s b r))
     ∙ ap (λ (d : Begun). tallied 0 0 noFigures (d .machine) (recordsFrom limit s d)) e ∙ tally-is s limit
+
+-- a trace that begins finds no entry open
+pub none-open : (s : List ℕ) (b : Begun) → b ≡ beginOf s → b .machine .aic .depth ≡ 0
+unfolding reset
+none-open s b e = ap (λ (d : Begun). d .machine .aic .depth) e ∙ ap (λ (a : Aic). a .depth) (fresh s .2)

@@ -20,17 +20,15 @@ use Rattle.trace.proofs.TraceLaws.{trace-ended, trace-found}
 use Rattle.kinds.specs.Kinds.{aicKind}
 use Rattle.aic_record.specs.declared.Aic.{Aic}
 use Rattle.aic.specs.Model.{step as aicStep}
-use Rattle.aic_waits.specs.Following.{Figures, startedFrom, figuresBy, followed}
-use Rattle.aic_waits.proofs.TellLaws.{follow-tells}
+use Rattle.aic_waits.specs.Following.{Figures, followed}
+use Rattle.aic_figures.specs.Book.{Kept}
 use Rattle.machine_record.specs.declared.Machine.{Machine}
-use Rattle.machine_record.specs.Promises.{Ready}
-use Rattle.machine_record.proofs.MachineLaws.{sound-aic}
 use Rattle.machine.specs.declared.Answer.{Answer}
 use Rattle.machine.specs.Steps.{step}
 use Rattle.machine.proofs.StepLaws.{aic-steps, step-kind}
 use Rattle.tally.specs.declared.Tallied.{Tallied}
 use Rattle.tally.specs.Tally.{refusedIn}
-use Rattle.tally.specs.Following.{moved, followedBy, followedAll, totalsOf, tallied}
+use Rattle.tally.specs.Following.{followedBy, followedAll, totalsOf, tallied, Followed}
 
 -- ---- the figures of one step
 
@@ -47,23 +45,36 @@ pub followed-other : (f : Figures) (m : Machine) (x : Recorded) → (m .kind ≡
 unfolding followedBy
 followed-other f m x z = sym (pick-false _ (ne-eqb (m .kind) aicKind z))
 
--- the entries open before a step and the record after it tell of it
-tells-step : (f : Figures) (m : Machine) (x : Recorded) → Ready m → moved (m .kind) (m .aic .depth) (step m x .machine .aic) f ≡ followedBy f m x
-unfolding moved
-tells-step f m x r = go (ℕ-discrete (m .kind) aicKind)
-  where
-    go : Dec (m .kind ≡ aicKind)
-        → pick (eqb (m .kind) aicKind) (figuresBy (startedFrom (m .aic .depth) (step m x .machine .aic)) (step m x .machine .aic) f) f ≡ followedBy f m x
-    go (yes z) =
-        sym (pick-true _ (eq-eqb (m .kind) aicKind z)) ∙ ap (λ (t : Aic). figuresBy (startedFrom (m .aic .depth) t) t f) (aic-after m x z)
-        ∙ follow-tells f (m .aic) (x .step) (r .1 .2) (sound-aic m z ∙ r .0) ∙ sym (followed-aic f m x z)
-    go (no n) = sym (pick-false _ (ne-eqb (m .kind) aicKind n)) ∙ sym (followed-other f m x n)
+-- a book of more steps than there were
+kept-later : (f : Figures) (s : Aic) (n : ℕ) (book : List ℕ) → Kept f s n book → Kept f s (n + 1) book
+kept-later f s n book h =
+    record {
+      size = h .size;
+      whole = h .whole;
+      asks = h .asks;
+      waits = h .waits;
+      few = omega (arith, h .few);
+      started = h .started;
+      fewer = λ i l. omega (arith, h .fewer i l);
+      began = h .began;
+      waited = h .waited;
+      entries = h .entries;
+      deep = h .deep;
+    }
 
-pub tells : (f g : Figures) (m : Machine) (x : Recorded) (a : Answer) (before : ℕ) → Ready m → a ≡ step m x → before ≡ m .aic .depth
-    → g ≡ moved (a .machine .kind) before (a .machine .aic) f → g ≡ followedBy f m x
-tells f g m x a before r e b h =
-    h ∙ ap (λ (c : Answer). moved (c .machine .kind) before (c .machine .aic) f) e ∙ ap₂ (λ (k n : ℕ). moved k n (step m x .machine .aic) f) (step-kind m x) b
-    ∙ tells-step f m x r
+-- the book after a step of an AIC, and of another kind
+module _ (f : Figures) (m : Machine) (n : ℕ) (x : Recorded) (book : List ℕ) (h : Followed f m n book) where
+  pub follow-aic : (last : List ℕ) → m .kind ≡ aicKind → Kept (followed f (m .aic) (x .step)) (aicStep (m .aic) (x .step) .aic) (n + 1) last
+      → Followed (followedBy f m x) (step m x .machine) (n + 1) last
+  follow-aic last z k = (
+    aicStep (m .aic) (x .step) .aic,
+    subst (λ (g : Figures). Kept g (aicStep (m .aic) (x .step) .aic) (n + 1) last) (sym (followed-aic f m x z)) k,
+    λ _. sym (aic-after m x z),
+  )
+
+  pub follow-other : (m .kind ≡ aicKind → ⊥) → Followed (followedBy f m x) (step m x .machine) (n + 1) book
+  follow-other z =
+      (h .0, subst (λ (g : Figures). Kept g (h .0) (n + 1) book) (sym (followed-other f m x z)) (kept-later f (h .0) n book (h .1)), λ e. absurd (z (sym (step-kind m x) ∙ e)))
 
 -- ---- the tally
 

@@ -1,6 +1,7 @@
 -- The figures of a trace, step by step.
 use Prim.Native.Nat.{ℕ, _+_}
 use mathlib.Core.List.{List, [], _∷_}
+use mathlib.Core.Path.{_≡_}
 use lib.Dec.{eqb}
 use lib.ListN.{length}
 use Rattle.words.specs.Choice.{pick}
@@ -8,7 +9,8 @@ use Rattle.steps.specs.declared.Recorded.{Recorded}
 use Rattle.trace.specs.Trace.{Trace}
 use Rattle.kinds.specs.Kinds.{aicKind}
 use Rattle.aic_record.specs.declared.Aic.{Aic}
-use Rattle.aic_waits.specs.Following.{Figures, startedFrom, figuresBy, followed}
+use Rattle.aic_waits.specs.Following.{Figures, followed}
+use Rattle.aic_figures.specs.Book.{Kept}
 use Rattle.machine_record.specs.declared.Machine.{Machine}
 use Rattle.machine.specs.Steps.{step}
 use Rattle.totals.specs.declared.Totals.{Totals}
@@ -16,12 +18,13 @@ use Rattle.totals.specs.Totals.{zeros}
 use Rattle.tally.specs.declared.Tallied.{Tallied}
 use Rattle.tally.specs.Tally.{refusedIn}
 
--- the figures after one step more of a machine of this kind, of whose AIC t is the record after it: only an AIC's are moved on
-unfoldable pub moved : ℕ → ℕ → Aic → Figures → Figures
-moved kind before t f = pick (eqb kind aicKind) (figuresBy (startedFrom before t) t f) f
-
+-- the figures after one step more: only an AIC's are moved on
 unfoldable pub followedBy : Figures → Machine → Recorded → Figures
 followedBy f m x = pick (eqb (m .kind) aicKind) (followed f (m .aic) (x .step)) f
+
+-- the figures of n steps stand in the book, and where the machine is an AIC they are of a run that ends in its record
+abbrev pub Followed : Figures → Machine → ℕ → List ℕ → Type 0
+Followed f m n book = (s : Aic) × Kept f s n book × (m .kind ≡ aicKind → s ≡ m .aic)
 
 -- and after some step records
 unfoldable pub followedAll : Figures → Machine → List Recorded → Figures

@@ -1,20 +1,27 @@
 // The figures of one trace: the steps played and refused, and of an AIC what each source did over them (02, 11/12).
 ghost use mathlib.Core.Path.{_≡_};
-ghost use mathlib.Core.Bool.{not};
+ghost use mathlib.Core.Bool.{false, not};
+ghost use Prim.Native.Nat.{ℕ, _+_, _<_, _≤_};
 ghost use lib.Dec.{eqb};
+ghost use lib.ListN.{length};
 ghost use Rattle.words.specs.Counting.{one};
 ghost use Rattle.steps.specs.Refusals.{carriedOut};
 ghost use Rattle.trace.specs.Trace.{stepsFrom};
 ghost use Rattle.machine_record.specs.Promises.{Ready};
 ghost use Rattle.beginning.specs.Begin.{beginOf};
-ghost use Rattle.aic_waits.specs.Following.{tables, noFigures};
+ghost use Rattle.kinds.specs.Kinds.{aicKind};
+ghost use Rattle.steps.specs.declared.Recorded.{Recorded};
+ghost use Rattle.aic_waits.specs.Following.{Figures, noFigures};
+ghost use Rattle.machine_record.specs.declared.Machine.{Machine};
+ghost use Rattle.machine.specs.Steps.{step};
+ghost use Rattle.machine_room.specs.Room.{Laid};
 ghost use Rattle.tally.specs.Tally.{tallyOf};
-ghost use Rattle.tally.specs.Following.{moved, tallied, notTallied};
-use aic_record::Aic;
+ghost use Rattle.tally.specs.Following.{followedBy, tallied, notTallied, Followed};
+use aic_figures::Book;
 use beginning::Begun;
 use machine_record::Machine;
+use rooms::Room;
 use totals::Totals;
-use trace::Turn;
 
 // The steps played, the steps refused among them, how the trace ended and where, and the figures of each source.
 pub struct Tallied {
@@ -60,63 +67,38 @@ fn tally_begun(trace: &[u8], limit: u32, b: Begun) -> Tallied
     tally_steps(trace, limit, told, b.place, m)
 }
 
-// Plays the steps from a place on, and moves the figures on with each; where `told`, they tell their privilege. The limit falls by one with each step.
+// Plays the steps from a place on in a room, and moves the figures on with each; where `told`, they tell their privilege. The limit falls by one with
+// each step.
 fn tally_steps(trace: &[u8], limit: u32, told: bool, start: usize, first: Machine) -> Tallied
-    requires { ⌜ Ready first ⌝ }
+    requires { ⌜ Ready first × (first .aic .depth ≡ 0) × (length (now trace) ≤ 65536) ⌝ }
     ensures { λ r. ⌜ r ≡ tallied 0 0 noFigures first (stepsFrom told limit (now (trace .entry)) start) ⌝ }
 {
-    let mut started = [0u32; 32];
-    let mut wait = [0u32; 32];
-    let mut waited = [0u32; 32];
-    let mut entries = [0u32; 32];
+    let mut room = machine_room::lay(first, false);
+    let mut book = aic_figures::start();
     let mut at = start;
-    let mut m = first;
     let mut left = limit;
     let mut count: u32 = 0;
     let mut refused: u32 = 0;
     loop {
-        match trace::turn_at(trace, at, left, told) {
-            Turn::Ended(refusal, offset) => {
-                let f = Totals {
-                    started,
-                    waited,
-                    entries,
-                };
-                return Tallied {
-                    steps: count,
-                    refused,
-                    refusal,
-                    offset,
-                    figures: f,
-                };
-            }
-            Turn::Found(x, next) => {
-                let before = open_entries(m.aic);
-                let a = machine::step_sound(m, x);
-                m = a.machine;
-                follow_any(
-                    &mut started,
-                    &mut wait,
-                    &mut waited,
-                    &mut entries,
-                    m.kind,
-                    before,
-                    m.aic,
-                );
-                refused = refused + refused_one(a.refusal);
-                at = next;
-                left = left - 1;
-                count = count + 1;
-            }
+        let t = turns::sure(turns::quick(trace, at, left, told), trace, at, left, told);
+        if t.kind == turns::ENDED {
+            let f = aic_figures::totals_in(&mut book);
+            return Tallied {
+                steps: count,
+                refused,
+                refusal: t.refusal,
+                offset: t.next,
+                figures: f,
+            };
         }
+        let before = room[aic_layout::DEPTH];
+        let a = machine_room::step(&mut room, t.kind, t.x, t.y, t.privilege);
+        follow_any(&mut book, &room, before);
+        refused = refused + refused_one(rooms::refusal_in(a));
+        at = t.next;
+        left = left - 1;
+        count = count + 1;
     }
-}
-
-// How many entries are open.
-fn open_entries(s: Aic) -> u32
-    ensures { λ r. ⌜ r ≡ s .depth ⌝ }
-{
-    s.depth
 }
 
 // 1 for a step that is refused.
@@ -130,18 +112,10 @@ fn refused_one(refusal: u32) -> u32
 }
 
 // Only a step of an AIC moves the figures of sources.
-fn follow_any<'a>(
-    started: &'a mut [u32; 32],
-    wait: &'a mut [u32; 32],
-    waited: &'a mut [u32; 32],
-    entries: &'a mut [u32; 32],
-    kind: u32,
-    before: u32,
-    t: Aic,
-)
-    ensures { λ _. ⌜ tables (now (started .exit)) (now (wait .exit)) (now (waited .exit)) (now (entries .exit)) ≡ moved kind before t (tables (now (started .entry)) (now (wait .entry)) (now (waited .entry)) (now (entries .entry))) ⌝ }
+fn follow_any<'a>(book: &'a mut Book, room: &'a Room, before: u32)
+    ensures { λ _. ⌜ ((f : Figures) (m : Machine) (n : ℕ) (x : Recorded) → Ready m → n < 4294967290 → (m .kind ≡ aicKind → before ≡ m .aic .depth) → Followed f m n (now (book .entry)) → Laid false (step m x .machine) (now (room .entry)) → Followed (followedBy f m x) (step m x .machine) (n + 1) (now (book .exit))) ⌝ }
 {
-    if kind == kinds::AIC {
-        aic_waits::follow(started, wait, waited, entries, before, t);
+    if room[aic_layout::KIND] == kinds::AIC {
+        aic_figures::follow(book, room, before);
     }
 }

@@ -4,9 +4,9 @@ use mathlib.Core.Path.{_≡_, refl}
 use mathlib.Core.List.{List, [], _∷_}
 use native.Mathlib.Omega.{arith}
 use lib.ListN.{length, set, length-set}
-use Rattle.text.specs.Text.{write, hex, decimal, field}
+use Rattle.text.specs.Text.{write, decimal, field}
 use Rattle.text.proofs.WriteLaws.{room, same-length, reach}
-use Rattle.text.proofs.DigitLaws.{length-hex, length-below}
+use Rattle.text.proofs.DigitLaws.{length-below}
 
 -- what the functions here say of a text of at most k bytes
 abbrev Stands : List ℕ × ℕ → List ℕ × ℕ → List ℕ → ℕ → Type 0
@@ -19,9 +19,6 @@ stands o p a k h e = (e, (reach o p a k e h, same-length o p a e))
 pub byte-stands : (l : List ℕ) (at b : ℕ) → at < length l
     → ((set l at b, at + 1) ≡ write (l, at) (b ∷ [])) × ((at + 1 ≡ at + 1) × (length (set l at b) ≡ length l))
 byte-stands l at b h = (room l at b h, (refl, length-set l at b))
-
-pub hex-stands : (o p : List ℕ × ℕ) (v : ℕ) → p ≡ write o (hex v) → Stands o p (hex v) 8
-hex-stands o p v e = stands o p (hex v) 8 (omega (arith, length-hex 8 v)) e
 
 -- a number of 32 bits has at most ten digits
 pub decimal-stands : (o p : List ℕ × ℕ) (n : ℕ) → n < 2 ^ 32 → p ≡ write o (decimal n) → Stands o p (decimal n) 10

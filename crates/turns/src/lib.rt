@@ -1,7 +1,7 @@
 // One turn of a loop over the steps of a trace, as numbers and with the short forms of numbers first: most have one byte or two.
 // A loop asks `sure(quick(..), ..)`: so `quick` is small and calls nothing that is not, and becomes a part of the loop.
 ghost use mathlib.Core.Path.{_≡_};
-ghost use Prim.Native.Nat.{_<_, _+_};
+ghost use Prim.Native.Nat.{_<_, _≤_, _+_};
 ghost use lib.ListN.{length};
 ghost use Rattle.numbers.specs.declared.Number.the-variants.{Value};
 ghost use Rattle.numbers.specs.Number.{numberAt};
@@ -10,7 +10,6 @@ ghost use Rattle.trace.specs.Steps.{readKind, stepAt};
 ghost use Rattle.trace.specs.Trace.{turnAt};
 ghost use Rattle.turns.specs.Turns.{endedKind, unsureKind, made, stepOf, turnOf, toldOf, Spare, privilegeAt};
 use numbers::Short;
-use numbers::short_at;
 use steps::Step;
 use trace::Turn;
 
@@ -29,16 +28,19 @@ pub const ENDED: u32 = 0;
 
 pub const UNSURE: u32 = 4;
 
-// The turn at a place with `left` of the limit, where it is an end or a step of short numbers; else UNSURE. Where `told`, a privilege
-// number follows each offset.
+// The turn at a place with `left` of the limit, where it is a step of short numbers and as many bytes are there as its longest form has, seven: one
+// test of the length serves for all of them. Else UNSURE, as at an end. Where `told`, a privilege number follows each offset.
 pub fn quick(trace: &[u8], at: usize, left: u32, told: bool) -> Told
     ensures { λ r. ⌜ ((r .kind ≡ unsureKind → ⊥) → turnOf r ≡ turnAt told (now (trace .entry)) at left) × (r .kind < 5) × ((r .kind ≡ unsureKind → ⊥) → r ≡ toldOf (turnAt told (now (trace .entry)) at left)) ⌝ }
 {
-    if trace.len() <= at {
-        return ended(steps::CARRIED_OUT, trace.len());
+    if trace.len() < 7 {
+        return unsure();
+    }
+    if trace.len() - 7 < at {
+        return unsure();
     }
     if left == 0 {
-        return ended(steps::LIMIT_REACHED, at);
+        return unsure();
     }
     quick_step(trace, at, told)
 }
@@ -61,9 +63,9 @@ pub fn sure(q: Told, trace: &[u8], at: usize, left: u32, told: bool) -> Told
     q
 }
 
-// The step at a place inside the trace, if its numbers are short.
+// The step at a place, if its numbers are short.
 fn quick_step(trace: &[u8], at: usize, told: bool) -> Told
-    requires { ⌜ at < length (now trace) ⌝ }
+    requires { ⌜ at + 7 ≤ length (now trace) ⌝ }
     ensures { λ r. ⌜ ((r .kind ≡ unsureKind → ⊥) → turnOf r ≡ stepAt told (now (trace .entry)) at) × (r .kind < 5) × ((r .kind ≡ unsureKind → ⊥) → Spare r) ⌝ }
 {
     let kind = numbers::wide(trace[at]);
@@ -75,10 +77,10 @@ fn quick_step(trace: &[u8], at: usize, told: bool) -> Told
 
 // The step of a kind that is one byte at a place, if its other numbers are short.
 fn by_kind(trace: &[u8], at: usize, told: bool, kind: u32) -> Told
-    requires { ⌜ (at < length (now trace)) × ((0 < kind) × (kind < 4)) ⌝ }
+    requires { ⌜ (at + 7 ≤ length (now trace)) × ((0 < kind) × (kind < 4)) ⌝ }
     ensures { λ r. ⌜ ((r .kind ≡ unsureKind → ⊥) → numberAt (now (trace .entry)) at ≡ Value kind (at + 1) → turnOf r ≡ stepAt told (now (trace .entry)) at) × (r .kind < 5) × ((r .kind ≡ unsureKind → ⊥) → Spare r) ⌝ }
 {
-    let a = short_at(trace, at + 1);
+    let a = short_in(trace, at + 1);
     if a.next == 0 {
         return unsure();
     }
@@ -89,7 +91,7 @@ fn by_kind(trace: &[u8], at: usize, told: bool, kind: u32) -> Told
     if kind == trace::READ {
         return found(kind, a.value, 0, p.value, p.next);
     }
-    let b = short_at(trace, p.next);
+    let b = short_in(trace, p.next);
     if b.next == 0 {
         return unsure();
     }
@@ -98,15 +100,38 @@ fn by_kind(trace: &[u8], at: usize, told: bool, kind: u32) -> Told
 
 // The privilege after the first number of a step, if it is short; where none is told, 1 and no byte.
 fn privilege_at(trace: &[u8], at: usize, told: bool, kind: u32) -> Short
-    ensures { λ r. ⌜ ((r .next ≡ 0 → ⊥) → privilegeAt told kind (now (trace .entry)) at ≡ Value (r .value) (r .next)) ⌝ }
+    requires { ⌜ at + 2 ≤ length (now trace) ⌝ }
+    ensures { λ r. ⌜ ((r .next ≡ 0 → ⊥) → privilegeAt told kind (now (trace .entry)) at ≡ Value (r .value) (r .next)) × (r .next ≤ at + 2) ⌝ }
 {
     if told & (kind != trace::LINE) {
-        return short_at(trace, at);
+        return short_in(trace, at);
     }
     Short {
         value: steps::PRIVILEGED,
         next: at,
     }
+}
+
+// The number at a place, if it has one byte or two; two bytes are there.
+fn short_in(trace: &[u8], at: usize) -> Short
+    requires { ⌜ at + 2 ≤ length (now trace) ⌝ }
+    ensures { λ r. ⌜ ((r .next ≡ 0 → ⊥) → numberAt (now (trace .entry)) at ≡ Value (r .value) (r .next)) × (r .next ≤ at + 2) ⌝ }
+{
+    let a = numbers::wide(trace[at]);
+    if a < 128 {
+        return Short {
+            value: a,
+            next: at + 1,
+        };
+    }
+    let b = numbers::wide(trace[at + 1]);
+    if b < 128 {
+        return Short {
+            value: a - 128 + 128 * b,
+            next: at + 2,
+        };
+    }
+    Short { value: 0, next: 0 }
 }
 
 // A turn as numbers.

@@ -8,8 +8,8 @@ use Rattle.player.proofs.play.Tie as tie
 returns : tie.Need-returns
 returns c = c .not-played .ensures ∙ play-refused _ _ _ (c .before .before .before .begin .ensures) (c .before .if1 .taken)
 
-play-by-kind-requires : tie.Need-play-by-kind-requires
-play-by-kind-requires c κs = (c .before .before .begin .ensures, c .if1 .left)
+play-begun-requires : tie.Need-play-begun-requires
+play-begun-requires c κs = (c .before .before .begin .ensures, c .if1 .left)
 
 pub play-spec : {M : Type 1} → statement M
-play-spec = tie.close (tie.spec (λ c κs. search needs) (λ c κs. search needs) returns play-by-kind-requires (λ c. search needs))
+play-spec = tie.close (tie.spec (λ c κs. search needs) (λ c κs. search needs) returns play-begun-requires (λ c. search needs))

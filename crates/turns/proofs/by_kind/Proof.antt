@@ -19,7 +19,7 @@ returns-3 c =
     let b = a .before .before in (
       λ n e.
           c .found .ensures .0 (b .pre .1 .0)
-          ∙ sym (read-found _ _ _ _ _ _ _ _ (b .args .told) (c .before .if3 .taken) e (a .short-at .ensures (p .before .if1 .left)) (p .privilege-at .ensures (c .before .before .if2 .left))),
+          ∙ sym (read-found _ _ _ _ _ _ _ _ (b .args .told) (c .before .if3 .taken) e (a .short-in .ensures .0 (p .before .if1 .left)) (p .privilege-at .ensures .0 (c .before .before .if2 .left))),
       omega (arith, c .found .ensures .1, b .pre .1 .1),
       λ n. c .found .ensures .2 (b .pre .1 .0) (λ e. refl),
     )
@@ -36,8 +36,8 @@ returns-5 c =
       λ n e.
           c .found2 .ensures .0 (b .pre .1 .0)
           ∙ sym
-          (other-found _ _ _ _ _ _ _ _ _ _ (b .args .told) (y .before .if3 .left) (b .pre .1 .0) (b .pre .1 .1) e (a .short-at .ensures (p .before .if1 .left))
-          (p .privilege-at .ensures (y .before .before .if2 .left)) (y .short-at2 .ensures (c .before .if4 .left))),
+          (other-found _ _ _ _ _ _ _ _ _ _ (b .args .told) (y .before .if3 .left) (b .pre .1 .0) (b .pre .1 .1) e (a .short-in .ensures .0 (p .before .if1 .left))
+          (p .privilege-at .ensures .0 (y .before .before .if2 .left)) (y .short-in2 .ensures .0 (c .before .if4 .left))),
       omega (arith, c .found2 .ensures .1, b .pre .1 .1),
       λ n. c .found2 .ensures .2 (b .pre .1 .0) (λ e. absurd (y .before .if3 .left e)),
     )

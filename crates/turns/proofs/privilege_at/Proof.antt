@@ -1,15 +1,16 @@
 -- That `privilege_at` of src/lib.rt keeps its contract.
 use mathlib.Core.Path.{sym, _∙_}
+use native.Mathlib.Omega.{arith}
 use Rattle.turns.proofs.StepLaws.{has-privilege, no-privilege}
 use borrow.Author.Needs.{needs}
 use Rattle.turns.proofs.privilege_at.Statement.{statement}
 use Rattle.turns.proofs.privilege_at.Tie as tie
 
 returns : tie.Need-returns
-returns c = λ n. sym (has-privilege _ _ _ _ (c .before .if1 .taken)) ∙ c .short-at .ensures n
+returns c = (λ n. sym (has-privilege _ _ _ _ (c .before .if1 .taken)) ∙ c .short-in .ensures .0 n, c .short-in .ensures .1)
 
 returns-2 : tie.Need-returns-2
-returns-2 c = λ n. sym (no-privilege _ _ _ _ (c .if1 .left))
+returns-2 c = (λ n. sym (no-privilege _ _ _ _ (c .if1 .left)), omega arith)
 
 pub privilege-at-spec : {M : Type 1} → statement M
 privilege-at-spec = tie.close (tie.spec (λ c κs. search needs) returns returns-2)

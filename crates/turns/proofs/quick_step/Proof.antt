@@ -21,7 +21,7 @@ returns c =
     let b = w .before .before .before in (
       λ n.
           c .by-kind .ensures .0 n
-          (one-byte (b .args .trace .now) (b .args .at) k (w .wide .ensures .0) (b .pre) (omega (arith, ltb-true k 4 (and-right (ltb 0 k) (ltb k 4) (c .before .if1 .taken))))),
+          (one-byte (b .args .trace .now) (b .args .at) k (w .wide .ensures .0) (omega (arith, b .pre)) (omega (arith, ltb-true k 4 (and-right (ltb 0 k) (ltb k 4) (c .before .if1 .taken))))),
       c .by-kind .ensures .1,
       c .by-kind .ensures .2,
     )

@@ -1,0 +1,2 @@
+-- The figures of an AIC that stands in a room, as they are kept beside it.
+pub mod Book
