@@ -1,4 +1,5 @@
 // What begins a hold, what ends it and what does not, with the hold mode on as a start leaves it (D23, D25 to D28, D30, D31).
+use crate::lines;
 use super::part::on;
 use super::part::opened;
 use super::part::see;
@@ -78,8 +79,8 @@ fn any_host(a: Answer) {
 }
 
 pub(crate) fn all() {
-    cases_lines::heading(b"host 1: value, hosts asserted, held globally, held for the host\n");
+    lines::heading(b"host 1: value, hosts asserted, held globally, held for the host\n");
     ended(left(begun()));
-    cases_lines::heading(b"global, host 33\n");
+    lines::heading(b"global, host 33\n");
     any_host(across());
 }

@@ -1,4 +1,5 @@
 // Pairs whose record is not sound or whose words or byte are not the record's: 12 before all else, the value 0, and both come back as they were (02, 5/12).
+use crate::lines;
 use super::runs::fresh;
 use super::runs::with_source;
 use aic_levels::Answer;
@@ -22,11 +23,11 @@ fn put(seven: u32, byte: u8, forced: u32) {
     l.words[7] = seven;
     l.any = byte;
     let r = aic_pair::step(s, l, Step::Read(0x100));
-    cases_lines::four(seven, byte as u32, forced, r.value, r.refusal);
+    lines::four(seven, byte as u32, forced, r.value, r.refusal);
     let t = r.aic;
     let m = r.levels;
     let o = aic_levels::outputs(t, m);
-    cases_lines::four(m.words[7], m.any as u32, t.forced, t.depth, o.refusal);
+    lines::four(m.words[7], m.any as u32, t.forced, t.depth, o.refusal);
 }
 
 // The pair as it is; word 7 without the source, with source 0 too, with one that does not wait; the byte without the level, with another one too, with
@@ -84,7 +85,7 @@ fn also_in(p: u32) {
     let l = spoiled(m, p);
     let same = aic_levels::agrees(s, l);
     let r = aic_pair::step(s, l, Step::Read(0x110));
-    cases_lines::four(p, same as u32, r.value, 0, r.refusal);
+    lines::four(p, same as u32, r.value, 0, r.refusal);
 }
 
 fn each_word() {
@@ -105,21 +106,21 @@ fn first_of_all(byte: u8) {
     let mut l = a.levels;
     l.any = byte;
     let r = aic_pair::step(s, l, Step::Read(0x119));
-    cases_lines::one(0x119, r.refusal);
+    lines::one(0x119, r.refusal);
     let w = aic_pair::step(s, l, Step::Write(0x108, 1));
-    cases_lines::one(0x108, w.refusal);
+    lines::one(0x108, w.refusal);
     let i = aic_pair::step(s, l, Step::Line(32, 1));
-    cases_lines::one(32, i.refusal);
+    lines::one(32, i.refusal);
     let o = aic_levels::outputs(s, l);
-    cases_lines::one(0, o.refusal);
+    lines::one(0, o.refusal);
 }
 
 pub(crate) fn all() {
-    cases_lines::heading(b"word 7, byte, forced, value; word 7, byte, forced, entries\n");
+    lines::heading(b"word 7, byte, forced, value; word 7, byte, forced, entries\n");
     pairs();
-    cases_lines::heading(b"in this word too, agree, value\n");
+    lines::heading(b"in this word too, agree, value\n");
     each_word();
-    cases_lines::heading(b"refused otherwise, and with a wrong byte\n");
+    lines::heading(b"refused otherwise, and with a wrong byte\n");
     first_of_all(0x80);
     first_of_all(0);
 }

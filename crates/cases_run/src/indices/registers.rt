@@ -1,4 +1,5 @@
 // The control register, and which of the registers there are with the choice on and off (D23, D24, D30, D32).
+use crate::lines;
 use super::part::fresh;
 use super::part::on;
 use super::part::see_mode;
@@ -43,10 +44,10 @@ fn there(choice: u32) {
 }
 
 pub(crate) fn all() {
-    cases_lines::heading(b"control: value, hold, held globally, choice\n");
+    lines::heading(b"control: value, hold, held globally, choice\n");
     control();
-    cases_lines::heading(b"choice on\n");
+    lines::heading(b"choice on\n");
     there(1);
-    cases_lines::heading(b"choice off\n");
+    lines::heading(b"choice off\n");
     there(0);
 }

@@ -1,5 +1,6 @@
 // Which system interrupt an index names, with the hold mode off: set and enabled, the lowest channel first and in a channel the lowest number; no host's
 // enable is asked (D21, D22, D29).
+use crate::lines;
 use super::part::on;
 use super::part::opened;
 use super::part::see;
@@ -44,7 +45,7 @@ fn hosts(a: Answer) {
 }
 
 pub(crate) fn all() {
-    cases_lines::heading(b"hold off: value, hosts asserted, held globally, held for the host\n");
+    lines::heading(b"hold off: value, hosts asserted, held globally, held for the host\n");
     let a = on(opened(), Step::Write(0x004, 0));
     hosts(numbers(channels(a)));
 }

@@ -4,7 +4,7 @@ mod damaged;
 mod runs;
 mod table;
 
-fn main() {
+pub(crate) fn all() {
     table::all();
     runs::starts();
     runs::all();

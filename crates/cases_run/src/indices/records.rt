@@ -1,4 +1,5 @@
 // Starts that are refused by 10, and records that are refused by 12 (D33, D34).
+use crate::lines;
 use super::part::fresh;
 use super::part::held_for;
 use cic_held::Held;
@@ -10,11 +11,11 @@ fn start(systems: u32, channels: u32, hosts: u32, choice: u32) {
     let p = b.prioritised;
     let c = p.cic;
     let h = p.held;
-    cases_lines::four(choice, c.systems, h.choice, h.hold, b.refusal);
+    lines::four(choice, c.systems, h.choice, h.hold, b.refusal);
 }
 
 pub(crate) fn starts() {
-    cases_lines::heading(b"starts: choice; systems, choice, hold\n");
+    lines::heading(b"starts: choice; systems, choice, hold\n");
     start(1, 1, 1, 0);
     start(1, 1, 1, 1);
     start(1, 1, 1, 2);
@@ -48,7 +49,7 @@ fn put(choice: u32, hold: u32, global: u16, last: u16) {
     h.hold = hold;
     h.global = global;
     h.host[33] = last;
-    cases_lines::four(
+    lines::four(
         choice,
         hold,
         global as u32,
@@ -59,7 +60,7 @@ fn put(choice: u32, hold: u32, global: u16, last: u16) {
 
 // Choice and mode at their limits; what may be held of 40 systems; nothing outside the mode.
 fn rules() {
-    cases_lines::heading(b"choice, hold, held globally, held for the last host\n");
+    lines::heading(b"choice, hold, held globally, held for the last host\n");
     put(1, 1, 0, 0);
     put(1, 0, 0, 0);
     put(0, 0, 0, 0);
@@ -83,7 +84,7 @@ fn beyond(next: u16, last: u16, enable: u32) {
     let mut c = p.cic;
     c.global = enable;
     let q = Prioritised { cic: c, held: h };
-    cases_lines::four(next as u32, last as u32, enable, 0, look(q));
+    lines::four(next as u32, last as u32, enable, 0, look(q));
 }
 
 // Of an unsound record 12 stands before every other number, its outputs are refused too, and it comes back as it was.
@@ -93,13 +94,13 @@ fn first_of_all() {
     h.host[33] = 42;
     let q = record_with(h);
     let r = cic_prioritised::read(q, 0x905);
-    cases_lines::one(0x905, r.refusal);
+    lines::one(0x905, r.refusal);
     let w = cic_prioritised::write(q, 0x034, 34);
-    cases_lines::one(0x034, w.refusal);
+    lines::one(0x034, w.refusal);
     let l = cic_prioritised::line(q, 40, 2);
-    cases_lines::one(40, l.refusal);
+    lines::one(40, l.refusal);
     let o = cic_prioritised::outputs(q);
-    cases_lines::four(
+    lines::four(
         o.hosts,
         o.lowest,
         held_for(l.prioritised, 33),
@@ -110,7 +111,7 @@ fn first_of_all() {
 
 pub(crate) fn all() {
     rules();
-    cases_lines::heading(b"host 34, host 255, global enable\n");
+    lines::heading(b"host 34, host 255, global enable\n");
     beyond(0, 0, 1);
     beyond(1, 0, 0);
     beyond(0, 1, 0);

@@ -1,5 +1,6 @@
 // An AIC and its levels along short runs: after each step the value, the byte and two of the words; then IRQ, FIQ, the entries open, and whether the two
 // agree.
+use crate::lines;
 use aic_levels::Answer;
 use aic_levels::Levels;
 use steps::Step;
@@ -22,12 +23,12 @@ fn word(l: Levels, p: u32) -> u32 {
 fn start(external: u32, lines: u32) {
     let b = aic_levels::start(external, lines);
     let l = b.levels;
-    cases_lines::four(external, lines, l.any as u32, word(l, 0), b.refusal);
+    lines::four(external, lines, l.any as u32, word(l, 0), b.refusal);
 }
 
 // Nothing is enabled at reset, so no level has any, whatever is pending.
 pub(crate) fn starts() {
-    cases_lines::heading(b"starts: external, lines, byte, level 0\n");
+    lines::heading(b"starts: external, lines, byte, level 0\n");
     start(0, 0);
     start(0, 0xFFFFFFFF);
     start(0xFFFFFFFF, 0);
@@ -46,10 +47,10 @@ fn see(a: Answer, x: Step, p: u32, q: u32) -> Answer {
     let b = on(a, x);
     let s = b.aic;
     let l = b.levels;
-    cases_lines::four(b.value, l.any as u32, word(l, p), word(l, q), b.refusal);
+    lines::four(b.value, l.any as u32, word(l, p), word(l, q), b.refusal);
     let o = aic_levels::outputs(s, l);
     let same = aic_levels::agrees(s, l);
-    cases_lines::four(
+    lines::four(
         o.irq as u32,
         o.fiq as u32,
         o.entries,
@@ -84,7 +85,7 @@ pub(crate) fn with_source(a: Answer, mode: u32, value: u32, vector: u32, to: u32
 
 // Sources 4, by edge, and 20, by level, of priority 3: the lower number starts first, and the level has any until both have left.
 fn two_of_one_level() {
-    cases_lines::heading(b"two of one level: 3, 7\n");
+    lines::heading(b"two of one level: 3, 7\n");
     let mut a = with_source(fresh(), 0x10, 0x63, 0x90, 0xA4);
     a = with_source(a, 0x50, 0x43, 0xD0, 0xB4);
     a = see(a, Step::Line(20, 1), 3, 7);
@@ -96,7 +97,7 @@ fn two_of_one_level() {
 
 // Source 31 of priority 0 and source 1 of priority 7.
 fn lowest_and_highest() {
-    cases_lines::heading(b"levels 0 and 7: 0, 7\n");
+    lines::heading(b"levels 0 and 7: 0, 7\n");
     let mut a = with_source(fresh(), 0x7C, 0x40, 0xFC, 0xBF);
     a = with_source(a, 0x04, 0x47, 0x84, 0xA1);
     a = see(a, Step::Line(31, 1), 0, 7);
@@ -110,7 +111,7 @@ fn lowest_and_highest() {
 
 // Source 9, by edge, alone in level 5 over source 3, by level, in level 2: cleared, disabled, started.
 fn emptied() {
-    cases_lines::heading(b"a level that empties: 2, 5\n");
+    lines::heading(b"a level that empties: 2, 5\n");
     let mut a = with_source(fresh(), 0x0C, 0x42, 0x8C, 0xA3);
     a = with_source(a, 0x24, 0x65, 0xA4, 0xA9);
     a = on(a, Step::Line(3, 1));
@@ -125,7 +126,7 @@ fn emptied() {
 
 // Source 0 is in no level; sources 6 of priority 4 and 12 of priority 6 are in none while they are forced.
 fn forced() {
-    cases_lines::heading(b"forced and unforced: 4, 6\n");
+    lines::heading(b"forced and unforced: 4, 6\n");
     let mut a = with_source(fresh(), 0x18, 0x44, 0x98, 0xA6);
     a = with_source(a, 0x30, 0x46, 0xB0, 0xAC);
     a = see(a, Step::Line(0, 1), 4, 6);
@@ -141,7 +142,7 @@ fn forced() {
 
 // Source 8, by edge, and source 5, by level, of priority 3, both waiting: another priority, dropped bits, another type.
 fn moved() {
-    cases_lines::heading(b"mode change of a pending source: 3, 6\n");
+    lines::heading(b"mode change of a pending source: 3, 6\n");
     let mut a = with_source(fresh(), 0x20, 0x63, 0xA0, 0xA8);
     a = with_source(a, 0x14, 0x43, 0x94, 0xA5);
     a = on(a, Step::Line(5, 1));
@@ -175,7 +176,7 @@ fn tower() -> Answer {
 
 // Source 2 waits at level 7, then at level 6, over eight handlers, and starts over six.
 fn eight_handlers() {
-    cases_lines::heading(b"eight handlers: 7, 6\n");
+    lines::heading(b"eight handlers: 7, 6\n");
     let mut a = with_source(tower(), 0x08, 0x47, 0x88, 0xA2);
     a = see(a, Step::Line(2, 1), 7, 6);
     a = see(a, Step::Read(0x100), 7, 6);
@@ -195,7 +196,7 @@ fn four_reads(a: Answer) -> Answer {
 
 // Source 2 waits at level 7, then at level 0, over eight marks, and starts over seven.
 fn eight_marks() {
-    cases_lines::heading(b"eight marks: 7, 0\n");
+    lines::heading(b"eight marks: 7, 0\n");
     let mut a = with_source(fresh(), 0x08, 0x47, 0x88, 0xA2);
     a = four_reads(four_reads(a));
     a = see(a, Step::Line(2, 1), 7, 0);
@@ -208,7 +209,7 @@ fn eight_marks() {
 // Source 3, by level, of priority 2, and source 9, by edge, of priority 5, in protect mode (02, 9/12): a look changes no level, nor does the mark of one
 // that finds none; source 9 is started by the write, at the level of the look, and leaves the level to which it has moved since.
 fn protected() {
-    cases_lines::heading(b"protect mode: 2, 5\n");
+    lines::heading(b"protect mode: 2, 5\n");
     let mut a = with_source(fresh(), 0x0C, 0x42, 0x8C, 0xA3);
     a = with_source(a, 0x24, 0x65, 0xA4, 0xA9);
     a = on(a, Step::Line(3, 1));
@@ -227,7 +228,7 @@ fn protected() {
 
 // The heading of each says which levels its two words are.
 pub(crate) fn all() {
-    cases_lines::heading(b"value, byte, two levels; IRQ, FIQ, entries, agree\n");
+    lines::heading(b"value, byte, two levels; IRQ, FIQ, entries, agree\n");
     two_of_one_level();
     lowest_and_highest();
     emptied();

@@ -1,4 +1,5 @@
 // A CIC with prioritised indices, its steps one after the other, and what is to be seen after each.
+use crate::lines;
 use cic_held::Answer;
 use cic_held::Prioritised;
 use steps::Step;
@@ -38,7 +39,7 @@ pub(crate) fn see(a: Answer, x: Step, h: u32) -> Answer {
     let p = b.prioritised;
     let o = cic_prioritised::outputs(p);
     let g = p.held;
-    cases_lines::four(b.value, o.hosts, g.global as u32, held_for(p, h), b.refusal);
+    lines::four(b.value, o.hosts, g.global as u32, held_for(p, h), b.refusal);
     b
 }
 
@@ -47,6 +48,6 @@ pub(crate) fn see_mode(a: Answer, x: Step) -> Answer {
     let b = on(a, x);
     let p = b.prioritised;
     let g = p.held;
-    cases_lines::four(b.value, g.hold, g.global as u32, g.choice, b.refusal);
+    lines::four(b.value, g.hold, g.global as u32, g.choice, b.refusal);
     b
 }

@@ -1,10 +1,11 @@
 // The table that gives the highest level of a byte, 255 for none: each level alone, levels below it, and no level at all.
+use crate::lines;
 
 // Two bytes, each with its highest level.
 fn two(b: u8, c: u8) {
     let first = aic_levels::highest(b);
     let second = aic_levels::highest(c);
-    cases_lines::four(
+    lines::four(
         b as u32,
         first as u32,
         c as u32,
@@ -14,7 +15,7 @@ fn two(b: u8, c: u8) {
 }
 
 pub(crate) fn all() {
-    cases_lines::heading(b"byte, highest level, byte, highest level\n");
+    lines::heading(b"byte, highest level, byte, highest level\n");
     two(0x00, 0x01);
     two(0x02, 0x03);
     two(0x04, 0x07);

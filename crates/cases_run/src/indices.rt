@@ -7,7 +7,7 @@ mod part;
 mod records;
 mod registers;
 
-fn main() {
+pub(crate) fn all() {
     records::starts();
     order::all();
     holds::all();

@@ -1,9 +1,0 @@
-// Runs what no trace can show: the records that the KeyStone's controllers, the CIC and the AINTC, take or refuse, at every limit and just beside it; and
-// their starts. Prints a line for each.
-mod aintc_records;
-mod cic_records;
-
-fn main() {
-    cic_records::all();
-    aintc_records::all();
-}
