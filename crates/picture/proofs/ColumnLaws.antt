@@ -25,8 +25,8 @@ use Rattle.reports.specs.declared.Played.{Played}
 use Rattle.reports.specs.Play.{runOf, report}
 use Rattle.reports.proofs.PlayLaws.{run-ready}
 use Rattle.drawing.specs.Bars.{packed}
-use Rattle.window.specs.Window.{columnOf, columnsFrom, within, before, columnsOf}
-use Rattle.window.proofs.StepsLaws.{steps-take, steps-drop, steps-most}
+use Rattle.picture.specs.Window.{columnOf, columnsFrom, within, before, columnsOf}
+use Rattle.picture.proofs.StepsLaws.{steps-take, steps-drop, steps-most}
 
 -- the fields together are the column
 pub packs : (s : Aic) (refusal : ℕ) (o : Signals) (irq fiq source level w : ℕ) → o ≡ outputs s → source ≡ lastSource s → level ≡ lastLevel s → irq ≡ one (o .irq)

@@ -8,7 +8,7 @@ ghost use Rattle.text.specs.Text.{write, laid};
 ghost use Rattle.trace.specs.Trace.{stepsFrom};
 ghost use Rattle.machine_record.specs.Promises.{Ready};
 ghost use Rattle.drawing.specs.Bars.{packed};
-ghost use Rattle.window.specs.Window.{columnOf, columnsFrom, before, columnsOf};
+ghost use Rattle.picture.specs.Window.{columnOf, columnsFrom, before, columnsOf};
 use aic_record::Aic;
 use machine_record::Machine;
 use trace::Turn;
@@ -22,7 +22,7 @@ pub struct Filled {
 
 // The columns of a window: at most `steps` steps, from the one numbered `first` on, of those played from the place `start` on, which are at most `limit` and
 // numbered from 1. They tell no privilege, as those of an AIC. A column that finds no room is dropped.
-pub fn fill(
+pub(crate) fn fill(
     trace: &[u8],
     limit: u32,
     first: u32,

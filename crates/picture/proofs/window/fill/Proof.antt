@@ -1,13 +1,13 @@
--- That `fill` of src/lib.rt keeps its contract.
+-- That `fill` of src/window.rt keeps its contract.
 use mathlib.Core.Path.{ap}
 use mathlib.Core.Bool.{false}
 use native.Mathlib.Omega.{arith}
 use Rattle.machine_record.specs.declared.Machine.{Machine}
 use Rattle.trace.proofs.TraceLaws.{steps-limited}
-use Rattle.window.proofs.ColumnLaws.{played-ready, machine-before, filled}
+use Rattle.picture.proofs.ColumnLaws.{played-ready, machine-before, filled}
 use borrow.Author.Needs.{needs}
-use Rattle.window.proofs.fill.Statement.{statement}
-use Rattle.window.proofs.fill.Tie as tie
+use Rattle.picture.proofs.window.fill.Statement.{statement}
+use Rattle.picture.proofs.window.fill.Tie as tie
 
 -- the window begins with one of the steps that are played
 sub-lesser-2 : tie.Need-sub-lesser-2

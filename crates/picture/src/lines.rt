@@ -1,11 +1,11 @@
 // Why there is no picture: one line, at the start of a buffer that the caller lends.
 ghost use mathlib.Core.Path.{_≡_};
 ghost use Rattle.text.specs.Text.{laid};
-ghost use Rattle.picture_lines.specs.Lines.{noBeginning, noEntries, wrongWindow};
+ghost use Rattle.picture.specs.Lines.{noBeginning, noEntries, wrongWindow};
 use text::NEWLINE;
 
 // The trace has no beginning: the refusal and its offset.
-pub fn put_no_beginning(out: &mut [u8], refusal: u32, offset: usize) -> usize
+pub(crate) fn put_no_beginning(out: &mut [u8], refusal: u32, offset: usize) -> usize
     ensures { λ r. ⌜ (now (out .exit), r) ≡ laid (now (out .entry)) (noBeginning refusal offset) ⌝ }
 {
     let a = text::put_all(out, 0, b"no picture: the trace has no beginning, E");
@@ -15,7 +15,7 @@ pub fn put_no_beginning(out: &mut [u8], refusal: u32, offset: usize) -> usize
 }
 
 // Its controller has no entries.
-pub fn put_no_entries(out: &mut [u8]) -> usize
+pub(crate) fn put_no_entries(out: &mut [u8]) -> usize
     ensures { λ r. ⌜ (now (out .exit), r) ≡ laid (now (out .entry)) noEntries ⌝ }
 {
     text::put_all(
@@ -26,7 +26,7 @@ pub fn put_no_entries(out: &mut [u8]) -> usize
 }
 
 // The window is wrong: what one is, and how many steps are played.
-pub fn put_wrong_window(out: &mut [u8], played: u32) -> usize
+pub(crate) fn put_wrong_window(out: &mut [u8], played: u32) -> usize
     ensures { λ r. ⌜ (now (out .exit), r) ≡ laid (now (out .entry)) (wrongWindow played) ⌝ }
 {
     let a = phrases::put_counted(

@@ -1,4 +1,4 @@
--- That `put_steps` of src/lib.rt keeps its contract.
+-- That `put_steps` of src/window.rt keeps its contract.
 use mathlib.Core.Path.{_≡_, sym, _∙_}
 use native.Mathlib.Omega.{arith}
 use lib.ListN.{length}
@@ -8,11 +8,11 @@ use Rattle.trace.proofs.TraceLaws.{turn-found}
 use mathlib.Core.Bool.{false}
 use Rattle.machine_record.specs.Promises.{Ready}
 use Rattle.reports.proofs.PlayLaws.{next-ready}
-use Rattle.window.specs.Window.{columnsFrom}
-use Rattle.window.proofs.ColumnLaws.{put-ended, put-found}
+use Rattle.picture.specs.Window.{columnsFrom}
+use Rattle.picture.proofs.ColumnLaws.{put-ended, put-found}
 use borrow.Author.Needs.{needs}
-use Rattle.window.proofs.put_steps.Statement.{statement}
-use Rattle.window.proofs.put_steps.Tie as tie
+use Rattle.picture.proofs.window.put_steps.Statement.{statement}
+use Rattle.picture.proofs.window.put_steps.Tie as tie
 
 abbrev Inv-loop : tie.InvT-loop
 Inv-loop trace limit start columns₀ from at₀ m₀ left₀ to₀ columns at m left to =

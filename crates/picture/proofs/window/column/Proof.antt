@@ -1,8 +1,8 @@
--- That `column` of src/lib.rt keeps its contract.
-use Rattle.window.proofs.ColumnLaws.{packs}
+-- That `column` of src/window.rt keeps its contract.
+use Rattle.picture.proofs.ColumnLaws.{packs}
 use borrow.Author.Needs.{needs}
-use Rattle.window.proofs.column.Statement.{statement}
-use Rattle.window.proofs.column.Tie as tie
+use Rattle.picture.proofs.window.column.Statement.{statement}
+use Rattle.picture.proofs.window.column.Tie as tie
 
 returns : tie.Need-returns
 returns c = let l = c .before .before .before in

@@ -1,4 +1,4 @@
--- The proof of what is promised of the columns of a window.
+-- What the columns of a window show, and how many there are.
 use Prim.Native.Nat.{ℕ, zero, suc, _+_, _-_, _%_, _<_, _≤_, min}
 use mathlib.Core.Path.{_≡_, refl, sym, ap, _∙_}
 use mathlib.Core.Bool.{Bool, true, false}
@@ -35,9 +35,9 @@ use Rattle.reports.proofs.PlayLaws.{run-ready}
 use Rattle.drawing.specs.Bars.{Column, packed, column, columnAt, entriesAt}
 use Rattle.drawing.specs.Promises.{Small}
 use Rattle.drawing.proofs.Promises.{kept as drawing}
-use Rattle.window.specs.Window.{columnOf, columnsFrom, within, before, columnsOf}
-use Rattle.window.specs.Promises.{Shows, Promises}
-use Rattle.window.proofs.ColumnLaws.{columns-many}
+use Rattle.picture.specs.Window.{columnOf, columnsFrom, within, before, columnsOf}
+use Rattle.picture.specs.Promises.{Shows}
+use Rattle.picture.proofs.ColumnLaws.{columns-many}
 
 -- ---- the number of a refusal is small
 
@@ -146,7 +146,7 @@ module _ (steps : ℕ) (m : Machine) (b xs : List Recorded) where
   pred : suc (length b) - 1 ≡ length b
   pred = omega arith
 
-  before-is : before (suc (length b)) m (b ++ xs) ≡ runOf m b
+  pub before-is : before (suc (length b)) m (b ++ xs) ≡ runOf m b
   before-is = rw pred (ap (runOf m) (take-append-seam b xs))
 
   within-is : within (suc (length b)) steps (b ++ xs) ≡ take steps xs
@@ -156,11 +156,11 @@ module _ (steps : ℕ) (m : Machine) (b xs : List Recorded) where
   unfolding columnsOf
   columns-are = rw (before-is, within-is)
 
-before-all : (steps : ℕ) (m : Machine) (b xs : List Recorded) → Ready m → m .kind ≡ 0 → Shows (columnAt (columnsOf (suc (length b)) steps m (b ++ xs)) 0) (runOf m b .aic) 0
+pub before-all : (steps : ℕ) (m : Machine) (b xs : List Recorded) → Ready m → m .kind ≡ 0 → Shows (columnAt (columnsOf (suc (length b)) steps m (b ++ xs)) 0) (runOf m b .aic) 0
 before-all steps m b xs r k =
     shows (runOf m b) (run-ready m b r) (run-kind m b ∙ k) _ 0 (omega arith) (ap (λ (ws : List ℕ). getD ws 0 0) (columns-are steps m b xs))
 
-after-each : (steps : ℕ) (m : Machine) (b a : List Recorded) (x : Recorded) (xs : List Recorded) → Ready m → m .kind ≡ 0 → length a < steps
+pub after-each : (steps : ℕ) (m : Machine) (b a : List Recorded) (x : Recorded) (xs : List Recorded) → Ready m → m .kind ≡ 0 → length a < steps
     → Shows (columnAt (columnsOf (suc (length b)) steps m (b ++ (a ++ (x ∷ xs)))) (suc (length a))) (step (runOf m (b ++ a)) x .machine .aic) (step (runOf m (b ++ a)) x .refusal)
 after-each steps m b a x xs r k l =
     let t = taken steps a xs x l in
@@ -182,7 +182,7 @@ eight-from m [] k r z = omega arith
 eight-from m (x ∷ xs) zero r z = few (step m x .machine) (step-ready m x r) (step-kind m x ∙ z) _ (step m x .refusal) (refusal-small m x z) refl
 eight-from m (x ∷ xs) (suc k) r z = eight-from (step m x .machine) xs k (step-ready m x r) (step-kind m x ∙ z)
 
-eight : (first steps : ℕ) (m : Machine) (xs : List Recorded) (k : ℕ) → Ready m → m .kind ≡ 0 → entriesAt (columnsOf first steps m xs) k ≤ 8
+pub eight : (first steps : ℕ) (m : Machine) (xs : List Recorded) (k : ℕ) → Ready m → m .kind ≡ 0 → entriesAt (columnsOf first steps m xs) k ≤ 8
 unfolding columnsOf
 eight first steps m xs zero r z =
     let b = take (first - 1) xs in
@@ -191,8 +191,5 @@ eight first steps m xs (suc k) r z =
     let b = take (first - 1) xs in
     eight-from (runOf m b) (within first steps xs) k (run-ready m b r) (run-kind m b ∙ z)
 
-many : (first steps : ℕ) (m : Machine) (xs : List Recorded) → length (columnsOf first steps m xs) ≡ suc (min steps (length xs - (first - 1)))
+pub many : (first steps : ℕ) (m : Machine) (xs : List Recorded) → length (columnsOf first steps m xs) ≡ suc (min steps (length xs - (first - 1)))
 many first steps m xs = columns-many first steps m xs ∙ ap suc (length-take steps (drop (first - 1) xs) ∙ ap (min steps) (length-drop (first - 1) xs))
-
-pub kept : Promises
-kept = record { many = many; machineBefore = before-is 0; beforeAll = before-all; afterEach = after-each; eight = eight }

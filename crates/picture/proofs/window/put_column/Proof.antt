@@ -1,8 +1,8 @@
--- That `put_column` of src/lib.rt keeps its contract.
+-- That `put_column` of src/window.rt keeps its contract.
 use Rattle.text.proofs.WriteLaws.{room, full}
 use borrow.Author.Needs.{needs}
-use Rattle.window.proofs.put_column.Statement.{statement}
-use Rattle.window.proofs.put_column.Tie as tie
+use Rattle.picture.proofs.window.put_column.Statement.{statement}
+use Rattle.picture.proofs.window.put_column.Tie as tie
 
 returns : tie.Need-returns
 returns c = room _ _ _ (c .if1 .taken)
