@@ -30,7 +30,7 @@ use Rattle.beginning.specs.Begin.{setupFrom, setupOf, bySetup, beginOf}
 use Rattle.beginning.proofs.BeginningLaws.{begin-ready}
 use Rattle.reports.specs.Play.{recordsFrom, recordsOf}
 use Rattle.lines.specs.Listing.{letter, shownValue, lineOf, stepLine, linesFrom, joined, endLine, endOf, textFrom, nameLine, listingOf}
-use Rattle.listing_indexed.specs.Promises.{Alike, indexedTrace, indexedText}
+use Rattle.listing.specs.Indexed.{Alike, indexedTrace, indexedText}
 
 -- what is read of a trace, and how a line is written
 unfoldable reading : Unit {0}

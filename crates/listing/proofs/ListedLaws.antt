@@ -27,9 +27,9 @@ use Rattle.reports.specs.Play.{recordsFrom, recordsOf, report, playOf}
 use Rattle.reports.proofs.PlayLaws.{records-begun}
 use Rattle.lines.specs.Listing.{linesFrom, joined, endOf, textFrom, listingOf}
 use Rattle.lines.proofs.LineLaws.{listing-begun}
-use Rattle.listing_indexed.specs.Promises.{Off, Alike, lastLine, SameBut}
-use Rattle.listing_indexed.proofs.MovedLaws.{traceMoved, steps-moved}
-use Rattle.listing_indexed.proofs.OffLaws.{off-lines}
+use Rattle.listing.specs.Indexed.{Off, Alike, lastLine, SameBut}
+use Rattle.listing.proofs.MovedLaws.{traceMoved, steps-moved}
+use Rattle.listing.proofs.OffLaws.{off-lines}
 
 -- ---- a trace that is configured by the bytes before its steps
 

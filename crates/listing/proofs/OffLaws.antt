@@ -18,7 +18,7 @@ use Rattle.machine.specs.declared.Answer.{Answer}
 use Rattle.machine.specs.Steps.{step}
 use Rattle.machine.proofs.StepLaws.{cic-steps, indexed-steps, indexed-off}
 use Rattle.lines.specs.Listing.{stepLine, linesFrom, joined, endOf, textFrom}
-use Rattle.listing_indexed.specs.Promises.{Off}
+use Rattle.listing.specs.Indexed.{Off}
 
 -- a step leaves them so
 off-stays : (m c : Machine) (x : Recorded) → Off m c → Off (step m x .machine) (step c x .machine)

@@ -1,4 +1,4 @@
--- What is promised of the listing of a CIC with a choice: with the choice off it is that of a CIC, and one with it on is worked out (02, 6/12).
+-- A CIC with its choice off beside one without a choice, and a trace of one with it on (02, 6/12).
 use Prim.Native.Nat.{ℕ, _+_, _≤_}
 use mathlib.Core.Path.{_≡_}
 use mathlib.Core.Bool.{true}
@@ -6,11 +6,10 @@ use mathlib.Core.List.{List, [], _∷_, _++_}
 use lib.ListN.{length}
 use Rattle.cic_record.specs.Promises.{InRange}
 use Rattle.trace.specs.Promises.{Reads}
-use Rattle.trace.specs.Trace.{Trace}
 use Rattle.machine_record.specs.declared.Machine.{Machine}
 use Rattle.machine_record.specs.Machine.{sound}
 use Rattle.reports.specs.Play.{playOf}
-use Rattle.lines.specs.Listing.{endOf, textFrom, listingOf}
+use Rattle.lines.specs.Listing.{endOf, listingOf}
 
 -- one machine is a sound CIC of kind 4 with its choice off, and the other the same CIC of kind 2 (02, 6/12)
 pub record Off (m c : Machine) : Type 0 where
@@ -64,22 +63,3 @@ indexedText =
     ∷ 49 ∷ 49 ∷ 32 ∷ 87 ∷ 32 ∷ 48 ∷ 48 ∷ 48 ∷ 48 ∷ 48 ∷ 48 ∷ 48 ∷ 48 ∷ 32 ∷ 49 ∷ 32 ∷ 48 ∷ 32 ∷ 48 ∷ 10
     ∷ 49 ∷ 50 ∷ 32 ∷ 82 ∷ 32 ∷ 48 ∷ 48 ∷ 48 ∷ 48 ∷ 48 ∷ 48 ∷ 48 ∷ 48 ∷ 32 ∷ 49 ∷ 32 ∷ 48 ∷ 32 ∷ 48 ∷ 10
     ∷ 49 ∷ 51 ∷ 32 ∷ 88 ∷ 32 ∷ 48 ∷ 48 ∷ 48 ∷ 48 ∷ 48 ∷ 48 ∷ 48 ∷ 50 ∷ 32 ∷ 49 ∷ 32 ∷ 48 ∷ 32 ∷ 48 ∷ 10 ∷ []
-
-pub record Promises : Type 0 where
-  -- with the choice off a CIC of kind 4 lists any steps byte for byte as the same CIC of kind 2 does, whatever their first number and however they end
-  -- (02, 6/12)
-  pub offText : (n : ℕ) (m c : Machine) (t : Trace) → Off m c → textFrom n m t ≡ textFrom n c t
-  -- so do whole traces, but for a last line E; there too the refusal is the same, and the offset, which is counted from the first byte of the trace, is as much
-  -- further as the configuration is longer (02, 6/12; 01, House trace)
-  pub offListed : (a b r : List ℕ) (limit : ℕ) → Alike a b r → SameBut (a ++ r) (b ++ r) limit
-  pub offEnds : (a b r : List ℕ) (limit : ℕ) → Alike a b r → (playOf (a ++ r) limit .refusal ≡ playOf (b ++ r) limit .refusal)
-      × (playOf (a ++ r) limit .offset + length b ≡ playOf (b ++ r) limit .offset + length a)
-  -- so they are the same byte for byte where no refusal ends the play, or where both configurations are of one length
-  pub offSame : (a b r : List ℕ) (limit : ℕ) → Alike a b r → playOf (b ++ r) limit .refusal ≡ 0 → listingOf (a ++ r) limit ≡ listingOf (b ++ r) limit
-  pub offAsLong : (a b r : List ℕ) (limit : ℕ) → Alike a b r → length a ≡ length b → listingOf (a ++ r) limit ≡ listingOf (b ++ r) limit
-  -- ---- worked out
-
-  -- these bytes are alike: a read of the revision follows, and 9, which is no kind of step (01, House trace)
-  pub met : Alike (4 ∷ 4 ∷ 2 ∷ 1 ∷ 7 ∷ 0 ∷ []) (2 ∷ 4 ∷ 2 ∷ 1 ∷ 7 ∷ []) (1 ∷ 0 ∷ 9 ∷ [])
-  -- with the choice on an index read answers the first in the order of the channels, and holds it (001, 1.3.5)
-  pub indexedListed : listingOf indexedTrace 20000 ≡ indexedText
