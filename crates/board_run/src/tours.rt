@@ -5,8 +5,8 @@ use super::questions;
 use super::random::below;
 use super::random::seed_of;
 use super::random::skip;
-use super::steps::Tour;
 use super::steps;
+use super::steps::Tour;
 use board_wires::Board;
 
 // What a tour does in one turn.

@@ -2,8 +2,8 @@
 ghost use mathlib.Core.Path.{_≡_};
 ghost use Prim.Native.Nat.{_+_, _≤_};
 ghost use lib.ListN.{length};
-use super::lines::Sum;
 use super::lines;
+use super::lines::Sum;
 use reading::Came;
 
 // Of a name that is too long so many bytes are printed; no file has a name of so many.

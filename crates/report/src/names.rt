@@ -3,8 +3,8 @@ ghost use Prim.Native.Nat.{ℕ, _≤_, _<_};
 ghost use lib.ListN.{length};
 ghost use Rattle.report.specs.Lines.{feedsBefore};
 ghost use Rattle.report.specs.Put.{Put};
-use super::held::State;
 use super::held;
+use super::held::State;
 use super::lines::Sum;
 use super::traces;
 

@@ -9,8 +9,8 @@ ghost use Rattle.totals.specs.Totals.{added};
 ghost use Rattle.tally.specs.Tally.{tallyOf};
 ghost use Rattle.report.specs.Printed.{traceLine, leftOutLine};
 ghost use Rattle.report.specs.Put.{Put};
-use super::lines::Sum;
 use super::lines;
+use super::lines::Sum;
 use tally::Tallied;
 
 // The most steps of a trace that are played.

@@ -1,8 +1,8 @@
 // The control register, and which of the registers there are with the choice on and off (D23, D24, D30, D32).
-use crate::lines;
 use super::part::fresh;
 use super::part::on;
 use super::part::see_mode;
+use crate::lines;
 use cic_held::Answer;
 use steps::Step;
 
