@@ -1,5 +1,5 @@
 // CoreInterrupt: which starts and which records are refused, 10 and 12 (01, CoreInterrupt).
-use super::lines;
+use cases::lines;
 use coreinterrupt::Core;
 use coreinterrupt_side::Side;
 

@@ -1,8 +1,8 @@
 // An AIC and its levels along short runs: after each step the value, the byte and two of the words; then IRQ, FIQ, the entries open, and whether the two
 // agree.
-use crate::lines;
 use aic_levels::Answer;
 use aic_levels::Levels;
+use cases::lines;
 use steps::Step;
 
 fn word(l: Levels, p: u32) -> u32 {

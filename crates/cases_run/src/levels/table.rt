@@ -1,5 +1,5 @@
 // The table that gives the highest level of a byte, 255 for none: each level alone, levels below it, and no level at all.
-use crate::lines;
+use cases::lines;
 
 // Two bytes, each with its highest level.
 fn two(b: u8, c: u8) {

@@ -1,7 +1,7 @@
 // Starts that are refused by 10, and records that are refused by 12 (D33, D34).
 use super::part::fresh;
 use super::part::held_for;
-use crate::lines;
+use cases::lines;
 use cic_held::Held;
 use cic_held::Prioritised;
 

@@ -1,8 +1,8 @@
-// The lines that the cases print: the numbers of a case and what came of it. No contract can say what stands on standard output; what the
+// The lines that the programs of cases print: the numbers of a case and what came of it. No contract can say what stands on standard output; what each
 // program prints is compared with its file `stdout`.
 
 // The line above some cases: what their numbers are.
-pub(crate) fn heading(t: &[u8]) {
+pub fn heading(t: &[u8]) {
     io::write_all(1, t);
 }
 
@@ -21,7 +21,7 @@ fn outcome(refusal: u32) {
     io::write_all(1, b"\n");
 }
 
-pub(crate) fn four(a: u32, b: u32, c: u32, d: u32, refusal: u32) {
+pub fn four(a: u32, b: u32, c: u32, d: u32, refusal: u32) {
     number(a);
     number(b);
     number(c);
@@ -29,7 +29,7 @@ pub(crate) fn four(a: u32, b: u32, c: u32, d: u32, refusal: u32) {
     outcome(refusal);
 }
 
-pub(crate) fn one(a: u32, refusal: u32) {
+pub fn one(a: u32, refusal: u32) {
     number(a);
     outcome(refusal);
 }

@@ -3,7 +3,7 @@
 use super::part::on;
 use super::part::opened;
 use super::part::see;
-use crate::lines;
+use cases::lines;
 use cic_held::Answer;
 use steps::Step;
 

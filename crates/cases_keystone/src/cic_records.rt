@@ -1,5 +1,5 @@
 // CIC: which starts and which records are refused, 10 and 12 (01, CIC).
-use super::lines;
+use cases::lines;
 use cic_record::Cic;
 
 fn start(systems: u32, channels: u32, hosts: u32, revision: u32) {

@@ -1,7 +1,7 @@
 // AINTC: which records are refused by 12 (02, 2/12).
-use super::lines;
 use aintc_record::Aintc;
 use aintc_record::Chosen;
+use cases::lines;
 
 // Every case begins with what a reset leaves.
 fn fresh() -> Aintc {

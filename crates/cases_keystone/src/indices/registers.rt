@@ -2,7 +2,7 @@
 use super::part::fresh;
 use super::part::on;
 use super::part::see_mode;
-use crate::lines;
+use cases::lines;
 use cic_held::Answer;
 use steps::Step;
 

@@ -1,5 +1,5 @@
 // A CIC with prioritised indices, its steps one after the other, and what is to be seen after each.
-use crate::lines;
+use cases::lines;
 use cic_held::Answer;
 use cic_held::Prioritised;
 use steps::Step;
