@@ -26,20 +26,15 @@ use Rattle.aic.specs.Model.{step}
 use Rattle.aic_runs.specs.Counted.{steady}
 use Rattle.aic_runs.specs.Runs.{run, always}
 use Rattle.aic_runs.proofs.SoundRuns.{run-sound}
-use Rattle.aic_record.proofs.Promises as Record
 use Rattle.stack.specs.declared.Table.{Table}
 use Rattle.stack.specs.Bytes.{stackBytes, frameOf, openBytes, Set}
-use Rattle.stack.specs.Promises.{Outset, Promises, Bare}
+use Rattle.stack.specs.Promises.{Outset, Promises}
 use Rattle.stack.proofs.BoundLaws.{set-fast, bounded, along}
 use Rattle.stack.proofs.SetupLaws.{reached}
 use Rattle.stack.proofs.FigureLaws.{refused-is, refused-none, within-not, answered-is, summed, most, level-mark, level-frame, level-met, bit-nought}
 use Rattle.stack.proofs.PrintedLaws.{figure-text, number-text, printed, printed-refused, printed-most}
 use Rattle.stack.proofs.Worked.{eight-levels, line, plain, forced, refused}
 use Rattle.aic.proofs.Promises as Controller
-use Rattle.stack.proofs.KeptLaws.{keeps-is, unkept-is, unkept-none, along-is, reset-keeps, set-keeps, part-keeps}
-use Rattle.stack.proofs.RunLaws.{levels-kept, never-more-kept, never-more-next}
-use Rattle.aic_record.specs.Record.{reset}
-use Rattle.stack.proofs.KeptWorked.{worked}
 
 -- of an unsound record nothing is carried out
 twelve : (s : Aic) (x : Step) → sound s ≡ false → step s x .refusal ≡ unsound
@@ -99,10 +94,6 @@ open-is : (t : Table) (s : Aic) → openBytes t s
 unfolding openBytes frameOf
 open-is t s = refl
 
-reset-bare : (external lines : ℕ) → Bare (reset external lines)
-unfolding reset
-reset-bare external lines = (refl, refl)
-
 pub kept : Promises
 kept =
     record {
@@ -129,20 +120,4 @@ kept =
       workedSparse = plain;
       workedForced = forced;
       workedRefused = refused;
-      keepsIs = keeps-is;
-      unkeptIs = unkept-is;
-      unkeptNone = unkept-none;
-      alongIs = along-is;
-      resetKeeps = reset-keeps;
-      setKeeps = set-keeps;
-      levelsKept = levels-kept;
-      neverMoreKept = never-more-kept;
-      neverMoreNext = never-more-next;
-      neverMoreReset = λ t external lines xs ys q.
-          never-more-kept t (reset external lines) xs (Record.kept .resetShaped external lines) (reset-bare external lines)
-          (part-keeps t (reset external lines) xs ys q);
-      neverMoreSet = λ t s xs h b q. never-more-kept t s xs h (b .none, b .remembered) (set-keeps t s xs b q);
-      shiftedKeeps = worked .shifts;
-      raisedPasses = worked .raises;
-      raisedTold = worked .tells;
     }

@@ -34,14 +34,14 @@ use Rattle.aic.proofs.HandlerLaws.{started-is, moded-is, moved-is}
 use Rattle.aic.proofs.StepKindLaws.{kinds}
 use Rattle.aic_runs.specs.Runs.{run}
 use Rattle.aic_runs.proofs.SoundRuns.{run-sound}
 use Rattle.stack.specs.declared.Table.{Table}
 use Rattle.stack.specs.Bytes.{normal, stackBytes, frameOf, openBytes}
 use Rattle.stack.specs.Promises.{NormalOf}
 use Rattle.stack.proofs.BoundLaws.{Fits, bounded, pushed, shut, Recalled, Fitted}
 use Rattle.stack.proofs.Promises.{run-stays}
-use Rattle.stack.specs.Kept.{keeps, keepsAlong}
-use Rattle.stack.specs.Promises.{Matches, Stands, Bare}
-use Rattle.stack.proofs.KeptLaws.{keeps-is, first-keeps, rest-keeps}
+use Rattle.stack_kept.specs.Kept.{keeps, keepsAlong}
+use Rattle.stack_kept.specs.Promises.{Matches, Stands, Bare}
+use Rattle.stack_kept.proofs.KeptLaws.{keeps-is, first-keeps, rest-keeps}
 use Rattle.aic.proofs.Promises as Controller
 
 -- ---- what is selected is enabled and not fast: it matches the table, and is a normal source of it

@@ -1,9 +1,9 @@
--- That `has_mode` of src/kept.rt keeps its contract.
+-- That `has_mode` of src/lib.rt keeps its contract.
 use Rattle.aic_record.specs.Mode.{priority, kind}
-use Rattle.stack.specs.Kept.{sameMode}
+use Rattle.stack_kept.specs.Kept.{sameMode}
 use borrow.Author.Needs.{needs}
-use Rattle.stack.proofs.kept.has_mode.Statement.{statement}
-use Rattle.stack.proofs.kept.has_mode.Tie as tie
+use Rattle.stack_kept.proofs.has_mode.Statement.{statement}
+use Rattle.stack_kept.proofs.has_mode.Tie as tie
 
 returns : tie.Need-returns
 unfolding sameMode priority kind

@@ -1,8 +1,8 @@
--- That `source_keeps` of src/kept.rt keeps its contract.
-use Rattle.stack.specs.Kept.{sourceKeeps}
+-- That `source_keeps` of src/lib.rt keeps its contract.
+use Rattle.stack_kept.specs.Kept.{sourceKeeps}
 use borrow.Author.Needs.{needs}
-use Rattle.stack.proofs.kept.source_keeps.Statement.{statement}
-use Rattle.stack.proofs.kept.source_keeps.Tie as tie
+use Rattle.stack_kept.proofs.source_keeps.Statement.{statement}
+use Rattle.stack_kept.proofs.source_keeps.Tie as tie
 
 returns : tie.Need-returns
 unfolding sourceKeeps

@@ -1,9 +1,9 @@
 // Whether a record of the controller keeps a priority table, and which source does not.
 ghost use mathlib.Core.Path.{_≡_};
 ghost use Prim.Native.Nat.{_<_};
-ghost use Rattle.stack.specs.Kept.{sameMode, sameForcing, sourceKeeps, keeps, unkept};
-use super::Table;
+ghost use Rattle.stack_kept.specs.Kept.{sameMode, sameForcing, sourceKeeps, keeps, unkept};
 use aic_record::Aic;
+use stack::Table;
 
 // Whether source i has the table's priority and type.
 fn has_mode(t: Table, s: Aic, i: u32) -> bool

@@ -20,9 +20,9 @@ use Rattle.aic_registers.specs.Registers.{readAt, writtenAt}
 use Rattle.aic.specs.Model.{readNumber, writeNumber, lineNumber, read, write, line}
 use Rattle.aic_runs.specs.Counted.{carried, rewrites, steady}
 use Rattle.aic_runs.specs.Runs.{run, always}
 use Rattle.stack.specs.Bytes.{normal, isOf, taller, largest, levelBytes, stackBytes, frameOf, openBytes}
-use Rattle.stack.specs.Kept.{sameMode, sameForcing, sourceKeeps, keeps, unkept, keepsAlong}
-use Rattle.stack.specs.KeptWorked.{pair, startUp, shifted, stacked, raised}
+use Rattle.stack_kept.specs.Kept.{sameMode, sameForcing, sourceKeeps, keeps, unkept, keepsAlong}
+use Rattle.stack_kept.specs.Worked.{pair, startUp, shifted, stacked, raised}
 
 pub record Worked : Type 0 where
   pub shifts : (keepsAlong pair (reset 0 0) shifted ≡ true) × (always steady (reset 0 0) shifted ≡ false)

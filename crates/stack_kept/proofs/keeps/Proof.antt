@@ -1,8 +1,8 @@
--- That `keeps` of src/kept.rt keeps its contract.
-use Rattle.stack.proofs.KeptLaws.{keeps-told}
+-- That `keeps` of src/lib.rt keeps its contract.
+use Rattle.stack_kept.proofs.KeptLaws.{keeps-told}
 use borrow.Author.Needs.{needs}
-use Rattle.stack.proofs.kept.keeps.Statement.{statement}
-use Rattle.stack.proofs.kept.keeps.Tie as tie
+use Rattle.stack_kept.proofs.keeps.Statement.{statement}
+use Rattle.stack_kept.proofs.keeps.Tie as tie
 
 returns : tie.Need-returns
 returns c = rw (c .unkept .ensures) (keeps-told (c .before .args .t) (c .before .args .s))

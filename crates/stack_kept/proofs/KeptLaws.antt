@@ -23,10 +23,10 @@ use Rattle.aic_runs.specs.Counted.{steady}
 use Rattle.aic_runs.specs.Runs.{run, always}
 use Rattle.aic_runs.proofs.RunLaws.{not-rewritten}
 use Rattle.aic_runs.proofs.StepLaws.{modes-law}
 use Rattle.stack.specs.declared.Table.{Table}
 use Rattle.stack.specs.Bytes.{Set}
-use Rattle.stack.specs.Kept.{sameMode, sameForcing, sourceKeeps, keeps, unkept, keepsAlong}
-use Rattle.stack.specs.Promises.{Matches}
+use Rattle.stack_kept.specs.Kept.{sameMode, sameForcing, sourceKeeps, keeps, unkept, keepsAlong}
+use Rattle.stack_kept.specs.Promises.{Matches}
 
 -- ---- a record
 

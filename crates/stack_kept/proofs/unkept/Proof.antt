@@ -1,14 +1,14 @@
--- That `unkept` of src/kept.rt keeps its contract.
+-- That `unkept` of src/lib.rt keeps its contract.
 use Prim.Native.Nat.{ℕ, _-_, _<_, _≤_}
 use mathlib.Core.Path.{_≡_, sym, _∙_}
 use mathlib.Core.Bool.{true}
 use native.Mathlib.Omega.{arith}
 use borrow.Author.Tests.{not-true}
-use Rattle.stack.specs.Kept.{sourceKeeps}
-use Rattle.stack.proofs.KeptLaws.{holds, next-keeps, unkept-here, unkept-end}
+use Rattle.stack_kept.specs.Kept.{sourceKeeps}
+use Rattle.stack_kept.proofs.KeptLaws.{holds, next-keeps, unkept-here, unkept-end}
 use borrow.Author.Needs.{needs}
-use Rattle.stack.proofs.kept.unkept.Statement.{statement}
-use Rattle.stack.proofs.kept.unkept.Tie as tie
+use Rattle.stack_kept.proofs.unkept.Statement.{statement}
+use Rattle.stack_kept.proofs.unkept.Tie as tie
 
 abbrev Inv-loop : tie.InvT-loop
 Inv-loop t s i₀ i = (i ≤ 32) × ((k : ℕ) → k < i → sourceKeeps t s k ≡ true)

@@ -1,8 +1,8 @@
--- That `has_forcing` of src/kept.rt keeps its contract.
-use Rattle.stack.specs.Kept.{sameForcing}
+-- That `has_forcing` of src/lib.rt keeps its contract.
+use Rattle.stack_kept.specs.Kept.{sameForcing}
 use borrow.Author.Needs.{needs}
-use Rattle.stack.proofs.kept.has_forcing.Statement.{statement}
-use Rattle.stack.proofs.kept.has_forcing.Tie as tie
+use Rattle.stack_kept.proofs.has_forcing.Statement.{statement}
+use Rattle.stack_kept.proofs.has_forcing.Tie as tie
 
 returns : tie.Need-returns
 unfolding sameForcing
