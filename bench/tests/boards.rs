@@ -295,7 +295,7 @@ mod points {
     }
 }
 
-/// How many activities the pair of `board_pair` asks for, to tell that of a controller, itself among them: each lower
+/// How many activities the pair of `board_wires` asks for, to tell that of a controller, itself among them: each lower
 /// controller that feeds an input, used or not, is asked once.
 fn asked(board: &Board, controller: usize) -> u32 {
     let fed = |wire: &Wire| match *wire {

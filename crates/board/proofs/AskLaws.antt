@@ -20,7 +20,7 @@ use Rattle.coreinterrupt.proofs.Promises.{kept as alone-kept}
 use Rattle.board_wires.specs.declared.Board.{Board}
 use Rattle.board_wires.specs.declared.Wire.{Wire}
 use Rattle.board_wires.specs.declared.Wire.the-variants.{Nothing, Pin, Irq, Fiq}
-use Rattle.board_chain.specs.Chain.{chain as chainBelow}
+use Rattle.board_wires.specs.Chain.{chain as chainBelow}
 use Rattle.board_wires.specs.Promises.{Raised, Alike}
 use Rattle.board_wires.specs.Wires.{wireOf, wireNumber, wireAt, pinOf, coreAt, activity, inputValue, wiredCore}
 use Rattle.board_wires.proofs.Promises.{kept as wired}

@@ -10,7 +10,7 @@ use Rattle.coreinterrupt.specs.Model as CoreInterrupt
 use Rattle.board_wires.specs.declared.Board.{Board}
 use Rattle.board_wires.specs.declared.Wire.{Wire}
 use Rattle.board_wires.specs.declared.Wire.the-variants.{Nothing, Pin, Irq, Fiq}
-use Rattle.board_chain.specs.Chain.{chain as chainBelow}
+use Rattle.board_wires.specs.Chain.{chain as chainBelow}
 use Rattle.board_wires.specs.Wires.{coreAt, inputValue, wiredCore}
 use Rattle.board_record.specs.Record.{controllerLimit, inputLimit, pinLimit, withController, withCore, withWire, withPin, answered, refused}
 use Rattle.board_record.specs.Sound.{sound, lower}

@@ -1,4 +1,4 @@
--- What is promised of a board (02, 8/12). Sound boards and the empty one are promised by crate board_record, the wires by board_wires, the chains by board_chain.
+-- What is promised of a board (02, 8/12). Sound boards and the empty one are promised by crate board_record, the wires and the chains by board_wires.
 use Prim.Native.Nat.{ℕ, _+_, _<_}
 use mathlib.Core.Path.{_≡_}
 use mathlib.Core.Bool.{true, false}
@@ -9,7 +9,7 @@ use Rattle.coreinterrupt.specs.Model as CoreInterrupt
 use Rattle.board_wires.specs.declared.Board.{Board}
 use Rattle.board_wires.specs.declared.Wire.{Wire}
 use Rattle.board_wires.specs.declared.Wire.the-variants.{Nothing, Pin, Irq, Fiq}
-use Rattle.board_chain.specs.Chain.{chain as chainBelow}
+use Rattle.board_wires.specs.Chain.{chain as chainBelow}
 use Rattle.board_wires.specs.Promises.{Raised, Alike}
 use Rattle.board_wires.specs.Wires.{wireAt, coreAt, inputValue, wiredCore}
 use Rattle.board_record.specs.Promises.{Shaped}

@@ -145,7 +145,7 @@ pub fn put_pin(b: Board, p: u32, level: u32) -> Answer
 pub fn read(b: Board, c: u32, offset: u32) -> Answer
     ensures { λ r. ⌜ r ≡ read b c offset ⌝ }
 {
-    let a = coreinterrupt::read(board_pair::wired_core(b, c), offset);
+    let a = coreinterrupt::read(board_wires::pair::wired_core(b, c), offset);
     let n = checked(b, is_there(b, c), a.refusal);
     unless_refused(b, n, board_record::answer_of(b, a.value))
 }
@@ -170,7 +170,7 @@ pub fn outputs(b: Board, c: u32) -> Signals
 {
     let n = checked(b, is_there(b, c), steps::CARRIED_OUT);
     if n == steps::CARRIED_OUT {
-        return coreinterrupt::outputs(board_pair::wired_core(b, c));
+        return coreinterrupt::outputs(board_wires::pair::wired_core(b, c));
     }
     Signals {
         refusal: n,
@@ -190,7 +190,7 @@ pub fn input(b: Board, c: u32, i: u32) -> Reply
         is_there(b, c) & (i < board_record::INPUT_LIMIT),
         steps::CARRIED_OUT,
     );
-    reply_of(n, words::one_if(board_pair::input_value(b, c, i)))
+    reply_of(n, words::one_if(board_wires::pair::input_value(b, c, i)))
 }
 
 // How many controllers the longest chain below controller c has.
@@ -198,5 +198,5 @@ pub fn chain(b: Board, c: u32) -> Reply
     ensures { λ r. ⌜ r ≡ chain b c ⌝ }
 {
     let n = checked(b, is_there(b, c), steps::CARRIED_OUT);
-    reply_of(n, board_chain::chain(b, c))
+    reply_of(n, board_wires::chain::chain(b, c))
 }

@@ -1,15 +1,26 @@
 // Prints calls on boards of CoreInterrupts and what each was answered, one a line: first boards that were worked out by hand, then as many generated ones
 // as the number on standard input says (02, 8/12). No contract can say what stands on standard output: it is compared with the file `stdout`, and with an
 // independent model.
+mod cases;
+mod limits;
+mod lines;
+mod numbers;
+mod print;
+mod questions;
+mod random;
+mod steps;
+mod tours;
+mod towers;
+mod unsound;
 
 fn main() {
     let mut input = [0u8; 16];
     io::read_full(0, &mut input);
-    board_towers::all();
-    board_cases::all();
-    board_limits::all();
-    board_unsound::all();
-    board_tours::all(number(&input));
+    towers::all();
+    cases::all();
+    limits::all();
+    unsound::all();
+    tours::all(number(&input));
 }
 
 // What a decimal digit stands for, 10 for any other byte.

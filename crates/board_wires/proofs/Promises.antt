@@ -9,6 +9,8 @@ use Rattle.board_wires.proofs.InputLaws.{irq-only, fiq-only, irq-bit, f
 use Rattle.board_wires.proofs.NumberLaws.{of-nothing, of-pin, of-irq, of-fiq, of-else, number-nothing, number-pin, number-irq, number-fiq, no-pin, no-output, number-back, wire-there, no-wire, no-input, pin-high, core-there, core-else}
 use Rattle.board_wires.proofs.UnusedLaws.{core-unused}
 use Rattle.board_wires.proofs.WireLaws.{from-nothing, from-pin, irq-value, fiq-value}
+use Rattle.board_wires.proofs.PairLaws.{irq-values, fiq-values, values-word}
+use Rattle.board_wires.proofs.ChainLaws.{chain-none, chain-over, chain-met, chain-most}
 
 pub kept : Promises
 kept =
@@ -41,4 +43,12 @@ kept =
       irqActive = irq-raised;
       fiqActive = fiq-raised;
       unusedSame = core-unused;
+      irqValues = irq-values;
+      fiqValues = fiq-values;
+      valuesWord = values-word;
+      activitiesAre = λ b c. (refl, refl);
+      chainNone = chain-none;
+      chainOver = chain-over;
+      chainMet = chain-met;
+      chainMost = chain-most;
     }

@@ -2,7 +2,7 @@
 use Prim.Native.Nat.{ℕ, _+_, _*_, _^_, _<_, _≤_}
 use mathlib.Core.Path.{_≡_}
 use mathlib.Core.Bool.{Bool, true, false, _&&_}
-use mathlib.Core.Logic.{_↔_, _⊎_}
+use mathlib.Core.Logic.{_↔_, _⊎_, _≢_}
 use lib.Dec.{ltb}
 use lib.ListN.{getD}
 use Rattle.words.specs.Choice.{pick}
@@ -13,6 +13,8 @@ use Rattle.coreinterrupt.specs.Model.{sound}
 use Rattle.board_wires.specs.declared.Board.{Board}
 use Rattle.board_wires.specs.declared.Wire.the-variants.{Nothing, Pin, Irq, Fiq}
 use Rattle.board_wires.specs.Wires.{wireOf, wireNumber, wireAt, pinOf, coreAt, activity, inputValue, wiredCore}
+use Rattle.board_wires.specs.Pair.{values, activities}
+use Rattle.board_wires.specs.Chain.{chain}
 
 -- of a side whose input k has value `high k`, there is a source within the count, its input high or its soft bit set, that is enabled
 abbrev pub Raised : Side → (ℕ → Bool) → Type 0
@@ -24,6 +26,10 @@ pub record Alike (x y : Board) : Type 0 where
   pub cores : x .core ≡ y .core
   pub irqs : (c k : ℕ) → k < coreAt x c .irq .count → wireAt x c k ≡ wireAt y c k
   pub fiqs : (c k : ℕ) → k < coreAt x c .fiq .count → wireAt x c (32 + k) ≡ wireAt y c (32 + k)
+
+-- some input of controller c, used or not, is wired to an output of controller d
+abbrev pub Wired : Board → ℕ → ℕ → Type 0
+Wired b c d = (i : ℕ) × (i < 40) × ((wireAt b c i ≡ Irq d) ⊎ (wireAt b c i ≡ Fiq d))
 
 pub record Promises : Type 0 where
   -- ---- the record
@@ -81,3 +87,21 @@ pub record Promises : Type 0 where
   pub fiqActive : (b : Board) (c : ℕ) → sound (coreAt b c) ≡ true → (activity b c true ≡ true) ↔ Raised (coreAt b c .fiq) (λ k. inputValue b c (32 + k))
   -- an unused input changes nothing that a controller shows (01, CoreInterrupt; 02, 8/12)
   pub unusedSame : (x y : Board) → Alike x y → (c : ℕ) → wiredCore x c ≡ wiredCore y c
+  -- ---- the values of all inputs of a controller, and its activities
+
+  -- bit k of the IRQ word is the value of input k, bit k of the FIQ word that of input 32 + k (01, CoreInterrupt; 02, 8/12)
+  pub irqValues : (b : Board) (c k : ℕ) → k < 32 → bit (values b c .irq) k ≡ inputValue b c k
+  pub fiqValues : (b : Board) (c k : ℕ) → k < 8 → bit (values b c .fiq) k ≡ inputValue b c (32 + k)
+  -- and there is no further bit
+  pub valuesWord : (b : Board) (c : ℕ) → (values b c .irq < 2 ^ 32) × (values b c .fiq < 2 ^ 8)
+  -- both activities are those of the two outputs
+  pub activitiesAre : (b : Board) (c : ℕ) → (activities b c .irq ≡ activity b c false) × (activities b c .fiq ≡ activity b c true)
+  -- ---- the longest chain below a controller, counted in controllers
+  -- it has none exactly if no input, used or not, is wired to an output of a lower number (02, 8/12)
+  pub chainNone : (b : Board) (c : ℕ) → (chain b c ≡ 0) ↔ ((d : ℕ) → d < c → Wired b c d → ⊥)
+  -- it is longer by one than that below any controller it is wired to, at least (02, 8/12)
+  pub chainOver : (b : Board) (c d : ℕ) → d < c → Wired b c d → chain b d + 1 ≤ chain b c
+  -- and by just one than that below some (02, 8/12)
+  pub chainMet : (b : Board) (c : ℕ) → chain b c ≢ 0 → (d : ℕ) × (d < c) × Wired b c d × (chain b c ≡ chain b d + 1)
+  -- so it has no more controllers than there are lower numbers
+  pub chainMost : (b : Board) (c : ℕ) → chain b c ≤ c

@@ -4,6 +4,10 @@ ghost use Prim.Native.Nat.{_<_, _≤_, _+_};
 ghost use lib.Dec.{ltb};
 ghost use Rattle.words.specs.Choice.{pick};
 ghost use Rattle.board_wires.specs.Wires.{wireOf, wireNumber, wireIn, pinIn, coreAt, inputsOf, placeOf};
+
+pub mod chain;
+pub mod pair;
+
 use coreinterrupt::Core;
 
 // What an input is wired to: nothing, a pin, or that activity of a controller.
@@ -69,7 +73,7 @@ pub fn wire_number(w: Wire) -> u16
 }
 
 // The wire of input i of controller c in the lent table of wires: the loops copy no board.
-pub fn wire_in(wire: &[u16; 320], c: u32, i: u32) -> Wire
+pub(crate) fn wire_in(wire: &[u16; 320], c: u32, i: u32) -> Wire
     ensures { λ r. ⌜ r ≡ wireIn (now (wire .entry)) c i ⌝ }
 {
     if c < 8 {
@@ -82,7 +86,7 @@ pub fn wire_in(wire: &[u16; 320], c: u32, i: u32) -> Wire
 }
 
 // Whether pin p is high, in the lent table of pins.
-pub fn pin_in(pin: &[u8; 320], p: u32) -> bool
+pub(crate) fn pin_in(pin: &[u8; 320], p: u32) -> bool
     ensures { λ r. ⌜ r ≡ pinIn (now (pin .entry)) p ⌝ }
 {
     if p < 320 {
@@ -107,7 +111,7 @@ pub fn core_at(b: Board, c: u32) -> Core
 }
 
 // How many inputs a side has.
-pub fn inputs(fast: bool) -> u32
+pub(crate) fn inputs(fast: bool) -> u32
     ensures { λ r. ⌜ (r ≡ inputsOf fast) × (r ≤ 32) ⌝ }
 {
     if fast {
@@ -117,7 +121,7 @@ pub fn inputs(fast: bool) -> u32
 }
 
 // Where input i of a side stands among the 40.
-pub fn place(fast: bool, i: u32) -> u32
+pub(crate) fn place(fast: bool, i: u32) -> u32
     requires { ⌜ i < 32 ⌝ }
     ensures { λ r. ⌜ r ≡ placeOf fast i ⌝ }
 {

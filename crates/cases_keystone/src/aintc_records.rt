@@ -1,6 +1,7 @@
 // AINTC: which records are refused by 12 (02, 2/12).
 use aintc_record::Aintc;
 use aintc_record::Chosen;
+use cases::lines;
 
 // Every case begins with what a reset leaves.
 fn fresh() -> Aintc {
@@ -27,7 +28,7 @@ fn chosen(active: bool, number: u8, priority: u8, fast: bool) {
     } else {
         s.irq = c;
     }
-    cases_lines::four(
+    lines::four(
         active as u32,
         number as u32,
         priority as u32,
@@ -58,7 +59,7 @@ fn raised(mask: u32, route: u8, threshold: u8) {
     s.masks[0] = mask;
     s.routes[5] = route;
     s.threshold = threshold;
-    cases_lines::four(mask, route as u32, threshold as u32, 0, look(s));
+    lines::four(mask, route as u32, threshold as u32, 0, look(s));
 }
 
 // An output with none chosen has none that is eligible: masked, or kept away by the threshold, and just not.
@@ -89,7 +90,7 @@ fn held(route: u8, fast: bool) {
     } else {
         s.irq = c;
     }
-    cases_lines::four(route as u32, fast as u32, 0, 0, look(s));
+    lines::four(route as u32, fast as u32, 0, 0, look(s));
 }
 
 // A chosen one keeps its own output quiet and not the other.
@@ -106,17 +107,17 @@ fn first_of_all() {
     s.masks[0] = 0;
     s.lines[0] = 1;
     let r = aintc::read(s, 2, 0x15);
-    cases_lines::one(0x15, r.refusal);
+    lines::one(0x15, r.refusal);
     let o = aintc::outputs(s);
-    cases_lines::one(0, o.refusal);
+    lines::one(0, o.refusal);
 }
 
 pub(crate) fn all() {
-    cases_lines::heading(b"AINTC chosen, number, priority, FIQ\n");
+    lines::heading(b"AINTC chosen, number, priority, FIQ\n");
     bounds();
-    cases_lines::heading(b"mask, route, threshold\n");
+    lines::heading(b"mask, route, threshold\n");
     quiet();
-    cases_lines::heading(b"route, FIQ held\n");
+    lines::heading(b"route, FIQ held\n");
     sides();
     first_of_all();
 }

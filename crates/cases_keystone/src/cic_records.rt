@@ -1,9 +1,10 @@
 // CIC: which starts and which records are refused, 10 and 12 (01, CIC).
+use cases::lines;
 use cic_record::Cic;
 
 fn start(systems: u32, channels: u32, hosts: u32, revision: u32) {
     let b = cic::start(systems, channels, hosts, revision);
-    cases_lines::four(systems, channels, hosts, revision, b.refusal);
+    lines::four(systems, channels, hosts, revision, b.refusal);
 }
 
 fn starts() {
@@ -36,7 +37,7 @@ fn numbers(systems: u32, channels: u32, hosts: u32, global: u32) {
     c.channels = channels;
     c.hosts = hosts;
     c.global = global;
-    cases_lines::four(systems, channels, hosts, global, look(c));
+    lines::four(systems, channels, hosts, global, look(c));
 }
 
 // With these words for systems 32 to 63 in lines, status and enables, and this word of host enables.
@@ -46,7 +47,7 @@ fn words(lines: u32, status: u32, enable: u32, allow: u32) {
     c.status[1] = status;
     c.enable[1] = enable;
     c.allow[0] = allow;
-    cases_lines::four(lines, status, enable, allow, look(c));
+    lines::four(lines, status, enable, allow, look(c));
 }
 
 // With these channels for systems 32 and 33, and these hosts for channels 1 and 2.
@@ -56,7 +57,7 @@ fn maps(last: u8, spare: u8, lasthost: u8, sparehost: u8) {
     c.channel[33] = spare;
     c.host[1] = lasthost;
     c.host[2] = sparehost;
-    cases_lines::four(
+    lines::four(
         last as u32,
         spare as u32,
         lasthost as u32,
@@ -82,13 +83,13 @@ fn counts() {
 
 // Of 33 systems, 2 channels and 3 hosts, the last bit and byte, and the one after it.
 fn beyond() {
-    cases_lines::heading(b"lines, status, enable, host enable\n");
+    lines::heading(b"lines, status, enable, host enable\n");
     words(1, 1, 1, 4);
     words(2, 0, 0, 0);
     words(0, 2, 0, 0);
     words(0, 0, 2, 0);
     words(0, 0, 0, 8);
-    cases_lines::heading(b"channels, hosts\n");
+    lines::heading(b"channels, hosts\n");
     maps(1, 0, 2, 0);
     maps(2, 0, 0, 0);
     maps(0, 1, 0, 0);
@@ -101,16 +102,16 @@ fn first_of_all() {
     let mut c = fresh();
     c.global = 2;
     let r = cic::read(c, 0x201);
-    cases_lines::one(0x201, r.refusal);
+    lines::one(0x201, r.refusal);
     let o = cic::outputs(c);
-    cases_lines::one(0, o.refusal);
+    lines::one(0, o.refusal);
 }
 
 pub(crate) fn all() {
-    cases_lines::heading(b"CIC starts\n");
+    lines::heading(b"CIC starts\n");
     starts();
     beyond();
-    cases_lines::heading(b"systems, channels, hosts, global\n");
+    lines::heading(b"systems, channels, hosts, global\n");
     counts();
     first_of_all();
 }

@@ -1,10 +1,11 @@
 // AIC: no start is refused; which records are, by 12 (01, AIC, Configuration; A sound record; 02, 3/12 and 9/12).
 use aic_record::Aic;
 use aic_record::Seen;
+use cases::lines;
 
 fn start(external: u32, lines: u32) {
     let b = aic::start(external, lines);
-    cases_lines::four(external, lines, 0, 0, b.refusal);
+    lines::four(external, lines, 0, 0, b.refusal);
 }
 
 // Every record is made from the one that starts with internal sources and low lines.
@@ -22,7 +23,7 @@ fn look(s: Aic) -> u32 {
 // With a source and a level in a slot of the entries, of which so many are open.
 fn entry(s: Aic, slot: u32, source: u8, level: u8, depth: u32) -> Aic {
     let t = aic_record::put_handler(s, slot, source, level, depth);
-    cases_lines::four(slot, source as u32, level as u32, depth, look(t));
+    lines::four(slot, source as u32, level as u32, depth, look(t));
     t
 }
 
@@ -124,7 +125,7 @@ fn eight_marks(seven: Aic) -> Aic {
 fn stored(mode: u8, memory: u32, debug: u32, forced: u32) {
     let t = aic_record::with_memory(aic_record::put_mode(fresh(), 9, mode), memory);
     let u = aic_record::with_forced(aic_record::with_debug(t, debug), forced);
-    cases_lines::four(mode as u32, memory, debug, forced, look(u));
+    lines::four(mode as u32, memory, debug, forced, look(u));
 }
 
 // Memory on each type; the bits of a mode and of debug control that a write drops; sources 0 and 1 forced.
@@ -153,7 +154,7 @@ fn seen(s: Aic, debug: u32, what: u32, source: u8, level: u8, vector: u32) {
         vector: vector,
     };
     let t = aic_record::with_seen(aic_record::with_debug(s, debug), n);
-    cases_lines::four(what, source as u32, level as u32, vector, look(t));
+    lines::four(what, source as u32, level as u32, vector, look(t));
 }
 
 // Outside protect mode; in it, with no entry open, each field at its limits.
@@ -198,30 +199,30 @@ fn remembered_over(seven: Aic, eight: Aic) {
 fn first_of_all() {
     let s = aic_record::with_forced(fresh(), 1);
     let r = aic::read(s, 0x119);
-    cases_lines::one(0x119, r.refusal);
+    lines::one(0x119, r.refusal);
     let w = aic::write(s, 0x138, 1);
-    cases_lines::one(0x138, w.refusal);
+    lines::one(0x138, w.refusal);
     let l = aic::line(s, 32, 1);
-    cases_lines::one(32, l.refusal);
+    lines::one(32, l.refusal);
     let o = aic::outputs(s);
-    cases_lines::one(0, o.refusal);
+    lines::one(0, o.refusal);
 }
 
 pub(crate) fn all() {
-    cases_lines::heading(b"AIC starts\n");
+    lines::heading(b"AIC starts\n");
     start(0xFFFFFFFF, 0xFFFFFFFF);
     start(0, 0);
-    cases_lines::heading(b"slot, source, level, depth\n");
+    lines::heading(b"slot, source, level, depth\n");
     tower();
     handlers();
     marks_alone();
     marks_over();
     let seven = seven_marks();
     let eight = eight_marks(seven);
-    cases_lines::heading(b"mode, memory, debug, forced\n");
+    lines::heading(b"mode, memory, debug, forced\n");
     words();
     first_of_all();
-    cases_lines::heading(b"remembered, source, level, vector\n");
+    lines::heading(b"remembered, source, level, vector\n");
     remembered();
     remembered_over(seven, eight);
 }

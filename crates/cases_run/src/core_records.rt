@@ -1,10 +1,11 @@
 // CoreInterrupt: which starts and which records are refused, 10 and 12 (01, CoreInterrupt).
+use cases::lines;
 use coreinterrupt::Core;
 use coreinterrupt_side::Side;
 
 fn start(fiqs: u32, irqs: u32, fiqlevel: u32, irqlevel: u32) {
     let b = coreinterrupt::start(fiqs, irqs, fiqlevel, irqlevel);
-    cases_lines::four(fiqs, irqs, fiqlevel, irqlevel, b.refusal);
+    lines::four(fiqs, irqs, fiqlevel, irqlevel, b.refusal);
 }
 
 fn starts() {
@@ -27,8 +28,8 @@ fn look(fiq: Side, irq: Side) -> u32 {
 fn counts(count: u32, level: u32) {
     let g = coreinterrupt_side::idle(count, level);
     let none = coreinterrupt_side::idle(0, 0);
-    cases_lines::four(count, level, 0, 0, look(g, none));
-    cases_lines::four(0, 0, count, level, look(none, g));
+    lines::four(count, level, 0, 0, look(g, none));
+    lines::four(0, 0, count, level, look(none, g));
 }
 
 // A side of so many sources, with the words of its inputs, soft and enable bits.
@@ -46,8 +47,8 @@ fn side(count: u32, inputs: u32, soft: u32, enable: u32) -> Side {
 fn both(count: u32, inputs: u32, soft: u32, enable: u32) {
     let g = side(count, inputs, soft, enable);
     let none = coreinterrupt_side::idle(0, 0);
-    cases_lines::four(count, inputs, soft, enable, look(g, none));
-    cases_lines::four(count, inputs, soft, enable, look(none, g));
+    lines::four(count, inputs, soft, enable, look(g, none));
+    lines::four(count, inputs, soft, enable, look(none, g));
 }
 
 // The last bit of 5 sources, and of 31, which only the IRQ side can have, and the one after it.
@@ -69,9 +70,9 @@ fn first_of_all() {
         irq: coreinterrupt_side::idle(32, 1),
     };
     let r = coreinterrupt::read(c, 0x031);
-    cases_lines::one(0x031, r.refusal);
+    lines::one(0x031, r.refusal);
     let o = coreinterrupt::outputs(c);
-    cases_lines::one(0, o.refusal);
+    lines::one(0, o.refusal);
 }
 
 fn levels() {
@@ -83,11 +84,11 @@ fn levels() {
 }
 
 pub(crate) fn all() {
-    cases_lines::heading(b"COREINTERRUPT starts\n");
+    lines::heading(b"COREINTERRUPT starts\n");
     starts();
-    cases_lines::heading(b"FIQ count and level, IRQ count and level\n");
+    lines::heading(b"FIQ count and level, IRQ count and level\n");
     levels();
-    cases_lines::heading(b"count, inputs, soft, enable\n");
+    lines::heading(b"count, inputs, soft, enable\n");
     words();
     first_of_all();
 }

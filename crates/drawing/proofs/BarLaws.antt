@@ -13,8 +13,8 @@ use Rattle.text.specs.Text.{write}
 use Rattle.text.proofs.WriteLaws.{and-then, nothing}
 use Rattle.phrases.specs.Phrases.{bytes}
 use Rattle.drawing.specs.Bars.{Bar, columnAt, entriesAt, free, opens, opened, openedFrom, stayed, still, bars}
-use Rattle.drawing_shapes.specs.Shapes.{bar}
-use Rattle.drawing_frame.specs.Frame.{head, rows}
+use Rattle.drawing.specs.Shapes.{bar}
+use Rattle.drawing.specs.Frame.{head, rows}
 use Rattle.drawing.specs.Drawing.{columnTexts, barText, barTexts, drawing}
 
 pub bars-append : (a b : List Bar) → barTexts (a ++ b) ≡ barTexts a ++ barTexts b

@@ -14,8 +14,8 @@ use Rattle.words.proofs.ChoiceLaws.{pick-true, pick-false}
 use Rattle.text.specs.Text.{decimalOf}
 use Rattle.phrases.specs.Phrases.{bytes, counted}
 use Rattle.drawing.specs.Bars.{Column, Bar, packed, column, columnAt, entriesAt, freeFrom, free, opens, opened, openedFrom, stayed, still, bars}
-use Rattle.drawing_shapes.specs.Shapes.{box, label, centred, active, refused, numbered, mark, handler, bar}
-use Rattle.drawing_frame.specs.Frame.{wide, title, axes, signs, head, rows}
+use Rattle.drawing.specs.Shapes.{box, label, centred, active, refused, numbered, mark, handler, bar}
+use Rattle.drawing.specs.Frame.{wide, title, axes, signs, head, rows}
 use Rattle.drawing.specs.Drawing.{columnText, columnTexts, barText, barTexts, drawing}
 use Rattle.drawing.specs.Promises.{Promises, Small, openings, Below, window, drawn}
 use Rattle.drawing.proofs.FreeLaws.{free-here, stays, stays-opened}

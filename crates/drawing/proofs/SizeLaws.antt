@@ -8,8 +8,8 @@ use native.Mathlib.Omega.{arith}
 use lib.ListN.{length, length-append, getD}
 use Rattle.words.specs.Choice.{pick}
 use Rattle.phrases.specs.Phrases.{bytes}
-use Rattle.drawing_shapes.proofs.SizeLaws.{length-active, length-refused, length-numbered, length-bar}
-use Rattle.drawing_frame.proofs.SizeLaws.{length-head, length-rows}
+use Rattle.drawing.proofs.ShapeSizeLaws.{length-active, length-refused, length-numbered, length-bar}
+use Rattle.drawing.proofs.FrameSizeLaws.{length-head, length-rows}
 use Rattle.drawing.specs.Bars.{Bar, column, entriesAt, free, opens, opened, openedFrom, stayed, still, bars}
 use Rattle.drawing.specs.Drawing.{columnText, columnTexts, barText, barTexts, drawing}
 use Rattle.drawing.proofs.BarLaws.{bars-append}

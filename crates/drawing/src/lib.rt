@@ -8,6 +8,9 @@ ghost use Rattle.text.specs.Text.{write, laid};
 ghost use Rattle.drawing.specs.Bars.{column, free, opens, opened, openedFrom, stayed, still};
 ghost use Rattle.drawing.specs.Drawing.{columnText, columnTexts, barText, barTexts, drawing};
 
+mod frame;
+mod shapes;
+
 // The drawing of a window whose first step has the number `first`: its columns as words, the first of them what held before that step, and the sources and
 // levels of the entries that were open then. It stands at the start of the buffer; answers how many bytes were written, and what finds no room is dropped.
 pub fn draw(out: &mut [u8], first: u32, ws: &[u64], source: &[u8], level: &[u8]) -> usize
@@ -15,8 +18,8 @@ pub fn draw(out: &mut [u8], first: u32, ws: &[u64], source: &[u8], level: &[u8])
     ensures { λ r. ⌜ (now (out .exit), r) ≡ laid (now (out .entry)) (drawing first (now (ws .entry)) (now (source .entry)) (now (level .entry))) ⌝ }
 {
     let n = steps_of(ws);
-    let a = drawing_frame::put_head(out, 0, first, n);
-    let b = drawing_frame::put_rows(out, a);
+    let a = frame::put_head(out, 0, first, n);
+    let b = frame::put_rows(out, a);
     let c = put_columns(out, b, first, ws);
     let d = put_stayed(out, c, ws, source, level);
     let e = put_opened(out, d, ws);
@@ -44,10 +47,10 @@ fn put_column(out: &mut [u8], at: usize, first: u32, k: u32, w: u64) -> usize
     requires { ⌜ (k ≤ 501) × (1 ≤ k) × (first ≤ 65536) ⌝ }
     ensures { λ r. ⌜ (now (out .exit), r) ≡ write (now (out .entry), at) (columnText first k (column w)) ⌝ }
 {
-    let a = drawing_shapes::put_active(out, at, 26, k, (w % 2) as u32);
-    let b = drawing_shapes::put_active(out, a, 46, k, (w / 2 % 2) as u32);
-    let c = drawing_shapes::put_refused(out, b, k, (w / 524288 % 4294967296) as u32);
-    drawing_shapes::put_numbered(out, c, k, first + k - 1)
+    let a = shapes::put_active(out, at, 26, k, (w % 2) as u32);
+    let b = shapes::put_active(out, a, 46, k, (w / 2 % 2) as u32);
+    let c = shapes::put_refused(out, b, k, (w / 524288 % 4294967296) as u32);
+    shapes::put_numbered(out, c, k, first + k - 1)
 }
 
 // ---- bars
@@ -75,7 +78,7 @@ fn put_stay(out: &mut [u8], at: usize, ws: &[u64], source: &[u8], level: &[u8], 
     let to = free(ws, place, 1);
     let s = byte_at(source, place as usize);
     let l = byte_at(level, place as usize);
-    drawing_shapes::put_bar(out, at, place, 1, to as u32, s, l)
+    shapes::put_bar(out, at, place, 1, to as u32, s, l)
 }
 
 // The entries that the steps of the window open.
@@ -103,7 +106,7 @@ fn put_opening(out: &mut [u8], at: usize, ws: &[u64], k: usize) -> usize
         let to = free(ws, is - 1, k + 1);
         let s = (ws[k] / 64 % 32) as u32;
         let l = (ws[k] / 2048 % 256) as u32;
-        return drawing_shapes::put_bar(out, at, is - 1, k as u32, to as u32, s, l);
+        return shapes::put_bar(out, at, is - 1, k as u32, to as u32, s, l);
     }
     at
 }

@@ -40,6 +40,9 @@ use Rattle.listing.proofs.Examples.{aic-listed, nothing-listed, core-li
 use Rattle.lines.proofs.EndingLaws.{endings-append, lines-end, end-ends, name-ends}
 use Rattle.lines.proofs.LineLaws.{listing-begun, listing-refused}
 use Rattle.lines.proofs.SizeLaws.{length-listing}
+use Rattle.listing.proofs.IndexedExamples.{met, indexed-listed}
+use Rattle.listing.proofs.ListedLaws.{off-listed, off-ends, off-same, off-as-long}
+use Rattle.listing.proofs.OffLaws.{off-text}
 
 -- how the records end is how the play does
 ending : (s : List ℕ) (limit : ℕ) → endOf (recordsOf s limit .refusal) (recordsOf s limit .offset) ≡ endOf (playOf s limit .refusal) (playOf s limit .offset)
@@ -150,4 +153,11 @@ kept =
       cicListed = cic-listed;
       aintcListed = aintc-listed;
       aintcAlone = aintc-alone;
+      offText = off-text;
+      offListed = off-listed;
+      offEnds = off-ends;
+      offSame = off-same;
+      offAsLong = off-as-long;
+      met = met;
+      indexedListed = indexed-listed;
     }

@@ -1,2 +1,3 @@
--- What is promised of a listing.
+-- What is promised of a listing, and what it is promised of.
+pub mod Indexed
 pub mod Promises

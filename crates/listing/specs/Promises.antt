@@ -1,4 +1,5 @@
--- What is promised of a listing: its name, its lines byte by byte, how it ends, how long it is, what it leaves in the buffer, and six listings worked out.
+-- What is promised of a listing: its name, its lines byte by byte, how it ends, how long it is, what it leaves in the buffer, six listings worked out, and
+-- that of a CIC with a choice beside that of one without (02, 6/12).
 use Prim.Native.Nat.{ℕ, _+_, _*_, _^_, _<_, _≤_, min}
 use mathlib.Core.Path.{_≡_}
 use mathlib.Core.List.{List, [], _∷_, _++_}
@@ -19,7 +20,10 @@ use Rattle.machine_record.specs.Shown.{shown}
 use Rattle.machine.specs.Steps.{step}
 use Rattle.beginning.specs.Begin.{beginOf}
 use Rattle.reports.specs.Play.{recordsOf, runOf, playOf}
-use Rattle.lines.specs.Listing.{stepLine, linesFrom, joined, endOf, listingOf}
+use Rattle.lines.specs.Listing.{stepLine, linesFrom, joined, endOf, listingOf, textFrom}
+use Rattle.trace.specs.Trace.{Trace}
+use Rattle.machine_record.specs.declared.Machine.{Machine}
+use Rattle.listing.specs.Indexed.{Off, Alike, SameBut, indexedTrace, indexedText}
 
 -- the lines of the steps of a trace, of which at most so many are played
 abbrev pub linesOf : List ℕ → ℕ → List (List ℕ)
@@ -169,3 +173,22 @@ pub record Promises : Type 0 where
   -- an AINTC, with refusals 13 and 6; and its kind alone, which needs no configuration (02, 2/12)
   pub aintcListed : listingOf aintcTrace 20000 ≡ aintcText
   pub aintcAlone : listingOf (3 ∷ []) 20000 ≡ 65 ∷ 73 ∷ 78 ∷ 84 ∷ 67 ∷ 10 ∷ []
+  -- ---- a CIC with a choice, beside one without
+
+  -- with the choice off a CIC of kind 4 lists any steps byte for byte as the same CIC of kind 2 does, whatever their first number and however they end
+  -- (02, 6/12)
+  pub offText : (n : ℕ) (m c : Machine) (t : Trace) → Off m c → textFrom n m t ≡ textFrom n c t
+  -- so do whole traces, but for a last line E; there too the refusal is the same, and the offset, which is counted from the first byte of the trace, is as much
+  -- further as the configuration is longer (02, 6/12; 01, House trace)
+  pub offListed : (a b r : List ℕ) (limit : ℕ) → Alike a b r → SameBut (a ++ r) (b ++ r) limit
+  pub offEnds : (a b r : List ℕ) (limit : ℕ) → Alike a b r → (playOf (a ++ r) limit .refusal ≡ playOf (b ++ r) limit .refusal)
+      × (playOf (a ++ r) limit .offset + length b ≡ playOf (b ++ r) limit .offset + length a)
+  -- so they are the same byte for byte where no refusal ends the play, or where both configurations are of one length
+  pub offSame : (a b r : List ℕ) (limit : ℕ) → Alike a b r → playOf (b ++ r) limit .refusal ≡ 0 → listingOf (a ++ r) limit ≡ listingOf (b ++ r) limit
+  pub offAsLong : (a b r : List ℕ) (limit : ℕ) → Alike a b r → length a ≡ length b → listingOf (a ++ r) limit ≡ listingOf (b ++ r) limit
+  -- ---- worked out
+
+  -- these bytes are alike: a read of the revision follows, and 9, which is no kind of step (01, House trace)
+  pub met : Alike (4 ∷ 4 ∷ 2 ∷ 1 ∷ 7 ∷ 0 ∷ []) (2 ∷ 4 ∷ 2 ∷ 1 ∷ 7 ∷ []) (1 ∷ 0 ∷ 9 ∷ [])
+  -- with the choice on an index read answers the first in the order of the channels, and holds it (001, 1.3.5)
+  pub indexedListed : listingOf indexedTrace 20000 ≡ indexedText

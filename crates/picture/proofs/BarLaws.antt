@@ -19,9 +19,9 @@ use Rattle.reports.specs.Play.{runOf}
 use Rattle.reports.proofs.PlayLaws.{run-ready}
 use Rattle.drawing.specs.Bars.{packed, column, entriesAt, opens}
 use Rattle.drawing.specs.Promises.{openings}
-use Rattle.window.specs.Window.{columnOf, columnsFrom, within, before, columnsOf}
-use Rattle.window.proofs.ColumnLaws.{columns-many}
-use Rattle.window.proofs.Promises.{refusal-small, shows, run-append, run-kind}
+use Rattle.picture.specs.Window.{columnOf, columnsFrom, within, before, columnsOf}
+use Rattle.picture.proofs.ColumnLaws.{columns-many}
+use Rattle.picture.proofs.ShownLaws.{refusal-small, shows, run-append, run-kind}
 use Rattle.picture.specs.Promises.{openedIn}
 
 -- ---- lists

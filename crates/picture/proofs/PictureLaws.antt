@@ -26,10 +26,10 @@ use Rattle.reports.specs.declared.Played.{Played}
 use Rattle.reports.specs.Play.{recordsFrom, recordsOf, report, playOf}
 use Rattle.reports.proofs.PlayLaws.{records-begun, play-begun}
 use Rattle.drawing.specs.Drawing.{drawing}
-use Rattle.window.specs.Window.{before, columnsOf}
-use Rattle.window.proofs.ColumnLaws.{columns-most}
+use Rattle.picture.specs.Window.{before, columnsOf}
+use Rattle.picture.proofs.ColumnLaws.{columns-most}
 use Rattle.picture.specs.Promises.{Inside}
-use Rattle.picture_lines.specs.Lines.{noBeginning, noEntries, wrongWindow}
+use Rattle.picture.specs.Lines.{noBeginning, noEntries, wrongWindow}
 use Rattle.picture.specs.Picture.{mostPlayed, inside, isDrawn, drawnOf, pictureOf}
 
 -- ---- a window

@@ -29,14 +29,14 @@ use Rattle.reports.proofs.PlayLaws.{records-limited}
 use Rattle.drawing.specs.Drawing.{drawing}
 use Rattle.drawing.specs.Promises.{Below}
 use Rattle.drawing.proofs.Promises.{kept as drawn}
-use Rattle.window.specs.Window.{before, within, columnsFrom, columnsOf}
-use Rattle.window.proofs.Promises.{kept as window}
-use Rattle.picture_lines.specs.Lines.{noBeginning, noEntries, wrongWindow}
+use Rattle.picture.specs.Window.{before, within, columnsFrom, columnsOf}
+use Rattle.picture.specs.Lines.{noBeginning, noEntries, wrongWindow}
 use Rattle.picture.specs.Picture.{mostPlayed, inside, isDrawn, drawnOf, pictureOf}
 use Rattle.picture.specs.Promises.{Inside, columnsIn, aicBefore, barsIn, openedIn, sevenSteps, lastFour, Promises}
 use Rattle.picture.proofs.BarLaws.{bars-run}
 use Rattle.picture.proofs.PictureLaws.{inside-is, no-beginning, no-entries}
 use Rattle.picture.proofs.SizeLaws.{drawn-most, beginning-most, entries-most, wrong-most}
+use Rattle.picture.proofs.ShownLaws as shown
 
 -- ---- when there is a picture
 
@@ -95,7 +95,7 @@ unfolding playOf report
 played s = zero-add (length (recordsOf s 20000 .steps))
 
 many : (s : List ℕ) (first steps : ℕ) → length (columnsIn s first steps) ≡ suc (min steps (playOf s 20000 .steps - (first - 1)))
-many s first steps = window .many first steps (beginOf s .machine) (recordsOf s 20000 .steps) ∙ ap (λ (n : ℕ). suc (min steps (n - (first - 1)))) (sym (played s))
+many s first steps = shown.many first steps (beginOf s .machine) (recordsOf s 20000 .steps) ∙ ap (λ (n : ℕ). suc (min steps (n - (first - 1)))) (sym (played s))
 
 as-many : (s : List ℕ) (first steps : ℕ) → isDrawn s first steps ≡ true
     → length (barsIn s first steps)
@@ -110,7 +110,7 @@ eighth : (s : List ℕ) (first steps : ℕ) → isDrawn s first steps ≡ true �
 eighth s first steps h =
     let a = asked s first steps h in
     drawn .eighth (columnsIn s first steps) (aicBefore s first .source) (aicBefore s first .level)
-    (λ k. window .eight first steps (beginOf s .machine) (recordsOf s 20000 .steps) k (begin-ready s (beginOf s) refl (a .0)) (a .1))
+    (λ k. shown.eight first steps (beginOf s .machine) (recordsOf s 20000 .steps) k (begin-ready s (beginOf s) refl (a .0)) (a .1))
 
 -- ---- how long it is
 
@@ -153,6 +153,11 @@ worked-columns = refl
 pub kept : Promises
 kept =
     record {
+      columnsMany = shown.many;
+      machineBefore = shown.before-is 0;
+      beforeAll = shown.before-all;
+      afterEach = shown.after-each;
+      eight = shown.eight;
       drawnIf = λ s first steps. (asked s first steps, drawn-if s first steps);
       drawn = a-drawing;
       notBegun = not-begun;

@@ -20,10 +20,10 @@ use Rattle.machine_record.specs.Promises.{Ready}
 use Rattle.machine_record.proofs.MachineLaws.{sound-aic}
 use Rattle.reports.proofs.PlayLaws.{run-ready}
 use Rattle.drawing.proofs.Promises.{kept as drawing}
-use Rattle.window.specs.Window.{before, columnsOf}
-use Rattle.window.proofs.ColumnLaws.{columns-most}
-use Rattle.window.proofs.Promises.{run-kind}
-use Rattle.picture_lines.specs.Lines.{noBeginning, noEntries, wrongWindow}
+use Rattle.picture.specs.Window.{before, columnsOf}
+use Rattle.picture.proofs.ColumnLaws.{columns-most}
+use Rattle.picture.proofs.ShownLaws.{run-kind}
+use Rattle.picture.specs.Lines.{noBeginning, noEntries, wrongWindow}
 use Rattle.picture.specs.Picture.{drawnOf}
 
 -- the slots of a sound record hold small numbers, used or not

@@ -11,8 +11,8 @@ use Rattle.trace.specs.Trace.{Trace}
 use Rattle.beginning.specs.Begin.{beginOf}
 use Rattle.reports.specs.Play.{recordsOf, playOf}
 use Rattle.drawing.specs.Drawing.{drawing}
-use Rattle.picture_lines.specs.Lines.{noBeginning, noEntries, wrongWindow}
-use Rattle.window.specs.Window.{before, columnsOf}
+use Rattle.picture.specs.Lines.{noBeginning, noEntries, wrongWindow}
+use Rattle.picture.specs.Window.{before, columnsOf}
 
 -- the most steps of a trace that are played
 abbrev pub mostPlayed : ℕ

@@ -19,6 +19,8 @@ use Rattle.report.specs.Printed.{named, endedAt, traceLine, leftOutLine,
 use Rattle.report.specs.Promises.{Promises, Whole}
 use Rattle.report.proofs.LineLaws.{line-over, line-within, end-before, end-at, name-short, name-whole, name-empty, feeds-none, feeds-feed, feeds-else}
 use Rattle.report.proofs.SizeLaws.{length-trace, length-left-out, length-sources}
+use Rattle.report.proofs.OrderLaws as order
+use Rattle.report.proofs.PutLaws.{put-none-yet, put-one-more}
 
 -- ---- the lines, written out
 
@@ -91,6 +93,9 @@ worked-source = refl
 pub kept : Promises
 kept =
     record {
+      putNone = put-none-yet;
+      putMore = put-one-more;
+      anyOrder = order.any-order;
       played = played-line;
       cut = cut-line;
       leftOut = left-out-line;

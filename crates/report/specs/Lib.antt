@@ -2,3 +2,4 @@
 pub mod Lines
 pub mod Printed
 pub mod Promises
+pub mod Put

@@ -1,12 +1,17 @@
--- What is promised of the report: its words, how long its lines are at most, and where a line of names ends.
-use Prim.Native.Nat.{ℕ, suc, _+_, _-_, _*_, _<_, _≤_, _^_}
+-- What is promised of the report: the totals after traces, its words, how long its lines are at most, and where a line of names ends.
+use Prim.Native.Nat.{ℕ, _<_, suc, _+_, _-_, _*_, _≤_, _^_}
 use mathlib.Core.Path.{_≡_}
-use mathlib.Core.List.{List, [], _∷_, _++_}
+use mathlib.Core.Bool.{true}
+use mathlib.Core.List.{List, [], _∷_, map, _++_}
+use Rattle.totals.specs.declared.Totals.{Totals}
+use Rattle.totals.specs.Totals.{zeros, added, allIn, Reordered}
+use Rattle.totals.specs.Promises.{Alike}
+use Rattle.tally.specs.Tally.{tallyOf}
+use Rattle.report.specs.Put.{figuresOf, putAll}
 use mathlib.Core.Logic.{_≢_}
 use lib.ListN.{length, getD, drop}
 use Rattle.text.specs.Text.{decimal, field, laid}
 use Rattle.phrases.specs.Phrases.{bytes}
-use Rattle.totals.specs.declared.Totals.{Totals}
 use Rattle.report.specs.Lines.{lineEnd, nameEnd, feedsBefore}
 use Rattle.report.specs.Printed.{traceLine, leftOutLine, sourceLine, sourceLines}
 
@@ -21,6 +26,14 @@ abbrev pub Whole : List ℕ → List ℕ → Type 0
 Whole l text = laid l text ≡ (text ++ drop (length text) l, length text)
 
 pub record Promises : Type 0 where
+  -- ---- the totals after traces
+
+  -- each trace is put to the totals after those before it, and once (02, 11/12)
+  pub putNone : (t : Totals) → putAll t [] ≡ t
+  pub putMore : (t : Totals) (s : List ℕ) (traces : List (List ℕ)) → putAll t (s ∷ traces) ≡ putAll (added t (tallyOf s 20000 .figures) .totals) traces
+  -- where none of the traces is left out, their order changes no figure of a source (02, 11/12)
+  pub anyOrder : (xs ys : List (List ℕ)) → Reordered (map figuresOf xs) (map figuresOf ys) → allIn zeros (map figuresOf xs) ≡ true
+      → (allIn zeros (map figuresOf ys) ≡ true) × ((i : ℕ) → i < 32 → Alike (putAll zeros xs) (putAll zeros ys) i)
   -- ---- the lines
 
   -- a trace that was played: how many steps, and how many of them refused, each with what it counts (02, 11/12)

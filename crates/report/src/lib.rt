@@ -3,6 +3,12 @@ ghost use mathlib.Core.Path.{_≡_};
 ghost use Rattle.text.specs.Text.{write, laid};
 ghost use Rattle.report.specs.Lines.{lineEnd, nameEnd};
 ghost use Rattle.report.specs.Printed.{endedAt, named, traceLine, leftOutLine, sourceLine, sourceLines};
+
+mod held;
+pub mod lines;
+pub mod names;
+mod traces;
+
 use text::NEWLINE;
 use totals::Totals;
 

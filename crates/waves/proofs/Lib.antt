@@ -1,2 +1,12 @@
--- The laws of waves.
+-- The laws of waves, and the proof of what is promised of them.
+pub mod Examples
+pub mod HeadingLaws
+pub mod KindLaws
+pub mod NumberLaws
+pub mod PaddingLaws
+pub mod Promises
+pub mod ReadLaws
+pub mod StepLaws
+pub mod TextLaws
+pub mod TickLaws
 pub mod WaveLaws

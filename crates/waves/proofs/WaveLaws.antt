@@ -17,9 +17,9 @@ use Rattle.beginning.specs.Begin.{beginOf}
 use Rattle.reports.specs.Play.{recordsFrom}
 use Rattle.reports.proofs.PlayLaws.{records-begun}
 use Rattle.signals.specs.Signals.{signals, widths, values, eleven}
-use Rattle.wave_ticks.proofs.PaddingLaws.{padded}
-use Rattle.wave_steps.specs.Moments.{atStart, restFrom}
-use Rattle.wave_steps.proofs.StepLaws.{rest-same}
+use Rattle.waves.proofs.PaddingLaws.{padded}
+use Rattle.waves.specs.Moments.{atStart, restFrom}
+use Rattle.waves.proofs.StepLaws.{rest-same}
 use Rattle.waves.specs.Waves.{dumpOf, noDump, wavesOf}
 
 -- whether privileges are told is asked of the machine

@@ -11,7 +11,7 @@ use Rattle.beginning.specs.Begin.{beginOf}
 use Rattle.reports.specs.Play.{recordsOf}
 use Rattle.vcd.specs.Dump.{opening, declared, heading, ending, ticks}
 use Rattle.signals.specs.Signals.{signals, widths, values}
-use Rattle.wave_steps.specs.Moments.{atStart, momentsFrom}
+use Rattle.waves.specs.Moments.{atStart, momentsFrom}
 
 -- the dump of step records on a machine
 unfoldable pub dumpOf : Machine → Trace → List ℕ

@@ -6,6 +6,12 @@ ghost use Rattle.trace.specs.Trace.{stepsFrom};
 ghost use Rattle.kinds.specs.Kinds.{tellsPrivilege};
 ghost use Rattle.beginning.specs.Begin.{beginOf};
 ghost use Rattle.waves.specs.Waves.{dumpOf, wavesOf};
+
+mod by_kind;
+mod moments;
+mod names;
+mod ticks;
+
 use beginning::Begun;
 
 // The waves of a trace of which at most `limit` steps are played; answers how many bytes were written, and what finds no room is dropped.
@@ -14,7 +20,7 @@ pub fn waves(trace: &[u8], limit: u32, out: &mut [u8]) -> usize
 {
     let b = beginning::begin(trace);
     if b.refusal != steps::CARRIED_OUT {
-        return wave_ticks::put_none(out, b.refusal, b.place);
+        return ticks::put_none(out, b.refusal, b.place);
     }
     put_begun(trace, limit, b, out)
 }
@@ -25,8 +31,8 @@ fn put_begun(trace: &[u8], limit: u32, b: Begun, out: &mut [u8]) -> usize
     ensures { λ r. ⌜ (now (out .exit), r) ≡ write (now (out .entry), 0) (dumpOf (b .machine) (stepsFrom (tellsPrivilege (b .machine .kind)) limit (now (trace .entry)) (b .place))) ⌝ }
 {
     let m = b.machine;
-    let start = wave_ticks::put_start(out, m);
+    let start = ticks::put_start(out, m);
     let first = start.values;
     let told = kinds::tells_privilege(m.kind);
-    wave_steps::put_steps(trace, limit, told, b.place, m, first, out, start.to)
+    moments::put_steps(trace, limit, told, b.place, m, first, out, start.to)
 }

@@ -3,14 +3,14 @@
 
 fn main() {
     let mut names = room();
-    let first = report_lines::none();
-    let r = report_names::take(&mut names, first);
+    let first = report::lines::none();
+    let r = report::names::take(&mut names, first);
     if r.failed {
         tell(b"yearly: the names could not be read\n");
         return;
     }
     let sum = r.sum;
-    if !report_lines::ended(sum) {
+    if !report::lines::ended(sum) {
         tell(b"yearly: the report could not be written\n");
     }
 }

@@ -5,7 +5,7 @@ use mathlib.Core.Path.{_≡_, sym, subst}
 use native.Mathlib.Omega.{arith}
 use lib.ListN.{length, replicate, length-replicate}
 use Rattle.waves.specs.Waves.{wavesOf}
-use Rattle.waves_read.proofs.ReadLaws.{bounded}
+use Rattle.waves.proofs.ReadLaws.{bounded}
 use Rattle.wave_run.proofs.room.Statement.{statement}
 use Rattle.wave_run.proofs.room.Tie as tie
 

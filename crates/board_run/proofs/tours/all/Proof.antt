@@ -1,0 +1,24 @@
+-- That `all` of src/tours.rt ends.
+use Prim.Native.Nat.{_≤_, _-_}
+use borrow.Author.Needs.{needs}
+use Rattle.board_run.proofs.tours.all.Statement.{statement}
+use Rattle.board_run.proofs.tours.all.Tie as tie
+
+abbrev Inv-loop : tie.InvT-loop
+Inv-loop n k₀ k = k ≤ n
+
+abbrev μ-loop : tie.MeasureT-loop
+μ-loop n k₀ k = n - k
+
+pub all-spec : {M : Type 1} → statement M
+all-spec =
+    tie.close
+    (tie.spec
+    Inv-loop
+    μ-loop
+    (λ c. search needs)
+    (λ c κs. search needs)
+    (λ c. search needs)
+    (λ c. search needs)
+    (λ c. search needs)
+    (λ c. search needs))

@@ -1,3 +1,0 @@
--- The laws of the frame.
-pub mod FrameLaws
-pub mod SizeLaws

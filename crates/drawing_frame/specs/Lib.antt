@@ -1,2 +1,0 @@
--- The frame of a drawing.
-pub mod Frame

@@ -1,3 +1,0 @@
--- The laws of shapes.
-pub mod LabelLaws
-pub mod SizeLaws

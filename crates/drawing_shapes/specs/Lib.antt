@@ -1,2 +1,0 @@
--- The shapes of a drawing.
-pub mod Shapes

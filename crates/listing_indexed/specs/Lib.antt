@@ -1,2 +1,0 @@
--- What is promised of the listing of a CIC with a choice.
-pub mod Promises

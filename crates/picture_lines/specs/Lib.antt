@@ -1,2 +1,0 @@
--- Why there is no picture.
-pub mod Lines

@@ -1,2 +1,0 @@
--- The laws of declarations, one after the other.
-pub mod TextLaws

@@ -1,2 +1,0 @@
--- The laws of wave_steps.
-pub mod StepLaws

@@ -1,3 +1,0 @@
--- The laws of wave_ticks.
-pub mod PaddingLaws
-pub mod TickLaws

@@ -1,2 +1,0 @@
--- What is promised of the waves of a trace.
-pub mod Promises

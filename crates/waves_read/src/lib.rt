@@ -1,1 +1,0 @@
-// What is promised of the waves of a trace: definitions and proofs only, the code stands in waves.
