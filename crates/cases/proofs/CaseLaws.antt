@@ -24,7 +24,7 @@ use Rattle.coreinterrupt.specs.Model as CoreInterrupt
 use Rattle.cic_record.specs.Sound as Cic
 use Rattle.cic_record.specs.Start.{fresh, configured, start as cicStart}
 use Rattle.cic_maps.specs.Maps.{byteRead, mapRead, byteTaken, mapTaken, bytePut, mapPut}
-use Rattle.cic_words.specs.Bits.{wordRead}
+use Rattle.cic_registers.specs.Bits.{wordRead}
 use Rattle.cic_layout.specs.Map.{singleAt, registerAt, accessOf}
 use Rattle.cic_registers.specs.Registers as Registers
 use Rattle.cic_steps.specs.Model.{readAs, writeAs, stepAs}

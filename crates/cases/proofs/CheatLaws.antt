@@ -38,8 +38,8 @@ use Rattle.aintc_registers.specs.Effects as Effects
 use Rattle.aintc_registers.specs.Registers as AintcRegisters
 use Rattle.aintc_steps.specs.Model as Aintc
 use Rattle.cic_held.specs.Held as Held
-use Rattle.cic_index_registers.specs.Registers.{ownAt}
-use Rattle.cic_prioritised.specs.Model as Indexed
+use Rattle.cic_indexed.specs.Registers.{ownAt}
+use Rattle.cic_indexed.specs.Model as Indexed
 use Rattle.cases.specs.Cheats.{Model, Keeps, NoCheat, aicModel, coreModel, cicModel, aintcModel, indexedModel}
 
 -- what a read of the register at o answers

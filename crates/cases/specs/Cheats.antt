@@ -14,7 +14,7 @@ use Rattle.cic_steps.specs.Model as Cic
 use Rattle.aintc_record.specs.declared.Aintc.{Aintc}
 use Rattle.aintc_steps.specs.Model as Aintc
 use Rattle.cic_held.specs.declared.Prioritised.{Prioritised}
-use Rattle.cic_prioritised.specs.Model as Indexed
+use Rattle.cic_indexed.specs.Model as Indexed
 
 -- what a step answers, whatever the controller
 pub record Outcome (R : Type 0) : Type 0 where

@@ -22,8 +22,8 @@ use Rattle.cic_record.proofs.PartsLaws.{sound-parts}
 use Rattle.cic_record.proofs.Promises as of-record
 use Rattle.cic_maps.specs.Maps.{mapRead}
 use Rattle.cic_maps.proofs.Promises as maps
-use Rattle.cic_words.specs.Bits.{wordRead}
-use Rattle.cic_words.proofs.BitsLaws.{read-bit}
+use Rattle.cic_registers.specs.Bits.{wordRead}
+use Rattle.cic_registers.proofs.BitsLaws.{read-bit}
 use Rattle.cic_layout.specs.declared.Register.{Register}
 use Rattle.cic_layout.specs.Map.{registerAt, ifAny, accessOf}
 use Rattle.cic_layout.proofs.AccessLaws.{is-there}

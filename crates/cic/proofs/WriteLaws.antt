@@ -24,7 +24,7 @@ use Rattle.cic_record.specs.Sound.{sound}
 use Rattle.cic_record.proofs.Promises as of-record
 use Rattle.cic_maps.specs.Maps.{mapPut}
 use Rattle.cic_maps.proofs.Promises as maps
-use Rattle.cic_words.specs.Bits.{bitsSet, bitsCleared, wordReplaced}
+use Rattle.cic_registers.specs.Bits.{bitsSet, bitsCleared, wordReplaced}
 use Rattle.cic_layout.specs.declared.Register.{Register}
 use Rattle.cic_layout.specs.Map.{registerAt, ifAny, accessOf}
 use Rattle.cic_layout.proofs.AccessLaws.{is-there}

@@ -6,10 +6,10 @@ use mathlib.Core.Logic.{_≢_, _⊎_, inl, inr}
 use Prim.Native.Nat.{ℕ, zero, suc, _+_, _-_, _*_, _/_, _%_, _≤_, _<_}
 use native.Mathlib.Decide.{decLt, ℕ-discrete}
 use native.Mathlib.Omega.{arith}
-use borrow.Author.Tests.{eq-eqb, ne-eqb, eqb-true, lt-ltb, le-leb, leb-true}
+use borrow.Author.Tests.{eq-eqb, ne-eqb, eqb-true, le-leb, leb-true}
 use lib.Dec.{eqb, ltb, leb}
 use lib.ListN.{length, getD, set, replicate, length-set, List·getD-eq-default}
-use lib.Seq.{getD-set-same, getD-set-other, set-out}
+use lib.Seq.{getD-set-same, getD-set-other}
 use Rattle.words.specs.Choice.{pick}
 use Rattle.words.specs.Counting.{anyBelow, allBelow, upto}
 use Rattle.words.specs.Word.{bit}
@@ -20,7 +20,6 @@ use Rattle.words.proofs.TruthLaws.{and-left, and-right, and-both, same-test, to
 use Rattle.cic_record.specs.declared.Cic.{Cic}
 use Rattle.cic_record.specs.declared.Host.{Host}
 use Rattle.cic_record.specs.Sound as cic
-use Rattle.cic_record.proofs.PartsLaws.{sound-counts}
 use Rattle.cic_indices.specs.Order.{noneWord, indexOf}
 use Rattle.cic_indices.proofs.Promises as index-promises
 use Rattle.cic_held.specs.declared.Held.{Held}
@@ -88,16 +87,6 @@ freed-at k v xs h = turns k v h 32 xs ∙ ap (λ (b : Bool). pick b 0 (getD xs h
         let at = eqb-true (h / 32) k (and-left (eqb (h / 32) k) (bit v (h % 32)) e) in
         some-any 32 (hit k v h) (h % 32) (omega arith) (and-both (and-right (eqb (h / 32) k) (bit v (h % 32)) e) (eq-eqb (32 * k + h % 32) h (omega (arith, at))))
 
--- of a word past the last host nothing ends
-pub freed-past : (k v : ℕ) (xs : List ℕ) → length xs ≤ 32 * k → freedHosts k v xs ≡ xs
-unfolding freedHosts upto
-freed-past k v xs past = go 32
-  where
-    go : (n : ℕ) → upto (turn k v) xs n ≡ xs
-    go zero = refl
-    go (suc n) =
-        ap (λ (ys : List ℕ). turn k v ys n) (go n) ∙ pick-cases (λ (ys : List ℕ). ys ≡ xs) (bit v n) (λ _. set-out xs (32 * k + n) 0 (omega (arith, past))) (λ _. refl)
-
 -- ---- words as they are held
 
 -- a word that names a configured system interrupt, or none, may be held
@@ -113,10 +102,6 @@ held-entry systems word small = go (ℕ-discrete word noneWord)
 pub index-below : (c : Cic) (every : Bool) (h : Host) → cic.sound c ≡ true → indexOf c every h ≢ noneWord → indexOf c every h < c .systems
 index-below c true h e d = index-promises.kept .globalNames c h e d .0
 index-below c false h e d = index-promises.kept .hostNames c h e d .0 .0
-
--- so that its word may be held
-pub index-entry : (c : Cic) (every : Bool) (h : Host) → cic.sound c ≡ true → entrySound (c .systems) true (heldAs (indexOf c every h)) ≡ true
-index-entry c every h e = held-entry (c .systems) (indexOf c every h) (index-below c every h e)
 
 -- the word that is held names a configured system interrupt, or none
 pub word-below : (systems x : ℕ) → entrySound systems true x ≡ true → x ≢ 0 → wordHeld x ≢ noneWord → wordHeld x < systems

@@ -1,15 +1,12 @@
-// What a CIC with prioritised indices holds beside its record: the start, which records are sound, and what ends holds (02, 6/12; 001, 1.3.5 and 2.2.2).
+// What a CIC with prioritised indices holds beside its record: the start, which records are sound, and words as they are held (02, 6/12; 001, 1.3.5 and 2.2.2).
 ghost use mathlib.Core.Path.{_≡_};
 ghost use mathlib.Core.Bool.{_&&_};
-ghost use mathlib.Core.Logic.{_≢_};
-ghost use Prim.Native.Nat.{_+_, _-_, _<_, _≤_};
+ghost use Prim.Native.Nat.{_-_, _≤_};
 ghost use lib.Dec.{eqb, ltb};
-ghost use lib.ListN.{getD, set};
-ghost use Rattle.words.specs.Choice.{pick};
+ghost use lib.ListN.{getD};
 ghost use Rattle.words.specs.Counting.{allBelow};
 ghost use Rattle.cic_record.specs.Kinds.{system};
-ghost use Rattle.cic_indices.specs.Order.{noneWord};
-ghost use Rattle.cic_held.specs.Held.{prioritised, nothingHeld, withGlobal, withHosts, heldAs, wordHeld, within, entrySound, heldSound, sound, start, freedHosts, controlled};
+ghost use Rattle.cic_held.specs.Held.{prioritised, nothingHeld, wordHeld, within, entrySound, heldSound, sound, start};
 use cic_record::Cic;
 use cic_record::Host;
 use cic_record::System;
@@ -137,30 +134,12 @@ pub fn is_sound(p: Prioritised) -> bool
     cic_record::is_sound(p.cic) & held_sound(p.cic, p.held)
 }
 
-// A system interrupt as it is held.
-fn held_system(s: System) -> u16
-    requires { ⌜ s .0 < 65534 ⌝ }
-    ensures { λ r. ⌜ r ≡ s .0 + 2 ⌝ }
-{
-    s.0 + 2
-}
-
 // The system interrupt that is held as x.
 fn system_held(x: u16) -> System
     requires { ⌜ 2 ≤ x ⌝ }
     ensures { λ r. ⌜ r ≡ system (x - 2) ⌝ }
 {
     System(x - 2)
-}
-
-// The word of an index as it is held. The largest number of a system interrupt is far below the limit, past which the words would not fit.
-pub fn held_as(word: u32) -> u16
-    ensures { λ r. ⌜ ((word ≢ noneWord → word < 65534) → r ≡ heldAs word) ⌝ }
-{
-    if word == cic_indices::NONE {
-        return 1;
-    }
-    held_system(System((word % 65534) as u16))
 }
 
 // The word that is held.
@@ -186,77 +165,4 @@ pub fn host_at(host: &[u16], n: Host) -> u16
         return 0;
     }
     host[at]
-}
-
-// The global index is held as x, or not held.
-pub fn hold_global(h: Held, x: u16) -> Held
-    ensures { λ r. ⌜ r ≡ withGlobal h x ⌝ }
-{
-    let mut d = h;
-    d.global = x;
-    d
-}
-
-// The index of host interrupt n is held as x, or not held; past the last nothing changes.
-pub fn hold_host(h: Held, n: Host, x: u16) -> Held
-    ensures { λ r. ⌜ r ≡ withHosts h (set (h .host) (n .0) x) ⌝ }
-{
-    let at = n.0 as usize;
-    if 256 <= at {
-        return h;
-    }
-    let mut d = h;
-    d.host[at] = x;
-    d
-}
-
-// The hold of host interrupt n ends, if the test says so; past the last nothing changes.
-fn free_if(host: &mut [u16], t: bool, n: Host)
-    ensures { λ _. ⌜ now (host .exit) ≡ pick t (set (now (host .entry)) (n .0) 0) (now (host .entry)) ⌝ }
-{
-    let at = n.0 as usize;
-    if t & (at < host.len()) {
-        host[at] = 0;
-    }
-}
-
-// The holds of the hosts of word k end whose bit of v is 1.
-fn free_word(host: &mut [u16; 256], k: u32, v: u32)
-    requires { ⌜ k < 8 ⌝ }
-    ensures { λ _. ⌜ now (host .exit) ≡ freedHosts k v (now (host .entry)) ⌝ }
-{
-    let first = (32 * k) as u16;
-    let mut j: u32 = 0;
-    while j < 32 {
-        free_if(host, words::has(v, j), Host(first + (j as u16)));
-        j = j + 1;
-    }
-}
-
-// The holds of the hosts whose bit of v is 1 end, v being word k of the hosts; past the last word nothing changes.
-pub fn free_hosts(h: Held, k: u32, v: u32) -> Held
-    ensures { λ r. ⌜ r ≡ withHosts h (freedHosts k v (h .host)) ⌝ }
-{
-    if 8 <= k {
-        return h;
-    }
-    let mut host = h.host;
-    free_word(&mut host, k, v);
-    let mut d = h;
-    d.host = host;
-    d
-}
-
-// The mode is bit 4 of v; where it is off nothing is held.
-pub fn control(h: Held, v: u32) -> Held
-    ensures { λ r. ⌜ r ≡ controlled h v ⌝ }
-{
-    let choice = h.choice;
-    if words::has(v, 4) {
-        if h.hold == 1 {
-            return h;
-        }
-        return nothing_held(choice, 1);
-    }
-    nothing_held(choice, 0)
 }

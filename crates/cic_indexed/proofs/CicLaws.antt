@@ -27,11 +27,11 @@ use Rattle.cic_held.specs.declared.Answer.{Answer}
 use Rattle.cic_held.specs.declared.Held.{Held}
 use Rattle.cic_held.specs.declared.Prioritised.{Prioritised}
 use Rattle.cic_held.specs.Held.{sound}
-use Rattle.cic_index_registers.specs.declared.Own.the-variants.{Elsewhere, HostIndex}
-use Rattle.cic_index_registers.specs.Registers.{ownAt, hostAccess, heldAfter}
-use Rattle.cic_prioritised.specs.Model.{refused, beside, readAs, writtenBy, writeAs, stepAs, read, write, line, step}
-use Rattle.cic_prioritised.proofs.SoundLaws.{sound-cic, both-sound, parts}
-use Rattle.cic_prioritised.proofs.StepLaws.{refused-by, no-read, no-write, not-there}
+use Rattle.cic_indexed.specs.declared.Own.the-variants.{Elsewhere, HostIndex}
+use Rattle.cic_indexed.specs.Registers.{ownAt, hostAccess, heldAfter}
+use Rattle.cic_indexed.specs.Model.{refused, beside, readAs, writtenBy, writeAs, stepAs, read, write, line, step}
+use Rattle.cic_indexed.proofs.SoundLaws.{sound-cic, both-sound, parts}
+use Rattle.cic_indexed.proofs.StepLaws.{refused-by, no-read, no-write, not-there}
 use Rattle.cic_indexed.proofs.NumberLaws.{written-refused}
 use Rattle.cic_indexed.proofs.PlaceLaws.{Place, control, global, indices, other, place, on-or-not, nowhere}
 

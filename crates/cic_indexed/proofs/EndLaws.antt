@@ -19,7 +19,7 @@ use Rattle.words.proofs.WordLaws.{bit-kept, bit-not-zero, some-bit}
 use Rattle.cic_record.specs.declared.Cic.{Cic}
 use Rattle.cic_held.specs.declared.Held.{Held}
 use Rattle.cic_held.specs.Held.{withGlobal, withHosts, freedHosts}
-use Rattle.cic_index_registers.specs.Registers.{afterHost, hostsWritten, heldAfter}
+use Rattle.cic_indexed.specs.Registers.{afterHost, hostsWritten, heldAfter}
 use Rattle.cic_indexed.specs.Tables.{Changes}
 use Rattle.cic_indexed.proofs.FreedLaws.{Decided, ended, stayed, set-here, set-other, freed}
 

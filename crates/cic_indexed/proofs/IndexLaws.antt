@@ -23,11 +23,11 @@ use Rattle.cic_held.specs.declared.Held.{Held}
 use Rattle.cic_held.specs.declared.Prioritised.{Prioritised}
 use Rattle.cic_held.specs.Held.{prioritised, nothingHeld, withGlobal, withHosts, heldAs, wordHeld, entrySound, sound, controlled}
 use Rattle.cic_held.proofs.HeldLaws.{held-again}
-use Rattle.cic_index_registers.specs.declared.Own.the-variants.{Control, GlobalIndex}
-use Rattle.cic_index_registers.specs.Registers.{hostAccess, holdAfter, globalWord, hostWord}
-use Rattle.cic_prioritised.specs.Model.{answered, readAs, writeAs, stepAs, read, write}
-use Rattle.cic_prioritised.proofs.SoundLaws.{sound-cic, parts, host-entry, host-below}
-use Rattle.cic_prioritised.proofs.StepLaws.{carried-by}
+use Rattle.cic_indexed.specs.declared.Own.the-variants.{Control, GlobalIndex}
+use Rattle.cic_indexed.specs.Registers.{hostAccess, holdAfter, globalWord, hostWord}
+use Rattle.cic_indexed.specs.Model.{answered, readAs, writeAs, stepAs, read, write}
+use Rattle.cic_indexed.proofs.SoundLaws.{sound-cic, parts, host-entry, host-below}
+use Rattle.cic_indexed.proofs.StepLaws.{carried-by}
 use Rattle.cic_indexed.proofs.PlaceLaws.{at-control, at-global, at-host}
 
 -- ---- what a sound record tells

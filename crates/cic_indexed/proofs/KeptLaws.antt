@@ -30,12 +30,12 @@ use Rattle.cic_held.specs.declared.Held.{Held}
 use Rattle.cic_held.specs.declared.Prioritised.{Prioritised}
 use Rattle.cic_held.specs.Held.{prioritised, withGlobal, withHosts, heldAs, entrySound, heldSound, freedHosts, sound, controlled}
 use Rattle.cic_held.proofs.HeldLaws.{held-entry, index-below, word-below, nothing-entry, global-kept, host-kept, freed-kept, controlled-kept, counts-kept}
-use Rattle.cic_index_registers.specs.declared.Own.{Own}
-use Rattle.cic_index_registers.specs.declared.Own.the-variants.{Elsewhere, Control, GlobalIndex, HostIndex}
-use Rattle.cic_index_registers.specs.Registers.{ownAt, hostAccess, indexRead, holdAfter, globalWord, hostWord, afterHost, hostsWritten, heldAfter}
-use Rattle.cic_prioritised.specs.Model.{readAs, writeAs, stepAs, read, write, line, step}
-use Rattle.cic_prioritised.proofs.SoundLaws.{sound-cic, sound-held, both-parts, parts, host-entry}
-use Rattle.cic_prioritised.proofs.StepLaws.{read-there}
+use Rattle.cic_indexed.specs.declared.Own.{Own}
+use Rattle.cic_indexed.specs.declared.Own.the-variants.{Elsewhere, Control, GlobalIndex, HostIndex}
+use Rattle.cic_indexed.specs.Registers.{ownAt, hostAccess, indexRead, holdAfter, globalWord, hostWord, afterHost, hostsWritten, heldAfter}
+use Rattle.cic_indexed.specs.Model.{readAs, writeAs, stepAs, read, write, line, step}
+use Rattle.cic_indexed.proofs.SoundLaws.{sound-cic, sound-held, both-parts, parts, host-entry}
+use Rattle.cic_indexed.proofs.StepLaws.{read-there}
 use Rattle.cic_indexed.proofs.CicLaws.{lines, plain-read, plain-write}
 use Rattle.cic_indexed.proofs.PlaceLaws.{on-or-not}
 

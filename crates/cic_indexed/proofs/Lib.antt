@@ -8,5 +8,7 @@ pub mod ModeLaws
 pub mod NumberLaws
 pub mod PlaceLaws
 pub mod Promises
+pub mod SoundLaws
 pub mod StayLaws
+pub mod StepLaws
 pub mod WriteLaws

@@ -22,11 +22,11 @@ use Rattle.cic_held.specs.declared.Answer.{Answer}
 use Rattle.cic_held.specs.declared.Held.{Held}
 use Rattle.cic_held.specs.declared.Prioritised.{Prioritised}
 use Rattle.cic_held.specs.Held.{withGlobal, withHosts, freedHosts, sound, controlled}
-use Rattle.cic_index_registers.specs.declared.Own.{Own}
-use Rattle.cic_index_registers.specs.declared.Own.the-variants.{Elsewhere, Control, GlobalIndex, HostIndex}
-use Rattle.cic_index_registers.specs.Registers.{ownAt, hostAccess, holdAfter, globalWord, hostWord, afterHost, hostsWritten, heldAfter}
-use Rattle.cic_prioritised.specs.Model.{readAs, writeAs, stepAs, read, write, line, step}
-use Rattle.cic_prioritised.proofs.SoundLaws.{parts}
+use Rattle.cic_indexed.specs.declared.Own.{Own}
+use Rattle.cic_indexed.specs.declared.Own.the-variants.{Elsewhere, Control, GlobalIndex, HostIndex}
+use Rattle.cic_indexed.specs.Registers.{ownAt, hostAccess, holdAfter, globalWord, hostWord, afterHost, hostsWritten, heldAfter}
+use Rattle.cic_indexed.specs.Model.{readAs, writeAs, stepAs, read, write, line, step}
+use Rattle.cic_indexed.proofs.SoundLaws.{parts}
 use Rattle.cic_indexed.specs.Tables.{Turns}
 use Rattle.cic_indexed.proofs.IndexLaws.{control-off, control-on, control-again}
 use Rattle.cic_indexed.proofs.PlaceLaws.{Place, control, global, indices, other, place, on-or-not}

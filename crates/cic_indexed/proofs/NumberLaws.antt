@@ -29,11 +29,11 @@ use Rattle.cic.proofs.StepLaws as of-cic
 use Rattle.cic_held.specs.declared.Answer.{Answer}
 use Rattle.cic_held.specs.declared.Prioritised.{Prioritised}
 use Rattle.cic_held.specs.Held.{prioritised, withGlobal, sound, controlled}
-use Rattle.cic_index_registers.specs.declared.Own.{Own}
-use Rattle.cic_index_registers.specs.declared.Own.the-variants.{Elsewhere, Control, GlobalIndex, HostIndex}
-use Rattle.cic_index_registers.specs.Registers.{ownAt, hostAccess, accessOf}
-use Rattle.cic_prioritised.specs.Model.{refused, answered, beside, readAs, writtenBy, writeAs, stepAs, read, write, line, step}
-use Rattle.cic_prioritised.proofs.StepLaws.{its-number, its-record}
+use Rattle.cic_indexed.specs.declared.Own.{Own}
+use Rattle.cic_indexed.specs.declared.Own.the-variants.{Elsewhere, Control, GlobalIndex, HostIndex}
+use Rattle.cic_indexed.specs.Registers.{ownAt, hostAccess, accessOf}
+use Rattle.cic_indexed.specs.Model.{refused, answered, beside, readAs, writtenBy, writeAs, stepAs, read, write, line, step}
+use Rattle.cic_indexed.proofs.StepLaws.{its-number, its-record}
 use Rattle.cic_indexed.specs.Tables.{accessAt}
 use Rattle.cic_indexed.proofs.PlaceLaws.{Place, control, global, indices, other, place, on-or-not}
 

@@ -14,9 +14,9 @@ use Rattle.cic_record.specs.Kinds.{hostNumber}
 use Rattle.cic_layout.specs.Map.{access}
 use Rattle.cic_layout.proofs.AccessLaws.{there-if}
 use Rattle.cic_held.specs.declared.Prioritised.{Prioritised}
-use Rattle.cic_index_registers.specs.declared.Own.{Own}
-use Rattle.cic_index_registers.specs.declared.Own.the-variants.{Elsewhere, Control, GlobalIndex, HostIndex}
-use Rattle.cic_index_registers.specs.Registers.{ownAt, hostAccess, accessOf}
+use Rattle.cic_indexed.specs.declared.Own.{Own}
+use Rattle.cic_indexed.specs.declared.Own.the-variants.{Elsewhere, Control, GlobalIndex, HostIndex}
+use Rattle.cic_indexed.specs.Registers.{ownAt, hostAccess, accessOf}
 use Rattle.cic_indexed.specs.Tables.{accessAt, MapTable}
 
 -- ---- by the offset

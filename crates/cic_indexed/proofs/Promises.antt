@@ -22,8 +22,8 @@ use Rattle.cic_held.specs.declared.Answer.{Answer}
 use Rattle.cic_held.specs.declared.Prioritised.{Prioritised}
 use Rattle.cic_held.specs.Held.{sound, start}
 use Rattle.cic_held.proofs.Promises as of-held
-use Rattle.cic_prioritised.specs.Model.{read, outputs}
-use Rattle.cic_prioritised.proofs.SoundLaws.{sound-cic}
+use Rattle.cic_indexed.specs.Model.{read, outputs}
+use Rattle.cic_indexed.proofs.SoundLaws.{sound-cic}
 use Rattle.cic_indexed.specs.Promises.{Promises}
 use Rattle.cic_indexed.specs.Tables.{Names}
 use Rattle.cic_indexed.proofs.CicLaws.{lines, off, reads-elsewhere, writes-elsewhere}

@@ -19,10 +19,10 @@ use Rattle.cic_held.specs.declared.Answer.{Answer}
 use Rattle.cic_held.specs.declared.Held.{Held}
 use Rattle.cic_held.specs.declared.Prioritised.{Prioritised}
 use Rattle.cic_held.specs.Held.{nothingHeld, withGlobal, withHosts, freedHosts, sound, controlled}
-use Rattle.cic_index_registers.specs.declared.Own.{Own}
-use Rattle.cic_index_registers.specs.declared.Own.the-variants.{Elsewhere, Control, GlobalIndex, HostIndex}
-use Rattle.cic_index_registers.specs.Registers.{ownAt, hostAccess, afterHost, hostsWritten, heldAfter}
-use Rattle.cic_prioritised.specs.Model.{writeAs, stepAs, write}
+use Rattle.cic_indexed.specs.declared.Own.{Own}
+use Rattle.cic_indexed.specs.declared.Own.the-variants.{Elsewhere, Control, GlobalIndex, HostIndex}
+use Rattle.cic_indexed.specs.Registers.{ownAt, hostAccess, afterHost, hostsWritten, heldAfter}
+use Rattle.cic_indexed.specs.Model.{writeAs, stepAs, write}
 use Rattle.cic_indexed.proofs.FreedLaws.{Decided, ended, stayed, set-here, set-other, freed}
 
 -- a hold has ended, or is as it was

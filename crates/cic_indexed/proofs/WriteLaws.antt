@@ -21,11 +21,11 @@ use Rattle.cic_held.specs.declared.Answer.{Answer}
 use Rattle.cic_held.specs.declared.Held.{Held}
 use Rattle.cic_held.specs.declared.Prioritised.{Prioritised}
 use Rattle.cic_held.specs.Held.{prioritised, sound}
-use Rattle.cic_index_registers.specs.declared.Own.the-variants.{Elsewhere, HostIndex}
-use Rattle.cic_index_registers.specs.Registers.{ownAt, heldAfter}
-use Rattle.cic_prioritised.specs.Model.{refused, answered, beside, write}
-use Rattle.cic_prioritised.proofs.SoundLaws.{sound-cic, host-below}
-use Rattle.cic_prioritised.proofs.StepLaws.{no-write, not-there}
+use Rattle.cic_indexed.specs.declared.Own.the-variants.{Elsewhere, HostIndex}
+use Rattle.cic_indexed.specs.Registers.{ownAt, heldAfter}
+use Rattle.cic_indexed.specs.Model.{refused, answered, beside, write}
+use Rattle.cic_indexed.proofs.SoundLaws.{sound-cic, host-below}
+use Rattle.cic_indexed.proofs.StepLaws.{no-write, not-there}
 use Rattle.cic_indexed.specs.Tables.{Changes, EndsHost, EndsGlobal}
 use Rattle.cic_indexed.proofs.CicLaws.{plain-write, written-plain, own-not-written, writes-elsewhere}
 use Rattle.cic_indexed.proofs.EndLaws.{decide-by, host-after, global-after, none-after}

@@ -18,7 +18,7 @@ use Rattle.cic_indices.specs.Promises.{Meets, MeetsFor}
 use Rattle.cic_held.specs.declared.Held.{Held}
 use Rattle.cic_held.specs.declared.Prioritised.{Prioritised}
 use Rattle.cic_held.specs.Held.{prioritised, nothingHeld, withGlobal, withHosts, heldAs, wordHeld, sound, start}
-use Rattle.cic_prioritised.specs.Model.{refused, answered, beside, read, write, line, step, outputs}
+use Rattle.cic_indexed.specs.Model.{refused, answered, beside, read, write, line, step, outputs}
 use Rattle.cic_indexed.specs.Tables.{Names, Changes, EndsHost, EndsGlobal, Turns, accessAt, MapTable}
 
 pub record Promises : Type 0 where

@@ -14,7 +14,7 @@ use Rattle.cic_layout.specs.Map.{access}
 use Rattle.cic_indices.specs.Order.{comesBefore}
 use Rattle.cic_held.specs.declared.Held.{Held}
 use Rattle.cic_held.specs.declared.Prioritised.{Prioritised}
-use Rattle.cic_index_registers.specs.Registers.{ownAt, accessOf}
+use Rattle.cic_indexed.specs.Registers.{ownAt, accessOf}
 
 -- ---- which system interrupt an index names (02, 6/12; 001, 1.3.5)
 

@@ -2,12 +2,12 @@
 use mathlib.Core.Path.{_≡_, refl, sym, ap, ap₂, _∙_}
 use mathlib.Core.Bool.{Bool, true, false, _&&_}
 use mathlib.Core.Logic.{_⊎_, inl, inr}
-use Prim.Native.Nat.{ℕ, zero, suc, _+_, _*_, _/_, _≤_, _<_, min}
+use Prim.Native.Nat.{ℕ, zero, suc, _+_, _*_, _≤_, _<_}
 use native.Mathlib.Numerals.{add-one}
 use native.Mathlib.Omega.{arith}
 use borrow.Author.Tests.{lt-ltb, le-ltb}
 use Rattle.words.specs.Choice.{pick}
-use Rattle.words.specs.Counting.{anyBelow, lowestBelow, sumBelow}
+use Rattle.words.specs.Counting.{lowestBelow, sumBelow}
 use Rattle.words.proofs.ChoiceLaws.{pick-true, pick-false, pick-cases, pick-ap}
 use Rattle.words.proofs.CountingLaws.{any-none, some-any, Lowest, lowest-found}
 use Rattle.words.proofs.TruthLaws.{and-both, told}
@@ -17,7 +17,7 @@ use Rattle.cic_record.specs.Kinds.{system, channelNumber}
 use Rattle.cic_indices.specs.declared.Found.{Found}
 use Rattle.cic_indices.specs.Looked.{wordsOf, wordHas, lookedIn, foundIn, searched, lookedOver, foundOver}
 use Rattle.cic_indices.specs.Order.{noneWord, pendingIn, busy, firstIn, channelFirst, indexOver}
-use Rattle.cic_indices.specs.Search.{pendingOf, firstOf, hasOf, lookedOf, foundOf, turnOf}
+use Rattle.cic_indices.specs.Search.{firstOf, hasOf, lookedOf, foundOf, turnOf}
 use Rattle.cic_indices.proofs.SearchLaws.{found-here, found-nowhere}
 
 -- ---- one channel
@@ -38,12 +38,6 @@ first-idle c k l = any-none (c .systems) (λ s. pendingIn c k (system s)) (λ s 
 -- channel k passes the test and has one
 abbrev pub passes : Cic → (Channel → Bool) → ℕ → Bool
 passes c t k = t (channelNumber k) && busy c (channelNumber k)
-
--- the same told by two tests of the code: whether it passes, and whether there is one in the parts of the record
-pub passes-as : (c : Cic) (t : Channel → Bool) (k : ℕ) {a b r : Bool} → a ≡ t (channelNumber k)
-    → b ≡ anyBelow (c .systems) (pendingOf (c .status) (c .enable) (c .channel) (channelNumber k)) → (a && b) ≡ r → passes c t k ≡ r
-unfolding busy pendingIn
-passes-as c t k e f g = sym (ap₂ (λ (x y : Bool). x && y) e f) ∙ g
 
 -- the first one of a channel, on the parts of the record
 pub first-parts : (c : Cic) (k : Channel) → firstIn c k ≡ firstOf (c .systems) (c .status) (c .enable) (c .channel) k

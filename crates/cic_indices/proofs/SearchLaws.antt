@@ -1,20 +1,20 @@
--- What the search for an index rests on: the lowest bit of a word, one word more, and all of them; and whether a channel has one at all.
+-- What the search for an index rests on: the lowest bit of a word, one word more, and all of them.
 use mathlib.Core.Path.{_≡_, refl, sym, ap, ap₂, _∙_}
-use mathlib.Core.Bool.{Bool, true, false, _&&_, _||_}
+use mathlib.Core.Bool.{Bool, true, false, _&&_}
 use mathlib.Core.List.{List}
-use Prim.Native.Nat.{ℕ, _+_, _-_, _*_, _/_, _%_, _^_, _≤_, _<_, min}
+use Prim.Native.Nat.{ℕ, _+_, _-_, _*_, _/_, _%_, _^_, _≤_, _<_}
 use native.Mathlib.Decide.{decLt}
 use native.Mathlib.Omega.{arith}
 use borrow.Author.Tests.{lt-ltb, ltb-true}
 use lib.Dec.{eqb, ltb}
 use lib.ListN.{getD}
 use Rattle.words.specs.Array.{bitAt, restAt}
-use Rattle.words.specs.Counting.{anyBelow, lowestBelow}
+use Rattle.words.specs.Counting.{lowestBelow}
 use Rattle.words.specs.Word.{bit, both, kept}
 use Rattle.words.proofs.ArrayLaws.{bitAt-word, rest-ltb}
-use Rattle.words.proofs.CountingLaws.{any-some, some-any, any-none, any-same, any-add, Lowest, lowest-found, lowest-one, lowest-same}
+use Rattle.words.proofs.CountingLaws.{some-any, any-none, Lowest, lowest-found, lowest-one, lowest-same}
 use Rattle.words.proofs.ShiftLaws.{bit-gone}
-use Rattle.words.proofs.TruthLaws.{and-left, and-right, and-both, clash, not-holds, same-test}
+use Rattle.words.proofs.TruthLaws.{and-left, and-right, clash, not-holds}
 use Rattle.words.proofs.WordLaws.{bit-both, bit-kept}
 use Rattle.cic_record.specs.declared.Channel.{Channel}
 use Rattle.cic_record.specs.Kinds.{system, channelIn}
@@ -155,34 +155,3 @@ module _ (n : ℕ) (status enable channel : List ℕ) (k : Channel) where
   found-no-word j l m none =
       ap₂ (λ (a b : ℕ). record { index = a; words = b }) (found-nowhere (pendingOf status enable channel k) n (λ s b. none s (omega (arith, b, l)) b))
       (looked-no-word j l m none)
-
-  -- ---- whether there is one at all
-
-  -- system interrupt s is configured and pending in channel k
-  abbrev pub configured : ℕ → Bool
-  configured s = ltb s n && pendingOf status enable channel k s
-
-  -- one word more
-  pub any-word : (j base w : ℕ) {o o′ : Bool} → base ≡ 32 * j → w ≡ wordAt j → o′ ≡ (o || anyBelow 32 (lit channel base w k)) → o ≡ anyBelow (32 * j) configured
-      → o′ ≡ anyBelow (32 * (j + 1)) configured
-  any-word j base w {o} b v e f =
-      e ∙ ap₂ (λ (x y : ℕ). o || anyBelow 32 (lit channel x y k)) b v
-      ∙ ap₂ (λ (x y : Bool). x || y) f (any-same 32 (lit channel (32 * j) (wordAt j) k) (λ i. configured (32 * j + i)) (of-word j))
-      ∙ sym (any-add (32 * j) 32 configured) ∙ ap (λ (m : ℕ). anyBelow m configured) (omega arith)
-
-  -- all words
-  pub any-all : (m : ℕ) → n ≤ m → anyBelow m configured ≡ anyBelow n (pendingOf status enable channel k)
-  any-all m l = same-test (anyBelow m configured) (anyBelow n p) there back
-    where
-      p : ℕ → Bool
-      p = pendingOf status enable channel k
-
-      there : anyBelow m configured ≡ true → anyBelow n p ≡ true
-      there e =
-          let r = any-some m configured e in
-          some-any n p (r .0) (ltb-true (r .0) n (and-left (ltb (r .0) n) (p (r .0)) (r .2))) (and-right (ltb (r .0) n) (p (r .0)) (r .2))
-
-      back : anyBelow n p ≡ true → anyBelow m configured ≡ true
-      back e =
-          let r = any-some n p e in
-          some-any m configured (r .0) (omega (arith, r .1, l)) (and-both (lt-ltb (r .0) n (r .1)) (r .2))

@@ -2,8 +2,8 @@
 // follows it. Every change leaves the frame as it is, so that a CIC with prioritised indices is changed by the same functions.
 ghost use mathlib.Core.Path.{_≡_};
 ghost use mathlib.Core.Bool.{true};
-ghost use Prim.Native.Nat.{ℕ, _*_, _%_, _<_, _≤_};
-ghost use lib.ListN.{getD, set};
+ghost use Prim.Native.Nat.{_*_, _%_, _<_, _≤_};
+ghost use lib.ListN.{set};
 ghost use Rattle.words.specs.Array.{withBitAt, restAt, byteOf};
 ghost use Rattle.words.specs.Word.{kept};
 ghost use Rattle.cic_record.specs.declared.Cic.{Cic};
@@ -11,9 +11,9 @@ ghost use Rattle.cic_record.specs.Kinds.{channelOf, hostOf};
 ghost use Rattle.cic_record.specs.Sound.{sound};
 ghost use Rattle.cic_record.specs.Record.{withGlobal, withLines, withStatus, withEnable, withChannel, withHost, withAllow};
 ghost use Rattle.cic_maps.specs.Maps.{mapPut};
-ghost use Rattle.cic_words.specs.Bits.{bitsSet, bitsCleared, wordReplaced};
+ghost use Rattle.cic_registers.specs.Bits.{bitsSet, bitsCleared, wordReplaced};
 ghost use Rattle.cic_steps.specs.Model.{moved};
-ghost use Rattle.cic_laid.specs.Room.{Frame, Laid, activeWord, ofChannel, ofHost, someWord};
+ghost use Rattle.cic_laid.specs.Room.{Frame, Laid, activeWord};
 ghost use Rattle.cic_laid.specs.Tables.{Held};
 
 pub mod counts;
@@ -116,30 +116,6 @@ pub fn active_word(room: &Room, k: u32) -> u32
     ensures { λ r. ⌜ ((f : Frame) (c : Cic) → Laid f c (now (room .entry)) → r ≡ activeWord c k) ⌝ }
 {
     words::meet(room[STATUS + k as usize], room[ENABLE + k as usize])
-}
-
-// How many active system interrupts a channel has.
-pub fn on_channel(room: &Room, k: Channel) -> u32
-    requires { ⌜ k .0 < 256 ⌝ }
-    ensures { λ r. ⌜ ((f : Frame) (c : Cic) → f .kept ≡ true → Laid f c (now (room .entry)) → r ≡ ofChannel c (k .0)) ⌝ }
-{
-    room[OF_CHANNEL + k.0 as usize]
-}
-
-// How many a host has.
-pub fn on_host(room: &Room, h: Host) -> u32
-    requires { ⌜ h .0 < 256 ⌝ }
-    ensures { λ r. ⌜ ((f : Frame) (c : Cic) → f .kept ≡ true → Laid f c (now (room .entry)) → r ≡ ofHost c (h .0)) ⌝ }
-{
-    room[OF_HOST + h.0 as usize]
-}
-
-// Which channels of word k have any.
-pub fn busy_word(room: &Room, k: u32) -> u32
-    requires { ⌜ k < 8 ⌝ }
-    ensures { λ r. ⌜ ((f : Frame) (c : Cic) → f .kept ≡ true → Laid f c (now (room .entry)) → r ≡ someWord (ofChannel c) k) ⌝ }
-{
-    room[BUSY + k as usize]
 }
 
 // How many of n things have their bit in word k or later.

@@ -1,85 +1,15 @@
--- What each register may be used for; those of a group are there exactly if their first thing is.
-use mathlib.Core.Path.{_≡_, refl, sym, ap, _∙_}
+-- The registers of a group are there exactly if their first thing is.
+use mathlib.Core.Path.{_≡_, sym, ap, _∙_}
 use mathlib.Core.Bool.{Bool}
 use mathlib.Core.Logic.{_↔_}
-use Prim.Native.Nat.{ℕ, _*_, _<_, _≤_}
+use Prim.Native.Nat.{ℕ, _<_, _≤_}
 use native.Mathlib.Decide.{decLt}
 use native.Mathlib.Omega.{arith}
 use borrow.Author.Tests.{lt-ltb, le-ltb}
 use Rattle.words.specs.Choice.{pick}
 use Rattle.steps.specs.declared.Access.{Access}
 use Rattle.steps.specs.declared.Access.the-variants.{NoRegister, ReadOnly, WriteOnly, ReadWrite}
-use Rattle.cic_record.specs.declared.Cic.{Cic}
-use Rattle.cic_layout.specs.declared.Register.the-variants.{Nothing, Revision, GlobalEnable, StatusIndexSet, StatusIndexClear, EnableIndexSet, EnableIndexClear, HostIndexSet, HostIndexClear, RawSet, EnabledClear, EnableSet, EnableClear, ChannelMap, HostMap, HostEnable}
-use Rattle.cic_layout.specs.Map.{ifAny, accessOf}
-
--- ---- register by register
-
-pub nothing-allows : (c : Cic) → accessOf c Nothing ≡ NoRegister
-unfolding accessOf
-nothing-allows c = refl
-
-pub revision-allows : (c : Cic) → accessOf c Revision ≡ ReadOnly
-unfolding accessOf
-revision-allows c = refl
-
-pub global-enable-allows : (c : Cic) → accessOf c GlobalEnable ≡ ReadWrite
-unfolding accessOf
-global-enable-allows c = refl
-
-pub status-index-set-allows : (c : Cic) → accessOf c StatusIndexSet ≡ WriteOnly
-unfolding accessOf
-status-index-set-allows c = refl
-
-pub status-index-clear-allows : (c : Cic) → accessOf c StatusIndexClear ≡ WriteOnly
-unfolding accessOf
-status-index-clear-allows c = refl
-
-pub enable-index-set-allows : (c : Cic) → accessOf c EnableIndexSet ≡ WriteOnly
-unfolding accessOf
-enable-index-set-allows c = refl
-
-pub enable-index-clear-allows : (c : Cic) → accessOf c EnableIndexClear ≡ WriteOnly
-unfolding accessOf
-enable-index-clear-allows c = refl
-
-pub host-index-set-allows : (c : Cic) → accessOf c HostIndexSet ≡ WriteOnly
-unfolding accessOf
-host-index-set-allows c = refl
-
-pub host-index-clear-allows : (c : Cic) → accessOf c HostIndexClear ≡ WriteOnly
-unfolding accessOf
-host-index-clear-allows c = refl
-
-pub raw-set-allows : (c : Cic) (k : ℕ) → accessOf c (RawSet k) ≡ ifAny (32 * k) (c .systems)
-unfolding accessOf
-raw-set-allows c k = refl
-
-pub enabled-clear-allows : (c : Cic) (k : ℕ) → accessOf c (EnabledClear k) ≡ ifAny (32 * k) (c .systems)
-unfolding accessOf
-enabled-clear-allows c k = refl
-
-pub enable-set-allows : (c : Cic) (k : ℕ) → accessOf c (EnableSet k) ≡ ifAny (32 * k) (c .systems)
-unfolding accessOf
-enable-set-allows c k = refl
-
-pub enable-clear-allows : (c : Cic) (k : ℕ) → accessOf c (EnableClear k) ≡ ifAny (32 * k) (c .systems)
-unfolding accessOf
-enable-clear-allows c k = refl
-
-pub channel-map-allows : (c : Cic) (k : ℕ) → accessOf c (ChannelMap k) ≡ ifAny (4 * k) (c .systems)
-unfolding accessOf
-channel-map-allows c k = refl
-
-pub host-map-allows : (c : Cic) (k : ℕ) → accessOf c (HostMap k) ≡ ifAny (4 * k) (c .channels)
-unfolding accessOf
-host-map-allows c k = refl
-
-pub host-enable-allows : (c : Cic) (k : ℕ) → accessOf c (HostEnable k) ≡ ifAny (32 * k) (c .hosts)
-unfolding accessOf
-host-enable-allows c k = refl
-
--- ---- registers of a group
+use Rattle.cic_layout.specs.Map.{ifAny}
 
 -- 0 where there is no register
 there : Access → ℕ

@@ -11,10 +11,10 @@ use Rattle.steps.specs.Refusals.{carriedOut, unsound}
 use Rattle.cic_held.specs.declared.Answer.{Answer}
 use Rattle.cic_held.specs.declared.Prioritised.{Prioritised}
 use Rattle.cic_held.specs.Held.{sound}
-use Rattle.cic_index_registers.specs.declared.Own.{Own}
-use Rattle.cic_index_registers.specs.Registers.{ownAt}
-use Rattle.cic_prioritised.specs.Model.{answered, unlessRefused, readAs, stepAs, read}
-use Rattle.cic_prioritised.proofs.StepLaws.{refused-by, carried-by, not-sound}
+use Rattle.cic_indexed.specs.declared.Own.{Own}
+use Rattle.cic_indexed.specs.Registers.{ownAt}
+use Rattle.cic_indexed.specs.Model.{answered, unlessRefused, readAs, stepAs, read}
+use Rattle.cic_indexed.proofs.StepLaws.{refused-by, carried-by, not-sound}
 use Rattle.cic_looked.specs.Looking.{looked, wordsAt, lookedFrom, lookAs}
 
 -- nothing is nothing, whatever the test

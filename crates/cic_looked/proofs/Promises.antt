@@ -24,11 +24,11 @@ use Rattle.cic_indices.proofs.Promises as indices
 use Rattle.cic_held.specs.declared.Answer.{Answer}
 use Rattle.cic_held.specs.declared.Prioritised.{Prioritised}
 use Rattle.cic_held.specs.Held.{sound}
-use Rattle.cic_index_registers.specs.declared.Own.{Own}
-use Rattle.cic_index_registers.specs.declared.Own.the-variants.{Elsewhere, Control, GlobalIndex, HostIndex}
-use Rattle.cic_index_registers.specs.Registers.{ownAt}
-use Rattle.cic_prioritised.specs.Model.{read}
-use Rattle.cic_prioritised.proofs.SoundLaws.{host-below}
+use Rattle.cic_indexed.specs.declared.Own.{Own}
+use Rattle.cic_indexed.specs.declared.Own.the-variants.{Elsewhere, Control, GlobalIndex, HostIndex}
+use Rattle.cic_indexed.specs.Registers.{ownAt}
+use Rattle.cic_indexed.specs.Model.{read}
+use Rattle.cic_indexed.proofs.SoundLaws.{host-below}
 use Rattle.cic_indexed.proofs.IndexLaws.{global-read, host-read}
 use Rattle.cic_indexed.proofs.PlaceLaws.{nowhere, on-or-not, at-control, at-global, at-host, at-none}
 use Rattle.cic_looked.specs.Looking.{wordsNow, wordsAt, lookAt}

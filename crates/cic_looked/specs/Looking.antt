@@ -13,10 +13,10 @@ use Rattle.cic_indices.specs.Looked.{lookedOver}
 use Rattle.cic_indices.specs.Order.{leads, indexOf}
 use Rattle.cic_held.specs.declared.Answer.{Answer}
 use Rattle.cic_held.specs.declared.Prioritised.{Prioritised}
-use Rattle.cic_index_registers.specs.declared.Own.{Own}
-use Rattle.cic_index_registers.specs.declared.Own.the-variants.{Elsewhere, Control, GlobalIndex, HostIndex}
-use Rattle.cic_index_registers.specs.Registers.{ownAt, indexRead}
-use Rattle.cic_prioritised.specs.Model.{readAs, read}
+use Rattle.cic_indexed.specs.declared.Own.{Own}
+use Rattle.cic_indexed.specs.declared.Own.the-variants.{Elsewhere, Control, GlobalIndex, HostIndex}
+use Rattle.cic_indexed.specs.Registers.{ownAt, indexRead}
+use Rattle.cic_indexed.specs.Model.{readAs, read}
 use Rattle.cic_looked.specs.declared.Looked.{Looked}
 
 abbrev pub looked : ℕ → ℕ → ℕ → Looked

@@ -11,7 +11,7 @@ use Rattle.cic_indices.specs.Looked.{searched, lookedOver}
 use Rattle.cic_indices.specs.Order.{leads}
 use Rattle.cic_held.specs.declared.Prioritised.{Prioritised}
 use Rattle.cic_held.specs.Held.{sound}
-use Rattle.cic_prioritised.specs.Model.{read}
+use Rattle.cic_indexed.specs.Model.{read}
 use Rattle.cic_looked.specs.Looking.{lookAt}
 
 pub record Promises : Type 0 where

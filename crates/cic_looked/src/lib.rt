@@ -3,12 +3,12 @@ ghost use mathlib.Core.Path.{_≡_};
 ghost use mathlib.Core.Bool.{true};
 ghost use Prim.Native.Nat.{_≤_};
 ghost use Rattle.cic_held.specs.Held.{sound};
-ghost use Rattle.cic_index_registers.specs.declared.Own.the-variants.{GlobalIndex, HostIndex};
-ghost use Rattle.cic_index_registers.specs.Registers.{ownAt};
-ghost use Rattle.cic_prioritised.specs.Model.{read};
+ghost use Rattle.cic_indexed.specs.declared.Own.the-variants.{GlobalIndex, HostIndex};
+ghost use Rattle.cic_indexed.specs.Registers.{ownAt};
+ghost use Rattle.cic_indexed.specs.Model.{read};
 ghost use Rattle.cic_looked.specs.Looking.{looked, foundNow, lookedFrom, lookAs, lookAt};
 use cic_held::Prioritised;
-use cic_index_registers::Own;
+use cic_indexed::Own;
 use cic_indices::Found;
 use cic_record::Cic;
 use cic_record::Host;
@@ -38,7 +38,7 @@ fn look_sound(p: Prioritised, offset: u32) -> Looked
     requires { ⌜ sound p ≡ true ⌝ }
     ensures { λ r. ⌜ r ≡ lookAs true p offset (ownAt p offset) ⌝ }
 {
-    match cic_index_registers::own_at(p, offset) {
+    match indexed_room::own::own_at(p.held.choice, offset) {
         Own::Elsewhere => look_other(p, offset),
         Own::Control => look_other(p, offset),
         Own::GlobalIndex => look_global(p, offset),
@@ -73,11 +73,11 @@ fn look_host(p: Prioritised, offset: u32, h: Host) -> Looked
     requires { ⌜ sound p ≡ true ⌝ }
     ensures { λ r. ⌜ r ≡ lookAs true p offset (HostIndex h) ⌝ }
 {
-    let n = steps::read_refusal(true, offset, cic_index_registers::host_access(p, h));
+    let n = steps::read_refusal(true, offset, cic_indexed::host_access(p, h));
     if n != steps::CARRIED_OUT {
         return answer(n, 0, 0);
     }
-    let was = cic_index_registers::host_held(p.held, h);
+    let was = cic_indexed::host_held(p.held, h);
     let f = look_now(p.cic, was, false, h);
     answer(steps::CARRIED_OUT, f.index, f.words)
 }

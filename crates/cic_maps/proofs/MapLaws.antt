@@ -1,5 +1,5 @@
 -- A map byte by byte: the spare ones, those past the end, and the four of a register.
-use mathlib.Core.Path.{_≡_, refl, sym, ap, ap₂, _∙_}
+use mathlib.Core.Path.{_≡_, sym, ap, ap₂, _∙_}
 use mathlib.Core.Bool.{Bool, true, false, _&&_, _||_}
 use mathlib.Core.List.{List}
 use mathlib.Core.Logic.{⊎-elim}
@@ -7,8 +7,7 @@ use Prim.Native.Nat.{ℕ, zero, suc, _+_, _*_, _≤_, _<_}
 use native.Mathlib.Omega.{arith}
 use borrow.Author.Tests.{ltb-true, leb-true}
 use lib.Dec.{eqb, leb, ltb}
-use lib.ListN.{length, getD, set, List·getD-eq-default}
-use lib.Seq.{set-out}
+use lib.ListN.{getD, set}
 use Rattle.words.specs.Array.{byteOf}
 use Rattle.words.specs.Choice.{pick}
 use Rattle.words.specs.Counting.{allBelow, sumBelow, upto}
@@ -30,11 +29,6 @@ pub read-there : (n : ℕ) (m : List ℕ) (k j at : ℕ) {t : Bool} → at ≡ 4
 unfolding byteRead
 read-there n m k j at e f z = ap (λ (i : ℕ). getD m i 0) e ∙ by-true 0 (f ∙ ap (λ (i : ℕ). ltb i n) e) z
 
-pub read-past : (n : ℕ) (m : List ℕ) (k j at : ℕ) → at ≡ 4 * k + j → length m ≤ at → 0 ≡ byteRead n m k j
-unfolding byteRead
-read-past n m k j at e p =
-    pick-cases (λ (x : ℕ). 0 ≡ x) (ltb (4 * k + j) n) (λ _. sym (List·getD-eq-default m 0 (omega arith))) (λ _. refl)
-
 pub read-four : (n : ℕ) (m : List ℕ) (k a b c d : ℕ) → a ≡ byteRead n m k 0 → b ≡ byteRead n m k 1 → c ≡ byteRead n m k 2 → d ≡ byteRead n m k 3
     → a + b * 256 + c * 65536 + d * 16777216 ≡ mapRead n m k
 unfolding mapRead sumBelow
@@ -53,21 +47,9 @@ taken-four n limit k v p q r s = ap₂ _&&_ (ap₂ _&&_ (ap₂ _&&_ p q) r) s
 
 -- ---- writes
 
-pub put-spare : (n k v : ℕ) (m : List ℕ) (j at : ℕ) {t : Bool} → at ≡ 4 * k + j → t ≡ ltb at n → t ≡ false → m ≡ bytePut n k v m j
-unfolding bytePut
-put-spare n k v m j at e f z = by-false (set m (4 * k + j) (byteOf v j)) (f ∙ ap (λ (i : ℕ). ltb i n) e) z
-
 pub put-there : (n k v : ℕ) (m : List ℕ) (j at b : ℕ) {t : Bool} → at ≡ 4 * k + j → b ≡ byteOf v j → t ≡ ltb at n → t ≡ true → set m at b ≡ bytePut n k v m j
 unfolding bytePut
 put-there n k v m j at b e g f z = ap₂ (λ (x y : ℕ). set m x y) e g ∙ by-true m (f ∙ ap (λ (i : ℕ). ltb i n) e) z
-
-pub put-past : (n k v : ℕ) (m : List ℕ) (j at : ℕ) → at ≡ 4 * k + j → length m ≤ at → m ≡ bytePut n k v m j
-unfolding bytePut
-put-past n k v m j at e p = pick-cases (λ (x : List ℕ). m ≡ x) (ltb (4 * k + j) n) (λ _. sym (set-out m (4 * k + j) (byteOf v j) (omega arith))) (λ _. refl)
-
-pub put-four : (n k v : ℕ) (m : List ℕ) → bytePut n k v (bytePut n k v (bytePut n k v (bytePut n k v m 0) 1) 2) 3 ≡ mapPut n k v m
-unfolding mapPut upto
-put-four n k v m = refl
 
 -- ---- a map stays sound if the value is taken
 

@@ -1,3 +1,2 @@
--- Refused or carried out, and what a sound record tells of what is held.
-pub mod SoundLaws
-pub mod StepLaws
+-- A step in a room is the step of the record that was laid into it.
+pub mod FaceLaws

@@ -1,21 +1,16 @@
-// The KeyStone CIC with prioritised indices, around the CIC without them: start, reads, writes, line steps, steps and outputs (02, 6/12; 001, 1.3.5).
+// The KeyStone CIC with prioritised indices by value: start, reads, writes, line steps, steps and outputs (02, 6/12; 001, 1.3.5). A step lays the record into
+// a room, is carried out there and takes the record out again.
 ghost use mathlib.Core.Path.{_≡_};
 ghost use mathlib.Core.Bool.{true};
+ghost use Rattle.rooms.specs.Reply.{told};
 ghost use Rattle.cic_hosts.specs.Hosts.{asserted};
-ghost use Rattle.cic_steps.specs.Model.{writeAs as cicWriteAs, stepAs as cicStepAs};
-ghost use Rattle.cic_held.specs.Held.{prioritised, within, sound, start};
-ghost use Rattle.cic_index_registers.specs.declared.Own.the-variants.{Control, GlobalIndex, HostIndex};
-ghost use Rattle.cic_index_registers.specs.Registers.{ownAt};
-ghost use Rattle.cic_prioritised.specs.Model.{refused, answered, beside, readAs, writtenBy, writeAs, read, write, line, step, outputs};
+ghost use Rattle.cic_held.specs.Held.{within, sound, start};
+ghost use Rattle.cic_indexed.specs.Model.{refused, read, write, line, step, outputs};
 use cic_held::Answer;
 use cic_held::Begun;
-use cic_held::Held;
 use cic_held::Prioritised;
-use cic_index_registers::Own;
-use cic_record::Cic;
 use cic_record::Host;
 use cic_record::Signals;
-use steps::Access;
 use steps::Step;
 
 // Whether the nth configuration number, in the order systems, channels, hosts, revision, choice, may be `value`. The first is number 0.
@@ -76,9 +71,9 @@ pub fn step_sound(p: Prioritised, x: Step) -> Answer
     ensures { λ r. ⌜ r ≡ step p x ⌝ }
 {
     match x {
-        Step::Read(offset) => read_sound(p, offset),
-        Step::Write(offset, v) => write_sound(p, offset, v),
-        Step::Line(number, level) => elsewhere(p, Step::Line(number, level)),
+        Step::Read(offset) => read_in(p, offset),
+        Step::Write(offset, v) => write_in(p, offset, v),
+        Step::Line(number, level) => line_in(p, number, level),
     }
 }
 
@@ -108,7 +103,7 @@ pub fn outputs_sound(p: Prioritised) -> Signals
 pub fn asserted(p: Prioritised, h: Host) -> bool
     ensures { λ r. ⌜ r ≡ asserted (p .cic) h ⌝ }
 {
-    cic::asserted(p.cic, h)
+    cic_hosts::asserted(p.cic, h)
 }
 
 // A step that is refused: its number, the value 0 and the same record.
@@ -122,158 +117,42 @@ fn refuse(p: Prioritised, n: u32) -> Answer
     }
 }
 
-// A step that is carried out, with its value and the record after it.
-fn carry_out(c: Cic, h: Held, value: u32) -> Answer
-    ensures { λ r. ⌜ r ≡ answered (prioritised c h) value ⌝ }
+// ---- a sound record, whose steps are carried out in a room
+
+// What a step in a room answers, with the record after it.
+fn answer_with(r: u64, p: Prioritised) -> Answer
+    ensures { λ a. ⌜ a ≡ record { refusal = told r .0; value = told r .1; prioritised = p } ⌝ }
 {
-    let p = cic_held::join(c, h);
     Answer {
-        refusal: steps::CARRIED_OUT,
-        value: value,
+        refusal: rooms::refusal_in(r),
+        value: rooms::value_in(r),
         prioritised: p,
     }
 }
 
-// What the CIC answers, with what is held then beside it.
-fn put_beside(h: Held, a: cic_record::Answer) -> Answer
-    ensures { λ r. ⌜ r ≡ beside h a ⌝ }
-{
-    let p = cic_held::join(a.cic, h);
-    Answer {
-        refusal: a.refusal,
-        value: a.value,
-        prioritised: p,
-    }
-}
-
-// A step that is the CIC's alone.
-fn elsewhere(p: Prioritised, x: Step) -> Answer
+fn read_in(p: Prioritised, offset: u32) -> Answer
     requires { ⌜ sound p ≡ true ⌝ }
-    ensures { λ r. ⌜ r ≡ beside (p .held) (cicStepAs true (p .cic) x) ⌝ }
+    ensures { λ r. ⌜ r ≡ read p offset ⌝ }
 {
-    let a = cic::step_sound(p.cic, x);
-    put_beside(p.held, a)
+    let mut room = indexed_transfer::lay(p);
+    let r = indexed_room::read(&mut room, offset);
+    answer_with(r, indexed_transfer::record_of(&room))
 }
 
-// A read of a sound record.
-fn read_sound(p: Prioritised, offset: u32) -> Answer
+fn write_in(p: Prioritised, offset: u32, v: u32) -> Answer
     requires { ⌜ sound p ≡ true ⌝ }
-    ensures { λ r. ⌜ r ≡ readAs true p offset (ownAt p offset) ⌝ }
+    ensures { λ r. ⌜ r ≡ write p offset v ⌝ }
 {
-    match cic_index_registers::own_at(p, offset) {
-        Own::Elsewhere => elsewhere(p, Step::Read(offset)),
-        Own::Control => read_control(p, offset),
-        Own::GlobalIndex => read_global(p, offset),
-        Own::HostIndex(h) => read_host(p, offset, h),
-    }
+    let mut room = indexed_transfer::lay(p);
+    let r = indexed_room::write(&mut room, offset, v);
+    answer_with(r, indexed_transfer::record_of(&room))
 }
 
-// A read of control: bit 4 shows the hold mode.
-fn read_control(p: Prioritised, offset: u32) -> Answer
+fn line_in(p: Prioritised, number: u32, level: u32) -> Answer
     requires { ⌜ sound p ≡ true ⌝ }
-    ensures { λ r. ⌜ r ≡ readAs true p offset Control ⌝ }
+    ensures { λ r. ⌜ r ≡ line p number level ⌝ }
 {
-    let n = steps::read_refusal(true, offset, Access::ReadWrite);
-    if n != steps::CARRIED_OUT {
-        return refuse(p, n);
-    }
-    carry_out(p.cic, p.held, 16 * p.held.hold)
-}
-
-// A read of the global index, which in the mode is held from then on.
-fn read_global(p: Prioritised, offset: u32) -> Answer
-    requires { ⌜ sound p ≡ true ⌝ }
-    ensures { λ r. ⌜ r ≡ readAs true p offset GlobalIndex ⌝ }
-{
-    let n = steps::read_refusal(true, offset, Access::ReadWrite);
-    if n != steps::CARRIED_OUT {
-        return refuse(p, n);
-    }
-    let word = cic_index_registers::index_word(p.cic, p.held.global, true, Host(0));
-    let x = cic_index_registers::hold_after(p, word);
-    let d = cic_held::hold_global(p.held, x);
-    carry_out(p.cic, d, word)
-}
-
-// A read of the index of host interrupt h, which in the mode is held from then on.
-fn read_host(p: Prioritised, offset: u32, h: Host) -> Answer
-    requires { ⌜ sound p ≡ true ⌝ }
-    ensures { λ r. ⌜ r ≡ readAs true p offset (HostIndex h) ⌝ }
-{
-    let n = steps::read_refusal(true, offset, cic_index_registers::host_access(p, h));
-    if n != steps::CARRIED_OUT {
-        return refuse(p, n);
-    }
-    let was = cic_index_registers::host_held(p.held, h);
-    let word = cic_index_registers::index_word(p.cic, was, false, h);
-    let x = cic_index_registers::hold_after(p, word);
-    let d = cic_held::hold_host(p.held, h, x);
-    carry_out(p.cic, d, word)
-}
-
-// A write to a sound record.
-fn write_sound(p: Prioritised, offset: u32, v: u32) -> Answer
-    requires { ⌜ sound p ≡ true ⌝ }
-    ensures { λ r. ⌜ r ≡ writeAs true p offset v (ownAt p offset) ⌝ }
-{
-    match cic_index_registers::own_at(p, offset) {
-        Own::Elsewhere => write_elsewhere(p, offset, v),
-        Own::Control => write_control(p, offset, v),
-        Own::GlobalIndex => write_global(p, offset, v),
-        Own::HostIndex(h) => write_host(p, offset, v, h),
-    }
-}
-
-// A write of the CIC's, and if it is carried out in the mode, what it ends.
-fn write_elsewhere(p: Prioritised, offset: u32, v: u32) -> Answer
-    requires { ⌜ sound p ≡ true ⌝ }
-    ensures { λ r. ⌜ r ≡ writtenBy p offset v (cicWriteAs true (p .cic) offset v) ⌝ }
-{
-    let a = cic::step_sound(p.cic, Step::Write(offset, v));
-    let n = a.refusal;
-    if n != steps::CARRIED_OUT {
-        return refuse(p, n);
-    }
-    if p.held.hold != 1 {
-        return put_beside(p.held, a);
-    }
-    let d = cic_index_registers::held_after(p.cic, p.held, offset, v);
-    put_beside(d, a)
-}
-
-// A write of control: bit 4 is the hold mode.
-fn write_control(p: Prioritised, offset: u32, v: u32) -> Answer
-    ensures { λ r. ⌜ r ≡ writeAs true p offset v Control ⌝ }
-{
-    let n = steps::write_refusal(true, offset, Access::ReadWrite, steps::CARRIED_OUT);
-    if n != steps::CARRIED_OUT {
-        return refuse(p, n);
-    }
-    let d = cic_held::control(p.held, v);
-    carry_out(p.cic, d, 0)
-}
-
-// A write of the global index: it ends its hold, whatever the value.
-fn write_global(p: Prioritised, offset: u32, v: u32) -> Answer
-    ensures { λ r. ⌜ r ≡ writeAs true p offset v GlobalIndex ⌝ }
-{
-    let n = steps::write_refusal(true, offset, Access::ReadWrite, steps::CARRIED_OUT);
-    if n != steps::CARRIED_OUT {
-        return refuse(p, n);
-    }
-    let d = cic_held::hold_global(p.held, 0);
-    carry_out(p.cic, d, 0)
-}
-
-// A write of the index of host interrupt h: it ends its hold, whatever the value.
-fn write_host(p: Prioritised, offset: u32, v: u32, h: Host) -> Answer
-    ensures { λ r. ⌜ r ≡ writeAs true p offset v (HostIndex h) ⌝ }
-{
-    let access = cic_index_registers::host_access(p, h);
-    let n = steps::write_refusal(true, offset, access, steps::CARRIED_OUT);
-    if n != steps::CARRIED_OUT {
-        return refuse(p, n);
-    }
-    let d = cic_held::hold_host(p.held, h, 0);
-    carry_out(p.cic, d, 0)
+    let mut room = indexed_transfer::lay(p);
+    let r = indexed_room::line(&mut room, number, level);
+    answer_with(r, indexed_transfer::record_of(&room))
 }

@@ -1,13 +1,12 @@
 // The CIC's record, its three kinds of number, the start, and which records are sound (01, CIC).
 ghost use mathlib.Core.Path.{_≡_};
 ghost use mathlib.Core.Bool.{true, false, _&&_};
-ghost use Prim.Native.Nat.{_+_, _-_, _<_, _≤_};
+ghost use Prim.Native.Nat.{_+_, _-_, _≤_};
 ghost use lib.Dec.{eqb, ltb, leb};
 ghost use lib.ListN.{getD, length};
 ghost use Rattle.words.specs.Array.{cleanBelow};
 ghost use Rattle.words.specs.Counting.{allBelow};
-ghost use Rattle.cic_record.specs.Kinds.{channelIn, hostIn};
-ghost use Rattle.cic_record.specs.Record.{answered, refused};
+ghost use Rattle.cic_record.specs.Record.{refused};
 ghost use Rattle.cic_record.specs.Sound.{between, within, wordsSound, entrySound, mapsSound, sound};
 ghost use Rattle.cic_record.specs.Start.{fresh, configured, start};
 
@@ -34,7 +33,7 @@ pub struct Cic {
     pub allow: [u32; 8],
 }
 
-// The configured numbers, which no step changes: the part of the record that goes by value where the others are lent.
+// The configured numbers, which no step changes.
 pub struct Size {
     pub systems: u32,
     pub channels: u32,
@@ -55,7 +54,7 @@ pub struct Answer {
     pub cic: Cic,
 }
 
-// What a step on lent parts answers: the record stays with the caller.
+// What a step answers without the record after it.
 pub struct Reply {
     pub refusal: u32,
     pub value: u32,
@@ -68,17 +67,6 @@ pub struct Signals {
     pub lowest: u32,
 }
 
-// The answer of a step that is carried out, with its value and the record after it.
-pub fn answer_of(c: Cic, value: u32) -> Answer
-    ensures { λ r. ⌜ r ≡ answered c value ⌝ }
-{
-    Answer {
-        refusal: steps::CARRIED_OUT,
-        value: value,
-        cic: c,
-    }
-}
-
 // The answer of a step that is refused by number n.
 pub fn refusal_of(c: Cic, n: u32) -> Answer
     ensures { λ r. ⌜ r ≡ refused c n ⌝ }
@@ -88,13 +76,6 @@ pub fn refusal_of(c: Cic, n: u32) -> Answer
         value: 0,
         cic: c,
     }
-}
-
-// Whether a system interrupt is one of those configured.
-pub fn is_system(z: Size, s: System) -> bool
-    ensures { λ r. ⌜ r ≡ ltb (s .0) (z .systems) ⌝ }
-{
-    (s.0 as u32) < z.systems
 }
 
 // Whether a channel is one of those configured.
@@ -109,35 +90,6 @@ pub fn is_host(z: Size, h: Host) -> bool
     ensures { λ r. ⌜ r ≡ ltb (h .0) (z .hosts) ⌝ }
 {
     (h.0 as u32) < z.hosts
-}
-
-// A byte of a map as a number.
-fn wide(b: u8) -> u16
-    ensures { λ r. ⌜ (r ≡ b) × (r < 256) ⌝ }
-{
-    b as u16
-}
-
-// The channel of a system interrupt in a lent channel map, 0 past its end.
-pub fn channel_of(channel: &[u8], s: System) -> Channel
-    ensures { λ r. ⌜ (r ≡ channelIn (now (channel .entry)) s) × (r .0 < 256) ⌝ }
-{
-    let at = s.0 as usize;
-    if channel.len() <= at {
-        return Channel(0);
-    }
-    Channel(wide(channel[at]))
-}
-
-// The host interrupt that a channel is mapped to in a lent host map, 0 past its end.
-pub fn host_of(host: &[u8], k: Channel) -> Host
-    ensures { λ r. ⌜ (r ≡ hostIn (now (host .entry)) k) × (r .0 < 256) ⌝ }
-{
-    let at = k.0 as usize;
-    if host.len() <= at {
-        return Host(0);
-    }
-    Host(wide(host[at]))
 }
 
 // Whether n is one of lowest to highest.

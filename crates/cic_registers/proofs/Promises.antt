@@ -7,12 +7,12 @@ use Rattle.words.specs.Array.{bitAt}
 use Rattle.words.specs.Word.{bit}
 use Rattle.words.proofs.WordLaws.{bit-both}
 use Rattle.cic_record.specs.declared.Cic.{Cic}
-use Rattle.cic_words.specs.Bits.{wordRead}
-use Rattle.cic_words.proofs.BitsLaws.{read-bit}
 use Rattle.cic_layout.specs.declared.Register.{Register}
 use Rattle.cic_layout.specs.declared.Register.the-variants.{Nothing, Revision, GlobalEnable, StatusIndexSet, StatusIndexClear, EnableIndexSet, EnableIndexClear, HostIndexSet, HostIndexClear, RawSet, EnabledClear, EnableSet, EnableClear, ChannelMap, HostMap, HostEnable}
+use Rattle.cic_registers.specs.Bits.{wordRead}
 use Rattle.cic_registers.specs.Registers.{valueOf, writtenTo}
 use Rattle.cic_registers.specs.Promises.{SameOutside, Promises}
+use Rattle.cic_registers.proofs.BitsLaws.{read-bit, set-bits, clear-bits, replace-bits, set-no-other, clear-no-other, replace-no-other, same-lengths, read-word, put-word}
 
 enabled-reads : (c : Cic) (k j : ℕ) → j < 32
     → bit (valueOf c (EnabledClear k)) j ≡ ((bitAt (c .status) (32 * k + j) && ltb (32 * k + j) (c .systems)) && (bitAt (c .enable) (32 * k + j) && ltb (32 * k + j) (c .systems)))
@@ -44,6 +44,16 @@ pub kept : Promises
 unfolding valueOf
 kept =
     record {
+      reads = read-bit;
+      sets = set-bits;
+      clears = clear-bits;
+      replaces = replace-bits;
+      setsNoOther = set-no-other;
+      clearsNoOther = clear-no-other;
+      replacesNoOther = replace-no-other;
+      lengths = same-lengths;
+      readsWord = read-word;
+      putsWord = put-word;
       rawReads = λ c k j l. read-bit (c .systems) (c .status) k j l;
       enabledReads = enabled-reads;
       enablesRead = λ c k j l. read-bit (c .systems) (c .enable) k j l;

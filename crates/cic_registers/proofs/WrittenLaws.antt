@@ -20,8 +20,8 @@ use Rattle.cic_record.proofs.PartsLaws.{sound-parts, sound-global, sound-status
 use Rattle.cic_maps.specs.Maps.{mapTaken, mapPut}
 use Rattle.cic_maps.proofs.MapLaws.{sound-mapPut}
 use Rattle.cic_maps.proofs.Promises as maps
-use Rattle.cic_words.specs.Bits.{bitsSet, bitsCleared, wordReplaced}
-use Rattle.cic_words.proofs.BitsLaws.{clean-bitsSet, clean-bitsCleared, clean-wordReplaced}
+use Rattle.cic_registers.specs.Bits.{bitsSet, bitsCleared, wordReplaced}
+use Rattle.cic_registers.proofs.BitsLaws.{clean-bitsSet, clean-bitsCleared, clean-wordReplaced}
 use Rattle.cic_layout.specs.declared.Register.{Register}
 use Rattle.cic_layout.specs.declared.Register.the-variants.{Nothing, Revision, GlobalEnable, StatusIndexSet, StatusIndexClear, EnableIndexSet, EnableIndexClear, HostIndexSet, HostIndexClear, RawSet, EnabledClear, EnableSet, EnableClear, ChannelMap, HostMap, HostEnable}
 use Rattle.cic_registers.specs.Registers.{unless, valueRefusal, writtenTo}

@@ -9,7 +9,7 @@ use Rattle.steps.specs.Refusals.{carriedOut, beyond}
 use Rattle.cic_record.specs.declared.Cic.{Cic}
 use Rattle.cic_record.specs.Record.{withGlobal, withStatus, withEnable, withChannel, withHost, withAllow}
 use Rattle.cic_maps.specs.Maps.{mapRead, mapTaken, mapPut}
-use Rattle.cic_words.specs.Bits.{wordRead, bitsSet, bitsCleared, wordReplaced}
+use Rattle.cic_registers.specs.Bits.{wordRead, bitsSet, bitsCleared, wordReplaced}
 use Rattle.cic_layout.specs.declared.Register.{Register}
 use Rattle.cic_layout.specs.declared.Register.the-variants.{Nothing, Revision, GlobalEnable, StatusIndexSet, StatusIndexClear, EnableIndexSet, EnableIndexClear, HostIndexSet, HostIndexClear, RawSet, EnabledClear, EnableSet, EnableClear, ChannelMap, HostMap, HostEnable}
 

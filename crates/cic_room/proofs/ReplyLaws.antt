@@ -28,7 +28,7 @@ use Rattle.cic_record.specs.Record.{answered, refused}
 use Rattle.cic_record.specs.Sound.{sound}
 use Rattle.cic_maps.specs.Maps.{byteRead, mapRead}
 use Rattle.cic_maps.proofs.MapLaws.{read-four}
-use Rattle.cic_words.specs.Bits.{wordRead}
+use Rattle.cic_registers.specs.Bits.{wordRead}
 use Rattle.cic_layout.specs.declared.Register.{Register}
 use Rattle.cic_layout.specs.declared.Register.the-variants.{Nothing, Revision, GlobalEnable, RawSet, EnabledClear, EnableSet, EnableClear, ChannelMap, HostMap, HostEnable}
 use Rattle.cic_layout.specs.Map.{registerAt, accessOf, ifAny}

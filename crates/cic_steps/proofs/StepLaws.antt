@@ -1,17 +1,12 @@
--- Refused or carried out: what a step answers by its number, of a record that is not sound, at an aligned offset, and of lines.
-use mathlib.Core.Path.{_≡_, refl, sym, ap, ap₂, _∙_}
-use mathlib.Core.Bool.{Bool, true, false, not, _&&_}
-use mathlib.Core.List.{List}
+-- Refused or carried out: what a step answers by its number, of a record that is not sound, and at an aligned offset.
+use mathlib.Core.Path.{_≡_, refl, sym, ap, _∙_}
+use mathlib.Core.Bool.{Bool, true, false}
 use mathlib.Core.Logic.{_⊎_, inl, inr}
-use Prim.Native.Nat.{ℕ, _%_, _≤_}
+use Prim.Native.Nat.{ℕ, _%_}
 use native.Mathlib.Omega.{arith}
 use borrow.Author.Tests.{eq-eqb, ne-eqb}
 use lib.Dec.{eqb}
-use lib.ListN.{length}
-use Rattle.words.specs.Array.{bitAt, withBitAt}
-use Rattle.words.specs.Choice.{pick}
-use Rattle.words.proofs.ArrayLaws.{withBitAt-past}
-use Rattle.words.proofs.ChoiceLaws.{pick-true, pick-false, pick-cases, pick-ap}
+use Rattle.words.proofs.ChoiceLaws.{pick-true, pick-false, pick-ap}
 use Rattle.steps.specs.declared.Access.{Access}
 use Rattle.steps.specs.declared.Access.the-variants.{NoRegister, ReadOnly, WriteOnly, ReadWrite}
 use Rattle.steps.specs.declared.Step.{Step}
@@ -23,10 +18,8 @@ use Rattle.steps.proofs.Promises as checks
 use Rattle.cic_record.specs.declared.Answer.{Answer}
 use Rattle.cic_record.specs.declared.Cic.{Cic}
 use Rattle.cic_record.specs.declared.Reply.{Reply}
-use Rattle.cic_record.specs.declared.Size.{Size}
-use Rattle.cic_record.specs.declared.System.{System}
 use Rattle.cic_record.specs.Kinds.{system}
-use Rattle.cic_record.specs.Parts.{cicOf, answerOf, refusedReply, answeredReply}
+use Rattle.cic_record.specs.Parts.{answerOf, refusedReply, answeredReply}
 use Rattle.cic_record.specs.Record.{refused, answered}
 use Rattle.cic_layout.specs.declared.Register.{Register}
 use Rattle.cic_layout.specs.Map.{registerAt, access}
@@ -132,22 +125,3 @@ step-write ok c o v e = sym (ap (stepAs ok c) e)
 pub step-line : (ok : Bool) (c : Cic) (s l : ℕ) {x : Step} → x ≡ Line s l → lineAs ok c s l ≡ stepAs ok c x
 unfolding stepAs
 step-line ok c s l e = sym (ap (stepAs ok c) e)
-
--- ---- lines
-
--- the line was as `was` says; st′ and ls′ are the words after the line went high or low
-pub moved-parts : (z : Size) (g : ℕ) (ls st en ch ho al : List ℕ) (s : System) (high : Bool) {was : Bool} {st′ ls′ : List ℕ}
-    → was ≡ bitAt ls (s .0) → st′ ≡ pick (high && not was) (withBitAt st (s .0) true) st → ls′ ≡ withBitAt ls (s .0) high
-    → cicOf z g ls′ st′ en ch ho al ≡ moved (cicOf z g ls st en ch ho al) s high
-unfolding moved
-moved-parts z g ls st en ch ho al s high w p q =
-    ap₂ (λ (a b : List ℕ). cicOf z g a b en ch ho al) q (p ∙ ap (λ (b : Bool). pick (high && not b) (withBitAt st (s .0) true) st) w)
-    ∙ pick-ap (λ (b : List ℕ). cicOf z g (withBitAt ls (s .0) high) b en ch ho al) (high && not (bitAt ls (s .0))) (withBitAt st (s .0) true) st
-
--- there is no line past the last
-pub moved-past : (c : Cic) (s : System) (high : Bool) → length (c .lines) ≡ 32 → length (c .status) ≡ 32 → 1024 ≤ s .0 → moved c s high ≡ c
-unfolding moved
-moved-past c s high l m p =
-    let ls : withBitAt (c .lines) (s .0) high ≡ c .lines = withBitAt-past (c .lines) (s .0) high (omega arith) in
-    let st : withBitAt (c .status) (s .0) true ≡ c .status = withBitAt-past (c .status) (s .0) true (omega arith) in
-    pick-cases (λ (d : Cic). d ≡ c) (high && not (bitAt (c .lines) (s .0))) (λ _. rw (ls, st)) (λ _. rw ls)

@@ -19,13 +19,9 @@ use Rattle.words.proofs.CountingLaws.{upto-none, upto-more, upto-done}
 use Rattle.cic_held.specs.declared.Held.{Held}
 use Rattle.cic_held.specs.declared.Prioritised.{Prioritised}
 use Rattle.cic_held.specs.Held.{prioritised, nothingHeld, withGlobal, withHosts, freedHosts, controlled}
-use Rattle.cic_index_registers.specs.Registers.{afterHost, hostsWritten, heldAfter}
+use Rattle.cic_indexed.specs.Registers.{afterHost, hostsWritten, heldAfter}
 use Rattle.indexed_room.specs.Room.{Laid}
 use Rattle.indexed_room.proofs.FrameLaws.{index-is, held-is, put-index, put-held}
-
--- a room of a record is one of each equal record
-pub laid-as : {p q : Prioritised} {room : List ℕ} → p ≡ q → Laid p room → Laid q room
-laid-as {room = room} e h = subst (λ (t : Prioritised). Laid t room) e h
 
 -- another hold beside the same CIC
 pub holds-as : (p : Prioritised) {a b : Held} {room : List ℕ} → a ≡ b → Laid (prioritised (p .cic) a) room → Laid (prioritised (p .cic) b) room

@@ -19,11 +19,11 @@ use Rattle.cic_indices.specs.Order.{noneWord, indexOf}
 use Rattle.cic_held.specs.declared.Answer.{Answer}
 use Rattle.cic_held.specs.declared.Prioritised.{Prioritised}
 use Rattle.cic_held.specs.Held.{prioritised, withGlobal, withHosts, sound, controlled}
-use Rattle.cic_index_registers.specs.declared.Own.the-variants.{Elsewhere, Control, GlobalIndex, HostIndex}
-use Rattle.cic_index_registers.specs.Registers.{ownAt, hostAccess, indexRead, holdAfter, globalWord, hostWord}
-use Rattle.cic_prioritised.specs.Model.{answered, unlessRefused, readAs, writeAs}
-use Rattle.cic_prioritised.proofs.SoundLaws.{sound-cic, hold-small, global-small, host-small, host-below, word-small}
-use Rattle.cic_prioritised.proofs.StepLaws.{refused-by, carried-by, no-write, not-there, read-there}
+use Rattle.cic_indexed.specs.declared.Own.the-variants.{Elsewhere, Control, GlobalIndex, HostIndex}
+use Rattle.cic_indexed.specs.Registers.{ownAt, hostAccess, indexRead, holdAfter, globalWord, hostWord}
+use Rattle.cic_indexed.specs.Model.{answered, unlessRefused, readAs, writeAs}
+use Rattle.cic_indexed.proofs.SoundLaws.{sound-cic, hold-small, global-small, host-small, host-below, word-small}
+use Rattle.cic_indexed.proofs.StepLaws.{refused-by, carried-by, no-write, not-there, read-there}
 use Rattle.indexed_room.specs.Reply.{Done}
 use Rattle.indexed_room.specs.Room.{Laid}
 use Rattle.indexed_room.proofs.HoldLaws.{holds-as, mode-is}

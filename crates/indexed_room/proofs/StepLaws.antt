@@ -33,11 +33,11 @@ use Rattle.cic_room.specs.Reply as inRoom
 use Rattle.cic_held.specs.declared.Held.{Held}
 use Rattle.cic_held.specs.declared.Prioritised.{Prioritised}
 use Rattle.cic_held.specs.Held.{prioritised, sound}
-use Rattle.cic_index_registers.specs.declared.Own.{Own}
-use Rattle.cic_index_registers.specs.declared.Own.the-variants.{Elsewhere}
-use Rattle.cic_index_registers.specs.Registers.{ownAt, hostsWritten, heldAfter}
-use Rattle.cic_prioritised.specs.Model.{beside, writtenBy, readAs, writeAs, stepAs, read, write, line, outputs}
-use Rattle.cic_prioritised.proofs.SoundLaws.{sound-cic}
+use Rattle.cic_indexed.specs.declared.Own.{Own}
+use Rattle.cic_indexed.specs.declared.Own.the-variants.{Elsewhere}
+use Rattle.cic_indexed.specs.Registers.{ownAt, hostsWritten, heldAfter}
+use Rattle.cic_indexed.specs.Model.{beside, writtenBy, readAs, writeAs, stepAs, read, write, line, outputs}
+use Rattle.cic_indexed.proofs.SoundLaws.{sound-cic}
 use Rattle.indexed_room.specs.Reply.{Done}
 use Rattle.indexed_room.specs.Room.{framed, Laid, withWords}
 use Rattle.indexed_room.specs.Words.{wordsOf, Written}

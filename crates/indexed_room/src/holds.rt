@@ -8,7 +8,7 @@ ghost use Rattle.words.specs.Choice.{pick};
 ghost use Rattle.cic_indices.specs.Order.{noneWord};
 ghost use Rattle.cic_held.specs.declared.Prioritised.{Prioritised};
 ghost use Rattle.cic_held.specs.Held.{prioritised, nothingHeld, withGlobal, withHosts, heldAs, wordHeld, freedHosts, controlled};
-ghost use Rattle.cic_index_registers.specs.Registers.{afterHost, hostsWritten, heldAfter};
+ghost use Rattle.cic_indexed.specs.Registers.{afterHost, hostsWritten, heldAfter};
 ghost use Rattle.indexed_room.specs.Room.{Laid};
 use cic_laid::HELD;
 use cic_laid::HOSTS;

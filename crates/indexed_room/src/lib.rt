@@ -6,8 +6,8 @@ ghost use Rattle.turns.specs.Turns.{stepOf};
 ghost use Rattle.cic_steps.specs.Model.{writeAs as cicWriteAs};
 ghost use Rattle.cic_held.specs.declared.Prioritised.{Prioritised};
 ghost use Rattle.cic_held.specs.Held.{sound};
-ghost use Rattle.cic_index_registers.specs.declared.Own.the-variants.{Elsewhere};
-ghost use Rattle.cic_prioritised.specs.Model.{beside, readAs, writeAs, read, write, line, step, outputs};
+ghost use Rattle.cic_indexed.specs.declared.Own.the-variants.{Elsewhere};
+ghost use Rattle.cic_indexed.specs.Model.{beside, readAs, writeAs, read, write, line, step, outputs};
 ghost use Rattle.indexed_room.specs.Reply.{Done};
 ghost use Rattle.indexed_room.specs.Room.{Laid};
 
@@ -16,7 +16,7 @@ pub mod holds;
 pub mod own;
 pub mod search;
 
-use cic_index_registers::Own;
+use cic_indexed::Own;
 use cic_laid::CHANNEL_MAP;
 use cic_record::Signals;
 use holds::CHOICE;

@@ -28,7 +28,7 @@ use Rattle.cic_laid.specs.Room.{Frame, plain}
 use Rattle.cic_laid.specs.Room as stands
 use Rattle.cic_held.specs.declared.Prioritised.{Prioritised}
 use Rattle.cic_held.specs.Held.{prioritised, sound}
-use Rattle.cic_prioritised.proofs.SoundLaws.{sound-cic, global-small, host-small}
+use Rattle.cic_indexed.proofs.SoundLaws.{sound-cic, global-small, host-small}
 use Rattle.indexed_room.specs.Room.{Laid, withHeld, withWords}
 use Rattle.indexed_room.specs.Words.{inWord, wordsOf}
 use Rattle.indexed_room.proofs.FrameLaws.{words-is, put-words, put-index, put-held, put-kind, channel-byte}

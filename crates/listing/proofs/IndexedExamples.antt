@@ -13,8 +13,8 @@ use Rattle.trace.specs.Trace.{turnAt, stepsFrom}
 use Rattle.cic_hosts.specs.Hosts.{shown as cicShown}
 use Rattle.cic_indices.specs.Order.{pendingIn, busy, firstIn, channelFirst, indexOver, indexOf}
 use Rattle.cic_held.specs.Held.{heldAs, wordHeld, within, start, freedHosts, controlled}
-use Rattle.cic_index_registers.specs.Registers.{ownAt, hostAccess, hostsWritten, heldAfter}
-use Rattle.cic_prioritised.specs.Model.{readAs, writeAs, stepAs, outputs}
+use Rattle.cic_indexed.specs.Registers.{ownAt, hostAccess, hostsWritten, heldAfter}
+use Rattle.cic_indexed.specs.Model.{readAs, writeAs, stepAs, outputs}
 use Rattle.machine.specs.declared.Answer.{Answer}
 use Rattle.machine_record.specs.declared.Columns.{Columns}
 use Rattle.machine_record.specs.declared.Machine.{Machine}

@@ -27,7 +27,7 @@ use Rattle.cic_hosts.specs.Hosts.{raises, asserted, outputs as cicOutputs, show
 use Rattle.cic_layout.specs.Map.{singleAt, registerAt, accessOf}
 use Rattle.cic_maps.specs.Maps.{byteRead, mapRead, byteTaken, mapTaken, bytePut, mapPut}
 use Rattle.cic_registers.specs.Registers.{valueOf, valueRefusal as cicValueRefusal, writtenTo}
-use Rattle.cic_words.specs.Bits.{wordRead, bitsSet, bitsCleared, wordReplaced}
+use Rattle.cic_registers.specs.Bits.{wordRead, bitsSet, bitsCleared, wordReplaced}
 use Rattle.cic_steps.specs.Model.{readAs, writeAs, moved as cicMoved, lineAs, stepAs}
 use Rattle.aintc_record.specs.Bounds.{chosenBounded, bounded}
 use Rattle.aintc_record.specs.Record.{side as aintcSide, reset as aintcReset, blank as aintcBlank}

@@ -18,7 +18,7 @@ use Rattle.cic_steps.specs.Model.{step as cicStep, stepAs}
 use Rattle.cic.proofs.Promises.{kept as cic}
 use Rattle.cic_held.specs.declared.Prioritised.{Prioritised}
 use Rattle.cic_held.specs.Held.{sound as indexedSound}
-use Rattle.cic_prioritised.specs.Model.{step as indexedStep}
+use Rattle.cic_indexed.specs.Model.{step as indexedStep}
 use Rattle.cic_indexed.proofs.Promises.{kept as prioritised}
 use Rattle.aintc_choice.specs.Settle.{sound as aintcSound}
 use Rattle.aintc_steps.specs.Model.{step as aintcStep}

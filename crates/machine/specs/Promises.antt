@@ -7,7 +7,7 @@ use Rattle.aic.specs.Model.{step as aicStep}
 use Rattle.coreinterrupt.specs.Model.{step as coreStep}
 use Rattle.cic_steps.specs.Model.{step as cicStep}
 use Rattle.cic_held.specs.declared.Prioritised.{Prioritised}
-use Rattle.cic_prioritised.specs.Model.{step as indexedStep}
+use Rattle.cic_indexed.specs.Model.{step as indexedStep}
 use Rattle.aintc_steps.specs.Model.{step as aintcStep}
 use Rattle.kinds.specs.Kinds.{isKind}
 use Rattle.machine_record.specs.declared.Machine.{Machine}

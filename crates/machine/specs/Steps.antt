@@ -9,7 +9,7 @@ use Rattle.coreinterrupt.specs.Model.{step as coreStep}
 use Rattle.cic_record.specs.declared.Answer.{Answer as CicAnswer}
 use Rattle.cic_steps.specs.Model.{step as cicStep}
 use Rattle.cic_held.specs.declared.Answer.{Answer as IndexedAnswer}
-use Rattle.cic_prioritised.specs.Model.{step as indexedStep}
+use Rattle.cic_indexed.specs.Model.{step as indexedStep}
 use Rattle.aintc_registers.specs.declared.Answer.{Answer as AintcAnswer}
 use Rattle.aintc_steps.specs.Model.{step as aintcStep}
 use Rattle.kinds.specs.Kinds.{byKind}

@@ -9,7 +9,7 @@ ghost use Rattle.coreinterrupt.specs.Model.{sound as coreSound, step as coreSte
 ghost use Rattle.cic_record.specs.Sound.{sound as cicSound};
 ghost use Rattle.cic_steps.specs.Model.{step as cicStep};
 ghost use Rattle.cic_held.specs.Held.{sound as indexedSound};
-ghost use Rattle.cic_prioritised.specs.Model.{step as indexedStep};
+ghost use Rattle.cic_indexed.specs.Model.{step as indexedStep};
 ghost use Rattle.aintc_choice.specs.Settle.{sound as aintcSound};
 ghost use Rattle.aintc_steps.specs.Model.{step as aintcStep};
 ghost use Rattle.machine_record.specs.Machine.{indexed, sound};

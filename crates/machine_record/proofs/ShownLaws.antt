@@ -23,7 +23,7 @@ use Rattle.cic_hosts.proofs.Promises.{kept as hosts}
 use Rattle.cic_held.specs.declared.Prioritised.{Prioritised}
 use Rattle.cic_held.specs.Held.{sound as indexedSound}
 use Rattle.cic_held.proofs.Promises.{kept as held}
-use Rattle.cic_prioritised.specs.Model.{outputs as indexedOutputs}
+use Rattle.cic_indexed.specs.Model.{outputs as indexedOutputs}
 use Rattle.aintc_record.specs.declared.Chosen.{Chosen}
 use Rattle.aintc_record.specs.Promises.{Bounds}
 use Rattle.aintc_choice.proofs.Promises.{kept as choice}

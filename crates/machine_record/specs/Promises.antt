@@ -13,7 +13,7 @@ use Rattle.cic_record.specs.Sound.{sound as cicSound}
 use Rattle.cic_record.specs.Start.{start as cicStart}
 use Rattle.cic_hosts.specs.Hosts.{outputs as cicOutputs}
 use Rattle.cic_held.specs.Held.{start as indexedStart, sound as indexedSound}
-use Rattle.cic_prioritised.specs.Model.{outputs as indexedOutputs}
+use Rattle.cic_indexed.specs.Model.{outputs as indexedOutputs}
 use Rattle.aintc_choice.specs.Settle.{sound as aintcSound}
 use Rattle.aintc_steps.specs.Model.{start as aintcStart, outputs as aintcOutputs}
 use Rattle.kinds.specs.declared.Configuration.{Configuration}

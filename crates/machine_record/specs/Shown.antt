@@ -6,7 +6,7 @@ use Rattle.coreinterrupt.specs.declared.Signals.{Signals as CoreSignals}
 use Rattle.coreinterrupt.specs.Model.{outputs as coreOutputs}
 use Rattle.cic_record.specs.declared.Signals.{Signals as CicSignals}
 use Rattle.cic_hosts.specs.Hosts.{outputs as cicOutputs}
-use Rattle.cic_prioritised.specs.Model.{outputs as indexedOutputs}
+use Rattle.cic_indexed.specs.Model.{outputs as indexedOutputs}
 use Rattle.aintc_steps.specs.declared.Signals.{Signals as AintcSignals}
 use Rattle.aintc_steps.specs.Model.{outputs as aintcOutputs}
 use Rattle.kinds.specs.Kinds.{byKind}

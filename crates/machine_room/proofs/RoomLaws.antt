@@ -27,7 +27,7 @@ use Rattle.cic_laid.proofs.Promises.{kept as laidCic}
 use Rattle.cic_room.specs.Reply.{Done as CicDone}
 use Rattle.cic_held.specs.declared.Prioritised.{Prioritised}
 use Rattle.cic_held.specs.Held.{sound as indexedSound}
-use Rattle.cic_prioritised.specs.Model.{step as indexedStep, outputs as indexedOutputs}
+use Rattle.cic_indexed.specs.Model.{step as indexedStep, outputs as indexedOutputs}
 use Rattle.indexed_room.specs.Room.{Laid as IndexedLaid}
 use Rattle.indexed_room.specs.Reply.{Done as IndexedDone}
 use Rattle.indexed_room.proofs.Promises.{kept as laidIndexed}

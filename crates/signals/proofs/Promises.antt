@@ -18,7 +18,7 @@ use Rattle.aic.proofs.Promises.{kept as aic}
 use Rattle.coreinterrupt.specs.Model.{outputs as coreOutputs}
 use Rattle.coreinterrupt.proofs.Promises.{kept as core}
 use Rattle.cic_hosts.proofs.Promises.{kept as hosts}
-use Rattle.cic_prioritised.specs.Model.{outputs as indexedOutputs}
+use Rattle.cic_indexed.specs.Model.{outputs as indexedOutputs}
 use Rattle.aintc_choice.proofs.Promises.{kept as choice}
 use Rattle.aintc_steps.specs.Model.{outputs as aintcOutputs}
 use Rattle.aintc.proofs.Promises.{kept as aintc}

@@ -19,7 +19,7 @@ use Rattle.aic.specs.Model.{outputs as aicOutputs}
 use Rattle.coreinterrupt_side.specs.Side.{raw, status}
 use Rattle.coreinterrupt.specs.Model.{outputs as coreOutputs}
 use Rattle.cic_hosts.specs.Hosts.{outputs as cicOutputs}
-use Rattle.cic_prioritised.specs.Model.{outputs as indexedOutputs}
+use Rattle.cic_indexed.specs.Model.{outputs as indexedOutputs}
 use Rattle.aintc_steps.specs.Model.{outputs as aintcOutputs}
 use Rattle.machine_record.specs.Machine.{sound}
 use Rattle.machine_record.specs.Shown.{shown}

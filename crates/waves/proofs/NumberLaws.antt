@@ -27,7 +27,7 @@ use Rattle.cic_registers.proofs.WrittenLaws.{value-number}
 use Rattle.cic_steps.specs.Model.{step as cicStep, stepAs}
 use Rattle.cic.proofs.Promises.{kept as cic}
 use Rattle.cic_held.specs.declared.Prioritised.{Prioritised}
-use Rattle.cic_prioritised.specs.Model.{step as indexedStep}
+use Rattle.cic_indexed.specs.Model.{step as indexedStep}
 use Rattle.cic_indexed.proofs.Promises.{kept as indexed}
 use Rattle.aintc_record.specs.declared.Aintc.{Aintc}
 use Rattle.aintc_choice.specs.Settle.{sound as aintcSound}

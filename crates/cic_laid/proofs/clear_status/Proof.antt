@@ -4,7 +4,7 @@ use Prim.Native.Nat.{ℕ, _-_}
 use lib.ListN.{set}
 use Rattle.words.specs.Word.{without}
 use Rattle.cic_record.specs.Record.{withStatus}
-use Rattle.cic_words.specs.Bits.{bitsCleared}
+use Rattle.cic_registers.specs.Bits.{bitsCleared}
 use Rattle.cic_laid.proofs.PutLaws.{status-is}
 use Rattle.cic_laid.proofs.RoomLaws.{laid-as}
 use borrow.Author.Needs.{needs}

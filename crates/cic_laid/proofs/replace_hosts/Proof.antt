@@ -5,7 +5,7 @@ use lib.ListN.{set}
 use Rattle.words.specs.Array.{restAt}
 use Rattle.words.specs.Word.{kept}
 use Rattle.cic_record.specs.Record.{withAllow}
-use Rattle.cic_words.specs.Bits.{wordReplaced}
+use Rattle.cic_registers.specs.Bits.{wordReplaced}
 use Rattle.cic_laid.proofs.PutLaws.{hosts-is}
 use Rattle.cic_laid.proofs.RoomLaws.{laid-as}
 use borrow.Author.Needs.{needs}

@@ -5,7 +5,7 @@ use lib.ListN.{set}
 use Rattle.words.specs.Array.{restAt}
 use Rattle.words.specs.Word.{either, kept}
 use Rattle.cic_record.specs.Record.{withEnable}
-use Rattle.cic_words.specs.Bits.{bitsSet}
+use Rattle.cic_registers.specs.Bits.{bitsSet}
 use Rattle.cic_laid.proofs.PutLaws.{systems-is, enable-is}
 use Rattle.cic_laid.proofs.RoomLaws.{laid-as}
 use borrow.Author.Needs.{needs}

@@ -2,8 +2,8 @@
 use mathlib.Core.Bool.{Bool}
 use mathlib.Core.Path.{sym, ap, _∙_}
 use Rattle.steps.specs.declared.Step.the-variants.{Read}
-use Rattle.cic_index_registers.specs.Registers.{ownAt}
-use Rattle.cic_prioritised.specs.Model.{stepAs}
+use Rattle.cic_indexed.specs.Registers.{ownAt}
+use Rattle.cic_indexed.specs.Model.{stepAs}
 use Rattle.cic_looked.specs.Looking.{wordsAt, lookedFrom, lookAs, lookAt}
 use Rattle.cic_looked.proofs.LookLaws.{unsound-look}
 use borrow.Author.Needs.{needs}

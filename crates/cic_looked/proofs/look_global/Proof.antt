@@ -2,8 +2,8 @@
 use mathlib.Core.Path.{ap, _∙_}
 use Rattle.cic_record.proofs.PartsLaws.{sound-counts}
 use Rattle.cic_indices.specs.declared.Found.{Found}
-use Rattle.cic_prioritised.specs.Model.{readAs}
-use Rattle.cic_prioritised.proofs.SoundLaws.{sound-cic}
+use Rattle.cic_indexed.specs.Model.{readAs}
+use Rattle.cic_indexed.proofs.SoundLaws.{sound-cic}
 use Rattle.cic_looked.specs.Looking.{looked, wordsAt}
 use Rattle.cic_looked.proofs.LookLaws.{refused-look, carried-look}
 use borrow.Author.Needs.{needs}

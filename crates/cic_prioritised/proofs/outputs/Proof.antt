@@ -1,7 +1,7 @@
 -- That `outputs` of src/lib.rt keeps its contract.
 use mathlib.Core.Path.{sym, _∙_}
 use Rattle.words.proofs.ChoiceLaws.{by-false}
-use Rattle.cic_prioritised.specs.Model.{outputs}
+use Rattle.cic_indexed.specs.Model.{outputs}
 use borrow.Author.Needs.{needs}
 use Rattle.cic_prioritised.proofs.outputs.Statement.{statement}
 use Rattle.cic_prioritised.proofs.outputs.Tie as tie

@@ -1,7 +1,7 @@
 -- That `outputs_sound` of src/lib.rt keeps its contract.
 use mathlib.Core.Path.{_∙_}
 use Rattle.words.proofs.ChoiceLaws.{pick-true}
-use Rattle.cic_prioritised.specs.Model.{outputs}
+use Rattle.cic_indexed.specs.Model.{outputs}
 use borrow.Author.Needs.{needs}
 use Rattle.cic_prioritised.proofs.outputs_sound.Statement.{statement}
 use Rattle.cic_prioritised.proofs.outputs_sound.Tie as tie

@@ -1,8 +1,8 @@
 -- That `step` of src/lib.rt keeps its contract.
 use mathlib.Core.Bool.{Bool}
 use mathlib.Core.Path.{sym, ap, _∙_}
-use Rattle.cic_prioritised.specs.Model.{stepAs}
-use Rattle.cic_prioritised.proofs.StepLaws.{not-sound}
+use Rattle.cic_indexed.specs.Model.{stepAs}
+use Rattle.cic_indexed.proofs.StepLaws.{not-sound}
 use borrow.Author.Needs.{needs}
 use Rattle.cic_prioritised.proofs.step.Statement.{statement}
 use Rattle.cic_prioritised.proofs.step.Tie as tie

@@ -1,5 +1,5 @@
 -- That `line` of src/lib.rt keeps its contract.
-use Rattle.cic_prioritised.proofs.SoundLaws.{sound-cic}
+use Rattle.cic_indexed.proofs.SoundLaws.{sound-cic}
 use Rattle.indexed_room.specs.Room.{framed}
 use Rattle.indexed_room.proofs.StepLaws.{line-done}
 use borrow.Author.Needs.{needs}

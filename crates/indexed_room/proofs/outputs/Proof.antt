@@ -1,6 +1,6 @@
 -- That `outputs` of src/lib.rt keeps its contract.
 use mathlib.Core.Path.{refl}
-use Rattle.cic_prioritised.proofs.SoundLaws.{sound-cic}
+use Rattle.cic_indexed.proofs.SoundLaws.{sound-cic}
 use Rattle.indexed_room.specs.Room.{framed}
 use Rattle.indexed_room.proofs.StepLaws.{outputs-told}
 use borrow.Author.Needs.{needs}

@@ -1,7 +1,7 @@
 -- That `write_cic` of src/lib.rt keeps its contract.
 use Rattle.cic_steps.specs.Model.{writeAs}
 use mathlib.Core.Bool.{true}
-use Rattle.cic_prioritised.proofs.SoundLaws.{sound-cic}
+use Rattle.cic_indexed.proofs.SoundLaws.{sound-cic}
 use Rattle.indexed_room.specs.Room.{framed}
 use Rattle.indexed_room.proofs.StepLaws.{written-done, map-written}
 use borrow.Author.Needs.{needs}

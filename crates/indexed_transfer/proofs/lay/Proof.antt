@@ -3,7 +3,7 @@ use mathlib.Core.Path.{refl}
 use mathlib.Core.Bool.{true}
 use Rattle.rooms.specs.Parts.{made}
 use Rattle.cic_laid.specs.Room.{plain}
-use Rattle.cic_prioritised.proofs.SoundLaws.{sound-cic}
+use Rattle.cic_indexed.proofs.SoundLaws.{sound-cic}
 use Rattle.indexed_room.specs.Room.{withWords}
 use Rattle.indexed_room.specs.Words.{wordsOf}
 use Rattle.indexed_transfer.proofs.TransferLaws.{laid-all}

@@ -2,7 +2,7 @@
 use mathlib.Core.Path.{ap, _∙_}
 use Rattle.cic_held.specs.declared.Prioritised.{Prioritised}
 use Rattle.cic_held.specs.Held.{sound as indexedSound}
-use Rattle.cic_prioritised.specs.Model.{step as indexedStep}
+use Rattle.cic_indexed.specs.Model.{step as indexedStep}
 use Rattle.machine.specs.Steps.{afterIndexed}
 use borrow.Author.Needs.{needs}
 use Rattle.machine.proofs.indexed_step.Statement.{statement}

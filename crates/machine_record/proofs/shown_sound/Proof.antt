@@ -1,7 +1,7 @@
 -- That `shown_sound` of src/lib.rt keeps its contract.
 use mathlib.Core.Path.{ap, sym, _∙_}
 use Rattle.cic_held.specs.Held.{sound as indexedSound}
-use Rattle.cic_prioritised.specs.Model.{outputs as indexedOutputs}
+use Rattle.cic_indexed.specs.Model.{outputs as indexedOutputs}
 use Rattle.machine_record.specs.Shown.{aicColumns, coreColumns, cicColumns, aintcColumns}
 use Rattle.machine_record.proofs.MachineLaws.{sound-aic, sound-core, sound-cic, sound-aintc, sound-indexed, fifth-kind}
 use Rattle.machine_record.proofs.ShownLaws.{aic-shows, core-shows, cic-shows, aintc-shows, indexed-shows}

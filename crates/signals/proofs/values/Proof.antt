@@ -1,7 +1,7 @@
 -- That `values` of src/lib.rt keeps its contract.
 use mathlib.Core.Path.{ap, _∙_}
 use Rattle.cic_held.specs.Held.{sound as indexedSound}
-use Rattle.cic_prioritised.specs.Model.{outputs as indexedOutputs}
+use Rattle.cic_indexed.specs.Model.{outputs as indexedOutputs}
 use Rattle.machine_record.proofs.MachineLaws.{sound-aic, sound-core, sound-cic, sound-aintc, sound-indexed, fifth-kind}
 use Rattle.signals.specs.Signals.{eleven}
 use Rattle.signals.proofs.SignalLaws.{aic-values, core-values, cic-values, aintc-values, indexed-values}

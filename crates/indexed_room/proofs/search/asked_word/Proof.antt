@@ -2,7 +2,7 @@
 use mathlib.Core.Path.{sym, subst}
 use Prim.Native.Nat.{ℕ, _<_}
 use Rattle.words.proofs.WordLaws.{both-lt}
-use Rattle.cic_prioritised.proofs.SoundLaws.{sound-cic}
+use Rattle.cic_indexed.proofs.SoundLaws.{sound-cic}
 use Rattle.indexed_room.proofs.FirstLaws.{asked-some, asked-of}
 use borrow.Author.Needs.{needs}
 use Rattle.indexed_room.proofs.search.asked_word.Statement.{statement}

@@ -9,7 +9,7 @@ use Rattle.words.proofs.TruthLaws.{clash}
 use Rattle.words.proofs.WordLaws.{withBit-lt}
 use Rattle.cic_record.specs.Kinds.{system}
 use Rattle.cic_held.specs.declared.Prioritised.{Prioritised}
-use Rattle.cic_prioritised.proofs.SoundLaws.{sound-cic}
+use Rattle.cic_indexed.proofs.SoundLaws.{sound-cic}
 use Rattle.indexed_room.specs.Room.{Laid}
 use Rattle.indexed_room.proofs.FirstLaws.{OnlyLeft, left-first, first-found, first-on, first-never}
 use borrow.Author.Needs.{needs}

@@ -7,7 +7,7 @@ use Rattle.words.proofs.HopLaws.{lowest-in}
 use Rattle.cic_record.specs.declared.System.{System}
 use Rattle.cic_held.specs.declared.Prioritised.{Prioritised}
 use Rattle.cic_held.specs.Held.{sound}
-use Rattle.cic_prioritised.proofs.SoundLaws.{sound-cic}
+use Rattle.cic_indexed.proofs.SoundLaws.{sound-cic}
 use Rattle.indexed_room.specs.Room.{Laid}
 use Rattle.indexed_room.proofs.AskLaws.{NoneAsked, none-more, lowest-busy, index-here, index-ended}
 use Rattle.indexed_room.proofs.FirstLaws.{idle-host}

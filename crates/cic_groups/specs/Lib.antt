@@ -1,2 +1,0 @@
--- Registers by group.
-pub mod Groups

@@ -1,1 +1,0 @@
--- Laws for the proofs of functions.

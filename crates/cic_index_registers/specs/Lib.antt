@@ -1,2 +1,0 @@
--- The registers of prioritisation, what a read of an index holds, and what a write ends.
-pub mod Registers

@@ -1,2 +1,0 @@
--- The CIC with prioritised indices as its callers see it.
-pub mod Model

@@ -1,3 +1,0 @@
--- Registers of bits.
-pub mod Bits
-pub mod Promises
