@@ -65,9 +65,10 @@ one-machine kept first m n r ok h i b c = go (kind-of (m .kind))
 refused-same : (kept : Bool) (m : Machine) (x : Recorded) (r s : List ℕ) (q : Reply) → sound m ≡ true → Laid kept m r → Done kept (step m x) s q
     → q .0 ≢ 0 → (s ≡ r) × (q .1 ≡ 0)
 refused-same kept m x r s q ok h d n =
-    let e = steps .refusedSame m x (λ z. n (ap (λ (p : Reply). p .0) (d .1) ∙ z)) in
-    (one-room kept m s r ok (subst (λ (k : Machine). Laid kept k s) (ap (λ (a : Answer). a .machine) e) (d .0)) h,
-    ap (λ (p : Reply). p .1) (d .1) ∙ ap (λ (a : Answer). a .value) e)
+    let e = steps .refusedSame m x (λ z. n (ap (λ (p : Reply). p .0) (d .1) ∙ z)) in (
+      one-room kept m s r ok (subst (λ (k : Machine). Laid kept k s) (ap (λ (a : Answer). a .machine) e) (d .0)) h,
+      ap (λ (p : Reply). p .1) (d .1) ∙ ap (λ (a : Answer). a .value) e,
+    )
 
 pub kept : Promises
 kept =
