@@ -1,27 +1,24 @@
--- What the entries of the records before and after a step tell of a start, and that the step's words give the figures of all sources.
-use Prim.Native.Nat.{ℕ, zero, suc, _+_, _-_, _≤_, _<_}
-use mathlib.Core.Path.{_≡_, refl, sym, ap, ap₂, _∙_}
-use mathlib.Core.Bool.{Bool, true, false, not, _&&_, _||_}
+-- What the entries of the records before and after a step tell of a start.
+use Prim.Native.Nat.{ℕ, _+_, _≤_, _<_}
+use mathlib.Core.Path.{_≡_, refl, sym, ap, _∙_}
+use mathlib.Core.Bool.{true, false, _&&_, _||_}
 use mathlib.Core.Logic.{_≢_, _⊎_, inl, inr}
 use native.Mathlib.Omega.{arith}
-use lib.Dec.{eqb, ltb}
+use lib.Dec.{eqb}
 use native.Mathlib.Decide.{decLt}
 use lib.ListN.{getD, set, length}
 use lib.Seq.{getD-set-same}
 use borrow.Author.Tests.{eqb-true, ltb-true}
-use Rattle.words.specs.Choice.{pick}
-use Rattle.words.specs.Counting.{one, upto}
-use Rattle.words.specs.Word.{bit, wordOf}
+use Rattle.words.specs.Counting.{one}
 use Rattle.words.proofs.ChoiceLaws.{pick-cases}
 use Rattle.words.proofs.TruthLaws.{and-right, told, clash}
 use Rattle.words.proofs.CountingLaws.{lowest-found}
-use Rattle.words.proofs.WordLaws.{bit-wordOf}
 use Rattle.steps.specs.declared.Step.{Step}
 use Rattle.aic_record.specs.declared.Aic.{Aic}
 use Rattle.aic_record.specs.Sound.{sourceAt, levelBelow, sound}
 use Rattle.aic_record.specs.Record.{withSeen}
 use Rattle.aic_record.proofs.SoundLaws.{seen-sound}
-use Rattle.aic_sources.specs.Normal.{waiting, foremost, candidates, chosen}
+use Rattle.aic_sources.specs.Normal.{foremost, candidates, chosen}
 use Rattle.aic_sources.proofs.OrderLaws.{chosen-is}
 use Rattle.aic_sources.proofs.HandlerLaws.{candidate-source}
 use Rattle.aic_registers.specs.Handlers.{opened, startedAt}
@@ -30,8 +27,7 @@ use Rattle.aic.proofs.HandlerLaws.{started-is}
 use Rattle.aic_runs.specs.Counted.{takes, begins, starts, startedBy, levelOf, closes}
 use Rattle.aic_runs.proofs.CountedLaws.{started-one, started-room}
 use Rattle.aic_runs.proofs.StepLaws.{depth-law, start-law}
-use Rattle.aic_waits.specs.Figures.{isOpen}
-use Rattle.aic_waits.specs.Following.{Figures, startedFrom, figuresWith, figuresBy, followed}
+use Rattle.aic_waits.specs.Following.{startedFrom}
 use Rattle.aic_waits.proofs.FigureLaws.{none-more, mark-more, some-more}
 
 chosen-most : (s : Aic) → chosen s ≤ 32
@@ -87,22 +83,3 @@ tells s x h ok = go (told (starts s x)) (decLt (startedBy s x) 32)
     go (inr b) (no n) =
         let d : t .depth + one (closes s x) ≡ s .depth + 0 = depth-law s x ∙ rw b in
         let q : startedBy s x ≡ 32 = omega (arith, n, started-most s x ok) in sym (q ∙ none-more (s .depth) t (omega (arith, d)))
-
--- ---- all sources of a step
-
-upto-same : {A : Type 0} (F G : A → ℕ → A) (z : A) (n : ℕ) → ((a : A) (i : ℕ) → i < n → F a i ≡ G a i) → upto F z n ≡ upto G z n
-unfolding upto
-upto-same F G z zero h = refl
-upto-same F G z (suc n) h = h (upto F z n) n (omega arith) ∙ ap (λ (a : _). G a n) (upto-same F G z n (λ a i l. h a i (omega arith)))
-
-pub all-from : (f : Figures) (t : Aic) (by waits opens : ℕ) (r : Figures) → waits ≡ wordOf 32 (waiting t) → opens ≡ wordOf 32 (isOpen t)
-    → r ≡ upto (figuresWith by (bit waits) (bit opens) (t .depth)) f 32 → r ≡ figuresBy by t f
-unfolding figuresBy
-all-from f t by waits opens r w o g =
-    g ∙ upto-same _ _ f 32 (λ a i l. ap₂ (λ (p q : Bool). figuresWith by (λ _. p) (λ _. q) (t .depth) a i)
-    (ap (λ (n : ℕ). bit n i) w ∙ bit-wordOf 32 (waiting t) i l) (ap (λ (n : ℕ). bit n i) o ∙ bit-wordOf 32 (isOpen t) i l))
-
--- what the record after a step tells is the step's
-pub follow-tells : (f : Figures) (s : Aic) (x : Step) → length (s .source) ≡ 8 → sound s ≡ true → figuresBy (startedFrom (s .depth) (step s x .aic)) (step s x .aic) f ≡ followed f s x
-unfolding followed
-follow-tells f s x h ok = ap (λ (n : ℕ). figuresBy n (step s x .aic) f) (tells s x h ok)

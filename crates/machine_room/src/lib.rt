@@ -3,14 +3,15 @@
 ghost use mathlib.Core.Path.{_≡_};
 ghost use mathlib.Core.Bool.{Bool, true};
 ghost use Prim.Native.Nat.{_+_, _*_, _<_};
+ghost use Rattle.aic_layout.specs.Room.{Laid as AicLaid};
 ghost use Rattle.machine_record.specs.declared.Machine.{Machine};
 ghost use Rattle.machine_record.specs.Machine.{sound};
-ghost use Rattle.machine_record.specs.Promises.{Ready};
 ghost use Rattle.machine_record.specs.Shown.{shown};
 ghost use Rattle.machine.specs.Steps.{step};
 ghost use Rattle.rooms.specs.Reply.{told};
 ghost use Rattle.turns.specs.Turns.{made, stepOf};
 ghost use Rattle.machine_room.specs.Room.{Laid, Done, Beside};
+use aic_record::Aic;
 use machine_record::Columns;
 use machine_record::Machine;
 use rooms::Room;
@@ -19,11 +20,11 @@ const KIND: usize = 0;
 
 // The room of a machine; `kept` says whether what a listing shows of a CIC is kept in it.
 pub fn lay(m: Machine, kept: bool) -> Room
-    ensures { λ r. ⌜ (Ready m → Laid kept m r) ⌝ }
+    ensures { λ r. ⌜ (sound m ≡ true → Laid kept m r) ⌝ }
 {
     if m.kind == kinds::AIC {
         let a = m.aic;
-        return aic_layout::lay(a);
+        return lay_aic(a);
     }
     if m.kind == kinds::CORE {
         let c = m.core;
@@ -38,6 +39,13 @@ pub fn lay(m: Machine, kept: bool) -> Room
         return aintc_layout::lay(a);
     }
     indexed_transfer::lay(machine_record::indexed(m))
+}
+
+// The arrays of a record that is passed have their lengths.
+fn lay_aic(a: Aic) -> Room
+    ensures { λ r. ⌜ AicLaid a r ⌝ }
+{
+    aic_layout::lay(a)
 }
 
 // The machine in a room; what does not stand there is the first machine's.

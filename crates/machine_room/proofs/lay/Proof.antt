@@ -9,27 +9,27 @@ use Rattle.machine_room.proofs.lay.Tie as tie
 returns : tie.Need-returns
 returns c =
     let m = c .before .before .before .before .args .m in
-    λ r. aic-laid _ m _ (c .before .before .if1 .taken) (c .lay .ensures (r .1))
+    λ _. aic-laid _ m _ (c .before .before .if1 .taken) (c .lay-aic .ensures)
 
 returns-2 : tie.Need-returns-2
 returns-2 c =
     let m = c .before .before .before .before .before .before .args .m in
-    λ r. core-laid _ m _ (c .before .before .if2 .taken) (c .lay2 .ensures)
+    λ _. core-laid _ m _ (c .before .before .if2 .taken) (c .lay .ensures)
 
 returns-3 : tie.Need-returns-3
 returns-3 c =
     let m = c .before .before .before .before .before .before .before .before .args .m in
-    λ r. cic-laid _ m _ (c .before .before .if3 .taken) (c .lay3 .ensures (sound-cic m (c .before .before .if3 .taken) ∙ r .0))
+    λ ok. cic-laid _ m _ (c .before .before .if3 .taken) (c .lay2 .ensures (sound-cic m (c .before .before .if3 .taken) ∙ ok))
 
 returns-4 : tie.Need-returns-4
 returns-4 c =
     let m = c .before .before .before .before .before .before .before .before .before .before .args .m in
-    λ r. aintc-laid _ m _ (c .before .before .if4 .taken) (c .lay4 .ensures)
+    λ _. aintc-laid _ m _ (c .before .before .if4 .taken) (c .lay3 .ensures)
 
 returns-5 : tie.Need-returns-5
 returns-5 c =
     let m = c .before .before .before .before .before .before .before .before .before .before .args .m in
-    λ r. indexed-laid-as _ m _ _ (c .before .indexed .ensures) (last-kind m (r .0) (c .before .before .before .before .before .before .before .before .if1 .left) (c .before .before .before .before .before .before .if2 .left) (c .before .before .before .before .if3 .left) (c .before .before .if4 .left)) (r .0) (c .lay5 .ensures)
+    λ ok. indexed-laid-as _ m _ _ (c .before .indexed .ensures) (last-kind m ok (c .before .before .before .before .before .before .before .before .if1 .left) (c .before .before .before .before .before .before .if2 .left) (c .before .before .before .before .if3 .left) (c .before .before .if4 .left)) ok (c .lay4 .ensures)
 
 pub lay-spec : {M : Type 1} → statement M
 lay-spec =

@@ -40,7 +40,7 @@ returns c =
     let l = s .before .before in
     let f = l .before .before .before .before in
     let p = f .pre in
-    let g = l .loop .inv (f .args .first) (p .0) (p .2) (l .before .before .lay .ensures (p .0)) (l .before .start .ensures (f .args .first .aic) (p .1)) in
+    let g = l .loop .inv (f .args .first) (p .0) (p .2) (l .before .before .lay .ensures (p .0 .0)) (l .before .start .ensures (f .args .first .aic) (p .1)) in
     let k = g .followed in
     rw (c .totals-in .ensures (g .figures) (k .0) _ (k .1))
     (tallied-ended _ _ (g .figures) _ _ _ _ _ _ _ (ends-here _ _ _ _ _ (s .sure .ensures .0) (i .if1 .taken)) ∙ g .whole)
@@ -56,7 +56,7 @@ add-refused c =
     let l = s .before .before in
     let f = l .before .before .before .before in
     let p = f .pre in
-    let g = l .loop .inv (f .args .first) (p .0) (p .2) (l .before .before .lay .ensures (p .0)) (l .before .start .ensures (f .args .first .aic) (p .1)) in
+    let g = l .loop .inv (f .args .first) (p .0) (p .2) (l .before .before .lay .ensures (p .0 .0)) (l .before .start .ensures (f .args .first .aic) (p .1)) in
     omega (arith, found-here _ _ _ _ _ (s .sure .ensures .0) (i .if1 .left) .1 .0, g .counted, g .few, c .refused-one .ensures, one-le (not (eqb (c .before .refusal-in .result) carriedOut)), f .fits .limit)
 
 sub-left : tie.Need-sub-left Inv-loop μ-loop
@@ -72,7 +72,7 @@ add-count c =
     let l = s .before .before in
     let f = l .before .before .before .before in
     let p = f .pre in
-    let g = l .loop .inv (f .args .first) (p .0) (p .2) (l .before .before .lay .ensures (p .0)) (l .before .start .ensures (f .args .first .aic) (p .1)) in
+    let g = l .loop .inv (f .args .first) (p .0) (p .2) (l .before .before .lay .ensures (p .0 .0)) (l .before .start .ensures (f .args .first .aic) (p .1)) in
     omega (arith, found-here _ _ _ _ _ (s .sure .ensures .0) (i .if1 .left) .1 .0, g .counted, f .fits .limit)
 
 loop-less : tie.Need-loop-less Inv-loop μ-loop

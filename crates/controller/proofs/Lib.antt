@@ -1,0 +1,2 @@
+-- Laws of a controller in words that a caller keeps.
+pub mod ControllerLaws

@@ -1,0 +1,2 @@
+-- One controller in words that a caller outside keeps.
+pub mod Controller

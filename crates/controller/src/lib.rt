@@ -1,0 +1,132 @@
+// One controller of any kind for a caller outside, who keeps it in 2,048 words. Whatever stands in them, every call gets an answer: where it is not the room
+// of a sound record, derived and unused words among it, 12, and nothing changes (01, Numbers).
+ghost use mathlib.Core.Path.{_≡_};
+ghost use mathlib.Core.Bool.{true, false};
+ghost use Prim.Native.Nat.{_<_};
+ghost use Rattle.words.specs.Choice.{pick};
+ghost use Rattle.steps.specs.Refusals.{carriedOut, misconfigured};
+ghost use Rattle.rooms.specs.Reply.{told};
+ghost use Rattle.turns.specs.Turns.{made, stepOf};
+ghost use Rattle.machine_record.specs.declared.Machine.{Machine};
+ghost use Rattle.controller.specs.Controller.{Stands, Vacant, same, accepted, startRefusal, Started, Stepped, Showing};
+use kinds::Configuration;
+use machine_record::Machine;
+use rooms::Room;
+
+// The three numbers of a listing's line, or the refusal.
+pub struct Shown {
+    pub refusal: u32,
+    pub first: u32,
+    pub second: u32,
+    pub third: u32,
+}
+
+const KIND: usize = 0;
+
+// Starts a controller of a kind with the numbers that configure it; numbers beyond its own are not looked at. A refused start writes nothing.
+pub fn start(room: &mut Room, kind: u32, c: Configuration) -> u32
+    ensures { λ r. ⌜ Started (now (room .entry)) kind c (now (room .exit)) r ⌝ }
+{
+    let refusal = start_refusal(kind, c);
+    if refusal == steps::CARRIED_OUT {
+        *room = machine_room::lay(machine_record::start(kind, c), true);
+    }
+    refusal
+}
+
+fn start_refusal(kind: u32, c: Configuration) -> u32
+    ensures { λ r. ⌜ r ≡ startRefusal kind c ⌝ }
+{
+    if kinds::is_kind(kind) {
+        return numbers_refusal(kind, c);
+    }
+    steps::UNKNOWN
+}
+
+fn numbers_refusal(kind: u32, c: Configuration) -> u32
+    ensures { λ r. ⌜ r ≡ pick (accepted kind c) carriedOut misconfigured ⌝ }
+{
+    if is_accepted(kind, c) {
+        return steps::CARRIED_OUT;
+    }
+    steps::MISCONFIGURED
+}
+
+fn is_accepted(kind: u32, c: Configuration) -> bool
+    ensures { λ r. ⌜ r ≡ accepted kind c ⌝ }
+{
+    let wanted = kinds::wanted(kind);
+    let numbers = c.numbers;
+    let mut ok = true;
+    let mut n: u32 = 0;
+    while n < wanted {
+        ok = ok & kinds::within(kind, n, numbers[n as usize]);
+        n = n + 1;
+    }
+    ok
+}
+
+// The step of a kind, 1 to 3 as in a trace, with its numbers, made by a privilege.
+pub fn step(room: &mut Room, kind: u32, x: u32, y: u32, privilege: u32) -> u64
+    requires { ⌜ (0 < kind) × (kind < 4) ⌝ }
+    ensures { λ r. ⌜ Stepped (now (room .entry)) (made (stepOf kind x y) privilege) (now (room .exit)) (told r) ⌝ }
+{
+    if is_controller(room) {
+        return machine_room::step(room, kind, x, y, privilege);
+    }
+    rooms::refuse(steps::UNSOUND)
+}
+
+// What a listing shows of it.
+pub fn outputs(room: &Room) -> Shown
+    ensures { λ r. ⌜ Showing (now (room .entry)) r ⌝ }
+{
+    if is_controller(room) {
+        let c = machine_room::columns(room);
+        return Shown {
+            refusal: steps::CARRIED_OUT,
+            first: c.first,
+            second: c.second,
+            third: c.third,
+        };
+    }
+    Shown {
+        refusal: steps::UNSOUND,
+        first: 0,
+        second: 0,
+        third: 0,
+    }
+}
+
+// Whether a sound machine stands in the words: the one that is read there is laid once more, and every word must be the same.
+pub fn is_controller(room: &Room) -> bool
+    ensures { λ r. ⌜ (r ≡ true → (m : Machine) × Stands (now (room .entry)) m) × (r ≡ false → Vacant (now (room .entry))) ⌝ }
+{
+    let mut first = machine_record::empty();
+    first.kind = room[KIND];
+    let m = machine_room::record_of(room, first);
+    is_laid(*room, m)
+}
+
+// Whether this machine is sound, and the words are those of its room. They are passed, not lent, so that their number is known.
+fn is_laid(room: Room, m: Machine) -> bool
+    ensures { λ r. ⌜ (r ≡ true → Stands room m) × (r ≡ false → Stands room m → ⊥) ⌝ }
+{
+    if machine_record::is_sound(m) {
+        let again = machine_room::lay(m, true);
+        return is_same(&room, &again);
+    }
+    false
+}
+
+fn is_same(a: &Room, b: &Room) -> bool
+    ensures { λ r. ⌜ r ≡ same (now (a .entry)) (now (b .entry)) ⌝ }
+{
+    let mut same = true;
+    let mut k: usize = 0;
+    while k < 2048 {
+        same = same & (a[k] == b[k]);
+        k = k + 1;
+    }
+    same
+}
