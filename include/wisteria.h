@@ -33,6 +33,10 @@ extern "C" {
 /* A number of bytes that the line of any table fits. */
 #define WISTERIA_STACK_ROOM 13
 
+/* What is refused is answered by a number, 0 standing for nothing refused. docs/REFUSALS.md has each in words, who gives it, and in which order the checks
+ * are made: a step of a trace is refused by 1 to 4, 6 or 13, a trace ends by 7 to 11, a start is refused by 10, a record that breaks a rule by 12, a table
+ * by 8, 11 or 14. */
+
 /* How a trace ended: played to its end, or by one of the refusals that end a trace. */
 enum {
     WISTERIA_ENDED = 0,            /* no byte was left where a step would begin */
