@@ -15,6 +15,7 @@ pub mod bounds;
 pub mod compare;
 pub mod coverage;
 pub mod digits;
+pub mod explained;
 #[cfg(feature = "exports")]
 pub mod exports;
 pub mod generate;
