@@ -1,6 +1,8 @@
 //! Every register's name and section, read and written, as literals beside the makers' documents; and a name exactly
 //! where the model has a register.
 
+use std::collections::BTreeMap;
+
 use bench::explained::places::register;
 use bench::model::aic::Aic;
 use bench::model::aintc::Aintc;
@@ -11,291 +13,170 @@ use bench::model::{Controller, Machine};
 
 use super::comments;
 
-/// A first and a last offset, how far they are apart, the name, and the sections of a read and a write.
-type Row = (u32, u32, u32, &'static str, &'static str, &'static str);
+/// Offsets (a first and a last one, and how far they are apart), the name, the section, and that of a write where it is
+/// another one.
+const AIC: &str = "
+000-07C/4 SMR 003, 27.8.3
+080-0FC/4 SVR 003, 27.8.4
+100 IVR 003, 27.8.5 | 003, 27.7.5
+104 FVR 003, 27.8.6
+108 ISR 003, 27.8.7
+10C IPR 003, 27.8.8
+110 IMR 003, 27.8.9
+114 CISR 003, 27.8.10
+120 IECR 003, 27.8.11
+124 IDCR 003, 27.8.12
+128 ICCR 003, 27.8.13
+12C ISCR 003, 27.8.14
+130 EOICR 003, 27.8.15
+134 SPU 003, 27.8.16
+138 DCR 003, 27.8.17
+140 FFER 003, 27.8.18
+144 FFDR 003, 27.8.19
+148 FFSR 003, 27.8.20
+";
 
-const AIC: [Row; 18] = [
-    (0x000, 0x07C, 4, "SMR", "003, 27.8.3", "003, 27.8.3"),
-    (0x080, 0x0FC, 4, "SVR", "003, 27.8.4", "003, 27.8.4"),
-    (0x100, 0x100, 0, "IVR", "003, 27.8.5", "003, 27.7.5"),
-    (0x104, 0x104, 0, "FVR", "003, 27.8.6", "003, 27.8.6"),
-    (0x108, 0x108, 0, "ISR", "003, 27.8.7", "003, 27.8.7"),
-    (0x10C, 0x10C, 0, "IPR", "003, 27.8.8", "003, 27.8.8"),
-    (0x110, 0x110, 0, "IMR", "003, 27.8.9", "003, 27.8.9"),
-    (0x114, 0x114, 0, "CISR", "003, 27.8.10", "003, 27.8.10"),
-    (0x120, 0x120, 0, "IECR", "003, 27.8.11", "003, 27.8.11"),
-    (0x124, 0x124, 0, "IDCR", "003, 27.8.12", "003, 27.8.12"),
-    (0x128, 0x128, 0, "ICCR", "003, 27.8.13", "003, 27.8.13"),
-    (0x12C, 0x12C, 0, "ISCR", "003, 27.8.14", "003, 27.8.14"),
-    (0x130, 0x130, 0, "EOICR", "003, 27.8.15", "003, 27.8.15"),
-    (0x134, 0x134, 0, "SPU", "003, 27.8.16", "003, 27.8.16"),
-    (0x138, 0x138, 0, "DCR", "003, 27.8.17", "003, 27.8.17"),
-    (0x140, 0x140, 0, "FFER", "003, 27.8.18", "003, 27.8.18"),
-    (0x144, 0x144, 0, "FFDR", "003, 27.8.19", "003, 27.8.19"),
-    (0x148, 0x148, 0, "FFSR", "003, 27.8.20", "003, 27.8.20"),
-];
+const CORE: &str = "
+000 FIQSoftInt 004, page 5
+004 FIQSoftIntClear 004, page 5
+008 FIQEnable 004, page 5
+00C FIQEnableClear 004, page 5
+010 FIQRawStatus 004, page 5
+014 FIQStatus 004, page 5
+018 IRQSoftInt 004, page 5
+01C IRQSoftIntClear 004, page 5
+020 IRQEnable 004, page 6
+024 IRQEnableClear 004, page 6
+028 IRQRawStatus 004, page 6
+02C IRQStatus 004, page 6
+";
 
-const CORE: [Row; 12] = [
-    (0x000, 0x000, 0, "FIQSoftInt", "004, page 5", "004, page 5"),
-    (
-        0x004,
-        0x004,
-        0,
-        "FIQSoftIntClear",
-        "004, page 5",
-        "004, page 5",
-    ),
-    (0x008, 0x008, 0, "FIQEnable", "004, page 5", "004, page 5"),
-    (
-        0x00C,
-        0x00C,
-        0,
-        "FIQEnableClear",
-        "004, page 5",
-        "004, page 5",
-    ),
-    (
-        0x010,
-        0x010,
-        0,
-        "FIQRawStatus",
-        "004, page 5",
-        "004, page 5",
-    ),
-    (0x014, 0x014, 0, "FIQStatus", "004, page 5", "004, page 5"),
-    (0x018, 0x018, 0, "IRQSoftInt", "004, page 5", "004, page 5"),
-    (
-        0x01C,
-        0x01C,
-        0,
-        "IRQSoftIntClear",
-        "004, page 5",
-        "004, page 5",
-    ),
-    (0x020, 0x020, 0, "IRQEnable", "004, page 6", "004, page 6"),
-    (
-        0x024,
-        0x024,
-        0,
-        "IRQEnableClear",
-        "004, page 6",
-        "004, page 6",
-    ),
-    (
-        0x028,
-        0x028,
-        0,
-        "IRQRawStatus",
-        "004, page 6",
-        "004, page 6",
-    ),
-    (0x02C, 0x02C, 0, "IRQStatus", "004, page 6", "004, page 6"),
-];
+const CIC_ALONE: &str = "
+000 REVISION 001, 2.2.1
+010 GLOBAL_ENABLE_HINT 001, 2.2.3
+020 STATUS_SET_INDEX 01, CIC | 001, 2.2.4
+024 STATUS_CLR_INDEX 01, CIC | 001, 2.2.5
+028 ENABLE_SET_INDEX 01, CIC | 001, 2.2.6
+02C ENABLE_CLR_INDEX 01, CIC | 001, 2.2.7
+034 HINT_ENABLE_SET_INDEX 01, CIC | 001, 2.2.8
+038 HINT_ENABLE_CLR_INDEX 01, CIC | 001, 2.2.9
+";
 
-const CIC: [Row; 15] = [
-    (0x000, 0x000, 0, "REVISION", "001, 2.2.1", "001, 2.2.1"),
-    (
-        0x010,
-        0x010,
-        0,
-        "GLOBAL_ENABLE_HINT",
-        "001, 2.2.3",
-        "001, 2.2.3",
-    ),
-    (0x020, 0x020, 0, "STATUS_SET_INDEX", "01, CIC", "001, 2.2.4"),
-    (0x024, 0x024, 0, "STATUS_CLR_INDEX", "01, CIC", "001, 2.2.5"),
-    (0x028, 0x028, 0, "ENABLE_SET_INDEX", "01, CIC", "001, 2.2.6"),
-    (0x02C, 0x02C, 0, "ENABLE_CLR_INDEX", "01, CIC", "001, 2.2.7"),
-    (
-        0x034,
-        0x034,
-        0,
-        "HINT_ENABLE_SET_INDEX",
-        "01, CIC",
-        "001, 2.2.8",
-    ),
-    (
-        0x038,
-        0x038,
-        0,
-        "HINT_ENABLE_CLR_INDEX",
-        "01, CIC",
-        "001, 2.2.9",
-    ),
-    (0x200, 0x27C, 4, "RAW_STATUS", "001, 2.2.11", "001, 2.2.11"),
-    (0x280, 0x2FC, 4, "ENA_STATUS", "001, 2.2.12", "001, 2.2.12"),
-    (0x300, 0x37C, 4, "ENABLE", "001, 2.2.13", "001, 2.2.13"),
-    (0x380, 0x3FC, 4, "ENABLE_CLR", "001, 2.2.14", "001, 2.2.14"),
-    (0x400, 0x7FC, 4, "CH_MAP", "001, 2.2.15", "001, 2.2.15"),
-    (0x800, 0x8FC, 4, "HINT_MAP", "001, 2.2.16", "01, CIC"),
-    (
-        0x1500,
-        0x151C,
-        4,
-        "ENABLE_HINT",
-        "001, 2.2.18",
-        "001, 2.2.18",
-    ),
-];
+const CIC: &str = "
+200-27C/4 RAW_STATUS 001, 2.2.11
+280-2FC/4 ENA_STATUS 001, 2.2.12
+300-37C/4 ENABLE 001, 2.2.13
+380-3FC/4 ENABLE_CLR 001, 2.2.14
+400-7FC/4 CH_MAP 001, 2.2.15
+800-8FC/4 HINT_MAP 001, 2.2.16 | 01, CIC
+1500-151C/4 ENABLE_HINT 001, 2.2.18
+";
 
-const PRIORITISED: [Row; 3] = [
-    (0x004, 0x004, 0, "CONTROL", "001, 2.2.2", "001, 2.2.2"),
-    (
-        0x080,
-        0x080,
-        0,
-        "GLOBAL_PRI_INDEX",
-        "001, 2.2.10",
-        "001, 1.3.5",
-    ),
-    (
-        0x900,
-        0xCFC,
-        4,
-        "HINT_PRI_INDEX",
-        "001, 2.2.17",
-        "001, 1.3.5",
-    ),
-];
+const PRIORITISED: &str = "
+004 CONTROL 001, 2.2.2
+080 GLOBAL_PRI_INDEX 001, 2.2.10 | 001, 1.3.5
+900-CFC/4 HINT_PRI_INDEX 001, 2.2.17 | 001, 1.3.5
+";
 
-const AINTC: [Row; 20] = [
-    (0x000, 0x000, 0, "REVISION", "000, 4.5.1", "000, 4.5.1"),
-    (0x010, 0x010, 0, "SYSCONFIG", "000, 4.5.2", "000, 4.5.2"),
-    (0x014, 0x014, 0, "SYSSTATUS", "000, 4.5.3", "000, 4.5.3"),
-    (0x040, 0x040, 0, "SIR_IRQ", "000, 4.5.4", "000, 4.5.4"),
-    (0x044, 0x044, 0, "SIR_FIQ", "000, 4.5.5", "000, 4.5.5"),
-    (0x048, 0x048, 0, "CONTROL", "000, 4.5.6", "000, 4.5.6"),
-    (0x04C, 0x04C, 0, "PROTECTION", "000, 4.5.7", "000, 4.5.7"),
-    (0x050, 0x050, 0, "IDLE", "000, 4.5.8", "000, 4.5.8"),
-    (0x060, 0x060, 0, "IRQ_PRIORITY", "000, 4.5.9", "000, 4.5.9"),
-    (
-        0x064,
-        0x064,
-        0,
-        "FIQ_PRIORITY",
-        "000, 4.5.10",
-        "000, 4.5.10",
-    ),
-    (0x068, 0x068, 0, "THRESHOLD", "000, 4.5.11", "000, 4.5.11"),
-    (0x080, 0x0E0, 0x20, "ITR", "000, 4.5.12", "000, 4.5.12"),
-    (0x084, 0x0E4, 0x20, "MIR", "000, 4.5.13", "000, 4.4.1"),
-    (
-        0x088,
-        0x0E8,
-        0x20,
-        "MIR_CLEAR",
-        "000, 4.5.14",
-        "000, 4.5.14",
-    ),
-    (0x08C, 0x0EC, 0x20, "MIR_SET", "000, 4.5.15", "000, 4.5.15"),
-    (0x090, 0x0F0, 0x20, "ISR_SET", "000, 4.5.16", "000, 4.5.16"),
-    (
-        0x094,
-        0x0F4,
-        0x20,
-        "ISR_CLEAR",
-        "000, 4.5.17",
-        "000, 4.5.17",
-    ),
-    (
-        0x098,
-        0x0F8,
-        0x20,
-        "PENDING_IRQ",
-        "000, 4.5.18",
-        "000, 4.5.18",
-    ),
-    (
-        0x09C,
-        0x0FC,
-        0x20,
-        "PENDING_FIQ",
-        "000, 4.5.19",
-        "000, 4.5.19",
-    ),
-    (0x100, 0x2FC, 4, "ILR", "000, 4.5.20", "000, 4.5.20"),
-];
+/// Of 33 systems, 5 channels and 32 hosts.
+const SMALL: &str = "
+004 CONTROL 001, 2.2.2
+080 GLOBAL_PRI_INDEX 001, 2.2.10 | 001, 1.3.5
+200-204/4 RAW_STATUS 001, 2.2.11
+280-284/4 ENA_STATUS 001, 2.2.12
+300-304/4 ENABLE 001, 2.2.13
+380-384/4 ENABLE_CLR 001, 2.2.14
+400-420/4 CH_MAP 001, 2.2.15
+800-804/4 HINT_MAP 001, 2.2.16 | 01, CIC
+900-97C/4 HINT_PRI_INDEX 001, 2.2.17 | 001, 1.3.5
+1500-1500/4 ENABLE_HINT 001, 2.2.18
+";
 
-/// Reads and writes every word of a map, and wants each to be named as a table says, or not at all.
-fn named(controller: &str, privilege: &str, end: u32, rows: &[Row]) {
-    let mut text = format!("{controller}\n");
-    for offset in (0..end).step_by(4) {
-        text += &format!("read {offset}{privilege}\nwrite {offset}{privilege} 0\n");
+const AINTC: &str = "
+000 REVISION 000, 4.5.1
+010 SYSCONFIG 000, 4.5.2
+014 SYSSTATUS 000, 4.5.3
+040 SIR_IRQ 000, 4.5.4
+044 SIR_FIQ 000, 4.5.5
+048 CONTROL 000, 4.5.6
+04C PROTECTION 000, 4.5.7
+050 IDLE 000, 4.5.8
+060 IRQ_PRIORITY 000, 4.5.9
+064 FIQ_PRIORITY 000, 4.5.10
+068 THRESHOLD 000, 4.5.11
+080-0E0/20 ITR 000, 4.5.12
+084-0E4/20 MIR 000, 4.5.13 | 000, 4.4.1
+088-0E8/20 MIR_CLEAR 000, 4.5.14
+08C-0EC/20 MIR_SET 000, 4.5.15
+090-0F0/20 ISR_SET 000, 4.5.16
+094-0F4/20 ISR_CLEAR 000, 4.5.17
+098-0F8/20 PENDING_IRQ 000, 4.5.18
+09C-0FC/20 PENDING_FIQ 000, 4.5.19
+100-2FC/4 ILR 000, 4.5.20
+";
+
+/// The names of a table at their offsets, each with its sections of a read and a write.
+fn rows(table: &str) -> BTreeMap<u32, [String; 2]> {
+    let mut rows = BTreeMap::new();
+    let hex = |word| u32::from_str_radix(word, 16).expect("an offset is hexadecimal");
+    for row in table.lines().filter(|row| !row.is_empty()) {
+        let words: Vec<&str> = row.splitn(3, ' ').collect();
+        let (read, write) = words[2].split_once(" | ").unwrap_or((words[2], words[2]));
+        let (first, last) = words[0].split_once('-').unwrap_or((words[0], ""));
+        let many = last.split_once('/');
+        let offsets: Vec<u32> = match many {
+            None => vec![hex(first)],
+            Some((last, apart)) => (hex(first)..=hex(last))
+                .step_by(hex(apart) as usize)
+                .collect(),
+        };
+        for (number, offset) in offsets.into_iter().enumerate() {
+            let number = many.map_or(String::new(), |_| number.to_string());
+            let place = |section| format!("{}{number} ({section})", words[1]);
+            rows.insert(offset, [place(read), place(write)]);
+        }
     }
-    let told = comments(&text);
-    for (nth, offset) in (0..end).step_by(4).enumerate() {
-        let row = rows.iter().find(|row| {
-            let within = (row.0..=row.1).contains(&offset);
-            within && (row.2 == 0 || (offset - row.0) % row.2 == 0)
-        });
-        for (way, told) in told[2 * nth..2 * nth + 2].iter().enumerate() {
-            match row {
-                None => assert!(told.starts_with("refused by 2: "), "{offset:#X}: {told}"),
-                Some(&(first, _, apart, name, read, write)) => {
-                    let number = match apart {
-                        0 => String::new(),
-                        _ => ((offset - first) / apart).to_string(),
-                    };
-                    let place = format!("{name}{number} ({})", [read, write][way]);
-                    let rest = told.strip_prefix(&place);
-                    let ends = rest.is_some_and(|rest| {
-                        rest.is_empty()
-                            || [" = 0x", " refused by ", "; "]
-                                .iter()
-                                .any(|lead| rest.starts_with(lead))
-                    });
-                    assert!(ends, "{offset:#X}: {told} and not {place}");
-                }
-            }
+    rows
+}
+
+/// Reads and writes every word of a map, and wants each to be named as the tables say, or not at all.
+fn named(controller: &str, privilege: &str, end: u32, tables: &[&str]) {
+    let rows = rows(&tables.concat());
+    let offsets: Vec<u32> = (0..end).step_by(4).collect();
+    let steps = offsets
+        .iter()
+        .map(|offset| format!("read {offset}{privilege}\nwrite {offset}{privilege} 0\n"));
+    let told = comments(&(controller.to_owned() + "\n" + &steps.collect::<String>()));
+    for (offset, told) in offsets.iter().zip(told.chunks(2)) {
+        for (way, told) in told.iter().enumerate() {
+            let rest = match rows.get(offset) {
+                None => told.strip_prefix("refused by 2: ").map(|_| ""),
+                Some(places) => told.strip_prefix(&places[way]),
+            };
+            let leads = ["", " = 0x", " refused by ", "; "];
+            let sound = |rest: &str| {
+                leads.iter().any(|lead| match rest.is_empty() {
+                    true => lead.is_empty(),
+                    false => !lead.is_empty() && rest.starts_with(lead),
+                })
+            };
+            assert!(rest.is_some_and(sound), "{controller}, {offset:#X}: {told}");
         }
     }
 }
 
 #[test]
 fn every_register_has_its_name_and_section() {
-    named("aic 0 0", "", 0x160, &AIC);
-    named("coreinterrupt 8 32 1 1", "", 0x40, &CORE);
-    named("coreinterrupt 0 0 0 0", "", 0x40, &CORE);
-    named("cic 1024 256 256 0", "", 0x1530, &CIC);
-    named("indexed 1024 256 256 0 0", "", 0x1530, &CIC);
-    let all = [&CIC[..], &PRIORITISED].concat();
+    named("aic 0 0", "", 0x160, &[AIC]);
+    named("coreinterrupt 8 32 1 1", "", 0x40, &[CORE]);
+    named("coreinterrupt 0 0 0 0", "", 0x40, &[CORE]);
+    named("cic 1024 256 256 0", "", 0x1530, &[CIC_ALONE, CIC]);
+    named("indexed 1024 256 256 0 0", "", 0x1530, &[CIC_ALONE, CIC]);
+    let all = [CIC_ALONE, CIC, PRIORITISED];
     named("indexed 1024 256 256 0 1", "", 0x1530, &all);
-    named("aintc", " 1", 0x320, &AINTC);
-    named("aintc", " 0", 0x320, &AINTC);
-}
-
-/// A part of few systems, channels and hosts has the registers of those alone.
-#[test]
-fn a_small_part_has_fewer() {
-    let rows: [Row; 11] = [
-        (0x200, 0x204, 4, "RAW_STATUS", "001, 2.2.11", "001, 2.2.11"),
-        (0x280, 0x284, 4, "ENA_STATUS", "001, 2.2.12", "001, 2.2.12"),
-        (0x300, 0x304, 4, "ENABLE", "001, 2.2.13", "001, 2.2.13"),
-        (0x380, 0x384, 4, "ENABLE_CLR", "001, 2.2.14", "001, 2.2.14"),
-        (0x400, 0x420, 4, "CH_MAP", "001, 2.2.15", "001, 2.2.15"),
-        (0x800, 0x804, 4, "HINT_MAP", "001, 2.2.16", "01, CIC"),
-        (
-            0x1500,
-            0x1500,
-            4,
-            "ENABLE_HINT",
-            "001, 2.2.18",
-            "001, 2.2.18",
-        ),
-        PRIORITISED[0],
-        PRIORITISED[1],
-        (
-            0x900,
-            0x97C,
-            4,
-            "HINT_PRI_INDEX",
-            "001, 2.2.17",
-            "001, 1.3.5",
-        ),
-        CIC[0],
-    ];
-    let rows = [&rows[..], &CIC[1..8]].concat();
-    named("indexed 33 5 32 0 1", "", 0x1530, &rows);
+    named("indexed 33 5 32 0 1", "", 0x1530, &[CIC_ALONE, SMALL]);
+    named("aintc", " 1", 0x320, &[AINTC]);
+    named("aintc", " 0", 0x320, &[AINTC]);
 }
 
 /// Whether a machine has a register at an offset, by its model.
