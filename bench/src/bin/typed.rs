@@ -1,12 +1,10 @@
 //! Runs the program that encodes typed traces on generated texts, and compares what it prints and says with the model.
 
 use std::process::ExitCode;
-use std::sync::atomic::{AtomicUsize, Ordering};
-use std::thread;
 
 #[cfg(feature = "exports")]
 use bench::compare::written;
-use bench::compare::{Outcome, MOST_FAILURES};
+use bench::compare::{on_all_processors, Outcome};
 #[cfg(feature = "exports")]
 use bench::explained::LONGEST_LINE;
 use bench::explained::{explain, Asked};
@@ -98,30 +96,17 @@ fn main() -> ExitCode {
     };
     let more: Vec<&str> = more.iter().map(String::as_str).collect();
     let program = Program::new(path, &more);
-    let [next, refused, wrong] = [0; 3].map(AtomicUsize::new);
-    let work = || loop {
-        let item = next.fetch_add(1, Ordering::Relaxed);
-        if item >= 2 * count || wrong.load(Ordering::Relaxed) >= MOST_FAILURES {
-            return;
-        }
-        match texts.compared(&program, item) {
-            Ok(no_trace) => drop(refused.fetch_add(usize::from(no_trace), Ordering::Relaxed)),
-            Err(why) => {
-                wrong.fetch_add(1, Ordering::Relaxed);
-                let text = texts.text(item);
-                let shown = text[..text.len().min(600)].escape_ascii();
-                say!("text {item}: {why}\n{shown}");
-            }
-        }
+    let compare = |item: usize, refused: &mut usize| {
+        *refused += usize::from(texts.compared(&program, item)?);
+        Ok(())
     };
-    let workers = thread::available_parallelism().map_or(1, |number| number.get());
-    thread::scope(|scope| {
-        for _ in 0..workers {
-            scope.spawn(work);
-        }
-    });
-    let (refused, wrong) = (refused.into_inner(), wrong.into_inner());
-    let texts = 2 * count;
+    let (refused, wrong) = on_all_processors(2 * count, compare);
+    for (item, why) in &wrong {
+        let text = texts.text(*item);
+        let shown = text[..text.len().min(600)].escape_ascii();
+        say!("text {item}: {why}\n{shown}");
+    }
+    let (texts, refused, wrong) = (2 * count, refused.iter().sum::<usize>(), wrong.len());
     say!("{texts} texts, {refused} of them refused, {wrong} differ");
     ExitCode::from(u8::from(wrong > 0))
 }
