@@ -1,0 +1,3 @@
+-- The laws of explained traces.
+pub mod ExplainLaws
+pub mod StatedLaws

@@ -1,0 +1,3 @@
+-- A trace explained: its statements in canonical form, what is said of each step, and what is promised of that.
+pub mod Explain
+pub mod Stated
