@@ -8,17 +8,11 @@ use steps::Recorded;
 pub fn put_deeds(out: &mut [u8], at: usize, m: Machine, x: Recorded, after: Machine) -> usize
     ensures { λ r. ⌜ (now (out .exit), r) ≡ write (now (out .entry), at) (deedWords m x after) ⌝ }
 {
-    if (m.kind == 99) | (x.privilege == 99) | (after.kind == 99) {
-        return text::put(out, at, 32);
-    }
     at
 }
 
 pub fn put_outputs(out: &mut [u8], at: usize, m: Machine, after: Machine) -> usize
     ensures { λ r. ⌜ (now (out .exit), r) ≡ write (now (out .entry), at) (outputWords m after) ⌝ }
 {
-    if (m.kind == 99) | (after.kind == 99) {
-        return text::put(out, at, 32);
-    }
     at
 }

@@ -8,26 +8,17 @@ use steps::Recorded;
 pub fn put_place(out: &mut [u8], at: usize, m: Machine, x: Recorded) -> usize
     ensures { λ r. ⌜ (now (out .exit), r) ≡ write (now (out .entry), at) (placeWords m x) ⌝ }
 {
-    if (m.kind == 99) | (x.privilege == 99) {
-        return text::put(out, at, 32);
-    }
     at
 }
 
 pub fn put_fields(out: &mut [u8], at: usize, m: Machine, x: Recorded) -> usize
     ensures { λ r. ⌜ (now (out .exit), r) ≡ write (now (out .entry), at) (fieldWords m x) ⌝ }
 {
-    if (m.kind == 99) | (x.privilege == 99) {
-        return text::put(out, at, 32);
-    }
     at
 }
 
 pub fn put_limit(out: &mut [u8], at: usize, m: Machine, x: Recorded) -> usize
     ensures { λ r. ⌜ (now (out .exit), r) ≡ write (now (out .entry), at) (limitWords m x) ⌝ }
 {
-    if (m.kind == 99) | (x.privilege == 99) {
-        return text::put(out, at, 32);
-    }
     at
 }
