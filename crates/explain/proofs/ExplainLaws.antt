@@ -77,6 +77,11 @@ module _ (w : Window) (told : Bool) (n : ℕ) (m : Machine) where
         (eq ∙ ap (λ (b : Answer). write o (pick (shows w (n + 1)) (stepLine told (n + 1) m x b) [])) g)
         ∙ ap (write o) (text-after x t ∙ ap (textFrom w told n m) (sym (trace-found told left s at x p e))) ∙ eu
 
+-- whether privileges are told is asked of the machine
+pub text-told : (w : Window) (m : Machine) (told told′ : Bool) (limit : ℕ) (s : List ℕ) (at : ℕ) (o q : List ℕ × ℕ) → told ≡ told′
+    → q ≡ write o (textFrom w told 0 m (stepsFrom told limit s at)) → q ≡ write o (textFrom w told′ 0 m (stepsFrom told′ limit s at))
+text-told w m told told′ limit s at o q e f = f ∙ ap (λ (z : Bool). write o (textFrom w z 0 m (stepsFrom z limit s at))) e
+
 -- ---- the whole
 
 pub started : (w : Window) (s : List ℕ) (m : Machine) (t : Trace) (o p q : List ℕ × ℕ) → p ≡ write o (headOf w s (m .kind))

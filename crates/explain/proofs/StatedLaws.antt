@@ -1,12 +1,12 @@
 -- Statements: how long they are, digit by digit, and a line that is made up in a room of its own.
 use Prim.Native.Nat.{ℕ, zero, suc, _+_, _-_, _*_, _/_, _%_, _≤_, _<_}
-use mathlib.Core.Path.{_≡_, refl, sym, ap, _∙_}
+use mathlib.Core.Path.{_≡_, refl, sym, ap, ap₂, _∙_}
 use mathlib.Core.Bool.{Bool, true, false}
 use mathlib.Core.List.{List, [], _∷_, _++_}
 use native.Mathlib.Numerals.{sub-one}
 use native.Mathlib.Omega.{arith}
 use lib.Dec.{ltb}
-use lib.ListN.{length, take, drop, replicate, length-append}
+use lib.ListN.{length, take, drop, replicate, length-append, length-replicate}
 use lib.Seq.{take-append-seam}
 use borrow.Author.Tests.{lt-ltb, le-ltb}
 use Rattle.words.specs.Choice.{pick}
@@ -18,11 +18,11 @@ use Rattle.numbers.specs.Promises.{toldAt}
 use Rattle.text.specs.Text.{space, hexDigit, hexOf, field, write}
 use Rattle.text.proofs.DigitLaws.{length-hex, length-field}
 use Rattle.text.proofs.Promises as Text
-use Rattle.text.proofs.WriteLaws.{rest-of, nothing}
+use Rattle.text.proofs.WriteLaws.{and-then, rest-of, nothing}
 use Rattle.phrases.specs.Phrases.{bytes}
 use Rattle.kinds.specs.Kinds.{Each, byKind, wanted}
 use Rattle.kinds.proofs.KindLaws.{KindOf, kind-of, isAic, isCore, isCic, isAintc, isIndexed, isNone, at-aic, at-core, at-cic, at-aintc, at-indexed, at-none}
-use Rattle.explain.specs.Stated.{offsetDigits, hexField, fields, kindWord, numbersAt, controller, privilegeField, statedBy, stated, gap, toColumn}
+use Rattle.explain.specs.Stated.{offsetDigits, hexField, fields, kindWord, numbersAt, controller, privilegeField, readStated, writeStated, lineStated, statedBy, stated, gap, toColumn}
 
 -- ---- digits, one at a time
 
@@ -64,10 +64,32 @@ spaces-done o p (suc left) e f = absurd (omega arith)
 
 pub in-room : (l l′ : List ℕ) (n : ℕ) (bs : List ℕ) → (l′, n) ≡ write (l, 0) bs → length bs ≤ length l → take n l′ ≡ bs
 in-room l l′ n bs e h =
-    let f : (l′, n) ≡ (bs ++ drop (length bs) l, length bs) = e ∙ Text.kept .fits l bs h in
+    let f : _≡_ {A = List ℕ × ℕ} (l′, n) (bs ++ drop (length bs) l, length bs) = e ∙ Text.kept .fits l bs h in
     let a : n ≡ length bs = ap (λ (p : List ℕ × ℕ). p .1) f in
     let b : l′ ≡ bs ++ drop (length bs) l = ap (λ (p : List ℕ × ℕ). p .0) f in
     rw (a, b) (take-append-seam bs (drop (length bs) l))
+
+in-line : (l′ : List ℕ) (n : ℕ) (bs : List ℕ) → (l′, n) ≡ write (replicate 128 0, 0) bs → length bs ≤ 128 → take n l′ ≡ bs
+in-line l′ n bs e h = in-room (replicate 128 0) l′ n bs e (rw (length-replicate {0} {A = ℕ} 128 0) h)
+
+-- ---- the parts of a statement
+
+pub columned : (o p q : List ℕ × ℕ) (l : List ℕ) (g : ℕ) → p ≡ write o l → g ≡ gap (length l) → q ≡ write p (replicate g space) → q ≡ write o (toColumn l)
+unfolding toColumn
+columned o p q l g e h f = and-then o _ _ e (f ∙ ap (λ (n : ℕ). write p (replicate n space)) h)
+
+-- of a statement that was made up in a room of 128 bytes
+pub column-so : (o q : List ℕ × ℕ) (l′ : List ℕ) (n : ℕ) (bs : List ℕ) → (l′, n) ≡ write (replicate 128 0, 0) bs → length bs ≤ 128
+    → q ≡ write o (toColumn (take n l′)) → q ≡ write o (toColumn bs)
+column-so o q l′ n bs e h f = f ∙ ap (λ (l : List ℕ). write o (toColumn l)) (in-line l′ n bs e h)
+
+pub offset-so : (o q : List ℕ × ℕ) (k v : ℕ) → k ≡ offsetDigits v → q ≡ write o (hexField k v) → q ≡ write o (hexField (offsetDigits v) v)
+offset-so o q k v h e = e ∙ ap (λ (n : ℕ). write o (hexField n v)) h
+
+pub controlled : (o p q : List ℕ × ℕ) (s : List ℕ) (kind n at : ℕ) → p ≡ write o (kindWord kind) → n ≡ wanted kind → at ≡ toldAt s 0 .place
+    → q ≡ write p (fields (numbersAt n s at)) → q ≡ write o (controller kind (numbersAt (wanted kind) s (toldAt s 0 .place)))
+unfolding controller
+controlled o p q s kind n at e h g f = and-then o _ _ e (f ∙ ap₂ (λ (k a : ℕ). write p (fields (numbersAt k s a))) h g)
 
 -- ---- how long statements are
 
@@ -91,7 +113,7 @@ length-privilege false p k h = omega arith
 
 -- where the privilege has so many bytes with its space
 pub length-stated : (told : Bool) (p k : ℕ) (x : Step) → length (field p) ≤ k → 20 ≤ k → length (statedBy told p x) ≤ 27 + k + 20
-unfolding bytes
+unfolding bytes readStated writeStated lineStated
 length-stated told p k (Read offset) h l =
     simp length-append (omega (arith, length-hexField (offsetDigits offset) offset, digits-most offset, length-privilege told p k h))
 length-stated told p k (Write offset value) h l =

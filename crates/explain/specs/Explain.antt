@@ -66,9 +66,12 @@ reasonWords m x n =
 unfoldable pub refusedWords : Machine → Recorded → ℕ → List ℕ
 refusedWords m x n = counted (bytes " refused by ") n ++ bytes ": " ++ reasonWords m x n
 
+unfoldable pub valueWords : ℕ → List ℕ
+valueWords value = bytes " = 0x" ++ hex value
+
 -- what an access that was carried out read, or wrote into which fields
 abbrev pub accessWords : Machine → Recorded → ℕ → Step → List ℕ
-accessWords m x value (Read offset) = bytes " = 0x" ++ hex value
+accessWords m x value (Read offset) = valueWords value
 accessWords m x value (Write offset v) = fieldWords m x
 accessWords m x value (Line line level) = []
 

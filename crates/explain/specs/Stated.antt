@@ -51,10 +51,19 @@ controller kind ns = kindWord kind ++ fields ns
 unfoldable pub privilegeField : Bool → ℕ → List ℕ
 privilegeField told p = pick told (field p) []
 
+unfoldable pub readStated : Bool → ℕ → ℕ → List ℕ
+readStated told p offset = bytes "read" ++ hexField (offsetDigits offset) offset ++ privilegeField told p
+
+unfoldable pub writeStated : Bool → ℕ → ℕ → ℕ → List ℕ
+writeStated told p offset value = bytes "write" ++ hexField (offsetDigits offset) offset ++ privilegeField told p ++ hexField 8 value
+
+unfoldable pub lineStated : ℕ → ℕ → List ℕ
+lineStated line level = bytes "line" ++ field line ++ field level
+
 abbrev pub statedBy : Bool → ℕ → Step → List ℕ
-statedBy told p (Read offset) = bytes "read" ++ hexField (offsetDigits offset) offset ++ privilegeField told p
-statedBy told p (Write offset value) = bytes "write" ++ hexField (offsetDigits offset) offset ++ privilegeField told p ++ hexField 8 value
-statedBy told p (Line line level) = bytes "line" ++ field line ++ field level
+statedBy told p (Read offset) = readStated told p offset
+statedBy told p (Write offset value) = writeStated told p offset value
+statedBy told p (Line line level) = lineStated line level
 
 unfoldable pub stated : Bool → Recorded → List ℕ
 stated told x = statedBy told (x .privilege) (x .step)

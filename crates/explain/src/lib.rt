@@ -2,19 +2,20 @@
 // (docs/TEXT.md, "A trace explained").
 ghost use mathlib.Core.Path.{_≡_};
 ghost use mathlib.Core.List.{[], _∷_, _++_};
-ghost use lib.ListN.{length, replicate};
+ghost use Prim.Native.Nat.{_%_};
+ghost use lib.ListN.{replicate};
 ghost use Rattle.words.specs.Choice.{pick};
 ghost use Rattle.steps.specs.Refusals.{carriedOut};
 ghost use Rattle.numbers.specs.Promises.{toldAt};
 ghost use Rattle.numbers.specs.Number.{told};
-ghost use Rattle.text.specs.Text.{space, write, laid, hexOf};
+ghost use Rattle.text.specs.Text.{space, write, laid, hexDigit, hexOf};
 ghost use Rattle.trace.specs.Trace.{stepsFrom};
 ghost use Rattle.kinds.specs.Kinds.{wanted, tellsPrivilege};
 ghost use Rattle.machine_record.specs.Promises.{Ready};
 ghost use Rattle.machine.specs.Steps.{step};
 ghost use Rattle.beginning.specs.Begin.{beginOf};
-ghost use Rattle.explain.specs.Stated.{offsetDigits, hexField, fields, kindWord, numbersAt, controller, privilegeField, statedBy, stated, gap, toColumn};
-ghost use Rattle.explain.specs.Explain.{commented, cicDocument, documentWords, controllerLine, reasonWords, refusedWords, accessWords, didWords, stepWords, stepLine};
+ghost use Rattle.explain.specs.Stated.{offsetDigits, hexField, fields, kindWord, numbersAt, controller, privilegeField, readStated, writeStated, lineStated, statedBy, stated, gap, toColumn};
+ghost use Rattle.explain.specs.Explain.{commented, cicDocument, documentWords, controllerLine, reasonWords, refusedWords, valueWords, accessWords, didWords, stepWords, stepLine};
 ghost use Rattle.explain.specs.Explain.{endReason, endLine, shows, linesFrom, endOf, textFrom, headOf, startedText, explainedBy, explainedOf, explainedWindow};
 use beginning::Begun;
 use machine::Answer;
@@ -314,23 +315,37 @@ fn put_stated_by(out: &mut [u8], told: bool, privilege: u32, step: Step) -> usiz
     ensures { λ r. ⌜ (now (out .exit), r) ≡ write (now (out .entry), 0) (statedBy told privilege step) ⌝ }
 {
     match step {
-        Step::Read(offset) => {
-            let a = text::put_all(out, 0, b"read");
-            let b = put_hex_field(out, a, offset, offset_digits(offset));
-            put_privilege(out, b, told, privilege)
-        }
-        Step::Write(offset, value) => {
-            let a = text::put_all(out, 0, b"write");
-            let b = put_hex_field(out, a, offset, offset_digits(offset));
-            let c = put_privilege(out, b, told, privilege);
-            put_hex_field(out, c, value, 8)
-        }
-        Step::Line(line, level) => {
-            let a = text::put_all(out, 0, b"line");
-            let b = text::put_field(out, a, line as u64);
-            text::put_field(out, b, level as u64)
-        }
+        Step::Read(offset) => put_read(out, told, privilege, offset),
+        Step::Write(offset, value) => put_write(out, told, privilege, offset, value),
+        Step::Line(line, level) => put_line(out, line, level),
     }
+}
+
+fn put_read(out: &mut [u8], told: bool, privilege: u32, offset: u32) -> usize
+    ensures { λ r. ⌜ (now (out .exit), r) ≡ write (now (out .entry), 0) (readStated told privilege offset) ⌝ }
+{
+    let a = text::put_all(out, 0, b"read");
+    let n = offset_digits(offset);
+    let b = put_hex_field(out, a, offset, n);
+    put_privilege(out, b, told, privilege)
+}
+
+fn put_write(out: &mut [u8], told: bool, privilege: u32, offset: u32, value: u32) -> usize
+    ensures { λ r. ⌜ (now (out .exit), r) ≡ write (now (out .entry), 0) (writeStated told privilege offset value) ⌝ }
+{
+    let a = text::put_all(out, 0, b"write");
+    let n = offset_digits(offset);
+    let b = put_hex_field(out, a, offset, n);
+    let c = put_privilege(out, b, told, privilege);
+    put_hex_field(out, c, value, 8)
+}
+
+fn put_line(out: &mut [u8], line: u32, level: u32) -> usize
+    ensures { λ r. ⌜ (now (out .exit), r) ≡ write (now (out .entry), 0) (lineStated line level) ⌝ }
+{
+    let a = text::put_all(out, 0, b"line");
+    let b = text::put_field(out, a, line as u64);
+    text::put_field(out, b, level as u64)
 }
 
 fn put_privilege(out: &mut [u8], at: usize, told: bool, privilege: u32) -> usize
@@ -378,7 +393,14 @@ fn put_digits(out: &mut [u8], at: usize, v: u32, digits: u32) -> usize
         return at;
     }
     let next = put_digits(out, at, v / 16, digits - 1);
-    text::put(out, next, text::digit((v % 16) as usize))
+    put_digit(out, next, v)
+}
+
+// The last of them.
+fn put_digit(out: &mut [u8], at: usize, v: u32) -> usize
+    ensures { λ r. ⌜ (now (out .exit), r) ≡ write (now (out .entry), at) (hexDigit (v % 16) ∷ []) ⌝ }
+{
+    text::put(out, at, text::digit((v % 16) as usize))
 }
 
 // A statement, and spaces up to the column of its comment.
@@ -392,7 +414,10 @@ fn put_column(out: &mut [u8], at: usize, statement: &[u8]) -> usize
 fn gap(n: usize) -> usize
     ensures { λ r. ⌜ r ≡ gap n ⌝ }
 {
-    if n < 28 { 28 - n } else { 1 }
+    if 28 <= n {
+        return 1;
+    }
+    28 - n
 }
 
 fn put_spaces(out: &mut [u8], at: usize, n: usize) -> usize
@@ -484,13 +509,17 @@ fn put_access(out: &mut [u8], at: usize, m: Machine, x: Recorded, value: u32, st
     ensures { λ r. ⌜ (now (out .exit), r) ≡ write (now (out .entry), at) (accessWords m x value step) ⌝ }
 {
     match step {
-        Step::Read(_) => {
-            let b = text::put_all(out, at, b" = 0x");
-            text::put_hex(out, b, value)
-        }
+        Step::Read(_) => put_value(out, at, value),
         Step::Write(_, _) => register_words::put_fields(out, at, m, x),
         Step::Line(_, _) => at,
     }
+}
+
+fn put_value(out: &mut [u8], at: usize, value: u32) -> usize
+    ensures { λ r. ⌜ (now (out .exit), r) ≡ write (now (out .entry), at) (valueWords value) ⌝ }
+{
+    let a = text::put_all(out, at, b" = 0x");
+    text::put_hex(out, a, value)
 }
 
 fn put_refused(out: &mut [u8], at: usize, m: Machine, x: Recorded, refusal: u32) -> usize
