@@ -13,6 +13,7 @@ use Rattle.steps.specs.Refusals.{carriedOut, misaligned, absent, unreadable, un
 use Rattle.steps.specs.declared.Recorded.{Recorded}
 use Rattle.steps.specs.declared.Step.{Step}
 use Rattle.steps.specs.declared.Step.the-variants.{Read, Write, Line}
+use Rattle.numbers.specs.Promises.{toldAt}
 use Rattle.numbers.proofs.Promises as Numbers
 use Rattle.text.specs.Text.{space, newline, decimal, hex, field}
 use Rattle.text.proofs.DigitLaws.{length-hex, length-below, length-decimal, length-field}
@@ -50,10 +51,10 @@ reads-fit s at (n ∷ ns) p h = (omega (arith, Numbers.kept .fits s at, h .1 .0)
 along-fit : (told : Bool) (s : List ℕ) (at : ℕ) (xs : List Recorded) (p : ℕ) → Along told s at xs p → AllWords told xs
 along-fit told s at [] p h = tt
 along-fit told s at (x ∷ xs) p h =
-    (reads-fit s at (numbersOf told x) (h .0) (Traces.kept .found told s at (h .0) x .0 (h .1 .0) .1), along-fit told s (h .0) xs p (h .1 .1))
+    (reads-fit s at (numbersOf told x) (h .0) (Traces.kept .found told s at (h .0) x .0 (h .1) .1), along-fit told s (h .0) xs p (h .2))
 
 pub steps-fit : (told : Bool) (limit : ℕ) (s : List ℕ) (at : ℕ) → AllWords told (stepsFrom told limit s at .steps)
-steps-fit told limit s at = let t = Traces.kept .trace told limit s at in along-fit told s at (stepsFrom told limit s at .steps) (t .0) (t .1 .0)
+steps-fit told limit s at = let t = Traces.kept .trace told limit s at in along-fit told s at (stepsFrom told limit s at .steps) (t .0) (t .1)
 
 pub records-fit : (limit : ℕ) (s : List ℕ) (b : Begun) → AllWords (tellsPrivilege (b .machine .kind)) (recordsFrom limit s b .steps)
 unfolding recordsFrom
@@ -137,7 +138,7 @@ line-most told n m x a h f = omega (arith, commented-most (stated told x) (stepW
 pub head-most : (s : List ℕ) (kind : ℕ) → length (controllerLine s kind) ≤ 256
 unfolding controllerLine
 head-most s kind =
-    omega (arith, commented-most (controller kind (numbersAt (wanted kind) s _)) (documentWords kind) 128 (controller-fits kind s _) (omega arith), document-most kind)
+    omega (arith, commented-most (controller kind (numbersAt (wanted kind) s (toldAt s 0 .place))) (documentWords kind) 128 (controller-fits kind s (toldAt s 0 .place)) (omega arith), document-most kind)
 
 pub end-most : (refusal offset : ℕ) → length (endLine refusal offset) ≤ 256
 unfolding endLine endReason bytes
