@@ -1,2 +1,3 @@
--- Stub.
+-- Laws of what a step did, in words.
 pub mod DeedLaws
+pub mod TextLaws

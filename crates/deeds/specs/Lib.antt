@@ -1,2 +1,2 @@
--- Stub.
+-- What a step did, in words.
 pub mod Deeds

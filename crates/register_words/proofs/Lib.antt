@@ -1,2 +1,3 @@
--- Stub.
+-- Laws of what a step touches, in words.
+pub mod FieldLaws
 pub mod RegisterLaws

@@ -1,2 +1,3 @@
--- Stub.
+-- What a step touches, in words.
+pub mod Fields
 pub mod Registers
