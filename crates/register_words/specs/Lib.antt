@@ -1,0 +1,3 @@
+-- What a step touches, in words.
+pub mod Fields
+pub mod Registers

@@ -1,0 +1,2 @@
+-- Laws of rows, and of what they say of an offset.
+pub mod RowLaws

@@ -1,0 +1,3 @@
+-- Registers in words.
+pub mod Maps
+pub mod Rows
