@@ -100,10 +100,13 @@ accessWords kind privilege o =
     pick (ltb 1 privilege) (bytes "a privilege is 0 or 1")
     (pick (eqb kind cicKind || eqb kind indexedKind) (beyondWords o) (bytes "a number is beyond its limit"))
 
+unfoldable pub levelWords : ℕ → List ℕ
+levelWords l = pick (ltb 1 l) (bytes "a level is 0 or 1") (bytes "no such line")
+
 unfoldable pub limitAt : ℕ → ℕ → Step → List ℕ
 limitAt kind privilege (Read o) = accessWords kind privilege o
 limitAt kind privilege (Write o v) = accessWords kind privilege o
-limitAt kind privilege (Line k l) = pick (ltb 1 l) (bytes "a level is 0 or 1") (bytes "no such line")
+limitAt kind privilege (Line k l) = levelWords l
 
 unfoldable pub limitWords : Machine → Recorded → List ℕ
 limitWords m x = limitAt (m .kind) (x .privilege) (x .step)

@@ -1,2 +1,4 @@
--- Laws of rows, and of what they say of an offset.
+-- Laws of rows, of what they say of an offset, and of texts.
+pub mod FitLaws
 pub mod RowLaws
+pub mod TextLaws

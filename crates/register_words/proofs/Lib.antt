@@ -1,0 +1,3 @@
+-- Laws of what a step touches, in words.
+pub mod FieldLaws
+pub mod RegisterLaws
