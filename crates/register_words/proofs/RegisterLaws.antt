@@ -78,18 +78,25 @@ bit-fits : (base w n : ℕ) → base + n < 10 ^ 4 → Fits 6 (toldBit base w n)
 unfolding toldBit bytes short clear
 bit-fits base w n h = either 6 _ _ _ (behind 2 4 _ (base + n) (either 2 _ _ _ (known 2 (bytes " ") refl) (known 2 (bytes ", ") refl)) (few 4 (base + n) (omega arith) h)) (empty 6)
 
+told-join : (l t : List ℕ) (c u : ℕ) → Fits 48 l → length l ≤ 6 * c → c < 8 → u ≡ 1 → Fits 6 t → Fits 48 (l ++ t) × (length (l ++ t) ≤ 6 * (c + u))
+told-join l t c u f h m e g =
+    let n = length-append l t in
+    (record { plain = joined 48 6 l t f g .plain; most = omega (arith, n, h, m, g .most) }, omega (arith, n, h, e, g .most))
+
+told-same : (l : List ℕ) (c u : ℕ) → Fits 48 l → length l ≤ 6 * c → Fits 48 (l ++ []) × (length (l ++ []) ≤ 6 * (c + u))
+told-same l c u f h = let n = length-append l [] in
+    (record { plain = joined 48 0 l [] f (empty 0) .plain; most = omega (arith, n, f .most) }, omega (arith, n, h))
+
 told-step : (base w n : ℕ) → Fits 48 (toldBelow base w n) × (length (toldBelow base w n) ≤ 6 * countBelow n (bit w)) → Fits 6 (toldBit base w n)
     → Fits 48 (toldBelow base w n ++ toldBit base w n) × (length (toldBelow base w n ++ toldBit base w n) ≤ 6 * (countBelow n (bit w) + one (bit w n)))
 unfolding toldBit
 told-step base w n i f =
-    pick-cases (λ (t : List ℕ). Fits 6 t → Fits 48 (toldBelow base w n ++ t) × (length (toldBelow base w n ++ t) ≤ 6 * (countBelow n (bit w) + one (bit w n))))
-    (bit w n && ltb (countBelow n (bit w)) 8)
-    (λ e g.
-    let j = joined 48 6 (toldBelow base w n) _ (i .0) g in
-    let l = ltb-true (countBelow n (bit w)) 8 (and-right (bit w n) (ltb (countBelow n (bit w)) 8) e) in
-    let u : one (bit w n) ≡ 1 = ap one (and-left (bit w n) (ltb (countBelow n (bit w)) 8) e) in
-    (record { plain = j .plain; most = omega (arith, length-append (toldBelow base w n) _, i .1, l, g .most) }, omega (arith, length-append (toldBelow base w n) _, i .1, g .most, u)))
-    (λ e g. let a = joined 48 0 (toldBelow base w n) [] (i .0) (empty 0) in (wider 48 48 _ (omega arith) (record { plain = a .plain; most = omega (arith, a .most) }), omega (arith, length-append (toldBelow base w n) [], i .1))) f
+    let l = toldBelow base w n in
+    let c = countBelow n (bit w) in
+    let u = one (bit w n) in
+    pick-cases (λ (t : List ℕ). Fits 6 t → Fits 48 (l ++ t) × (length (l ++ t) ≤ 6 * (c + u))) (bit w n && ltb c 8)
+    (λ e g. told-join l _ c u (i .0) (i .1) (ltb-true c 8 (and-right (bit w n) (ltb c 8) e)) (ap one (and-left (bit w n) (ltb c 8) e)) g)
+    (λ e g. told-same l c u (i .0) (i .1)) f
 
 -- six bytes for each that is told, at most eight
 told-fits : (base w n : ℕ) → base + n < 10 ^ 4 → Fits 48 (toldBelow base w n) × (length (toldBelow base w n) ≤ 6 * countBelow n (bit w))

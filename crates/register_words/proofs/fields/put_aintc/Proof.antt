@@ -5,6 +5,7 @@ use Rattle.text.proofs.WriteLaws.{same-length as same-len, nothing}
 use borrow.Author.Tests.{lt-ltb, le-ltb}
 use Rattle.words.proofs.ChoiceLaws.{pick-true, pick-false}
 use Rattle.phrases.specs.Phrases.{bytes}
+use borrow.Author.Needs.{needs}
 use Rattle.register_words.specs.Fields.{aintcFields}
 use Rattle.register_words.proofs.fields.put_aintc.Statement.{statement}
 use Rattle.register_words.proofs.fields.put_aintc.Tie as tie
@@ -52,6 +53,7 @@ put-aintc-spec =
     (λ c. same-len _ _ _ (returns c))
     returns
     (λ c. refl)
+    (λ c. search needs)
     (λ c κs. tt)
     (λ c. same-len _ _ _ (returns-2 c))
     returns-2
