@@ -1,0 +1,3 @@
+-- Laws of what a step did, in words.
+pub mod DeedLaws
+pub mod TextLaws

@@ -1,0 +1,2 @@
+-- What a step did, in words.
+pub mod Deeds
