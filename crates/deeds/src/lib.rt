@@ -37,7 +37,14 @@ fn put_deeds_at(out: &mut [u8], at: usize, m: Machine, x: Step, after: Machine) 
         return put_cic(out, at, m.cic, after.cic);
     }
     if kind == kinds::AINTC {
-        return put_aintc(out, at, m.aintc.irq, m.aintc.fiq, after.aintc.irq, after.aintc.fiq);
+        return put_aintc(
+            out,
+            at,
+            m.aintc.irq,
+            m.aintc.fiq,
+            after.aintc.irq,
+            after.aintc.fiq,
+        );
     }
     if kind == kinds::INDEXED {
         return put_cic(out, at, m.cic, after.cic);
@@ -201,7 +208,14 @@ fn lowest_gain(c: Cic, d: Cic) -> u32
 
 // ---- the AINTC
 
-fn put_aintc(out: &mut [u8], at: usize, irq: Chosen, fiq: Chosen, irqafter: Chosen, fiqafter: Chosen) -> usize
+fn put_aintc(
+    out: &mut [u8],
+    at: usize,
+    irq: Chosen,
+    fiq: Chosen,
+    irqafter: Chosen,
+    fiqafter: Chosen,
+) -> usize
     ensures { λ r. ⌜ (now (out .exit), r) ≡ write (now (out .entry), at) (aintcDeeds irq fiq irqafter fiqafter) ⌝ }
 {
     let a = put_choice(out, at, b" for IRQ", b"; frees IRQ", irq, irqafter);
@@ -209,7 +223,14 @@ fn put_aintc(out: &mut [u8], at: usize, irq: Chosen, fiq: Chosen, irqafter: Chos
 }
 
 // What is chosen for an output, where that is another input, or none any more.
-fn put_choice(out: &mut [u8], at: usize, chooses: &[u8], frees: &[u8], a: Chosen, b: Chosen) -> usize
+fn put_choice(
+    out: &mut [u8],
+    at: usize,
+    chooses: &[u8],
+    frees: &[u8],
+    a: Chosen,
+    b: Chosen,
+) -> usize
     ensures { λ r. ⌜ (now (out .exit), r) ≡ write (now (out .entry), at) (choiceWords (now (chooses .entry)) (now (frees .entry)) a b) ⌝ }
 {
     if b.active {
@@ -261,11 +282,32 @@ fn put_sides(out: &mut [u8], at: usize, m: Machine, after: Machine) -> usize
 {
     let a = machine_record::shown(m);
     let b = machine_record::shown(after);
-    let n = put_turn(out, at, b"; IRQ active", b"; IRQ inactive", a.first, b.first);
-    put_turn(out, n, b"; FIQ active", b"; FIQ inactive", a.second, b.second)
+    let n = put_turn(
+        out,
+        at,
+        b"; IRQ active",
+        b"; IRQ inactive",
+        a.first,
+        b.first,
+    );
+    put_turn(
+        out,
+        n,
+        b"; FIQ active",
+        b"; FIQ inactive",
+        a.second,
+        b.second,
+    )
 }
 
-fn put_turn(out: &mut [u8], at: usize, active: &[u8], inactive: &[u8], before: u32, after: u32) -> usize
+fn put_turn(
+    out: &mut [u8],
+    at: usize,
+    active: &[u8],
+    inactive: &[u8],
+    before: u32,
+    after: u32,
+) -> usize
     ensures { λ r. ⌜ (now (out .exit), r) ≡ write (now (out .entry), at) (turnWords (now (active .entry)) (now (inactive .entry)) before after) ⌝ }
 {
     if before == after {

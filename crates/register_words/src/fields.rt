@@ -99,7 +99,15 @@ fn put_side(out: &mut [u8], at: usize, count: u32, v: u32) -> usize
 // ---- the CIC
 
 // With prioritised indices: control, then the registers of every CIC.
-pub fn put_indexed(out: &mut [u8], at: usize, systems: u32, channels: u32, hosts: u32, o: u32, v: u32) -> usize
+pub fn put_indexed(
+    out: &mut [u8],
+    at: usize,
+    systems: u32,
+    channels: u32,
+    hosts: u32,
+    o: u32,
+    v: u32,
+) -> usize
     ensures { λ r. ⌜ (now (out .exit), r) ≡ write (now (out .entry), at) (indexedFields systems channels hosts o v) ⌝ }
 {
     if o == 0x004 {
@@ -109,7 +117,15 @@ pub fn put_indexed(out: &mut [u8], at: usize, systems: u32, channels: u32, hosts
 }
 
 // Words of systems, the two maps, words of hosts.
-pub fn put_cic(out: &mut [u8], at: usize, systems: u32, channels: u32, hosts: u32, o: u32, v: u32) -> usize
+pub fn put_cic(
+    out: &mut [u8],
+    at: usize,
+    systems: u32,
+    channels: u32,
+    hosts: u32,
+    o: u32,
+    v: u32,
+) -> usize
     ensures { λ r. ⌜ (now (out .exit), r) ≡ write (now (out .entry), at) (cicFields systems channels hosts o v) ⌝ }
 {
     if o < 0x200 {
@@ -119,7 +135,15 @@ pub fn put_cic(out: &mut [u8], at: usize, systems: u32, channels: u32, hosts: u3
         return put_share(out, at, b"; systems", systems, o / 4 % 32, v);
     }
     if o < 0x800 {
-        return put_map(out, at, b"; system ", b" to channel ", systems, o - 0x400, v);
+        return put_map(
+            out,
+            at,
+            b"; system ",
+            b" to channel ",
+            systems,
+            o - 0x400,
+            v,
+        );
     }
     if o < 0x900 {
         return put_map(out, at, b"; channel ", b" to host ", channels, o - 0x800, v);
@@ -199,7 +223,13 @@ fn put_route(out: &mut [u8], at: usize, v: u32) -> usize
     ensures { λ r. ⌜ (now (out .exit), r) ≡ write (now (out .entry), at) (routeWords v) ⌝ }
 {
     let fast = words::has(v, 0);
-    let a = put_either(out, at, fast, b"; to FIQ, priority ", b"; to IRQ, priority ");
+    let a = put_either(
+        out,
+        at,
+        fast,
+        b"; to FIQ, priority ",
+        b"; to IRQ, priority ",
+    );
     text::put_decimal(out, a, (v / 4 % 128) as u64)
 }
 
@@ -284,7 +314,15 @@ fn put_more(out: &mut [u8], at: usize, n: u32) -> usize
 
 // ---- the bytes of a map
 
-fn put_map(out: &mut [u8], at: usize, thing: &[u8], target: &[u8], count: u32, first: u32, v: u32) -> usize
+fn put_map(
+    out: &mut [u8],
+    at: usize,
+    thing: &[u8],
+    target: &[u8],
+    count: u32,
+    first: u32,
+    v: u32,
+) -> usize
     requires { ⌜ first ≤ 1024 ⌝ }
     ensures { λ r. ⌜ (now (out .exit), r) ≡ write (now (out .entry), at) (mapWords (now (thing .entry)) (now (target .entry)) count first v) ⌝ }
 {

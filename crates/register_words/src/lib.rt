@@ -44,7 +44,15 @@ fn put_register(out: &mut [u8], at: usize, m: Machine, written: bool, o: u32) ->
         return registers::put_core(out, at, o);
     }
     if kind == kinds::CIC {
-        return registers::put_cic(out, at, o, written, m.cic.systems, m.cic.channels, m.cic.hosts);
+        return registers::put_cic(
+            out,
+            at,
+            o,
+            written,
+            m.cic.systems,
+            m.cic.channels,
+            m.cic.hosts,
+        );
     }
     if kind == kinds::AINTC {
         return registers::put_aintc(out, at, o, written);
@@ -60,9 +68,25 @@ fn put_indexed(out: &mut [u8], at: usize, m: Machine, written: bool, o: u32) -> 
     ensures { λ r. ⌜ (now (out .exit), r) ≡ write (now (out .entry), at) (pick (eqb (m .held .choice) 1) (placeIn (indexRows written (m .cic .systems) (m .cic .channels) (m .cic .hosts)) o) (placeIn (cicRows written (m .cic .systems) (m .cic .channels) (m .cic .hosts)) o)) ⌝ }
 {
     if m.held.choice == 1 {
-        return registers::put_indices(out, at, o, written, m.cic.systems, m.cic.channels, m.cic.hosts);
+        return registers::put_indices(
+            out,
+            at,
+            o,
+            written,
+            m.cic.systems,
+            m.cic.channels,
+            m.cic.hosts,
+        );
     }
-    registers::put_cic(out, at, o, written, m.cic.systems, m.cic.channels, m.cic.hosts)
+    registers::put_cic(
+        out,
+        at,
+        o,
+        written,
+        m.cic.systems,
+        m.cic.channels,
+        m.cic.hosts,
+    )
 }
 
 // A line that there is.

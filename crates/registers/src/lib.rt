@@ -128,7 +128,15 @@ fn put_core_irq(out: &mut [u8], at: usize, o: u32) -> usize
 }
 
 // A CIC: registers that stand alone, then those that repeat.
-pub fn put_cic(out: &mut [u8], at: usize, o: u32, written: bool, systems: u32, channels: u32, hosts: u32) -> usize
+pub fn put_cic(
+    out: &mut [u8],
+    at: usize,
+    o: u32,
+    written: bool,
+    systems: u32,
+    channels: u32,
+    hosts: u32,
+) -> usize
     ensures { λ r. ⌜ (now (out .exit), r) ≡ write (now (out .entry), at) (placeIn (cicRows written systems channels hosts) o) ⌝ }
 {
     if o == 0x000 {
@@ -138,28 +146,78 @@ pub fn put_cic(out: &mut [u8], at: usize, o: u32, written: bool, systems: u32, c
         return put_named(out, at, b"GLOBAL_ENABLE_HINT", b"001, 2.2.3");
     }
     if o == 0x020 {
-        return put_by(out, at, written, b"STATUS_SET_INDEX", b"01, CIC", b"001, 2.2.4");
+        return put_by(
+            out,
+            at,
+            written,
+            b"STATUS_SET_INDEX",
+            b"01, CIC",
+            b"001, 2.2.4",
+        );
     }
     if o == 0x024 {
-        return put_by(out, at, written, b"STATUS_CLR_INDEX", b"01, CIC", b"001, 2.2.5");
+        return put_by(
+            out,
+            at,
+            written,
+            b"STATUS_CLR_INDEX",
+            b"01, CIC",
+            b"001, 2.2.5",
+        );
     }
     if o == 0x028 {
-        return put_by(out, at, written, b"ENABLE_SET_INDEX", b"01, CIC", b"001, 2.2.6");
+        return put_by(
+            out,
+            at,
+            written,
+            b"ENABLE_SET_INDEX",
+            b"01, CIC",
+            b"001, 2.2.6",
+        );
     }
     if o == 0x02C {
-        return put_by(out, at, written, b"ENABLE_CLR_INDEX", b"01, CIC", b"001, 2.2.7");
+        return put_by(
+            out,
+            at,
+            written,
+            b"ENABLE_CLR_INDEX",
+            b"01, CIC",
+            b"001, 2.2.7",
+        );
     }
     if o == 0x034 {
-        return put_by(out, at, written, b"HINT_ENABLE_SET_INDEX", b"01, CIC", b"001, 2.2.8");
+        return put_by(
+            out,
+            at,
+            written,
+            b"HINT_ENABLE_SET_INDEX",
+            b"01, CIC",
+            b"001, 2.2.8",
+        );
     }
     if o == 0x038 {
-        return put_by(out, at, written, b"HINT_ENABLE_CLR_INDEX", b"01, CIC", b"001, 2.2.9");
+        return put_by(
+            out,
+            at,
+            written,
+            b"HINT_ENABLE_CLR_INDEX",
+            b"01, CIC",
+            b"001, 2.2.9",
+        );
     }
     put_cic_groups(out, at, o, written, systems, channels, hosts)
 }
 
 // Those of a CIC that repeat, as many as are there.
-fn put_cic_groups(out: &mut [u8], at: usize, o: u32, written: bool, systems: u32, channels: u32, hosts: u32) -> usize
+fn put_cic_groups(
+    out: &mut [u8],
+    at: usize,
+    o: u32,
+    written: bool,
+    systems: u32,
+    channels: u32,
+    hosts: u32,
+) -> usize
     ensures { λ r. ⌜ (now (out .exit), r) ≡ write (now (out .entry), at) (placeIn (cicGroups written systems channels hosts) o) ⌝ }
 {
     if in_words_of(o, 0x200, 32, systems) {
@@ -178,7 +236,16 @@ fn put_cic_groups(out: &mut [u8], at: usize, o: u32, written: bool, systems: u32
         return put_word(out, at, o, 0x400, b"CH_MAP", b"001, 2.2.15");
     }
     if in_quarters_of(o, 0x800, 64, channels) {
-        return put_word_by(out, at, o, written, 0x800, b"HINT_MAP", b"001, 2.2.16", b"01, CIC");
+        return put_word_by(
+            out,
+            at,
+            o,
+            written,
+            0x800,
+            b"HINT_MAP",
+            b"001, 2.2.16",
+            b"01, CIC",
+        );
     }
     if in_words_of(o, 0x1500, 8, hosts) {
         return put_word(out, at, o, 0x1500, b"ENABLE_HINT", b"001, 2.2.18");
@@ -187,17 +254,41 @@ fn put_cic_groups(out: &mut [u8], at: usize, o: u32, written: bool, systems: u32
 }
 
 // A CIC with prioritised indices: theirs, then those of every CIC.
-pub fn put_indices(out: &mut [u8], at: usize, o: u32, written: bool, systems: u32, channels: u32, hosts: u32) -> usize
+pub fn put_indices(
+    out: &mut [u8],
+    at: usize,
+    o: u32,
+    written: bool,
+    systems: u32,
+    channels: u32,
+    hosts: u32,
+) -> usize
     ensures { λ r. ⌜ (now (out .exit), r) ≡ write (now (out .entry), at) (placeIn (indexRows written systems channels hosts) o) ⌝ }
 {
     if o == 0x004 {
         return put_named(out, at, b"CONTROL", b"001, 2.2.2");
     }
     if o == 0x080 {
-        return put_by(out, at, written, b"GLOBAL_PRI_INDEX", b"001, 2.2.10", b"001, 1.3.5");
+        return put_by(
+            out,
+            at,
+            written,
+            b"GLOBAL_PRI_INDEX",
+            b"001, 2.2.10",
+            b"001, 1.3.5",
+        );
     }
     if in_single(o, 0x900, 256, hosts) {
-        return put_word_by(out, at, o, written, 0x900, b"HINT_PRI_INDEX", b"001, 2.2.17", b"001, 1.3.5");
+        return put_word_by(
+            out,
+            at,
+            o,
+            written,
+            0x900,
+            b"HINT_PRI_INDEX",
+            b"001, 2.2.17",
+            b"001, 1.3.5",
+        );
     }
     put_cic(out, at, o, written, systems, channels, hosts)
 }
@@ -250,7 +341,16 @@ fn put_aintc_banks(out: &mut [u8], at: usize, o: u32, written: bool) -> usize
         return put_bank(out, at, o, 0x080, b"ITR", b"000, 4.5.12");
     }
     if in_banks(o, 0x084) {
-        return put_bank_by(out, at, o, written, 0x084, b"MIR", b"000, 4.5.13", b"000, 4.4.1");
+        return put_bank_by(
+            out,
+            at,
+            o,
+            written,
+            0x084,
+            b"MIR",
+            b"000, 4.5.13",
+            b"000, 4.4.1",
+        );
     }
     if in_banks(o, 0x088) {
         return put_bank(out, at, o, 0x088, b"MIR_CLEAR", b"000, 4.5.14");
@@ -382,7 +482,14 @@ fn put_numbered(out: &mut [u8], at: usize, name: &[u8], n: u32, section: &[u8]) 
 }
 
 // One of which reads and writes are described apart.
-fn put_by(out: &mut [u8], at: usize, written: bool, name: &[u8], reading: &[u8], writing: &[u8]) -> usize
+fn put_by(
+    out: &mut [u8],
+    at: usize,
+    written: bool,
+    name: &[u8],
+    reading: &[u8],
+    writing: &[u8],
+) -> usize
     ensures { λ r. ⌜ (now (out .exit), r) ≡ write (now (out .entry), at) (named (now (name .entry)) (pick written (now (writing .entry)) (now (reading .entry)))) ⌝ }
 {
     if written {
@@ -424,7 +531,16 @@ fn put_bank(out: &mut [u8], at: usize, o: u32, first: u32, name: &[u8], section:
     put_numbered(out, at, name, n, section)
 }
 
-fn put_word_by(out: &mut [u8], at: usize, o: u32, written: bool, first: u32, name: &[u8], reading: &[u8], writing: &[u8]) -> usize
+fn put_word_by(
+    out: &mut [u8],
+    at: usize,
+    o: u32,
+    written: bool,
+    first: u32,
+    name: &[u8],
+    reading: &[u8],
+    writing: &[u8],
+) -> usize
     ensures { λ r. ⌜ (now (out .exit), r) ≡ write (now (out .entry), at) (numbered (now (name .entry)) ((o - first) / 4) (pick written (now (writing .entry)) (now (reading .entry)))) ⌝ }
 {
     if written {
@@ -433,7 +549,16 @@ fn put_word_by(out: &mut [u8], at: usize, o: u32, written: bool, first: u32, nam
     put_word(out, at, o, first, name, reading)
 }
 
-fn put_bank_by(out: &mut [u8], at: usize, o: u32, written: bool, first: u32, name: &[u8], reading: &[u8], writing: &[u8]) -> usize
+fn put_bank_by(
+    out: &mut [u8],
+    at: usize,
+    o: u32,
+    written: bool,
+    first: u32,
+    name: &[u8],
+    reading: &[u8],
+    writing: &[u8],
+) -> usize
     ensures { λ r. ⌜ (now (out .exit), r) ≡ write (now (out .entry), at) (numbered (now (name .entry)) ((o - first) / 0x20) (pick written (now (writing .entry)) (now (reading .entry)))) ⌝ }
 {
     if written {
