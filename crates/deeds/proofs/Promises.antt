@@ -23,7 +23,7 @@ use Rattle.cic_hosts.specs.Hosts.{asserted}
 use Rattle.aintc_record.specs.declared.Chosen.{Chosen}
 use Rattle.machine_record.specs.declared.Machine.{Machine}
 use Rattle.machine_record.specs.Shown.{shown}
-use Rattle.deeds.specs.Deeds.{openedWords, closedWords, ends, entryWords, sameSeen, seenWords, gains, furtherWords, hostWords, gainWords, chosenWords, choiceWords, turnWords, sideWords}
+use Rattle.deeds.specs.Deeds.{openedWords, closedWords, ends, entryWords, sameSeen, seenWords, gains, furtherWords, hostWords, gainWords, cicDeeds, chosenWords, choiceWords, aintcDeeds, turnWords, sideWords}
 use Rattle.deeds.specs.Promises.{Promises}
 
 -- ---- the AIC
@@ -112,7 +112,15 @@ module _ (what : List ℕ) (c d : Cic) where
       sym (pick-false _ (ne-eqb (countBelow 256 (gains c d)) 0 (λ z. omega (arith, z, h))))
       ∙ ap (λ (l : List ℕ). counted what (lowestBelow 256 (gains c d)) ++ l) (sym (pick-false _ (ne-eqb (countBelow 256 (gains c d)) 1 (λ z. omega (arith, z, h)))))
 
+hosts : (c d : Cic) → cicDeeds c d ≡ gainWords (bytes "; asserts host ") c d ++ gainWords (bytes "; ends host ") d c
+unfolding cicDeeds
+hosts c d = refl
+
 -- ---- the AINTC
+
+inputs : (i f j g : Chosen) → aintcDeeds i f j g ≡ choiceWords (bytes " for IRQ") (bytes "; frees IRQ") i j ++ choiceWords (bytes " for FIQ") (bytes "; frees FIQ") f g
+unfolding aintcDeeds
+inputs i f j g = refl
 
 module _ (w f : List ℕ) (a b : Chosen) where
   told-choice : b .active ≡ true → (a .active && eqb (a .number) (b .number)) ≡ false → b .number < 128
@@ -191,6 +199,8 @@ kept =
       remembers = remembers;
       remembersNone = remembers-none;
       gained = gained;
+      hosts = hosts;
+      inputs = inputs;
       none = none;
       single = single;
       several = several;

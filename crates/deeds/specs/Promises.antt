@@ -17,7 +17,7 @@ use Rattle.cic_hosts.specs.Hosts.{asserted}
 use Rattle.aintc_record.specs.declared.Chosen.{Chosen}
 use Rattle.machine_record.specs.declared.Machine.{Machine}
 use Rattle.machine_record.specs.Shown.{shown}
-use Rattle.deeds.specs.Deeds.{entryWords, seenWords, gains, gainWords, choiceWords, sideWords}
+use Rattle.deeds.specs.Deeds.{entryWords, seenWords, gains, gainWords, cicDeeds, choiceWords, aintcDeeds, sideWords}
 
 pub record Promises : Type 0 where
   -- ---- the AIC
@@ -42,6 +42,8 @@ pub record Promises : Type 0 where
 
   -- a host is gained exactly if it is asserted after and was not before; one that ended is gained the other way round (01, CIC, outputs)
   pub gained : (c d : Cic) (h : ℕ) → (gains c d h ≡ true) ↔ ((asserted d (hostNumber h) ≡ true) × (asserted c (hostNumber h) ≡ false))
+  -- those that became asserted are told first, then those that are no longer
+  pub hosts : (c d : Cic) → cicDeeds c d ≡ gainWords (bytes "; asserts host ") c d ++ gainWords (bytes "; ends host ") d c
   -- of several the lowest is told, and how many more
   pub none : (what : List ℕ) (c d : Cic) → countBelow 256 (gains c d) ≡ 0 → gainWords what c d ≡ []
   pub single : (what : List ℕ) (c d : Cic) → countBelow 256 (gains c d) ≡ 1 → gainWords what c d ≡ counted what (lowestBelow 256 (gains c d)) ++ []
@@ -57,6 +59,9 @@ pub record Promises : Type 0 where
   pub frees : (w f : List ℕ) (a b : Chosen) → b .active ≡ false → a .active ≡ true → choiceWords w f a b ≡ f
   pub keeps : (w f : List ℕ) (a b : Chosen) → b .active ≡ true → a .active ≡ true → a .number ≡ b .number → choiceWords w f a b ≡ []
   pub stays : (w f : List ℕ) (a b : Chosen) → b .active ≡ false → a .active ≡ false → choiceWords w f a b ≡ []
+  -- of IRQ first, then of FIQ
+  pub inputs : (i f j g : Chosen)
+      → aintcDeeds i f j g ≡ choiceWords (bytes " for IRQ") (bytes "; frees IRQ") i j ++ choiceWords (bytes " for FIQ") (bytes "; frees FIQ") f g
   -- ---- outputs: those of which the column of a listing changed (01, House trace)
 
   pub unchanged : (m a : Machine) → shown m .first ≡ shown a .first → shown m .second ≡ shown a .second → sideWords m a ≡ []
