@@ -1,8 +1,9 @@
 /* Serves many traces, tables and questions in one process through the proved library, for machines whose Rust cannot link its x86-64 code.
  *
  * Standard input has requests and standard output the replies, all numbers 32 bits, lowest byte first:
- *   request: what is asked (0 the listing of a trace, 1 the stack of a table, 2 the words looked at after a trace, 3 the figures of a trace), its length,
- *            step limit (0 for a table), room (the offset that would be read, for words looked at), then the trace or table;
+ *   request: what is asked (0 the listing of a trace, 1 the stack of a table, 2 the words looked at after a trace, 3 the figures of a trace, 4 its
+ *            explanation, 5 that of some steps), its length, step limit (0 for a table), room (the offset that would be read, for words looked at), then
+ *            the trace or table; where some steps are asked for the number of the first and how many there are stand before the trace;
  *   reply:   bytes written, bytes changed behind them, then the bytes written; of words looked at their number in decimal and " words\n". Figures are 100
  *            numbers: the steps played and refused, the refusal that ended the play and its offset, then for each of 32 sources the handlers started, for
  *            each the most started while it waited, and for each the most entries open while it was open.
@@ -15,11 +16,13 @@ typedef __SIZE_TYPE__ size_t;
 typedef __UINT8_TYPE__ uint8_t;
 typedef __UINT32_TYPE__ uint32_t;
 
-enum { READ = 0, WRITE = 1, EXIT = 231, LARGEST = 1 << 22, UNTOUCHED = 0xA5 };
-enum { LISTING = 0, STACK = 1, LOOKED = 2, FIGURES = 3, SOURCES = 32, NUMBERS = 4 + 3 * SOURCES };
+enum { READ = 0, WRITE = 1, EXIT = 231, LARGEST = 1 << 23, UNTOUCHED = 0xA5 };
+enum { LISTING = 0, STACK = 1, LOOKED = 2, FIGURES = 3, EXPLANATION = 4, PART = 5, SOURCES = 32, NUMBERS = 4 + 3 * SOURCES };
 
 /* The proved functions: include/wisteria.h says what each number counts. */
 size_t wisteria_list(const uint8_t *trace, size_t trace_len, uint32_t limit, uint8_t *out, size_t out_len);
+size_t wisteria_explain(const uint8_t *trace, size_t trace_len, uint32_t limit, uint8_t *out, size_t out_len);
+size_t wisteria_explain_window(const uint8_t *trace, size_t trace_len, uint32_t limit, uint32_t first, uint32_t steps, uint8_t *out, size_t out_len);
 size_t wisteria_stack(const uint8_t *text, size_t text_len, uint8_t *out, size_t out_len);
 uint32_t wisteria_looked(const uint8_t *trace, size_t trace_len, uint32_t limit, uint32_t offset);
 uint32_t wisteria_figures(const uint8_t *trace, size_t trace_len, uint32_t limit, uint32_t *started, uint32_t *waited, uint32_t *entries);
@@ -118,6 +121,10 @@ static size_t answer(uint32_t asked, uint32_t length, uint32_t limit, uint32_t r
         return wisteria_list(input, length, limit, output, room);
     case STACK:
         return wisteria_stack(input, length, output, room);
+    case EXPLANATION:
+        return wisteria_explain(input, length, limit, output, room);
+    case PART:
+        return wisteria_explain_window(input + 8, length - 8, limit, number(input), number(input + 4), output, room);
     default:
         return figures(length, limit);
     }
@@ -126,7 +133,7 @@ static size_t answer(uint32_t asked, uint32_t length, uint32_t limit, uint32_t r
 static void serve(const uint8_t *request)
 {
     uint32_t asked = number(request), length = number(request + 4), limit = number(request + 8), room = number(request + 12);
-    if (asked > FIGURES || length > LARGEST || move_all(READ, 0, input, length) < length)
+    if (asked > PART || (asked == PART && length < 8) || length > LARGEST || move_all(READ, 0, input, length) < length)
         end(1);
     if (asked == LOOKED) {
         reply_with(tell_words(wisteria_looked(input, length, limit, room)), 0, LARGEST);

@@ -1,6 +1,6 @@
 /* A caller in C: the example of document 01 through the proved library and its header, the empty trace, traces that end at a limit and beside it, the
- * words that a read of a prioritised index looks at, the figures of traces, typed tables with a figure and with each refusal, and a CoreInterrupt that is
- * lent: where its words lie, starts and steps of each kind, and each refusal.
+ * words that a read of a prioritised index looks at, the figures of traces, typed tables with a figure and with each refusal, a trace explained, encoded
+ * again and refused, and a CoreInterrupt that is lent: where its words lie, starts and steps of each kind, and each refusal.
  * It prints what differs, and ends with 1 where something does. */
 #include "wisteria.h"
 
@@ -334,6 +334,35 @@ static void lent_refusals(void)
     expect("the words around it", lent.before == 0xA5A5A5A5 && lent.behind == 0xA5A5A5A5);
 }
 
+/* A text encoded: its bytes, what was expected, in which line and as which word. */
+static void encoded(const char *what, const uint8_t *text, size_t length, const uint8_t *trace, size_t bytes, size_t expected, size_t line, size_t word)
+{
+    uint8_t out[WISTERIA_LONGEST / 64];
+    size_t refusal[3] = {99, 99, 99};
+    expect(what, wisteria_encode(text, length, out, sizeof out, refusal) == bytes);
+    expect(what, memcmp(out, trace, bytes) == 0);
+    expect(what, refusal[0] == expected && refusal[1] == line && refusal[2] == word);
+}
+
+static void explanations(void)
+{
+    static const uint8_t trace[] = {0x00, 0x00, 0x00, 0x02, 0x14, 0x23, 0x03, 0x05, 0x01, 0x01, 0x02};
+    static uint8_t out[WISTERIA_EXPLAIN_ROOM(3)], part[sizeof out];
+    size_t bytes = wisteria_explain(trace, sizeof trace, 3, out, sizeof out), of_part, begins = bytes;
+    expect("a trace explained", bytes > 28 && memcmp(out, "aic 0 0                     # 003", 33) == 0);
+    encoded("an explanation", out, bytes, trace, sizeof trace, WISTERIA_TAKEN, 0, 0);
+    while (begins > 1 && out[begins - 2] != '\n')
+        begins--;
+    of_part = wisteria_explain_window(trace, sizeof trace, 3, 3, 9, part, sizeof part);
+    expect("its third step", of_part == bytes - (begins - 1) && memcmp(part, out + begins - 1, of_part) == 0);
+    expect("its third line", memcmp(part, "read 0x002                  # 3", 31) == 0);
+    expect("a room of 5 bytes", wisteria_explain(trace, sizeof trace, 3, part, 5) == 5 && memcmp(part, "aic 0", 5) == 0);
+    encoded("no controller", BYTES("# nothing"), trace, 0, WISTERIA_A_CONTROLLER, 1, 1);
+    encoded("no step", BYTES("aic 0 0\nwait"), trace, 3, WISTERIA_A_STEP, 2, 1);
+    encoded("no number", BYTES("aic 0 0\n\nread x"), trace, 3, WISTERIA_A_NUMBER, 3, 2);
+    encoded("a number too many", BYTES("aic 0 0 0"), trace, 0, WISTERIA_THE_LINE_END, 1, 4);
+}
+
 int main(void)
 {
     worked_example();
@@ -343,6 +372,7 @@ int main(void)
     figures();
     stacks();
     typing();
+    explanations();
     lent_layout();
     lent_refusals();
     return wrong;

@@ -1,5 +1,5 @@
 /* Lists and plays recorded traces of register accesses and line changes, says how many words a read of an index looks at, counts what the sources of an
- * AIC did, says the stack that a priority table needs, and steps a CoreInterrupt that the caller holds, for callers in C and C++.
+ * AIC did, says the stack that a priority table needs, explains a trace and encodes it from text, and steps a CoreInterrupt that the caller holds, for callers in C and C++.
  *
  * The functions are those of crates/exports, proved to answer what its contracts say for every trace, limit, text and record. Link
  * libexports.a, which `rt staticlib exports` writes (x86-64); bench/prepare also makes it for other machines.
@@ -11,7 +11,7 @@
  *   - core points to a struct wisteria_core that nothing else uses during the call, whatever its words are.
  * No function keeps a pointer, allocates memory, reads or writes anything else, or fails. Each may be called from several threads at once.
  *
- * A trace or text longer than 65,536 bytes is refused as a whole, so at most 65,537 bytes of a longer one need to be handed over.
+ * A trace or table longer than 65,536 bytes is refused as a whole, so at most 65,537 bytes of a longer one need to be handed over.
  */
 #ifndef WISTERIA_H
 #define WISTERIA_H
@@ -102,6 +102,35 @@ uint32_t wisteria_figures(const uint8_t *trace, size_t trace_len, uint32_t limit
  *   E 11 65536   the text has more than 65,536 bytes, whatever they are.
  * Answers the number of bytes written, at most out_len, with what finds no room dropped as above. */
 size_t wisteria_stack(const uint8_t *text, size_t text_len, uint8_t *out, size_t out_len);
+
+/* A number of bytes that any explanation of at most `limit` steps fits, where `limit` is at most 99,999: at most 256 for each line. */
+#define WISTERIA_EXPLAIN_ROOM(limit) (256 * (size_t)(limit) + 512)
+
+/* The longest text that wisteria_encode takes, in bytes: an explanation of WISTERIA_LIMIT steps is no longer. */
+#define WISTERIA_LONGEST_TEXT 5242880
+
+/* Writes the trace explained, of which at most `limit` steps are played, to the start of out: its statements, each with the step's number and what it did
+ * in the maker's words (docs/TEXT.md). Answers the number of bytes written, at most out_len, with what finds no room dropped as above. */
+size_t wisteria_explain(const uint8_t *trace, size_t trace_len, uint32_t limit, uint8_t *out, size_t out_len);
+
+/* The lines of the steps first to first + steps - 1 that are played, counted from 1, and nothing else: neither the controller's line nor a last E. */
+size_t wisteria_explain_window(const uint8_t *trace, size_t trace_len, uint32_t limit, uint32_t first, uint32_t steps, uint8_t *out, size_t out_len);
+
+/* What wisteria_encode may have expected. */
+enum {
+    WISTERIA_TAKEN = 0,          /* nothing else: the text is taken */
+    WISTERIA_A_CONTROLLER = 1,   /* aic, coreinterrupt, cic, aintc or indexed */
+    WISTERIA_A_STEP = 2,         /* read, write or line */
+    WISTERIA_A_NUMBER = 3,       /* a number of at most 32 bits */
+    WISTERIA_THE_LINE_END = 4,   /* the end of the line */
+    WISTERIA_A_SHORTER_TRACE = 5, /* a trace of at most WISTERIA_LONGEST bytes */
+    WISTERIA_A_SHORTER_TEXT = 6  /* a text of at most WISTERIA_LONGEST_TEXT bytes */
+};
+
+/* Writes the bytes of the trace that a text stands for (docs/TEXT.md) to the start of out, at most WISTERIA_LONGEST. refusal points to three numbers, which
+ * nothing else uses: what was expected, 0 where the text is taken; in which line; and as which word of it, each counted from 1. All three are written.
+ * Answers the number of bytes written, at most out_len, as above; of a refused text they are those of the statements before the one at fault. */
+size_t wisteria_encode(const uint8_t *text, size_t text_len, uint8_t *out, size_t out_len, size_t *refusal);
 
 /* One side of a CoreInterrupt. Bit n of the last three words is that of source n. */
 struct wisteria_core_side {

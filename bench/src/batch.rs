@@ -8,6 +8,7 @@ use std::sync::mpsc::{self, Receiver};
 use std::thread;
 
 use crate::compare::Outcome;
+use crate::explained::Asked as Explained;
 use crate::generate::Case;
 use crate::looked::Question;
 use crate::model::aic::SOURCES;
@@ -26,6 +27,10 @@ pub enum Asked {
     Looked = 2,
     /// The figures of a trace, as numbers.
     Figures = 3,
+    /// The explanation of a trace.
+    Explanation = 4,
+    /// That of some of its steps: two numbers before the trace are the first step, and how many.
+    Part = 5,
 }
 
 /// What is asked for, the step limit (0 for a table), the room or, for words looked at, the offset that is read, and the
@@ -53,6 +58,20 @@ impl Request {
             limit: case.limit,
             room: FIGURES,
             input: case.trace.clone(),
+        }
+    }
+
+    pub fn explanation(explained: &Explained) -> Request {
+        let (asked, mut input) = match explained.window {
+            None => (Asked::Explanation, Vec::new()),
+            Some((first, steps)) => (Asked::Part, [first, steps].map(u32::to_le_bytes).concat()),
+        };
+        input.extend(&explained.case.trace);
+        Request {
+            asked,
+            limit: explained.case.limit,
+            room: explained.ample_room(),
+            input,
         }
     }
 
@@ -91,6 +110,8 @@ impl Request {
             Some(1) => Asked::Stack,
             Some(2) => Asked::Looked,
             Some(3) => Asked::Figures,
+            Some(4) => Asked::Explanation,
+            Some(5) => Asked::Part,
             Some(_) => return Err(io::ErrorKind::InvalidData.into()),
         };
         let mut input = vec![0; read_number(from)? as usize];

@@ -52,31 +52,15 @@ pub enum Call {
     },
 }
 
-/// The sorts of calls, which are the first words of their lines.
-#[derive(Clone, Copy, Debug, PartialEq, Eq, PartialOrd, Ord, Hash)]
-pub enum Sort {
-    Add,
-    Connect,
-    Pin,
-    Write,
-    Read,
-    Outputs,
-    Input,
-    Chain,
+listed! {
+    /// The sorts of calls, which are the first words of their lines.
+    #[derive(Clone, Copy, Debug, PartialEq, Eq, PartialOrd, Ord, Hash)]
+    pub enum Sort {
+        Add, Connect, Pin, Write, Read, Outputs, Input, Chain
+    }
 }
 
 impl Sort {
-    pub const ALL: [Sort; 8] = [
-        Sort::Add,
-        Sort::Connect,
-        Sort::Pin,
-        Sort::Write,
-        Sort::Read,
-        Sort::Outputs,
-        Sort::Input,
-        Sort::Chain,
-    ];
-
     /// How many numbers follow the refusal in an answer.
     pub fn values(self) -> usize {
         match self {

@@ -1,5 +1,8 @@
 //! The comparison itself: another side prints a text for the same cases, and every byte has to be the model's.
 
+use std::sync::atomic::{AtomicUsize, Ordering};
+use std::sync::Mutex;
+use std::thread;
 use std::time::{Duration, Instant};
 
 use crate::batch::Request;
@@ -207,6 +210,41 @@ pub fn compare<S: Subject>(
         }
     }
     summary
+}
+
+/// Compares numbered things on all processors, each with a tally of its own. After some that differ the rest is not worth
+/// the wait. Answers the tallies, and the numbers of those that differ with how.
+pub fn on_all_processors<T: Default + Send>(
+    count: usize,
+    compare: impl Fn(usize, &mut T) -> Result<(), String> + Sync,
+) -> (Vec<T>, Vec<(usize, String)>) {
+    let threads = thread::available_parallelism().map_or(2, usize::from);
+    let next = AtomicUsize::new(0);
+    let differ = Mutex::new(Vec::new());
+    let told = || differ.lock().expect("a comparison does not panic");
+    let work = || {
+        let mut tally = T::default();
+        while told().len() < MOST_FAILURES {
+            let number = next.fetch_add(1, Ordering::Relaxed);
+            if number >= count {
+                break;
+            }
+            if let Err(why) = compare(number, &mut tally) {
+                told().push((number, why));
+            }
+        }
+        tally
+    };
+    let tallies = thread::scope(|scope| {
+        let workers: Vec<_> = (0..threads).map(|_| scope.spawn(work)).collect();
+        let tallies = workers.into_iter().map(|worker| worker.join());
+        tallies
+            .map(|tally| tally.expect("a comparison does not panic"))
+            .collect()
+    });
+    let mut differ = std::mem::take(&mut *told());
+    differ.sort();
+    (tallies, differ)
 }
 
 /// The text of a case by the model, as far as there is room for it.

@@ -115,65 +115,42 @@ pub enum Seen {
     Nobody,
 }
 
-/// What came between that read and a write of IVR. Of a selected source only what concerns it counts, where nobody was
-/// selected what concerns any source.
-#[derive(Clone, Copy, Debug, PartialEq, Eq, PartialOrd, Ord, Hash)]
-pub enum Since {
-    Nothing,
-    /// Its memory was cleared by command.
-    Cleared,
-    Set,
-    Disabled,
-    Forced,
-    Retyped,
-    Reordered,
-    /// Its line took it away.
-    Gone,
-    Vector,
-    Spurious,
-    /// FVR was read.
-    Fast,
-    /// At the write another candidate is ahead of it.
-    Overtaken,
-    /// An entry was closed.
-    Closed,
-    /// At the write seven entries are open.
-    LastRoom,
-    /// At the write eight entries are open.
-    Full,
-    ReadAgain,
-    /// DCR was written with bit 0 set: the mask was turned, or not.
-    Masked,
-    Stayed,
-    /// The mode was left, and the write came outside it.
-    Left,
-    /// The mode was left and entered again.
-    Reentered,
-}
-
-impl Since {
-    pub const ALL: [Since; 20] = [
-        Since::Nothing,
-        Since::Cleared,
-        Since::Set,
-        Since::Disabled,
-        Since::Forced,
-        Since::Retyped,
-        Since::Reordered,
-        Since::Gone,
-        Since::Vector,
-        Since::Spurious,
-        Since::Fast,
-        Since::Overtaken,
-        Since::Closed,
-        Since::LastRoom,
-        Since::Full,
-        Since::ReadAgain,
-        Since::Masked,
-        Since::Stayed,
-        Since::Left,
-        Since::Reentered,
-    ];
+listed! {
+    /// What came between that read and a write of IVR. Of a selected source only what concerns it counts, where nobody was
+    /// selected what concerns any source.
+    #[derive(Clone, Copy, Debug, PartialEq, Eq, PartialOrd, Ord, Hash)]
+    pub enum Since {
+        Nothing,
+        /// Its memory was cleared by command.
+        Cleared,
+        Set,
+        Disabled,
+        Forced,
+        Retyped,
+        Reordered,
+        /// Its line took it away.
+        Gone,
+        Vector,
+        Spurious,
+        /// FVR was read.
+        Fast,
+        /// At the write another candidate is ahead of it.
+        Overtaken,
+        /// An entry was closed.
+        Closed,
+        /// At the write seven entries are open.
+        LastRoom,
+        /// At the write eight entries are open.
+        Full,
+        ReadAgain,
+        /// DCR was written with bit 0 set: the mask was turned, or not.
+        Masked,
+        Stayed,
+        /// The mode was left, and the write came outside it.
+        Left,
+        /// The mode was left and entered again.
+        Reentered,
+    }
 }
 
 /// What became of a level of the AIC.

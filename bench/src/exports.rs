@@ -1,6 +1,8 @@
 //! The other side in process: the proved texts through their C functions, in a library that is linked on request.
 
 use crate::compare::{written, Outcome};
+use crate::explained::reader::agrees;
+use crate::explained::Asked;
 use crate::generate::Case;
 use crate::looked::{self, Question};
 use crate::model::aic::SOURCES;
@@ -49,6 +51,25 @@ extern "C" {
 
     /// Writes the line of the lent text of a table into the lent buffer and answers the bytes written, as above.
     fn wisteria_stack(text: *const u8, text_len: usize, out: *mut u8, out_len: usize) -> usize;
+
+    /// Writes the explanation of the lent trace into the lent buffer and answers the bytes written, as above; the second
+    /// that of so many steps from a first one on.
+    fn wisteria_explain(
+        trace: *const u8,
+        trace_len: usize,
+        limit: u32,
+        out: *mut u8,
+        out_len: usize,
+    ) -> usize;
+    fn wisteria_explain_window(
+        trace: *const u8,
+        trace_len: usize,
+        limit: u32,
+        first: u32,
+        steps: u32,
+        out: *mut u8,
+        out_len: usize,
+    ) -> usize;
 
     /// The status words that a read of the register at the offset would look at after the play.
     fn wisteria_looked(trace: *const u8, trace_len: usize, limit: u32, offset: u32) -> u32;
@@ -108,6 +129,36 @@ pub fn ending_of(trace: &[u8], limit: u32) -> (u32, usize) {
 pub fn stack_into(text: &[u8], buffer: &mut [u8]) -> usize {
     // As for the listing.
     unsafe { wisteria_stack(text.as_ptr(), text.len(), buffer.as_mut_ptr(), buffer.len()) }
+}
+
+/// Fills the buffer with the explanation of a trace, or of so many steps from a first one on.
+pub fn explain_into(
+    trace: &[u8],
+    limit: u32,
+    window: Option<(u32, u32)>,
+    buffer: &mut [u8],
+) -> usize {
+    let Some((first, steps)) = window else {
+        return listed_by(wisteria_explain, trace, limit, buffer);
+    };
+    let (out, room) = (buffer.as_mut_ptr(), buffer.len());
+    // As for the listing.
+    unsafe { wisteria_explain_window(trace.as_ptr(), trace.len(), limit, first, steps, out, room) }
+}
+
+/// The explanation of a case. What it tells has to be what the listing has, where there is room for all of it.
+pub fn explained(asked: &Asked) -> Outcome {
+    let Case { trace, limit, .. } = &asked.case;
+    let text = written(asked.ample_room(), |buffer| {
+        explain_into(trace, *limit, asked.window, buffer)
+    })?;
+    if asked.case.room.is_none() && asked.window.is_none() {
+        let listed = written(asked.case.ample_room(), |buffer| {
+            list_into(trace, *limit, buffer)
+        })?;
+        agrees(&text, &listed)?;
+    }
+    Ok(text)
 }
 
 /// The status words that a read of an offset would look at after the play of a trace.

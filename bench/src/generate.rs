@@ -237,12 +237,12 @@ impl Script {
         self.write_by(PRIVILEGED, offset, value);
     }
 
-    fn read_by(&mut self, privilege: u32, offset: u32) {
+    pub(crate) fn read_by(&mut self, privilege: u32, offset: u32) {
         self.number(1);
         self.offset(offset, privilege);
     }
 
-    fn write_by(&mut self, privilege: u32, offset: u32, value: u32) {
+    pub(crate) fn write_by(&mut self, privilege: u32, offset: u32, value: u32) {
         self.number(2);
         self.offset(offset, privilege);
         self.number(value);

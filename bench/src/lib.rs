@@ -9,12 +9,29 @@ macro_rules! say {
     }};
 }
 
+/// An enum and, as `ALL`, the list of its values, which are so written once.
+#[macro_export]
+macro_rules! listed {
+    ($(#[$about:meta])* $seen:vis enum $name:ident { $($(#[$of:meta])* $value:ident),* $(,)? }) => {
+        $(#[$about])*
+        $seen enum $name {
+            $($(#[$of])* $value),*
+        }
+
+        impl $name {
+            /// All of them, in this order.
+            pub const ALL: [$name; [$($name::$value),*].len()] = [$($name::$value),*];
+        }
+    };
+}
+
 pub mod batch;
 pub mod boards;
 pub mod bounds;
 pub mod compare;
 pub mod coverage;
 pub mod digits;
+pub mod explained;
 #[cfg(feature = "exports")]
 pub mod exports;
 pub mod generate;

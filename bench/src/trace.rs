@@ -27,30 +27,22 @@ pub enum Field {
     Level,
 }
 
-/// What is wrong with a number; 01 gives one refusal for all of them. Bytes and bits are told apart, so that a number
-/// of either sort is refused by that rule alone.
-#[derive(Clone, Copy, Debug, PartialEq, Eq, PartialOrd, Ord, Hash)]
-pub enum Defect {
-    /// The trace ends where the number would begin.
-    Missing,
-    /// The trace ends before the number's last byte.
-    Cut,
-    /// More than five bytes, of a value that fits 32 bits.
-    TooManyBytes,
-    /// Worth 2^32 or more, in five bytes.
-    TooManyBits,
-    /// Worth 2^32 or more, in more than five bytes.
-    TooManyOfBoth,
-}
-
-impl Defect {
-    pub const ALL: [Defect; 5] = [
-        Defect::Missing,
-        Defect::Cut,
-        Defect::TooManyBytes,
-        Defect::TooManyBits,
-        Defect::TooManyOfBoth,
-    ];
+listed! {
+    /// What is wrong with a number; 01 gives one refusal for all of them. Bytes and bits are told apart, so that a number
+    /// of either sort is refused by that rule alone.
+    #[derive(Clone, Copy, Debug, PartialEq, Eq, PartialOrd, Ord, Hash)]
+    pub enum Defect {
+        /// The trace ends where the number would begin.
+        Missing,
+        /// The trace ends before the number's last byte.
+        Cut,
+        /// More than five bytes, of a value that fits 32 bits.
+        TooManyBytes,
+        /// Worth 2^32 or more, in five bytes.
+        TooManyBits,
+        /// Worth 2^32 or more, in more than five bytes.
+        TooManyOfBoth,
+    }
 }
 
 /// Why a trace ends before its last byte: the number at fault, by name and by the place of its first byte.

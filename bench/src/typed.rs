@@ -5,7 +5,7 @@ pub mod generate;
 use crate::trace::{encode as put, LONGEST};
 
 /// The longest text.
-pub const LONGEST_TEXT: usize = 1_048_576;
+pub const LONGEST_TEXT: usize = 5_242_880;
 
 /// The controllers, each with the numbers that configure it, in the order of their kinds.
 pub const CONTROLLERS: [(&str, usize); 5] = [
@@ -183,7 +183,7 @@ mod tests {
         assert_eq!(encode(padded(LONGEST_TEXT - 6).as_bytes()), Ok(vec![3]));
         assert_eq!(
             refused(&padded(LONGEST_TEXT - 5)),
-            "line 2: the text is longer than 1048576 bytes\n"
+            "line 2: the text is longer than 5242880 bytes\n"
         );
     }
 }

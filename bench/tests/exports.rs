@@ -6,8 +6,9 @@ use std::fmt::Debug;
 use std::mem::{align_of, offset_of, size_of};
 
 use bench::compare::{compare, expected, Subject};
+use bench::explained::{explain, window, Asked};
 use bench::exports::{core_start, core_step, LentCore, LentSide, Reply};
-use bench::exports::{ending_of, list_into, stack_into, steps_of, words_looked_at};
+use bench::exports::{ending_of, explain_into, list_into, stack_into, steps_of, words_looked_at};
 use bench::generate::{Case, Generator, Script};
 use bench::listing::listing;
 use bench::looked::{looked, Question};
@@ -37,16 +38,31 @@ fn the_library_lists_as_the_model_does() {
 }
 
 #[test]
-fn what_finds_no_room_is_dropped() {
-    let trace = [0, 0, 0, 1, 0];
-    let whole = listing(&trace, 9);
+fn the_library_explains_as_the_model_does() {
+    answers_as_the_model_does::<Asked>(500);
+}
+
+/// A text is written as far as there is room, into rooms of every size.
+fn fills_any_room(whole: &[u8], write: impl Fn(&mut [u8]) -> usize) {
     for room in 0..whole.len() + 3 {
         let mut buffer = vec![0xA5; room];
-        let written = list_into(&trace, 9, &mut buffer);
+        let written = write(&mut buffer);
         assert_eq!(written, room.min(whole.len()));
         assert_eq!(buffer[..written], whole[..written]);
         assert!(buffer[written..].iter().all(|&byte| byte == 0xA5));
     }
+}
+
+#[test]
+fn what_finds_no_room_is_dropped() {
+    let trace = [0, 0, 0, 1, 0];
+    fills_any_room(&listing(&trace, 9), |out| list_into(&trace, 9, out));
+    fills_any_room(&explain(&trace, 9), |out| {
+        explain_into(&trace, 9, None, out)
+    });
+    fills_any_room(&window(&trace, 9, 1, 1), |out| {
+        explain_into(&trace, 9, Some((1, 1)), out)
+    });
 }
 
 #[test]

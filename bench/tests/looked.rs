@@ -12,6 +12,7 @@ use bench::generate::indexed::{
     CONTROL, ENABLE_CLEAR, GLOBAL_INDEX as GLOBAL, HOLD, STATUS_CLEAR, STATUS_SET,
 };
 use bench::generate::Script;
+use bench::listed;
 use bench::looked::coverage::{Coverage, Item, Whose};
 use bench::looked::generate::Generator;
 use bench::looked::{looked, told, Question};
@@ -202,60 +203,17 @@ fn a_question_is_about_the_controller_after_the_steps_played() {
     }
 }
 
-/// One thing that a count can have wrong.
-#[derive(Clone, Copy, Debug, PartialEq, Eq)]
-enum Slip {
-    Nothing,
-    LastWordLeftOut,
-    AllWordsCounted,
-    EmptyWordSkipped,
-    DisabledFound,
-    UnsetFound,
-    AnyChannelFound,
-    WordsRoundedDown,
-    OneWordMore,
-    UnmappedChannelCounted,
-    LaterChannelsCounted,
-    OnlyTheLastChannelCounted,
-    FirstChannelOnly,
-    LowestSystemOfAllChannels,
-    HeldReadCounts,
-    HeldNoneCounts,
-    HoldModeCountsNothing,
-    HostEnableAsked,
-    GlobalEnableAsked,
-    MisalignedCounts,
-    BeyondTheHostsCounts,
-    ControlCounts,
-    LimitPassedOver,
-    TheReadIsCarriedOut,
+listed! {
+    /// One thing that a count can have wrong.
+    #[derive(Clone, Copy, Debug, PartialEq, Eq)]
+    enum Slip {
+        Nothing, LastWordLeftOut, AllWordsCounted, EmptyWordSkipped, DisabledFound, UnsetFound, AnyChannelFound,
+        WordsRoundedDown, OneWordMore, UnmappedChannelCounted, LaterChannelsCounted, OnlyTheLastChannelCounted,
+        FirstChannelOnly, LowestSystemOfAllChannels, HeldReadCounts, HeldNoneCounts, HoldModeCountsNothing,
+        HostEnableAsked, GlobalEnableAsked, MisalignedCounts, BeyondTheHostsCounts, ControlCounts,
+        LimitPassedOver, TheReadIsCarriedOut
+    }
 }
-
-const SLIPS: [Slip; 23] = [
-    Slip::LastWordLeftOut,
-    Slip::AllWordsCounted,
-    Slip::EmptyWordSkipped,
-    Slip::DisabledFound,
-    Slip::UnsetFound,
-    Slip::AnyChannelFound,
-    Slip::WordsRoundedDown,
-    Slip::OneWordMore,
-    Slip::UnmappedChannelCounted,
-    Slip::LaterChannelsCounted,
-    Slip::OnlyTheLastChannelCounted,
-    Slip::FirstChannelOnly,
-    Slip::LowestSystemOfAllChannels,
-    Slip::HeldReadCounts,
-    Slip::HeldNoneCounts,
-    Slip::HoldModeCountsNothing,
-    Slip::HostEnableAsked,
-    Slip::GlobalEnableAsked,
-    Slip::MisalignedCounts,
-    Slip::BeyondTheHostsCounts,
-    Slip::ControlCounts,
-    Slip::LimitPassedOver,
-    Slip::TheReadIsCarriedOut,
-];
 
 /// The answer of a question by counting words, with a slip.
 fn by_words(question: &Question, slip: Slip) -> u32 {
@@ -381,7 +339,7 @@ fn a_count_word_by_word_says_the_same() {
 
 #[test]
 fn a_wrong_count_differs() {
-    for slip in SLIPS {
+    for &slip in &Slip::ALL[1..] {
         let summary = compare_some(0, with(slip));
         assert!(summary.differ > 0, "{slip:?} is not found by the sweeps");
         assert!(summary.differ < summary.compared, "{slip:?} is everywhere");

@@ -1,6 +1,6 @@
 //! Compares the texts of another side, a program or a linked library, with the model's on many generated cases: the
-//! listings of traces, the figures of traces for a report, the stack lines of typed tables, or the words that an index
-//! read looks at after a trace.
+//! listings of traces, the figures of traces for a report, the stack lines of typed tables, the words that an index
+//! read looks at after a trace, or traces explained.
 
 use std::io::{self, Write};
 use std::process::ExitCode;
@@ -10,6 +10,8 @@ use bench::batch::Batch;
 use bench::compare::{
     compare, expected, first_difference, Outcome, Subject, Summary, MOST_FAILURES,
 };
+use bench::explained::reached::Coverage;
+use bench::explained::Asked as Explanation;
 use bench::generate::Case;
 use bench::hex;
 use bench::looked::Question;
@@ -26,7 +28,7 @@ differential --program PATH [options] [-- ARGUMENTS]
 differential --batch PATH   [options] [-- ARGUMENTS]
 differential --exports      [options]
 differential --tuned        [options]
-differential --trace N [--stack | --figures | --looked] [--seed N]
+differential --trace N [--stack | --figures | --looked | --explained] [--seed N]
 
   --program PATH  a process for each trace: the trace on standard input, the listing on standard output
   --batch PATH    one process for all traces, which speaks as batch.c does; step limits and room vary too
@@ -35,6 +37,7 @@ differential --trace N [--stack | --figures | --looked] [--seed N]
   --stack         typed tables and their stack lines, instead of traces and their listings
   --figures       traces and their figures for a report, with --exports or --batch
   --looked        questions how many status words a read looks at after a trace, instead of listings; not for --program
+  --explained     traces as text, explained, and parts of them, instead of listings; through programs no parts
   --trace N       writes the trace (or table) of case N to standard output
   --seed N        other traces for another seed (1)
   --count N       how many (900 for --program, else 100000)
@@ -81,6 +84,7 @@ struct Options {
     stack: bool,
     looked: bool,
     figures: bool,
+    explained: bool,
     trace: Option<usize>,
     seed: u64,
     count: Option<usize>,
@@ -93,13 +97,16 @@ fn main() -> ExitCode {
         Ok(options) => options,
         Err(error) => return wrong(&error),
     };
-    if [options.stack, options.figures, options.looked]
-        .iter()
-        .filter(|&&asked| asked)
-        .count()
-        > 1
-    {
-        return wrong("--stack, --figures and --looked are not asked together");
+    let Options {
+        stack,
+        figures,
+        looked,
+        explained,
+        ..
+    } = options;
+    let sorts = [stack, figures, looked, explained].into_iter();
+    if sorts.filter(|&asked| asked).count() > 1 {
+        return wrong("--stack, --figures, --looked and --explained are not asked together");
     }
     if options.looked {
         asked::<Question>(&options)
@@ -107,6 +114,8 @@ fn main() -> ExitCode {
         asked::<Typed>(&options)
     } else if options.figures {
         asked::<Counted>(&options)
+    } else if options.explained {
+        asked::<Explanation>(&options)
     } else {
         asked::<Case>(&options)
     }
@@ -125,7 +134,7 @@ fn asked<S: Reported>(options: &Options) -> ExitCode {
         (None, Some(Way::Exports)) if cfg!(not(feature = "exports")) => {
             wrong("--exports wants a build with the feature `exports`")
         }
-        (None, Some(Way::Tuned)) if options.stack || options.looked => {
+        (None, Some(Way::Tuned)) if options.stack || options.looked || options.explained => {
             wrong("--tuned is about the listings of traces alone")
         }
         (None, Some(Way::Program)) if options.looked => {
@@ -151,6 +160,7 @@ fn options(mut words: impl Iterator<Item = String>) -> Result<Options, String> {
         stack: false,
         looked: false,
         figures: false,
+        explained: false,
         trace: None,
         seed: 1,
         count: None,
@@ -167,6 +177,7 @@ fn options(mut words: impl Iterator<Item = String>) -> Result<Options, String> {
             "--stack" => options.stack = true,
             "--looked" => options.looked = true,
             "--figures" => options.figures = true,
+            "--explained" => options.explained = true,
             "--trace" => options.trace = Some(number(&value()?)?),
             "--seed" => options.seed = number(&value()?)?,
             "--count" => options.count = Some(number(&value()?)?),
@@ -281,6 +292,20 @@ impl Reported for Question {
         let shown = hex::print(start(&self.trace));
         let (limit, offset) = (self.limit, self.offset);
         format!("limit {limit}, offset {offset:#x}, trace: {shown}")
+    }
+}
+
+impl Reported for Explanation {
+    const MANY: &'static str = "explanations";
+
+    fn amount(summary: &Summary<Explanation>) -> String {
+        let Coverage { steps, longest, .. } = summary.coverage;
+        let bytes = summary.bytes;
+        format!("{steps} steps, {bytes} bytes of text, the longest line of {longest}")
+    }
+
+    fn told(&self) -> String {
+        format!("window {:?}, {}", self.window, self.case.told())
     }
 }
 

@@ -4,11 +4,9 @@
 use std::io::{self, Read};
 use std::path::PathBuf;
 use std::process::ExitCode;
-use std::sync::atomic::{AtomicUsize, Ordering};
-use std::thread;
 use std::time::Duration;
 
-use bench::compare::{first_difference, Subject, MOST_FAILURES};
+use bench::compare::{self, first_difference, Subject, MOST_FAILURES};
 use bench::generate::Case;
 use bench::look::reached::{listed_of_pictures, listed_of_waves, Reached};
 use bench::look::{Generator, Window, TRACES, WINDOWS};
@@ -147,7 +145,6 @@ impl Tally {
         self.add_waves(&other.waves);
         self.add_picture(&other.pictures);
         self.reached.add(&other.reached);
-        self.differ.extend(other.differ.iter().cloned());
     }
 
     fn add_waves(&mut self, more: &waves::Compared) {
@@ -165,36 +162,21 @@ impl Tally {
     }
 }
 
-/// Compares so many on all processors. After some that differ the rest is not worth the wait.
+/// Compares so many on all processors, and adds up what came of it.
 fn on_all_processors(
     count: usize,
     compare: impl Fn(usize, &mut Tally) -> Result<(), String> + Sync,
 ) -> Tally {
-    let threads = thread::available_parallelism().map_or(2, usize::from);
-    let (next, wrong) = (AtomicUsize::new(0), AtomicUsize::new(0));
-    let work = || {
-        let mut tally = Tally::default();
-        while wrong.load(Ordering::Relaxed) < MOST_FAILURES {
-            let number = next.fetch_add(1, Ordering::Relaxed);
-            if number >= count {
-                break;
-            }
-            tally.compared += 1;
-            if let Err(why) = compare(number, &mut tally) {
-                wrong.fetch_add(1, Ordering::Relaxed);
-                tally.differ.push((number, why));
-            }
-        }
-        tally
+    let counted = |number: usize, tally: &mut Tally| {
+        tally.compared += 1;
+        compare(number, tally)
     };
-    let mut all = Tally::default();
-    thread::scope(|scope| {
-        let workers: Vec<_> = (0..threads).map(|_| scope.spawn(work)).collect();
-        for worker in workers {
-            all.add(&worker.join().expect("a comparison does not panic"));
-        }
-    });
-    all.differ.sort();
+    let (tallies, differ) = compare::on_all_processors(count, counted);
+    let mut all = Tally {
+        differ,
+        ..Tally::default()
+    };
+    tallies.iter().for_each(|tally| all.add(tally));
     all
 }
 

@@ -1,12 +1,14 @@
 //! The model as a program: a trace on standard input, its listing on standard output; with `--stack` a typed table and
 //! its line; with `--batch` many of both and words looked at; with `--boards` a number on standard input, and a transcript of so many boards;
-//! with `--wave` the waves of a trace, and with `--picture` the picture of some of its steps.
+//! with `--wave` the waves of a trace, with `--picture` the picture of some of its steps, and with `--explain` all or some
+//! of it as text, explained.
 
 use std::io::{self, BufReader, BufWriter, Read, Write};
 use std::process::ExitCode;
 
 use bench::batch::{figures_to_bytes, serve, Asked, Reply, Request};
 use bench::boards::generate::{script, unsound};
+use bench::explained::{explain, window};
 use bench::listing::listing;
 use bench::looked::{looked, told};
 use bench::picture;
@@ -16,9 +18,9 @@ use bench::trace::PROGRAM_LIMIT;
 use bench::waves;
 
 const USAGE: &str = "\
-reference [--stack | --batch | --boards | --wave | --picture FIRST STEPS]: lists the trace on standard input, or says the
-stack of the table there, or many (batch.c), or prints a transcript of as many boards as the number there says, or the
-waves of the trace, or the picture of some of its steps
+reference [--stack | --batch | --boards | --wave | --picture FIRST STEPS | --explain [FIRST STEPS]]: lists the trace on
+standard input, or says the stack of the table there, or many (batch.c), or prints a transcript of as many boards as the
+number there says, or the waves of the trace, or the picture of some of its steps, or the trace explained
 ";
 
 fn main() -> ExitCode {
@@ -30,6 +32,10 @@ fn main() -> ExitCode {
         [word] if word == "--boards" => print_one(boards),
         [word] if word == "--wave" => {
             print_one(|trace| waves::write(&waves::waves(trace, PROGRAM_LIMIT)));
+        }
+        [word] if word == "--explain" => print_one(|trace| explain(trace, PROGRAM_LIMIT)),
+        [word, first, steps] if word == "--explain" => {
+            print_one(|trace| part(trace, first, steps));
         }
         [word, first, steps] if word == "--picture" => {
             print_one(|trace| picture(trace, first, steps));
@@ -56,6 +62,14 @@ fn boards(input: &[u8]) -> Vec<u8> {
     let count = number.and_then(|number| number.trim().parse().ok());
     let transcripts = (0..count.unwrap_or(0)).map(|number| script(1, number).right());
     (transcripts.collect::<String>() + &unsound()).into_bytes()
+}
+
+/// The explanation of so many steps from the first one on; what is no number asks for none.
+fn part(trace: &[u8], first: &str, steps: &str) -> Vec<u8> {
+    match (first.parse(), steps.parse()) {
+        (Ok(first), Ok(steps)) => window(trace, PROGRAM_LIMIT, first, steps),
+        _ => Vec::new(),
+    }
 }
 
 /// The picture of so many steps from the first one on; where there is none, that is said on standard error.
@@ -89,6 +103,11 @@ fn reply(request: &Request) -> Reply {
         Asked::Figures => {
             let (figures, ending) = report::figures(input, limit);
             figures_to_bytes(&figures, ending)
+        }
+        Asked::Explanation => explain(input, limit),
+        Asked::Part => {
+            let number = |at: usize| input[at..at + 4].try_into().map_or(0, u32::from_le_bytes);
+            window(&input[8..], limit, number(0), number(4))
         }
     };
     text.truncate(room);

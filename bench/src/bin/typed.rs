@@ -1,61 +1,113 @@
 //! Runs the program that encodes typed traces on generated texts, and compares what it prints and says with the model.
 
 use std::process::ExitCode;
-use std::sync::atomic::{AtomicUsize, Ordering};
-use std::thread;
 
-use bench::compare::MOST_FAILURES;
+#[cfg(feature = "exports")]
+use bench::compare::written;
+use bench::compare::{on_all_processors, Outcome};
+#[cfg(feature = "exports")]
+use bench::explained::LONGEST_LINE;
+use bench::explained::{explain, Asked};
+use bench::numbered::Numbered;
 use bench::program::Program;
 use bench::say;
+use bench::trace::PROGRAM_LIMIT;
 use bench::typed::{encode, generate};
 
 const USAGE: &str = "\
-typed COUNT PATH [WORD..]
+typed [--explained] COUNT PATH [WORD..]
 
 The program at PATH, with WORDs as its arguments, is given COUNT generated texts and as many damaged ones, each on
 standard input. Ends with 0 if for each it prints the bytes that the model encodes, or says the line by which the model
 refuses and prints nothing; else with 1, and with 2 if it was not asked properly.
+
+With --explained the texts are explanations of generated traces. What the program prints is then explained, by the
+linked library if it is built with the feature `exports`: that has to be the same text once more, less a last line E,
+and of a damaged one what the model explains.
 ";
 
+/// The texts that are handed over.
+enum Texts {
+    Typed,
+    Explained(Numbered<Asked>),
+}
+
+impl Texts {
+    fn text(&self, item: usize) -> Vec<u8> {
+        match self {
+            Texts::Typed => generate::text(1, item as u64),
+            Texts::Explained(traces) => generate::explained(traces, item),
+        }
+    }
+
+    /// Whether the program does with a text what the model does.
+    fn compared(&self, program: &Program, item: usize) -> Result<bool, String> {
+        let text = self.text(item);
+        let expected = encode(&text);
+        compared(program, &text, &expected)?;
+        if let (Texts::Explained(_), Ok(trace)) = (self, &expected) {
+            let again = match item % 2 {
+                0 => statements(&text).to_vec(),
+                _ => explain(trace, PROGRAM_LIMIT),
+            };
+            if explained_again(trace)? != again {
+                return Err("explained again it is another text".to_owned());
+            }
+        }
+        Ok(expected.is_err())
+    }
+}
+
+/// An explanation without its last line, if that is an E.
+fn statements(text: &[u8]) -> &[u8] {
+    let lines = text.split_inclusive(|&byte| byte == b'\n');
+    let last = lines.last().unwrap_or(b"");
+    match last.starts_with(b"# E ") {
+        true => &text[..text.len() - last.len()],
+        false => text,
+    }
+}
+
+#[cfg(feature = "exports")]
+fn explained_again(trace: &[u8]) -> Outcome {
+    let room = LONGEST_LINE * (trace.len() / 2 + 2);
+    written(room, |buffer| {
+        bench::exports::explain_into(trace, PROGRAM_LIMIT, None, buffer)
+    })
+}
+
+#[cfg(not(feature = "exports"))]
+fn explained_again(trace: &[u8]) -> Outcome {
+    Ok(explain(trace, PROGRAM_LIMIT))
+}
+
 fn main() -> ExitCode {
-    let words: Vec<String> = std::env::args().skip(1).collect();
+    let mut words: Vec<String> = std::env::args().skip(1).collect();
+    let texts = match words.first().is_some_and(|word| word == "--explained") {
+        true => {
+            words.remove(0);
+            Texts::Explained(Numbered::new(1))
+        }
+        false => Texts::Typed,
+    };
     let Some((count, path, more)) = asked(&words) else {
         eprint!("{USAGE}");
         return ExitCode::from(2);
     };
     let more: Vec<&str> = more.iter().map(String::as_str).collect();
     let program = Program::new(path, &more);
-    let (next, refused, wrong) = (
-        AtomicUsize::new(0),
-        AtomicUsize::new(0),
-        AtomicUsize::new(0),
-    );
-    let workers = thread::available_parallelism().map_or(1, |number| number.get());
-    thread::scope(|scope| {
-        for _ in 0..workers {
-            scope.spawn(|| loop {
-                let item = next.fetch_add(1, Ordering::Relaxed);
-                if item >= 2 * count || wrong.load(Ordering::Relaxed) >= MOST_FAILURES {
-                    return;
-                }
-                let text = generate::text(1, item as u64);
-                let expected = encode(&text);
-                refused.fetch_add(usize::from(expected.is_err()), Ordering::Relaxed);
-                if let Err(why) = compared(&program, &text, expected) {
-                    wrong.fetch_add(1, Ordering::Relaxed);
-                    say!(
-                        "text {item}: {why}\n{}",
-                        text[..text.len().min(600)].escape_ascii()
-                    );
-                }
-            });
-        }
-    });
-    let (refused, wrong) = (refused.into_inner(), wrong.into_inner());
-    say!(
-        "{} texts, {refused} of them refused, {wrong} differ",
-        2 * count
-    );
+    let compare = |item: usize, refused: &mut usize| {
+        *refused += usize::from(texts.compared(&program, item)?);
+        Ok(())
+    };
+    let (refused, wrong) = on_all_processors(2 * count, compare);
+    for (item, why) in &wrong {
+        let text = texts.text(*item);
+        let shown = text[..text.len().min(600)].escape_ascii();
+        say!("text {item}: {why}\n{shown}");
+    }
+    let (texts, refused, wrong) = (2 * count, refused.iter().sum::<usize>(), wrong.len());
+    say!("{texts} texts, {refused} of them refused, {wrong} differ");
     ExitCode::from(u8::from(wrong > 0))
 }
 
@@ -70,12 +122,12 @@ fn asked(words: &[String]) -> Option<(usize, &str, &[String])> {
 fn compared(
     program: &Program,
     text: &[u8],
-    expected: Result<Vec<u8>, String>,
+    expected: &Result<Vec<u8>, String>,
 ) -> Result<(), String> {
     let (printed, told) = program.run(&[], text)?;
     let expected = match expected {
-        Ok(trace) => (trace, Vec::new()),
-        Err(line) => (Vec::new(), line.into_bytes()),
+        Ok(trace) => (trace.clone(), Vec::new()),
+        Err(line) => (Vec::new(), line.clone().into_bytes()),
     };
     match (printed, told) == expected {
         true => Ok(()),

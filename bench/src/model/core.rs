@@ -14,26 +14,12 @@ pub enum Side {
     Irq,
 }
 
-/// What the registers of a side are for, in the order of 004, table 3.
-#[derive(Clone, Copy, Debug, PartialEq, Eq, PartialOrd, Ord, Hash)]
-pub enum Role {
-    Soft,
-    SoftClear,
-    Enable,
-    EnableClear,
-    Raw,
-    Status,
-}
-
-impl Role {
-    pub const ALL: [Role; 6] = [
-        Role::Soft,
-        Role::SoftClear,
-        Role::Enable,
-        Role::EnableClear,
-        Role::Raw,
-        Role::Status,
-    ];
+listed! {
+    /// What the registers of a side are for, in the order of 004, table 3.
+    #[derive(Clone, Copy, Debug, PartialEq, Eq, PartialOrd, Ord, Hash)]
+    pub enum Role {
+        Soft, SoftClear, Enable, EnableClear, Raw, Status
+    }
 }
 
 /// A register: the same six on each side.

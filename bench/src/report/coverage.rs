@@ -32,33 +32,37 @@ pub enum Item {
     Fact(&'static str),
 }
 
-/// What makes a source ask.
-#[derive(Clone, Copy, Debug, PartialEq, Eq, PartialOrd, Ord, Hash)]
-pub enum Cause {
-    /// The line of a level source.
-    Level,
-    /// An edge.
-    Edge,
-    Set,
-    Enable,
-    Unforce,
-    Mode,
+listed! {
+    /// What makes a source ask.
+    #[derive(Clone, Copy, Debug, PartialEq, Eq, PartialOrd, Ord, Hash)]
+    pub enum Cause {
+        /// The line of a level source.
+        Level,
+        /// An edge.
+        Edge,
+        Set,
+        Enable,
+        Unforce,
+        Mode,
+    }
 }
 
-/// What ends a wait, or that a source asks after its start.
-#[derive(Clone, Copy, Debug, PartialEq, Eq, PartialOrd, Ord, Hash)]
-pub enum How {
-    /// Its own start, by the read outside protect mode or by the write in it.
-    Read,
-    Write,
-    Line,
-    Clear,
-    Disable,
-    Force,
-    Mode,
-    /// The trace ended, whole or early.
-    Whole,
-    Early,
+listed! {
+    /// What ends a wait, or that a source asks after its start.
+    #[derive(Clone, Copy, Debug, PartialEq, Eq, PartialOrd, Ord, Hash)]
+    pub enum How {
+        /// Its own start, by the read outside protect mode or by the write in it.
+        Read,
+        Write,
+        Line,
+        Clear,
+        Disable,
+        Force,
+        Mode,
+        /// The trace ended, whole or early.
+        Whole,
+        Early,
+    }
 }
 
 #[derive(Clone, Copy, Debug, PartialEq, Eq, PartialOrd, Ord, Hash)]
@@ -75,27 +79,6 @@ pub enum Figure {
     Started,
     Waited,
 }
-
-const ALL_CAUSES: [Cause; 6] = [
-    Cause::Level,
-    Cause::Edge,
-    Cause::Set,
-    Cause::Enable,
-    Cause::Unforce,
-    Cause::Mode,
-];
-
-const ALL_ENDS: [How; 9] = [
-    How::Read,
-    How::Write,
-    How::Line,
-    How::Clear,
-    How::Disable,
-    How::Force,
-    How::Mode,
-    How::Whole,
-    How::Early,
-];
 
 /// Numbers that fewer bits than 32 would not hold, or that only a limit of one's own reaches.
 const ABOVE: [(Figure, u32); 8] = [
@@ -162,13 +145,13 @@ impl Listed for Coverage {
     }
 
     fn wanted() -> Vec<Item> {
-        let mut items: Vec<Item> = ALL_CAUSES.map(Item::Began).into();
-        for how in ALL_ENDS {
+        let mut items: Vec<Item> = Cause::ALL.map(Item::Began).into();
+        for how in How::ALL {
             items.extend([Many::None, Many::One, Many::More].map(|many| Item::Ended(how, many)));
         }
         // An edge source does not ask when it has been started, and a level source has nothing to clear.
         let served = |how: &How| !matches!(how, How::Read | How::Write | How::Clear);
-        items.extend(ALL_ENDS.into_iter().filter(served).map(Item::Served));
+        items.extend(How::ALL.into_iter().filter(served).map(Item::Served));
         items.extend((1..SOURCES).map(Item::Waited));
         items.extend((0..=12).map(Item::Most));
         for entries in 1..=ENTRIES as u32 {

@@ -106,30 +106,23 @@ impl Field {
     }
 }
 
-/// How a number was typed.
-#[derive(Clone, Copy, Debug, PartialEq, Eq, PartialOrd, Ord, Hash)]
-pub enum Form {
-    Decimal,
-    /// With a zero before another digit.
-    Zeros,
-    /// Hexadecimal with no letter.
-    Hexadecimal,
-    /// Hexadecimal with small letters, large ones, or both.
-    Small,
-    Large,
-    Mixed,
+listed! {
+    /// How a number was typed.
+    #[derive(Clone, Copy, Debug, PartialEq, Eq, PartialOrd, Ord, Hash)]
+    pub enum Form {
+        Decimal,
+        /// With a zero before another digit.
+        Zeros,
+        /// Hexadecimal with no letter.
+        Hexadecimal,
+        /// Hexadecimal with small letters, large ones, or both.
+        Small,
+        Large,
+        Mixed,
+    }
 }
 
 impl Form {
-    const ALL: [Form; 6] = [
-        Form::Decimal,
-        Form::Zeros,
-        Form::Hexadecimal,
-        Form::Small,
-        Form::Large,
-        Form::Mixed,
-    ];
-
     fn of(word: &[u8]) -> Form {
         let Some(digits) = word.strip_prefix(b"0x") else {
             return match word {

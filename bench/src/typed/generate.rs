@@ -1,6 +1,9 @@
 //! Texts of traces, laid out in many ways, and the same damaged in one place.
 
 use super::{AINTC, CONTROLLERS, LONGEST_TEXT, STEPS};
+use crate::compare::Subject;
+use crate::explained::Asked;
+use crate::numbered::Numbered;
 use crate::random::Random;
 
 /// A text by its number; every other one is the one before it, damaged.
@@ -13,6 +16,15 @@ pub fn text(seed: u64, item: u64) -> Vec<u8> {
     match item % 2 {
         0 => text,
         _ => damaged(&mut random, text),
+    }
+}
+
+/// The explanation of a trace by its number; every other one is the one before it, damaged.
+pub fn explained(traces: &Numbered<Asked>, item: usize) -> Vec<u8> {
+    let asked = traces.case(item / 2).for_program();
+    match item % 2 {
+        0 => asked.text(),
+        _ => damaged(&mut Random::for_item(1, item as u64), asked.text()),
     }
 }
 

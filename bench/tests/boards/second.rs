@@ -3,101 +3,23 @@
 use std::collections::BTreeSet;
 
 use bench::boards::{Call, Reply};
+use bench::listed;
 use bench::model::board::Wire;
 use bench::model::core::Side;
 
-/// A wrong model.
-#[derive(Clone, Copy, Debug, PartialEq, Eq)]
-pub enum Slip {
-    LevelForActivity,
-    FiqForIrq,
-    IrqForFiq,
-    RawForStatus,
-    SoftOfOthersLeftOut,
-    OneFloorOnly,
-    PinsOfOthersAsBefore,
-    UnusedCounts,
-    UnusedIsLow,
-    UnusedIsRefused,
-    UnusedOutOfChain,
-    ChainCountsItself,
-    ChainCountsAllBelow,
-    ChainCountsTheWired,
-    ChainByTheLowest,
-    ChainByTheHighest,
-    ChainLeavesOutFiqInputs,
-    ChainLeavesOutFiqWires,
-    SameNumberAccepted,
-    HigherNumberAccepted,
-    UnusedMayLeadUp,
-    FifteenBeforeSix,
-    EightForTheControllersThere,
-    RefusedWireUnwires,
-    OldWireStays,
-    InputsOfSidesSwapped,
-    WiredToPinsAtFirst,
-    TenBeforeSix,
-    NinthAccepted,
-    NumbersFromOne,
-    CountsSwapped,
-    LevelsSwapped,
-    OutputsSwapped,
-    PinsModulo256,
-    LastPinRefused,
-    PinBeyondIsNothing,
-    LevelTwoIsHigh,
-    RefusedPinFalls,
-    OffsetBeforeController,
-    WriteStoresInputs,
-    WriteOfZerosClears,
-    RefusedCallsHaveValues,
-}
-
-impl Slip {
-    pub const ALL: [Slip; 42] = [
-        Slip::LevelForActivity,
-        Slip::FiqForIrq,
-        Slip::IrqForFiq,
-        Slip::RawForStatus,
-        Slip::SoftOfOthersLeftOut,
-        Slip::OneFloorOnly,
-        Slip::PinsOfOthersAsBefore,
-        Slip::UnusedCounts,
-        Slip::UnusedIsLow,
-        Slip::UnusedIsRefused,
-        Slip::UnusedOutOfChain,
-        Slip::ChainCountsItself,
-        Slip::ChainCountsAllBelow,
-        Slip::ChainCountsTheWired,
-        Slip::ChainByTheLowest,
-        Slip::ChainByTheHighest,
-        Slip::ChainLeavesOutFiqInputs,
-        Slip::ChainLeavesOutFiqWires,
-        Slip::SameNumberAccepted,
-        Slip::HigherNumberAccepted,
-        Slip::UnusedMayLeadUp,
-        Slip::FifteenBeforeSix,
-        Slip::EightForTheControllersThere,
-        Slip::RefusedWireUnwires,
-        Slip::OldWireStays,
-        Slip::InputsOfSidesSwapped,
-        Slip::WiredToPinsAtFirst,
-        Slip::TenBeforeSix,
-        Slip::NinthAccepted,
-        Slip::NumbersFromOne,
-        Slip::CountsSwapped,
-        Slip::LevelsSwapped,
-        Slip::OutputsSwapped,
-        Slip::PinsModulo256,
-        Slip::LastPinRefused,
-        Slip::PinBeyondIsNothing,
-        Slip::LevelTwoIsHigh,
-        Slip::RefusedPinFalls,
-        Slip::OffsetBeforeController,
-        Slip::WriteStoresInputs,
-        Slip::WriteOfZerosClears,
-        Slip::RefusedCallsHaveValues,
-    ];
+listed! {
+    /// A wrong model.
+    #[derive(Clone, Copy, Debug, PartialEq, Eq)]
+    pub enum Slip {
+        LevelForActivity, FiqForIrq, IrqForFiq, RawForStatus, SoftOfOthersLeftOut, OneFloorOnly,
+        PinsOfOthersAsBefore, UnusedCounts, UnusedIsLow, UnusedIsRefused, UnusedOutOfChain, ChainCountsItself,
+        ChainCountsAllBelow, ChainCountsTheWired, ChainByTheLowest, ChainByTheHighest, ChainLeavesOutFiqInputs,
+        ChainLeavesOutFiqWires, SameNumberAccepted, HigherNumberAccepted, UnusedMayLeadUp, FifteenBeforeSix,
+        EightForTheControllersThere, RefusedWireUnwires, OldWireStays, InputsOfSidesSwapped, WiredToPinsAtFirst,
+        TenBeforeSix, NinthAccepted, NumbersFromOne, CountsSwapped, LevelsSwapped, OutputsSwapped,
+        PinsModulo256, LastPinRefused, PinBeyondIsNothing, LevelTwoIsHigh, RefusedPinFalls,
+        OffsetBeforeController, WriteStoresInputs, WriteOfZerosClears, RefusedCallsHaveValues
+    }
 }
 
 /// One side of a controller, bit by bit.

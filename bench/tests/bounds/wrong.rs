@@ -7,98 +7,25 @@ use bench::generate::aic::{DCR, ENABLE, EOICR, FFDR, FFER, SET, VECTORS};
 use bench::model::aic::{Aic, Selection, SOURCES};
 use bench::model::Step;
 
+use bench::listed;
+
 use super::{all, random};
 
-/// One way to go wrong.
-#[derive(Clone, Copy, Debug, PartialEq, Eq)]
-enum Slip {
-    Right,
-    NoPending,
-    NoEdges,
-    NoCommands,
-    NoTurns,
-    NoClosed,
-    NoRemembered,
-    OffRivalsCount,
-    LateRivalsNeverCount,
-    LateRivalsAreNeverDue,
-    OnlyWhileEnabled,
-    RivalsMayBeFast,
-    RivalsMayBeBehind,
-    EqualsAreBehind,
-    EqualsAreAhead,
-    HeldIsDue,
-    HeldByAnyHandler,
-    HeldAboveAlone,
-    EdgesAreHeld,
-    CommandsToLevels,
-    RepeatedLevelsTurn,
-    FallsTurn,
-    QuietClosesCount,
-    ClosesOfEdgesCount,
-    OwnRemembered,
-    NobodyRemembered,
-    RememberedMeanwhile,
-    BeginningStepGives,
-    RefusedRewrites,
-    RewritesOfOthersAlone,
-    OnlyChangesRewrite,
-    ForcingIsNoRewrite,
-    ModesAreNoRewrite,
-    VectorsRewrite,
-    EnablesRewrite,
-    DebugRewrites,
-    EndingRewrites,
-    BeginningRewrites,
-    LastRewriteIsTold,
-    MarksAreHandlers,
-    OwnStartCounts,
+listed! {
+    /// One way to go wrong.
+    #[derive(Clone, Copy, Debug, PartialEq, Eq)]
+    enum Slip {
+        Right, NoPending, NoEdges, NoCommands, NoTurns, NoClosed, NoRemembered, OffRivalsCount,
+        LateRivalsNeverCount, LateRivalsAreNeverDue, OnlyWhileEnabled, RivalsMayBeFast, RivalsMayBeBehind,
+        EqualsAreBehind, EqualsAreAhead, HeldIsDue, HeldByAnyHandler, HeldAboveAlone, EdgesAreHeld,
+        CommandsToLevels, RepeatedLevelsTurn, FallsTurn, QuietClosesCount, ClosesOfEdgesCount, OwnRemembered,
+        NobodyRemembered, RememberedMeanwhile, BeginningStepGives, RefusedRewrites, RewritesOfOthersAlone,
+        OnlyChangesRewrite, ForcingIsNoRewrite, ModesAreNoRewrite, VectorsRewrite, EnablesRewrite,
+        DebugRewrites, EndingRewrites, BeginningRewrites, LastRewriteIsTold, MarksAreHandlers, OwnStartCounts
+    }
 }
 
 use Slip::*;
-
-const WRONG: [Slip; 40] = [
-    NoPending,
-    NoEdges,
-    NoCommands,
-    NoTurns,
-    NoClosed,
-    NoRemembered,
-    OffRivalsCount,
-    LateRivalsNeverCount,
-    LateRivalsAreNeverDue,
-    OnlyWhileEnabled,
-    RivalsMayBeFast,
-    RivalsMayBeBehind,
-    EqualsAreBehind,
-    EqualsAreAhead,
-    HeldIsDue,
-    HeldByAnyHandler,
-    HeldAboveAlone,
-    EdgesAreHeld,
-    CommandsToLevels,
-    RepeatedLevelsTurn,
-    FallsTurn,
-    QuietClosesCount,
-    ClosesOfEdgesCount,
-    OwnRemembered,
-    NobodyRemembered,
-    RememberedMeanwhile,
-    BeginningStepGives,
-    RefusedRewrites,
-    RewritesOfOthersAlone,
-    OnlyChangesRewrite,
-    ForcingIsNoRewrite,
-    ModesAreNoRewrite,
-    VectorsRewrite,
-    EnablesRewrite,
-    DebugRewrites,
-    EndingRewrites,
-    BeginningRewrites,
-    LastRewriteIsTold,
-    MarksAreHandlers,
-    OwnStartCounts,
-];
 
 /// Those that a wait can pass: without what they leave out more is started.
 const TOO_SMALL: [Slip; 14] = [
@@ -418,7 +345,7 @@ fn a_second_count_agrees() {
 
 #[test]
 fn every_wrong_way_is_told_apart() {
-    let mut left: Vec<Slip> = WRONG.to_vec();
+    let mut left: Vec<Slip> = Slip::ALL[1..].to_vec();
     for (_, records) in random(8, 6_000) {
         left.retain(|&slip| !differs(&records, slip));
     }

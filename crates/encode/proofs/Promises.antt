@@ -107,18 +107,18 @@ module _ (lines at kind size : ℕ) (l : List ℕ) (ls : List (List ℕ)) where
   by-line s e =
       ap (λ (x : Statement). goOn (lines + 1) l x (encodedFrom (lines + 1) (at + length l + 1) (x .kind) (size + x .size) ls)) (sym e)
 
-  text-too-long : 1048576 < at + length l → encodedFrom lines at kind size (l ∷ ls) ≡ record { refusal = record { expected = 6; line = lines + 1; word = 0 }; bytes = [] }
+  text-too-long : 5242880 < at + length l → encodedFrom lines at kind size (l ∷ ls) ≡ record { refusal = record { expected = 6; line = lines + 1; word = 0 }; bytes = [] }
   unfolding goOn astray pick
   text-too-long h = by-line (astray 6 0) over
     where
       over : astray 6 0 ≡ lineOf (at + length l) kind size l
-      over = unfold lineOf in pick-true _ (lt-ltb 1048576 (at + length l) h)
+      over = unfold lineOf in pick-true _ (lt-ltb 5242880 (at + length l) h)
 
-  in-text : (s : Statement) → at + length l ≤ 1048576 → s ≡ roomFor size (statementOf kind l) → s ≡ lineOf (at + length l) kind size l
+  in-text : (s : Statement) → at + length l ≤ 5242880 → s ≡ roomFor size (statementOf kind l) → s ≡ lineOf (at + length l) kind size l
   unfolding lineOf
-  in-text s h e = e ∙ pick-false _ (le-ltb 1048576 (at + length l) h)
+  in-text s h e = e ∙ pick-false _ (le-ltb 5242880 (at + length l) h)
 
-  trace-too-long : at + length l ≤ 1048576 → 65536 < size + statementOf kind l .size
+  trace-too-long : at + length l ≤ 5242880 → 65536 < size + statementOf kind l .size
       → encodedFrom lines at kind size (l ∷ ls) ≡ record { refusal = record { expected = 5; line = lines + 1; word = 0 }; bytes = [] }
   unfolding goOn astray pick
   trace-too-long h m = by-line (astray 5 0) (in-text (astray 5 0) h over)
@@ -126,17 +126,17 @@ module _ (lines at kind size : ℕ) (l : List ℕ) (ls : List (List ℕ)) where
       over : astray 5 0 ≡ roomFor size (statementOf kind l)
       over = unfold roomFor in pick-true _ (lt-ltb 65536 (size + statementOf kind l .size) m)
 
-  in-room : at + length l ≤ 1048576 → size + statementOf kind l .size ≤ 65536 → statementOf kind l ≡ lineOf (at + length l) kind size l
+  in-room : at + length l ≤ 5242880 → size + statementOf kind l .size ≤ 65536 → statementOf kind l ≡ lineOf (at + length l) kind size l
   unfolding roomFor
   in-room h m = in-text (statementOf kind l) h (pick-false _ (le-ltb 65536 (size + statementOf kind l .size) m))
 
-  line-refused : at + length l ≤ 1048576 → size + statementOf kind l .size ≤ 65536 → statementOf kind l .expected ≢ 0
+  line-refused : at + length l ≤ 5242880 → size + statementOf kind l .size ≤ 65536 → statementOf kind l .expected ≢ 0
       → encodedFrom lines at kind size (l ∷ ls)
       ≡ record { refusal = record { expected = statementOf kind l .expected; line = lines + 1; word = statementOf kind l .word }; bytes = [] }
   unfolding goOn
   line-refused h m n = by-line (statementOf kind l) (in-room h m) ∙ sym (pick-false _ (ne-eqb (statementOf kind l .expected) 0 n))
 
-  line-taken : at + length l ≤ 1048576 → size + statementOf kind l .size ≤ 65536 → statementOf kind l .expected ≡ 0
+  line-taken : at + length l ≤ 5242880 → size + statementOf kind l .size ≤ 65536 → statementOf kind l .expected ≡ 0
       → encodedFrom lines at kind size (l ∷ ls)
       ≡ after (bytesIn l (statementOf kind l .first) (statementOf kind l .words))
       (encodedFrom (lines + 1) (at + length l + 1) (statementOf kind l .kind) (size + statementOf kind l .size) ls)

@@ -11,7 +11,7 @@ use Rattle.encode.specs.declared.Refusal.{Refusal}
 
 -- the most bytes that a text may have, and a trace (01, Numbers, 11)
 abbrev pub longestText : ℕ
-longestText = 1048576
+longestText = 5242880
 
 abbrev pub longestTrace : ℕ
 longestTrace = 65536

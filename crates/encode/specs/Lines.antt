@@ -17,7 +17,7 @@ expectedWords expected word =
     (pick (eqb expected aNumber) (counted (bytes ": a number of at most 32 bits was expected as word ") word)
     (pick (eqb expected theLineEnd) (counted (bytes ": the end of the line was expected before word ") word)
     (pick (eqb expected aShorterTrace) (bytes ": the trace is longer than 65536 bytes")
-    (bytes ": the text is longer than 1048576 bytes")))))
+    (bytes ": the text is longer than 5242880 bytes")))))
 
 unfoldable pub refusedLine : Refusal → List ℕ
 refusedLine r = counted (bytes "line ") (r .line) ++ expectedWords (r .expected) (r .word) ++ (newline ∷ [])

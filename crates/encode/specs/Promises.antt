@@ -105,18 +105,18 @@ pub record Promises : Type 0 where
   pub endsUnnamed : (lines at size : ℕ) → encodedFrom lines at 5 size [] ≡ record { refusal = record { expected = 1; line = lines; word = 1 }; bytes = [] }
   pub ends : (lines at kind size : ℕ) → kind ≢ 5
       → encodedFrom lines at kind size [] ≡ record { refusal = record { expected = 0; line = 0; word = 0 }; bytes = [] }
-  -- a line that does not end within 1,048,576 bytes is refused, whatever it says; lines count from 1
-  pub textTooLong : (lines at kind size : ℕ) (l : List ℕ) (ls : List (List ℕ)) → 1048576 < at + length l
+  -- a line that does not end within 5,242,880 bytes is refused, whatever it says; lines count from 1
+  pub textTooLong : (lines at kind size : ℕ) (l : List ℕ) (ls : List (List ℕ)) → 5242880 < at + length l
       → encodedFrom lines at kind size (l ∷ ls) ≡ record { refusal = record { expected = 6; line = lines + 1; word = 0 }; bytes = [] }
   -- one by which the trace would have more than 65,536 bytes is too
-  pub traceTooLong : (lines at kind size : ℕ) (l : List ℕ) (ls : List (List ℕ)) → at + length l ≤ 1048576 → 65536 < size + statementOf kind l .size
+  pub traceTooLong : (lines at kind size : ℕ) (l : List ℕ) (ls : List (List ℕ)) → at + length l ≤ 5242880 → 65536 < size + statementOf kind l .size
       → encodedFrom lines at kind size (l ∷ ls) ≡ record { refusal = record { expected = 5; line = lines + 1; word = 0 }; bytes = [] }
   -- else its own refusal is told, and nothing behind it is read
-  pub lineRefused : (lines at kind size : ℕ) (l : List ℕ) (ls : List (List ℕ)) → at + length l ≤ 1048576 → size + statementOf kind l .size ≤ 65536
+  pub lineRefused : (lines at kind size : ℕ) (l : List ℕ) (ls : List (List ℕ)) → at + length l ≤ 5242880 → size + statementOf kind l .size ≤ 65536
       → statementOf kind l .expected ≢ 0 → encodedFrom lines at kind size (l ∷ ls)
       ≡ record { refusal = record { expected = statementOf kind l .expected; line = lines + 1; word = statementOf kind l .word }; bytes = [] }
   -- or its bytes stand before those of the lines behind it
-  pub lineTaken : (lines at kind size : ℕ) (l : List ℕ) (ls : List (List ℕ)) → at + length l ≤ 1048576 → size + statementOf kind l .size ≤ 65536
+  pub lineTaken : (lines at kind size : ℕ) (l : List ℕ) (ls : List (List ℕ)) → at + length l ≤ 5242880 → size + statementOf kind l .size ≤ 65536
       → statementOf kind l .expected ≡ 0 → encodedFrom lines at kind size (l ∷ ls)
       ≡ after (bytesIn l (statementOf kind l .first) (statementOf kind l .words))
       (encodedFrom (lines + 1) (at + length l + 1) (statementOf kind l .kind) (size + statementOf kind l .size) ls)

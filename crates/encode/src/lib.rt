@@ -26,7 +26,7 @@ pub const SHORTER_TRACE: u32 = 5;
 pub const SHORTER_TEXT: u32 = 6;
 
 // The most bytes of a text, and of a trace.
-pub const LONGEST_TEXT: usize = 1048576;
+pub const LONGEST_TEXT: usize = 5242880;
 
 pub const LONGEST_TRACE: usize = 65536;
 
@@ -147,5 +147,5 @@ fn put_expected(out: &mut [u8], at: usize, expected: u32, word: usize) -> usize
     if expected == SHORTER_TRACE {
         return text::put_all(out, at, b": the trace is longer than 65536 bytes");
     }
-    text::put_all(out, at, b": the text is longer than 1048576 bytes")
+    text::put_all(out, at, b": the text is longer than 5242880 bytes")
 }

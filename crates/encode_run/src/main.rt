@@ -43,8 +43,8 @@ fn tell(what: &[u8]) {
 }
 
 // A room for the longest text and a byte more.
-fn text_room() -> [u8; 1048577]
-    ensures { λ r. ⌜ 1048577 ≡ length r ⌝ }
+fn text_room() -> [u8; 5242881]
+    ensures { λ r. ⌜ 5242881 ≡ length r ⌝ }
 {
-    [0; 1048577]
+    [0; 5242881]
 }

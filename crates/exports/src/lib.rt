@@ -2,12 +2,15 @@
 // callers in Rust and C. A slice goes as a pointer and a length, in this order; a length and an offset are of the width of a pointer. include/wisteria.h
 // declares the functions for C, and says what a caller answers for.
 ghost use mathlib.Core.Path.{_≡_};
+ghost use mathlib.Core.List.{[], _∷_};
 ghost use Rattle.text.specs.Text.{laid};
 ghost use Rattle.reports.specs.Play.{playOf};
 ghost use Rattle.lines.specs.Listing.{listingOf};
 ghost use Rattle.play_looked.specs.After.{wordsAfter};
 ghost use Rattle.tally.specs.Tally.{tallyOf};
 ghost use Rattle.tables.specs.Reading.{answerTo};
+ghost use Rattle.encode.specs.Encode.{encoded};
+ghost use Rattle.explain.specs.Explain.{explainedOf, explainedWindow};
 ghost use Rattle.coreinterrupt_lent.specs.Lent.{leftBy, startOver, stepTold};
 
 // Writes the listing of a trace of at most `limit` steps to the start of the lent buffer. Answers the number of bytes written: what finds no room
@@ -145,4 +148,45 @@ pub extern "C" fn wisteria_core_step(
         refusal: a.refusal,
         value: a.value,
     }
+}
+
+// Writes the explanation of a trace, of which at most `limit` steps are played, to the start of the lent buffer. Answers the number of bytes written: what
+// finds no room is dropped, and the rest of the buffer stays as it was. An explanation of 20,000 steps has at most 5,242,880 bytes.
+#[no_mangle]
+pub extern "C" fn wisteria_explain(trace: &[u8], limit: u32, out: &mut [u8]) -> usize
+    ensures { λ r. ⌜ (now (out .exit), r) ≡ laid (now (out .entry)) (explainedOf (now (trace .entry)) limit) ⌝ }
+{
+    explain::explain(trace, limit, out)
+}
+
+// The lines of `steps` steps from the step `first` on, counted from 1, and nothing else.
+#[no_mangle]
+pub extern "C" fn wisteria_explain_window(
+    trace: &[u8],
+    limit: u32,
+    first: u32,
+    steps: u32,
+    out: &mut [u8],
+) -> usize
+    ensures { λ r. ⌜ (now (out .exit), r) ≡ laid (now (out .entry)) (explainedWindow (now (trace .entry)) limit first steps) ⌝ }
+{
+    explain::explain_window(trace, limit, first, steps, out)
+}
+
+// Writes the bytes of the trace that a text stands for to the start of the lent buffer, and to the lent array what was expected (0 where the text is taken),
+// in which line and as which word of it, each counted from 1. Answers the number of bytes written, as above; of a text that is refused these are the bytes
+// of the statements before.
+#[no_mangle]
+pub extern "C" fn wisteria_encode<'a>(
+    text: &'a [u8],
+    out: &'a mut [u8],
+    refusal: &'a mut [usize; 3],
+) -> usize
+    ensures bytes { λ r. ⌜ (now (out .exit), r) ≡ laid (now (out .entry)) (encoded (now (text .entry)) .bytes) ⌝ }
+    ensures expected { λ _. ⌜ now (refusal .exit) ≡ encoded (now (text .entry)) .refusal .expected ∷ encoded (now (text .entry)) .refusal .line ∷ encoded (now (text .entry)) .refusal .word ∷ [] ⌝ }
+{
+    let e = encode::encode(text, out);
+    let r = e.refusal;
+    *refusal = [r.expected as usize, r.line, r.word];
+    e.bytes
 }

@@ -3,27 +3,21 @@
 use crate::stack::text::NUMBERS;
 use crate::stack::Table;
 
-/// How a number is typed.
-#[derive(Clone, Copy, Debug, PartialEq, Eq)]
-pub enum Form {
-    Decimal,
-    /// Decimal with zeros before it.
-    Zeros,
-    SmallLetters,
-    LargeLetters,
-    /// Hexadecimal with letters of either case in turn, and zeros before it.
-    MixedLetters,
+listed! {
+    /// How a number is typed.
+    #[derive(Clone, Copy, Debug, PartialEq, Eq)]
+    pub enum Form {
+        Decimal,
+        /// Decimal with zeros before it.
+        Zeros,
+        SmallLetters,
+        LargeLetters,
+        /// Hexadecimal with letters of either case in turn, and zeros before it.
+        MixedLetters,
+    }
 }
 
 impl Form {
-    pub const ALL: [Form; 5] = [
-        Form::Decimal,
-        Form::Zeros,
-        Form::SmallLetters,
-        Form::LargeLetters,
-        Form::MixedLetters,
-    ];
-
     fn typed(self, value: u32) -> Vec<u8> {
         let word = match self {
             Form::Decimal => format!("{value}"),

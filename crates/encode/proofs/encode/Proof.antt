@@ -16,7 +16,7 @@ abbrev Inv-loop : tie.InvT-loop
 Inv-loop text out₀ place₀ kind₀ size₀ lines₀ at₀ out place kind size lines at =
     (leftOf text lines at kind size .refusal ≡ encoded text .refusal)
     × (write (out, place) (leftOf text lines at kind size .bytes) ≡ write (out₀, 0) (encoded text .bytes))
-    × (length out ≡ length out₀) × (size ≤ longestTrace) × (lines ≤ at) × (at ≤ 1048577)
+    × (length out ≡ length out₀) × (size ≤ longestTrace) × (lines ≤ at) × (at ≤ 5242881)
 
 abbrev μ-loop : tie.MeasureT-loop
 μ-loop text out₀ place₀ kind₀ size₀ lines₀ at₀ out place kind size lines at = length text + 1 - at

@@ -1,0 +1,63 @@
+//! Traces explained, by hand and against wrong writers: every rule of a line, every register's name and section.
+
+#[path = "explained/lines.rs"]
+mod lines;
+#[path = "explained/registers.rs"]
+mod registers;
+#[path = "explained/wrong.rs"]
+mod wrong;
+
+use bench::compare::Subject;
+use bench::explained::reached::Coverage;
+use bench::explained::{explain, Asked};
+use bench::numbered::Numbered;
+use bench::tally::Listed;
+use bench::trace::PROGRAM_LIMIT;
+use bench::typed::encode;
+
+/// The first explanations, of which most are sweeps, but for the few long ones.
+fn asked(count: usize) -> Vec<Asked> {
+    let generator = Numbered::<Asked>::new(1);
+    let cases = generator.cases(0..count).map(|(_, asked)| asked);
+    cases
+        .filter(|asked| asked.case.trace.len() <= 6_000)
+        .collect()
+}
+
+/// The explanation of a text.
+fn explained(text: &str) -> String {
+    let trace = encode(text.as_bytes()).expect("the text has the form");
+    let text = explain(&trace, PROGRAM_LIMIT);
+    String::from_utf8(text).expect("an explanation is plain text")
+}
+
+/// The comments of a text's steps, without their numbers.
+fn comments(text: &str) -> Vec<String> {
+    let explained = explained(text);
+    let lines = explained.lines().skip(1).enumerate();
+    let comments = lines.map(|(at, line)| {
+        let (_, comment) = line.split_once("# ").expect("a line has a comment");
+        let number = (at + 1).to_string();
+        let rest = comment
+            .strip_prefix(&number)
+            .expect("it begins by its number");
+        rest.strip_prefix("; ").unwrap_or(rest).trim().to_owned()
+    });
+    comments.collect()
+}
+
+/// What is said of the last step of a text.
+fn last(text: &str) -> String {
+    comments(text).pop().expect("there is a step")
+}
+
+#[test]
+fn the_sweeps_alone_reach_every_item() {
+    let generator = Numbered::<Asked>::new(1);
+    let mut coverage = Coverage::default();
+    for (_, asked) in generator.cases(0..generator.sweeps()) {
+        asked.by_model(&mut coverage);
+    }
+    assert_eq!(coverage.gaps(), []);
+    assert_eq!(Coverage::listed_twice(), []);
+}

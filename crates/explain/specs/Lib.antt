@@ -1,0 +1,4 @@
+-- A trace explained: its statements in canonical form, what is said of each step, and what is promised of that.
+pub mod Explain
+pub mod Promises
+pub mod Stated

@@ -1,0 +1,32 @@
+-- That `put_either` of src/fields.rt keeps its contract.
+use mathlib.Core.Path.{refl, ap, _∙_}
+use Rattle.text.specs.Text.{write}
+use Rattle.text.proofs.WriteLaws.{same-length as same-len}
+use Rattle.words.proofs.ChoiceLaws.{pick-true, pick-false}
+use Rattle.register_words.proofs.fields.put_either.Statement.{statement}
+use Rattle.register_words.proofs.fields.put_either.Tie as tie
+
+returns : tie.Need-returns
+returns c =
+    let p = c .before .before in
+    let i = p .before .before in
+    p .put-all .ensures
+    ∙ ap (write _) (pick-true _ (i .if1 .taken))
+
+returns-2 : tie.Need-returns-2
+returns-2 c =
+    let p = c .before .before in
+    let i = p .before .before in
+    p .put-all2 .ensures
+    ∙ ap (write _) (pick-false _ (i .if1 .left))
+
+pub put-either-spec : {M : Type 1} → statement M
+put-either-spec =
+    tie.close
+    (tie.spec
+    (λ c κs. tt)
+    (λ c. same-len _ _ _ (returns c))
+    returns
+    (λ c κs. tt)
+    (λ c. same-len _ _ _ (returns-2 c))
+    returns-2)
