@@ -27,12 +27,13 @@ use Rattle.aic_sources.proofs.HandlerLaws.{candidate-source}
 use Rattle.aic_registers.specs.Handlers.{opened, startedAt}
 use Rattle.aic.specs.Model.{step}
 use Rattle.aic.proofs.HandlerLaws.{started-is}
-use Rattle.aic_runs.specs.Counted.{takes, begins, starts, startedBy, levelOf, closes}
+use Rattle.aic_runs.specs.Counted.{takes, begins, starts, startedBy, startsOf, startsOther, levelOf, closes}
 use Rattle.aic_runs.proofs.CountedLaws.{started-one, started-room}
 use Rattle.aic_runs.proofs.StepLaws.{depth-law, start-law}
-use Rattle.aic_waits.specs.Figures.{isOpen}
-use Rattle.aic_waits.specs.Following.{Figures, startedFrom, figuresWith, figuresBy, followed}
-use Rattle.aic_waits.proofs.FigureLaws.{none-more, mark-more, some-more}
+use Rattle.aic_waits.specs.Figures.{waitNext, waitAfter, isOpen}
+use Rattle.aic_waits.specs.Following.{Figures, capped, startedFrom, standsBy, figuresWith, figuresBy, followed}
+use Rattle.aic_waits.proofs.FigureLaws.{capped-is, none-more, mark-more, some-more}
+use Rattle.aic_waits.proofs.RunLaws.{wait-most}
 
 chosen-most : (s : Aic) → chosen s ≤ 32
 unfolding chosen
@@ -106,3 +107,17 @@ all-from f t by waits opens r w o g =
 pub follow-tells : (f : Figures) (s : Aic) (x : Step) → length (s .source) ≡ 8 → sound s ≡ true → figuresBy (startedFrom (s .depth) (step s x .aic)) (step s x .aic) f ≡ followed f s x
 unfolding followed
 follow-tells f s x h ok = ap (λ (n : ℕ). figuresBy n (step s x .aic) f) (tells s x h ok)
+
+-- how it stands with one source
+pub stands-from : (t : Aic) (w i by waits : ℕ) {h : Bool} {r : ℕ} → i < 32 → waits ≡ wordOf 32 (waiting t) → h ≡ bit waits i
+    → r ≡ capped (waitNext w h (eqb i by) (ltb by 32 && not (eqb i by))) → r ≡ standsBy by t w i
+stands-from t w i by waits l e f g =
+    g ∙ ap (λ (h : Bool). capped (waitNext w h (eqb i by) (ltb by 32 && not (eqb i by)))) (f ∙ ap (λ (n : ℕ). bit n i) e ∙ bit-wordOf 32 (waiting t) i l)
+
+-- what the record after a step tells of one source is the step's
+pub stands-tells : (s : Aic) (x : Step) (w i : ℕ) → length (s .source) ≡ 8 → sound s ≡ true → w + 2 ≤ 4294967295
+    → standsBy (startedFrom (s .depth) (step s x .aic)) (step s x .aic) w i ≡ waitAfter i w s x
+unfolding startsOf startsOther
+stands-tells s x w i h ok l =
+    ap (λ (n : ℕ). standsBy n (step s x .aic) w i) (tells s x h ok)
+    ∙ sym (capped-is (waitAfter i w s x) (omega (arith, l, wait-most w (waiting (step s x .aic) i) (startsOf i s x) (startsOther i s x))))

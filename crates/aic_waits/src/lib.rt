@@ -6,7 +6,7 @@ ghost use Rattle.words.specs.Counting.{one, upto};
 ghost use Rattle.words.specs.Word.{bit, wordOf};
 ghost use Rattle.aic_sources.specs.Normal.{waiting};
 ghost use Rattle.aic_waits.specs.Figures.{waitNext, isOpen};
-ghost use Rattle.aic_waits.specs.Following.{tables, capped, startedFrom, figuresWith, figuresBy};
+ghost use Rattle.aic_waits.specs.Following.{tables, capped, startedFrom, standsBy, figuresWith, figuresBy};
 use aic_record::Aic;
 
 // Moves the figures of all sources on by one step: the record after it, and how many entries were open before it, tell all. For each source the handlers
@@ -26,6 +26,18 @@ pub fn follow<'a>(
     let waits = waiting_word(t);
     let opens = open_word(t);
     figures_all(started, wait, waited, entries, by, waits, opens, t.depth);
+}
+
+// How it stands with source i after a step, by how it stood: as `follow` moves it on for all sources.
+pub fn stands(w: u32, i: u32, before: u32, t: Aic) -> u32
+    requires { ⌜ i < 32 ⌝ }
+    ensures { λ r. ⌜ r ≡ standsBy (startedFrom before t) t w i ⌝ }
+{
+    let by = started_from(before, t);
+    let own = i == by;
+    let other = (by < 32) & !own;
+    let waits = words::has(waiting_word(t), i);
+    wait_next(w, waits, own, other)
 }
 
 // ---- words of a record
