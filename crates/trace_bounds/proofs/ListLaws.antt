@@ -2,7 +2,7 @@
 use Prim.Native.Nat.{ℕ, _+_, _≤_, _<_}
 use mathlib.Core.Path.{_≡_, refl, sym, ap, ap₂, _∙_}
 use mathlib.Core.Bool.{Bool, true, false, _&&_}
-use mathlib.Core.List.{List, _++_}
+use mathlib.Core.List.{List, [], _∷_, _++_}
 use native.Mathlib.Omega.{arith}
 use lib.Dec.{eqb, leb}
 use lib.ListN.{length}
@@ -38,7 +38,7 @@ use Rattle.tally.proofs.LengthLaws.{begun-length}
 use Rattle.trace_bounds.specs.Waits.{waitsOf}
 use Rattle.trace_bounds.specs.Lines.{waitLines, lastLine, noBeginning, noWaits, noSource}
 use Rattle.trace_bounds.specs.Listing.{mostPlayed, isSource, linesOver, linesOf, isListed, boundText}
-use Rattle.trace_bounds.specs.Figures.{figuresIn, summaryOf}
+use Rattle.trace_bounds.specs.Figures.{figuresIn, countsOf, sixOf, termsOf}
 
 pub source-small : (k : ℕ) → isSource k ≡ true → k < 32
 unfolding isSource
@@ -155,19 +155,10 @@ pub no-figures : (s : List ℕ) (limit k : ℕ) → isListed s k ≡ false → n
 unfolding figuresIn
 no-figures s limit k h = pick-false _ h
 
-pub summed-is : (f : Figures) (b : Bound) (u : ℕ) → b ≡ largestNow f → u ≡ unendedNow f
-    → record {
-      waits = f .begun;
-      unended = u;
-      unbounded = f .unbounded;
-      first = f .first;
-      pending = b .pending;
-      edges = b .edges;
-      commands = b .commands;
-      turns = b .turns;
-      closed = b .closed;
-      remembered = b .remembered;
-    }
-    ≡ summaryOf f
-unfolding summaryOf
-summed-is f b u e g = rw (e, g)
+pub counts-are : (f : Figures) (u : ℕ) → u ≡ unendedNow f → f .begun ∷ u ∷ f .unbounded ∷ f .first ∷ [] ≡ countsOf f
+unfolding countsOf
+counts-are f u e = rw e
+
+pub terms-are : (f : Figures) (b : Bound) → b ≡ largestNow f → b .pending ∷ b .edges ∷ b .commands ∷ b .turns ∷ b .closed ∷ b .remembered ∷ [] ≡ termsOf f
+unfolding termsOf sixOf
+terms-are f b e = rw e

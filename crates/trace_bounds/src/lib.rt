@@ -18,7 +18,7 @@ ghost use Rattle.trace_bounds.specs.Waits.{waited, onlyIf, waitsOf};
 ghost use Rattle.trace_bounds.specs.Lines.{endWords, termWords, boundWords, waitLine, waitLines, mostWords, lastLine};
 ghost use Rattle.trace_bounds.specs.Lines.{noBeginning, noWaits, noSource};
 ghost use Rattle.trace_bounds.specs.Listing.{isSource, isListed, linesOf, boundText};
-ghost use Rattle.trace_bounds.specs.Figures.{figuresIn, summaryOf};
+ghost use Rattle.trace_bounds.specs.Figures.{figuresIn, countsOf, termsOf};
 use aic_bounds::Bound;
 use aic_record::Aic;
 use aic_wait_figures::Figures;
@@ -30,21 +30,6 @@ use trace::Turn;
 pub struct Listed {
     pub listed: bool,
     pub bytes: usize,
-}
-
-// The waits that began, of these those that did not end and those without a bound; the number of the first step by which one has none, 0 where all have
-// one; the six terms of the largest bound, in handlers.
-pub struct Summary {
-    pub waits: u32,
-    pub unended: u32,
-    pub unbounded: u32,
-    pub first: u32,
-    pub pending: u32,
-    pub edges: u32,
-    pub commands: u32,
-    pub turns: u32,
-    pub closed: u32,
-    pub remembered: u32,
 }
 
 // What was told of some steps: how far the text goes, the figures, and how the steps ended and where.
@@ -142,24 +127,28 @@ pub fn figures(trace: &[u8], limit: u32, source: u32) -> Figures
     aic_wait_figures::no_figures()
 }
 
-// What is told of figures.
-pub fn summed(f: Figures) -> Summary
-    ensures { λ r. ⌜ r ≡ summaryOf f ⌝ }
+// The waits that began, of these those that did not end and those without a bound; the number of the first step by which one has none, 0 where all have
+// one.
+pub fn counts_of(f: Figures) -> [u32; 4]
+    ensures { λ r. ⌜ r ≡ countsOf f ⌝ }
+{
+    let unended = aic_wait_figures::unended_now(f);
+    [f.begun, unended, f.unbounded, f.first]
+}
+
+// The six terms of the largest bound: handlers.
+pub fn terms_of(f: Figures) -> [u32; 6]
+    ensures { λ r. ⌜ r ≡ termsOf f ⌝ }
 {
     let b = aic_wait_figures::largest_now(f);
-    let unended = aic_wait_figures::unended_now(f);
-    Summary {
-        waits: f.begun,
-        unended,
-        unbounded: f.unbounded,
-        first: f.first,
-        pending: b.pending,
-        edges: b.edges,
-        commands: b.commands,
-        turns: b.turns,
-        closed: b.closed,
-        remembered: b.remembered,
-    }
+    [
+        b.pending,
+        b.edges,
+        b.commands,
+        b.turns,
+        b.closed,
+        b.remembered,
+    ]
 }
 
 // The largest bound: handlers.
