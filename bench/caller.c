@@ -150,6 +150,45 @@ static void figures(void)
     counts("another kind, with a refused step", BYTES("\3\3\0\1\1\1\1"), 100, 1, none, none);
 }
 
+/* The waits of a source: how many began, did not end and have no bound, the first step by which one has none; the terms of the largest bound and, as
+ * the answer, their sum. The word behind each array stays as it was. */
+struct bounded {
+    uint32_t waits[WISTERIA_WAIT_COUNTS], terms[WISTERIA_BOUND_TERMS];
+};
+
+static void bounds(const char *what, const uint8_t *trace, size_t length, uint32_t limit, uint32_t source, struct bounded expected)
+{
+    uint32_t waits[WISTERIA_WAIT_COUNTS + 1], terms[WISTERIA_BOUND_TERMS + 1], term;
+    uint64_t most = 0;
+    for (term = 0; term < WISTERIA_BOUND_TERMS; term++)
+        most += expected.terms[term];
+    memset(waits, 0xA5, sizeof waits);
+    memset(terms, 0xA5, sizeof terms);
+    expect(what, wisteria_bounds(trace, length, limit, source, waits, terms) == most);
+    expect(what, memcmp(waits, expected.waits, sizeof expected.waits) == 0);
+    expect(what, memcmp(terms, expected.terms, sizeof expected.terms) == 0);
+    expect(what, waits[WISTERIA_WAIT_COUNTS] == 0xA5A5A5A5 && terms[WISTERIA_BOUND_TERMS] == 0xA5A5A5A5);
+}
+
+/* Source 4 of the trace above waits from its line on, behind source 6, which is set by two commands; then a mode is written while it waits. */
+static void bounded(void)
+{
+    static const uint8_t trace[] = {0, 0, 0,                                                            /* an AIC, all internal, all low */
+                                    2, 0x10, 0x40, 2, 0x18, 0x67, 2, 0xA0, 2, 0x50, 3, 4, 1,            /* two modes, enable both, line 4 */
+                                    2, 0xAC, 2, 0x40, 1, 0x80, 2, 2, 0xB0, 2, 0,                        /* source 6: set, start, close */
+                                    2, 0xAC, 2, 0x40, 2, 0x1C, 0};                                      /* set once more; the mode of source 7 */
+    static const struct bounded none = {{0, 0, 0, 0}, {0, 0, 0, 0, 0, 0}};
+    bounds("two commands", trace, sizeof trace, 8, 4, (struct bounded){{1, 1, 0, 0}, {0, 0, 2, 0, 0, 0}});
+    bounds("one command", trace, sizeof trace, 7, 4, (struct bounded){{1, 1, 0, 0}, {0, 0, 1, 0, 0, 0}});
+    bounds("a rewrite", trace, sizeof trace, 100, 4, (struct bounded){{1, 1, 1, 9}, {0, 0, 0, 0, 0, 0}});
+    bounds("the source ahead", trace, sizeof trace, 100, 6, (struct bounded){{2, 1, 1, 9}, {0, 0, 0, 0, 0, 0}});
+    bounds("source 0", trace, sizeof trace, 100, 0, none);
+    bounds("source 32", trace, sizeof trace, 100, 32, none);
+    bounds("source 36", trace, sizeof trace, 100, 36, none);
+    bounds("the empty trace", trace, 0, 100, 4, none);
+    bounds("another kind", BYTES("\3\3\0\1\1\1\1"), 100, 4, none);
+}
+
 /* A table: a row for source 0, one for source 1, the same row for all others, the forced word and the mark's frame. Any of them may be any text. */
 static const char *table(const char *nought, const char *one, const char *others, const char *forced, const char *mark)
 {
@@ -370,6 +409,7 @@ int main(void)
     lengths();
     words_looked_at();
     figures();
+    bounded();
     stacks();
     typing();
     explanations();

@@ -1,5 +1,6 @@
 /* Lists and plays recorded traces of register accesses and line changes, says how many words a read of an index looks at, counts what the sources of an
- * AIC did, says the stack that a priority table needs, explains a trace and encodes it from text, and steps a CoreInterrupt that the caller holds, for callers in C and C++.
+ * AIC did, says what bounds their waits, says the stack that a priority table needs, explains a trace and encodes it from text, and steps a CoreInterrupt
+ * that the caller holds, for callers in C and C++.
  *
  * The functions are those of crates/exports, proved to answer what its contracts say for every trace, limit, text and record. Link
  * libexports.a, which `rt staticlib exports` writes (x86-64); bench/prepare also makes it for other machines.
@@ -88,6 +89,34 @@ uint32_t wisteria_looked(const uint8_t *trace, size_t trace_len, uint32_t limit,
  * Of source 0, of another kind of controller, and where the trace has no accepted configuration, all are 0.
  * Answers the number of steps refused among the steps played, by 1 to 4, 6 or 13. */
 uint32_t wisteria_figures(const uint8_t *trace, size_t trace_len, uint32_t limit, uint32_t *started, uint32_t *waited, uint32_t *entries);
+
+/* Where each number stands that wisteria_bounds writes: in `waits`, and in `terms`, which are in handlers. A rival is a source ahead of the waiting one
+ * (of a higher priority, or an equal one and a lower number) that is not fast when the wait begins; it counts from where it is enabled. */
+enum {
+    WISTERIA_WAITS = 0,                /* waits that began */
+    WISTERIA_WAITS_UNENDED = 1,        /* of these, waits that did not end by the last step: 0 or 1 */
+    WISTERIA_WAITS_UNBOUNDED = 2,      /* of these, waits without a bound: a mode, FFER or FFDR was written in them */
+    WISTERIA_FIRST_UNBOUNDED_STEP = 3, /* the step, counted from 1, by which the first of those lost it; 0 where all have one */
+    WISTERIA_WAIT_COUNTS = 4
+};
+enum {
+    WISTERIA_PENDING = 0,       /* rivals that are due where they begin to count */
+    WISTERIA_EDGES = 1,         /* edges of edge-triggered rivals */
+    WISTERIA_COMMANDS = 2,      /* set commands to edge-triggered rivals */
+    WISTERIA_TURNS = 3,         /* turns to active of the lines of level-sensitive rivals */
+    WISTERIA_CLOSED_ACTIVE = 4, /* handlers of level-sensitive rivals that were closed while their line was active */
+    WISTERIA_REMEMBERED = 5,    /* another source that was remembered when the wait began: 0 or 1 */
+    WISTERIA_BOUND_TERMS = 6
+};
+
+/* The bounds of the waits of source `source` over the steps played of the trace; a wait is that of `waited` above. waits points to WISTERIA_WAIT_COUNTS
+ * words and terms to WISTERIA_BOUND_TERMS words, which nothing else uses and which do not overlap; all of them are written.
+ * The bound of a wait is how many handlers of other sources could at most be started in it, worked out from its own steps. Answers the largest bound of
+ * the waits that have one, in handlers: the sum of the six terms, which are those of the first wait that has it. A wait that did not end has its bound
+ * of that moment. No wait that has a bound starts more.
+ * All are 0 for source 0, which never waits, and for numbers over 31, for another kind of controller, and where the trace has no accepted
+ * configuration. */
+uint64_t wisteria_bounds(const uint8_t *trace, size_t trace_len, uint32_t limit, uint32_t source, uint32_t *waits, uint32_t *terms);
 
 /* Writes one line about a priority table of the AIC to the start of out: how many bytes of stack the open handlers and spurious marks can take
  * at once.

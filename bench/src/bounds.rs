@@ -4,6 +4,7 @@
 //! interval of the records, as in a report, and each term of its bound is counted over that interval, rival by rival.
 
 pub mod kept;
+pub mod text;
 pub mod waits;
 
 use crate::model::aic::Aic;

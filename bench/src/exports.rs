@@ -49,6 +49,17 @@ extern "C" {
         entries: *mut [u32; SOURCES],
     ) -> u32;
 
+    /// Writes the figures of all waits of a source into the lent words, how many began, of these did not end and have no
+    /// bound, the first step by which one has none, and the terms of the largest bound; answers this bound: handlers.
+    fn wisteria_bounds(
+        trace: *const u8,
+        trace_len: usize,
+        limit: u32,
+        source: u32,
+        waits: *mut [u32; 4],
+        terms: *mut [u32; 6],
+    ) -> u64;
+
     /// Writes the line of the lent text of a table into the lent buffer and answers the bytes written, as above.
     fn wisteria_stack(text: *const u8, text_len: usize, out: *mut u8, out_len: usize) -> usize;
 
@@ -236,6 +247,24 @@ pub fn figures_into(trace: &[u8], limit: u32, words: &mut Words) -> u32 {
             &mut words.entries,
         )
     }
+}
+
+/// The waits of a source over a trace: the counts, the terms of the largest bound, and this bound.
+pub fn bounds_of(trace: &[u8], limit: u32, source: u32) -> ([u32; 4], [u32; 6], u64) {
+    // No figure has this value, so that a word that is not written differs.
+    let (mut waits, mut terms) = ([0xA5A5_A5A5; 4], [0xA5A5_A5A5; 6]);
+    // The first pointer comes from a slice of the length that goes with it; the others lead to two arrays apart.
+    let most = unsafe {
+        wisteria_bounds(
+            trace.as_ptr(),
+            trace.len(),
+            limit,
+            source,
+            &mut waits,
+            &mut terms,
+        )
+    };
+    (waits, terms, most)
 }
 
 /// The figures of a trace.

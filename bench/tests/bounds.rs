@@ -8,6 +8,7 @@ mod tables;
 #[path = "bounds/wrong.rs"]
 mod wrong;
 
+use bench::bounds::text::told;
 use bench::bounds::waits::{last, Bound};
 use bench::bounds::Records;
 use bench::model::aic::SOURCES;
@@ -120,4 +121,18 @@ fn generated_traces_reach_every_term_end_and_break() {
         }
     }
     assert!(reached.iter().all(|&times| times > 20), "{reached:?}");
+}
+
+#[test]
+fn the_waits_of_the_example_are_those_of_the_program_and_slips_are_told() {
+    let folder = concat!(env!("CARGO_MANIFEST_DIR"), "/../examples");
+    let trace = std::fs::read(format!("{folder}/bound.trace")).expect("the example is there");
+    let waits = std::fs::read_to_string(format!("{folder}/bound.waits"));
+    assert_eq!(told(&trace, "9"), Ok(waits.expect("its waits are there")));
+    let slip = Err("no bound: a source that waits is a number from 1 to 31\n".to_owned());
+    for word in ["", "0", "32", "+9", "9 ", "x", "4294967305"] {
+        assert_eq!(told(&trace, word), slip, "{word:?}");
+    }
+    assert!(told(&[], "9").is_err_and(|line| line.ends_with("E 8 0\n")));
+    assert!(told(&[3], "9").is_err_and(|line| line.contains("not of an AIC")));
 }

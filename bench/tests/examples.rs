@@ -61,7 +61,7 @@ fn each_example_has_its_three_files() {
     let examples = examples();
     assert!(examples.len() >= 12);
     for (name, mut files) in examples {
-        files.retain(|ending, _| ending != "vcd" && ending != "svg");
+        files.retain(|ending, _| !["vcd", "svg", "waits"].contains(&ending.as_str()));
         let endings: Vec<&str> = files.keys().map(String::as_str).collect();
         match AS_BYTES.contains(&name.as_str()) {
             true => assert_eq!(endings, ["hex", "listing", "trace"], "{name}"),

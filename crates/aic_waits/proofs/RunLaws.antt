@@ -105,7 +105,7 @@ module _ (f : Figures) (s : Aic) (x : Step) where
 
 -- ---- a run
 
-wait-most : (w : ℕ) (waits own other : Bool) → waitNext w waits own other ≤ w + 2
+pub wait-most : (w : ℕ) (waits own other : Bool) → waitNext w waits own other ≤ w + 2
 unfolding waitNext
 wait-most w waits own other =
     pick-cases (λ n. n ≤ w + 2) (not waits) (λ _. omega arith)

@@ -1,34 +1,38 @@
--- What the entries of the records before and after a step tell of a start.
+-- What the entries of the records before and after a step tell of a start, and how it stands with one source then.
 use Prim.Native.Nat.{ℕ, _+_, _≤_, _<_}
 use mathlib.Core.Path.{_≡_, refl, sym, ap, _∙_}
-use mathlib.Core.Bool.{true, false, _&&_, _||_}
+use mathlib.Core.Bool.{Bool, true, false, not, _&&_, _||_}
 use mathlib.Core.Logic.{_≢_, _⊎_, inl, inr}
 use native.Mathlib.Omega.{arith}
-use lib.Dec.{eqb}
+use lib.Dec.{eqb, ltb}
 use native.Mathlib.Decide.{decLt}
 use lib.ListN.{getD, set, length}
 use lib.Seq.{getD-set-same}
 use borrow.Author.Tests.{eqb-true, ltb-true}
 use Rattle.words.specs.Counting.{one}
+use Rattle.words.specs.Word.{bit, wordOf}
 use Rattle.words.proofs.ChoiceLaws.{pick-cases}
 use Rattle.words.proofs.TruthLaws.{and-right, told, clash}
 use Rattle.words.proofs.CountingLaws.{lowest-found}
+use Rattle.words.proofs.WordLaws.{bit-wordOf}
 use Rattle.steps.specs.declared.Step.{Step}
 use Rattle.aic_record.specs.declared.Aic.{Aic}
 use Rattle.aic_record.specs.Sound.{sourceAt, levelBelow, sound}
 use Rattle.aic_record.specs.Record.{withSeen}
 use Rattle.aic_record.proofs.SoundLaws.{seen-sound}
-use Rattle.aic_sources.specs.Normal.{foremost, candidates, chosen}
+use Rattle.aic_sources.specs.Normal.{waiting, foremost, candidates, chosen}
 use Rattle.aic_sources.proofs.OrderLaws.{chosen-is}
 use Rattle.aic_sources.proofs.HandlerLaws.{candidate-source}
 use Rattle.aic_registers.specs.Handlers.{opened, startedAt}
 use Rattle.aic.specs.Model.{step}
 use Rattle.aic.proofs.HandlerLaws.{started-is}
-use Rattle.aic_runs.specs.Counted.{takes, begins, starts, startedBy, levelOf, closes}
+use Rattle.aic_runs.specs.Counted.{takes, begins, starts, startedBy, startsOf, startsOther, levelOf, closes}
 use Rattle.aic_runs.proofs.CountedLaws.{started-one, started-room}
 use Rattle.aic_runs.proofs.StepLaws.{depth-law, start-law}
-use Rattle.aic_waits.specs.Following.{startedFrom}
-use Rattle.aic_waits.proofs.FigureLaws.{none-more, mark-more, some-more}
+use Rattle.aic_waits.specs.Figures.{waitNext, waitAfter}
+use Rattle.aic_waits.specs.Following.{capped, startedFrom, standsBy}
+use Rattle.aic_waits.proofs.FigureLaws.{capped-is, none-more, mark-more, some-more}
+use Rattle.aic_waits.proofs.RunLaws.{wait-most}
 
 chosen-most : (s : Aic) → chosen s ≤ 32
 unfolding chosen
@@ -83,3 +87,17 @@ tells s x h ok = go (told (starts s x)) (decLt (startedBy s x) 32)
     go (inr b) (no n) =
         let d : t .depth + one (closes s x) ≡ s .depth + 0 = depth-law s x ∙ rw b in
         let q : startedBy s x ≡ 32 = omega (arith, n, started-most s x ok) in sym (q ∙ none-more (s .depth) t (omega (arith, d)))
+
+-- how it stands with one source
+pub stands-from : (t : Aic) (w i by waits : ℕ) {h : Bool} {r : ℕ} → i < 32 → waits ≡ wordOf 32 (waiting t) → h ≡ bit waits i
+    → r ≡ capped (waitNext w h (eqb i by) (ltb by 32 && not (eqb i by))) → r ≡ standsBy by t w i
+stands-from t w i by waits l e f g =
+    g ∙ ap (λ (h : Bool). capped (waitNext w h (eqb i by) (ltb by 32 && not (eqb i by)))) (f ∙ ap (λ (n : ℕ). bit n i) e ∙ bit-wordOf 32 (waiting t) i l)
+
+-- what the record after a step tells of one source is the step's
+pub stands-tells : (s : Aic) (x : Step) (w i : ℕ) → length (s .source) ≡ 8 → sound s ≡ true → w + 2 ≤ 4294967295
+    → standsBy (startedFrom (s .depth) (step s x .aic)) (step s x .aic) w i ≡ waitAfter i w s x
+unfolding startsOf startsOther
+stands-tells s x w i h ok l =
+    ap (λ (n : ℕ). standsBy n (step s x .aic) w i) (tells s x h ok)
+    ∙ sym (capped-is (waitAfter i w s x) (omega (arith, l, wait-most w (waiting (step s x .aic) i) (startsOf i s x) (startsOther i s x))))

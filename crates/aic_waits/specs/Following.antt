@@ -32,6 +32,10 @@ noFigures = tables (replicate 32 0) (replicate 32 0) (replicate 32 0) (replicate
 unfoldable pub capped : ℕ → ℕ
 capped n = pick (leb n 4294967295) n 4294967295
 
+-- how it stands with source i, by how it stood, after a step that starts source `by` and leaves the record t
+abbrev pub standsBy : ℕ → Aic → ℕ → ℕ → ℕ
+standsBy by t w i = capped (waitNext w (waiting t i) (eqb i by) (ltb by 32 && not (eqb i by)))
+
 -- the figures with those of source i moved on by a step that starts source `by`, and after which these wait, and these are open, of so many entries
 abbrev pub figuresWith : ℕ → (ℕ → Bool) → (ℕ → Bool) → ℕ → Figures → ℕ → Figures
 figuresWith by waits opens depth f i =

@@ -1,6 +1,6 @@
-// The player, the listing, the words that a read looks at, the figures of a trace, the stack size of a typed table, and CoreInterrupt on a lent record, for
-// callers in Rust and C. A slice goes as a pointer and a length, in this order; a length and an offset are of the width of a pointer. include/wisteria.h
-// declares the functions for C, and says what a caller answers for.
+// The player, the listing, the words that a read looks at, the figures of a trace, the bounds of the waits of a source, the stack size of a typed table,
+// and CoreInterrupt on a lent record, for callers in Rust and C. A slice goes as a pointer and a length, in this order; a length and an offset are of the
+// width of a pointer. include/wisteria.h declares the functions for C, and says what a caller answers for.
 ghost use mathlib.Core.Path.{_≡_};
 ghost use mathlib.Core.List.{[], _∷_};
 ghost use Rattle.text.specs.Text.{laid};
@@ -8,6 +8,9 @@ ghost use Rattle.reports.specs.Play.{playOf};
 ghost use Rattle.lines.specs.Listing.{listingOf};
 ghost use Rattle.play_looked.specs.After.{wordsAfter};
 ghost use Rattle.tally.specs.Tally.{tallyOf};
+ghost use Rattle.aic_bounds.specs.Bounds.{boundOf};
+ghost use Rattle.aic_wait_figures.specs.Figures.{largestNow};
+ghost use Rattle.trace_bounds.specs.Figures.{figuresIn, countsOf, termsOf};
 ghost use Rattle.tables.specs.Reading.{answerTo};
 ghost use Rattle.encode.specs.Encode.{encoded};
 ghost use Rattle.explain.specs.Explain.{explainedOf, explainedWindow};
@@ -101,6 +104,29 @@ pub extern "C" fn wisteria_figures<'a>(
     let e = f.entries;
     *entries = e;
     t.refused
+}
+
+// Writes the figures of all waits of a source of an AIC over the steps played to the lent arrays: the waits that began, those of them that did not end,
+// those without a bound and the first step by which one has none; and the six terms of the largest bound. Answers this bound: handlers. All are 0 for
+// source 0 and for numbers over 31, for another kind of controller, and where the trace has no accepted configuration.
+#[no_mangle]
+pub extern "C" fn wisteria_bounds<'a>(
+    trace: &'a [u8],
+    limit: u32,
+    source: u32,
+    waits: &'a mut [u32; 4],
+    terms: &'a mut [u32; 6],
+) -> u64
+    ensures handlers { λ r. ⌜ r ≡ boundOf (largestNow (figuresIn (now (trace .entry)) limit source)) ⌝ }
+    ensures counted { λ _. ⌜ now (waits .exit) ≡ countsOf (figuresIn (now (trace .entry)) limit source) ⌝ }
+    ensures told { λ _. ⌜ now (terms .exit) ≡ termsOf (figuresIn (now (trace .entry)) limit source) ⌝ }
+{
+    let f = trace_bounds::figures(trace, limit, source);
+    let c = trace_bounds::counts_of(f);
+    *waits = c;
+    let t = trace_bounds::terms_of(f);
+    *terms = t;
+    trace_bounds::most(f)
 }
 
 // Writes the line that answers a typed table to the start of the lent buffer: the stack size that it needs, with the word bytes, or its refusal. Answers
