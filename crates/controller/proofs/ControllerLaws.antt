@@ -1,6 +1,6 @@
 -- Rooms word by word, starts that are accepted, and the one machine that may stand in a room.
 use Prim.Native.Nat.{ℕ, _≤_, _<_}
-use mathlib.Core.Path.{_≡_, refl, sym, ap, _∙_, subst}
+use mathlib.Core.Path.{_≡_, refl, sym, ap, ap₂, _∙_, subst}
 use mathlib.Core.Bool.{Bool, true, false}
 use mathlib.Core.List.{List, [], _∷_}
 use mathlib.Core.Logic.{_≢_, _⊎_, inl, inr, ⊎-elim}
@@ -12,6 +12,7 @@ use borrow.Author.Tests.{eq-eqb, eqb-true}
 use Rattle.words.proofs.CountingLaws.{all-at, at-all}
 use Rattle.words.specs.Choice.{pick}
 use Rattle.steps.specs.Refusals.{carriedOut, unknown, misconfigured}
+use Rattle.steps.specs.declared.Recorded.{Recorded}
 use Rattle.steps.specs.declared.Step.{Step}
 use Rattle.turns.specs.Turns.{made}
 use Rattle.rooms.specs.Reply.{Reply}
@@ -188,3 +189,7 @@ alone r n s = go (kind-of (n .kind))
 pub stepped-as : {before after : List ℕ} {x y : Step} {privilege : ℕ} {q : Reply} → x ≡ y → Stepped before (made x privilege) after q
     → Stepped before (made y privilege) after q
 stepped-as {before} {after} {x} {y} {privilege} {q} e h = subst (λ (z : Step). Stepped before (made z privilege) after q) e h
+
+-- the two numbers of a reply, each for itself
+pub stepped-to : {before after : List ℕ} {x : Recorded} {q : Reply} {r v : ℕ} → r ≡ q .0 → v ≡ q .1 → Stepped before x after q → Stepped before x after (r, v)
+stepped-to {before} {after} {x} e f h = subst (λ (p : Reply). Stepped before x after p) (sym (ap₂ (λ (a b : ℕ). (a, b)) e f)) h
