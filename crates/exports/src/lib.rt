@@ -2,11 +2,8 @@
 // and CoreInterrupt on a lent record, for callers in Rust and C. A slice goes as a pointer and a length, in this order; a length and an offset are of the
 // width of a pointer. include/wisteria.h declares the functions for C, and says what a caller answers for.
 ghost use mathlib.Core.Path.{_≡_};
-<<<<<<< HEAD
 ghost use mathlib.Core.List.{[], _∷_};
-=======
 ghost use Prim.Native.Nat.{ℕ};
->>>>>>> w-embed
 ghost use Rattle.text.specs.Text.{laid};
 ghost use Rattle.reports.specs.Play.{playOf};
 ghost use Rattle.lines.specs.Listing.{listingOf};
@@ -184,7 +181,6 @@ pub extern "C" fn wisteria_core_step(
     }
 }
 
-<<<<<<< HEAD
 // Writes the explanation of a trace, of which at most `limit` steps are played, to the start of the lent buffer. Answers the number of bytes written: what
 // finds no room is dropped, and the rest of the buffer stays as it was. An explanation of 20,000 steps has at most 5,242,880 bytes.
 #[no_mangle]
@@ -224,7 +220,6 @@ pub extern "C" fn wisteria_encode<'a>(
     let r = e.refusal;
     *refusal = [r.expected as usize, r.line, r.word];
     e.bytes
-=======
 // ---- one controller of any kind, in words that the caller lends (docs/EMBED.md)
 
 // Starts a controller of a kind with the numbers that configure it; numbers beyond its own are not looked at. Answers 0, 9 for an unknown kind or 10 for a
@@ -284,5 +279,4 @@ pub extern "C" fn wisteria_outputs<'a>(held: &'a [u32; 2048], columns: &'a mut [
     let three = [s.first, s.second, s.third];
     *columns = three;
     s.refusal
->>>>>>> w-embed
 }
