@@ -220,6 +220,8 @@ pub extern "C" fn wisteria_encode<'a>(
     let r = e.refusal;
     *refusal = [r.expected as usize, r.line, r.word];
     e.bytes
+}
+
 // ---- one controller of any kind, in words that the caller lends (docs/EMBED.md)
 
 // Starts a controller of a kind with the numbers that configure it; numbers beyond its own are not looked at. Answers 0, 9 for an unknown kind or 10 for a
