@@ -257,7 +257,7 @@ pub extern "C" fn wisteria_write(
     privilege: u32,
     value: u32,
 ) -> u32
-    ensures { λ r. ⌜ (v : ℕ) × Stepped (now (held .entry)) (made (Write offset value) privilege) (now (held .exit)) (r, v) ⌝ }
+    ensures { λ r. ⌜ ((v : ℕ) × Stepped (now (held .entry)) (made (Write offset value) privilege) (now (held .exit)) (r, v)) ⌝ }
 {
     let a = controller::write(held, offset, value, privilege);
     rooms::refusal_in(a)
@@ -266,7 +266,7 @@ pub extern "C" fn wisteria_write(
 // Puts a line to a level. Answers the refusal, 0 for none.
 #[no_mangle]
 pub extern "C" fn wisteria_line(held: &mut [u32; 2048], line: u32, level: u32) -> u32
-    ensures { λ r. ⌜ (v : ℕ) × Stepped (now (held .entry)) (made (Line line level) privileged) (now (held .exit)) (r, v) ⌝ }
+    ensures { λ r. ⌜ ((v : ℕ) × Stepped (now (held .entry)) (made (Line line level) privileged) (now (held .exit)) (r, v)) ⌝ }
 {
     let a = controller::line(held, line, level);
     rooms::refusal_in(a)
