@@ -227,7 +227,11 @@ pub extern "C" fn wisteria_encode<'a>(
 // Starts a controller of a kind with the numbers that configure it; numbers beyond its own are not looked at. Answers 0, 9 for an unknown kind or 10 for a
 // number beyond its limit, and then no word is written.
 #[no_mangle]
-pub extern "C" fn wisteria_start<'a>(held: &'a mut [u32; 2048], kind: u32, numbers: &'a [u32; 5]) -> u32
+pub extern "C" fn wisteria_start<'a>(
+    held: &'a mut [u32; 2048],
+    kind: u32,
+    numbers: &'a [u32; 5],
+) -> u32
     ensures { λ r. ⌜ Started (now (held .entry)) kind (numbered (now (numbers .entry))) (now (held .exit)) r ⌝ }
 {
     let ns = *numbers;
