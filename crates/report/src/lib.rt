@@ -5,7 +5,7 @@ ghost use Rattle.report.specs.Lines.{lineEnd, nameEnd};
 ghost use Rattle.report.specs.Printed.{endedAt, named, traceLine, leftOutLine, sourceLine, sourceLines};
 
 mod held;
-pub mod lines;
+pub mod progress;
 pub mod names;
 mod traces;
 

@@ -1,11 +1,11 @@
--- That `put_no_entries` of src/lines.rt keeps its contract.
+-- That `put_no_entries` of src/progress.rt keeps its contract.
 use mathlib.Core.Path.{_∙_}
 use Rattle.text.proofs.WriteLaws.{write-laid}
 use Rattle.phrases.specs.Phrases.{bytes}
 use Rattle.picture.specs.Lines.{noEntries}
 use borrow.Author.Needs.{needs}
-use Rattle.picture.proofs.lines.put_no_entries.Statement.{statement}
-use Rattle.picture.proofs.lines.put_no_entries.Tie as tie
+use Rattle.picture.proofs.reasons.put_no_entries.Statement.{statement}
+use Rattle.picture.proofs.reasons.put_no_entries.Tie as tie
 
 returns : tie.Need-returns
 unfolding noEntries bytes

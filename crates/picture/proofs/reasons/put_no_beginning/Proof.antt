@@ -1,11 +1,11 @@
--- That `put_no_beginning` of src/lines.rt keeps its contract.
+-- That `put_no_beginning` of src/progress.rt keeps its contract.
 use mathlib.Core.Path.{_∙_}
 use Rattle.text.proofs.WriteLaws.{and-then, write-laid}
 use Rattle.phrases.specs.Phrases.{bytes}
 use Rattle.picture.specs.Lines.{noBeginning}
 use borrow.Author.Needs.{needs}
-use Rattle.picture.proofs.lines.put_no_beginning.Statement.{statement}
-use Rattle.picture.proofs.lines.put_no_beginning.Tie as tie
+use Rattle.picture.proofs.reasons.put_no_beginning.Statement.{statement}
+use Rattle.picture.proofs.reasons.put_no_beginning.Tie as tie
 
 returns : tie.Need-returns
 unfolding noBeginning bytes
