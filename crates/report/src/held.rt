@@ -2,7 +2,7 @@
 ghost use mathlib.Core.Path.{_≡_};
 ghost use Prim.Native.Nat.{_+_, _≤_};
 ghost use lib.ListN.{length};
-use super::lines;
+use super::progress;
 use super::progress::Sum;
 use reading::Came;
 

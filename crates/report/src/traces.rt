@@ -9,7 +9,7 @@ ghost use Rattle.totals.specs.Totals.{added};
 ghost use Rattle.tally.specs.Tally.{tallyOf};
 ghost use Rattle.report.specs.Printed.{traceLine, leftOutLine};
 ghost use Rattle.report.specs.Put.{Put};
-use super::lines;
+use super::progress;
 use super::progress::Sum;
 use tally::Tallied;
 
