@@ -402,6 +402,133 @@ static void explanations(void)
     encoded("a number too many", BYTES("aic 0 0 0"), trace, 0, WISTERIA_THE_LINE_END, 1, 4);
 }
 
+/* ---- one controller that the caller keeps, beside the listing of the same steps */
+
+static uint32_t drawn = 20261117;
+
+static uint32_t below(uint32_t limit)
+{
+    drawn ^= drawn << 13;
+    drawn ^= drawn >> 17;
+    drawn ^= drawn << 5;
+    return drawn % limit;
+}
+
+static struct {
+    uint8_t bytes[WISTERIA_LONGEST];
+    size_t length;
+} made;
+
+/* A number of a trace, in its shortest form (01, House trace). */
+static void put(uint32_t value)
+{
+    for (; value > 127; value >>= 7)
+        made.bytes[made.length++] = (uint8_t)(128 | (value & 127));
+    made.bytes[made.length++] = (uint8_t)value;
+}
+
+/* Mostly registers and lines that there are, and now and then anything. */
+static uint32_t offset_of(uint32_t kind)
+{
+    static const uint32_t last[5] = {0x150, 0x034, 0x900, 0x300, 0xD00};
+    uint32_t sort = below(20);
+    return sort == 0 ? below(0x2000) : sort == 1 ? 0x1500 + 4 * below(8) : 4 * below(last[kind] / 4);
+}
+
+static uint32_t value_of(void)
+{
+    uint32_t sort = below(4);
+    return sort == 0 ? below(4) : sort == 1 ? 1u << below(32) : sort == 2 ? below(256) : below(0xFFFFFFFF);
+}
+
+/* One step through the functions, put to the trace too; its line as a listing has it. */
+static size_t stepped(wisteria_controller *c, uint32_t kind, unsigned number, char *line, size_t room)
+{
+    uint32_t step = 1 + below(3), columns[3], value = 0, refusal, privilege = kind == WISTERIA_AINTC ? below(8) != 0 : 1;
+    uint32_t first = step == WISTERIA_LINE ? below(kind == WISTERIA_AINTC ? 130 : 42) : offset_of(kind);
+    uint32_t second = step == WISTERIA_LINE ? (below(30) == 0 ? 2 : below(2)) : value_of();
+    put(step);
+    put(first);
+    if (kind == WISTERIA_AINTC && step != WISTERIA_LINE)
+        put(privilege);
+    if (step != WISTERIA_READ)
+        put(second);
+    if (step == WISTERIA_READ)
+        refusal = wisteria_read(c, first, privilege, &value);
+    else
+        refusal = step == WISTERIA_WRITE ? wisteria_write(c, first, privilege, second) : wisteria_line(c, first, second);
+    expect("outputs of a controller", wisteria_outputs(c, columns) == 0);
+    return (size_t)snprintf(line, room, "%u %c %08X %u %u %u\n", number, refusal ? 'X' : "RWL"[step - 1], refusal ? refusal : value, columns[0],
+                            columns[1], columns[2]);
+}
+
+static void beside_the_listing(uint32_t kind, const uint32_t numbers[5], unsigned steps)
+{
+    static const unsigned configures[5] = {2, 4, 4, 0, 5};
+    static uint8_t listed[WISTERIA_ROOM(4000)];
+    static char told[sizeof listed];
+    wisteria_controller c;
+    unsigned k;
+    size_t to = 0, at = 0;
+    made.length = 0;
+    put(kind);
+    for (k = 0; k < configures[kind]; k++)
+        put(numbers[k]);
+    expect("a controller starts", wisteria_start(&c, kind, numbers) == 0);
+    for (k = 1; k <= steps; k++)
+        to += stepped(&c, kind, k, told + to, sizeof told - to);
+    expect("as many bytes as listed", wisteria_list(made.bytes, made.length, steps, listed, sizeof listed) > to);
+    while (listed[at++] != '\n')
+        ;
+    expect("the steps of a controller are those of the listing", memcmp(told, listed + at, to) == 0);
+}
+
+/* Whatever stands in the words: 12, and nothing changes; a bit that is turned and still makes a controller is one that can be asked. */
+static void any_words(uint32_t kind, const uint32_t numbers[5])
+{
+    static wisteria_controller c, was;
+    uint32_t k, value, columns[3];
+    expect("a start", wisteria_start(&c, kind, numbers) == 0);
+    for (k = 0; k < 200; k++) {
+        uint32_t word = k < 20 ? k : below(WISTERIA_WORDS), refusal;
+        was = c;
+        was.word[word] ^= 1u << below(32);
+        {
+            wisteria_controller turned = was;
+            refusal = wisteria_outputs(&turned, columns);
+            expect("0 or 12", refusal == 0 || refusal == 12);
+            if (refusal == 12) {
+                expect("a read of no controller", wisteria_read(&turned, 0, 1, &value) == 12 && value == 0);
+                expect("a write of no controller", wisteria_write(&turned, 0, 1, 1) == 12 && wisteria_line(&turned, 0, 1) == 12);
+                expect("no word changes", memcmp(&turned, &was, sizeof was) == 0);
+                expect("zeros are shown", (columns[0] | columns[1] | columns[2]) == 0);
+            }
+        }
+    }
+    for (k = 0; k < WISTERIA_WORDS; k++)
+        was.word[k] = below(0xFFFFFFFF);
+    expect("words by chance", wisteria_outputs(&was, columns) == 12);
+    c = was;
+    expect("no such kind", wisteria_start(&c, 5, numbers) == 9);
+    expect("nothing is written", memcmp(&c, &was, sizeof c) == 0);
+}
+
+static void controllers(void)
+{
+    static const uint32_t small[5][5] = {{0x30, 0x11, 0, 0, 0}, {3, 9, 1, 0, 7}, {40, 5, 3, 0x4E800200, 9}, {1, 2, 3, 4, 5}, {40, 5, 3, 7, 1}};
+    static const uint32_t beyond[5] = {9, 1, 0, 0, 0}, none[5] = {0, 0, 0, 0, 0};
+    wisteria_controller c, was;
+    uint32_t kind;
+    for (kind = 0; kind < 5; kind++) {
+        beside_the_listing(kind, small[kind], 4000);
+        any_words(kind, small[kind]);
+    }
+    expect("a start", wisteria_start(&c, WISTERIA_AINTC, none) == 0);
+    was = c;
+    expect("a ninth FIQ source", wisteria_start(&c, WISTERIA_COREINTERRUPT, beyond) == 10 && memcmp(&c, &was, sizeof c) == 0);
+    expect("a CIC of no system", wisteria_start(&c, WISTERIA_CIC, none) == 10 && memcmp(&c, &was, sizeof c) == 0);
+}
+
 int main(void)
 {
     worked_example();
@@ -415,5 +542,6 @@ int main(void)
     explanations();
     lent_layout();
     lent_refusals();
+    controllers();
     return wrong;
 }

@@ -1,6 +1,6 @@
 /* Lists and plays recorded traces of register accesses and line changes, says how many words a read of an index looks at, counts what the sources of an
  * AIC did, says what bounds their waits, says the stack that a priority table needs, explains a trace and encodes it from text, and steps a CoreInterrupt
- * that the caller holds, for callers in C and C++.
+ * that the caller holds, or a controller of any kind, for callers in C and C++.
  *
  * The functions are those of crates/exports, proved to answer what its contracts say for every trace, limit, text and record. Link
  * libexports.a, which `rt staticlib exports` writes (x86-64); bench/prepare also makes it for other machines.
@@ -202,6 +202,39 @@ struct wisteria_reply wisteria_core_start(struct wisteria_core *core, uint32_t f
  *    6   there is no such line or level.
  * An output is active exactly if its status, FIQ at 0x14 and IRQ at 0x2C, does not read 0. */
 struct wisteria_reply wisteria_core_step(struct wisteria_core *core, uint32_t kind, uint32_t first, uint32_t second);
+
+/* ---- one controller of any kind, kept by the caller (docs/EMBED.md) */
+
+/* How many words hold a controller. What stands in them is the library's: a caller may copy all of them and put them back, and may ask for anything
+ * whatever else stands there. Where the words are not those of a controller that keeps its rules, every call answers 12 and changes none of them. */
+#define WISTERIA_WORDS 2048
+
+typedef struct {
+    uint32_t word[WISTERIA_WORDS];
+} wisteria_controller;
+
+/* The kinds, as a trace has them, with the numbers that configure each, in their order. */
+enum {
+    WISTERIA_AIC = 0,           /* external sources (a word), lines (a word) */
+    WISTERIA_COREINTERRUPT = 1, /* FIQ sources, IRQ sources, FIQ level, IRQ level */
+    WISTERIA_CIC = 2,           /* systems, channels, hosts, revision */
+    WISTERIA_AINTC = 3,         /* none */
+    WISTERIA_INDEXED = 4        /* systems, channels, hosts, revision, choice */
+};
+
+/* Starts a controller of this kind; numbers behind those of the kind are not looked at. Answers 0; 9 for an unknown kind, 10 for a number beyond its
+ * limit, and then no word is written. numbers points to five words that are no part of the controller. */
+uint32_t wisteria_start(wisteria_controller *controller, uint32_t kind, const uint32_t *numbers);
+
+/* A read of the register at an offset, a write of it, and a line put to a level, as a step of a trace. Each answers 0, or the number of the refusal, in this
+ * order: 12; 6 for a privilege over 1; 1, 2, 13, 3 or 4; 6 for a number beyond its limit. A refused one changes nothing. The privilege, 0 or 1, is
+ * looked at by an AINTC alone. A read writes the value to *value, 0 where it is refused. */
+uint32_t wisteria_read(wisteria_controller *controller, uint32_t offset, uint32_t privilege, uint32_t *value);
+uint32_t wisteria_write(wisteria_controller *controller, uint32_t offset, uint32_t privilege, uint32_t value);
+uint32_t wisteria_line(wisteria_controller *controller, uint32_t line, uint32_t level);
+
+/* Writes the three numbers that a listing's line ends with to columns, zeros where it answers 12. */
+uint32_t wisteria_outputs(const wisteria_controller *controller, uint32_t *columns);
 
 #ifdef __cplusplus
 }

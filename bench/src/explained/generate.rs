@@ -309,7 +309,7 @@ fn turns_of_aintc() -> Script {
     script.write(0x048, 3);
     script.write(0x108, 0x01);
     script.write(0x048, 1);
-    script.write(0x010, 2);
+    frees_one_and_chooses_for_the_other(&mut script);
     script.write(0x04C, 1);
     for offset in (0..0x300).step_by(4) {
         for privilege in [0, 1, 2, u32::MAX] {
@@ -320,6 +320,23 @@ fn turns_of_aintc() -> Script {
         }
     }
     script
+}
+
+/// After a reset: what IRQ has is gone, and FIQ has another one waiting, when both agree; then the other way round.
+fn frees_one_and_chooses_for_the_other(script: &mut Script) {
+    for route in [1, 0] {
+        script.write(0x010, 2);
+        for (input, route) in [(0, 1 - route), (2, route), (3, route)] {
+            script.write(0x100 + 4 * input, route);
+        }
+        script.write(0x088, 0x0D);
+        for (input, level) in [(0, 1), (2, 1), (3, 1), (0, 0), (2, 0)] {
+            script.line(input, level);
+        }
+        script.write(0x048, 3);
+        script.line(3, 0);
+    }
+    script.write(0x010, 2);
 }
 
 /// Offsets and privileges of every number of digits, so that statements end before the comments' column, at it and beyond.

@@ -111,7 +111,7 @@ pub fn shared(a: [u32; 8], b: [u32; 8]) -> [u32; 8]
 }
 
 // The asserted hosts, one bit for each.
-fn asserted_hosts(c: Cic) -> [u32; 8]
+pub fn asserted_hosts(c: Cic) -> [u32; 8]
     ensures { λ r. ⌜ ((h : ℕ) → h < 256 → bitAt r h ≡ asserted c (hostNumber h)) ⌝ }
 {
     let global = c.global;

@@ -1,6 +1,6 @@
 -- Rooms word by word, starts that are accepted, and the one machine that may stand in a room.
 use Prim.Native.Nat.{ℕ, _≤_, _<_}
-use mathlib.Core.Path.{_≡_, refl, sym, ap, _∙_, subst}
+use mathlib.Core.Path.{_≡_, refl, sym, ap, ap₂, _∙_, subst}
 use mathlib.Core.Bool.{Bool, true, false}
 use mathlib.Core.List.{List, [], _∷_}
 use mathlib.Core.Logic.{_≢_, _⊎_, inl, inr, ⊎-elim}
@@ -12,6 +12,10 @@ use borrow.Author.Tests.{eq-eqb, eqb-true}
 use Rattle.words.proofs.CountingLaws.{all-at, at-all}
 use Rattle.words.specs.Choice.{pick}
 use Rattle.steps.specs.Refusals.{carriedOut, unknown, misconfigured}
+use Rattle.steps.specs.declared.Recorded.{Recorded}
+use Rattle.steps.specs.declared.Step.{Step}
+use Rattle.turns.specs.Turns.{made}
+use Rattle.rooms.specs.Reply.{Reply}
 use Rattle.kinds.specs.declared.Configuration.{Configuration}
 use Rattle.kinds.specs.Configuration.{numberIn}
 use Rattle.kinds.specs.Kinds.{aicKind, coreKind, cicKind, aintcKind, indexedKind, isKind, wanted, within}
@@ -24,7 +28,7 @@ use Rattle.machine_record.proofs.Promises.{kept as records}
 use Rattle.machine_record.proofs.MachineLaws.{sound-aic, sound-core, sound-cic, sound-aintc, sound-indexed, fifth-kind, aic-starts, core-starts, cic-starts, aintc-starts, indexed-starts, start-ready}
 use Rattle.machine_room.specs.Room.{Laid, Beside, withAic, withCore, withCic, withAintc, withIndexed}
 use Rattle.machine_room.proofs.RoomLaws.{aic-laid, core-laid, cic-laid, aintc-laid, indexed-laid}
-use Rattle.controller.specs.Controller.{Stands, same, accepted, startRefusal}
+use Rattle.controller.specs.Controller.{Stands, same, accepted, startRefusal, Stepped}
 
 -- ---- words
 
@@ -178,3 +182,14 @@ alone r n s = go (kind-of (n .kind))
           record { aic = λ z. absurd (omega (arith, e, z)); core = λ z. absurd (omega (arith, e, z)); cic = λ z. absurd (omega (arith, e, z)); aintc = λ z. absurd (omega (arith, e, z)); indexed = λ _. refl },
         )
     go (isNone a b c d e) = absurd (e (fifth-kind n (s .0) a b c d))
+
+-- ---- a step
+
+-- two ways to say one step
+pub stepped-as : {before after : List ℕ} {x y : Step} {privilege : ℕ} {q : Reply} → x ≡ y → Stepped before (made x privilege) after q
+    → Stepped before (made y privilege) after q
+stepped-as {before} {after} {x} {y} {privilege} {q} e h = subst (λ (z : Step). Stepped before (made z privilege) after q) e h
+
+-- the two numbers of a reply, each for itself
+pub stepped-to : {before after : List ℕ} {x : Recorded} {q : Reply} {r v : ℕ} → r ≡ q .0 → v ≡ q .1 → Stepped before x after q → Stepped before x after (r, v)
+stepped-to {before} {after} {x} e f h = subst (λ (p : Reply). Stepped before x after p) (sym (ap₂ (λ (a b : ℕ). (a, b)) e f)) h

@@ -1,2 +1,3 @@
--- Laws of a controller in words that a caller keeps.
+-- Laws of a controller in words that a caller keeps, and its promises.
 pub mod ControllerLaws
+pub mod Promises

@@ -37,6 +37,10 @@ same r s = allBelow 2048 (λ k. eqb (getD r k 0) (getD s k 0))
 
 -- ---- a start
 
+-- the numbers as a caller lends them
+abbrev pub numbered : List ℕ → Configuration
+numbered numbers = record { numbers = numbers }
+
 -- every number that configures the kind is within its limit; further ones are not looked at (01, Numbers, 10)
 unfoldable pub accepted : ℕ → Configuration → Bool
 accepted kind c = allBelow (wanted kind) (λ n. within kind n (numberIn c n))
@@ -63,6 +67,10 @@ pub record Stepped (before : List ℕ) (x : Recorded) (after : List ℕ) (q : Re
 -- the three numbers of a listing's line, with the refusal before them
 abbrev pub shownAs : ℕ → Columns → Shown
 shownAs refusal c = record { refusal = refusal; first = c .first; second = c .second; third = c .third }
+
+-- the same, lent as an array of three
+abbrev pub shownIn : ℕ → List ℕ → Shown
+shownIn refusal columns = record { refusal = refusal; first = getD columns 0 0; second = getD columns 1 0; third = getD columns 2 0 }
 
 pub record Showing (words : List ℕ) (s : Shown) : Type 0 where
   pub standing : (m : Machine) → Stands words m → s ≡ shownAs carriedOut (shown m)

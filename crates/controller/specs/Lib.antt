@@ -1,2 +1,3 @@
--- One controller in words that a caller outside keeps.
+-- One controller in words that a caller outside keeps, and what is promised of it.
 pub mod Controller
+pub mod Promises

@@ -4,7 +4,8 @@ ghost use mathlib.Core.Path.{_≡_};
 ghost use mathlib.Core.Bool.{true, false};
 ghost use Prim.Native.Nat.{_<_};
 ghost use Rattle.words.specs.Choice.{pick};
-ghost use Rattle.steps.specs.Refusals.{carriedOut, misconfigured};
+ghost use Rattle.steps.specs.Refusals.{carriedOut, misconfigured, privileged};
+ghost use Rattle.steps.specs.declared.Step.the-variants.{Read, Write, Line};
 ghost use Rattle.rooms.specs.Reply.{told};
 ghost use Rattle.turns.specs.Turns.{made, stepOf};
 ghost use Rattle.machine_record.specs.declared.Machine.{Machine};
@@ -66,8 +67,29 @@ fn is_accepted(kind: u32, c: Configuration) -> bool
     ok
 }
 
+// A read of a register; the privilege is looked at by an AINTC alone.
+pub fn read(room: &mut Room, offset: u32, privilege: u32) -> u64
+    ensures { λ r. ⌜ Stepped (now (room .entry)) (made (Read offset) privilege) (now (room .exit)) (told r) ⌝ }
+{
+    step(room, trace::READ, offset, 0, privilege)
+}
+
+// A write of one.
+pub fn write(room: &mut Room, offset: u32, value: u32, privilege: u32) -> u64
+    ensures { λ r. ⌜ Stepped (now (room .entry)) (made (Write offset value) privilege) (now (room .exit)) (told r) ⌝ }
+{
+    step(room, trace::WRITE, offset, value, privilege)
+}
+
+// A change of a line, which needs no privilege.
+pub fn line(room: &mut Room, number: u32, level: u32) -> u64
+    ensures { λ r. ⌜ Stepped (now (room .entry)) (made (Line number level) privileged) (now (room .exit)) (told r) ⌝ }
+{
+    step(room, trace::LINE, number, level, steps::PRIVILEGED)
+}
+
 // The step of a kind, 1 to 3 as in a trace, with its numbers, made by a privilege.
-pub fn step(room: &mut Room, kind: u32, x: u32, y: u32, privilege: u32) -> u64
+fn step(room: &mut Room, kind: u32, x: u32, y: u32, privilege: u32) -> u64
     requires { ⌜ (0 < kind) × (kind < 4) ⌝ }
     ensures { λ r. ⌜ Stepped (now (room .entry)) (made (stepOf kind x y) privilege) (now (room .exit)) (told r) ⌝ }
 {

@@ -1,17 +1,20 @@
 -- Texts of deeds, of which a part is known to be another, and the hosts that a step gained.
-use Prim.Native.Nat.{ℕ, zero, suc, _+_, _%_, _≤_, _<_}
+use Prim.Native.Nat.{ℕ, _+_, _/_, _%_, _<_}
 use mathlib.Core.Path.{_≡_, refl, sym, ap, ap₂, _∙_}
 use mathlib.Core.Bool.{Bool, true, false, not, _&&_}
 use mathlib.Core.List.{List, []}
-use native.Mathlib.Numerals.{add-one}
+use native.Mathlib.Nat.{mod-lt}
 use native.Mathlib.Omega.{arith}
-use native.Mathlib.Decide.{decLt}
 use lib.Dec.{eqb}
+use lib.ListN.{getD}
 use Rattle.words.specs.Choice.{pick}
-use Rattle.words.specs.Counting.{one, anyBelow, countBelow, lowestBelow}
+use Rattle.words.specs.Array.{bitAt}
+use Rattle.words.specs.Counting.{countBelow, lowestBelow}
+use Rattle.words.specs.Word.{bit, without}
 use Rattle.words.proofs.ChoiceLaws.{pick-true, pick-false}
-use Rattle.words.proofs.TruthLaws.{and-parts, clash}
-use Rattle.words.proofs.Promises.{kept as words}
+use Rattle.words.proofs.CountingLaws.{count-same, lowest-same}
+use Rattle.words.proofs.TruthLaws.{and-parts}
+use Rattle.words.proofs.WordLaws.{bit-without}
 use Rattle.text.specs.Text.{write}
 use Rattle.text.proofs.WriteLaws.{and-then}
 use Rattle.phrases.specs.Phrases.{bytes}
@@ -43,59 +46,24 @@ module _ (b : Bool) (x : Step) (t : Bool) (l : List ℕ) (h : b ≡ ends x) wher
 
 -- ---- hosts
 
-pub gain-is : (c d : Cic) (h : ℕ) (after before : Bool) → after ≡ asserted d (hostNumber h) → before ≡ asserted c (hostNumber h) → (after && not before) ≡ gains c d h
+-- the hosts gained, from the words of those asserted before and after
+pub gain-is : (c d : Cic) (r before after : List ℕ) → ((h : ℕ) → h < 256 → bitAt before h ≡ asserted c (hostNumber h))
+    → ((h : ℕ) → h < 256 → bitAt after h ≡ asserted d (hostNumber h)) → ((h : ℕ) → h < 256 → bitAt r h ≡ (bitAt after h && not (bitAt before h)))
+    → (h : ℕ) → h < 256 → bitAt r h ≡ gains c d h
 unfolding gains
-gain-is c d h after before e f = and-parts e (ap not f)
+gain-is c d r before after e f g h l = g h l ∙ and-parts (f h l) (ap not (e h l))
 
-pub count-none : (p : ℕ → Bool) → 0 ≡ countBelow 0 p
-unfolding countBelow
-count-none p = refl
+pub bitAt-without : (out a b : List ℕ) (h : ℕ) → getD out (h / 32) 0 ≡ without (getD a (h / 32) 0) (getD b (h / 32) 0) → bitAt out h ≡ (bitAt a h && not (bitAt b h))
+unfolding bitAt
+bitAt-without out a b h e = ap (λ (w : ℕ). bit w (h % 32)) e ∙ bit-without (getD a (h / 32) 0) (getD b (h / 32) 0) (h % 32) (mod-lt h (omega arith))
 
-one-most : (t : Bool) → one t ≤ 1
-one-most true = omega arith
-one-most false = omega arith
-
-pub one-gain : (c d : Cic) (h k : ℕ) → k ≡ one (gains c d h) → k ≤ 1
-one-gain c d h k e = omega (arith, e, one-most (gains c d h))
-
-pub count-more : (p : ℕ → Bool) (h n k : ℕ) → n ≡ countBelow h p → k ≡ one (p h) → n + k ≡ countBelow (h + 1) p
-unfolding countBelow
-count-more p h n k e f = ap (λ (x : ℕ). x + k) e ∙ ap (λ (x : ℕ). countBelow h p + x) f ∙ ap (λ (x : ℕ). countBelow x p) (sym (add-one h))
-
-pub count-all : (p : ℕ → Bool) (h n : ℕ) → h ≡ 256 → n ≡ countBelow h p → n ≡ countBelow 256 p
-count-all p h n e f = f ∙ ap (λ (x : ℕ). countBelow x p) e
-
--- the first that passes is the lowest
-pub lowest-found : (c d : Cic) (h : ℕ) → h < 256 → ((k : ℕ) → k < h → gains c d k ≡ false) → gains c d h ≡ true → h ≡ lowestBelow 256 (gains c d)
-lowest-found c d h m b t =
-    let l = lowestBelow 256 (gains c d) in
-    go (decLt h l) (decLt l h)
-  where
-    go : Dec (h < lowestBelow 256 (gains c d)) → Dec (lowestBelow 256 (gains c d) < h) → h ≡ lowestBelow 256 (gains c d)
-    go (yes u) v = clash t (words .lowestFirst 256 (gains c d) h u)
-    go (no u) (yes v) = clash (words .lowestPasses 256 (gains c d) (omega (arith, v, m))) (b (lowestBelow 256 (gains c d)) v)
-    go (no u) (no v) = omega (arith, u, v)
-
-pub none-yet : (c d : Cic) (h : ℕ) → ((k : ℕ) → k < h → gains c d k ≡ false) → gains c d h ≡ false → (k : ℕ) → k < h + 1 → gains c d k ≡ false
-none-yet c d h b f k l = go (decLt k h)
-  where
-    go : Dec (k < h) → gains c d k ≡ false
-    go (yes u) = b k u
-    go (no u) = let e : k ≡ h = omega (arith, u, l) in ap (gains c d) e ∙ f
-
-pub lowest-none : (c d : Cic) (h : ℕ) → h ≡ 256 → ((k : ℕ) → k < h → gains c d k ≡ false) → 256 ≡ lowestBelow 256 (gains c d)
-lowest-none c d h e b =
-    go (decLt (lowestBelow 256 (gains c d)) 256)
-  where
-    go : Dec (lowestBelow 256 (gains c d) < 256) → 256 ≡ lowestBelow 256 (gains c d)
-    go (yes u) = clash (words .lowestPasses 256 (gains c d) u) (b (lowestBelow 256 (gains c d)) (omega (arith, u, e)))
-    go (no u) = omega (arith, u, words .lowestWithin 256 (gains c d))
-
-pub gains-text : (o p : List ℕ × ℕ) (what : List ℕ) (c d : Cic) (count lowest : ℕ) → p ≡ write o (hostWords what count lowest)
-    → count ≡ countBelow 256 (gains c d) → lowest ≡ lowestBelow 256 (gains c d) → p ≡ write o (gainWords what c d)
+pub gains-text : (o p : List ℕ × ℕ) (what : List ℕ) (c d : Cic) (ws : List ℕ) (count lowest : ℕ) → p ≡ write o (hostWords what count lowest)
+    → ((h : ℕ) → h < 256 → bitAt ws h ≡ gains c d h) → count ≡ countBelow 256 (bitAt ws) → lowest ≡ lowestBelow 256 (bitAt ws)
+    → p ≡ write o (gainWords what c d)
 unfolding gainWords
-gains-text o p what c d count lowest e f g =
-    e ∙ ap (λ (x : ℕ). write o (hostWords what x lowest)) f ∙ ap (λ (x : ℕ). write o (hostWords what (countBelow 256 (gains c d)) x)) g
+gains-text o p what c d ws count lowest e s f g =
+    e ∙ ap (λ (x : ℕ). write o (hostWords what x lowest)) (f ∙ count-same 256 (bitAt ws) (gains c d) s)
+    ∙ ap (λ (x : ℕ). write o (hostWords what (countBelow 256 (gains c d)) x)) (g ∙ lowest-same 256 (bitAt ws) (gains c d) s)
 
 -- ---- outputs
 

@@ -1,8 +1,9 @@
 // What a step did, in words, by the machine before it and the one after it, and which outputs it changed (docs/TEXT.md).
 ghost use mathlib.Core.Path.{_≡_};
 ghost use mathlib.Core.List.{_++_};
-ghost use Prim.Native.Nat.{_<_};
-ghost use Rattle.words.specs.Counting.{countBelow, lowestBelow};
+ghost use Prim.Native.Nat.{ℕ, _<_};
+ghost use mathlib.Core.Bool.{not, _&&_};
+ghost use Rattle.words.specs.Array.{bitAt};
 ghost use Rattle.text.specs.Text.{write};
 ghost use Rattle.phrases.specs.Phrases.{counted};
 ghost use Rattle.deeds.specs.Deeds.{openedWords, closedWords, ends, entryWords, sameSeen, seenWords, aicDeeds, gains, furtherWords, hostWords, gainWords, cicDeeds, chosenWords, choiceWords, aintcDeeds, deedsAt, deedWords, turnWords, sideWords, outputWords};
@@ -10,7 +11,6 @@ use aic_record::Aic;
 use aic_record::Seen;
 use aintc_record::Chosen;
 use cic_record::Cic;
-use cic_record::Host;
 use machine_record::Machine;
 use steps::Recorded;
 use steps::Step;
@@ -144,8 +144,9 @@ fn put_cic(out: &mut [u8], at: usize, c: Cic, d: Cic) -> usize
 fn put_gains(out: &mut [u8], at: usize, what: &[u8], c: Cic, d: Cic) -> usize
     ensures { λ r. ⌜ (now (out .exit), r) ≡ write (now (out .entry), at) (gainWords (now (what .entry)) c d) ⌝ }
 {
-    let count = count_gains(c, d);
-    let lowest = lowest_gain(c, d);
+    let ws = gained(c, d);
+    let count = cic_hosts::count_of(ws);
+    let lowest = cic_hosts::lowest_of(ws);
     put_hosts(out, at, what, count, lowest)
 }
 
@@ -170,40 +171,26 @@ fn put_further(out: &mut [u8], at: usize, count: u32) -> usize
     text::put_all(out, a, b" more")
 }
 
-// Whether host h is asserted in d and not in c.
-fn gains(c: Cic, d: Cic, h: u32) -> bool
-    requires { ⌜ h < 256 ⌝ }
-    ensures { λ r. ⌜ r ≡ gains c d h ⌝ }
+// The hosts that are asserted in d and not in c, one bit for each.
+fn gained(c: Cic, d: Cic) -> [u32; 8]
+    ensures { λ r. ⌜ ((h : ℕ) → h < 256 → bitAt r h ≡ gains c d h) ⌝ }
 {
-    let after = cic_hosts::asserted(d, Host(h as u16));
-    let before = cic_hosts::asserted(c, Host(h as u16));
-    after & !before
+    let before = cic_hosts::asserted_hosts(c);
+    let after = cic_hosts::asserted_hosts(d);
+    only_in(after, before)
 }
 
-fn count_gains(c: Cic, d: Cic) -> u32
-    ensures { λ r. ⌜ r ≡ countBelow 256 (gains c d) ⌝ }
+// The bits of one array of words that another does not have.
+fn only_in(a: [u32; 8], b: [u32; 8]) -> [u32; 8]
+    ensures { λ r. ⌜ ((h : ℕ) → h < 256 → bitAt r h ≡ (bitAt a h && not (bitAt b h))) ⌝ }
 {
-    let mut count: u32 = 0;
-    let mut h: u32 = 0;
-    while h < 256 {
-        let on = gains(c, d, h);
-        count = count + words::one_if(on);
-        h = h + 1;
+    let mut out = [0u32; 8];
+    let mut k: usize = 0;
+    while k < 8 {
+        out[k] = words::drop_bits(a[k], b[k]);
+        k = k + 1;
     }
-    count
-}
-
-fn lowest_gain(c: Cic, d: Cic) -> u32
-    ensures { λ r. ⌜ r ≡ lowestBelow 256 (gains c d) ⌝ }
-{
-    let mut h: u32 = 0;
-    while h < 256 {
-        if gains(c, d, h) {
-            return h;
-        }
-        h = h + 1;
-    }
-    256
+    out
 }
 
 // ---- the AINTC

@@ -3,6 +3,7 @@ use mathlib.Core.Path.{refl}
 use Rattle.explain_read.specs.Read.{numbersIn}
 use Rattle.explain_read.specs.Promises.{Promises}
 use Rattle.explain_read.proofs.DigitLaws.{hex-read, decimal-read}
+use Rattle.explain_read.proofs.AgainLaws.{read-again}
 use Rattle.explain_read.proofs.TextLaws.{again}
 
 pub kept : Promises
@@ -14,4 +15,5 @@ kept =
       noNumbers = λ told. refl;
       moreNumbers = λ told x xs. refl;
       again = again;
+      readAgain = read-again;
     }

@@ -41,6 +41,7 @@ use Rattle.machine_record.proofs.Promises as Machines
 use Rattle.machine.specs.declared.Answer.{Answer}
 use Rattle.machine.specs.Steps.{step}
 use Rattle.beginning.specs.declared.Begun.{Begun}
+use Rattle.beginning.specs.Asked.{Configures}
 use Rattle.beginning.specs.Begin.{beginOf}
 use Rattle.beginning.proofs.BeginningLaws.{Beginning, overlong, damagedAt, noKind, beyondAt, configured, beginning}
 use Rattle.reports.specs.Play.{recordsFrom, recordsOf}
@@ -105,21 +106,21 @@ start-kind kind c e = go (known kind .0 e)
     go (inr (inr (inr (inl h)))) = rw h (ap (λ (m : Machine). m .kind) (Machines.kept .aintcStarts c))
     go (inr (inr (inr (inr h)))) = rw h (ap (λ (m : Machine). m .kind) (Machines.kept .indexedStarts c))
 
-record Started (s : List ℕ) (b : Begun) : Type 0 where
-  numbers : List ℕ
-  reads : Reads s 0 (b .machine .kind ∷ numbers) (b .place)
-  many : length numbers ≡ wanted (b .machine .kind)
-  known : isKind (b .machine .kind) ≡ true
-  short : length s ≤ 65536
+pub record Started (s : List ℕ) (b : Begun) : Type 0 where
+  pub numbers : List ℕ
+  pub reads : Reads s 0 (b .machine .kind ∷ numbers) (b .place)
+  pub configures : Configures (b .machine .kind) numbers
+  pub machine : b .machine ≡ startWith (b .machine .kind) numbers
+  pub short : length s ≤ 65536
 
-starts : (s : List ℕ) (b : Begun) → Beginning s b → b .refusal ≡ 0 → Started s b
+pub starts : (s : List ℕ) (b : Begun) → Beginning s b → b .refusal ≡ 0 → Started s b
 starts s b (overlong l) z = absurd (omega arith)
 starts s b (damagedAt ns p l h w t) z = absurd (omega arith)
 starts s b (noKind l t k) z = absurd (omega arith)
 starts s b (beyondAt kind ns p l h w t q) z = absurd (omega arith)
 starts s b (configured kind ns p l h w) z =
     let e : startWith kind ns .kind ≡ kind = start-kind kind _ (w .0) in
-    record { numbers = ns; reads = rw e h; many = rw e (w .1 .1); known = rw e (w .0); short = l }
+    record { numbers = ns; reads = rw e h; configures = rw e w; machine = ap (λ (k : ℕ). startWith k ns) (sym e); short = l }
 
 numbers-are : (s : List ℕ) (at : ℕ) (ns : List ℕ) (p : ℕ) → Reads s at ns p → numbersAt (length ns) s at ≡ ns
 unfolding numbersAt
@@ -302,6 +303,32 @@ module _ (kind : ℕ) (told : Bool) (n5 : kind ≢ 5) (et : told ≡ eqb kind 3)
       joined : bytesOf (numbersOf told x ++ numbersIn told xs) ≡ bytesOf (sp .first ∷ sp .values) ++ bytesOf (numbersIn told xs)
       joined = bytes-append (numbersOf told x) (numbersIn told xs) ∙ ap (λ (l : List ℕ). bytesOf l ++ bytesOf (numbersIn told xs)) (sp .numbers)
 
+-- ---- the bytes of a trace that was played
+
+module _ (s : List ℕ) (limit : ℕ) (z : beginOf s .refusal ≡ 0) where
+  abbrev pub begun : Started s (beginOf s)
+  begun = starts s (beginOf s) (beginning s) z
+
+  pub same-numbers : numbersAt (wanted (beginOf s .machine .kind)) s (toldAt s 0 .place) ≡ begun .numbers
+  same-numbers =
+      ap (λ (k : ℕ). numbersAt k s (toldAt s 0 .place)) (sym (begun .configures .1 .1))
+      ∙ numbers-are s (toldAt s 0 .place) (begun .numbers) (beginOf s .place) (begun .reads .1 .1)
+
+  pub bytes-parts : bytesOf (playedNumbers s limit)
+      ≡ bytesOf (beginOf s .machine .kind ∷ begun .numbers) ++ bytesOf (numbersIn (tellsPrivilege (beginOf s .machine .kind)) (recordsOf s limit .steps))
+  bytes-parts =
+      bytes-append (beginOf s .machine .kind ∷ numbersAt (wanted (beginOf s .machine .kind)) s (toldAt s 0 .place)) (numbersIn (tellsPrivilege (beginOf s .machine .kind)) (recordsOf s limit .steps))
+      ∙ ap (λ (l : List ℕ). bytesOf (beginOf s .machine .kind ∷ l) ++ bytesOf (numbersIn (tellsPrivilege (beginOf s .machine .kind)) (recordsOf s limit .steps))) same-numbers
+
+  pub bytes-few : length (bytesOf (beginOf s .machine .kind ∷ begun .numbers)) + length (bytesOf (numbersIn (tellsPrivilege (beginOf s .machine .kind)) (recordsOf s limit .steps))) ≤ 65536
+  bytes-few =
+      let told = tellsPrivilege (beginOf s .machine .kind) in
+      let h = reads-size s 0 (beginOf s .machine .kind ∷ begun .numbers) (beginOf s .place) (begun .reads) (omega arith) in
+      let a = Traces.kept .trace told limit s (beginOf s .place) in
+      let e = records-begun limit s (beginOf s) z in
+      let q = along-size told s (beginOf s .place) (Rattle.trace.specs.Trace.stepsFrom told limit s (beginOf s .place) .steps) (a .0) (a .1) (h .1) in
+      omega (arith, h .0, begun .short, q .0, q .1, ap (λ (u : Rattle.trace.specs.Trace.Trace). length (bytesOf (numbersIn told (u .steps)))) e)
+
 -- ---- all of it
 
 pub again : (s : List ℕ) (limit : ℕ) → limit ≤ 20000 → beginOf s .refusal ≡ 0
@@ -310,7 +337,7 @@ unfolding encoded
 again s limit l z =
     ap (λ (t : List ℕ). encodedFrom 0 0 5 0 (linesOf t)) as-line
     ∙ line-encoded 5 kind kind g (Rattle.explain.specs.Stated.kindWord kind) (map decimal ns) ns (32 ∷ documentWords kind) (kd .high) (kd .some) (decimals-tell ns (fit .1))
-    (inl (refl, (kd .opens, (kd .known, (length-map ns decimal ∙ b .many, refl))))) (document-clear kind) 0 0 0 rest
+    (inl (refl, (kd .opens, (kd .known, (length-map ns decimal ∙ b .configures .1 .1, refl))))) (document-clear kind) 0 0 0 rest
     (omega (arith, ap length as-line, length-append line (10 ∷ rest), most)) (omega (arith, small))
     ∙ ap (after (bytesOf (kind ∷ ns)))
     (steps-encoded kind told (kd .known) refl tail (end-ok (t .refusal) (t .offset) kind (kd .known)) (t .steps) 0 m (records-fit limit s (beginOf s)) 1 (0 + length line + 1)
@@ -333,7 +360,7 @@ again s limit l z =
     ns = b .numbers
 
     kd : Kinded kind
-    kd = kinded kind (b .known)
+    kd = kinded kind (b .configures .0)
 
     fit : Words (kind ∷ ns)
     fit = reads-fit s 0 (kind ∷ ns) (beginOf s .place) (b .reads)
@@ -348,7 +375,7 @@ again s limit l z =
     rest = linesFrom whole told 0 m (t .steps) ++ tail
 
     same : numbersAt (wanted kind) s (toldAt s 0 .place) ≡ ns
-    same = ap (λ (k : ℕ). numbersAt k s (toldAt s 0 .place)) (sym (b .many)) ∙ numbers-are s (toldAt s 0 .place) ns (beginOf s .place) (b .reads .1 .1)
+    same = same-numbers s limit z
 
     st : List ℕ
     st = controller kind (numbersAt (wanted kind) s (toldAt s 0 .place))
@@ -371,17 +398,8 @@ again s limit l z =
     most : length (explainedOf s limit) ≤ 5242880
     most = omega (arith, explained-most whole s limit (omega arith))
 
-    head-size : (0 + length (bytesOf (kind ∷ ns)) ≤ beginOf s .place) × (beginOf s .place ≤ length s)
-    head-size = reads-size s 0 (kind ∷ ns) (beginOf s .place) (b .reads) (omega arith)
-
     small : length (bytesOf (kind ∷ ns)) + length (bytesOf (numbersIn told (t .steps))) ≤ 65536
-    small =
-        let a = Traces.kept .trace told limit s (beginOf s .place) in
-        let e : t ≡ Rattle.trace.specs.Trace.stepsFrom told limit s (beginOf s .place) = records-begun limit s (beginOf s) z in
-        let q = along-size told s (beginOf s .place) (Rattle.trace.specs.Trace.stepsFrom told limit s (beginOf s .place) .steps) (a .0) (a .1) (head-size .1) in
-        omega (arith, head-size .0, b .short, q .0, q .1, ap (λ (u : Rattle.trace.specs.Trace.Trace). length (bytesOf (numbersIn told (u .steps)))) e)
+    small = bytes-few s limit z
 
     joined : bytesOf (playedNumbers s limit) ≡ bytesOf (kind ∷ ns) ++ bytesOf (numbersIn told (t .steps))
-    joined =
-        bytes-append (kind ∷ numbersAt (wanted kind) s (toldAt s 0 .place)) (numbersIn told (t .steps))
-        ∙ ap (λ (l : List ℕ). bytesOf (kind ∷ l) ++ bytesOf (numbersIn told (t .steps))) same
+    joined = bytes-parts s limit z

@@ -4,6 +4,7 @@ use Prim.Native.Nat.{ℕ, _^_, _≤_, _<_}
 use mathlib.Core.Path.{_≡_}
 use mathlib.Core.Bool.{Bool, true}
 use mathlib.Core.List.{List, [], _∷_, _++_}
+use lib.ListN.{length}
 use Rattle.steps.specs.declared.Recorded.{Recorded}
 use Rattle.text.specs.Text.{hexOf, decimal}
 use Rattle.tables.specs.Number.{isNumber, worth}
@@ -11,6 +12,7 @@ use Rattle.trace.specs.Steps.{numbersOf}
 use Rattle.statements.specs.Bytes.{bytesOf}
 use Rattle.encode.specs.Encode.{encoded}
 use Rattle.beginning.specs.Begin.{beginOf}
+use Rattle.reports.specs.Play.{recordsOf}
 use Rattle.explain.specs.Explain.{explainedOf}
 use Rattle.explain_read.specs.Read.{numbersIn, playedNumbers}
 
@@ -24,3 +26,9 @@ pub record Promises : Type 0 where
   -- encoding what is printed of a trace that starts a controller refuses nothing, and gives the shortest form of its kind, configuration and steps played
   pub again : (s : List ℕ) (limit : ℕ) → limit ≤ 20000 → beginOf s .refusal ≡ 0
       → encoded (explainedOf s limit) ≡ record { refusal = record { expected = 0; line = 0; word = 0 }; bytes = bytesOf (playedNumbers s limit) }
+  -- from these bytes a player reads the same controller and the same steps, and then they end
+  pub readAgain : (s : List ℕ) (limit : ℕ) → beginOf s .refusal ≡ 0
+      → (beginOf (bytesOf (playedNumbers s limit)) .refusal ≡ 0)
+      × (beginOf (bytesOf (playedNumbers s limit)) .machine ≡ beginOf s .machine)
+      × (recordsOf (bytesOf (playedNumbers s limit)) limit
+      ≡ record { steps = recordsOf s limit .steps; refusal = 0; offset = length (bytesOf (playedNumbers s limit)) })

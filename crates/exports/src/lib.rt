@@ -3,6 +3,7 @@
 // width of a pointer. include/wisteria.h declares the functions for C, and says what a caller answers for.
 ghost use mathlib.Core.Path.{_≡_};
 ghost use mathlib.Core.List.{[], _∷_};
+ghost use Prim.Native.Nat.{ℕ};
 ghost use Rattle.text.specs.Text.{laid};
 ghost use Rattle.reports.specs.Play.{playOf};
 ghost use Rattle.lines.specs.Listing.{listingOf};
@@ -15,6 +16,10 @@ ghost use Rattle.tables.specs.Reading.{answerTo};
 ghost use Rattle.encode.specs.Encode.{encoded};
 ghost use Rattle.explain.specs.Explain.{explainedOf, explainedWindow};
 ghost use Rattle.coreinterrupt_lent.specs.Lent.{leftBy, startOver, stepTold};
+ghost use Rattle.steps.specs.Refusals.{privileged};
+ghost use Rattle.steps.specs.declared.Step.the-variants.{Read, Write, Line};
+ghost use Rattle.turns.specs.Turns.{made};
+ghost use Rattle.controller.specs.Controller.{numbered, Started, Stepped, Showing, shownIn};
 
 // Writes the listing of a trace of at most `limit` steps to the start of the lent buffer. Answers the number of bytes written: what finds no room
 // is dropped, and the rest of the buffer stays as it was. A listing of at most 99,999 steps has at most 29 bytes for each step and 58 more.
@@ -215,4 +220,69 @@ pub extern "C" fn wisteria_encode<'a>(
     let r = e.refusal;
     *refusal = [r.expected as usize, r.line, r.word];
     e.bytes
+}
+
+// ---- one controller of any kind, in words that the caller lends (docs/EMBED.md)
+
+// Starts a controller of a kind with the numbers that configure it; numbers beyond its own are not looked at. Answers 0, 9 for an unknown kind or 10 for a
+// number beyond its limit, and then no word is written.
+#[no_mangle]
+pub extern "C" fn wisteria_start<'a>(
+    held: &'a mut [u32; 2048],
+    kind: u32,
+    numbers: &'a [u32; 5],
+) -> u32
+    ensures { λ r. ⌜ Started (now (held .entry)) kind (numbered (now (numbers .entry))) (now (held .exit)) r ⌝ }
+{
+    let ns = *numbers;
+    controller::start(held, kind, kinds::Configuration { numbers: ns })
+}
+
+// Reads the register at an offset. Answers the refusal, 0 for none; the value is 0 where the read is refused.
+#[no_mangle]
+pub extern "C" fn wisteria_read<'a>(
+    held: &'a mut [u32; 2048],
+    offset: u32,
+    privilege: u32,
+    value: &'a mut u32,
+) -> u32
+    ensures { λ r. ⌜ Stepped (now (held .entry)) (made (Read offset) privilege) (now (held .exit)) (r, now (value .exit)) ⌝ }
+{
+    let a = controller::read(held, offset, privilege);
+    *value = rooms::value_in(a);
+    rooms::refusal_in(a)
+}
+
+// Writes it. Answers the refusal, 0 for none.
+#[no_mangle]
+pub extern "C" fn wisteria_write(
+    held: &mut [u32; 2048],
+    offset: u32,
+    privilege: u32,
+    value: u32,
+) -> u32
+    ensures { λ r. ⌜ ((v : ℕ) × Stepped (now (held .entry)) (made (Write offset value) privilege) (now (held .exit)) (r, v)) ⌝ }
+{
+    let a = controller::write(held, offset, value, privilege);
+    rooms::refusal_in(a)
+}
+
+// Puts a line to a level. Answers the refusal, 0 for none.
+#[no_mangle]
+pub extern "C" fn wisteria_line(held: &mut [u32; 2048], line: u32, level: u32) -> u32
+    ensures { λ r. ⌜ ((v : ℕ) × Stepped (now (held .entry)) (made (Line line level) privileged) (now (held .exit)) (r, v)) ⌝ }
+{
+    let a = controller::line(held, line, level);
+    rooms::refusal_in(a)
+}
+
+// The three numbers that a listing's line shows of the controller, or 12 and zeros.
+#[no_mangle]
+pub extern "C" fn wisteria_outputs<'a>(held: &'a [u32; 2048], columns: &'a mut [u32; 3]) -> u32
+    ensures { λ r. ⌜ Showing (now (held .entry)) (shownIn r (now (columns .exit))) ⌝ }
+{
+    let s = controller::outputs(held);
+    let three = [s.first, s.second, s.third];
+    *columns = three;
+    s.refusal
 }

@@ -11,7 +11,7 @@ ghost use Rattle.machine_record.specs.Promises.{Ready};
 ghost use Rattle.beginning.specs.Begin.{beginOf};
 ghost use Rattle.picture.specs.Picture.{inside, isDrawn, drawnOf, pictureOf};
 
-mod lines;
+mod reasons;
 mod window;
 
 use beginning::Begun;
@@ -32,7 +32,7 @@ pub fn picture(trace: &[u8], first: u32, steps: u32, out: &mut [u8]) -> Drawn
 {
     let b = beginning::begin(trace);
     if b.refusal != steps::CARRIED_OUT {
-        let n = lines::put_no_beginning(out, b.refusal, b.place);
+        let n = reasons::put_no_beginning(out, b.refusal, b.place);
         return Drawn {
             drawn: false,
             bytes: n,
@@ -48,7 +48,7 @@ fn picture_begun(trace: &[u8], first: u32, steps: u32, b: Begun, out: &mut [u8])
 {
     let m = b.machine;
     if m.kind != kinds::AIC {
-        let n = lines::put_no_entries(out);
+        let n = reasons::put_no_entries(out);
         return Drawn {
             drawn: false,
             bytes: n,
@@ -71,7 +71,7 @@ fn picture_aic(trace: &[u8], first: u32, steps: u32, b: Begun, out: &mut [u8]) -
             bytes: n,
         };
     }
-    let n = lines::put_wrong_window(out, p.steps);
+    let n = reasons::put_wrong_window(out, p.steps);
     Drawn {
         drawn: false,
         bytes: n,

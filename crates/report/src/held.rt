@@ -2,8 +2,8 @@
 ghost use mathlib.Core.Path.{_≡_};
 ghost use Prim.Native.Nat.{_+_, _≤_};
 ghost use lib.ListN.{length};
-use super::lines;
-use super::lines::Sum;
+use super::progress;
+use super::progress::Sum;
 use reading::Came;
 
 // Of a name that is too long so many bytes are printed; no file has a name of so many.
@@ -52,7 +52,7 @@ pub(crate) fn settle(names: &[u8], held: usize, skipping: bool, sum: Sum, came: 
         return standing(held, false, sum, came);
     }
     let n = shown(names.len());
-    let told = lines::unopened(&names[..n], sum);
+    let told = progress::unopened(&names[..n], sum);
     standing(0, true, told, came)
 }
 

@@ -5,8 +5,8 @@ ghost use Rattle.report.specs.Lines.{lineEnd, nameEnd};
 ghost use Rattle.report.specs.Printed.{endedAt, named, traceLine, leftOutLine, sourceLine, sourceLines};
 
 mod held;
-pub mod lines;
 pub mod names;
+pub mod progress;
 mod traces;
 
 use text::NEWLINE;

@@ -5,7 +5,7 @@ ghost use Rattle.report.specs.Lines.{feedsBefore};
 ghost use Rattle.report.specs.Put.{Put};
 use super::held;
 use super::held::State;
-use super::lines::Sum;
+use super::progress::Sum;
 use super::traces;
 
 // What is left of the names that were read: the place where a name begins that has no line feed yet, and the report after those before it, and whether

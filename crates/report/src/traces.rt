@@ -9,8 +9,8 @@ ghost use Rattle.totals.specs.Totals.{added};
 ghost use Rattle.tally.specs.Tally.{tallyOf};
 ghost use Rattle.report.specs.Printed.{traceLine, leftOutLine};
 ghost use Rattle.report.specs.Put.{Put};
-use super::lines;
-use super::lines::Sum;
+use super::progress;
+use super::progress::Sum;
 use tally::Tallied;
 
 // The most steps of a trace that are played.
@@ -36,7 +36,7 @@ fn play(name: &[u8], sum: Sum) -> Sum
     let mut room = [0u8; 65537];
     let came = reading::read_file(name, &mut room);
     if came.failed {
-        return lines::unopened(name, sum);
+        return progress::unopened(name, sum);
     }
     let n = came.bytes;
     put_to(&room[..n], name, sum)
@@ -59,7 +59,7 @@ fn put_to(trace: &[u8], name: &[u8], sum: Sum) -> Sum
 
 // The line of a trace that was played; whether it could be written.
 fn print_line(f: Tallied, refusal: u32, name: &[u8]) -> bool {
-    let mut out = lines::line_room();
+    let mut out = progress::line_room();
     let n = put_line(&mut out, f, refusal, name);
     io::write_all(1, &out[..n])
 }

@@ -3,14 +3,14 @@
 
 fn main() {
     let mut names = room();
-    let first = report::lines::none();
+    let first = report::progress::none();
     let r = report::names::take(&mut names, first);
     if r.failed {
         tell(b"yearly: the names could not be read\n");
         return;
     }
     let sum = r.sum;
-    if !report::lines::ended(sum) {
+    if !report::progress::ended(sum) {
         tell(b"yearly: the report could not be written\n");
     }
 }

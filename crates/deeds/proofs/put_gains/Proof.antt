@@ -8,12 +8,13 @@ use Rattle.deeds.proofs.put_gains.Tie as tie
 returns : tie.Need-returns
 returns c =
     let p = c .before .before in
-    gains-text _ _ _ _ _ _ _ (p .put-hosts .ensures) (p .before .before .before .count-gains .ensures) (p .before .before .lowest-gain .ensures)
+    gains-text _ _ _ _ _ _ _ _ (p .put-hosts .ensures) (p .before .before .before .before .gained .ensures) (p .before .before .before .count-of .ensures) (p .before .before .lowest-of .ensures)
 
 pub put-gains-spec : {M : Type 1} → statement M
 put-gains-spec =
     tie.close
     (tie.spec
+    (λ c κs. tt)
     (λ c κs. tt)
     (λ c κs. tt)
     (λ c κs. tt)
