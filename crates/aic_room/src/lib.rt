@@ -10,8 +10,11 @@ ghost use Rattle.rooms.specs.Reply.{told};
 ghost use Rattle.turns.specs.Turns.{stepOf};
 ghost use Rattle.aic_layout.specs.Room.{Laid, Gives};
 ghost use Rattle.aic_room.specs.Reply.{Done};
+
+mod effects;
+mod handlers;
+
 use aic::Signals;
-use aic_effects::handlers;
 use aic_layout::DEBUG;
 use aic_layout::DEPTH;
 use aic_layout::ENABLED;
@@ -72,24 +75,24 @@ fn write_at(room: &mut Room, offset: u32, v: u32)
     ensures { λ _. ⌜ ((a : Aic) → sound a ≡ true → Laid a (now (room .entry)) → Laid (writtenAt a offset v) (now (room .exit))) ⌝ }
 {
     if offset < map::SVR {
-        aic_effects::write_mode(room, offset / 4, v);
+        effects::write_mode(room, offset / 4, v);
         return;
     }
     if offset < map::IVR {
-        aic_effects::write_vector(room, offset / 4 - 32, v);
+        effects::write_vector(room, offset / 4 - 32, v);
         return;
     }
     match offset {
         map::IVR => handlers::write_ivr(room),
-        map::IECR => aic_effects::enable(room, v),
-        map::IDCR => aic_effects::disable(room, v),
-        map::ICCR => aic_effects::clear(room, v),
-        map::ISCR => aic_effects::set(room, v),
+        map::IECR => effects::enable(room, v),
+        map::IDCR => effects::disable(room, v),
+        map::ICCR => effects::clear(room, v),
+        map::ISCR => effects::set(room, v),
         map::EOICR => handlers::end_last(room),
-        map::SPU => aic_effects::write_spurious(room, v),
-        map::DCR => aic_effects::write_debug(room, v),
-        map::FFER => aic_effects::force(room, v),
-        map::FFDR => aic_effects::unforce(room, v),
+        map::SPU => effects::write_spurious(room, v),
+        map::DCR => effects::write_debug(room, v),
+        map::FFER => effects::force(room, v),
+        map::FFDR => effects::unforce(room, v),
         _ => {}
     }
 }
@@ -133,7 +136,7 @@ pub fn line(room: &mut Room, k: u32, level: u32) -> u64
     ensures { λ r. ⌜ ((a : Aic) → sound a ≡ true → Laid a (now (room .entry)) → Done (line a k level) (now (room .exit)) (told r)) ⌝ }
 {
     if (k < 32) & (level <= 1) {
-        aic_effects::move_line(room, k, level == 1);
+        effects::move_line(room, k, level == 1);
         return rooms::answer(0);
     }
     rooms::refuse(steps::BEYOND)

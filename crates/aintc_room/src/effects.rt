@@ -152,7 +152,7 @@ fn write_route(room: &mut Room, k: u32, v: u32)
 }
 
 // A write of a register that takes the value.
-pub fn write_at(room: &mut Room, offset: u32, v: u32)
+pub(crate) fn write_at(room: &mut Room, offset: u32, v: u32)
     ensures { λ _. ⌜ ((a : Aintc) → Laid a (now (room .entry)) → Laid (writtenAt a offset v) (now (room .exit))) ⌝ }
 {
     if offset < map::ITR {
@@ -170,7 +170,7 @@ pub fn write_at(room: &mut Room, offset: u32, v: u32)
 // ---- line steps
 
 // The line of input k goes to a level; of all inputs only this one may then be taken.
-pub fn move_line(room: &mut Room, k: u32, high: bool)
+pub(crate) fn move_line(room: &mut Room, k: u32, high: bool)
     requires { ⌜ k < 128 ⌝ }
     ensures { λ _. ⌜ ((a : Aintc) → sound a ≡ true → Laid a (now (room .entry)) → Laid (settle (moved a k high)) (now (room .exit))) ⌝ }
 {

@@ -14,9 +14,9 @@ ghost use Rattle.turns.specs.Turns.{stepOf};
 ghost use Rattle.aintc_layout.specs.Room.{Laid};
 ghost use Rattle.aintc_room.specs.Reply.{Done};
 
-pub mod effects;
-pub mod search;
-pub mod sides;
+mod effects;
+mod search;
+mod sides;
 
 use aintc_layout::AUTOIDLE;
 use aintc_layout::FIQ;

@@ -20,7 +20,7 @@ use aintc_layout::SOFT;
 use rooms::Room;
 
 // Word n of the inputs that are raised, by their line or by a soft interrupt, and not masked.
-pub fn open_word(room: &Room, n: usize) -> u32
+pub(crate) fn open_word(room: &Room, n: usize) -> u32
     requires { ⌜ n < 4 ⌝ }
     ensures { λ r. ⌜ ((a : Aintc) → Laid a (now (room .entry)) → r ≡ openWord a n) ⌝ }
 {
@@ -31,7 +31,7 @@ pub fn open_word(room: &Room, n: usize) -> u32
 }
 
 // Word n of the inputs that are pending for FIQ, where `fast`, or for IRQ.
-pub fn pending_word(room: &Room, fast: bool, n: usize) -> u32
+pub(crate) fn pending_word(room: &Room, fast: bool, n: usize) -> u32
     requires { ⌜ n < 4 ⌝ }
     ensures { λ r. ⌜ ((a : Aintc) → Laid a (now (room .entry)) → r ≡ pendingWord a fast n) ⌝ }
 {
@@ -44,7 +44,7 @@ pub fn pending_word(room: &Room, fast: bool, n: usize) -> u32
 }
 
 // The bits that any of four words has.
-pub fn any_of(a: u32, b: u32, c: u32, d: u32) -> u32
+pub(crate) fn any_of(a: u32, b: u32, c: u32, d: u32) -> u32
     ensures { λ r. ⌜ r ≡ either (either a b) (either c d) ⌝ }
 {
     words::join(words::join(a, b), words::join(c, d))
@@ -101,7 +101,7 @@ fn highest_of(low: u64, high: u64) -> u32
 }
 
 // The first of the inputs that four words hold: of the lowest priority number, and of equal ones the highest.
-pub fn first_of(room: &Room, w0: u32, w1: u32, w2: u32, w3: u32) -> u32
+pub(crate) fn first_of(room: &Room, w0: u32, w1: u32, w2: u32, w3: u32) -> u32
     ensures { λ r. ⌜ ((s : Aintc) → Laid s (now (room .entry)) → SomeOf (held w0 w1 w2 w3) → FirstOf s (held w0 w1 w2 w3) r) ⌝ }
 {
     let mut low = pair(w0, w1);

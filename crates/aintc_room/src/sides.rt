@@ -16,7 +16,7 @@ use aintc_layout::THRESHOLD;
 use rooms::Room;
 
 // Where the one stands that is chosen for FIQ, where `fast`, or for IRQ.
-pub fn place_of(fast: bool) -> usize
+pub(crate) fn place_of(fast: bool) -> usize
     ensures { λ r. ⌜ (r ≡ chosenFrom fast) × (r ≤ 12) ⌝ }
 {
     if fast {
@@ -59,7 +59,7 @@ fn settle_side(room: &mut Room, fast: bool)
 }
 
 // Each output with none chosen takes its first.
-pub fn settle(room: &mut Room)
+pub(crate) fn settle(room: &mut Room)
     ensures { λ _. ⌜ ((a : Aintc) → Laid a (now (room .entry)) → Laid (settle a) (now (room .exit))) ⌝ }
 {
     settle_side(room, false);
@@ -67,7 +67,7 @@ pub fn settle(room: &mut Room)
 }
 
 // The same where no other input than k may be taken. Most outputs hold one already, while a line is high as often as low: so this is asked first.
-pub fn offer(room: &mut Room, k: u32)
+pub(crate) fn offer(room: &mut Room, k: u32)
     requires { ⌜ k < 128 ⌝ }
     ensures { λ _. ⌜ ((a : Aintc) → Laid a (now (room .entry)) → Alone a k → Laid (settle a) (now (room .exit))) ⌝ }
 {

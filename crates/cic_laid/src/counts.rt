@@ -258,7 +258,7 @@ pub fn renew(room: &mut Room, k: u32, new: u32)
 }
 
 // The active system interrupts of word k become those that are set and enabled.
-pub fn renew_word(room: &mut Room, k: u32)
+pub(crate) fn renew_word(room: &mut Room, k: u32)
     requires { ⌜ k < 32 ⌝ }
     ensures { λ _. ⌜ ((f : Frame) (c : Cic) → Stale f c k (now (room .entry)) → Standing f c (now (room .exit))) ⌝ }
 {
@@ -283,7 +283,7 @@ fn drop_four(w: u32, q: u32) -> u32
 }
 
 // The four system interrupts of register k of the channel map are taken out, so that their channels can change.
-pub fn take_four(room: &mut Room, k: u32)
+pub(crate) fn take_four(room: &mut Room, k: u32)
     requires { ⌜ k < 256 ⌝ }
     ensures { λ _. ⌜ ((f : Frame) (c : Cic) (ws : List ℕ) → f .kept ≡ true → Counted f c ws (now (room .entry)) → Taken f c ws k (now (room .exit))) ⌝ }
 {
@@ -305,7 +305,7 @@ fn move_channel(room: &mut Room, k: Channel, from: Host, to: Host)
 }
 
 // Channel 4 * k + j, by byte j of the old word and of the new one.
-pub fn move_byte(room: &mut Room, k: u32, j: u32, old: u32, new: u32)
+pub(crate) fn move_byte(room: &mut Room, k: u32, j: u32, old: u32, new: u32)
     requires { ⌜ (k < 64) × (j < 4) ⌝ }
     ensures { λ _. ⌜ ((f : Frame) (c : Cic) → Move f c k j old new (now (room .entry)) (now (room .exit))) ⌝ }
 {

@@ -11,8 +11,8 @@ ghost use Rattle.turns.specs.Turns.{stepOf};
 ghost use Rattle.cic_laid.specs.Room.{Frame, Laid};
 ghost use Rattle.cic_room.specs.Reply.{Done};
 
-pub mod reads;
-pub mod writes;
+mod reads;
+mod writes;
 
 use cic_laid::ASSERTED;
 use cic_laid::LOWEST;

@@ -92,7 +92,7 @@ fn read_high(room: &Room, offset: u32) -> u64
     if_any(32 * k, room[HOSTS], room[ALLOW + k as usize])
 }
 
-pub fn read_at(room: &Room, offset: u32) -> u64
+pub(crate) fn read_at(room: &Room, offset: u32) -> u64
     requires { ⌜ offset % 4 ≡ 0 ⌝ }
     ensures { λ r. ⌜ ((f : Frame) (c : Cic) → sound c ≡ true → Laid f c (now (room .entry)) → told r ≡ readReply (readIn c (registerAt offset))) ⌝ }
 {

@@ -229,7 +229,7 @@ fn write_high(room: &mut Room, offset: u32, v: u32) -> u64
     replace_hosts(room, (offset - 0x1500) / 4, v)
 }
 
-pub fn write_at(room: &mut Room, offset: u32, v: u32) -> u64
+pub(crate) fn write_at(room: &mut Room, offset: u32, v: u32) -> u64
     requires { ⌜ offset % 4 ≡ 0 ⌝ }
     ensures { λ r. ⌜ ((f : Frame) (c : Cic) → sound c ≡ true → Laid f c (now (room .entry)) → Done f (writeIn c (registerAt offset) v) (now (room .exit)) (told r)) ⌝ }
 {

@@ -78,7 +78,7 @@ fn replace_byte(room: &mut Room, q: u32, j: u32, old: u32, new: u32)
 }
 
 // After register q of the channel map, which was `old`, is written: only what differs is looked at.
-pub fn renew(room: &mut Room, q: u32, old: u32)
+pub(crate) fn renew(room: &mut Room, q: u32, old: u32)
     requires { ⌜ q < 256 ⌝ }
     ensures { λ _. ⌜ ((f : Frame) (c : Cic) (m : List ℕ) → Written m (c .channel) q old → Laid (withWords f (made 256 (wordsOf m))) c (now (room .entry)) → Laid (withWords f (made 256 (wordsOf (c .channel)))) c (now (room .exit))) ⌝ }
 {

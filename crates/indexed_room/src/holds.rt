@@ -25,7 +25,7 @@ pub const GLOBAL_HELD: usize = 11;
 // ---- words as they are held: 0 for no hold, 1 for the word of none, 2 more than its number for a system interrupt
 
 // The word that is held.
-pub fn word_held(x: u32) -> u32
+pub(crate) fn word_held(x: u32) -> u32
     ensures { λ r. ⌜ r ≡ wordHeld x ⌝ }
 {
     if x == 1 {
@@ -38,7 +38,7 @@ pub fn word_held(x: u32) -> u32
 }
 
 // The word of an index as it is held.
-pub fn held_as(word: u32) -> u32
+pub(crate) fn held_as(word: u32) -> u32
     ensures { λ r. ⌜ ((word ≢ noneWord → word < 65534) → r ≡ heldAs word) ⌝ }
 {
     if word == cic_indices::NONE {
@@ -50,14 +50,14 @@ pub fn held_as(word: u32) -> u32
 // ---- one hold
 
 // The global index is held as x, or not held.
-pub fn hold_global(room: &mut Room, x: u32)
+pub(crate) fn hold_global(room: &mut Room, x: u32)
     ensures { λ _. ⌜ ((p : Prioritised) → Laid p (now (room .entry)) → Laid (prioritised (p .cic) (withGlobal (p .held) x)) (now (room .exit))) ⌝ }
 {
     room[GLOBAL_HELD] = x;
 }
 
 // The index of host interrupt h is held as x, or not held.
-pub fn hold_host(room: &mut Room, h: Host, x: u32)
+pub(crate) fn hold_host(room: &mut Room, h: Host, x: u32)
     requires { ⌜ h .0 < 256 ⌝ }
     ensures { λ _. ⌜ ((p : Prioritised) → Laid p (now (room .entry)) → Laid (prioritised (p .cic) (withHosts (p .held) (set (p .held .host) (h .0) x))) (now (room .exit))) ⌝ }
 {
@@ -125,7 +125,7 @@ fn hosts_written(room: &mut Room, k: u32, v: u32)
 }
 
 // After a write of the CIC's that is carried out in the mode.
-pub fn end_holds(room: &mut Room, offset: u32, v: u32)
+pub(crate) fn end_holds(room: &mut Room, offset: u32, v: u32)
     ensures { λ _. ⌜ ((p : Prioritised) → Laid p (now (room .entry)) → Laid (prioritised (p .cic) (heldAfter (p .cic) (p .held) offset v)) (now (room .exit))) ⌝ }
 {
     if offset == 0x034 {
@@ -160,7 +160,7 @@ fn clear(room: &mut Room, mode: u32)
 }
 
 // Control is written: bit 4 is the mode, and where it is off nothing is held.
-pub fn control(room: &mut Room, v: u32)
+pub(crate) fn control(room: &mut Room, v: u32)
     ensures { λ _. ⌜ ((p : Prioritised) → Laid p (now (room .entry)) → Laid (prioritised (p .cic) (controlled (p .held) v)) (now (room .exit))) ⌝ }
 {
     if words::has(v, 4) {

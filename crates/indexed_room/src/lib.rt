@@ -14,7 +14,7 @@ ghost use Rattle.indexed_room.specs.Room.{Laid};
 pub mod channels;
 pub mod holds;
 pub mod own;
-pub mod search;
+mod search;
 
 use cic_indexed::Own;
 use cic_laid::CHANNEL_MAP;

@@ -79,7 +79,7 @@ fn hold_after(mode: u32, word: u32) -> u32
 }
 
 // A read of control: bit 4 shows the hold mode.
-pub fn read_control(room: &Room, offset: u32) -> u64
+pub(crate) fn read_control(room: &Room, offset: u32) -> u64
     ensures { λ r. ⌜ ((p : Prioritised) → sound p ≡ true → Laid p (now (room .entry)) → Done (readAs true p offset Control) (now (room .entry)) (told r)) ⌝ }
 {
     let n = steps::read_refusal(true, offset, Access::ReadWrite);
@@ -90,7 +90,7 @@ pub fn read_control(room: &Room, offset: u32) -> u64
 }
 
 // A read of the global index, which in the mode is held from then on.
-pub fn read_global(room: &mut Room, offset: u32) -> u64
+pub(crate) fn read_global(room: &mut Room, offset: u32) -> u64
     ensures { λ r. ⌜ ((p : Prioritised) → sound p ≡ true → Laid p (now (room .entry)) → Done (readAs true p offset GlobalIndex) (now (room .exit)) (told r)) ⌝ }
 {
     let n = steps::read_refusal(true, offset, Access::ReadWrite);
@@ -106,7 +106,7 @@ pub fn read_global(room: &mut Room, offset: u32) -> u64
 }
 
 // A read of the index of host interrupt h, which in the mode is held from then on. No host beyond the last is configured.
-pub fn read_host(room: &mut Room, offset: u32, h: Host) -> u64
+pub(crate) fn read_host(room: &mut Room, offset: u32, h: Host) -> u64
     ensures { λ r. ⌜ ((p : Prioritised) → sound p ≡ true → Laid p (now (room .entry)) → Done (readAs true p offset (HostIndex h)) (now (room .exit)) (told r)) ⌝ }
 {
     let access = host_access(room, h);
@@ -128,7 +128,7 @@ pub fn read_host(room: &mut Room, offset: u32, h: Host) -> u64
 // ---- writes
 
 // A write of control: bit 4 is the hold mode.
-pub fn write_control(room: &mut Room, offset: u32, v: u32) -> u64
+pub(crate) fn write_control(room: &mut Room, offset: u32, v: u32) -> u64
     ensures { λ r. ⌜ ((p : Prioritised) → Laid p (now (room .entry)) → Done (writeAs true p offset v Control) (now (room .exit)) (told r)) ⌝ }
 {
     let n = steps::write_refusal(true, offset, Access::ReadWrite, steps::CARRIED_OUT);
@@ -140,7 +140,7 @@ pub fn write_control(room: &mut Room, offset: u32, v: u32) -> u64
 }
 
 // A write of the global index: it ends its hold, whatever the value.
-pub fn write_global(room: &mut Room, offset: u32) -> u64
+pub(crate) fn write_global(room: &mut Room, offset: u32) -> u64
     ensures { λ r. ⌜ ((p : Prioritised) (v : ℕ) → Laid p (now (room .entry)) → Done (writeAs true p offset v GlobalIndex) (now (room .exit)) (told r)) ⌝ }
 {
     let n = steps::write_refusal(true, offset, Access::ReadWrite, steps::CARRIED_OUT);
@@ -152,7 +152,7 @@ pub fn write_global(room: &mut Room, offset: u32) -> u64
 }
 
 // A write of the index of host interrupt h: it ends its hold, whatever the value.
-pub fn write_host(room: &mut Room, offset: u32, h: Host) -> u64
+pub(crate) fn write_host(room: &mut Room, offset: u32, h: Host) -> u64
     ensures { λ r. ⌜ ((p : Prioritised) (v : ℕ) → sound p ≡ true → Laid p (now (room .entry)) → Done (writeAs true p offset v (HostIndex h)) (now (room .exit)) (told r)) ⌝ }
 {
     let access = host_access(room, h);

@@ -71,7 +71,7 @@ fn of_sixteen(room: &Room, at: usize, b: u32) -> u32
 }
 
 // Which of the 32 bytes of eight words.
-pub fn members(room: &Room, at: usize, b: u32) -> u32
+pub(crate) fn members(room: &Room, at: usize, b: u32) -> u32
     requires { ⌜ at ≤ 2040 ⌝ }
     ensures { λ r. ⌜ Marks (now (room .entry)) at b 32 r ⌝ }
 {
@@ -129,7 +129,7 @@ fn asked_word(room: &Room, w: u32, every: bool, h: Host) -> u32
 }
 
 // The word of an index that is not held: the global one, or that of host h. A host that has no active system interrupt is not searched for.
-pub fn index(room: &Room, every: bool, h: Host) -> u32
+pub(crate) fn index(room: &Room, every: bool, h: Host) -> u32
     requires { ⌜ h .0 < 256 ⌝ }
     ensures { λ r. ⌜ ((p : Prioritised) → sound p ≡ true → Laid p (now (room .entry)) → r ≡ indexOf (p .cic) every h) ⌝ }
 {

@@ -64,7 +64,7 @@ pub fn word_in(out: &mut [u8], at: usize, w: u64) -> usize
 }
 
 // The decimal digits of a number. Nearly all numbers of a listing have at most five.
-pub fn decimal_in(out: &mut [u8], at: usize, n: u32) -> usize
+fn decimal_in(out: &mut [u8], at: usize, n: u32) -> usize
     requires { ⌜ at + 10 ≤ length (now out) ⌝ }
     ensures { λ r. ⌜ ((now (out .exit), r) ≡ write (now (out .entry), at) (decimal n)) × ((r ≤ at + 10) × (length (now (out .exit)) ≡ length (now (out .entry)))) ⌝ }
 {

@@ -4,7 +4,7 @@ use borrow.Author.Tests.{ne-eqb}
 use Rattle.words.specs.Choice.{pick}
 use Rattle.words.proofs.ChoiceLaws.{pick-false}
 use Rattle.aic_registers.specs.Registers.{readAt}
-use Rattle.aic_effects.proofs.HandlerLaws.{gives-as}
+use Rattle.aic_room.proofs.HandlerLaws.{gives-as}
 use Rattle.aic_room.proofs.ReplyLaws.{gives-at}
 use borrow.Author.Needs.{needs}
 use Rattle.aic_room.proofs.read_at.Statement.{statement}

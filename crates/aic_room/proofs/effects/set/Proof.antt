@@ -1,0 +1,22 @@
+-- That `set` of src/effects.rt keeps its contract.
+use mathlib.Core.Path.{ap, ap₂, _∙_}
+use Rattle.words.specs.Word.{both, either}
+use Rattle.aic_registers.specs.Effects.{setBy}
+use Rattle.aic_layout.proofs.CellLaws.{edges-is, memory-is, put-memory}
+use Rattle.aic_layout.proofs.LevelLaws.{laid-stale}
+use borrow.Author.Needs.{needs}
+use Rattle.aic_room.proofs.effects.set.Statement.{statement}
+use Rattle.aic_room.proofs.effects.set.Tie as tie
+
+returns : tie.Need-returns
+unfolding setBy
+returns c =
+    let x = c .before .before in
+    let v = x .before .before .before .before .args .v in
+    λ a h. c .renew .ensures _ (put-memory (laid-stale h) (x .join .ensures ∙ ap₂ either (memory-is h) (x .before .meet .ensures ∙ ap (both v) (edges-is h))))
+
+pub set-spec : {M : Type 1} → statement M
+set-spec =
+    tie.close
+    (tie.spec (λ c. search needs) (λ c. search needs) (λ c κs. search needs) (λ c κs. search needs) (λ c. search needs) (λ c κs. search needs)
+    returns)
