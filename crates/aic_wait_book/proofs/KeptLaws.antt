@@ -9,12 +9,12 @@ use native.Mathlib.Decide.{ℕ-discrete, decLt}
 use lib.Dec.{eqb, ltb}
 use lib.ListN.{getD, set, length, length-set, replicate, length-replicate}
 use lib.Seq.{getD-set-same, getD-set-other}
-use borrow.Author.Tests.{eq-eqb, ne-eqb, lt-ltb, le-ltb, ltb-true, ltb-false}
+use borrow.Author.Tests.{eq-eqb, ne-eqb, eqb-true, lt-ltb, le-ltb, ltb-true, ltb-false}
 use Rattle.words.specs.Choice.{pick}
 use Rattle.words.specs.Counting.{one}
 use Rattle.words.specs.Word.{bit, wordOf, either, both, without, withBit}
 use Rattle.words.proofs.ChoiceLaws.{pick-true, pick-false, pick-cases}
-use Rattle.words.proofs.TruthLaws.{or-neither, clash}
+use Rattle.words.proofs.TruthLaws.{and-left, and-right, or-neither, clash}
 use Rattle.words.proofs.WordLaws.{bit-none, bit-wordOf, bit-both, bit-without, bit-either, bit-cleared}
 use Rattle.steps.specs.declared.Step.{Step}
 use Rattle.aic_record.specs.declared.Aic.{Aic}
@@ -30,8 +30,8 @@ use Rattle.aic_wait_figures.specs.Figures.{noFigures, figuresWith}
 use Rattle.aic_figures.proofs.KeptLaws.{Way, way, asks-then, waits-then}
 use Rattle.aic_figures.proofs.KeptLaws.Way.{ends, starts, begins, rests, goes}
 use Rattle.aic_wait_book.specs.Waits.{followed}
-use Rattle.aic_wait_book.specs.Book.{rowOf, rowAfter, wordIn, isQuiet, Small, Kept, Rows, Moved}
-use Rattle.aic_wait_book.proofs.RowLaws.{row-then, row-rests, stands-asks, stands-waits, rests-then, seen-then, small-then, nothing-moves, none-left}
+use Rattle.aic_wait_book.specs.Book.{rowOf, rowAfter, wordIn, isQuiet, isStill, touchedBy, Small, Kept, Rows, Moved}
+use Rattle.aic_wait_book.proofs.RowLaws.{row-then, row-rests, stands-asks, stands-waits, rests-then, seen-then, small-then, quiet-still, nothing-moves, row-stays, none-left}
 
 -- ---- rows put anew one after another, by the bits of a word
 
@@ -94,6 +94,87 @@ module _ (h : ℕ → List ℕ) (some left : ℕ) (old new : List (List ℕ)) (i
           getD-set-other new i j v [] q ∙ d .each j n
           ∙ ap (λ (c : Bool). pick c (h j) (getD old j []))
           (bit-without some left j n ∙ same (bit some j) (bit left j) ∙ ap (λ (c : Bool). bit some j && not (bit left j && not c)) (sym (ne-eqb j i q)) ∙ sym (left-of j n))
+
+-- ---- rows that stay
+
+pub row-same : (i n : ℕ) (m : Marks) (t : Aic) {x y p q : Bool} {r s : List ℕ} → x ≡ p → y ≡ q → r ≡ s → rowAfter i x y n m t r ≡ rowAfter i p q n m t s
+row-same i n m t ex ey er = rw (ex, ey, er)
+
+set-own : (l : List (List ℕ)) (i : ℕ) → l ≡ set l i (getD l i [])
+set-own [] i = refl
+set-own (x ∷ l) zero = refl
+set-own (x ∷ l) (suc i) = ap (λ (r : List (List ℕ)). x ∷ r) (set-own l i)
+
+pub row-kept : (book : List (List ℕ)) (i : ℕ) (was is : Bool) (n : ℕ) (m : Marks) (t : Aic) (f : Figures) → getD book i [] ≡ rowOf f → Small f → was ≡ ltb 1 (f .bound .wait)
+    → {e : ℕ} → e ≡ t .enabled → {s : Bool} → s ≡ isStill e (getD (getD book i []) 0 0) (getD (getD book i []) 1 0) (getD (getD book i []) 8 0) m → ((was && is) && s) ≡ true
+    → book ≡ set book i (rowAfter i was is n m t (getD book i []))
+row-kept book i was is n m t f e small w ee es b =
+    let both-wait = and-left (was && is) _ b in
+    let p = and-left was is both-wait in
+    let q = and-right was is both-wait in
+    set-own book i
+    ∙ ap (set book i) (e
+    ∙ sym (row-stays i n m t f small (sym (es ∙ ap₂ (λ (x : ℕ) (r : List ℕ). isStill x (getD r 0 0) (getD r 1 0) (getD r 8 0) m) ee e) ∙ and-right (was && is) _ b) (sym p ∙ w))
+    ∙ row-same i n m t (sym p) (sym q) (sym e))
+
+touched-all : (was is : ℕ) → touchedBy was is true ≡ either was is
+unfolding touchedBy pick
+touched-all was is = refl
+
+touched-ends : (was is : ℕ) → touchedBy was is false ≡ either (without was is) (without is was)
+unfolding touchedBy pick
+touched-ends was is = refl
+
+-- where nothing is brought to anybody the rows of those that wait on stay
+pub rows-touched : (f : ℕ → Figures) (t : Aic) (n : ℕ) (m : Marks) (old new : List (List ℕ)) → Kept f old → (was is : ℕ) → was ≡ wordIn old 1 → (stirred : Bool)
+    → stirred ≡ (not (eqb (t .enabled) (wordIn old 2)) || not (isQuiet m)) → {some : ℕ} → some ≡ touchedBy was is stirred
+    → Rows (λ i. rowAfter i (bit was i) (bit is i) n m t (getD old i [])) some old new
+    → Rows (λ i. rowAfter i (bit was i) (bit is i) n m t (getD old i [])) (either was is) old new
+rows-touched f t n m old new k was is ew true es {some} e d =
+    subst (λ (w : ℕ). Rows (λ i. rowAfter i (bit was i) (bit is i) n m t (getD old i [])) w old new) (e ∙ touched-all was is) d
+rows-touched f t n m old new k was is ew false es {some} e d =
+    record { size = d .size; each = λ i l. d .each i l ∙ go i l (bit was i) (bit is i) refl refl; last = d .last }
+  where
+    h : ℕ → List ℕ
+    h i = rowAfter i (bit was i) (bit is i) n m t (getD old i [])
+
+    some-is : (i : ℕ) → i < 32 → bit some i ≡ ((bit was i && not (bit is i)) || (bit is i && not (bit was i)))
+    some-is i l = ap (λ (w : ℕ). bit w i) (e ∙ touched-ends was is) ∙ bit-either (without was is) (without is was) i l ∙ ap₂ (λ (x y : Bool). x || y) (bit-without was is i l) (bit-without is was i l)
+
+    quiet : isQuiet m ≡ true
+    quiet = sym (on (isQuiet m) (or-neither (not (eqb (t .enabled) (wordIn old 2))) (not (isQuiet m)) (sym es) .1))
+      where
+        on : (x : Bool) → not x ≡ false → true ≡ x
+        on true p = refl
+        on false p = p
+
+    same : t .enabled ≡ wordIn old 2
+    same = eqb-true (t .enabled) (wordIn old 2) (sym (on (eqb (t .enabled) (wordIn old 2)) (or-neither (not (eqb (t .enabled) (wordIn old 2))) (not (isQuiet m)) (sym es) .0)))
+      where
+        on : (x : Bool) → not x ≡ false → true ≡ x
+        on true p = refl
+        on false p = p
+
+    stays : (i : ℕ) → i < 32 → bit was i ≡ true → bit is i ≡ true → getD old i [] ≡ h i
+    stays i l p q =
+        k .rows i l
+        ∙ sym (row-stays i n m t (f i) (k .small i l)
+        (quiet-still (t .enabled) (f i .bound .rivals) (f i .bound .on) (f i .bound .broke) m quiet
+        (ap (λ (w : ℕ). without (both (f i .bound .rivals) w) (f i .bound .on)) same ∙ k .seen i l))
+        (sym p ∙ ap (λ (w : ℕ). bit w i) ew ∙ k .waits i l))
+        ∙ row-same i n m t (sym p) (sym q) (sym (k .rows i l))
+
+    some-on : (i : ℕ) → i < 32 → (x y : Bool) → bit was i ≡ x → bit is i ≡ y → bit some i ≡ ((x && not y) || (y && not x))
+    some-on i l x y p q = some-is i l ∙ ap₂ (λ (a b : Bool). (a && not b) || (b && not a)) p q
+
+    either-on : (i : ℕ) → i < 32 → (x y : Bool) → bit was i ≡ x → bit is i ≡ y → bit (either was is) i ≡ (x || y)
+    either-on i l x y p q = bit-either was is i l ∙ ap₂ (λ (a b : Bool). a || b) p q
+
+    go : (i : ℕ) → i < 32 → (x y : Bool) → bit was i ≡ x → bit is i ≡ y → pick (bit some i) (h i) (getD old i []) ≡ pick (bit (either was is) i) (h i) (getD old i [])
+    go i l true true p q = sym (pick-false (h i) (some-on i l true true p q)) ∙ stays i l p q ∙ pick-true (getD old i []) (either-on i l true true p q)
+    go i l true false p q = ap (λ (b : Bool). pick b (h i) (getD old i [])) (some-on i l true false p q ∙ sym (either-on i l true false p q))
+    go i l false true p q = ap (λ (b : Bool). pick b (h i) (getD old i [])) (some-on i l false true p q ∙ sym (either-on i l false true p q))
+    go i l false false p q = ap (λ (b : Bool). pick b (h i) (getD old i [])) (some-on i l false false p q ∙ sym (either-on i l false false p q))
 
 -- ---- all of it: the rows, and the words
 
@@ -194,7 +275,9 @@ module _ (f : ℕ → Figures) (s : Aic) (x : Step) (n : ℕ) (m : Marks) (old :
     unfolding followed
     figures-stay i l =
         ap (λ (k : ℕ). figuresWith n (f i) (boundBy i k n (f i .bound) m t)) (wait-same i l)
-        ∙ nothing-moves i n m t (f i) (h .small i l) quiet (ap (λ (k : ℕ). without (both (f i .bound .rivals) k) (f i .bound .on)) enabled ∙ h .seen i l) (h .rests i l)
+        ∙ nothing-moves i n m t (f i) (h .small i l)
+        (quiet-still (t .enabled) (f i .bound .rivals) (f i .bound .on) (f i .bound .broke) m quiet (ap (λ (k : ℕ). without (both (f i .bound .rivals) k) (f i .bound .on)) enabled ∙ h .seen i l))
+        (h .rests i l)
 
     pub kept-still : Kept (followed n m f s x) old
     kept-still =
@@ -233,8 +316,3 @@ same-rows (suc n) row (suc i) l = same-rows n row i (omega (arith, l))
 
 pub kept-start : Kept (λ k. noFigures) (replicate 33 (replicate 18 0))
 kept-start = kept-first (replicate 18 0) (replicate 33 (replicate 18 0)) refl (length-replicate {A = List ℕ} 33 (replicate 18 0)) (same-rows 33 (replicate 18 0))
-
--- ---- of the functions
-
-pub row-same : (i n : ℕ) (m : Marks) (t : Aic) {x y p q : Bool} {r s : List ℕ} → x ≡ p → y ≡ q → r ≡ s → rowAfter i x y n m t r ≡ rowAfter i p q n m t s
-row-same i n m t ex ey er = rw (ex, ey, er)

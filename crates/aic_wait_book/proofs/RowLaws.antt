@@ -6,7 +6,7 @@ use mathlib.Core.List.{List}
 use native.Mathlib.Omega.{arith}
 use native.Mathlib.Decide.{decLt}
 use lib.Dec.{eqb, ltb, leb}
-use borrow.Author.Tests.{eqb-true, leb-true, lt-ltb, le-ltb, ltb-true, ltb-false}
+use borrow.Author.Tests.{eqb-true, eq-eqb, leb-true, lt-ltb, le-ltb, ltb-true, ltb-false}
 use Rattle.words.specs.Choice.{pick}
 use Rattle.words.specs.Counting.{one, countBelow}
 use Rattle.words.specs.Word.{bit, wordOf, either, both, without}
@@ -25,7 +25,7 @@ use Rattle.aic_bounds.specs.Over.{bounds, better, loses}
 use Rattle.aic_bounds.proofs.WordLaws.{due-sum, by-idle, by-fresh, by-grown}
 use Rattle.aic_wait_figures.specs.declared.Figures.{Figures}
 use Rattle.aic_wait_figures.specs.Figures.{figuresWith}
-use Rattle.aic_wait_book.specs.Book.{rowOf, figuresIn, rowAfter, isQuiet, Small}
+use Rattle.aic_wait_book.specs.Book.{rowOf, figuresIn, rowAfter, isQuiet, isStill, Small}
 
 -- ---- numbers and words
 
@@ -53,10 +53,6 @@ count-none = refl
 
 plus-none : (n a b : ℕ) → n ≤ 4294967295 → both a b ≡ 0 → plus n a b ≡ n
 plus-none n a b l z = ap (λ (w : ℕ). capped (n + countBelow 32 (bit w))) z ∙ ap (λ (c : ℕ). capped (n + c)) count-none ∙ capped-none n l
-
--- a word that brings nothing to anybody
-plus-zero : (n a b : ℕ) → n ≤ 4294967295 → b ≡ 0 → plus n a b ≡ n
-plus-zero n a b l z = plus-none n a b l (shared-none a b (λ k m. ap (λ (c : Bool). bit a k && c) (ap (λ (w : ℕ). bit w k) z ∙ bit-none k) ∙ and-false (bit a k)))
 
 -- nobody is brought anything
 pub plus-nobody : (n a b : ℕ) → n ≤ 4294967295 → a ≡ 0 → n ≡ plus n a b
@@ -196,51 +192,101 @@ module _ (k w n : ℕ) (m : Marks) (t : Aic) (f : Figures) where
           (c .on ≤ 4294967295) × (c .pending ≤ 4294967295) × (c .edges ≤ 4294967295) × (c .commands ≤ 4294967295) × (c .turns ≤ 4294967295)
           × (c .closed ≤ 4294967295)
 
--- ---- a step that moves nothing
+-- ---- what a step brings to one that waits
 
-module _ (k n : ℕ) (m : Marks) (t : Aic) (f : Figures) (s : Small f) (q : isQuiet m ≡ true)
-    (e : without (both (f .bound .rivals) (t .enabled)) (f .bound .on) ≡ 0) (r : f .bound .wait < 2 → f .bound ≡ idle (f .bound .wait)) where
+-- nothing: none of its rivals is first enabled, none that counts is brought anything, and its bound stays
+abbrev Nothing : ℕ → ℕ → ℕ → ℕ → Marks → Type 0
+Nothing enabled rivals on broke m =
+    (without (both rivals enabled) on ≡ 0) × (both on (m .edges) ≡ 0) × (both on (m .commands) ≡ 0) × (both on (m .turns) ≡ 0) × (both on (m .closed) ≡ 0)
+    × ((eqb broke 0 && m .rewrote) ≡ false)
+
+off-not : (x : Bool) → not x ≡ true → x ≡ false
+off-not true p = sym p
+off-not false p = refl
+
+module _ (enabled rivals on broke : ℕ) (m : Marks) where
   abbrev c₀ : Bool
-  c₀ = eqb (m .edges) 0
+  c₀ = eqb (without (both rivals enabled) on) 0
 
   abbrev c₁ : Bool
-  c₁ = eqb (m .commands) 0
+  c₁ = eqb (both on (m .edges)) 0
 
   abbrev c₂ : Bool
-  c₂ = eqb (m .turns) 0
+  c₂ = eqb (both on (m .commands)) 0
 
   abbrev c₃ : Bool
-  c₃ = eqb (m .closed) 0
+  c₃ = eqb (both on (m .turns)) 0
 
-  brings : (m .edges ≡ 0) × (m .commands ≡ 0) × (m .turns ≡ 0) × (m .closed ≡ 0) × (m .rewrote ≡ false)
-  unfolding isQuiet
-  brings =
-      let p₃ = and-left (((c₀ && c₁) && c₂) && c₃) (not (m .rewrote)) q in
+  abbrev c₄ : Bool
+  c₄ = eqb (both on (m .closed)) 0
+
+  abbrev c₅ : Bool
+  c₅ = not (eqb broke 0 && m .rewrote)
+
+  still-brings : isStill enabled rivals on broke m ≡ true → Nothing enabled rivals on broke m
+  unfolding isStill
+  still-brings q =
+      let p₄ = and-left ((((c₀ && c₁) && c₂) && c₃) && c₄) c₅ q in
+      let p₃ = and-left (((c₀ && c₁) && c₂) && c₃) c₄ p₄ in
       let p₂ = and-left ((c₀ && c₁) && c₂) c₃ p₃ in
       let p₁ = and-left (c₀ && c₁) c₂ p₂ in (
-        eqb-true (m .edges) 0 (and-left c₀ c₁ p₁),
-        eqb-true (m .commands) 0 (and-right c₀ c₁ p₁),
-        eqb-true (m .turns) 0 (and-right (c₀ && c₁) c₂ p₂),
-        eqb-true (m .closed) 0 (and-right ((c₀ && c₁) && c₂) c₃ p₃),
-        off (m .rewrote) (and-right (((c₀ && c₁) && c₂) && c₃) (not (m .rewrote)) q),
+        eqb-true (without (both rivals enabled) on) 0 (and-left c₀ c₁ p₁),
+        eqb-true (both on (m .edges)) 0 (and-right c₀ c₁ p₁),
+        eqb-true (both on (m .commands)) 0 (and-right (c₀ && c₁) c₂ p₂),
+        eqb-true (both on (m .turns)) 0 (and-right ((c₀ && c₁) && c₂) c₃ p₃),
+        eqb-true (both on (m .closed)) 0 (and-right (((c₀ && c₁) && c₂) && c₃) c₄ p₄),
+        off-not (eqb broke 0 && m .rewrote) (and-right ((((c₀ && c₁) && c₂) && c₃) && c₄) c₅ q),
+      )
+
+  -- a step that brings nothing at all
+  pub quiet-still : isQuiet m ≡ true → without (both rivals enabled) on ≡ 0 → isStill enabled rivals on broke m ≡ true
+  unfolding isQuiet isStill
+  quiet-still q e =
+      let q₃ = and-left (((d₀ && d₁) && d₂) && d₃) (not (m .rewrote)) q in
+      let q₂ = and-left ((d₀ && d₁) && d₂) d₃ q₃ in
+      let q₁ = and-left (d₀ && d₁) d₂ q₂ in
+      rw (
+        eq-eqb (without (both rivals enabled) on) 0 e,
+        eq-eqb (both on (m .edges)) 0 (nobody (m .edges) (eqb-true (m .edges) 0 (and-left d₀ d₁ q₁))),
+        eq-eqb (both on (m .commands)) 0 (nobody (m .commands) (eqb-true (m .commands) 0 (and-right d₀ d₁ q₁))),
+        eq-eqb (both on (m .turns)) 0 (nobody (m .turns) (eqb-true (m .turns) 0 (and-right (d₀ && d₁) d₂ q₂))),
+        eq-eqb (both on (m .closed)) 0 (nobody (m .closed) (eqb-true (m .closed) 0 (and-right ((d₀ && d₁) && d₂) d₃ q₃))),
+        off-not (m .rewrote) (and-right (((d₀ && d₁) && d₂) && d₃) (not (m .rewrote)) q),
+        and-false (eqb broke 0),
       )
     where
-      off : (x : Bool) → not x ≡ true → x ≡ false
-      off true p = sym p
-      off false p = refl
+      d₀ : Bool
+      d₀ = eqb (m .edges) 0
+
+      d₁ : Bool
+      d₁ = eqb (m .commands) 0
+
+      d₂ : Bool
+      d₂ = eqb (m .turns) 0
+
+      d₃ : Bool
+      d₃ = eqb (m .closed) 0
+
+      nobody : (b : ℕ) → b ≡ 0 → both on b ≡ 0
+      nobody b z = shared-none on b (λ i l. ap (λ (c : Bool). bit on i && c) (ap (λ (w : ℕ). bit w i) z ∙ bit-none i) ∙ and-false (bit on i))
+
+-- ---- a step that moves nothing
+
+module _ (k n : ℕ) (m : Marks) (t : Aic) (f : Figures) (s : Small f)
+    (q : isStill (t .enabled) (f .bound .rivals) (f .bound .on) (f .bound .broke) m ≡ true) (r : f .bound .wait < 2 → f .bound ≡ idle (f .bound .wait)) where
+  brings : Nothing (t .enabled) (f .bound .rivals) (f .bound .on) (f .bound .broke) m
+  brings = still-brings (t .enabled) (f .bound .rivals) (f .bound .on) (f .bound .broke) m q
 
   grown-same : grownBy (f .bound .wait) (f .bound) n m t ≡ f .bound
   grown-same =
       rw (
-        joined (f .bound .on) (enabledOf (f .bound .rivals) t) (s .0) e,
-        plus-none (f .bound .pending) (without (enabledOf (f .bound .rivals) t) (f .bound .on)) (wordOf 32 (dues t)) (s .1)
-            (shared-none _ _ (λ i l. ap (λ (x : Bool). x && bit (wordOf 32 (dues t)) i) (ap (λ (w : ℕ). bit w i) e ∙ bit-none i))),
-        plus-zero (f .bound .edges) (f .bound .on) (m .edges) (s .2) (brings .0),
-        plus-zero (f .bound .commands) (f .bound .on) (m .commands) (s .3) (brings .1),
-        plus-zero (f .bound .turns) (f .bound .on) (m .turns) (s .4) (brings .2),
-        plus-zero (f .bound .closed) (f .bound .on) (m .closed) (s .5) (brings .3),
-        brings .4,
-        and-false (eqb (f .bound .broke) 0),
+        joined (f .bound .on) (enabledOf (f .bound .rivals) t) (s .0) (brings .0),
+        sym (plus-nobody (f .bound .pending) (without (enabledOf (f .bound .rivals) t) (f .bound .on)) (wordOf 32 (dues t)) (s .1) (brings .0)),
+        plus-none (f .bound .edges) (f .bound .on) (m .edges) (s .2) (brings .1),
+        plus-none (f .bound .commands) (f .bound .on) (m .commands) (s .3) (brings .2),
+        plus-none (f .bound .turns) (f .bound .on) (m .turns) (s .4) (brings .3),
+        plus-none (f .bound .closed) (f .bound .on) (m .closed) (s .5) (brings .4),
+        brings .5,
       ) (unfold pick in refl)
 
   bound-same : boundBy k (f .bound .wait) n (f .bound) m t ≡ f .bound
@@ -269,6 +315,12 @@ module _ (k n : ℕ) (m : Marks) (t : Aic) (f : Figures) (s : Small f) (q : isQu
 
   pub nothing-moves : figuresWith n f (boundBy k (f .bound .wait) n (f .bound) m t) ≡ f
   nothing-moves = ap (figuresWith n f) bound-same ∙ figures-same
+
+-- the row of a wait that is brought nothing stays
+pub row-stays : (k n : ℕ) (m : Marks) (t : Aic) (f : Figures) → Small f → isStill (t .enabled) (f .bound .rivals) (f .bound .on) (f .bound .broke) m ≡ true → true ≡ ltb 1 (f .bound .wait)
+    → rowAfter k true true n m t (rowOf f) ≡ rowOf f
+row-stays k n m t f s q e =
+    sym (row-then k (f .bound .wait) n m t f true true e e) ∙ ap rowOf (nothing-moves k n m t f s q (λ l. absurd (omega (arith, l, ltb-true 1 (f .bound .wait) (sym e)))))
 
 -- ---- of the function
 

@@ -6,7 +6,7 @@ use mathlib.Core.List.{List, [], _∷_}
 use lib.Dec.{eqb, ltb}
 use lib.ListN.{length, getD}
 use Rattle.words.specs.Choice.{pick}
-use Rattle.words.specs.Word.{bit, both, without}
+use Rattle.words.specs.Word.{bit, either, both, without}
 use Rattle.aic_record.specs.declared.Aic.{Aic}
 use Rattle.aic_bounds.specs.declared.Bound.{Bound}
 use Rattle.aic_bounds.specs.declared.Marks.{Marks}
@@ -101,6 +101,17 @@ pub record Kept (f : ℕ → Figures) (book : List (List ℕ)) : Type 0 where
 -- it brought nothing
 unfoldable pub isQuiet : Marks → Bool
 isQuiet m = eqb (m .edges) 0 && eqb (m .commands) 0 && eqb (m .turns) 0 && eqb (m .closed) 0 && not (m .rewrote)
+
+-- it brought nothing to a source that waits, with these rivals and those of them that count, and the step that left it without a bound: none is first
+-- enabled, none that counts is brought anything, and a bound that holds goes on to hold
+unfoldable pub isStill : ℕ → ℕ → ℕ → ℕ → Marks → Bool
+isStill enabled rivals on broke m =
+    eqb (without (both rivals enabled) on) 0 && eqb (both on (m .edges)) 0 && eqb (both on (m .commands)) 0 && eqb (both on (m .turns)) 0 && eqb (both on (m .closed)) 0
+    && not (eqb broke 0 && m .rewrote)
+
+-- those that waited or wait; where nothing is brought to anybody those of which a wait ends or begins
+unfoldable pub touchedBy : ℕ → ℕ → Bool → ℕ
+touchedBy was is stirred = pick stirred (either was is) (either (without was is) (without is was))
 
 -- the rows of some sources are anew, and all others are as they were
 pub record Rows (h : ℕ → List ℕ) (some : ℕ) (old new : List (List ℕ)) : Type 0 where

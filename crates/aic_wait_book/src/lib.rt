@@ -4,10 +4,10 @@ ghost use mathlib.Core.Path.{_≡_};
 ghost use mathlib.Core.Bool.{true, not, _&&_};
 ghost use mathlib.Core.List.{[]};
 ghost use Prim.Native.Nat.{ℕ, _-_, _<_};
-ghost use lib.Dec.{eqb};
-ghost use lib.ListN.{length, getD};
+ghost use lib.Dec.{eqb, ltb};
+ghost use lib.ListN.{length, getD, set};
 ghost use Rattle.words.specs.Choice.{pick};
-ghost use Rattle.words.specs.Word.{bit, wordOf, either};
+ghost use Rattle.words.specs.Word.{bit, wordOf};
 ghost use Rattle.steps.specs.declared.Step.{Step};
 ghost use Rattle.turns.specs.Turns.{stepOf};
 ghost use Rattle.aic_record.specs.declared.Aic.{Aic};
@@ -24,7 +24,7 @@ ghost use Rattle.aic_bounds.specs.Following.{noMarks, hotLast, writeMarks, line
 ghost use Rattle.aic_wait_figures.specs.declared.Figures.{Figures};
 ghost use Rattle.aic_wait_figures.specs.Figures.{noFigures};
 ghost use Rattle.aic_wait_book.specs.Waits.{waitsNow, followed};
-ghost use Rattle.aic_wait_book.specs.Book.{rowOf, figuresIn, rowAfter, numbersOf, isQuiet, Kept, Rows, Moved};
+ghost use Rattle.aic_wait_book.specs.Book.{rowOf, figuresIn, rowAfter, numbersOf, wordIn, isQuiet, isStill, touchedBy, Small, Kept, Rows, Moved};
 
 mod bounds;
 
@@ -269,28 +269,62 @@ fn row_after(
 
 // ---- a step
 
-// The rows of those that waited before the n-th step, or wait after it.
-fn move_rows<'a>(book: &'a mut Book, room: &'a Room, was: u32, is: u32, n: u32, m: Marks)
-    ensures { λ _. ⌜ ((t : Aic) → sound t ≡ true → Laid t (now (room .entry)) → length (now (book .entry)) ≡ 33 → Rows (λ i. rowAfter i (bit was i) (bit is i) n m t (getD (now (book .entry)) i [])) (either was is) (now (book .entry)) (now (book .exit))) ⌝ }
+// Whether a step brought nothing to a source that waits.
+fn is_still(enabled: u32, rivals: u32, on: u32, broke: u32, m: Marks) -> bool
+    ensures { λ r. ⌜ r ≡ isStill enabled rivals on broke m ⌝ }
 {
-    let mut left = words::join(was, is);
+    (words::drop_bits(words::meet(rivals, enabled), on) == 0)
+        & (words::meet(on, m.edges) == 0)
+        & (words::meet(on, m.commands) == 0)
+        & (words::meet(on, m.turns) == 0)
+        & (words::meet(on, m.closed) == 0)
+        & !((broke == 0) & m.rewrote)
+}
+
+// The row of source i after the n-th step, by whether it waited and whether it waits then.
+fn move_row<'a>(book: &'a mut Book, room: &'a Room, i: u32, was: bool, is: bool, n: u32, m: Marks)
+    requires { ⌜ i < 32 ⌝ }
+    ensures { λ _. ⌜ ((f : Figures) (t : Aic) → sound t ≡ true → Laid t (now (room .entry)) → getD (now (book .entry)) i [] ≡ rowOf f → Small f → was ≡ ltb 1 (f .bound .wait) → now (book .exit) ≡ set (now (book .entry)) i (rowAfter i was is n m t (getD (now (book .entry)) i []))) ⌝ }
+{
+    let row = book[i as usize];
+    if was & is & is_still(room[aic_layout::ENABLED], row[0], row[1], row[8], m) {
+        return;
+    }
+    let next = row_after(room, i, was, is, n, m, row);
+    book[i as usize] = next;
+}
+
+// The rows of some sources, by whether they waited before the n-th step and wait after it.
+fn move_rows<'a>(book: &'a mut Book, room: &'a Room, some: u32, was: u32, is: u32, n: u32, m: Marks)
+    ensures { λ _. ⌜ ((f : ℕ → Figures) (t : Aic) → sound t ≡ true → Laid t (now (room .entry)) → Kept f (now (book .entry)) → was ≡ wordIn (now (book .entry)) 1 → Rows (λ i. rowAfter i (bit was i) (bit is i) n m t (getD (now (book .entry)) i [])) some (now (book .entry)) (now (book .exit))) ⌝ }
+{
+    let mut left = some;
     while left != 0 {
         let i = words::lowest(left);
-        let row = book[(i % 32) as usize];
-        let next = row_after(room, i, words::has(was, i), words::has(is, i), n, m, row);
-        book[(i % 32) as usize] = next;
+        move_row(book, room, i, words::has(was, i), words::has(is, i), n, m);
         left = words::with_bit(left, i, false);
     }
 }
 
+// Those that waited or wait; where nothing is brought to anybody only those of which a wait ends or begins.
+fn touched(was: u32, is: u32, stirred: bool) -> u32
+    ensures { λ r. ⌜ r ≡ touchedBy was is stirred ⌝ }
+{
+    if stirred {
+        return words::join(was, is);
+    }
+    words::join(words::drop_bits(was, is), words::drop_bits(is, was))
+}
+
 // The book after a step that may have moved something.
 fn move_on<'a>(book: &'a mut Book, room: &'a Room, before: u32, asks: u32, n: u32, m: Marks)
-    ensures { λ _. ⌜ ((t : Aic) → sound t ≡ true → Laid t (now (room .entry)) → length (now (book .entry)) ≡ 33 → Moved (startedFrom before t) asks n m t (now (book .entry)) (now (book .exit))) ⌝ }
+    ensures { λ _. ⌜ ((f : ℕ → Figures) (t : Aic) → sound t ≡ true → Laid t (now (room .entry)) → Kept f (now (book .entry)) → Moved (startedFrom before t) asks n m t (now (book .entry)) (now (book .exit))) ⌝ }
 {
     let by = aic_figures::started_from(room, before);
     let was = book[WORDS][WAITING];
     let is = aic_figures::waits_after(asks, by, book[WORDS][ASKED], was);
-    move_rows(book, room, was, is, n, m);
+    let stirred = (room[aic_layout::ENABLED] != book[WORDS][ENABLED]) | !is_quiet(m);
+    move_rows(book, room, touched(was, is, stirred), was, is, n, m);
     book[WORDS] = [
         asks,
         is,

@@ -59,7 +59,7 @@ returns-2 c =
     λ f s x ok h e k l.
     let u = step s x .aic in
     let by : startedFrom (a .before) u ≡ startedBy s x = ap (λ (d : ℕ). startedFrom d u) e ∙ tells s x (h .2) ok in
-    let m = c .move-on .ensures u (then-sound s x h ok) l (k .size) in
+    let m = c .move-on .ensures f u (then-sound s x h ok) l k in
     kept-on f s x (a .n) (a .m) (a .book .now) k new
     (subst (λ (q : ℕ). Moved (startedBy s x) q (a .n) (a .m) u (a .book .now) new) (w .ensures u (laid-stale l))
     (subst (λ (q : ℕ). Moved q (w .result) (a .n) (a .m) u (a .book .now) new) by m))
