@@ -111,7 +111,7 @@ along-more before told answers after answered next k refusal value q h t er ev m
     let d = t _ (a .0) in (
       subst (λ (n : Machine). Stands next n) (upto-more (λ n j. kthTold n told j .machine) m k refl refl) (d .0),
       upto-more (λ l j. set (set l (2 * j) (kthReply m told j .0)) (2 * j + 1) (kthReply m told j .1)) answers k (a .1)
-      (ap₂ (λ (x y : ℕ). set (set answered (2 * k) x) (2 * k + 1) y) (er ∙ ap (λ (p : Reply). p .0) (d .1)) (ev ∙ ap (λ (p : Reply). p .1) (d .1))),
+          (ap₂ (λ (x y : ℕ). set (set answered (2 * k) x) (2 * k + 1) y) (er ∙ ap (λ (p : Reply). p .0) (d .1)) (ev ∙ ap (λ (p : Reply). p .1) (d .1))),
     )
 
 -- ---- the whole call
@@ -140,7 +140,7 @@ pub one-more : (before told answers after answered next : List ℕ) (n r kind x 
 one-more before told answers after answered next n r kind x y p q h lo hi ek ex ey ep s =
     let there : Along before told answers n after answered = λ m z. let a = h .standing m z in (a .0, a .1) in
     let more = along-more before told answers after answered next n (q .0) (q .1) q there
-        (λ m z. rw (sym ek) (rw (sym ex) (rw (sym ey) (rw (sym ep) (takes m kind x y p (both-below lo hi) z (s .standing m z)))))) refl refl in
+    (λ m z. rw (sym ek) (rw (sym ex) (rw (sym ey) (rw (sym ep) (takes m kind x y p (both-below lo hi) z (s .standing m z)))))) refl refl in
     record {
       standing = λ m z. let a = more m z in (a .0, a .1, h .standing m z .2);
       vacant = λ v.
