@@ -11,7 +11,7 @@ unfolding tableText
 returns c =
     let c3 = c .before .before in
     let c2 = c3 .before .before .before .before in
-    let c1 = c2 .before .before .before .before in
+    let c1 = c2 .before .before .before .before .before in
     and-then _ _ _ (and-then _ _ _ (c1 .put-heading .ensures) (c2 .put-sources .ensures)) (c3 .put-last .ensures) ∙ write-laid _ _
 
 pub put-table-spec : {M : Type 1} → statement M
