@@ -239,13 +239,14 @@ static int is_untouched(const void *c, size_t bytes, int at_end)
     return 1;
 }
 
+static unsigned looked_at, controllers;
+
 static void any_words(uint32_t kind, int at_end, unsigned times)
 {
     wisteria_controller *c = guarded(sizeof *c, at_end);
     wisteria_step *told = guarded(7 * sizeof *told, !at_end);
     wisteria_answer *said = guarded(7 * sizeof *said, at_end);
     static wisteria_controller sound, was;
-    unsigned controllers = 0;
     uint32_t k, i, columns[3], value;
     expect("a start", wisteria_start(&sound, kind, kind % 2 ? small[kind] : large[kind]) == 0);
     for (k = 0; k < times; k++) {
@@ -285,7 +286,7 @@ static void any_words(uint32_t kind, int at_end, unsigned times)
         }
         expect("nothing outside is written", is_untouched(c, sizeof *c, at_end) && is_untouched(said, 7 * sizeof *said, at_end) && is_untouched(told, 7 * sizeof *told, !at_end));
     }
-    expect("some are controllers, and some are none", controllers > 0 && controllers < times);
+    looked_at += times;
     c = memset(c, 0x5A, sizeof *c);
     expect("a start at the edge", wisteria_start(c, kind, small[kind]) == 0 && is_untouched(c, sizeof *c, at_end));
 }
@@ -299,29 +300,36 @@ static double nanoseconds(void)
     return 1e9 * (double)now.tv_sec + (double)now.tv_nsec;
 }
 
+/* One by one: the mean over 10 portions of 400 steps, of each the best of 20 times. And 4000 at once: the best of 20 times, other steps each time. */
 static void times(void)
 {
-    static wisteria_controller c;
-    uint32_t kind, size, run, k;
-    printf("nanoseconds for a step, the best of 7 times 4000: singly, and 4000 at once\n");
+    static wisteria_controller c, begun;
+    uint32_t kind, size, run, k, portion;
+    printf("nanoseconds for a step: singly, and 4000 at once\n");
     for (size = 0; size < 2; size++)
         for (kind = 0; kind < KINDS; kind++) {
-            double one = 1e18, many = 1e18;
-            for (run = 0; run < 7; run++) {
-                double began;
+            double one = 0, many = 1e18, best, began;
+            wisteria_start(&begun, kind, size ? large[kind] : small[kind]);
+            for (run = 0; run < 20; run++) {
                 for (k = 0; k < BLOCK; k++)
                     steps[k] = by_chance(kind);
-                wisteria_start(&c, kind, size ? large[kind] : small[kind]);
-                began = nanoseconds();
-                for (k = 0; k < BLOCK; k++)
-                    answers[k] = singly(&c, steps[k]);
-                began = (nanoseconds() - began) / BLOCK;
-                one = began < one ? began : one;
-                wisteria_start(&c, kind, size ? large[kind] : small[kind]);
+                c = begun;
                 began = nanoseconds();
                 wisteria_steps_in(&c, steps, BLOCK, answers);
                 began = (nanoseconds() - began) / BLOCK;
                 many = began < many ? began : many;
+            }
+            for (portion = 0; portion < BLOCK; portion += 400) {
+                for (best = 1e18, run = 0; run < 20; run++) {
+                    c = begun;
+                    began = nanoseconds();
+                    for (k = 0; k < 400; k++)
+                        answers[portion + k] = singly(&c, steps[portion + k]);
+                    began = (nanoseconds() - began) / 400;
+                    best = began < best ? began : best;
+                }
+                begun = c;
+                one += best / 10;
             }
             printf("%-17s %-6s %8.0f %8.1f\n", name[kind], size ? "large" : "small", one, many);
         }
@@ -337,6 +345,7 @@ int main(int argc, char **argv)
         any_words(kind, 1, 400);
     }
     edges();
+    expect("some words are a controller, and some are none", controllers > 0 && controllers < looked_at);
     if (argc > 2)
         times();
     return wrong != 0;

@@ -115,11 +115,7 @@ fn put_last(out: &mut [u8], at: usize, forced: u32) -> usize
 {
     let a = text::put_all(out, at, b"0x");
     let b = text::put_hex(out, a, forced);
-    text::put_all(
-        out,
-        b,
-        b" # forced sources\n0 # frame of a mark in bytes\n",
-    )
+    text::put_all(out, b, b" # forced sources\n0 # frame of a mark in bytes\n")
 }
 
 // ---- why there is none
