@@ -24,6 +24,7 @@
 extern "C" {
 #endif
 
+/* What this is a header of: as VERSION has it, and ./run --version. */
 #define WISTERIA_VERSION "1.12.0"
 
 /* The longest trace that is played and the longest text that is read, in bytes; and the most steps that the program `wisteria` plays of a trace. */
