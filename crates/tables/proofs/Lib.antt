@@ -3,9 +3,11 @@ pub mod BareLaws
 pub mod FillLaws
 pub mod LayoutLaws
 pub mod LimitLaws
+pub mod NameLaws
 pub mod NumberLaws
 pub mod PlainLaws
 pub mod Promises
+pub mod QuoteLaws
 pub mod ReadLaws
 pub mod RefusalLaws
 pub mod SeekLaws

@@ -11,6 +11,7 @@ use Rattle.stack.specs.declared.Table.{Table}
 use Rattle.stack.specs.Bytes.{stackBytes, needed}
 use Rattle.stack.specs.Printed.{textOf}
 use Rattle.tables.specs.Typed.{bare, startFrom, endFrom, pastNth, nthStart, nthTyped}
+use Rattle.tables.specs.Names.{cleared}
 use Rattle.tables.specs.Number.{digit, worthFrom, isNumber, worth}
 use Rattle.tables.specs.Reading.{entered, tableOf, readTable, answerTo}
 use Rattle.tables.specs.Layout.{White, Without, Spread, linesFrom, plain}
@@ -49,7 +50,7 @@ SlipAt s p =
 
 -- a text of at most 65,536 bytes with the 98 numbers and nothing behind them
 abbrev pub Whole : List ℕ → Type 0
-Whole s = (length s ≤ 65536) × Numbers (bare s) 98 × (nthStart (bare s) 98 ≡ length s)
+Whole s = (length s ≤ 65536) × Numbers (cleared s) 98 × (nthStart (cleared s) 98 ≡ length s)
 
 -- among the numbers is a priority over 7, a type over 3 or a frame over 65,535, however many digits it has (02, 4/12, Refusals)
 abbrev pub TooLarge : List ℕ → Type 0
@@ -120,10 +121,10 @@ pub record Promises : Type 0 where
   pub elevenAt : (s : List ℕ) → readTable s .refusal ≡ 11 → readTable s .offset ≡ 65536
   -- 8 at an offset exactly if the first slip begins there: at its first character, or at the end of the text where the number is missing. A number
   -- that is too large is a slip as the word of forced sources alone
-  pub eight : (s : List ℕ) (p : ℕ) → ((readTable s .refusal ≡ 8) × (readTable s .offset ≡ p)) ↔ ((length s ≤ 65536) × SlipAt (bare s) p)
+  pub eight : (s : List ℕ) (p : ℕ) → ((readTable s .refusal ≡ 8) × (readTable s .offset ≡ p)) ↔ ((length s ≤ 65536) × SlipAt (cleared s) p)
   -- else the table is read, exactly if the 98 numbers are there and nothing follows them, and it is the table of their values
   pub read : (s : List ℕ) → (readTable s .refusal ≡ 0) ↔ Whole s
-  pub readValues : (s vs : List ℕ) → readTable s .refusal ≡ 0 → ((k : ℕ) → k < 98 → getD vs k 0 ≡ entered (worth (nthTyped (bare s) k)))
+  pub readValues : (s vs : List ℕ) → readTable s .refusal ≡ 0 → ((k : ℕ) → k < 98 → getD vs k 0 ≡ entered (worth (nthTyped (cleared s) k)))
       → readTable s ≡ record { refusal = 0; offset = 0; table = tableOf vs }
   -- a number stands in the table as it is, or as the largest word where it is larger than that
   pub enteredAs : (v : ℕ) → v < 2 ^ 32 → entered v ≡ v
@@ -153,8 +154,8 @@ pub record Promises : Type 0 where
       → answerTo s ≡ 69 ∷ 32 ∷ (decimal (readTable s .refusal) ++ (32 ∷ (decimal (readTable s .offset) ++ (10 ∷ []))))
   -- so `E 14` is the line exactly of the 98 numbers with one among them that is too large for a priority, a type or a frame, and the figure is
   -- that of the 98 numbers without one (02, 4/12, Refusals)
-  pub fourteen : (s : List ℕ) → (answerTo s ≡ 69 ∷ 32 ∷ 49 ∷ 52 ∷ 10 ∷ []) ↔ (Whole s × TooLarge (bare s))
-  pub figure : (s : List ℕ) → Whole s → (TooLarge (bare s) → ⊥)
+  pub fourteen : (s : List ℕ) → (answerTo s ≡ 69 ∷ 32 ∷ 49 ∷ 52 ∷ 10 ∷ []) ↔ (Whole s × TooLarge (cleared s))
+  pub figure : (s : List ℕ) → Whole s → (TooLarge (cleared s) → ⊥)
       → answerTo s ≡ decimal (stackBytes (readTable s .table)) ++ (32 ∷ 98 ∷ 121 ∷ 116 ∷ 101 ∷ 115 ∷ 10 ∷ [])
   -- no line is longer than 13 bytes
   pub answerMost : (s : List ℕ) → length (answerTo s) ≤ 13
