@@ -1,16 +1,17 @@
 -- Numbers with white space and comments between them are found where they stand, and read as they are.
 use Prim.Native.Nat.{ℕ, zero, suc, _+_, _-_, _≤_, _<_}
 use mathlib.Core.Path.{_≡_, refl, sym, ap, _∙_, subst}
-use mathlib.Core.Bool.{true, false, not}
+use mathlib.Core.Bool.{true, false, not, _||_}
 use mathlib.Core.List.{List, [], _∷_, _++_, append-assoc, append-nil}
-use mathlib.Core.Logic.{_≢_, inl, inr}
+use mathlib.Core.Logic.{_≢_, _⊎_, inl, inr}
 use native.Mathlib.Nat.{add-zero}
 use native.Mathlib.Omega.{arith}
+use lib.Dec.{eqb}
 use lib.ListN.{length, getD, take, drop, replicate, length-append, List·getD-append}
 use lib.Seq.{getD-append-add, take-append-seam, drop-append-seam}
-use borrow.Author.Tests.{ne-eqb}
+use borrow.Author.Tests.{eqb-true, ne-eqb}
 use Rattle.words.specs.Choice.{pick}
-use Rattle.words.proofs.TruthLaws.{clash}
+use Rattle.words.proofs.TruthLaws.{or-either, clash}
 use Rattle.tables.specs.Typed.{white, bareFrom, bare, startFrom, endFrom, pastNth, nthStart, nthTyped}
 use Rattle.tables.specs.Names.{cleared}
 use Rattle.tables.specs.Number.{isNumber}
@@ -28,6 +29,22 @@ white-is b (inl e) = rw e
 white-is b (inr (inl e)) = rw e
 white-is b (inr (inr (inl e))) = rw e
 white-is b (inr (inr (inr e))) = rw e
+
+pub is-white : (b : ℕ) → white b ≡ true → White b
+unfolding white
+is-white b h = go (or-either (eqb b 32 || eqb b 9 || eqb b 13) (eqb b 10) h)
+  where
+    two : (eqb b 32 ≡ true) ⊎ (eqb b 9 ≡ true) → White b
+    two (inl e) = inl (eqb-true b 32 e)
+    two (inr e) = inr (inl (eqb-true b 9 e))
+
+    three : ((eqb b 32 || eqb b 9) ≡ true) ⊎ (eqb b 13 ≡ true) → White b
+    three (inl e) = two (or-either (eqb b 32) (eqb b 9) e)
+    three (inr e) = inr (inr (inl (eqb-true b 13 e)))
+
+    go : ((eqb b 32 || eqb b 9 || eqb b 13) ≡ true) ⊎ (eqb b 10 ≡ true) → White b
+    go (inl e) = three (or-either (eqb b 32 || eqb b 9) (eqb b 13) e)
+    go (inr e) = inr (inr (inr (eqb-true b 10 e)))
 
 pub high-dark : (b : ℕ) → 48 ≤ b → white b ≡ false
 unfolding white

@@ -4,6 +4,7 @@ pub mod FillLaws
 pub mod LayoutLaws
 pub mod LimitLaws
 pub mod NameLaws
+pub mod NamedLaws
 pub mod NumberLaws
 pub mod PlainLaws
 pub mod Promises
