@@ -177,9 +177,8 @@ length-cleared s = length-bare false (unnamed s) ∙ length-unnamed s 32
 pub past-turn : (s : List ℕ) (k p a b : ℕ) → p ≡ pastNth s k → a ≡ startFrom s p → b ≡ endFrom s a → b ≡ pastNth s (k + 1)
 past-turn s k p a b e f g = rw (g, f, e, add-one k) (unfold pastNth in refl)
 
-pub start-done : (s : List ℕ) (k n p r : ℕ) → p ≡ pastNth s k → k ≤ n → n ≤ k → r ≡ startFrom s p → r ≡ nthStart s n
-unfolding nthStart
-start-done s k n p r e a b f = let q : k ≡ n = omega arith in rw (f, e, q)
+pub past-done : (s : List ℕ) (k n p : ℕ) → p ≡ pastNth s k → k ≤ n → n ≤ k → p ≡ pastNth s n
+past-done s k n p e a b = let q : k ≡ n = omega arith in rw (← q) e
 
 pub behind-within : (s : List ℕ) (i : ℕ) → behind s i ≤ length s
 unfolding behind

@@ -142,9 +142,13 @@ test-same s = go (ℕ-discrete (firstFault s) 98)
     go (yes e) = rw e
     go (no d) = rw (ne-eqb (firstFault s) 98 d)
 
-bare-tests : (s : List ℕ) (v : Values) → v ≡ valuesOf s → (eqb (v .count) 98 && eqb (v .start) (length s)) ≡ (eqb (firstFault s) 98 && eqb (nthStart s 98) (length s))
+pub bare-tests : (s : List ℕ) (v : Values) → v ≡ valuesOf s → (eqb (v .count) 98 && eqb (v .start) (length s)) ≡ (eqb (firstFault s) 98 && eqb (nthStart s 98) (length s))
 unfolding valuesOf
 bare-tests s v e = rw e (test-same s)
+
+pub bare-count : (s : List ℕ) (v : Values) → v ≡ valuesOf s → v .count ≡ firstFault s
+unfolding valuesOf
+bare-count s v e = ap (λ (x : Values). x .count) e
 
 bare-start : (s : List ℕ) (v : Values) → v ≡ valuesOf s → v .start ≡ nthStart s (firstFault s)
 unfolding valuesOf

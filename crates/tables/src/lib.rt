@@ -35,13 +35,13 @@ pub struct Next {
 }
 
 // How many of the 98 numbers come before the first fault, their values, and where the fault or what follows them begins.
-struct Values {
-    count: usize,
-    start: usize,
-    values: [u32; 98],
+pub struct Values {
+    pub count: usize,
+    pub start: usize,
+    pub values: [u32; 98],
 }
 
-pub(crate) const MOST: usize = 65536;
+pub const MOST: usize = 65536;
 
 // The place of the word of forced sources among the 98, and the first number over 32 bits.
 const FORCED: usize = 96;
@@ -152,7 +152,7 @@ fn every_third(values: [u32; 98], first: usize) -> [u32; 32]
 }
 
 // The values up to the first fault.
-fn read_values(text: &[u8]) -> Values
+pub fn read_values(text: &[u8]) -> Values
     ensures { λ r. ⌜ r ≡ valuesOf (now (text .entry)) ⌝ }
 {
     let mut values = [0u32; 98];

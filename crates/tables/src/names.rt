@@ -4,7 +4,7 @@ ghost use Prim.Native.Nat.{_≤_, _<_};
 ghost use lib.ListN.{length, getD, set};
 ghost use Rattle.words.specs.Choice.{pick};
 ghost use Rattle.text.specs.Text.{write};
-ghost use Rattle.tables.specs.Typed.{nthStart};
+ghost use Rattle.tables.specs.Typed.{pastNth, nthStart};
 ghost use Rattle.tables.specs.Names.{nameByte, nameRun, isName, named, behind, placeIn, blanked, quoted, unnamedAt, unnamed, cleared};
 ghost use Rattle.tables.specs.Named.{placesOf, namesIn, noNames, namesOf, byteIn, namesAt};
 use super::MOST;
@@ -105,7 +105,7 @@ fn byte_in(text: &[u8], start: usize, count: u32, k: usize) -> u8
 // ---- a text without its names
 
 // Names and comments made spaces.
-pub(crate) fn clear(text: &[u8], out: &mut [u8]) -> usize
+pub fn clear(text: &[u8], out: &mut [u8]) -> usize
     requires { ⌜ length (now text) ≤ 65536 ⌝ }
     ensures { λ r. ⌜ (now (out .exit), r) ≡ write (now (out .entry), 0) (cleared (now (text .entry))) ⌝ }
 {
@@ -163,13 +163,20 @@ fn find_behind(text: &[u8], i: usize) -> usize
 fn nth_start(text: &[u8], n: usize) -> usize
     ensures { λ r. ⌜ r ≡ nthStart (now (text .entry)) n ⌝ }
 {
+    seek(text, past_nth(text, n), false)
+}
+
+// The offset behind the first n words.
+pub fn past_nth(text: &[u8], n: usize) -> usize
+    ensures { λ r. ⌜ r ≡ pastNth (now (text .entry)) n ⌝ }
+{
     let mut past: usize = 0;
     let mut k: usize = 0;
     while k < n {
         past = seek(text, seek(text, past, false), true);
         k = k + 1;
     }
-    seek(text, past, false)
+    past
 }
 
 // So many bytes made spaces.
@@ -251,7 +258,7 @@ fn is_name_byte(b: u8) -> bool
 }
 
 // A byte of a text, another one behind its end.
-fn byte_or(text: &[u8], i: usize, other: u8) -> u8
+pub fn byte_or(text: &[u8], i: usize, other: u8) -> u8
     ensures { λ r. ⌜ r ≡ getD (now (text .entry)) i other ⌝ }
 {
     if i < text.len() {
