@@ -68,11 +68,7 @@ fn put_expected(out: &mut [u8], at: usize, quote: bool, n: usize, number: bool) 
         return text::put_all(out, at, b"nothing may follow the mark's frame");
     }
     if number {
-        return text::put_all(
-            out,
-            at,
-            b"the word of forced sources has more than 32 bits",
-        );
+        return text::put_all(out, at, b"the word of forced sources has more than 32 bits");
     }
     text::put_all(out, at, b"a number was expected")
 }

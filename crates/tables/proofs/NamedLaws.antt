@@ -89,13 +89,13 @@ module _ (s : List ℕ) (at n : ℕ) where
       go : (Test s at ≡ true) ⊎ (Test s at ≡ false) → NameAt s at n
       go (inr h) = absurd (omega (arith, named-no s at h))
       go (inl h) = rw (← run) (record {
-          opened = is-opened _ _ _ _ h;
-          some = is-some (getD s at 0) (nameRun s (at + 1)) _ _ h;
-          most = is-most (getD s at 0) (nameRun s (at + 1)) _ _ h;
-          each = λ k m. is-byte _ (not-false _ (run-before s (at + 1) k m));
-          closed = is-closed _ _ _ _ h;
-          parted = parted-of s (at + nameRun s (at + 1) + 2) (is-parted _ _ _ _ h);
-        })
+        opened = is-opened _ _ _ _ h;
+        some = is-some (getD s at 0) (nameRun s (at + 1)) _ _ h;
+        most = is-most (getD s at 0) (nameRun s (at + 1)) _ _ h;
+        each = λ k m. is-byte _ (not-false _ (run-before s (at + 1) k m));
+        closed = is-closed _ _ _ _ h;
+        parted = parted-of s (at + nameRun s (at + 1) + 2) (is-parted _ _ _ _ h);
+      })
         where
           run : nameRun s (at + 1) ≡ n
           run = named-yes s at _ refl h ∙ e
