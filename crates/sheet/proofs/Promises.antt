@@ -24,9 +24,9 @@ use Rattle.sheet.specs.Texts.{amount, cell, cellOf, sourceCell, emptyCel
 use Rattle.sheet.specs.Names.{plain, escape, escaped, nameOf}
 use Rattle.sheet.specs.Rows.{rowHead, ended, enabling, remark, ending, traceRow, reason, leftOutRow}
 use Rattle.sheet.specs.Order.{shown, stands, chosen, byLevel, inOrder, ahead, aheadOf, hidden}
-use Rattle.sheet.specs.Levels.{tallest, width, bar, owns, owner, called, whose, levelRow}
+use Rattle.sheet.specs.Levels.{tallest, width, bar, owns, owner, called, whose, levelRow, figure, bars, levels, stackPart}
 use Rattle.sheet.specs.Sources.{sourceHead, typed, tabled, aheadCell, bounded, boundOf, most, others, waited, first, term, startedCells, sourceRow, terms, waitsRow}
-use Rattle.sheet.specs.End.{sourcesOf, sourcesPart, pageEnd}
+use Rattle.sheet.specs.End.{headRow, outRow, tracesNamed, sums, headPart, hiddenLine, sourcesOf, sourcesPart, pageEnd}
 use Rattle.sheet.specs.Worked.{rowWorked, sheetWorked, tableWorked, sourceWorked, waitsWorked}
 use Rattle.sheet.specs.Promises.{Promises, occurs}
 use Rattle.sheet.proofs.NameLaws.{printed, numbered, unlike}
@@ -187,6 +187,16 @@ waits-whole : waitsRow (sheetWorked .waits) (sheetWorked .trace) 1 ≡ waitsWork
 unfolding waitsRow terms term bounded first sourceCell emptyCell cellOf amount counted decimalOf bytes pick
 waits-whole = refl
 
+source-named : (names : List ℕ) (k i : ℕ) → k ≢ 0
+    → sourceHead names k i ≡ counted (bytes "<tr><th>source ") i ++ bytes "</th><td>" ++ escaped (nameOf names k i) ++ bytes "</td>"
+unfolding sourceHead
+source-named names k i d = ap (λ (x : List ℕ). counted (bytes "<tr><th>source ") i ++ bytes "</th><td>" ++ x ++ bytes "</td>") (sym (pick-false _ (ne-eqb k 0 d)))
+
+bounded-is : (begun unbounded : ℕ) → (bounded begun unbounded ≡ true) ↔ ((begun ≢ 0) × (unbounded ≢ begun))
+unfolding bounded
+bounded-is begun unbounded =
+    (λ e. (not-zero begun (and-left (not (eqb begun 0)) (not (eqb unbounded begun)) e), eqb-false unbounded begun (not-true (eqb unbounded begun) (and-right (not (eqb begun 0)) (not (eqb unbounded begun)) e))), λ h. and-both (is-not-zero begun (h .0)) (ap (λ (b : Bool). not b) (ne-eqb unbounded begun (h .1))))
+
 most-none : (begun bound : ℕ) → begun ≢ 0 → most begun begun bound ≡ bytes "none"
 unfolding most
 most-none begun bound d = sym (pick-true _ (eq-eqb begun begun refl) ∙ pick-false _ (ne-eqb begun 0 d))
@@ -245,6 +255,8 @@ kept =
       barWorked = bar-worked;
       sourceWhole = source-whole;
       waitsWhole = waits-whole;
+      sourceBare = unfold sourceHead pick in (λ names i. refl);
+      sourceNamed = source-named;
       types = unfold typed pick in (refl, refl, refl, refl);
       aheadNormal = λ t used i e. unfold aheadCell in (sym (pick-true _ e));
       aheadFast = λ t used i e. unfold aheadCell in (sym (pick-false _ e));
@@ -256,10 +268,14 @@ kept =
       firstOf = λ unbounded step trace d. unfold first in (sym (pick-false _ (ne-eqb unbounded 0 d)));
       othersNone = unfold others pick in refl;
       othersSome = λ unbounded d. unfold others in (sym (pick-false _ (ne-eqb unbounded 0 d)));
+      boundedIs = bounded-is;
       termTold = unfold term pick in (λ figure i n. refl);
       termEmpty = unfold term pick in (λ figure i n. refl);
-      sourcesAre = unfold sourcesPart sourcesOf in (λ t names lengths s. refl);
-      endIs = unfold pageEnd in (λ t names lengths s. refl);
+      sections = λ t names lengths s. unfold pageEnd headPart tracesNamed sums stackPart figure bars levels sourcesPart sourcesOf hiddenLine in (record { end = refl; head = refl; traces = refl; added = refl; stack = refl; sources = refl; notShown = refl });
+      sourceRows = λ t names lengths s i. unfold sourceRow tabled startedCells waited in (record { row = refl; tabledIs = λ priority kind frame. refl; started = refl; waitedIs = λ begun unbounded. refl });
+      waitRows = λ w trace i. unfold waitsRow terms in (record { row = refl; six = λ told. refl });
+      headRows = unfold headRow in (λ words figure n unit. refl);
+      outRows = unfold outRow in (λ words n. refl);
       headMost = length-head;
       traceMost = length-trace;
       leftOutMost = length-left-out;

@@ -5,6 +5,7 @@ pub mod Levels
 pub mod Meaning
 pub mod Names
 pub mod Order
+pub mod Parts
 pub mod Promises
 pub mod Rows
 pub mod Sources

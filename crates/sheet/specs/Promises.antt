@@ -21,10 +21,10 @@ use Rattle.sheet.specs.Names.{escape, escaped, nameOf}
 use Rattle.sheet.specs.Head.{pageHead}
 use Rattle.sheet.specs.Rows.{rowHead, ended, remark, traceRow, reason, leftOutRow}
 use Rattle.sheet.specs.Order.{shown, stands, chosen, inOrder, ahead, aheadOf, hidden}
-use Rattle.sheet.specs.Levels.{tallest, width, bar, called, whose, levelRow, stackPart}
-use Rattle.sheet.specs.Sources.{sourceHead, typed, tabled, aheadCell, boundOf, most, others, waited, first, term, startedCells, sourceRow, terms, waitsRow}
-use Rattle.sheet.specs.Meaning.{meaning}
-use Rattle.sheet.specs.End.{headPart, sourcesHead, waitsHead, hiddenLine, sourcesPart, pageEnd}
+use Rattle.sheet.specs.Levels.{tallest, width, bar, called, whose, levelRow}
+use Rattle.sheet.specs.Sources.{sourceHead, typed, aheadCell, bounded, boundOf, most, others, first, term, sourceRow, waitsRow}
+use Rattle.sheet.specs.End.{headRow, outRow, pageEnd}
+use Rattle.sheet.specs.Parts.{Sections, SourceRows, WaitRows}
 use Rattle.sheet.specs.Worked.{rowWorked, sheetWorked, tableWorked, sourceWorked, waitsWorked}
 
 -- every number of a list is one of a byte
@@ -134,6 +134,10 @@ pub record Promises : Type 0 where
 
   pub sourceWhole : sourceRow tableWorked (bytes "tick") (4 ∷ []) sheetWorked 0 ≡ sourceWorked
   pub waitsWhole : waitsRow (sheetWorked .waits) (sheetWorked .trace) 1 ≡ waitsWorked
+  -- a source's row begins with its number and its name, - where it has none
+  pub sourceBare : (names : List ℕ) (i : ℕ) → sourceHead names 0 i ≡ counted (bytes "<tr><th>source ") i ++ bytes "</th><td>" ++ bytes "-" ++ bytes "</td>"
+  pub sourceNamed : (names : List ℕ) (k i : ℕ) → k ≢ 0
+      → sourceHead names k i ≡ counted (bytes "<tr><th>source ") i ++ bytes "</th><td>" ++ escaped (nameOf names k i) ++ bytes "</td>"
   -- a type in words
   pub types : (typed 0 ≡ bytes "level, low if external") × (typed 1 ≡ bytes "edge, falling if external") × (typed 2 ≡ bytes "level, high") × (typed 3 ≡ bytes "edge, rising")
   -- sources ahead are counted of a normal one only
@@ -150,17 +154,18 @@ pub record Promises : Type 0 where
   pub firstOf : (unbounded step trace : ℕ) → unbounded ≢ 0 → first unbounded step trace ≡ counted (bytes "step ") step ++ counted (bytes " of trace ") trace
   pub othersNone : others 0 ≡ []
   pub othersSome : (unbounded : ℕ) → unbounded ≢ 0 → others unbounded ≡ counted (bytes ", ") unbounded ++ bytes " without a bound"
-  -- a term is told where some wait has a bound
+  -- a term is told where some wait has a bound: it waited, and not every wait lost its bound
+  pub boundedIs : (begun unbounded : ℕ) → (bounded begun unbounded ≡ true) ↔ ((begun ≢ 0) × (unbounded ≢ begun))
   pub termTold : (figure : List ℕ) (i n : ℕ) → term figure i true n ≡ sourceCell figure i n (bytes "handlers")
   pub termEmpty : (figure : List ℕ) (i n : ℕ) → term figure i false n ≡ emptyCell figure i
   -- ---- the whole
 
-  pub sourcesAre : (t : Table) (names lengths : List ℕ) (s : Sheet)
-      → sourcesPart t names lengths s
-      ≡ sourcesHead ++ each (sourceRow t names lengths s) (inOrder t (s .used)) ++ waitsHead ++ each (waitsRow (s .waits) (s .trace)) (inOrder t (s .used))
-      ++ hiddenLine t (s .used)
-  pub endIs : (t : Table) (names lengths : List ℕ) (s : Sheet)
-      → pageEnd t names lengths s ≡ headPart s ++ stackPart t names lengths ++ sourcesPart t names lengths s ++ meaning
+  -- what the end is made of, and the rows of each source, as equations (specs/Parts.antt)
+  pub sections : (t : Table) (names lengths : List ℕ) (s : Sheet) → Sections t names lengths s
+  pub sourceRows : (t : Table) (names lengths : List ℕ) (s : Sheet) (i : ℕ) → SourceRows t names lengths s i
+  pub waitRows : (w : Waits) (trace : List ℕ) (i : ℕ) → WaitRows w trace i
+  pub headRows : (words figure : List ℕ) (n : ℕ) (unit : List ℕ) → headRow words figure n unit ≡ bytes "<tr><th>" ++ words ++ bytes "</th>" ++ cell figure n unit ++ bytes "</tr>\n"
+  pub outRows : (words : List ℕ) (n : ℕ) → outRow words n ≡ bytes "<tr><th>left out by " ++ words ++ amount n (bytes "traces") ++ bytes "</td></tr>\n"
   -- how long they are: the head of the file, the row of a name, the end, whatever the figures are
   pub headMost : length pageHead ≤ 1400
   pub traceMost : (n : ℕ) (t : Noted) (name : List ℕ) → length (traceRow n t name) ≤ length name * 6 + 484
