@@ -50,6 +50,7 @@ module _ (a b : Waits) where
       two : (Sums.passes (a .begun) (b .begun) ≡ true) ⊎ (Sums.passes (a .unended) (b .unended) ≡ true) → (i : ℕ) × (i < 32) × Passes a b i
       two (inl h) = let r = sum-passes (a .begun) (b .begun) .0 h in (r .0, r .1, inl (r .2))
       two (inr h) = let r = sum-passes (a .unended) (b .unended) .0 h in (r .0, r .1, inr (inl (r .2)))
+
       go : ((Sums.passes (a .begun) (b .begun) || Sums.passes (a .unended) (b .unended)) ≡ true) ⊎ (Sums.passes (a .unbounded) (b .unbounded) ≡ true)
           → (i : ℕ) × (i < 32) × Passes a b i
       go (inl h) = two (or-either _ _ h)
@@ -57,9 +58,12 @@ module _ (a b : Waits) where
 
   passes-some : (i : ℕ) → i < 32 → Passes a b i → passes a b ≡ true
   unfolding passes
-  passes-some i l (inl h) = or-left _ (or-left _ (sum-passes (a .begun) (b .begun) .1 (i, l, h)))
-  passes-some i l (inr (inl h)) = or-left _ (or-right _ (sum-passes (a .unended) (b .unended) .1 (i, l, h)))
-  passes-some i l (inr (inr h)) = or-right _ (sum-passes (a .unbounded) (b .unbounded) .1 (i, l, h))
+  passes-some i l (inl h) =
+      or-left (Sums.passes (a .unbounded) (b .unbounded)) (or-left (Sums.passes (a .unended) (b .unended)) (sum-passes (a .begun) (b .begun) .1 (i, l, h)))
+  passes-some i l (inr (inl h)) =
+      or-left (Sums.passes (a .unbounded) (b .unbounded)) (or-right (Sums.passes (a .begun) (b .begun)) (sum-passes (a .unended) (b .unended) .1 (i, l, h)))
+  passes-some i l (inr (inr h)) =
+      or-right (Sums.passes (a .begun) (b .begun) || Sums.passes (a .unended) (b .unended)) (sum-passes (a .unbounded) (b .unbounded) .1 (i, l, h))
 
   left-out : passes a b ≡ true → added a b ≡ record { refusal = 16; waits = a }
   unfolding added
@@ -179,6 +183,7 @@ module _ (a b : Waits) (w : Whole a) (v : Whole b) where
     where
       at-a : eqb (getD (a .first) i 0) 0 ≡ true
       at-a = eq-eqb (getD (a .first) i 0) 0 z
+
       go : (eqb (getD (b .first) i 0) 0 ≡ true) ⊎ (eqb (getD (b .first) i 0) 0 ≡ false) → getD (together a b .first) i 0 ≡ getD (b .first) i 0
       go (inl h) = first (newly a b) _ _ (w .first) (v .first) i l (ap (λ (t : Bool). eqb (getD (a .first) i 0) 0 && not t) h ∙ ap (λ (t : Bool). t && false) at-a)
           ∙ z ∙ sym (eqb-true (getD (b .first) i 0) 0 h)
@@ -187,7 +192,10 @@ module _ (a b : Waits) (w : Whole a) (v : Whole b) where
 newly-is : (a b : Waits) (i : ℕ) → (newly a b i ≡ true) ↔ ((getD (a .first) i 0 ≡ 0) × (getD (b .first) i 0 ≢ 0))
 unfolding newly
 newly-is a b i = (
-  (λ e. (eqb-true _ 0 (and-left _ _ e), λ z. clash (eq-eqb (getD (b .first) i 0) 0 z) (not-true _ (and-right _ _ e)))),
+  (λ e.
+      let p = eqb (getD (a .first) i 0) 0 in
+      let q = eqb (getD (b .first) i 0) 0 in
+      (eqb-true (getD (a .first) i 0) 0 (and-left p (not q) e), λ z. clash (eq-eqb (getD (b .first) i 0) 0 z) (not-true q (and-right p (not q) e)))),
   (λ h. and-both (eq-eqb _ 0 (h .0)) (ap not (ne-eqb _ 0 (h .1)))),
 )
 

@@ -21,10 +21,10 @@ pub record Whole (a : Waits) : Type 0 where
   pub remembered : length (a .remembered) ≡ 32
 
 -- so many waits of source i began, never ended and have no bound
-pub record Numbers (a : Waits) (i begun unended unbounded : ℕ) : Type 0 where
-  pub begun : getD (a .begun) i 0 ≡ begun
-  pub unended : getD (a .unended) i 0 ≡ unended
-  pub unbounded : getD (a .unbounded) i 0 ≡ unbounded
+pub record Numbers (a : Waits) (i waits standing boundless : ℕ) : Type 0 where
+  pub begun : getD (a .begun) i 0 ≡ waits
+  pub unended : getD (a .unended) i 0 ≡ standing
+  pub unbounded : getD (a .unbounded) i 0 ≡ boundless
 
 -- the six terms of source i are those of b
 pub record Terms (a b : Waits) (i : ℕ) : Type 0 where

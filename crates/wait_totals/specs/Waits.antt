@@ -9,6 +9,7 @@ use Rattle.steps.specs.Refusals.{carriedOut, overfull}
 use Rattle.totals.specs.Totals as Sums
 use Rattle.wait_totals.specs.declared.Waits.{Waits}
 use Rattle.wait_totals.specs.declared.Added.{Added}
+use Rattle.wait_totals.specs.declared.Terms.{Terms}
 
 -- no trace is read
 unfoldable pub noWaits : Waits
@@ -48,6 +49,18 @@ chosenFrom i p (x ∷ a) (y ∷ b) = pick (p i) y x ∷ chosenFrom (i + 1) p a b
 abbrev pub chosen : (ℕ → Bool) → List ℕ → List ℕ → List ℕ
 chosen p a b = chosenFrom 0 p a b
 
+-- the six terms of the larger bound of each source
+abbrev pub termsOf : Waits → Waits → Terms
+termsOf a b =
+    record {
+      pending = chosen (larger a b) (a .pending) (b .pending);
+      edges = chosen (larger a b) (a .edges) (b .edges);
+      commands = chosen (larger a b) (a .commands) (b .commands);
+      turns = chosen (larger a b) (a .turns) (b .turns);
+      closed = chosen (larger a b) (a .closed) (b .closed);
+      remembered = chosen (larger a b) (a .remembered) (b .remembered);
+    }
+
 -- a number of waits of some source would pass 4,294,967,295 (02, 11/12)
 unfoldable pub passes : Waits → Waits → Bool
 passes a b = (Sums.passes (a .begun) (b .begun) || Sums.passes (a .unended) (b .unended)) || Sums.passes (a .unbounded) (b .unbounded)
@@ -60,12 +73,12 @@ together a b =
       unended = zipWith _+_ (a .unended) (b .unended);
       unbounded = zipWith _+_ (a .unbounded) (b .unbounded);
       first = chosen (newly a b) (a .first) (b .first);
-      pending = chosen (larger a b) (a .pending) (b .pending);
-      edges = chosen (larger a b) (a .edges) (b .edges);
-      commands = chosen (larger a b) (a .commands) (b .commands);
-      turns = chosen (larger a b) (a .turns) (b .turns);
-      closed = chosen (larger a b) (a .closed) (b .closed);
-      remembered = chosen (larger a b) (a .remembered) (b .remembered);
+      pending = termsOf a b .pending;
+      edges = termsOf a b .edges;
+      commands = termsOf a b .commands;
+      turns = termsOf a b .turns;
+      closed = termsOf a b .closed;
+      remembered = termsOf a b .remembered;
     }
 
 -- 16 where a number would be too large, with the waits as they were (02, 11/12)

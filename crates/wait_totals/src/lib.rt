@@ -1,10 +1,10 @@
 // The waits of each source, of one trace or of many: how many there are, and the six terms of the largest bound of one of them (02, 11/12 and 12/12).
 ghost use mathlib.Core.Path.{_≡_};
 ghost use mathlib.Core.Bool.{Bool, false};
-ghost use Prim.Native.Nat.{ℕ, _<_};
+ghost use Prim.Native.Nat.{ℕ, _+_, _<_};
 ghost use Rattle.words.specs.Choice.{pick};
 ghost use Rattle.words.specs.Word.{bit, wordOf};
-ghost use Rattle.wait_totals.specs.Waits.{noWaits, boundOf, larger, newly, chosen, passes, together, added};
+ghost use Rattle.wait_totals.specs.Waits.{noWaits, boundOf, larger, newly, chosen, termsOf, passes, together, added};
 
 // For each source: the waits that began, never ended and have no bound, the step that first took one its bound (0 for none), and the handlers that the first
 // wait with the largest bound allows to be started, term by term.
@@ -25,6 +25,16 @@ pub struct Waits {
 pub struct Added {
     pub refusal: u32,
     pub waits: Waits,
+}
+
+// The six terms of a bound of each source: handlers.
+struct Terms {
+    pending: [u32; 32],
+    edges: [u32; 32],
+    commands: [u32; 32],
+    turns: [u32; 32],
+    closed: [u32; 32],
+    remembered: [u32; 32],
 }
 
 // Those of no trace.
@@ -66,9 +76,13 @@ pub fn add(a: Waits, b: Waits) -> Added
 fn any_pass(a: Waits, b: Waits) -> bool
     ensures { λ r. ⌜ r ≡ passes a b ⌝ }
 {
-    totals::any_passes(a.begun, b.begun)
-        | totals::any_passes(a.unended, b.unended)
-        | totals::any_passes(a.unbounded, b.unbounded)
+    let ab = a.begun;
+    let bb = b.begun;
+    let au = a.unended;
+    let bu = b.unended;
+    let an = a.unbounded;
+    let bn = b.unbounded;
+    totals::any_passes(ab, bb) | totals::any_passes(au, bu) | totals::any_passes(an, bn)
 }
 
 // Both together, where no number passes it.
@@ -76,23 +90,63 @@ fn together(a: Waits, b: Waits) -> Waits
     requires { ⌜ passes a b ≡ false ⌝ }
     ensures { λ r. ⌜ r ≡ together a b ⌝ }
 {
-    let lost = newly(a, b);
-    let more = larger_word(a, b);
-    let begun = totals::sums(a.begun, b.begun);
-    let unended = totals::sums(a.unended, b.unended);
-    let unbounded = totals::sums(a.unbounded, b.unbounded);
-    let first = chosen(lost, a.first, b.first);
-    let pending = chosen(more, a.pending, b.pending);
-    let edges = chosen(more, a.edges, b.edges);
-    let commands = chosen(more, a.commands, b.commands);
-    let turns = chosen(more, a.turns, b.turns);
-    let closed = chosen(more, a.closed, b.closed);
-    let remembered = chosen(more, a.remembered, b.remembered);
+    let ab = a.begun;
+    let bb = b.begun;
+    let begun = totals::sums(ab, bb);
+    let au = a.unended;
+    let bu = b.unended;
+    let unended = totals::sums(au, bu);
+    let an = a.unbounded;
+    let bn = b.unbounded;
+    let unbounded = totals::sums(an, bn);
+    let af = a.first;
+    let bf = b.first;
+    let first = chosen(newly(a, b), af, bf);
+    let t = terms_of(a, b);
+    let pending = t.pending;
+    let edges = t.edges;
+    let commands = t.commands;
+    let turns = t.turns;
+    let closed = t.closed;
+    let remembered = t.remembered;
     Waits {
         begun,
         unended,
         unbounded,
         first,
+        pending,
+        edges,
+        commands,
+        turns,
+        closed,
+        remembered,
+    }
+}
+
+// The six terms of the larger bound of each source.
+fn terms_of(a: Waits, b: Waits) -> Terms
+    ensures { λ r. ⌜ r ≡ termsOf a b ⌝ }
+{
+    let more = larger_word(a, b);
+    let ap = a.pending;
+    let bp = b.pending;
+    let pending = chosen(more, ap, bp);
+    let ae = a.edges;
+    let be = b.edges;
+    let edges = chosen(more, ae, be);
+    let ac = a.commands;
+    let bc = b.commands;
+    let commands = chosen(more, ac, bc);
+    let at = a.turns;
+    let bt = b.turns;
+    let turns = chosen(more, at, bt);
+    let ah = a.closed;
+    let bh = b.closed;
+    let closed = chosen(more, ah, bh);
+    let ar = a.remembered;
+    let br = b.remembered;
+    let remembered = chosen(more, ar, br);
+    Terms {
         pending,
         edges,
         commands,
@@ -162,12 +216,20 @@ fn bound_at(a: Waits, i: u32) -> u64
     ensures { λ r. ⌜ r ≡ boundOf a i ⌝ }
 {
     let k = i as usize;
-    a.pending[k] as u64
-        + a.edges[k] as u64
-        + a.commands[k] as u64
-        + a.turns[k] as u64
-        + a.closed[k] as u64
-        + a.remembered[k] as u64
+    six(
+        a.pending[k],
+        a.edges[k],
+        a.commands[k],
+        a.turns[k],
+        a.closed[k],
+        a.remembered[k],
+    )
+}
+
+fn six(a: u32, b: u32, c: u32, d: u32, e: u32, f: u32) -> u64
+    ensures { λ r. ⌜ r ≡ a + b + c + d + e + f ⌝ }
+{
+    a as u64 + b as u64 + c as u64 + d as u64 + e as u64 + f as u64
 }
 
 fn either(t: bool, x: u32, y: u32) -> u32

@@ -1,0 +1,3 @@
+-- What the tuning sheet takes from a trace, and what is promised of it.
+pub mod Following
+pub mod Watched
