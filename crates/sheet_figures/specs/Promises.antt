@@ -41,11 +41,11 @@ pub record Alike (s u : Sheet) : Type 0 where
   pub trace : s .trace ≡ u .trace
 
 -- so many names are read, and so many of them left out by 16, 17 and 18
-pub record Names (s : Sheet) (named full unopened unkept : ℕ) : Type 0 where
-  pub named : s .named ≡ named
-  pub full : s .full ≡ full
-  pub unopened : s .unopened ≡ unopened
-  pub unkept : s .unkept ≡ unkept
+pub record Names (s : Sheet) (all by16 by17 by18 : ℕ) : Type 0 where
+  pub named : s .named ≡ all
+  pub full : s .full ≡ by16
+  pub unopened : s .unopened ≡ by17
+  pub unkept : s .unkept ≡ by18
 
 -- u is s with the trace t: sums; a source is used if it was, or is in the trace; figures and waits are those of 11/12 and of bounds, added up
 pub record Taken (s : Sheet) (t : Noted) (u : Sheet) : Type 0 where

@@ -110,7 +110,9 @@ fn sum_up(s: Sheet, t: Noted) -> Added
             sheet: out,
         };
     }
-    let sum = together(s, t, f.totals, w.waits);
+    let figures = f.totals;
+    let waits = w.waits;
+    let sum = together(s, t, figures, waits);
     Added {
         refusal: steps::CARRIED_OUT,
         sheet: sum,
@@ -169,8 +171,10 @@ fn first_of(s: Sheet, t: Noted) -> [u32; 32]
     ensures { λ r. ⌜ r ≡ firstOf s t ⌝ }
 {
     let lost = wait_totals::newly(s.waits, t.waits);
-    let n = more(s.named);
-    wait_totals::chosen(lost, s.trace, [n; 32])
+    let before = s.trace;
+    let this = more(s.named);
+    let all = [this; 32];
+    wait_totals::chosen(lost, before, all)
 }
 
 // Whether one of the sums that are of no source would pass 4,294,967,295.

@@ -20,7 +20,7 @@ use Rattle.wait_totals.specs.declared.Waits.{Waits}
 use Rattle.wait_totals.specs.declared.Added.{Added}
 use Rattle.wait_totals.specs.Waits.{noWaits, boundOf, larger, newly, chosen, passes, together, added}
 use Rattle.wait_totals.specs.Promises.{Whole, Numbers, Terms, Passes, Promises}
-use Rattle.wait_totals.proofs.WaitLaws.{length-chosen, getD-chosen}
+use Rattle.wait_totals.proofs.WaitLaws.{length-chosen, getD-chosen, some-passes, passes-some}
 
 empty : (i : ℕ) → Numbers noWaits i 0 0 0 × (boundOf noWaits i ≡ 0) × (getD (noWaits .first) i 0 ≡ 0)
 unfolding noWaits boundOf
@@ -33,38 +33,7 @@ bound-is a i = refl
 
 -- ---- 16
 
--- one of 32 sums would pass, exactly
-sum-passes : (a b : List ℕ) → (Sums.passes a b ≡ true) ↔ ((i : ℕ) × (i < 32) × (4294967295 < getD a i 0 + getD b i 0))
-unfolding Sums.passes
-sum-passes a b =
-    let past : ℕ → Bool = λ i. ltb 4294967295 (getD a i 0 + getD b i 0) in (
-      (λ e. let r = any-some 32 past e in (r .0, r .1, ltb-true 4294967295 (getD a (r .0) 0 + getD b (r .0) 0) (r .2))),
-      (λ h. some-any 32 past (h .0) (h .1) (lt-ltb 4294967295 (getD a (h .0) 0 + getD b (h .0) 0) (h .2))),
-    )
-
 module _ (a b : Waits) where
-  some-passes : passes a b ≡ true → (i : ℕ) × (i < 32) × Passes a b i
-  unfolding passes
-  some-passes e = go (or-either _ _ e)
-    where
-      two : (Sums.passes (a .begun) (b .begun) ≡ true) ⊎ (Sums.passes (a .unended) (b .unended) ≡ true) → (i : ℕ) × (i < 32) × Passes a b i
-      two (inl h) = let r = sum-passes (a .begun) (b .begun) .0 h in (r .0, r .1, inl (r .2))
-      two (inr h) = let r = sum-passes (a .unended) (b .unended) .0 h in (r .0, r .1, inr (inl (r .2)))
-
-      go : ((Sums.passes (a .begun) (b .begun) || Sums.passes (a .unended) (b .unended)) ≡ true) ⊎ (Sums.passes (a .unbounded) (b .unbounded) ≡ true)
-          → (i : ℕ) × (i < 32) × Passes a b i
-      go (inl h) = two (or-either _ _ h)
-      go (inr h) = let r = sum-passes (a .unbounded) (b .unbounded) .0 h in (r .0, r .1, inr (inr (r .2)))
-
-  passes-some : (i : ℕ) → i < 32 → Passes a b i → passes a b ≡ true
-  unfolding passes
-  passes-some i l (inl h) =
-      or-left (Sums.passes (a .unbounded) (b .unbounded)) (or-left (Sums.passes (a .unended) (b .unended)) (sum-passes (a .begun) (b .begun) .1 (i, l, h)))
-  passes-some i l (inr (inl h)) =
-      or-left (Sums.passes (a .unbounded) (b .unbounded)) (or-right (Sums.passes (a .begun) (b .begun)) (sum-passes (a .unended) (b .unended) .1 (i, l, h)))
-  passes-some i l (inr (inr h)) =
-      or-right (Sums.passes (a .begun) (b .begun) || Sums.passes (a .unended) (b .unended)) (sum-passes (a .unbounded) (b .unbounded) .1 (i, l, h))
-
   left-out : passes a b ≡ true → added a b ≡ record { refusal = 16; waits = a }
   unfolding added
   left-out e = sym (pick-true _ e)
@@ -84,7 +53,7 @@ module _ (a b : Waits) where
   told-0 e = not-holds (passes a b) (λ h. absurd (omega (arith, e, ap (λ (x : Added). x .refusal) (left-out h))))
 
   sixteen : (added a b .refusal ≡ 16) ↔ ((i : ℕ) × (i < 32) × Passes a b i)
-  sixteen = ((λ e. some-passes (told-16 e)), (λ h. ap (λ (x : Added). x .refusal) (left-out (passes-some (h .0) (h .1) (h .2)))))
+  sixteen = ((λ e. some-passes a b (told-16 e)), (λ h. ap (λ (x : Added). x .refusal) (left-out (passes-some a b (h .0) (h .1) (h .2)))))
 
   not-refused : added a b .refusal ≢ 16 → added a b .refusal ≡ 0
   not-refused n = ap (λ (x : Added). x .refusal) (taken-in (not-holds (passes a b) (λ h. n (ap (λ (x : Added). x .refusal) (left-out h)))))

@@ -1,17 +1,24 @@
 -- What is chosen source by source, and when a number of waits passes.
 use Prim.Native.Nat.{ℕ, zero, suc, _+_, _≤_, _<_}
 use mathlib.Core.Path.{_≡_, refl, sym, ap, _∙_}
-use mathlib.Core.Bool.{Bool, true, false}
+use mathlib.Core.Bool.{Bool, true, false, not, _||_}
 use mathlib.Core.List.{List, [], _∷_}
+use mathlib.Core.Logic.{_⊎_, inl, inr}
 use native.Mathlib.Omega.{arith}
+use lib.Dec.{eqb}
 use lib.ListN.{getD, length}
 use lib.Seq.{ext-getD}
 use Rattle.words.specs.Choice.{pick}
 use Rattle.words.specs.Word.{bit}
-use Rattle.words.proofs.TruthLaws.{or-neither}
+use Rattle.words.proofs.ChoiceLaws.{pick-cases}
+use Rattle.words.proofs.TruthLaws.{or-either, or-neither, or-left, or-right}
+use Rattle.steps.specs.Refusals.{carriedOut}
 use Rattle.totals.specs.Totals as Sums
+use Rattle.totals.proofs.TotalsLaws.{sum-passes}
 use Rattle.wait_totals.specs.declared.Waits.{Waits}
-use Rattle.wait_totals.specs.Waits.{chosenFrom, chosen, passes}
+use Rattle.wait_totals.specs.declared.Added.{Added}
+use Rattle.wait_totals.specs.Waits.{chosenFrom, chosen, passes, added}
+use Rattle.wait_totals.specs.Promises.{Passes}
 
 module _ (p : ℕ → Bool) where
   pub length-chosen : (n : ℕ) (a b : List ℕ) → length a ≡ length b → length (chosenFrom n p a b) ≡ length a
@@ -48,3 +55,32 @@ fits a b h =
     let o = or-neither _ _ h in
     let q = or-neither _ _ (o .0) in
     (q .0, q .1, o .1)
+
+-- some number of waits would pass, exactly
+module _ (a b : Waits) where
+  pub some-passes : passes a b ≡ true → (i : ℕ) × (i < 32) × Passes a b i
+  unfolding passes
+  some-passes e = go (or-either _ _ e)
+    where
+      two : (Sums.passes (a .begun) (b .begun) ≡ true) ⊎ (Sums.passes (a .unended) (b .unended) ≡ true) → (i : ℕ) × (i < 32) × Passes a b i
+      two (inl h) = let r = sum-passes (a .begun) (b .begun) .0 h in (r .0, r .1, inl (r .2))
+      two (inr h) = let r = sum-passes (a .unended) (b .unended) .0 h in (r .0, r .1, inr (inl (r .2)))
+
+      go : ((Sums.passes (a .begun) (b .begun) || Sums.passes (a .unended) (b .unended)) ≡ true) ⊎ (Sums.passes (a .unbounded) (b .unbounded) ≡ true)
+          → (i : ℕ) × (i < 32) × Passes a b i
+      go (inl h) = two (or-either _ _ h)
+      go (inr h) = let r = sum-passes (a .unbounded) (b .unbounded) .0 h in (r .0, r .1, inr (inr (r .2)))
+
+  pub passes-some : (i : ℕ) → i < 32 → Passes a b i → passes a b ≡ true
+  unfolding passes
+  passes-some i l (inl h) =
+      or-left (Sums.passes (a .unbounded) (b .unbounded)) (or-left (Sums.passes (a .unended) (b .unended)) (sum-passes (a .begun) (b .begun) .1 (i, l, h)))
+  passes-some i l (inr (inl h)) =
+      or-left (Sums.passes (a .unbounded) (b .unbounded)) (or-right (Sums.passes (a .begun) (b .begun)) (sum-passes (a .unended) (b .unended) .1 (i, l, h)))
+  passes-some i l (inr (inr h)) =
+      or-right (Sums.passes (a .begun) (b .begun) || Sums.passes (a .unended) (b .unended)) (sum-passes (a .unbounded) (b .unbounded) .1 (i, l, h))
+
+-- a trace is left out exactly if one does
+pub refused-passes : (a b : Waits) → not (eqb (added a b .refusal) carriedOut) ≡ passes a b
+unfolding added
+refused-passes a b = pick-cases (λ (x : Added). not (eqb (x .refusal) carriedOut) ≡ passes a b) (passes a b) (λ e. sym e) (λ e. sym e)
