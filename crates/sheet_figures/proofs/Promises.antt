@@ -7,7 +7,7 @@ use mathlib.Core.Logic.{_↔_, _≢_, _⊎_, inl, inr}
 use native.Mathlib.Omega.{arith}
 use native.Mathlib.Decide.{decLt}
 use lib.Dec.{eqb, ltb}
-use lib.ListN.{getD, length, replicate}
+use lib.ListN.{getD, length, replicate, length-replicate, getD-replicate}
 use borrow.Author.Tests.{lt-ltb, le-ltb, eqb-true, not-true}
 use Rattle.words.specs.Word.{bit}
 use Rattle.words.proofs.ArrayLaws.{zeros-getD}
@@ -15,9 +15,11 @@ use Rattle.words.proofs.ChoiceLaws.{pick-true, pick-false}
 use Rattle.words.proofs.TruthLaws.{or-either, or-neither, or-left, or-right, told, clash, not-holds}
 use Rattle.words.proofs.WordLaws.{bit-either}
 use Rattle.steps.specs.Refusals.{carriedOut}
+use Rattle.totals.specs.Promises.{Source}
 use Rattle.totals.specs.Totals as Sums
 use Rattle.totals.proofs.Promises as Figures
 use Rattle.totals.proofs.TotalsLaws.{sum-passes, refused-passes}
+use Rattle.wait_totals.specs.Promises.{Numbers}
 use Rattle.wait_totals.specs.Waits as Bounds
 use Rattle.wait_totals.proofs.Promises as Waits
 use Rattle.wait_totals.proofs.WaitLaws as Laws
@@ -39,12 +41,15 @@ module _ (s : Sheet) (t : Noted) where
       two : (tooMuch (s .steps) (t .steps) ≡ true) ⊎ (tooMuch (s .refused) (t .refused) ≡ true) → Passes s t
       two (inl h) = P.steps (too-much _ _ h)
       two (inr h) = P.refused (too-much _ _ h)
+
       three : ((tooMuch (s .steps) (t .steps) || tooMuch (s .refused) (t .refused)) ≡ true) ⊎ (tooMuch (s .marks) (t .marks) ≡ true) → Passes s t
       three (inl h) = two (or-either _ _ h)
       three (inr h) = P.marks (too-much _ _ h)
+
       four : (((tooMuch (s .steps) (t .steps) || tooMuch (s .refused) (t .refused)) || tooMuch (s .marks) (t .marks)) ≡ true) ⊎ (tooMuch (s .idle) (t .idle) ≡ true) → Passes s t
       four (inl h) = three (or-either _ _ h)
       four (inr h) = P.idle (too-much _ _ h)
+
       go : ((((tooMuch (s .steps) (t .steps) || tooMuch (s .refused) (t .refused)) || tooMuch (s .marks) (t .marks)) || tooMuch (s .idle) (t .idle)) ≡ true)
           ⊎ (tooMuch (s .left) (t .left) ≡ true) → Passes s t
       go (inl h) = four (or-either _ _ h)
@@ -64,18 +69,23 @@ module _ (s : Sheet) (t : Noted) where
     where
       figures : not (eqb (Sums.added (s .figures) (t .figures) .refusal) carriedOut) ≡ true → Passes s t
       figures h = let r = sum-passes (s .figures .started) (t .figures .started) .0 (sym (refused-passes (s .figures) (t .figures)) ∙ h) in P.started (r .0) (r .1) (r .2)
+
       waits : not (eqb (Bounds.added (s .waits) (t .waits) .refusal) carriedOut) ≡ true → Passes s t
       waits h = let r = Laws.some-passes (s .waits) (t .waits) (sym (Laws.refused-passes (s .waits) (t .waits)) ∙ h) in some-wait (r .0) (r .1) (r .2)
+
       two : (numbersPass s t ≡ true) ⊎ (not (eqb (Sums.added (s .figures) (t .figures) .refusal) carriedOut) ≡ true) → Passes s t
       two (inl h) = some-number h
       two (inr h) = figures h
+
       go : ((numbersPass s t || not (eqb (Sums.added (s .figures) (t .figures) .refusal) carriedOut)) ≡ true)
           ⊎ (not (eqb (Bounds.added (s .waits) (t .waits) .refusal) carriedOut) ≡ true) → Passes s t
       go (inl h) = two (or-either _ _ h)
       go (inr h) = waits h
 
-  abbrev figuresPass waitsPass : Bool
+  abbrev figuresPass : Bool
   figuresPass = not (eqb (Sums.added (s .figures) (t .figures) .refusal) carriedOut)
+
+  abbrev waitsPass : Bool
   waitsPass = not (eqb (Bounds.added (s .waits) (t .waits) .refusal) carriedOut)
 
   by-number : numbersPass s t ≡ true → passes s t ≡ true
@@ -223,12 +233,59 @@ no-more : (n : ℕ) → 4294967295 ≤ n → more n ≡ n
 unfolding more
 no-more n l = sym (pick-false _ (le-ltb n 4294967295 l))
 
-same-all : (n x i : ℕ) → i < n → getD (replicate n x) i 0 ≡ x
-same-all n x i l = ?
-
 module _ (s : Sheet) (t : Noted) (long : length (s .trace) ≡ 32) (i : ℕ) (l : i < 32) where
-  abbrev fresh : Bool
-  fresh = Bounds.newly (s .waits) (t .waits) i
+  abbrev this : List ℕ
+  this = replicate 32 (more (s .named))
 
-  first-at : getD (firstOf s t) i 0 ≡ getD (s .trace) i 0
-  first-at = ?
+  long-this : length this ≡ 32
+  long-this = length-replicate {A = ℕ} 32 (more (s .named))
+
+  first-new : Bounds.newly (s .waits) (t .waits) i ≡ true → getD (firstOf s t) i 0 ≡ more (s .named)
+  unfolding firstOf
+  first-new h =
+      Laws.getD-chosen (Bounds.newly (s .waits) (t .waits)) (s .trace) this i (omega (arith, long)) (omega (arith, long-this)) ∙ sym (pick-true _ h)
+      ∙ getD-replicate 32 i (more (s .named)) 0 l
+
+  first-old : Bounds.newly (s .waits) (t .waits) i ≡ false → getD (firstOf s t) i 0 ≡ getD (s .trace) i 0
+  unfolding firstOf
+  first-old h =
+      Laws.getD-chosen (Bounds.newly (s .waits) (t .waits)) (s .trace) this i (omega (arith, long)) (omega (arith, long-this)) ∙ sym (pick-false _ h)
+
+  not-newly : (getD (s .waits .first) i 0 ≢ 0) ⊎ (getD (t .waits .first) i 0 ≡ 0) → Bounds.newly (s .waits) (t .waits) i ≡ false
+  not-newly (inl n) = not-holds (Bounds.newly (s .waits) (t .waits) i) (λ h. n (Waits.kept .newlyIs (s .waits) (t .waits) i .0 h .0))
+  not-newly (inr z) = not-holds (Bounds.newly (s .waits) (t .waits) i) (λ h. Waits.kept .newlyIs (s .waits) (t .waits) i .0 h .1 z)
+
+  trace-is : added s t .refusal ≡ 0 → getD (added s t .sheet .trace) i 0 ≡ getD (firstOf s t) i 0
+  unfolding together
+  trace-is e = ap (λ (x : Sheet). getD (x .trace) i 0) (sheet-is s t e .1)
+
+empty : Names noSheet 0 0 0 0 × (noSheet .steps ≡ 0) × (noSheet .refused ≡ 0) × (noSheet .marks ≡ 0) × (noSheet .idle ≡ 0) × (noSheet .left ≡ 0) × (noSheet .used ≡ 0)
+unfolding noSheet
+empty = (record { named = refl; full = refl; unopened = refl; unkept = refl }, refl, refl, refl, refl, refl, refl)
+
+empty-source : (i : ℕ) → Source (noSheet .figures) i 0 0 0 × Numbers (noSheet .waits) i 0 0 0 × (Bounds.boundOf (noSheet .waits) i ≡ 0)
+    × (getD (noSheet .waits .first) i 0 ≡ 0) × (getD (noSheet .trace) i 0 ≡ 0)
+unfolding noSheet
+empty-source i = (Figures.kept .empty i, Waits.kept .empty i .0, Waits.kept .empty i .1, Waits.kept .empty i .2, zeros-getD 32 i)
+
+unopened-left : (s : Sheet) → Alike (leftUnopened s) s × Names (leftUnopened s) (more (s .named)) (s .full) (more (s .unopened)) (s .unkept)
+unfolding leftUnopened
+unopened-left s = left-out s (s .full) (more (s .unopened)) (s .unkept)
+
+pub kept : Promises
+kept =
+    record {
+      empty = empty;
+      emptySource = empty-source;
+      oneMore = one-more;
+      noMore = no-more;
+      eighteen = eighteen;
+      sixteen = sixteen;
+      taken = taken;
+      leftBy18 = left-by-18;
+      leftBy16 = left-by-16;
+      leftBy17 = unopened-left;
+      counted = is-counted;
+      firstIs = λ s t e long i l z n. trace-is s t long i l e ∙ first-new s t long i l (Waits.kept .newlyIs (s .waits) (t .waits) i .1 (z, n));
+      firstStays = λ s t e long i l h. trace-is s t long i l e ∙ first-old s t long i l (not-newly s t long i l h);
+    }

@@ -24,11 +24,11 @@ use Rattle.sheet_figures.specs.Promises as P
 -- ---- sums
 
 -- one of the five
-too-much : (a b : ℕ) → tooMuch a b ≡ true → 4294967295 < a + b
+pub too-much : (a b : ℕ) → tooMuch a b ≡ true → 4294967295 < a + b
 unfolding tooMuch
 too-much a b e = ltb-true 4294967295 (a + b) e
 
-much-too : (a b : ℕ) → 4294967295 < a + b → tooMuch a b ≡ true
+pub much-too : (a b : ℕ) → 4294967295 < a + b → tooMuch a b ≡ true
 unfolding tooMuch
 much-too a b l = lt-ltb 4294967295 (a + b) l
 
@@ -37,11 +37,19 @@ unfolding tooMuch
 not-too a b e = ltb-false 4294967295 (a + b) e
 
 module _ (s : Sheet) (t : Noted) where
-  abbrev steps refused marks idle left : Bool
+  abbrev steps : Bool
   steps = tooMuch (s .steps) (t .steps)
+
+  abbrev refused : Bool
   refused = tooMuch (s .refused) (t .refused)
+
+  abbrev marks : Bool
   marks = tooMuch (s .marks) (t .marks)
+
+  abbrev idle : Bool
   idle = tooMuch (s .idle) (t .idle)
+
+  abbrev left : Bool
   left = tooMuch (s .left) (t .left)
 
   -- where none passes, each fits

@@ -32,7 +32,7 @@ together-requires c κs =
     let w = n .before in
     sym (n .numbers-pass .ensures)
     ∙ or-neither (n .numbers-pass .result) (not (eqb (w .before .add .result .refusal) 0))
-        (or-neither (n .numbers-pass .result || not (eqb (w .before .add .result .refusal) 0)) (not (eqb (w .add2 .result .refusal) 0)) (i .if1 .left) .0) .0
+    (or-neither (n .numbers-pass .result || not (eqb (w .before .add .result .refusal) 0)) (not (eqb (w .add2 .result .refusal) 0)) (i .if1 .left) .0) .0
 
 returns-2 : tie.Need-returns-2
 unfolding summed

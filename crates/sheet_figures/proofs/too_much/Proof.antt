@@ -8,7 +8,7 @@ use Rattle.sheet_figures.proofs.too_much.Tie as tie
 
 returns : tie.Need-returns
 unfolding tooMuch
-returns c = passes-here _ _ (omega (arith, c .fits .a))
+returns c = passes-here (c .args .a) (c .args .b) (omega (arith, c .fits .a))
 
 pub too-much-spec : {M : Type 1} → statement M
 too-much-spec = tie.close (tie.spec (λ c. search needs) returns)
