@@ -1,3 +1,4 @@
 -- The laws of what the sheet takes from a trace, and the proof of what is promised of it.
 pub mod LoopLaws
+pub mod SeenLaws
 pub mod WatchLaws

@@ -1,3 +1,4 @@
 -- What the tuning sheet takes from a trace, and what is promised of it.
 pub mod Following
+pub mod Left
 pub mod Watched
