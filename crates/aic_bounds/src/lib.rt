@@ -231,7 +231,8 @@ pub fn marks_of(s: Aic, x: Step, ok: bool) -> Marks
     }
 }
 
-fn no_marks() -> Marks
+// What a step brings that is refused.
+pub fn no_marks() -> Marks
     ensures { λ r. ⌜ r ≡ noMarks ⌝ }
 {
     Marks {

@@ -1,0 +1,62 @@
+-- That `move_rows` of src/lib.rt keeps its contract.
+use Prim.Native.Nat.{ℕ, _-_, _%_, _^_, _<_}
+use mathlib.Core.Path.{_≡_, refl, sym, ap, subst, _∙_}
+use mathlib.Core.Bool.{true, false}
+use mathlib.Core.List.{List, []}
+use native.Mathlib.Omega.{arith}
+use lib.ListN.{getD, length}
+use Rattle.words.specs.Counting.{lowestBelow}
+use Rattle.words.specs.Word.{bit, either, without}
+use Rattle.words.proofs.HopLaws.{lowest-in, hop-less}
+use Rattle.words.proofs.WordLaws.{withBit-lt, either-lt}
+use Rattle.aic_record.specs.declared.Aic.{Aic}
+use Rattle.aic_record.specs.Sound.{sound}
+use Rattle.aic_layout.specs.Room.{Laid}
+use Rattle.aic_figures.proofs.BookLaws.{within}
+use Rattle.aic_wait_book.specs.Book.{rowAfter, Rows}
+use Rattle.aic_wait_book.proofs.KeptLaws.{rows-none, rows-all, rows-more, still, row-same}
+use borrow.Author.Needs.{needs}
+use Rattle.aic_wait_book.proofs.move_rows.Statement.{statement}
+use Rattle.aic_wait_book.proofs.move_rows.Tie as tie
+
+abbrev Inv-loop : tie.InvT-loop
+Inv-loop book₀ room was is n m left₀ book left =
+    (left < 2 ^ 32) × ((j : ℕ) → j < 32 → bit left j ≡ true → bit (either was is) j ≡ true)
+    × ((t : Aic) → sound t ≡ true → Laid t room → length book₀ ≡ 33
+    → Rows (λ i. rowAfter i (bit was i) (bit is i) n m t (getD book₀ i [])) (without (either was is) left) book₀ book)
+
+abbrev μ-loop : tie.MeasureT-loop
+μ-loop book₀ room was is n m left₀ book left = 32 - lowestBelow 32 (bit left)
+
+loop-holds : tie.Need-loop-holds Inv-loop μ-loop
+loop-holds c = rw (c .join .ensures) (either-lt _ _, λ j n b. b, λ t ok h n. rows-none _ _ _)
+
+loop-less : tie.Need-loop-less Inv-loop μ-loop
+loop-less c =
+    let l = c .before .before .before .before .before .before .before .loop in
+    let i = c .before .before .before .before .before .lowest in
+    subst (λ (x : ℕ). 32 - lowestBelow 32 (bit x) < 32 - lowestBelow 32 (bit (l .left))) (sym (c .with-bit .ensures))
+    (hop-less (l .left) (i .result) (l .inv .0) (c .before .before .before .before .before .before .loop-test .taken) (i .ensures))
+
+loop-again : tie.Need-loop-again Inv-loop μ-loop
+loop-again c =
+    let a = c .before .before .before .before .before .before .before .before .before .args in
+    let l = c .before .before .before .before .before .before .before .loop in
+    let i = c .before .before .before .before .before .lowest in
+    let p = lowest-in (l .left) (i .result) (l .inv .0) (c .before .before .before .before .before .before .loop-test .taken) (i .ensures) in
+    let e : i .result % 32 ≡ i .result = omega (arith, p .0) in (
+      subst (λ (x : ℕ). x < 2 ^ 32) (sym (c .with-bit .ensures)) (withBit-lt (l .left) (i .result) false),
+      within (either (a .was) (a .is)) (l .left) _ (i .result) (c .with-bit .ensures) (l .inv .1),
+      λ t ok h n.
+          let d = l .inv .2 t ok h n in
+          let o = still _ _ (l .left) (a .book .now) (l .book) (i .result) (p .0) (p .1) d in
+          rw e (rows-more _ (either (a .was) (a .is)) (l .left) (a .book .now) (l .book) (i .result) (p .0) (p .1) d _ _ n (l .inv .1 (i .result) (p .0) (p .1)) (c .with-bit .ensures)
+          (c .before .row-after .ensures t ok h
+          ∙ row-same (i .result) (a .n) (a .m) t (c .before .before .before .has .ensures) (c .before .before .has2 .ensures) (ap (λ (j : ℕ). getD (l .book) j []) e ∙ o))),
+    )
+
+returns : tie.Need-returns Inv-loop μ-loop
+returns c = λ t ok h l. rows-all _ _ _ _ _ (c .loop-test .left) (c .before .loop .inv .2 t ok h l)
+
+pub move-rows-spec : {M : Type 1} → statement M
+move-rows-spec = tie.close (tie.spec Inv-loop μ-loop (λ c κs. search needs) loop-holds (λ c κs. search needs) (λ c. search needs) (λ c. search needs) (λ c. search needs) (λ c κs. search needs) (λ c κs. search needs) (λ c κs. search needs) (λ c. search needs) (λ c. search needs) (λ c. search needs) (λ c κs. search needs) loop-less loop-again returns)
