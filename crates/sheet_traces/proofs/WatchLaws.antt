@@ -12,10 +12,10 @@ use lib.ListN.{getD}
 use borrow.Author.Tests.{eq-eqb, ne-eqb, eqb-true, not-true, lt-ltb, le-ltb}
 use Rattle.words.specs.Choice.{pick}
 use Rattle.words.specs.Counting.{one}
-use Rattle.words.specs.Word.{bit, either}
+use Rattle.words.specs.Word.{bit, either, withBit}
 use Rattle.words.proofs.ChoiceLaws.{pick-true, pick-false}
 use Rattle.words.proofs.TruthLaws.{told, clash, not-fails, and-left, and-right, or-left, or-right, or-either, or-neither}
-use Rattle.words.proofs.WordLaws.{bit-either, either-lt, same-word}
+use Rattle.words.proofs.WordLaws.{bit-either, either-lt, same-word, bit-some, bit-none, bit-cleared, withBit-lt}
 use Rattle.steps.specs.declared.Step.{Step}
 use Rattle.steps.specs.declared.Step.the-variants.{Read, Write, Line}
 use Rattle.trace.specs.Steps.{readKind, writeKind}
@@ -29,10 +29,13 @@ use Rattle.aic.specs.Model.{step}
 use Rattle.aic.proofs.SoundLaws.{step-sound}
 use Rattle.aic_layout.specs.Room.{Laid}
 use Rattle.aic_layout.proofs.CellLaws.{depth-is, enabled-is, source-is}
-use Rattle.aic_registers.specs.Map.{svr, eoicr, ffer, ffdr}
+use Rattle.aic_registers.specs.Map.{eoicr}
 use Rattle.aic_runs.specs.Counted.{carried, rewrites}
 use Rattle.aic_runs.specs.Runs.{run, count}
 use Rattle.aic_runs.proofs.StepLaws.{modes-law}
+use Rattle.aic_bounds.specs.declared.Marks.{Marks}
+use Rattle.aic_bounds.specs.Following.{marksOf, marksBy, noMarks}
+use Rattle.aic_bounds.proofs.MarkLaws.{marks-is}
 use Rattle.stack.specs.declared.Table.{Table}
 use Rattle.stack_kept.specs.Kept.{keeps, unkept}
 use Rattle.stack_kept.proofs.KeptLaws.{keeps-is, unkept-none}
@@ -123,10 +126,6 @@ none : (c k o : Bool) → k ≡ false → ((c && k) && o) ≡ false
 none false k o e = refl
 none true k o e = ap (λ (b : Bool). b && o) e
 
-some : (c k o : Bool) → k ≡ true → ((c && k) && o) ≡ (c && o)
-some false k o e = refl
-some true k o e = ap (λ (b : Bool). b && o) e
-
 three : (c k o d : Bool) → k ≡ false → (((c && k) && o) && d) ≡ false
 three c k o d e = ap (λ (b : Bool). b && d) (none c k o e)
 
@@ -145,15 +144,22 @@ module _ (s : Aic) (kind x y : ℕ) where
           four c _ (eqb x eoicr) (eqb (s .depth) 0) k ∙ ap (λ (b : Bool). b && eqb x eoicr && eqb (s .depth) 0) (h ∙ ap (carried s) e) ∙ ap (idleEnd s) (sym e)
       go (lines k e) = three c _ _ _ k ∙ ap (idleEnd s) (sym e)
 
-  pub rewrites-is : (c : Bool) → c ≡ carried s (stepOf kind x y) → ((c && eqb kind writeKind) && ((ltb x svr || eqb x ffer) || eqb x ffdr)) ≡ rewrites s (stepOf kind x y)
-  unfolding rewrites
-  rewrites-is c h = go (kind-of kind x y)
-    where
-      go : Kind kind x y → ((c && eqb kind writeKind) && ((ltb x svr || eqb x ffer) || eqb x ffdr)) ≡ rewrites s (stepOf kind x y)
-      go (reads k e) = none c _ _ k ∙ ap (rewrites s) (sym e)
-      go (writes k e) =
-          some c _ ((ltb x svr || eqb x ffer) || eqb x ffdr) k ∙ ap (λ (b : Bool). b && ((ltb x svr || eqb x ffer) || eqb x ffdr)) (h ∙ ap (carried s) e) ∙ ap (rewrites s) (sym e)
-      go (lines k e) = none c _ _ k ∙ ap (rewrites s) (sym e)
+-- what a step brings, by whether it is carried out
+no-bit : (k : ℕ) → withBit 0 k false ≡ 0
+no-bit k = bit-some 32 (withBit 0 k false) (withBit-lt 0 k false) (λ j l. bit-cleared 0 k j l ∙ ap (λ (b : Bool). b && not (eqb j k)) (bit-none j))
+
+refused-marks : (s : Aic) (x : Step) → marksBy false s x ≡ noMarks
+unfolding marksBy pick
+refused-marks s (Read o) = refl
+refused-marks s (Write o v) = refl
+refused-marks s (Line k l) = rw (no-bit k)
+
+pub brought-is : (s : Aic) (x : Step) (c : Bool) (b m : Marks) → c ≡ carried s x → b ≡ marksBy true s x → m ≡ pick c b noMarks → m ≡ marksOf s x
+brought-is s x c b m ec eb em = go (told c)
+  where
+    go : (c ≡ true) ⊎ (c ≡ false) → m ≡ marksOf s x
+    go (inl h) = em ∙ sym (pick-true _ h) ∙ eb ∙ ap (λ (d : Bool). marksBy d s x) (sym h ∙ ec) ∙ marks-is s x
+    go (inr h) = em ∙ sym (pick-false _ h) ∙ sym (refused-marks s x) ∙ ap (λ (d : Bool). marksBy d s x) (sym h ∙ ec) ∙ marks-is s x
 
 -- ---- a run, figure by figure
 
