@@ -129,7 +129,7 @@ module _ (s : List ℕ) (limit : ℕ) (t : Table) where
       let h = parts (starts e) in
       let a = Bounds.kept .seenBounded (aicOf s) k (playedOf s limit) (is-shaped s (beginOf s) refl (h .0) (h .1)) l (sym (w .unbounded) ∙ z) in
       let f : getD (noteOf s limit t .figures .waited) k 0 ≡ waitedOf k (aicOf s) (playedOf s limit)
-          = ap (λ (g : Totals). getD (g .waited) k 0) (reported .figures) ∙ Tally.kept .figure s limit k (h .1) l .waited in
+      = ap (λ (g : Totals). getD (g .waited) k 0) (reported .figures) ∙ Tally.kept .figure s limit k (h .1) l .waited in
       omega (arith, a, f, bound-is k w)
 
 pub kept : Promises

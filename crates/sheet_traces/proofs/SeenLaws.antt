@@ -140,6 +140,7 @@ module _ (t : Table) where
               headOr : List Step → Step
               headOr [] = x
               headOr (u ∷ us) = u
+
           tail-is : x ∷ l .steps ≡ y ∷ (ys ++ (z ∷ zs)) → l .steps ≡ ys ++ (z ∷ zs)
           tail-is e = ap (λ (us : List Step). tailOf us) e
             where

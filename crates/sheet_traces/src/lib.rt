@@ -150,10 +150,7 @@ fn watch_steps(trace: &[u8], limit: u32, start: usize, first: Aic, table: Table)
         let t = turns::sure(turns::quick(trace, at, left, false), trace, at, left, false);
         if t.kind == turns::ENDED {
             let waits = aic_wait_book::waits_in(&book);
-            return Played {
-                watched: w,
-                waits,
-            };
+            return Played { watched: w, waits };
         }
         let before = room[aic_layout::DEPTH];
         let enabled = room[aic_layout::ENABLED];

@@ -1,44 +1,28 @@
+-- That `note` of src/lib.rt keeps its contract.
+use mathlib.Core.Path.{sym, ap, _∙_}
+use mathlib.Core.Bool.{false}
+use Rattle.tally.specs.declared.Tallied.{Tallied}
+use Rattle.wait_totals.specs.Waits.{noWaits}
+use Rattle.sheet_traces.specs.Noted.{noted, unseen}
+use Rattle.sheet_traces.proofs.NoteLaws.{starts-is, both-parts, of-other}
 use borrow.Author.Needs.{needs}
 use Rattle.sheet_traces.proofs.note.Statement.{statement}
 use Rattle.sheet_traces.proofs.note.Tie as tie
-use Rattle.sheet_traces.proofs.note.Reads as reads
-use Rattle.sheet_traces.proofs.note.Lts as lts
-use Rattle.beginning.proofs.begin.Reads as begin-reads
-use Rattle.sheet_traces.proofs.note_aic.Reads as note-aic-reads
-use Rattle.sheet_traces.proofs.note_other.Reads as note-other-reads
-use Rattle.tally.proofs.figures.Reads as figures-reads
 
--- src/lib.rt:180:9
-figures-requires : tie.Need-figures-requires
-figures-requires c κs = ?
-
--- src/lib.rt:181:9
-begin-requires : tie.Need-begin-requires
-begin-requires c κs = ?
-
--- src/lib.rt:184:9
 note-aic-requires : tie.Need-note-aic-requires
-note-aic-requires c κs = ?
+note-aic-requires c κs =
+    let h = both-parts _ _ (c .if1 .taken) in
+    (c .before .before .before .before .begin .ensures, h .0, h .1)
 
--- src/lib.rt:184:9
 returns : tie.Need-returns
-returns c = ?
+returns c = c .note-aic .ensures (c .before .before .before .before .before .before .figures .ensures)
 
--- src/lib.rt:186:5
-note-other-requires : tie.Need-note-other-requires
-note-other-requires c κs = ?
-
--- src/lib.rt:177:1
 returns-2 : tie.Need-returns-2
-returns-2 c = ?
+returns-2 c =
+    let i = c .before in
+    let b = i .before .before .before .before in
+    c .note-other .ensures ∙ ap (λ (f : Tallied). noted f false unseen noWaits) (b .before .figures .ensures)
+    ∙ sym (of-other _ _ _ (sym (starts-is _ _ (b .begin .ensures)) ∙ i .if1 .left))
 
 pub note-spec : {M : Type 1} → statement M
-note-spec =
-    tie.close
-    (tie.spec
-    figures-requires
-    begin-requires
-    note-aic-requires
-    returns
-    note-other-requires
-    returns-2)
+note-spec = tie.close (tie.spec (λ c κs. search needs) (λ c κs. search needs) note-aic-requires returns (λ c κs. search needs) returns-2)
