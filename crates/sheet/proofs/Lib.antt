@@ -1,0 +1,6 @@
+-- The laws of the page, and the proof of what is promised of it.
+pub mod OrderLaws
+pub mod PageLaws
+pub mod PageSizeLaws
+pub mod SizeLaws
+pub mod TurnLaws

@@ -1,0 +1,2 @@
+-- What is promised of the page.
+pub record Promises : Type 0 where
