@@ -1,4 +1,5 @@
 -- Laws of the book, and the promises kept.
+pub mod BoundLaws
 pub mod KeptLaws
 pub mod Promises
 pub mod RoomLaws

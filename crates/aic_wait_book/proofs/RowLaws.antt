@@ -58,6 +58,10 @@ plus-none n a b l z = ap (λ (w : ℕ). capped (n + countBelow 32 (bit w))) z �
 plus-zero : (n a b : ℕ) → n ≤ 4294967295 → b ≡ 0 → plus n a b ≡ n
 plus-zero n a b l z = plus-none n a b l (shared-none a b (λ k m. ap (λ (c : Bool). bit a k && c) (ap (λ (w : ℕ). bit w k) z ∙ bit-none k) ∙ and-false (bit a k)))
 
+-- nobody is brought anything
+pub plus-nobody : (n a b : ℕ) → n ≤ 4294967295 → a ≡ 0 → n ≡ plus n a b
+plus-nobody n a b l z = sym (plus-none n a b l (shared-none a b (λ k m. ap (λ (c : Bool). c && bit b k) (ap (λ (w : ℕ). bit w k) z ∙ bit-none k))))
+
 -- no source of a is not in b
 within : (a b k : ℕ) → without a b ≡ 0 → k < 32 → (bit a k && not (bit b k)) ≡ false
 within a b k z l = sym (bit-without a b k l) ∙ ap (λ (w : ℕ). bit w k) z ∙ bit-none k
@@ -268,9 +272,9 @@ module _ (k n : ℕ) (m : Marks) (t : Aic) (f : Figures) (s : Small f) (q : isQu
 
 -- ---- of the function
 
-pub row-from : (k : ℕ) (was is : Bool) (n : ℕ) (m : Marks) (t : Aic) (row : List ℕ) {f g : Figures} {w : ℕ} {a : Aic} {r : List ℕ} → f ≡ figuresIn was row → w ≡ pick is 2 0 → a ≡ t
-    → g ≡ figuresWith n f (boundBy k w n (f .bound) m a) → r ≡ rowOf g → r ≡ rowAfter k was is n m t row
+pub row-from : (k : ℕ) (was is : Bool) (n : ℕ) (m : Marks) (t : Aic) (row : List ℕ) {f g : Figures} {w : ℕ} {b : Bound} {r : List ℕ} → f ≡ figuresIn was row → w ≡ pick is 2 0
+    → b ≡ boundBy k w n (f .bound) m t → g ≡ figuresWith n f b → r ≡ rowOf g → r ≡ rowAfter k was is n m t row
 unfolding rowAfter
-row-from k was is n m t row {f} {g} {w} ef ew ea eg er =
-    er ∙ ap rowOf (eg ∙ ap (λ (v : Aic). figuresWith n f (boundBy k w n (f .bound) m v)) ea ∙ ap (λ (v : ℕ). figuresWith n f (boundBy k v n (f .bound) m t)) ew
+row-from k was is n m t row {f} {g} {w} ef ew eb eg er =
+    er ∙ ap rowOf (eg ∙ ap (λ (v : Bound). figuresWith n f v) eb ∙ ap (λ (v : ℕ). figuresWith n f (boundBy k v n (f .bound) m t)) ew
     ∙ ap (λ (v : Figures). figuresWith n v (boundBy k (pick is 2 0) n (v .bound) m t)) ef)

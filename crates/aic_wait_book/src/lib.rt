@@ -25,6 +25,9 @@ ghost use Rattle.aic_wait_figures.specs.declared.Figures.{Figures};
 ghost use Rattle.aic_wait_figures.specs.Figures.{noFigures};
 ghost use Rattle.aic_wait_book.specs.Waits.{waitsNow, followed};
 ghost use Rattle.aic_wait_book.specs.Book.{rowOf, figuresIn, rowAfter, numbersOf, isQuiet, Kept, Rows, Moved};
+
+mod bounds;
+
 use aic_bounds::Bound;
 use aic_bounds::Marks;
 use aic_registers::map;
@@ -241,12 +244,13 @@ fn row_after(
     m: Marks,
     row: [u32; 18],
 ) -> [u32; 18]
+    requires { ⌜ k < 32 ⌝ }
     ensures { λ r. ⌜ ((t : Aic) → sound t ≡ true → Laid t (now (room .entry)) → r ≡ rowAfter k was is n m t row) ⌝ }
 {
     let f = figures_of(row, was);
     let w = aic_bounds::either(is, 2, 0);
-    let t = aic_layout::record_of(room);
-    row_of(aic_wait_figures::figures_after(k, w, n, f, m, t))
+    let b = bounds::bound_after(room, k, w, n, f.bound, m);
+    row_of(aic_wait_figures::figures_with(n, f, b))
 }
 
 // ---- a step

@@ -31,6 +31,11 @@ abbrev μ-loop : tie.MeasureT-loop
 loop-holds : tie.Need-loop-holds Inv-loop μ-loop
 loop-holds c = rw (c .join .ensures) (either-lt _ _, λ j n b. b, λ t ok h n. rows-none _ _ _)
 
+row-after-requires : tie.Need-row-after-requires Inv-loop μ-loop
+row-after-requires c κs =
+    let l = c .before .before .before .before .before .loop in
+    lowest-in (l .left) _ (l .inv .0) (c .before .before .before .before .loop-test .taken) (c .before .before .before .lowest .ensures) .0
+
 loop-less : tie.Need-loop-less Inv-loop μ-loop
 loop-less c =
     let l = c .before .before .before .before .before .before .before .loop in
@@ -59,4 +64,4 @@ returns : tie.Need-returns Inv-loop μ-loop
 returns c = λ t ok h l. rows-all _ _ _ _ _ (c .loop-test .left) (c .before .loop .inv .2 t ok h l)
 
 pub move-rows-spec : {M : Type 1} → statement M
-move-rows-spec = tie.close (tie.spec Inv-loop μ-loop (λ c κs. search needs) loop-holds (λ c κs. search needs) (λ c. search needs) (λ c. search needs) (λ c. search needs) (λ c κs. search needs) (λ c κs. search needs) (λ c κs. search needs) (λ c. search needs) (λ c. search needs) (λ c. search needs) (λ c κs. search needs) loop-less loop-again returns)
+move-rows-spec = tie.close (tie.spec Inv-loop μ-loop (λ c κs. search needs) loop-holds (λ c κs. search needs) (λ c. search needs) (λ c. search needs) (λ c. search needs) (λ c κs. search needs) (λ c κs. search needs) row-after-requires (λ c. search needs) (λ c. search needs) (λ c. search needs) (λ c κs. search needs) loop-less loop-again returns)
