@@ -14,6 +14,7 @@ use Rattle.stack.specs.declared.Table.{Table}
 use Rattle.stack.specs.Bytes.{normal}
 use Rattle.sheet.specs.Texts.{down}
 use Rattle.sheet.specs.Order.{shown, stands, chosen, byLevel, inOrder}
+use Rattle.sheet.specs.Promises.{occurs}
 
 -- ---- how many are listed
 
@@ -98,3 +99,86 @@ listed-below t used (suc n) =
 pub order-fits : (t : Table) (used : ℕ) → length (inOrder t used) ≤ 32
 unfolding inOrder byLevel
 order-fits t used = simp length-append (listed-below t used 32)
+
+-- ---- how often one stands there
+
+occurs-append : (i : ℕ) (a b : List ℕ) → occurs i (a ++ b) ≡ occurs i a + occurs i b
+unfolding occurs
+occurs-append i [] b = omega arith
+occurs-append i (x ∷ a) b = omega (arith, occurs-append i a b)
+
+occurs-if : (b : Bool) (n i : ℕ) → occurs i (pick b (n ∷ []) []) ≡ one (b && eqb n i)
+unfolding occurs pick
+occurs-if true n i = omega arith
+occurs-if false n i = refl
+
+absent : (b : Bool) → one (b && false) ≡ 0
+absent true = refl
+absent false = refl
+
+whole : (b : Bool) → one (b && true) ≡ one b
+whole true = refl
+whole false = refl
+
+chosen-far : (p : ℕ → Bool) (n i : ℕ) → n ≤ i → occurs i (chosen p n) ≡ 0
+unfolding chosen
+chosen-far p zero i h = unfold occurs in refl
+chosen-far p (suc n) i h =
+    let z : one (p n && eqb n i) ≡ 0 = ap (λ (b : Bool). one (p n && b)) (ne-eqb n i (λ (q : n ≡ i). omega arith)) ∙ absent (p n) in
+    omega (arith, occurs-append i (chosen p n) (pick (p n) (n ∷ []) []), occurs-if (p n) n i, chosen-far p n i (omega arith))
+
+chosen-near : (p : ℕ → Bool) (n i : ℕ) → i < n → occurs i (chosen p n) ≡ one (p i)
+unfolding chosen
+chosen-near p zero i h = absurd (omega arith)
+chosen-near p (suc n) i h = go (decLt i n) (chosen-near p n i)
+  where
+    go : Dec (i < n) → (i < n → occurs i (chosen p n) ≡ one (p i)) → occurs i (chosen p n ++ pick (p n) (n ∷ []) []) ≡ one (p i)
+    go (yes l) ih =
+        let z : one (p n && eqb n i) ≡ 0 = ap (λ (b : Bool). one (p n && b)) (ne-eqb n i (λ (q : n ≡ i). omega arith)) ∙ absent (p n) in
+        omega (arith, occurs-append i (chosen p n) (pick (p n) (n ∷ []) []), occurs-if (p n) n i, ih l)
+    go (no l) ih =
+        let e : n ≡ i = omega arith in
+        let z : one (p n && eqb n i) ≡ one (p i) = ap (λ (b : Bool). one (p n && b)) (eq-eqb n i e) ∙ whole (p n) ∙ ap (λ (k : ℕ). one (p k)) e in
+        omega (arith, occurs-append i (chosen p n) (pick (p n) (n ∷ []) []), occurs-if (p n) n i, chosen-far p n i (omega arith))
+
+levels-near : (p : ℕ → ℕ → Bool) (i l : ℕ) → i < 32 → occurs i (down (λ l. chosen (p l) 32) l) ≡ sumBelow l (λ l. one (p l i))
+unfolding down sumBelow
+levels-near p i zero h = unfold occurs in refl
+levels-near p i (suc l) h =
+    omega (arith, occurs-append i (chosen (p l) 32) (down (λ l. chosen (p l) 32) l), chosen-near (p l) 32 i h, levels-near p i l h)
+
+-- at its own level, and no other
+own-level : (s x : Bool) (k l : ℕ) → k < l → sumBelow l (λ l. one (s && (x && eqb k l))) ≡ one (s && x)
+unfolding sumBelow
+own-level s x k zero h = absurd (omega arith)
+own-level s x k (suc l) h = go (decLt k l) (own-level s x k l)
+  where
+    same : (s x : Bool) → one (s && (x && true)) ≡ one (s && x)
+    same true x = whole x
+    same false x = refl
+
+    go : Dec (k < l) → (k < l → sumBelow l (λ l. one (s && (x && eqb k l))) ≡ one (s && x))
+        → sumBelow l (λ l. one (s && (x && eqb k l))) + one (s && (x && eqb k l)) ≡ one (s && x)
+    go (yes a) ih =
+        let z : one (s && (x && eqb k l)) ≡ 0 = ap (λ (b : Bool). one (s && (x && b))) (ne-eqb k l (λ (q : k ≡ l). omega arith)) ∙ off s x in
+        omega (arith, ih a)
+    go (no a) ih =
+        let z : one (s && (x && eqb k l)) ≡ one (s && x) = ap (λ (b : Bool). one (s && (x && b))) (eq-eqb k l (omega arith)) ∙ same s x in
+        omega (arith, below-own s x k l (omega arith))
+
+either-way : (s n : Bool) → one (s && n) + one (s && not n) ≡ one s
+either-way true n = either-one n
+either-way false n = refl
+
+pub stands-once : (t : Table) (used i : ℕ) → i < 32 → getD (t .priority) i 0 ≤ 7 → occurs i (inOrder t used) ≡ one (shown t used i)
+unfolding inOrder byLevel stands pick
+stands-once t used i h l =
+    omega (
+      arith,
+      occurs-append i (down (λ l. chosen (stands t used false l) 32) 8) (down (λ l. chosen (stands t used true l) 32) 8),
+      levels-near (stands t used false) i 8 h,
+      levels-near (stands t used true) i 8 h,
+      own-level (shown t used i) (normal t i) (getD (t .priority) i 0) 8 (omega arith),
+      own-level (shown t used i) (not (normal t i)) (getD (t .priority) i 0) 8 (omega arith),
+      either-way (shown t used i) (normal t i),
+    )

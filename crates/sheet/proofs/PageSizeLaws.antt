@@ -7,6 +7,7 @@ use native.Mathlib.Omega.{arith}
 use lib.Dec.{eqb, ltb}
 use lib.ListN.{length, getD, length-append}
 use Rattle.words.proofs.ChoiceLaws.{pick-cases}
+use Rattle.text.proofs.DigitLaws.{length-field}
 use Rattle.phrases.specs.Phrases.{bytes, counted}
 use Rattle.stack.specs.declared.Table.{Table}
 use Rattle.stack.specs.Bytes.{normal, levelBytes, stackBytes}
@@ -23,7 +24,7 @@ use Rattle.sheet.specs.Sources.{sourceHead, typed, tabled, aheadCell, bo
 use Rattle.sheet.specs.Meaning.{meaningFirst, meaningLast, meaning}
 use Rattle.sheet.specs.End.{headRow, outRow, tracesNamed, sums, headPart, sourcesHead, waitsHead, hiddenLine, sourcesOf, sourcesPart, pageEnd}
 use Rattle.sheet.proofs.OrderLaws.{order-fits}
-use Rattle.sheet.proofs.SizeLaws.{length-counted, length-field, length-amount, length-cell, length-cell-of, length-source-cell, length-empty-cell, length-each, length-eight, length-escaped, length-name}
+use Rattle.sheet.proofs.SizeLaws.{length-counted, length-amount, length-cell, length-cell-of, length-source-cell, length-empty-cell, length-each, length-eight, length-escaped, length-name}
 
 -- ---- the head of the file
 
@@ -102,7 +103,7 @@ length-called names k i =
       arith,
       length-counted (bytes "source ") i,
       pick-cases (λ (l : List ℕ). length l ≤ 146) (eqb k 0) {a = []} {b = bytes ", " ++ each escape (nameOf names k i)} (λ e. omega arith)
-      (λ e. simp length-append (omega (arith, length-name names k i))),
+          (λ e. simp length-append (omega (arith, length-name names k i))),
     ))
 
 length-whose : (t : Table) (names lengths : List ℕ) (l : ℕ) → length (whose t names lengths l) ≤ 173

@@ -7,7 +7,7 @@ use native.Mathlib.Omega.{arith}
 use lib.Dec.{eqb, leb}
 use lib.ListN.{length, length-append, length-take, take, drop}
 use Rattle.words.proofs.ChoiceLaws.{pick-cases}
-use Rattle.text.specs.Text.{decimal, hexOf, field}
+use Rattle.text.specs.Text.{decimal, hexOf}
 use Rattle.text.proofs.DigitLaws.{length-decimal, length-hex}
 use Rattle.phrases.specs.Phrases.{bytes, counted}
 use Rattle.sheet.specs.Texts.{amount, cell, cellOf, sourceCell, emptyCell, each, down}
@@ -18,10 +18,6 @@ use Rattle.sheet.specs.Names.{plain, escape, nameOf}
 pub length-counted : (what : List ℕ) (n : ℕ) → length (counted what n) ≤ length what + 20
 unfolding counted
 length-counted what n = simp length-append (omega (arith, length-decimal 20 n))
-
-pub length-field : (n : ℕ) → length (field n) ≤ 21
-unfolding field
-length-field n = simp length-append (omega (arith, length-decimal 20 n))
 
 pub length-amount : (n : ℕ) (unit : List ℕ) → length (amount n unit) ≤ length unit + 21
 unfolding amount bytes

@@ -9,3 +9,4 @@ pub mod Promises
 pub mod Rows
 pub mod Sources
 pub mod Texts
+pub mod Worked

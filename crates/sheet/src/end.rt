@@ -2,7 +2,17 @@
 ghost use mathlib.Core.Path.{_≡_};
 ghost use Rattle.text.specs.Text.{write};
 ghost use Rattle.sheet.specs.End.{
-    headRow, outRow, tracesNamed, sums, headPart, sourcesHead, waitsHead, hiddenLine, sourcesOf, sourcesPart, pageEnd
+  headRow,
+  outRow,
+  tracesNamed,
+  sums,
+  headPart,
+  sourcesHead,
+  waitsHead,
+  hiddenLine,
+  sourcesOf,
+  sourcesPart,
+  pageEnd,
 };
 use super::cells;
 use super::levels;
@@ -48,11 +58,40 @@ fn put_traces(out: &mut [u8], at: usize, s: Sheet) -> usize
     ensures { λ r. ⌜ (now (out .exit), r) ≡ write (now (out .entry), at) (tracesNamed s) ⌝ }
 {
     let left = s.full as u64 + s.unopened as u64 + s.unkept as u64;
-    let a = put_row(out, at, b"traces named", b"traces", s.named as u64, b"traces");
-    let b = put_row(out, a, b"traces left out", b"traces-left-out", left, b"traces");
-    let c = put_out(out, b, b"16: a sum would be too large</th><td data-refusal=\"16\">", s.full);
-    let d = put_out(out, c, b"17: not to be opened or read</th><td data-refusal=\"17\">", s.unopened);
-    put_out(out, d, b"18: the table is not kept</th><td data-refusal=\"18\">", s.unkept)
+    let a = put_row(
+        out,
+        at,
+        b"traces named",
+        b"traces",
+        s.named as u64,
+        b"traces",
+    );
+    let b = put_row(
+        out,
+        a,
+        b"traces left out",
+        b"traces-left-out",
+        left,
+        b"traces",
+    );
+    let c = put_out(
+        out,
+        b,
+        b"16: a sum would be too large</th><td data-refusal=\"16\">",
+        s.full,
+    );
+    let d = put_out(
+        out,
+        c,
+        b"17: not to be opened or read</th><td data-refusal=\"17\">",
+        s.unopened,
+    );
+    put_out(
+        out,
+        d,
+        b"18: the table is not kept</th><td data-refusal=\"18\">",
+        s.unkept,
+    )
 }
 
 // What was added up of the others.
@@ -60,8 +99,22 @@ fn put_sums(out: &mut [u8], at: usize, s: Sheet) -> usize
     ensures { λ r. ⌜ (now (out .exit), r) ≡ write (now (out .entry), at) (sums s) ⌝ }
 {
     let a = put_row(out, at, b"steps played", b"steps", s.steps as u64, b"steps");
-    let b = put_row(out, a, b"steps refused", b"steps-refused", s.refused as u64, b"steps");
-    let c = put_row(out, b, b"spurious marks opened", b"marks", s.marks as u64, b"marks");
+    let b = put_row(
+        out,
+        a,
+        b"steps refused",
+        b"steps-refused",
+        s.refused as u64,
+        b"steps",
+    );
+    let c = put_row(
+        out,
+        b,
+        b"spurious marks opened",
+        b"marks",
+        s.marks as u64,
+        b"marks",
+    );
     let d = put_row(
         out,
         c,
@@ -80,14 +133,7 @@ fn put_sums(out: &mut [u8], at: usize, s: Sheet) -> usize
     )
 }
 
-fn put_row(
-    out: &mut [u8],
-    at: usize,
-    words: &[u8],
-    figure: &[u8],
-    n: u64,
-    unit: &[u8],
-) -> usize
+fn put_row(out: &mut [u8], at: usize, words: &[u8], figure: &[u8], n: u64, unit: &[u8]) -> usize
     ensures { λ r. ⌜ (now (out .exit), r) ≡ write (now (out .entry), at) (headRow (now (words .entry)) (now (figure .entry)) n (now (unit .entry))) ⌝ }
 {
     let a = text::put_all(out, at, b"<tr><th>");
@@ -147,9 +193,21 @@ fn put_ordered(
 fn put_sources_head(out: &mut [u8], at: usize) -> usize
     ensures { λ r. ⌜ (now (out .exit), r) ≡ write (now (out .entry), at) sourcesHead ⌝ }
 {
-    let a = text::put_all(out, at, b"<section id=\"sources\">\n<h2>Sources</h2>\n<table>\n<thead>\n");
-    let b = text::put_all(out, a, b"<tr><th>source</th><th>name</th><th>priority</th><th>type</th><th>frame</th><th>ahead of it</th><th>started</th>");
-    let c = text::put_all(out, b, b"<th>started while it waited: most seen</th><th>at most</th><th>waits</th><th>entries open while it was: most</th></tr>\n");
+    let a = text::put_all(
+        out,
+        at,
+        b"<section id=\"sources\">\n<h2>Sources</h2>\n<table>\n<thead>\n",
+    );
+    let b = text::put_all(
+        out,
+        a,
+        b"<tr><th>source</th><th>name</th><th>priority</th><th>type</th><th>frame</th><th>ahead of it</th><th>started</th>",
+    );
+    let c = text::put_all(
+        out,
+        b,
+        b"<th>started while it waited: most seen</th><th>at most</th><th>waits</th><th>entries open while it was: most</th></tr>\n",
+    );
     text::put_all(out, c, b"</thead>\n<tbody>\n")
 }
 
@@ -157,8 +215,16 @@ fn put_waits_head(out: &mut [u8], at: usize) -> usize
     ensures { λ r. ⌜ (now (out .exit), r) ≡ write (now (out .entry), at) waitsHead ⌝ }
 {
     let a = text::put_all(out, at, b"</tbody>\n</table>\n<table>\n<thead>\n");
-    let b = text::put_all(out, a, b"<tr><th>source</th><th>waits not ended</th><th>waits without a bound</th><th>first of these</th><th>pending</th><th>edges</th>");
-    let c = text::put_all(out, b, b"<th>commands</th><th>turns</th><th>closed while active</th><th>remembered</th></tr>\n");
+    let b = text::put_all(
+        out,
+        a,
+        b"<tr><th>source</th><th>waits not ended</th><th>waits without a bound</th><th>first of these</th><th>pending</th><th>edges</th>",
+    );
+    let c = text::put_all(
+        out,
+        b,
+        b"<th>commands</th><th>turns</th><th>closed while active</th><th>remembered</th></tr>\n",
+    );
     text::put_all(out, c, b"</thead>\n<tbody>\n")
 }
 

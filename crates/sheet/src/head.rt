@@ -46,10 +46,22 @@ fn put_parts(out: &mut [u8], at: usize) -> usize
 fn put_tables(out: &mut [u8], at: usize) -> usize
     ensures { λ r. ⌜ (now (out .exit), r) ≡ write (now (out .entry), at) styleTables ⌝ }
 {
-    let a = text::put_all(out, at, b"table{border-collapse:collapse;margin:2mm 0;font-size:8pt}\n");
-    let b = text::put_all(out, a, b"th,td{border:1px solid black;padding:0.5mm 1mm;text-align:left;vertical-align:top}\n");
+    let a = text::put_all(
+        out,
+        at,
+        b"table{border-collapse:collapse;margin:2mm 0;font-size:8pt}\n",
+    );
+    let b = text::put_all(
+        out,
+        a,
+        b"th,td{border:1px solid black;padding:0.5mm 1mm;text-align:left;vertical-align:top}\n",
+    );
     let c = text::put_all(out, b, b"#traces td:nth-child(2){overflow-wrap:anywhere}\n");
-    let d = text::put_all(out, c, b"#sources td:nth-child(2){overflow-wrap:anywhere;min-width:20mm}\n");
+    let d = text::put_all(
+        out,
+        c,
+        b"#sources td:nth-child(2){overflow-wrap:anywhere;min-width:20mm}\n",
+    );
     let e = text::put_all(out, d, b"tbody th{white-space:nowrap}\n");
     let f = text::put_all(out, e, b"h2,dt{break-after:avoid}\n");
     text::put_all(out, f, b"dt{font-weight:bold}\n")

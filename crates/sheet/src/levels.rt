@@ -10,7 +10,13 @@ use super::escapes;
 use super::order;
 use stack::Table;
 
-pub(crate) fn put_stack(out: &mut [u8], at: usize, t: Table, names: &[u8], lengths: [u32; 32]) -> usize
+pub(crate) fn put_stack(
+    out: &mut [u8],
+    at: usize,
+    t: Table,
+    names: &[u8],
+    lengths: [u32; 32],
+) -> usize
     ensures { λ r. ⌜ (now (out .exit), r) ≡ write (now (out .entry), at) (stackPart t (now (names .entry)) lengths) ⌝ }
 {
     let a = put_figure(out, at, t);
@@ -125,10 +131,20 @@ fn put_row(out: &mut [u8], at: usize, t: Table, names: &[u8], lengths: [u32; 32]
 {
     let n = stack::level_bytes(t, l);
     let a = phrases::put_counted(out, at, b"<tr><th>level ", l);
-    let b = phrases::put_counted(out, a, b"</th><td data-figure=\"level-bytes\" data-level=\"", l);
+    let b = phrases::put_counted(
+        out,
+        a,
+        b"</th><td data-figure=\"level-bytes\" data-level=\"",
+        l,
+    );
     let c = text::put_all(out, b, b"\">");
     let d = cells::put_amount(out, c, n as u64, b"bytes");
-    let e = phrases::put_counted(out, d, b"</td><td data-figure=\"level-source\" data-level=\"", l);
+    let e = phrases::put_counted(
+        out,
+        d,
+        b"</td><td data-figure=\"level-source\" data-level=\"",
+        l,
+    );
     let f = text::put_all(out, e, b"\">");
     let g = put_whose(out, f, t, names, lengths, l);
     text::put_all(out, g, b"</td></tr>\n")

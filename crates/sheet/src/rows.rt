@@ -15,7 +15,13 @@ pub(crate) fn put_counted(out: &mut [u8], at: usize, n: u32, t: Noted, name: &[u
     let c = cells::put_cell(out, b, b"trace-steps-refused", t.refused as u64, b"steps");
     let d = cells::put_cell(out, c, b"trace-marks", t.marks as u64, b"marks");
     let e = cells::put_cell(out, d, b"trace-idle-ends", t.idle as u64, b"ends");
-    let f = cells::put_cell(out, e, b"trace-entries-left-open", t.left as u64, b"entries");
+    let f = cells::put_cell(
+        out,
+        e,
+        b"trace-entries-left-open",
+        t.left as u64,
+        b"entries",
+    );
     put_ending(out, f, t)
 }
 

@@ -7,7 +7,21 @@ ghost use Rattle.phrases.specs.Phrases.{bytes};
 ghost use Rattle.sheet.specs.Texts.{each};
 ghost use Rattle.sheet.specs.Names.{escaped, nameOf};
 ghost use Rattle.sheet.specs.Sources.{
-    sourceHead, typed, tabled, aheadCell, bounded, boundOf, most, others, waited, first, term, startedCells, sourceRow, terms, waitsRow
+  sourceHead,
+  typed,
+  tabled,
+  aheadCell,
+  bounded,
+  boundOf,
+  most,
+  others,
+  waited,
+  first,
+  term,
+  startedCells,
+  sourceRow,
+  terms,
+  waitsRow,
 };
 use super::cells;
 use super::escapes;
@@ -198,7 +212,12 @@ fn put_most(out: &mut [u8], at: usize, begun: u32, unbounded: u32, bound: u64) -
 fn put_waited(out: &mut [u8], at: usize, i: u32, begun: u32, unbounded: u32) -> usize
     ensures { λ r. ⌜ (now (out .exit), r) ≡ write (now (out .entry), at) (waited i begun unbounded) ⌝ }
 {
-    let a = phrases::put_counted(out, at, b"<td><span data-figure=\"waits\" data-source=\"", i);
+    let a = phrases::put_counted(
+        out,
+        at,
+        b"<td><span data-figure=\"waits\" data-source=\"",
+        i,
+    );
     let b = text::put_all(out, a, b"\">");
     let c = cells::put_amount(out, b, begun as u64, b"waits");
     let d = text::put_all(out, c, b"</span>");
