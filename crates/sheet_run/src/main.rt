@@ -1,6 +1,12 @@
 // Prints the tuning sheet over the traces whose names stand on standard input, one to a line: the argument is the name of the typed table's file. The page's
 // beginning comes first, a row for each name as its trace is played, then all the rest. Of a table that is refused there is no page: one line on standard error
 // says why; so it does where the table or the names cannot be read, or the page cannot be written.
+ghost use mathlib.Core.Path.{_≡_};
+ghost use mathlib.Core.List.{List};
+ghost use Prim.Native.Nat.{ℕ, _≤_};
+ghost use lib.ListN.{length};
+ghost use Rattle.table_slips.specs.Slips.{slipLine};
+
 mod held;
 mod names;
 mod progress;
@@ -29,21 +35,21 @@ fn check(text: &[u8]) {
     let t = r.table;
     let needed = stack::needed_by(t);
     if (r.refusal == steps::CARRIED_OUT) & (needed.refusal == steps::CARRIED_OUT) {
-        print(t);
+        print(text, t);
     } else {
         refuse(text);
     }
 }
 
-// The line that refuses the table, on standard error.
+// The line that leads to the slip of a refused table.
 fn refuse(text: &[u8]) {
-    let mut out = [0u8; 64];
-    let k = tables::put_answer(&mut out, text);
-    tell(b"sheet_run: the table is refused: ");
-    tell(&out[..k]);
+    let mut line = slip_room();
+    let k = table_slips::put_slip(&mut line, text);
+    tell(b"sheet_run: ");
+    tell(&line[..k]);
 }
 
-fn print(t: Table) {
+fn print(text: &[u8], t: Table) {
     let mut all = room();
     let first = progress::none();
     if !begin() {
@@ -56,7 +62,7 @@ fn print(t: Table) {
         return;
     }
     let sum = r.sum;
-    if !end(t, sum) {
+    if !end(text, t, sum) {
         tell(b"sheet_run: the page could not be written\n");
     }
 }
@@ -69,16 +75,25 @@ fn begin() -> bool {
 }
 
 // How it ends, unless a row before it could not be written; whether all could be.
-fn end(t: Table, sum: Sum) -> bool {
+fn end(text: &[u8], t: Table, sum: Sum) -> bool {
     if !sum.written {
         return false;
     }
-    let names = [0u8; 768];
-    let lengths = [0u32; 32];
+    let named = tables::names::names_of(text);
+    let bytes = named.bytes;
+    let lengths = named.lengths;
     let s = sum.sheet;
     let mut out = sheet::end_room();
-    let k = sheet::put_end(&mut out, t, &names, lengths, s);
+    let k = sheet::put_end(&mut out, t, &bytes, lengths, s);
     io::write_all(1, &out[..k])
+}
+
+// A buffer that any line of a slip fits.
+fn slip_room() -> [u8; 85]
+    ensures { λ r. ⌜ 85 ≡ length r ⌝ }
+    ensures any { λ r. ⌜ ((s : List ℕ) → length (slipLine s) ≤ length r) ⌝ }
+{
+    [0; 85]
 }
 
 // A file's name has at most 4,095 bytes; a carriage return and a line feed may stand behind it.
