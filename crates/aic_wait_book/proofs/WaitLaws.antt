@@ -23,7 +23,7 @@ use Rattle.aic_wait_figures.specs.declared.Figures.{Figures}
 use Rattle.aic_wait_figures.specs.Figures.{figuresOver, figuresOf, largestNow, unendedNow}
 use Rattle.aic_wait_figures.specs.Promises.{Tells}
 use Rattle.aic_wait_figures.proofs.Promises as Figures
-use Rattle.aic_wait_book.specs.declared.Waits.{Waits}
+use Rattle.wait_totals.specs.declared.Waits.{Waits}
 use Rattle.aic_wait_book.specs.Waits.{waitsOf, followed, waitsNow}
 use Rattle.aic_wait_book.specs.Promises.{Source}
 use Rattle.aic_wait_book.specs.Book.{rowOf, figuresIn, numbersOf, wordIn, Kept}

@@ -33,24 +33,10 @@ use aic_bounds::Marks;
 use aic_registers::map;
 use aic_wait_figures::Figures;
 use rooms::Room;
+use wait_totals::Waits;
 
 // A row for each source, and the words of all of them in the last.
 pub type Book = [[u32; 18]; 33];
-
-// Of each source: the waits that began, of these those that did not end and those without a bound, the number of the first step by which one has none,
-// 0 where all have one; the six terms of the largest bound, in handlers.
-pub struct Waits {
-    pub begun: [u32; 32],
-    pub unended: [u32; 32],
-    pub unbounded: [u32; 32],
-    pub first: [u32; 32],
-    pub pending: [u32; 32],
-    pub edges: [u32; 32],
-    pub commands: [u32; 32],
-    pub turns: [u32; 32],
-    pub closed: [u32; 32],
-    pub remembered: [u32; 32],
-}
 
 const WORDS: usize = 32;
 
