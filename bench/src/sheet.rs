@@ -10,8 +10,9 @@ pub mod noted;
 pub mod page;
 pub mod reached;
 pub mod sums;
+pub mod table;
 
-use std::io::{self, BufRead};
+use std::io::BufRead;
 
 use self::names::{named_table, Names};
 use self::noted::Noted;
@@ -59,22 +60,20 @@ impl Pages {
     }
 }
 
-/// The page over a table and traces by their names, of which some cannot be read.
-pub fn sheet(table: &[u8], traces: &[(Vec<u8>, Option<Vec<u8>>)]) -> Result<String, Fault> {
+/// The page over a table and traces by their names, of which some could not be read.
+pub fn sheet(
+    table: &[u8],
+    traces: impl IntoIterator<Item = (Vec<u8>, Option<Vec<u8>>)>,
+) -> Result<Pages, Fault> {
     let mut pages = Pages::of(table)?;
     for (name, trace) in traces {
-        pages.put(name, trace.as_deref());
+        pages.put(&name, trace.as_deref());
     }
-    Ok(pages.text())
+    Ok(pages)
 }
 
 /// The page over a table and the files that are named, one to a line.
-pub fn sheet_of_files(table: &[u8], mut names: impl BufRead) -> io::Result<Result<Pages, Fault>> {
-    let mut pages = Pages::of(table);
-    while let Some(name) = next_name(&mut names)? {
-        if let Ok(pages) = &mut pages {
-            pages.put(&name, content(&name).as_deref());
-        }
-    }
-    Ok(pages)
+pub fn sheet_of_files(table: &[u8], mut names: impl BufRead) -> Result<Pages, Fault> {
+    let names = std::iter::from_fn(|| next_name(&mut names).ok().flatten());
+    sheet(table, names.map(|name| (name.clone(), content(&name))))
 }

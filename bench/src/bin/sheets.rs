@@ -1,101 +1,109 @@
-//! The model of the tuning sheet as a program, and what compares the proved one with it on generated folders.
+//! The model of the tuning sheet as a program, and what compares the proved programs with it on generated folders.
 
-use std::fs::{self, File};
+use std::fs;
 use std::io::{self, BufReader, Write};
-use std::path::{Path, PathBuf};
+use std::path::Path;
 use std::process::ExitCode;
 
 use bench::compare::{first_difference, MOST_FAILURES};
 use bench::program::Program;
 use bench::say;
-use bench::sheet::figures::found;
-use bench::sheet::generate::{samples, Generator};
+use bench::sheet::figures::{due, figures};
+use bench::sheet::generate::{sample, Generator};
 use bench::sheet::names::named_table;
 use bench::sheet::reached::ITEMS;
-use bench::sheet::{sheet, sheet_of_files, Pages};
+use bench::sheet::table::table;
+use bench::sheet::{sheet_of_files, Pages};
 
 const USAGE: &str = "\
-sheets TABLE <NAMES                             prints the page over a typed table and the traces that are named
-sheets --compare FOLDER COUNT PATH [WORD..]     compares COUNT pages of the program at PATH with the model's; each folder
-                                                of traces is made in FOLDER, with the program's page in it as page.html
-sheets --samples FOLDER TABLE                   makes folders to look at, with the model's page in each as page.html
+sheets TABLE <NAMES                        prints the page over a typed table and the traces that are named
+sheets --table <TRACE                      prints the typed table of a trace
+sheets --sample FOLDER COUNT TABLE         makes a folder of COUNT traces for a typed table, and a list of names in it
+sheets --compare FOLDER COUNT PATH WORD..  compares COUNT pages of the program at PATH, with WORDs and a table's name as
+                                           its arguments, with the model's; each folder of traces is made in FOLDER, with
+                                           the program's page in it as page.html
+sheets --tables COUNT PATH WORD..          the same with the typed tables of COUNT traces
 ";
 
 fn main() -> ExitCode {
     let words: Vec<String> = std::env::args().skip(1).collect();
     let words: Vec<&str> = words.iter().map(String::as_str).collect();
+    let count = |word: &str| word.parse().map_err(|_| format!("{word} is no number"));
     let done = match words[..] {
-        ["--compare", folder, count, path, ref more @ ..] if count.parse::<usize>().is_ok() => {
-            let count = count.parse().unwrap_or(0);
-            compare(Path::new(folder), count, &Program::new(path, more))
+        ["--table"] => print_table().map_err(|error| error.to_string()),
+        ["--sample", folder, many, table] => count(many).and_then(|many| {
+            make_sample(Path::new(folder), many, table).map_err(|error| error.to_string())
+        }),
+        ["--compare", folder, many, path, ref more @ ..] => {
+            count(many).and_then(|many| compare(Path::new(folder), many, &Program::new(path, more)))
         }
-        ["--samples", folder, table] => make_samples(Path::new(folder), table),
-        [table] if !table.starts_with("--") => page(table),
-        _ => {
-            eprint!("{USAGE}");
-            return ExitCode::from(2);
+        ["--tables", many, path, ref more @ ..] => {
+            count(many).and_then(|many| tables(many, &Program::new(path, more)))
         }
+        [table] if !table.starts_with("--") => print_page(table).map_err(|error| error.to_string()),
+        _ => Err(USAGE.to_owned()),
     };
-    match done {
-        Ok(good) => ExitCode::from(u8::from(!good)),
-        Err(error) => {
+    done.map_or_else(
+        |error| {
             eprintln!("sheets: {error}");
-            ExitCode::FAILURE
-        }
-    }
+            ExitCode::from(2)
+        },
+        |good| ExitCode::from(u8::from(!good)),
+    )
 }
 
-/// Prints the page, or that there is none.
-fn page(table: &str) -> io::Result<bool> {
-    let pages = sheet_of_files(&fs::read(table)?, BufReader::new(io::stdin().lock()))?;
-    match pages {
-        Ok(pages) => io::stdout()
-            .write_all(pages.text().as_bytes())
-            .map(|()| true),
-        Err(fault) => {
-            // As the proved program does, which has no status to set.
-            eprintln!("sheets: refusal {}", fault.refusal().number());
-            Ok(true)
-        }
-    }
-}
-
-fn make_samples(folder: &Path, table: &str) -> io::Result<bool> {
-    let text = fs::read(table)?;
-    let Ok((table, _)) = named_table(&text) else {
-        return Ok(false);
-    };
-    for (name, sample) in samples(&text, &table) {
-        let here = folder.join(name);
-        sample.write(&here)?;
-        let page = sheet(&sample.table, &sample.traces);
-        fs::write(here.join("page.html"), page.unwrap_or_default())?;
+/// Prints the page, or says that there is none; as the proved program, which has no status to set.
+fn print_page(table: &str) -> io::Result<bool> {
+    match sheet_of_files(&fs::read(table)?, BufReader::new(io::stdin().lock())) {
+        Ok(pages) => io::stdout().write_all(pages.text().as_bytes())?,
+        Err(fault) => eprintln!("sheets: refusal {}", fault.refusal().number()),
     }
     Ok(true)
 }
 
+fn print_table() -> io::Result<bool> {
+    let mut trace = Vec::new();
+    io::Read::read_to_end(&mut io::stdin(), &mut trace)?;
+    match table(&trace) {
+        Ok(text) => print!("{text}"),
+        Err(line) => eprint!("{line}"),
+    }
+    Ok(true)
+}
+
+/// Makes a folder of traces, and `names` in it.
+fn make_sample(folder: &Path, count: u32, table: &str) -> io::Result<bool> {
+    let text = fs::read(table)?;
+    let Ok((table, _)) = named_table(&text) else {
+        return Ok(false);
+    };
+    let names = sample(&text, &table, count).write(folder)?;
+    fs::write(folder.join("names"), names).map(|()| true)
+}
+
 /// Compares so many pages; whether none differs and every item is reached.
-fn compare(folder: &Path, count: usize, program: &Program) -> io::Result<bool> {
+fn compare(folder: &Path, count: u32, program: &Program) -> Result<bool, String> {
     let generator = Generator::new(1);
     let mut reached = [0_u32; ITEMS.len()];
-    let (mut wrong, mut traces, mut figures, mut refused) = (0, 0, 0, 0);
-    for number in 0..count {
+    let (mut wrong, mut traces, mut found, mut refused) = (0, 0, 0, 0);
+    for number in 0..count as usize {
         let here = folder.join(number.to_string());
-        let list = generator.case(number).write(&here)?;
-        let table = here.join("table");
-        let pages = sheet_of_files(&fs::read(&table)?, list.as_slice())?;
-        let printed = program.run(&[&table.to_string_lossy()], &list);
+        let case = generator.case(number);
+        let list = case.write(&here).map_err(|error| error.to_string())?;
+        let pages = sheet_of_files(&case.table, list.as_slice()).ok();
         match &pages {
-            Ok(pages) => {
+            Some(pages) => {
                 traces += pages.rows.len();
-                for (count, (_, holds)) in reached.iter_mut().zip(&ITEMS) {
-                    *count += u32::from(holds(pages));
-                }
+                let holds = ITEMS.map(|(_, holds)| u32::from(holds(pages)));
+                reached
+                    .iter_mut()
+                    .zip(holds)
+                    .for_each(|(count, more)| *count += more);
             }
-            Err(_) => refused += 1,
+            None => refused += 1,
         }
-        match judged(pages.as_ref().ok(), printed, &here.join("page.html")) {
-            Ok(count) => figures += count,
+        match judged(pages.as_ref(), program, &here, &list) {
+            Ok(count) => found += count,
             Err(why) => {
                 say!("{}: {why}", here.display());
                 wrong += 1;
@@ -105,31 +113,32 @@ fn compare(folder: &Path, count: usize, program: &Program) -> io::Result<bool> {
             break;
         }
     }
-    say!("{count} tables, {refused} of them refused, {traces} traces, {figures} figures found; {wrong} pages differ");
+    say!("{count} tables, {refused} of them refused, {traces} traces, {found} figures found; {wrong} pages differ");
     let missed = ITEMS.iter().zip(reached).filter(|(_, count)| *count == 0);
     let missed: Vec<&str> = missed.map(|((what, _), _)| *what).collect();
-    let there = ITEMS.len() - missed.len();
-    say!("{there} of {} listed items reached", ITEMS.len());
+    say!(
+        "{} of {} listed items reached",
+        ITEMS.len() - missed.len(),
+        ITEMS.len()
+    );
     missed.iter().for_each(|what| say!("not reached: {what}"));
     Ok(wrong == 0 && missed.is_empty())
 }
 
-/// How many figures were found in a page that is the model's; of a refused table there is a line on standard error alone.
+/// How many figures a page has that is the model's; of a refused table there is a line on standard error and no page.
 fn judged(
     pages: Option<&Pages>,
-    printed: Result<(Vec<u8>, Vec<u8>), String>,
-    keep: &PathBuf,
+    program: &Program,
+    folder: &Path,
+    list: &[u8],
 ) -> Result<usize, String> {
-    let (page, told) = printed?;
+    let (page, told) = program.run(&[&folder.join("table").to_string_lossy()], list)?;
+    fs::write(folder.join("page.html"), &page).map_err(|error| error.to_string())?;
     let Some(pages) = pages else {
         let one_line = told.iter().filter(|&&byte| byte == b'\n').count() == 1;
-        return match page.is_empty() && one_line {
-            true => Ok(0),
-            false => Err("no line alone for a table that is refused".to_owned()),
-        };
+        let good = (page.is_empty() && one_line).then_some(0);
+        return good.ok_or("no line alone for a table that is refused".to_owned());
     };
-    let kept = File::create(keep).and_then(|mut file| file.write_all(&page));
-    kept.map_err(|error| error.to_string())?;
     let wanted = pages.text();
     if !told.is_empty() {
         return Err(format!("on standard error: {}", told.escape_ascii()));
@@ -140,5 +149,28 @@ fn judged(
             at.line, at.other, at.expected
         ));
     }
-    found(pages, &wanted)
+    match figures(&wanted)?.len() {
+        found if found == due(pages) => Ok(found),
+        found => Err(format!("{found} figures in place of {}", due(pages))),
+    }
+}
+
+/// Compares so many typed tables of traces, or the lines that say why there is none; whether none differs.
+fn tables(count: u32, program: &Program) -> Result<bool, String> {
+    let traces = bench::report::generate::Generator::new(3);
+    let (mut printed, mut wrong) = (0, 0);
+    for number in traces.sweeps()..traces.sweeps() + count as usize {
+        let trace = traces.case(number).case.trace;
+        let wanted = match table(&trace) {
+            Ok(text) => (text.into_bytes(), vec![]),
+            Err(line) => (vec![], line.into_bytes()),
+        };
+        printed += u32::from(wanted.1.is_empty());
+        if program.run(&[], &trace)? != wanted {
+            say!("trace {number}: another table or line than by the model");
+            wrong += 1;
+        }
+    }
+    say!("{count} traces, {printed} tables of them, {wrong} differ");
+    Ok(wrong == 0 && printed > 0 && printed < count)
 }

@@ -9,7 +9,7 @@ use std::path::Path;
 
 use super::names::{Names, LONGEST_SOURCE_NAME};
 use crate::bounds::kept::culprit;
-use crate::generate::aic::{ENABLE, EOICR, FFDR, FFER, IVR, SPU};
+use crate::generate::aic::{DISABLE, ENABLE, EOICR, FFDR, FFER};
 use crate::generate::damage::{damaged, noise};
 use crate::generate::{in_any_form, tour_of, Script};
 use crate::model::aic::{Aic, SOURCES};
@@ -53,79 +53,76 @@ impl Folder {
     }
 }
 
+/// A folder whose names end in line feeds.
+fn plain(table: Vec<u8>, traces: Vec<(Vec<u8>, Option<Vec<u8>>)>) -> Folder {
+    let line_end = b"\n";
+    Folder {
+        table,
+        traces,
+        line_end,
+    }
+}
+
 impl Made for Folder {
-    /// Tables that are refused, no name at all, and the longest traces.
+    /// Tables that are refused, no name at all, more steps than are played, and traces that start nothing.
     fn sweeps() -> Vec<Folder> {
         let random = &mut Random::new(0);
         let table = any_table(random);
-        let text = typed(random, &table, &Names::default());
-        let fill = |length: usize| {
-            [
-                &text,
-                b"\n#".as_slice(),
-                &vec![b'.'; length - text.len() - 2],
-            ]
-            .concat()
-        };
         let over = Table {
             mark: 65_536,
             ..table
         };
-        let over = typed(random, &over, &Names::default());
-        let refused = [&text[40..], b"", &fill(LONGEST + 1), &over].map(<[u8]>::to_vec);
-        let tables = refused.into_iter().chain([text.clone(), fill(LONGEST)]);
-        let folder = |table, traces| Folder {
-            table,
-            traces,
-            line_end: b"\n",
-        };
-        let mut folders: Vec<Folder> = tables.map(|table| folder(table, vec![])).collect();
-        let long = [PROGRAM_LIMIT - 1, PROGRAM_LIMIT + 1].map(|steps| {
-            let trace = year(u64::from(steps), steps);
-            folder(
-                own_table(random, &trace),
-                vec![(b"year".to_vec(), Some(trace))],
-            )
-        });
-        folders.extend(long);
-        let too_long = (b"long".to_vec(), Some(vec![0; LONGEST + 1]));
-        folders.push(folder(text, vec![too_long]));
+        let [text, over] = [table, over].map(|table| typed(random, &table, &Names::default()));
+        let too_long = [&text, b"\n#".as_slice(), &[b'.'; LONGEST]].concat();
+        let tables = [text[40..].to_vec(), vec![], too_long, over, text.clone()];
+        let mut folders = tables.map(|table| plain(table, vec![])).to_vec();
+        let year = year(1, PROGRAM_LIMIT + 1);
+        let own = table_of(random, &year);
+        let own = typed(random, &own, &Names::default());
+        folders.push(plain(own, vec![(b"year".to_vec(), Some(year))]));
+        let bad = [vec![0; LONGEST + 1], vec![1, 9], vec![9]];
+        let bad = bad.map(|trace| (vec![b'0' + trace[0]], Some(trace)));
+        folders.push(plain(text, bad.to_vec()));
         folders
     }
 
     fn random(random: &mut Random) -> Folder {
-        let tour = waits::tour(random, random.clone().within(10, 120)).bytes;
+        let tour = any_tour(random);
         let table = match random.below(3) {
             0 => any_table(random),
             _ => table_of(random, &tour),
         };
-        let names = std::array::from_fn(|_| match random.one_in(3) {
-            true => source_name(random),
-            false => String::new(),
-        });
-        let mut traces: Vec<(Vec<u8>, Option<Vec<u8>>)> = Vec::new();
-        for number in 0..random.pick(&[0, 1, 1, 2, 3, 4, 6, 9]) {
-            let tour = match number {
-                0 => tour.clone(),
-                _ => any_tour(random),
-            };
-            let one = match random.one_in(12) && number > 0 {
-                true => traces[random.below(number) as usize].clone(),
-                false => (file_name(random, number), trace(random, &table, tour)),
-            };
-            traces.push(one);
-        }
-        let mut table = typed(random, &table, &names);
+        let names = std::array::from_fn(|_| source_name(random));
+        let mut text = typed(random, &table, &names);
         if random.one_in(20) {
-            let at = random.below(table.len() as u32) as usize;
-            table.splice(at..at, random.pick(&SLIPS).bytes());
+            let at = random.below(text.len() as u32) as usize;
+            text.splice(at..at, random.pick(&SLIPS).bytes());
         }
-        Folder {
-            table,
-            traces,
-            line_end: random.pick::<&[u8]>(&[b"\n", b"\n", b"\r\n"]),
+        let mut folder = plain(text, vec![]);
+        for number in 0..random.pick(&[0, 1, 2, 3, 4, 6, 9]) {
+            let one = match folder.traces.last() {
+                Some(last) if random.one_in(12) => last.clone(),
+                _ => (file_name(random, number), trace(random, &table, &tour)),
+            };
+            folder.traces.push(one);
         }
+        folder.line_end = random.pick::<&[u8]>(&[b"\n", b"\n", b"\r\n"]);
+        folder
     }
+}
+
+/// Traces for a typed table, to be looked at.
+pub fn sample(text: &[u8], table: &Table, count: u32) -> Folder {
+    let random = &mut Random::new(45);
+    let one = |n: u32| {
+        let name = match n % 25 {
+            24 => file_name(random, n),
+            _ => format!("board-{:02}-run-{n:04}.trace", n % 12).into_bytes(),
+        };
+        let tour = any_tour(random);
+        (name, trace(random, table, &tour))
+    };
+    plain(text.to_vec(), (0..count).map(one).collect())
 }
 
 /// The AIC that a trace ends with.
@@ -155,11 +152,6 @@ fn table_of(random: &mut Random, trace: &[u8]) -> Table {
     table
 }
 
-fn own_table(random: &mut Random, trace: &[u8]) -> Vec<u8> {
-    let table = table_of(random, trace);
-    typed(random, &table, &Names::default())
-}
-
 /// A quote where none may be, names with a byte that they may not have, with none and with one too many.
 const SLIPS: [&str; 5] = [
     "\"",
@@ -169,58 +161,38 @@ const SLIPS: [&str; 5] = [
     " \"a name of 25 characters..\" ",
 ];
 
-/// A table as it is typed, with names in some lines and comments in some.
-pub fn typed(random: &mut Random, table: &Table, names: &Names) -> Vec<u8> {
+/// A table as it is typed, with names and comments.
+fn typed(random: &mut Random, table: &Table, names: &Names) -> Vec<u8> {
     let mut text = String::from("# priority, type, frame in bytes\n");
     for (row, name) in table.rows.iter().zip(names) {
-        let frame = match random.one_in(3) {
-            true => format!("{:#x}", row.frame),
-            false => row.frame.to_string(),
-        };
-        text += &format!("{} {}\t{frame}", row.priority, row.kind);
+        text += &format!("{} {}\t{:#x}", row.priority, row.kind, row.frame);
         text += random.pick(&[" ", "\n", " # of \"it\"\n", "\r\n\t"]);
         if !name.is_empty() {
-            text += &format!(
-                "\"{name}\"{}",
-                random.pick(&["\n", "#\n", " # its name\n", "\t"])
-            );
+            text += &format!("\"{name}\"{}", random.pick(&["\n", "#\n", "\t"]));
         }
     }
-    text += &format!("{:#x} # forced\n{}", table.forced, table.mark);
+    text += &format!("{} # forced\n{}", table.forced, table.mark);
     text.into_bytes()
 }
 
-/// 1 to 24 bytes; a name may have a `#` and a backslash.
+/// None, or 1 to 24 bytes; a name may have a `#` and a backslash.
 fn source_name(random: &mut Random) -> String {
-    let length = random.pick(&[1, 2, 9, LONGEST_SOURCE_NAME]);
-    let mut name = || char::from(random.pick(b"abcxyzABC 0129#\\;-'/."));
-    (0..length).map(|_| name()).collect()
+    let length = random.pick(&[0, 0, 1, 9, LONGEST_SOURCE_NAME]);
+    let name = (0..length).map(|_| char::from(random.pick(b"abcxyzABC 0129#\\;-'/.")));
+    name.collect()
 }
 
-/// A name with its number: a plain one, one of any bytes, one with any step of `./`, or one that is too long.
+/// A name with its number: a plain one, one of any bytes, or a long one.
 fn file_name(random: &mut Random, number: u32) -> Vec<u8> {
-    let number = format!("{number}");
-    let mut bytes = |count: u32| {
-        (0..count)
-            .map(|_| random.within(1, 255) as u8)
-            .filter(|byte| !b"\n\r/".contains(byte))
-            .collect::<Vec<u8>>()
+    let number = format!("{number}").into_bytes();
+    let more: Vec<u8> = match random.below(4) {
+        0 => b".trace".to_vec(),
+        1 => (0..90).map(|_| random.within(1, 255) as u8).collect(),
+        2 => (0..20).map(|_| random.pick(b"&<>\"\\ '#x\t\x7F")).collect(),
+        _ => return [b"./".repeat(random.within(1, 1_990) as usize), number].concat(),
     };
-    let any = [bytes(12), bytes(90)];
-    let marks: Vec<u8> = (0..20)
-        .map(|_| random.pick(b"&<>\"\\ '#x\t\x7F\xC3"))
-        .collect();
-    match random.below(8) {
-        0..=2 => format!("{number}.trace").into_bytes(),
-        3 => [number.as_bytes(), &any[0]].concat(),
-        4 => [number.as_bytes(), &any[1]].concat(),
-        5 | 6 => [number.as_bytes(), &marks].concat(),
-        _ => [
-            b"./".repeat(random.within(1, 2_040) as usize),
-            number.into_bytes(),
-        ]
-        .concat(),
-    }
+    let more = more.into_iter().filter(|byte| !b"\n\r/".contains(byte));
+    number.into_iter().chain(more).collect()
 }
 
 /// What a trace in a folder is like.
@@ -229,7 +201,7 @@ enum Style {
     Kept,
     Broken,
     Any,
-    OffAll,
+    Off,
     Other,
     Damaged,
     Noise,
@@ -240,23 +212,32 @@ const STYLES: [(u32, Style); 8] = [
     (12, Style::Kept),
     (4, Style::Broken),
     (2, Style::Any),
-    (1, Style::OffAll),
-    (2, Style::Other),
+    (1, Style::Off),
+    (3, Style::Other),
     (2, Style::Damaged),
     (1, Style::Noise),
     (2, Style::Missing),
 ];
 
-fn trace(random: &mut Random, table: &Table, tour: Vec<u8>) -> Option<Vec<u8>> {
+/// A trace of any style, or none; those of an AIC are made of a tour or of another.
+fn trace(random: &mut Random, table: &Table, tour: &[u8]) -> Option<Vec<u8>> {
+    let tour = match random.one_in(3) {
+        true => any_tour(random),
+        false => varied(random, tour),
+    };
     let style = random.weighted(&STYLES);
     let trace = match style {
         Style::Missing => return None,
         Style::Noise => return Some(noise(random)),
-        Style::Any => tour,
-        Style::OffAll => off(&tour),
         Style::Other => {
             let kind = random.pick(&Kind::ALL[1..]);
             return Some(tour_of(random, kind, 30).bytes);
+        }
+        Style::Any => tour,
+        Style::Off => {
+            let mut pieces = pieces(&tour);
+            pieces.retain(|piece| written(piece).is_none_or(|(offset, _)| offset != ENABLE));
+            pieces.concat()
         }
         Style::Kept | Style::Damaged => keeping(random, table, &tour),
         Style::Broken => {
@@ -279,6 +260,16 @@ fn any_tour(random: &mut Random) -> Vec<u8> {
     }
 }
 
+/// A trace with its last steps first and some left out, so that the same sources ask otherwise.
+fn varied(random: &mut Random, tour: &[u8]) -> Vec<u8> {
+    let pieces = pieces(tour);
+    let mut steps = pieces[1..].to_vec();
+    let middle = random.below(pieces.len() as u32) as usize;
+    steps.rotate_left(middle);
+    steps.retain(|_| !random.one_in(6));
+    [pieces[0].to_vec(), steps.concat()].concat()
+}
+
 /// The numbers of a trace, as far as they are ones.
 fn scripted(trace: &[u8]) -> Script {
     let (mut script, mut at) = (Script::default(), 0);
@@ -296,41 +287,26 @@ fn written(piece: &[u8]) -> Option<(u32, u32)> {
     Some((offset, value))
 }
 
-/// A tour less its writes that enable something.
-fn off(tour: &[u8]) -> Vec<u8> {
-    let mut pieces = pieces(tour);
-    pieces.retain(|piece| written(piece).is_none_or(|(offset, _)| offset != ENABLE));
-    pieces.concat()
-}
-
 fn mode(table: &Table, source: usize) -> u32 {
     table.rows[source].kind << 5 | table.rows[source].priority
 }
 
-/// Start-up code of a table, which writes modes and forcing in any order and enables some sources last, and behind it the
-/// steps of a tour. Each of these by which the table would not be kept is left out; of its modes some are the table's.
+/// Start-up code of a table, which writes forcing and modes and enables some sources last, and behind it the steps of a
+/// tour. Each of these by which the table would not be kept is left out; of its modes some are the table's, and some are
+/// not written.
 fn keeping(random: &mut Random, table: &Table, tour: &[u8]) -> Vec<u8> {
     let tour = pieces(tour);
     let mut start = Script::default();
-    start.write(SPU, 0xFF);
     start.write(FFER, table.forced);
-    let (first, turn) = (random.below(32), random.pick(&[1, 3, 31]));
-    for n in 0..SOURCES as u32 {
-        let source = (first + n * turn) % 32;
-        start.write(4 * source, mode(table, source as usize));
-    }
-    start.write(
-        ENABLE,
-        random.pick(&[u32::MAX, 0xFFFF_FFFE, 0x0F0F_0F0E, 0]),
-    );
-    let mut trace = tour[0].to_vec();
-    if !random.one_in(5) {
-        trace.extend(start.bytes);
-    }
+    (0..SOURCES).for_each(|n| start.write(4 * n as u32, mode(table, n)));
+    start.write(ENABLE, random.pick(&[u32::MAX, 0x0F0F_0F0E, 0]));
+    let mut trace = [tour[0], &start.bytes].concat();
     for piece in &tour[1..] {
         let length = trace.len();
-        match written(piece) {
-            Some((offset @ ..0x80, _)) if offset % 4 == 0 && random.below(4) > 0 => {
+        let mode_of = written(piece).filter(|(offset, _)| offset % 4 == 0 && *offset < 0x80);
+        match (mode_of, random.below(4)) {
+            (Some(_), 0 | 1) => continue,
+            (Some((offset, _)), 2) => {
                 let mut own = Script::default();
                 own.write(offset, mode(table, offset as usize / 4));
                 trace.extend(own.bytes);
@@ -344,7 +320,7 @@ fn keeping(random: &mut Random, table: &Table, tour: &[u8]) -> Vec<u8> {
     if random.one_in(3) {
         let mut end = Script::default();
         (0..8).for_each(|_| end.write(EOICR, 0));
-        end.read(IVR);
+        end.write(DISABLE, random.word());
         trace.extend(end.bytes);
     }
     trace
@@ -355,24 +331,17 @@ fn broken(random: &mut Random, table: &Table, trace: &[u8]) -> Vec<u8> {
     let pieces = pieces(trace);
     let place = random.within(1, pieces.len() as u32) as usize;
     let before = pieces[..place].concat();
-    let enabled = aic_of(&before).map_or(0, |aic| {
-        (0..SOURCES).fold(0, |word, n| word | u32::from(aic.sources()[n].enabled) << n)
-    });
-    let choice: Vec<usize> = (0..SOURCES).filter(|n| enabled >> n & 1 == 1).collect();
+    let enabled = |aic: Aic| (0..SOURCES).filter(|&n| aic.sources()[n].enabled).collect();
+    let enabled: Vec<usize> = aic_of(&before).map_or(vec![], enabled);
     let mut slip = Script::default();
-    match choice.as_slice() {
+    match enabled.as_slice() {
         [] => slip.write(ENABLE, u32::MAX),
         some => {
             let source = random.pick(some);
-            match random.below(5) {
-                0 | 1 => slip.write(
-                    4 * source as u32,
-                    mode(table, source) ^ (1 + random.below(7)),
-                ),
-                2 | 3 => slip.write(
-                    4 * source as u32,
-                    mode(table, source) ^ (0x20 << random.below(2)),
-                ),
+            let (at, mode) = (4 * source as u32, mode(table, source));
+            match random.below(3) {
+                0 => slip.write(at, mode ^ (1 + random.below(7))),
+                1 => slip.write(at, mode ^ (0x20 << random.below(2))),
                 _ if table.forced >> source & 1 == 1 => slip.write(FFDR, 1 << source),
                 _ => slip.write(FFER, 1 << source),
             }
@@ -380,39 +349,3 @@ fn broken(random: &mut Random, table: &Table, trace: &[u8]) -> Vec<u8> {
     }
     [before, slip.bytes, pieces[place..].concat()].concat()
 }
-
-/// Folders to look at, each by its name, for a typed table that some of their traces keep.
-pub fn samples(text: &[u8], table: &Table) -> Vec<(&'static str, Folder)> {
-    let random = &mut Random::new(45);
-    let plain =
-        |_: &mut Random, n: u32| format!("board-{:02}-run-{n:04}.trace", n % 12).into_bytes();
-    let mut folder = |count: u32, name: fn(&mut Random, u32) -> Vec<u8>, trace: Make| {
-        let one = |n| {
-            let tour = waits::tour(random, 20 + n % 90).bytes;
-            (name(random, n), trace(random, table, tour))
-        };
-        Folder {
-            table: text.to_vec(),
-            traces: (0..count).map(one).collect(),
-            line_end: b"\n",
-        }
-    };
-    let kept: Make = |random, table, tour| Some(keeping(random, table, &tour));
-    let broken: Make = |random, table, tour| {
-        let kept = keeping(random, table, &tour);
-        Some(broken(random, table, &kept))
-    };
-    let mut samples = vec![
-        ("one", folder(1, plain, kept)),
-        ("ten", folder(10, plain, trace)),
-        ("many", folder(3_000, plain, trace)),
-        ("names", folder(12, file_name, trace)),
-        ("left-out", folder(6, plain, broken)),
-        ("unused", folder(2, plain, |_, _, tour| Some(off(&tour)))),
-    ];
-    samples[5].1.table = typed(random, &Table::default(), &Names::default());
-    samples
-}
-
-/// How a trace for a table is made of a tour.
-type Make = fn(&mut Random, &Table, Vec<u8>) -> Option<Vec<u8>>;

@@ -1,7 +1,7 @@
 //! What a sheet takes from one trace.
 
 use crate::bounds::kept::Unkept;
-use crate::bounds::waits::{Summary, Terms};
+use crate::bounds::waits::Summary;
 use crate::bounds::Records;
 use crate::model::aic::{Register, SOURCES};
 use crate::report::{ending, Ending, Figures};
@@ -26,60 +26,26 @@ pub struct Noted {
     pub used: u32,
     /// Where the table is not kept first.
     pub strays: Option<Unkept>,
-    pub waits: [Waits; SOURCES],
-}
-
-/// What is said of the waits of a source.
-#[derive(Clone, Copy, Debug, Default, PartialEq, Eq)]
-pub struct Waits {
-    pub begun: u32,
-    pub unended: u32,
-    pub unbounded: u32,
-    /// The step by which the first of these lost its bound; 0 where none did.
-    pub first: u32,
-    /// Of the largest bound, those of the first wait that has it.
-    pub terms: Terms,
-}
-
-impl From<Summary> for Waits {
-    fn from(of: Summary) -> Waits {
-        Waits {
-            begun: of.waits,
-            unended: of.unended,
-            unbounded: of.unbounded,
-            first: of.first_unbounded.unwrap_or(0),
-            terms: of.most.unwrap_or_default(),
-        }
-    }
+    pub waits: [Summary; SOURCES],
 }
 
 impl Noted {
     /// What is noted of a trace for a table, played as the program plays it.
     pub fn of(trace: &[u8], table: &Table) -> Noted {
         let mut records = Records::default();
-        let report = play(trace, PROGRAM_LIMIT, &mut records);
-        Noted::from_records(&records, ending(&report), table)
-    }
-
-    pub fn from_records(records: &Records, ending: Ending, table: &Table) -> Noted {
+        let ending = ending(&play(trace, PROGRAM_LIMIT, &mut records));
         let moments = &records.history.moments;
-        let count = |holds: &dyn Fn(usize) -> bool| {
-            let steps = (1..moments.len()).filter(|&at| holds(at));
-            steps.count() as u32
-        };
+        let steps = 1..moments.len();
         Noted {
             figures: records.history.figures(),
-            marks: count(&|at| records.opens_mark(at)),
-            idle: count(&|at| records.ends_nothing(at)),
+            marks: steps.clone().filter(|&at| records.opens_mark(at)).count() as u32,
+            idle: steps.filter(|&at| records.ends_nothing(at)).count() as u32,
             left: moments.last().map_or(0, |last| last.entries().len() as u32),
             ending,
             aic: !moments.is_empty(),
             used: moments.iter().fold(0, |used, moment| used | moment.enabled),
             strays: records.unkept(table),
-            waits: std::array::from_fn(|source| match moments.is_empty() {
-                true => Waits::default(),
-                false => records.summary(source).into(),
-            }),
+            waits: std::array::from_fn(|source| records.summary(source)),
         }
     }
 }

@@ -3,11 +3,13 @@
 use std::cmp::Reverse;
 
 use super::names::Names;
-use super::noted::{Noted, Waits};
+use super::noted::Noted;
 use super::sums::{LeftOut, Sheet};
 use crate::bounds::kept::Unkept;
+use crate::bounds::waits::Summary;
 use crate::model::aic::SOURCES;
-use crate::stack::{Table, LEVELS};
+use crate::report::Counts;
+use crate::stack::{Row, Table};
 
 /// All that stands before the first trace.
 pub const HEAD: &str = r#"<!DOCTYPE html>
@@ -62,41 +64,32 @@ const MEANING: &str = r#"<section id="meaning">
 </section>
 "#;
 
-/// A cell that holds a figure, of a source or a level if one is said.
-fn cell(figure: &str, of: &str, text: &str) -> String {
-    format!("<td data-figure=\"{figure}\"{of}>{text}</td>")
-}
-
 /// The row of the nth name.
 pub fn row(n: u32, name: &[u8], row: &Result<Noted, LeftOut>) -> String {
     let cells = match row {
-        Ok(noted) => [
-            ("trace-steps", format!("{} steps", noted.figures.steps)),
-            (
-                "trace-steps-refused",
-                format!("{} steps", noted.figures.refused),
-            ),
-            ("trace-marks", format!("{} marks", noted.marks)),
-            ("trace-idle-ends", format!("{} ends", noted.idle)),
-            ("trace-entries-left-open", format!("{} entries", noted.left)),
-            ("trace-ending", ending(noted)),
-        ]
-        .map(|(figure, text)| cell(figure, "", &text))
-        .concat(),
-        Err(why) => {
-            let why = match why {
-                LeftOut::Full => "16: a sum of the page would pass 4294967295".to_owned(),
-                LeftOut::Unopened => "17: it could not be opened or read".to_owned(),
-                LeftOut::Unkept(Unkept { step, source }) => {
-                    format!(
-                        "18: after step {step} source {source} is enabled and not as in the table"
-                    )
-                }
-            };
-            format!("<td colspan=\"6\" data-figure=\"trace-left-out\">left out by {why}</td>")
+        Ok(noted) => {
+            let (steps, refused) = (noted.figures.steps, noted.figures.refused);
+            let Noted {
+                marks, idle, left, ..
+            } = noted;
+            format!("<td data-figure=\"trace-steps\">{steps} steps</td><td data-figure=\"trace-steps-refused\">{refused} steps</td><td data-figure=\"trace-marks\">{marks} marks</td><td data-figure=\"trace-idle-ends\">{idle} ends</td><td data-figure=\"trace-entries-left-open\">{left} entries</td><td data-figure=\"trace-ending\">{}</td>", ending(noted))
         }
+        Err(why) => format!(
+            "<td colspan=\"6\" data-figure=\"trace-left-out\">left out by {}</td>",
+            left_out(why)
+        ),
     };
     format!("<tr><th>{n}</th><td>{}</td>{cells}</tr>\n", escaped(name))
+}
+
+fn left_out(why: &LeftOut) -> String {
+    match why {
+        LeftOut::Full => "16: a sum of the page would pass 4294967295".to_owned(),
+        LeftOut::Unopened => "17: it could not be opened or read".to_owned(),
+        LeftOut::Unkept(Unkept { step, source }) => {
+            format!("18: after step {step} source {source} is enabled and not as in the table")
+        }
+    }
 }
 
 fn ending(noted: &Noted) -> String {
@@ -163,11 +156,12 @@ pub fn end(table: &Table, names: &Names, sheet: &Sheet) -> String {
         .map(|(place, &n)| source(table, names, sheet, n, place))
         .collect();
     let waits: String = shown.iter().map(|&n| waits(sheet, n)).collect();
+    let (totals, stack, hidden) = (totals(sheet), stack(table, names), SOURCES - shown.len());
     format!(
         r#"</tbody>
 </table>
 </section>
-{}{}<section id="sources">
+{totals}{stack}<section id="sources">
 <h2>Sources</h2>
 <table>
 <thead>
@@ -183,89 +177,73 @@ pub fn end(table: &Table, names: &Names, sheet: &Sheet) -> String {
 <tbody>
 {waits}</tbody>
 </table>
-<p><span data-figure="sources-left-out">{} sources</span> are left out: enabled in no trace, and 0 0 0 in the table.</p>
+<p><span data-figure="sources-left-out">{hidden} sources</span> are left out: enabled in no trace, and 0 0 0 in the table.</p>
 </section>
 {MEANING}</body>
 </html>
-"#,
-        totals(sheet),
-        stack(table, names),
-        SOURCES - shown.len()
+"#
     )
 }
 
 /// The figures over all traces.
 fn totals(sheet: &Sheet) -> String {
-    let out = [sheet.full, sheet.unopened, sheet.unkept].map(u64::from);
-    let [full, unopened, unkept] = out.map(|count| ("data-refusal", count, "traces"));
-    let figure = |count: u32, unit| ("data-figure", u64::from(count), unit);
-    let all = ("data-figure", out.iter().sum(), "traces");
-    let rows = [
-        ("traces named", "traces", figure(sheet.named, "traces")),
-        ("traces left out", "traces-left-out", all),
-        ("left out by 16: a sum would be too large", "16", full),
-        ("left out by 17: not to be opened or read", "17", unopened),
-        ("left out by 18: the table is not kept", "18", unkept),
-        ("steps played", "steps", figure(sheet.steps, "steps")),
-        (
-            "steps refused",
-            "steps-refused",
-            figure(sheet.refused, "steps"),
-        ),
-        (
-            "spurious marks opened",
-            "marks",
-            figure(sheet.marks, "marks"),
-        ),
-        (
-            "ends of interrupt that found no entry open",
-            "idle-ends",
-            figure(sheet.idle, "ends"),
-        ),
-        (
-            "entries left open at the end of a trace",
-            "entries-left-open",
-            figure(sheet.left, "entries"),
-        ),
-    ];
-    let row = |(what, named, (by, count, unit))| {
-        format!("<tr><th>{what}</th><td {by}=\"{named}\">{count} {unit}</td></tr>\n")
-    };
-    let rows: String = rows.map(row).concat();
-    format!("<header>\n<h1>Tuning sheet</h1>\n<table>\n{rows}</table>\n</header>\n")
+    let [full, unopened, unkept] = [sheet.full, sheet.unopened, sheet.unkept].map(u64::from);
+    let out = full + unopened + unkept;
+    let Sheet {
+        named,
+        steps,
+        refused,
+        marks,
+        idle,
+        left,
+        ..
+    } = sheet;
+    format!(
+        r#"<header>
+<h1>Tuning sheet</h1>
+<table>
+<tr><th>traces named</th><td data-figure="traces">{named} traces</td></tr>
+<tr><th>traces left out</th><td data-figure="traces-left-out">{out} traces</td></tr>
+<tr><th>left out by 16: a sum would be too large</th><td data-refusal="16">{full} traces</td></tr>
+<tr><th>left out by 17: not to be opened or read</th><td data-refusal="17">{unopened} traces</td></tr>
+<tr><th>left out by 18: the table is not kept</th><td data-refusal="18">{unkept} traces</td></tr>
+<tr><th>steps played</th><td data-figure="steps">{steps} steps</td></tr>
+<tr><th>steps refused</th><td data-figure="steps-refused">{refused} steps</td></tr>
+<tr><th>spurious marks opened</th><td data-figure="marks">{marks} marks</td></tr>
+<tr><th>ends of interrupt that found no entry open</th><td data-figure="idle-ends">{idle} ends</td></tr>
+<tr><th>entries left open at the end of a trace</th><td data-figure="entries-left-open">{left} entries</td></tr>
+</table>
+</header>
+"#
+    )
 }
 
 /// The stack's figure, a bar for each level, and whose frame each is.
 fn stack(table: &Table, names: &Names) -> String {
-    let levels = || (0..LEVELS).rev().map(|l| (l, level(table, l)));
-    let longest = levels()
-        .map(|(_, (bytes, _))| bytes)
+    let levels: [(u32, Option<usize>); 8] = std::array::from_fn(|l| level(table, l as u32));
+    let longest = levels
+        .iter()
+        .map(|(bytes, _)| *bytes)
         .max()
         .unwrap_or(0)
         .max(1);
-    let bar = |(l, (bytes, _)): (u32, (u32, _))| {
+    let all: u32 = levels.iter().map(|(bytes, _)| bytes).sum();
+    let (mut bars, mut rows) = (String::new(), String::new());
+    for (l, (bytes, whose)) in levels.iter().enumerate().rev() {
         let (top, width) = (8 + (7 - l) * 24, bytes * 440 / longest);
         let (text, behind) = (top + 12, width + 72);
-        format!("<text x=\"8\" y=\"{text}\">level {l}</text><rect x=\"64\" y=\"{top}\" width=\"{width}\" height=\"16\" fill=\"none\" stroke=\"black\"/><text x=\"{behind}\" y=\"{text}\">{bytes} bytes</text>\n")
-    };
-    let row = |(l, (bytes, whose)): (u32, (u32, Option<usize>))| {
         let whose = match whose {
             None => "the mark".to_owned(),
-            Some(n) if names[n].is_empty() => format!("source {n}"),
-            Some(n) => format!("source {n}, {}", names[n]),
+            Some(n) if names[*n].is_empty() => format!("source {n}"),
+            Some(n) => format!("source {n}, {}", names[*n]),
         };
-        let of = format!(" data-level=\"{l}\"");
-        let bytes = cell("level-bytes", &of, &format!("{bytes} bytes"));
-        let whose = cell("level-source", &of, &whose);
-        format!("<tr><th>level {l}</th>{bytes}{whose}</tr>\n")
-    };
-    let bytes: u32 = levels().map(|(_, (bytes, _))| bytes).sum();
-    let bars: String = levels().map(bar).collect();
-    let rows: String = levels().map(row).collect();
+        bars += &format!("<text x=\"8\" y=\"{text}\">level {l}</text><rect x=\"64\" y=\"{top}\" width=\"{width}\" height=\"16\" fill=\"none\" stroke=\"black\"/><text x=\"{behind}\" y=\"{text}\">{bytes} bytes</text>\n");
+        rows += &format!("<tr><th>level {l}</th><td data-figure=\"level-bytes\" data-level=\"{l}\">{bytes} bytes</td><td data-figure=\"level-source\" data-level=\"{l}\">{whose}</td></tr>\n");
+    }
     format!(
         r#"<section id="stack">
 <h2>Stack</h2>
-<p>Open handlers and marks take at most <b data-figure="stack-bytes">{bytes} bytes</b>, at every moment of every trace counted: a frame for each of eight levels.</p>
+<p>Open handlers and marks take at most <b data-figure="stack-bytes">{all} bytes</b>, at every moment of every trace counted: a frame for each of eight levels.</p>
 <svg xmlns="http://www.w3.org/2000/svg" viewBox="0 0 640 200" width="640" height="200" font-family="sans-serif" font-size="12">
 {bars}</svg>
 <table>
@@ -288,82 +266,57 @@ const TYPES: [&str; 4] = [
     "edge, rising",
 ];
 
-/// The largest bound of a source's waits: none of no wait, none of no wait that has one.
-fn at_most(waits: &Waits) -> Result<u32, &'static str> {
-    match waits.begun {
-        0 => Err("-"),
-        begun if begun == waits.unbounded => Err("none"),
-        _ => Ok(waits.terms.sum()),
-    }
-}
-
 /// The row of a source; where it is normal, as many are ahead of it as its place on the page says.
 fn source(table: &Table, names: &Names, sheet: &Sheet, n: usize, place: usize) -> String {
-    let (row, waits, counts) = (table.rows[n], &sheet.waits[n], sheet.totals.sources[n]);
-    let name = match names[n].as_str() {
-        "" => "-",
-        name => name,
+    let Row {
+        priority,
+        kind,
+        frame,
+    } = table.rows[n];
+    let Counts {
+        started,
+        waited,
+        entries,
+    } = sheet.totals.sources[n];
+    let Summary {
+        waits, unbounded, ..
+    } = sheet.waits[n];
+    let (name, kind) = (Some(names[n].as_str()), TYPES[kind as usize]);
+    let name = name.filter(|name| !name.is_empty()).unwrap_or("-");
+    let ahead = table.is_normal(n).then(|| format!("{place} sources"));
+    let ahead = ahead.unwrap_or("-".to_owned());
+    let most = match sheet.waits[n].most {
+        Some(terms) => format!("{} handlers", terms.sum()),
+        None => if waits == 0 { "-" } else { "none" }.to_owned(),
     };
-    let handlers = |count| format!("{count} handlers");
-    let ahead = match table.is_normal(n) {
-        true => format!("{place} sources"),
-        false => "-".to_owned(),
-    };
-    let most = at_most(waits).map_or_else(str::to_owned, handlers);
-    let unbounded = match waits.unbounded {
-        0 => String::new(),
-        some => format!(", {some} without a bound"),
-    };
-    let cell = |figure, text: String| cell(figure, &format!(" data-source=\"{n}\""), &text);
-    [
-        format!("<tr><th>source {n}</th><td>{name}</td>"),
-        cell("priority", format!("level {}", row.priority)),
-        format!("<td>{}</td>", TYPES[row.kind as usize]),
-        cell("frame-bytes", format!("{} bytes", row.frame)),
-        cell("ahead-sources", ahead),
-        cell("handlers-started", handlers(counts.started)),
-        cell("most-started-while-waiting", handlers(counts.waited)),
-        cell("most-startable-while-waiting", most),
-        format!(
-            "<td><span data-figure=\"waits\" data-source=\"{n}\">{} waits</span>{unbounded}</td>",
-            waits.begun
-        ),
-        cell("most-entries-open", format!("{} entries", counts.entries)),
-        "</tr>\n".to_owned(),
-    ]
-    .concat()
+    let lost = (unbounded > 0).then(|| format!(", {unbounded} without a bound"));
+    let (lost, of) = (lost.unwrap_or_default(), format!("data-source=\"{n}\""));
+    format!(
+        r#"<tr><th>source {n}</th><td>{name}</td><td data-figure="priority" {of}>level {priority}</td><td>{kind}</td><td data-figure="frame-bytes" {of}>{frame} bytes</td><td data-figure="ahead-sources" {of}>{ahead}</td><td data-figure="handlers-started" {of}>{started} handlers</td><td data-figure="most-started-while-waiting" {of}>{waited} handlers</td><td data-figure="most-startable-while-waiting" {of}>{most}</td><td><span data-figure="waits" {of}>{waits} waits</span>{lost}</td><td data-figure="most-entries-open" {of}>{entries} entries</td></tr>
+"#
+    )
 }
 
 /// The row of a source's waits.
 fn waits(sheet: &Sheet, n: usize) -> String {
-    let waits = &sheet.waits[n];
-    let cell = |figure: &str, text: &str| cell(figure, &format!(" data-source=\"{n}\""), text);
-    let first = match waits.unbounded {
-        0 => "-".to_owned(),
-        _ => format!("step {} of trace {}", waits.first, sheet.trace[n]),
+    let Summary {
+        unended,
+        unbounded,
+        first_unbounded,
+        most,
+        ..
+    } = sheet.waits[n];
+    let first = match first_unbounded {
+        None => "-".to_owned(),
+        Some(step) => format!("step {step} of trace {}", sheet.trace[n]),
     };
-    let terms = [
-        "bound-pending",
-        "bound-edges",
-        "bound-commands",
-        "bound-turns",
-        "bound-closed-active",
-        "bound-remembered",
-    ];
-    let terms = terms
-        .iter()
-        .zip(waits.terms.each())
-        .map(|(figure, term)| match at_most(waits) {
-            Ok(_) => cell(figure, &format!("{term} handlers")),
-            Err(_) => cell(figure, "-"),
-        });
-    [
-        format!("<tr><th>source {n}</th>"),
-        cell("waits-unended", &format!("{} waits", waits.unended)),
-        cell("waits-unbounded", &format!("{} waits", waits.unbounded)),
-        cell("first-unbounded", &first),
-        terms.collect(),
-        "</tr>\n".to_owned(),
-    ]
-    .concat()
+    let [pending, edges, commands, turns, closed, remembered] = match most {
+        None => [(); 6].map(|()| "-".to_owned()),
+        Some(terms) => terms.each().map(|term| format!("{term} handlers")),
+    };
+    let of = format!("data-source=\"{n}\"");
+    format!(
+        r#"<tr><th>source {n}</th><td data-figure="waits-unended" {of}>{unended} waits</td><td data-figure="waits-unbounded" {of}>{unbounded} waits</td><td data-figure="first-unbounded" {of}>{first}</td><td data-figure="bound-pending" {of}>{pending}</td><td data-figure="bound-edges" {of}>{edges}</td><td data-figure="bound-commands" {of}>{commands}</td><td data-figure="bound-turns" {of}>{turns}</td><td data-figure="bound-closed-active" {of}>{closed}</td><td data-figure="bound-remembered" {of}>{remembered}</td></tr>
+"#
+    )
 }

@@ -1,7 +1,8 @@
 //! What a sheet keeps of all traces: sums, largest numbers, and how many are left out.
 
-use super::noted::{Noted, Waits};
+use super::noted::Noted;
 use crate::bounds::kept::Unkept;
+use crate::bounds::waits::Summary;
 use crate::model::aic::SOURCES;
 use crate::report::totals::Totals;
 
@@ -30,7 +31,7 @@ pub struct Sheet {
     pub left: u32,
     pub used: u32,
     pub totals: Totals,
-    pub waits: [Waits; SOURCES],
+    pub waits: [Summary; SOURCES],
     /// For each source the number of the name whose trace has the first wait that lost its bound.
     pub trace: [u32; SOURCES],
 }
@@ -70,24 +71,20 @@ impl Sheet {
             (&mut next.idle, noted.idle),
             (&mut next.left, noted.left),
         ];
-        let of_sources = next.waits.iter_mut().zip(&noted.waits);
-        let of_sources = of_sources.flat_map(|(sums, more)| {
-            [
-                (&mut sums.begun, more.begun),
-                (&mut sums.unended, more.unended),
-                (&mut sums.unbounded, more.unbounded),
-            ]
-        });
-        for (sum, more) in of_trace.into_iter().chain(of_sources) {
+        for (sum, more) in of_trace {
             *sum = sum.checked_add(more)?;
         }
         for (source, more) in noted.waits.iter().enumerate() {
             let all = &mut next.waits[source];
-            if more.terms.sum() > all.terms.sum() {
-                all.terms = more.terms;
+            all.waits = all.waits.checked_add(more.waits)?;
+            all.unended = all.unended.checked_add(more.unended)?;
+            all.unbounded = all.unbounded.checked_add(more.unbounded)?;
+            if more.most.map(|terms| terms.sum()) > all.most.map(|terms| terms.sum()) {
+                all.most = more.most;
             }
-            if all.first == 0 && more.first != 0 {
-                (all.first, next.trace[source]) = (more.first, self.named);
+            if all.first_unbounded.is_none() && more.first_unbounded.is_some() {
+                all.first_unbounded = more.first_unbounded;
+                next.trace[source] = self.named;
             }
         }
         Some(next)
