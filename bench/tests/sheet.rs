@@ -225,7 +225,7 @@ fn each(
 }
 
 #[rustfmt::skip]
-const WRONG: [(&str, Wrong); 16] = [
+const WRONG: [(&str, Wrong); 15] = [
     ("a trace left out makes sources used", |folder, pages| each(folder, pages, |_, table, sheet, trace| sheet.used |= Noted::of(trace, table).used)),
     ("18 tells the highest source", |folder, pages| each(folder, pages, |row, table, _, trace| if let Err(LeftOut::Unkept(at)) = row {
         let aic = &Records::of(trace, PROGRAM_LIMIT).aics[at.step as usize];
@@ -252,7 +252,6 @@ const WRONG: [(&str, Wrong); 16] = [
     ("a mark stands only where no source does", |_, pages| pages.table.mark = 0),
     ("a source that no trace enables is not shown", |_, pages| (0..SOURCES).filter(|n| pages.sheet.used >> n & 1 == 0).for_each(|n| pages.table.rows[n] = Default::default())),
     ("a source that is 0 0 0 is not shown", |_, pages| (0..SOURCES).filter(|&n| pages.table.rows[n] == Default::default()).for_each(|n| pages.sheet.used &= !(1 << n))),
-    ("a name is shown with its last byte cut", |_, pages| pages.rows.iter_mut().for_each(|(name, _)| drop(name.pop()))),
 ];
 
 #[test]

@@ -1,5 +1,6 @@
 //! The model of the tuning sheet as a program, and what compares the proved programs with it on generated folders.
 
+use std::error::Error;
 use std::fs;
 use std::io::{self, BufReader, Write};
 use std::path::Path;
@@ -25,35 +26,37 @@ sheets --compare FOLDER COUNT PATH WORD..  compares COUNT pages of the program a
 sheets --tables COUNT PATH WORD..          the same with the typed tables of COUNT traces
 ";
 
+type Outcome = Result<bool, Box<dyn Error>>;
+
 fn main() -> ExitCode {
     let words: Vec<String> = std::env::args().skip(1).collect();
     let words: Vec<&str> = words.iter().map(String::as_str).collect();
-    let count = |word: &str| word.parse().map_err(|_| format!("{word} is no number"));
-    let done = match words[..] {
-        ["--table"] => print_table().map_err(|error| error.to_string()),
-        ["--sample", folder, many, table] => count(many).and_then(|many| {
-            make_sample(Path::new(folder), many, table).map_err(|error| error.to_string())
-        }),
-        ["--compare", folder, many, path, ref more @ ..] => {
-            count(many).and_then(|many| compare(Path::new(folder), many, &Program::new(path, more)))
-        }
-        ["--tables", many, path, ref more @ ..] => {
-            count(many).and_then(|many| tables(many, &Program::new(path, more)))
-        }
-        [table] if !table.starts_with("--") => print_page(table).map_err(|error| error.to_string()),
-        _ => Err(USAGE.to_owned()),
-    };
-    done.map_or_else(
-        |error| {
+    match asked(&words) {
+        Ok(good) => ExitCode::from(u8::from(!good)),
+        Err(error) => {
             eprintln!("sheets: {error}");
             ExitCode::from(2)
-        },
-        |good| ExitCode::from(u8::from(!good)),
-    )
+        }
+    }
+}
+
+fn asked(words: &[&str]) -> Outcome {
+    match *words {
+        ["--table"] => print_table(),
+        ["--sample", folder, count, table] => make_sample(Path::new(folder), count.parse()?, table),
+        ["--compare", folder, count, path, ref more @ ..] => {
+            compare(Path::new(folder), count.parse()?, &Program::new(path, more))
+        }
+        ["--tables", count, path, ref more @ ..] => {
+            tables(count.parse()?, &Program::new(path, more))
+        }
+        [table] if !table.starts_with("--") => print_page(table),
+        _ => Err(USAGE.into()),
+    }
 }
 
 /// Prints the page, or says that there is none; as the proved program, which has no status to set.
-fn print_page(table: &str) -> io::Result<bool> {
+fn print_page(table: &str) -> Outcome {
     match sheet_of_files(&fs::read(table)?, BufReader::new(io::stdin().lock())) {
         Ok(pages) => io::stdout().write_all(pages.text().as_bytes())?,
         Err(fault) => eprintln!("sheets: refusal {}", fault.refusal().number()),
@@ -61,7 +64,7 @@ fn print_page(table: &str) -> io::Result<bool> {
     Ok(true)
 }
 
-fn print_table() -> io::Result<bool> {
+fn print_table() -> Outcome {
     let mut trace = Vec::new();
     io::Read::read_to_end(&mut io::stdin(), &mut trace)?;
     match table(&trace) {
@@ -72,24 +75,23 @@ fn print_table() -> io::Result<bool> {
 }
 
 /// Makes a folder of traces, and `names` in it.
-fn make_sample(folder: &Path, count: u32, table: &str) -> io::Result<bool> {
+fn make_sample(folder: &Path, count: u32, table: &str) -> Outcome {
     let text = fs::read(table)?;
-    let Ok((table, _)) = named_table(&text) else {
-        return Ok(false);
-    };
+    let (table, _) = named_table(&text).map_err(|_| "the table is refused")?;
     let names = sample(&text, &table, count).write(folder)?;
-    fs::write(folder.join("names"), names).map(|()| true)
+    fs::write(folder.join("names"), names)?;
+    Ok(true)
 }
 
 /// Compares so many pages; whether none differs and every item is reached.
-fn compare(folder: &Path, count: u32, program: &Program) -> Result<bool, String> {
+fn compare(folder: &Path, count: u32, program: &Program) -> Outcome {
     let generator = Generator::new(1);
     let mut reached = [0_u32; ITEMS.len()];
     let (mut wrong, mut traces, mut found, mut refused) = (0, 0, 0, 0);
     for number in 0..count as usize {
         let here = folder.join(number.to_string());
         let case = generator.case(number);
-        let list = case.write(&here).map_err(|error| error.to_string())?;
+        let list = case.write(&here)?;
         let pages = sheet_of_files(&case.table, list.as_slice()).ok();
         match &pages {
             Some(pages) => {
@@ -156,7 +158,7 @@ fn judged(
 }
 
 /// Compares so many typed tables of traces, or the lines that say why there is none; whether none differs.
-fn tables(count: u32, program: &Program) -> Result<bool, String> {
+fn tables(count: u32, program: &Program) -> Outcome {
     let traces = bench::report::generate::Generator::new(3);
     let (mut printed, mut wrong) = (0, 0);
     for number in traces.sweeps()..traces.sweeps() + count as usize {

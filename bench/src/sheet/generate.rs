@@ -195,59 +195,36 @@ fn file_name(random: &mut Random, number: u32) -> Vec<u8> {
     number.into_iter().chain(more).collect()
 }
 
-/// What a trace in a folder is like.
-#[derive(Clone, Copy)]
-enum Style {
-    Kept,
-    Broken,
-    Any,
-    Off,
-    Other,
-    Damaged,
-    Noise,
-    Missing,
-}
-
-const STYLES: [(u32, Style); 8] = [
-    (12, Style::Kept),
-    (4, Style::Broken),
-    (2, Style::Any),
-    (1, Style::Off),
-    (3, Style::Other),
-    (2, Style::Damaged),
-    (1, Style::Noise),
-    (2, Style::Missing),
-];
-
-/// A trace of any style, or none; those of an AIC are made of a tour or of another.
+/// A trace, or none. Most are of an AIC, made of a tour or of another: they keep the table, break it in one step, or are
+/// what they are; the rest enable nothing, are of another kind, damaged, noise, or missing.
 fn trace(random: &mut Random, table: &Table, tour: &[u8]) -> Option<Vec<u8>> {
     let tour = match random.one_in(3) {
         true => any_tour(random),
         false => varied(random, tour),
     };
-    let style = random.weighted(&STYLES);
+    let style = random.below(27);
     let trace = match style {
-        Style::Missing => return None,
-        Style::Noise => return Some(noise(random)),
-        Style::Other => {
+        0 | 1 => return None,
+        2 => return Some(noise(random)),
+        3..=5 => {
             let kind = random.pick(&Kind::ALL[1..]);
             return Some(tour_of(random, kind, 30).bytes);
         }
-        Style::Any => tour,
-        Style::Off => {
+        6 | 7 => tour,
+        8 => {
             let mut pieces = pieces(&tour);
             pieces.retain(|piece| written(piece).is_none_or(|(offset, _)| offset != ENABLE));
             pieces.concat()
         }
-        Style::Kept | Style::Damaged => keeping(random, table, &tour),
-        Style::Broken => {
+        9..=12 => {
             let kept = keeping(random, table, &tour);
             broken(random, table, &kept)
         }
+        _ => keeping(random, table, &tour),
     };
     let script = in_any_form(random, scripted(&trace));
     Some(match style {
-        Style::Damaged => damaged(random, script),
+        13 | 14 => damaged(random, script),
         _ => script.bytes,
     })
 }

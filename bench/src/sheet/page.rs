@@ -6,10 +6,8 @@ use super::names::Names;
 use super::noted::Noted;
 use super::sums::{LeftOut, Sheet};
 use crate::bounds::kept::Unkept;
-use crate::bounds::waits::Summary;
 use crate::model::aic::SOURCES;
-use crate::report::Counts;
-use crate::stack::{Row, Table};
+use crate::stack::Table;
 
 /// All that stands before the first trace.
 pub const HEAD: &str = r#"<!DOCTYPE html>
@@ -189,15 +187,8 @@ pub fn end(table: &Table, names: &Names, sheet: &Sheet) -> String {
 fn totals(sheet: &Sheet) -> String {
     let [full, unopened, unkept] = [sheet.full, sheet.unopened, sheet.unkept].map(u64::from);
     let out = full + unopened + unkept;
-    let Sheet {
-        named,
-        steps,
-        refused,
-        marks,
-        idle,
-        left,
-        ..
-    } = sheet;
+    let (named, steps, refused) = (sheet.named, sheet.steps, sheet.refused);
+    let (marks, idle, left) = (sheet.marks, sheet.idle, sheet.left);
     format!(
         r#"<header>
 <h1>Tuning sheet</h1>
@@ -221,12 +212,7 @@ fn totals(sheet: &Sheet) -> String {
 /// The stack's figure, a bar for each level, and whose frame each is.
 fn stack(table: &Table, names: &Names) -> String {
     let levels: [(u32, Option<usize>); 8] = std::array::from_fn(|l| level(table, l as u32));
-    let longest = levels
-        .iter()
-        .map(|(bytes, _)| *bytes)
-        .max()
-        .unwrap_or(0)
-        .max(1);
+    let longest = levels.iter().fold(1, |most, (bytes, _)| most.max(*bytes));
     let all: u32 = levels.iter().map(|(bytes, _)| bytes).sum();
     let (mut bars, mut rows) = (String::new(), String::new());
     for (l, (bytes, whose)) in levels.iter().enumerate().rev() {
@@ -268,23 +254,15 @@ const TYPES: [&str; 4] = [
 
 /// The row of a source; where it is normal, as many are ahead of it as its place on the page says.
 fn source(table: &Table, names: &Names, sheet: &Sheet, n: usize, place: usize) -> String {
-    let Row {
-        priority,
-        kind,
-        frame,
-    } = table.rows[n];
-    let Counts {
-        started,
-        waited,
-        entries,
-    } = sheet.totals.sources[n];
-    let Summary {
-        waits, unbounded, ..
-    } = sheet.waits[n];
-    let (name, kind) = (Some(names[n].as_str()), TYPES[kind as usize]);
-    let name = name.filter(|name| !name.is_empty()).unwrap_or("-");
-    let ahead = table.is_normal(n).then(|| format!("{place} sources"));
-    let ahead = ahead.unwrap_or("-".to_owned());
+    let (row, of_it) = (table.rows[n], sheet.totals.sources[n]);
+    let (priority, kind, frame) = (row.priority, TYPES[row.kind as usize], row.frame);
+    let (started, waited, entries) = (of_it.started, of_it.waited, of_it.entries);
+    let (waits, unbounded) = (sheet.waits[n].waits, sheet.waits[n].unbounded);
+    let name = if names[n].is_empty() { "-" } else { &names[n] };
+    let ahead = match table.is_normal(n) {
+        true => format!("{place} sources"),
+        false => "-".to_owned(),
+    };
     let most = match sheet.waits[n].most {
         Some(terms) => format!("{} handlers", terms.sum()),
         None => if waits == 0 { "-" } else { "none" }.to_owned(),
@@ -299,18 +277,13 @@ fn source(table: &Table, names: &Names, sheet: &Sheet, n: usize, place: usize) -
 
 /// The row of a source's waits.
 fn waits(sheet: &Sheet, n: usize) -> String {
-    let Summary {
-        unended,
-        unbounded,
-        first_unbounded,
-        most,
-        ..
-    } = sheet.waits[n];
-    let first = match first_unbounded {
+    let waits = sheet.waits[n];
+    let (unended, unbounded) = (waits.unended, waits.unbounded);
+    let first = match waits.first_unbounded {
         None => "-".to_owned(),
         Some(step) => format!("step {step} of trace {}", sheet.trace[n]),
     };
-    let [pending, edges, commands, turns, closed, remembered] = match most {
+    let [pending, edges, commands, turns, closed, remembered] = match waits.most {
         None => [(); 6].map(|()| "-".to_owned()),
         Some(terms) => terms.each().map(|term| format!("{term} handlers")),
     };
