@@ -64,7 +64,8 @@ fn plain(table: Vec<u8>, traces: Vec<(Vec<u8>, Option<Vec<u8>>)>) -> Folder {
 }
 
 impl Made for Folder {
-    /// Tables that are refused, no name at all, more steps than are played, and traces that start nothing.
+    /// Tables that are refused, no name at all, more steps than are played, traces that start nothing, and
+    /// names that cannot be opened: a directory, with a byte 0, too long.
     fn sweeps() -> Vec<Folder> {
         let random = &mut Random::new(0);
         let table = any_table(random);
@@ -82,7 +83,14 @@ impl Made for Folder {
         folders.push(plain(own, vec![(b"year".to_vec(), Some(year))]));
         let bad = [vec![0; LONGEST + 1], vec![1, 9], vec![9]];
         let bad = bad.map(|trace| (vec![b'0' + trace[0]], Some(trace)));
-        folders.push(plain(text, bad.to_vec()));
+        let unreadable = [
+            vec![],
+            b"0\0".to_vec(),
+            vec![b'x'; 4_096],
+            vec![b'y'; 70_000],
+        ];
+        let unreadable = unreadable.map(|name| (name, None));
+        folders.push(plain(text, [bad.as_slice(), &unreadable].concat()));
         folders
     }
 
@@ -143,12 +151,8 @@ fn table_of(random: &mut Random, trace: &[u8]) -> Table {
         let used = row.priority + row.kind > 0 || source.enabled;
         row.frame = if few && !used { 0 } else { row.frame };
     }
-    let forced = aic
-        .sources()
-        .iter()
-        .enumerate()
-        .map(|(n, source)| u32::from(source.forced) << n);
-    table.forced = forced.sum();
+    let forced = |n: usize| u32::from(aic.sources()[n].forced) << n;
+    table.forced = (0..SOURCES).map(forced).sum();
     table
 }
 
