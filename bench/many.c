@@ -12,11 +12,12 @@
 static const struct {
     const char *name;
     uint32_t configures, numbers[5], registers, lines; /* how many numbers, and these; bytes up to behind its last register; its lines */
-} kinds[5] = {{"AIC", 2, {0x40000030, 0x11}, 0x150, 32},
-              {"CoreInterrupt", 4, {3, 9, 1, 0}, 0x034, 40},
-              {"CIC", 4, {40, 5, 3, 0x4E800200}, 0x900, 40},
-              {"AINTC", 0, {0}, 0x300, 128},
-              {"CIC with indices", 5, {40, 5, 3, 7, 1}, 0xD00, 40}};
+    uint32_t often[8];                                 /* offsets that are drawn often: what enables, sets, maps and ends */
+} kinds[5] = {{"AIC", 2, {0x40000030, 0x11}, 0x150, 32, {0x100, 0x100, 0x100, 0x120, 0x120, 0x130, 0x130, 0x130}},
+              {"CoreInterrupt", 4, {3, 9, 1, 0}, 0x034, 40, {0x000, 0x008, 0x008, 0x00C, 0x018, 0x020, 0x020, 0x024}},
+              {"CIC", 4, {40, 5, 3, 0x4E800200}, 0x900, 40, {0x010, 0x020, 0x028, 0x034, 0x400, 0x404, 0x800, 0x1500}},
+              {"AINTC", 0, {0}, 0x300, 128, {0x048, 0x048, 0x048, 0x048, 0x068, 0x068, 0x04C, 0x04C}},
+              {"CIC with indices", 5, {40, 5, 3, 7, 1}, 0xD00, 40, {0x010, 0x020, 0x028, 0x034, 0x080, 0x400, 0x800, 0x1500}}};
 
 static uint64_t drawn = 20261117;
 
@@ -38,9 +39,10 @@ static wisteria_step drawn_step(uint32_t kind)
         s.y = sort == 1 ? 2 : below(2);
         return s;
     }
-    s.x = sort == 0 ? below(0x2000) : sort == 1 ? 0x1500 + 4 * below(8) : 4 * below(kinds[kind].registers / 4);
-    sort = below(4);
-    s.y = s.kind == WISTERIA_READ ? 0 : sort == 0 ? below(4) : sort == 1 ? 1u << below(32) : sort == 2 ? below(256) : below(0xFFFFFFFF);
+    s.x = sort == 0 ? below(0x2000) : sort == 1 ? 0x1500 + 4 * below(8) : sort < 8 ? kinds[kind].often[below(8)] : 4 * below(kinds[kind].registers / 4);
+    sort = below(5);
+    if (s.kind == WISTERIA_WRITE)
+        s.y = sort == 0 ? below(4) : sort == 1 ? 1u << below(32) : sort == 2 ? below(256) : sort == 3 ? below(0xFFFFFFFF) & 0x02010102 : below(0xFFFFFFFF);
     s.privilege = kind != WISTERIA_AINTC || below(10) != 0;
     return s;
 }

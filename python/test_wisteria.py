@@ -1,6 +1,5 @@
 """Tests of wisteria.py over the proved library: python3 python/test_wisteria.py, behind ./run library. They start ./run too."""
 import copy
-import ctypes.util
 import doctest
 import os
 import pickle
@@ -18,13 +17,13 @@ from wisteria import Controller, Refused
 ROOT = Path(__file__).resolve().parent.parent
 TRACES = sorted((ROOT / "examples").glob("*.trace"))
 
-# A configuration of each kind, and an offset behind its last register.
+# A configuration of each kind, an offset behind its last register, and offsets that are drawn often: what enables, sets, maps and ends.
 KINDS = {
-    "aic": ((0x30, 0x11), 0x150),
-    "coreinterrupt": ((3, 9, 1, 0), 0x034),
-    "cic": ((40, 5, 3, 0x4E800200), 0x900),
-    "aintc": ((), 0x300),
-    "indexed": ((40, 5, 3, 7, 1), 0xD00),
+    "aic": ((0x30, 0x11), 0x150, (0x100, 0x120, 0x130)),
+    "coreinterrupt": ((3, 9, 1, 0), 0x034, (0x008, 0x020)),
+    "cic": ((40, 5, 3, 0x4E800200), 0x900, (0x010, 0x020, 0x028, 0x034, 0x400, 0x404, 0x800, 0x1500)),
+    "aintc": ((), 0x300, (0x048, 0x068)),
+    "indexed": ((40, 5, 3, 7, 1), 0xD00, (0x010, 0x020, 0x028, 0x034, 0x080, 0x400, 0x800, 0x1500)),
 }
 
 
@@ -36,15 +35,16 @@ def run(*words, told=None):
 
 def drawn(chance, kind):
     """A step by chance, as a tuple: mostly of registers and lines that there are, and now and then of anything."""
-    last = KINDS[kind][1]
+    _, last, often = KINDS[kind]
     step = chance.choice(["read", "write", "line"])
     if step == "line":
         return step, chance.randrange(130 if kind == "aintc" else 42), 2 if chance.random() < 0.03 else chance.randrange(2)
-    offset = chance.choice([4 * chance.randrange(last // 4)] * 18 + [chance.randrange(0x2000), 0x1500 + 4 * chance.randrange(8)])
+    offset = chance.choice([4 * chance.randrange(last // 4)] * 12 + [chance.choice(often)] * 6 + [chance.randrange(0x2000), 0x1500 + 4 * chance.randrange(8)])
     privilege = int(kind != "aintc" or chance.random() < 0.9)
     if step == "read":
         return step, offset, privilege
-    value = chance.choice([chance.randrange(4), 1 << chance.randrange(32), chance.randrange(256), chance.randrange(1 << 32)])
+    small = sum(chance.randrange(3) << 8 * byte for byte in range(4))
+    value = chance.choice([chance.randrange(4), 1 << chance.randrange(32), chance.randrange(256), small, chance.randrange(1 << 32)])
     return step, offset, value, privilege
 
 
@@ -103,7 +103,7 @@ class TheExample(unittest.TestCase):
 
 class Starts(unittest.TestCase):
     def test_of_every_kind(self):
-        for number, (kind, (numbers, _)) in enumerate(KINDS.items()):
+        for number, (kind, (numbers, *_)) in enumerate(KINDS.items()):
             with self.subTest(kind):
                 self.assertEqual(Controller(kind, *numbers).words, Controller(number, *numbers).words)
                 self.assertEqual(len(Controller(kind, *numbers).words), 8192)
@@ -154,10 +154,10 @@ class Refusals(unittest.TestCase):
         self.refused(6, aic, "line", 31, 2)
         self.refused(6, cic, "write", 0x020, 40)
         self.refused(6, aintc, "read", 0x010, 2)
-        self.refused(13, aintc, "read", 0x00C, 0)
+        self.refused(13, aintc, "read", 0x04C, 0)
 
     def test_words_are_those_of_the_page(self):
-        rows = re.findall(r"(?m)^\| (\d+) \| (.*?) \| (.*) \|$", (ROOT / "docs" / "REFUSALS.md").read_text())
+        rows = re.findall(r"(?m)^\| (\d+) \| (.*?) \| (.*) \|$", (ROOT / "docs" / "REFUSALS.md").read_text().split("\n## In which order")[0])
         self.assertEqual(list(wisteria._REFUSALS), [int(number) for number, _, _ in rows])
         for number, words, who in rows:
             self.assertEqual(Refused(int(number)).words, re.sub(r" \(\w+ of \[.*?\]\(.*?\)\)", "", words))
@@ -166,7 +166,7 @@ class Refusals(unittest.TestCase):
 
     def test_damaged_words_answer_12(self):
         chance = random.Random(12)
-        for kind, (numbers, _) in KINDS.items():
+        for kind, (numbers, *_) in KINDS.items():
             sound, turned, damaged = Controller(kind, *numbers).words, 0, 0
             for place in [*range(64), *(chance.randrange(8 * len(sound)) for _ in range(300))]:
                 words = bytearray(sound)
@@ -265,7 +265,7 @@ class BesideTheListing(unittest.TestCase):
         return [drawn(chance, kind) for _ in range(self.NUMBER)]
 
     def test_one_by_one(self):
-        for number, (kind, (numbers, _)) in enumerate(KINDS.items()):
+        for number, (kind, (numbers, *_)) in enumerate(KINDS.items()):
             with self.subTest(kind):
                 controller, steps, lines = Controller(kind, *numbers), self.drawn_steps(kind), []
                 for at, step in enumerate(steps, 1):
@@ -276,10 +276,10 @@ class BesideTheListing(unittest.TestCase):
                 self.assertEqual(wisteria.listing(trace).splitlines()[1:], lines)
                 self.assertGreater(sum(" X " in line for line in lines), 50)
                 self.assertLess(sum(" X " in line for line in lines), self.NUMBER * 3 // 4)
-                self.assertGreater(len({line.split(" ", 3)[3] for line in lines}), 3)
+                self.assertGreater(len({line.split(" ", 3)[3] for line in lines}), 2)
 
     def test_many_at_once(self):
-        for kind, (numbers, _) in KINDS.items():
+        for kind, (numbers, *_) in KINDS.items():
             with self.subTest(kind):
                 one, many, steps = Controller(kind, *numbers), Controller(kind, *numbers), self.drawn_steps(kind)
                 steps += [(7, 0, 0), (0, 0, 0, 1), (1, 0), (2, 0, 5), (3, 1, 1)]

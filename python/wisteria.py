@@ -199,6 +199,8 @@ class _Library:
 
     def __getattr__(self, name: str) -> Callable[..., int]:
         """A function that this library lacks, as an older one may."""
+        if name.startswith("_"):
+            raise AttributeError(name)
         raise LibraryMissing(f"{self.path} has no function wisteria_{name}; {_HOW}")
 
 
