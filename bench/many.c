@@ -1,8 +1,6 @@
-/* Many steps at once, wisteria_steps_in, by chance and of every kind of controller, beside two other ways to the same answers:
- *   many LISTED SINGLE
- * LISTED steps as they stand in traces, beside the listing of each trace, and SINGLE steps on one controller of each kind that goes on and on, in batches
- * of any number, beside one call for each step. A fifth of the steps is of each kind. After each trace and batch the outputs, and after each batch the
- * words too, are compared. Prints how many steps were the same; ends with 1 at the first that is not. */
+/* Many steps at once, wisteria_steps_in, by chance: a fifth of them of each kind of controller, as they stand in traces, beside the listing of each trace. The
+ * answer of every step, and the outputs after the last of a trace, are those of the listing. Prints how many steps, and ends with 1 at the first that differs.
+ *   many STEPS */
 #include "wisteria.h"
 
 #include <stdio.h>
@@ -52,14 +50,6 @@ static void differs(uint32_t kind, const char *what, unsigned long at)
     printf("%s: %s, step %lu of this one: another answer\n", kinds[kind].name, what, at + 1);
     exit(1);
 }
-
-static void started(wisteria_controller *c, uint32_t kind)
-{
-    if (wisteria_start(c, kind, kinds[kind].numbers) != 0)
-        differs(kind, "the start", 0);
-}
-
-/* ---- beside a listing */
 
 static uint8_t trace[WISTERIA_LONGEST];
 static size_t bytes;
@@ -112,8 +102,7 @@ static uint32_t beside_a_listing(uint32_t kind, uint32_t most)
     uint32_t n = drawn_trace(kind, steps, most), k, columns[3] = {0, 0, 0}, shown[3];
     char *at = listed;
     listed[wisteria_list(trace, bytes, WISTERIA_LIMIT, (uint8_t *)listed, sizeof listed - 1)] = '\0';
-    started(&c, kind);
-    if (wisteria_steps_in(&c, steps, n, answers) != 0)
+    if (wisteria_start(&c, kind, kinds[kind].numbers) != 0 || wisteria_steps_in(&c, steps, n, answers) != 0)
         differs(kind, "the answer to all", 0);
     at = strchr(at, '\n');
     for (k = 0; k < n; k++) {
@@ -128,60 +117,17 @@ static uint32_t beside_a_listing(uint32_t kind, uint32_t most)
     return n;
 }
 
-/* ---- beside single calls */
-
-static void single(wisteria_controller *c, wisteria_step s, wisteria_answer *a)
-{
-    a->value = 0;
-    a->refusal = s.kind == WISTERIA_READ    ? wisteria_read(c, s.x, s.privilege, &a->value)
-                 : s.kind == WISTERIA_WRITE ? wisteria_write(c, s.x, s.privilege, s.y)
-                 : s.kind == WISTERIA_LINE  ? wisteria_line(c, s.x, s.y)
-                                            : WISTERIA_UNKNOWN_KIND;
-}
-
-static void beside_single_calls(uint32_t kind, unsigned long number)
-{
-    static wisteria_step steps[3000];
-    static wisteria_answer answers[3000];
-    wisteria_controller one, many;
-    wisteria_answer a;
-    uint32_t n, k, shown[2][3];
-    started(&one, kind);
-    started(&many, kind);
-    for (; number > 0; number -= n) {
-        n = below(3000);
-        n = n < number ? n : (uint32_t)number;
-        for (k = 0; k < n; k++) {
-            steps[k] = drawn_step(kind);
-            if (below(1000) == 0)
-                steps[k].kind = below(2) ? 0 : 4 + below(0xFFFFFFF0);
-        }
-        if (wisteria_steps_in(&many, steps, n, answers) != 0)
-            differs(kind, "the answer to all", 0);
-        for (k = 0; k < n; k++) {
-            single(&one, steps[k], &a);
-            if (answers[k].refusal != a.refusal || answers[k].value != a.value)
-                differs(kind, "beside single calls", k);
-        }
-        if (memcmp(&one, &many, sizeof one) != 0 || wisteria_outputs(&one, shown[0]) != 0 || wisteria_outputs(&many, shown[1]) != 0 ||
-            memcmp(shown[0], shown[1], sizeof shown[0]) != 0)
-            differs(kind, "the controller after single calls", n);
-    }
-}
-
 int main(int argc, char **argv)
 {
-    unsigned long listed = argc == 3 ? strtoul(argv[1], NULL, 10) : 0, singly = argc == 3 ? strtoul(argv[2], NULL, 10) : 0, traces = 0, left;
+    unsigned long steps = argc == 2 ? strtoul(argv[1], NULL, 10) : 0, traces = 0, left;
     uint32_t kind;
-    if (argc != 3 || listed < 5 || singly < 5) {
-        fprintf(stderr, "usage: many LISTED SINGLE, 5 steps or more each\n");
+    if (steps < 5) {
+        fprintf(stderr, "usage: many STEPS, 5 or more\n");
         return 2;
     }
-    for (kind = 0; kind < 5; kind++) {
-        for (left = listed / 5; left > 0; traces++)
+    for (kind = 0; kind < 5; kind++)
+        for (left = steps / 5; left > 0; traces++)
             left -= beside_a_listing(kind, left < WISTERIA_LIMIT ? (uint32_t)left : WISTERIA_LIMIT);
-        beside_single_calls(kind, singly / 5);
-    }
-    printf("%lu steps at once, in %lu traces, as their listings have them; %lu as single calls answer them\n", listed / 5 * 5, traces, singly / 5 * 5);
+    printf("%lu steps, many at once, in %lu traces: each as the listing has it\n", steps / 5 * 5, traces);
     return 0;
 }

@@ -223,9 +223,9 @@ def _library() -> _Library:
 # ---- numbers, bytes and answers
 
 
-def _word(name: str, value: int) -> int:
+def _word(name: str, value: Any) -> int:
     """The number, which has to fit 32 bits: the call of a C function would cut it without a word."""
-    number = operator.index(value)
+    number: int = operator.index(value)
     if not 0 <= number < 1 << 32:
         raise ValueError(f"{name} is {number}, and a number from 0 to 4294967295 is asked for")
     return number
@@ -360,11 +360,10 @@ def _told(step: Sequence[Union[str, int]]) -> Tuple[int, int, int, int]:
         kind = _STEPS[kind]
     least = 1 if kind == 1 else 2
     if not least <= len(numbers) <= least + (kind != 3):
-        raise TypeError(f"{tuple(step)} is no step: (\"read\", offset), (\"write\", offset, value) or (\"line\", number, level), privilege behind the first two")
+        raise TypeError(f"{tuple(step)} is no step: read and an offset, write with an offset and a value, either with a privilege or without, line and level")
     first, second = numbers[0], numbers[1] if kind != 1 else 0
     privilege = numbers[least] if len(numbers) > least else 1
-    names = "kind of a step", "first number of a step", "second number of a step", "privilege"
-    return tuple(map(_word, names, (kind, first, second, privilege)))  # type: ignore[return-value,arg-type]
+    return _word("kind of a step", kind), _word("first number of a step", first), _word("second number of a step", second), _word("privilege", privilege)
 
 
 # ---- traces and tables
@@ -405,7 +404,7 @@ def figures(trace: bytes) -> List[Figures]:
     columns = [(_WORD * SOURCES)() for _ in range(3)]
     data = _bytes("a trace", trace, LONGEST)
     _library().figures(data, len(data), LIMIT, *columns)
-    return [Figures(*row) for row in zip(*columns)]
+    return list(map(Figures._make, zip(*columns)))
 
 
 def bounds(trace: bytes, source: int) -> Bounds:
@@ -416,7 +415,7 @@ def bounds(trace: bytes, source: int) -> Bounds:
     waits, terms = (_WORD * 4)(), (_WORD * 6)()
     data = _bytes("a trace", trace, LONGEST)
     largest = _library().bounds(data, len(data), LIMIT, _word("source", source), waits, terms)
-    return Bounds(*waits, largest, *terms)
+    return Bounds._make([*waits, largest, *terms])
 
 
 def stack(text: Union[str, bytes]) -> int:
