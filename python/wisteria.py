@@ -21,7 +21,6 @@ import ctypes
 import operator
 import os
 from array import array
-from itertools import chain
 from pathlib import Path
 from typing import Any, Callable, Iterable, List, NamedTuple, Optional, Sequence, Tuple, Union
 
@@ -47,7 +46,7 @@ _KINDS = {
 }
 _CONFIGURES = dict(_KINDS.values())
 
-# The kinds of step: the number of each, and what stands behind it.
+# The kinds of step, with the number of each.
 _STEPS = {"read": 1, "write": 2, "line": 3}
 
 # docs/REFUSALS.md, "in words".
@@ -309,12 +308,12 @@ class Controller:
         place of a kind is refused by 9. Raises Refused with 12 where the words are no sound controller's.
         The words are looked through once for all steps, so that this is faster than one call for each.
         """
-        told = array("I", chain.from_iterable(map(_told, steps)))
+        told = _told(steps)
         number = len(told) // 4
         answers = array("I", bytes(8 * number + 4))
         told.append(0)  # one word more than is handed over, here too: where there is no step, there is still a place
         _checked(_library().step_words(self._words, told.buffer_info()[0], 4 * number, answers.buffer_info()[0], 2 * number))
-        return list(map(Answer, answers[: 2 * number : 2], answers[1 : 2 * number : 2]))
+        return list(map(Answer._make, zip(answers[: 2 * number : 2], answers[1 : 2 * number : 2])))
 
     @property
     def outputs(self) -> Tuple[int, int, int]:
@@ -351,19 +350,30 @@ class Controller:
         return Controller.of_words, (self.words,)
 
 
-def _told(step: Sequence[Union[str, int]]) -> Tuple[int, int, int, int]:
-    """A step in four words: its kind, its two numbers, its privilege."""
-    kind, *numbers = step
-    if isinstance(kind, str):
-        if kind not in _STEPS:
-            raise ValueError(f"'{kind}' is no kind of step: {', '.join(_STEPS)}")
-        kind = _STEPS[kind]
-    least = 1 if kind == 1 else 2
-    if not least <= len(numbers) <= least + (kind != 3):
-        raise TypeError(f"{tuple(step)} is no step: read and an offset, write with an offset and a value, either with a privilege or without, line and level")
-    first, second = numbers[0], numbers[1] if kind != 1 else 0
-    privilege = numbers[least] if len(numbers) > least else 1
-    return _word("kind of a step", kind), _word("first number of a step", first), _word("second number of a step", second), _word("privilege", privilege)
+def _told(steps: Iterable[Sequence[Union[str, int]]]) -> array[int]:
+    """The steps in words, four to each: its kind, its two numbers, its privilege. An array has no word that does not fit, and says so at once."""
+    words: List[Any] = []
+    for step in steps:
+        number = len(step)
+        kind = step[0] if number else None
+        if isinstance(kind, str):
+            if kind not in _STEPS:
+                raise ValueError(f"'{kind}' is no kind of step: {', '.join(_STEPS)}")
+            kind = _STEPS[kind]
+        if kind == 1 and 2 <= number <= 3:
+            words += 1, step[1], 0, step[2] if number == 3 else 1
+        elif kind == 3 and number == 3:
+            words += 3, step[1], step[2], 1
+        elif kind not in (1, 3) and 3 <= number <= 4:
+            words += kind, step[1], step[2], step[3] if number == 4 else 1
+        else:
+            raise TypeError(f"{tuple(step)} is no step: read and an offset, write with an offset and a value, either with a privilege or without, line and level")
+    try:
+        return array("I", words)
+    except (OverflowError, TypeError):
+        for at, value in enumerate(words):
+            _word(f"a number of step {at // 4 + 1}", value)
+        raise
 
 
 # ---- traces and tables
