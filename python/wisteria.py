@@ -119,18 +119,27 @@ class TextRefused(ValueError):
 
 
 class Answer(NamedTuple):
-    """What a step of many answers."""
+    """What a step of many answers.
 
-    refusal: int  # the number of the refusal, 0 for none
-    value: int  # the value read, 0 for anything else and where it is refused
+    refusal: the number of the refusal, 0 for none
+    value:   the value read, 0 for anything else and where it is refused
+    """
+
+    refusal: int
+    value: int
 
 
 class Figures(NamedTuple):
-    """What one source of an AIC did over the steps played of a trace."""
+    """What one source of an AIC did over the steps played of a trace.
 
-    handlers_started: int  # handlers of this source
-    most_started_while_it_waited: int  # handlers of other sources, in one wait of this one
-    most_entries_open: int  # handlers and spurious marks, while a handler of this source was open, itself and those below it counted
+    handlers_started:             handlers of this source
+    most_started_while_it_waited: handlers of other sources started in one wait of this one, at most
+    most_entries_open:            entries, which are handlers and spurious marks, open at once while a handler of this source was among them
+    """
+
+    handlers_started: int
+    most_started_while_it_waited: int
+    most_entries_open: int
 
 
 class Bounds(NamedTuple):
@@ -138,19 +147,31 @@ class Bounds(NamedTuple):
 
     A bound is how many handlers of other sources could at most be started in a wait (docs/RUNS.md). It is the sum of the six terms below it, which are those
     of the first wait that has it. Rivals are the sources ahead of the waiting one that are not fast when the wait begins.
+
+    waits:                     waits that began
+    waits_unended:             of these, waits that did not end by the last step: 0 or 1
+    waits_unbounded:           of these, waits without a bound: a mode, FFER or FFDR was written in them
+    first_unbounded_step:      the step, counted from 1, by which the first of those lost it; 0 where all have one
+    handlers:                  the largest bound, in handlers
+    handlers_of_pending:       rivals that are due where they begin to count
+    handlers_of_edges:         edges of edge-triggered rivals
+    handlers_of_commands:      set commands to edge-triggered rivals
+    handlers_of_turns:         turns to active of the lines of level-sensitive rivals
+    handlers_of_closed_active: handlers of level-sensitive rivals that were closed while their line was active
+    handlers_of_remembered:    another source that was remembered when the wait began: 0 or 1
     """
 
-    waits: int  # waits that began
-    waits_unended: int  # of these, waits that did not end by the last step: 0 or 1
-    waits_unbounded: int  # of these, waits without a bound: a mode, FFER or FFDR was written in them
-    first_unbounded_step: int  # the step, counted from 1, by which the first of those lost it; 0 where all have one
-    handlers: int  # the largest bound
-    handlers_of_pending: int  # rivals that are due where they begin to count
-    handlers_of_edges: int  # edges of edge-triggered rivals
-    handlers_of_commands: int  # set commands to edge-triggered rivals
-    handlers_of_turns: int  # turns to active of the lines of level-sensitive rivals
-    handlers_of_closed_active: int  # handlers of level-sensitive rivals that were closed while their line was active
-    handlers_of_remembered: int  # another source that was remembered when the wait began: 0 or 1
+    waits: int
+    waits_unended: int
+    waits_unbounded: int
+    first_unbounded_step: int
+    handlers: int
+    handlers_of_pending: int
+    handlers_of_edges: int
+    handlers_of_commands: int
+    handlers_of_turns: int
+    handlers_of_closed_active: int
+    handlers_of_remembered: int
 
 
 # ---- the library
