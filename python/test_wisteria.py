@@ -5,8 +5,10 @@ import os
 import pickle
 import random
 import re
+import shutil
 import subprocess
 import sys
+import tempfile
 import threading
 import unittest
 from pathlib import Path
@@ -249,6 +251,12 @@ class Copies(Case):
             another.write(0x014, 0x45)
             self.assertEqual((aic.read(0x014), another.read(0x014)), (0x23, 0x45))
 
+    def test_of_refusals(self):
+        """From another process they come as they were."""
+        for refused in [Refused(1), Refused(8, 5, "other words"), wisteria.TextRefused(3, 2, 4)]:
+            another = pickle.loads(pickle.dumps(refused))
+            self.assertEqual((type(another), str(another), vars(another)), (type(refused), str(refused), vars(refused)))
+
     def test_of_one_in_two_threads(self):
         """A call is whole, whichever thread makes it: a line that one puts up stays up beside the thousands of lines that the other moves."""
         aic, moves, lost = Controller("aic", 0, 0), [("line", 1, 1), ("line", 1, 0)] * 5000, []
@@ -403,6 +411,25 @@ class TheLibrary(Case):
 
     def test_missing(self):
         self.assertEqual(self.told("/no/such/library.so", "wisteria.listing(b'')"), "the library is not there: no /no/such/library.so")
+
+    def test_is_looked_for(self):
+        """By the variable, else beside the module, else in the checkout."""
+        with tempfile.TemporaryDirectory() as folder:
+            here = Path(folder, "project", "wisteria.py")
+            here.parent.mkdir()
+            shutil.copy(wisteria.__file__, here)
+            beside, built = here.with_name("libwisteria.so"), Path(folder, "target", "library", "libwisteria.so")
+            call = [sys.executable, "-B", "-c", "import wisteria; wisteria.listing(b''); print(wisteria._loaded.path)"]
+            free = {name: value for name, value in os.environ.items() if name != "WISTERIA_LIBRARY"}
+            told = subprocess.run(call, cwd=here.parent, env=free, capture_output=True, text=True, check=False).stderr
+            self.assertIn(f"LibraryMissing: the library is not there: no {beside.resolve()} and no {built.resolve()}; {wisteria._HOW}", told)
+            built.parent.mkdir(parents=True)
+            for place in built, beside:
+                shutil.copy(wisteria._library().path, place)
+                found = subprocess.run(call, cwd=here.parent, env=free, capture_output=True, text=True, check=True).stdout
+                self.assertEqual(found, f"{place.resolve()}\n")
+            named = {**free, "WISTERIA_LIBRARY": str(built)}
+            self.assertEqual(subprocess.run(call, cwd=here.parent, env=named, capture_output=True, text=True, check=True).stdout, f"{built.resolve()}\n")
 
     def test_no_library(self):
         self.assertIn(Path(__file__).name, self.told(Path(__file__).resolve(), "wisteria.Controller('aintc')"))

@@ -103,19 +103,27 @@ class Refused(Exception):
         place = "" if offset is None else f" at byte {offset}"
         super().__init__(f"refused by {number}{place}: {self.words}")
 
+    def __reduce__(self) -> Tuple[type, Tuple[int, Optional[int], str]]:
+        return type(self), (self.number, self.offset, self.words)
+
 
 class TextRefused(ValueError):
     """A text that stands for no trace (docs/TEXT.md).
 
-    words: what was expected
+    expected: what was expected, 1 to 6 as in include/wisteria.h
+    words:    the same in words
     line, word: where, each counted from 1
     """
 
     def __init__(self, expected: int, line: int, word: int) -> None:
+        self.expected = expected
         self.words = _EXPECTED[expected].format(word=word)
         self.line = line
         self.word = word
         super().__init__(f"line {line}: {self.words}")
+
+    def __reduce__(self) -> Tuple[type, Tuple[int, int, int]]:
+        return type(self), (self.expected, self.line, self.word)
 
 
 class Answer(NamedTuple):
