@@ -358,7 +358,7 @@ class Controller:
 
     def copy(self) -> Controller:
         """Another controller in the same state. What is done to one does nothing to the other."""
-        return Controller.of_words(self.words)
+        return type(self).of_words(self.words)
 
     @property
     def words(self) -> bytes:
@@ -376,7 +376,7 @@ class Controller:
 
     def __reduce__(self) -> Tuple[Callable[[bytes], Controller], Tuple[bytes]]:
         """For the modules copy and pickle."""
-        return Controller.of_words, (self.words,)
+        return type(self).of_words, (self.words,)
 
 
 def _told(steps: Iterable[Sequence[Union[str, int]]]) -> array[int]:
