@@ -168,12 +168,12 @@ class Refusals(Case):
         self.refused(13, aintc, "read", 0x04C, 0)
 
     def test_words_are_those_of_the_page(self):
-        rows = re.findall(r"(?m)^\| (\d+) \| (.*?) \| (.*) \|$", (ROOT / "docs" / "REFUSALS.md").read_text().split("\n## In which order")[0])
-        self.assertEqual(list(wisteria._REFUSALS), [int(number) for number, _, _ in rows])
-        for number, words, who in rows:
-            self.assertEqual(Refused(int(number)).words, re.sub(r" \(\w+ of \[.*?\]\(.*?\)\)", "", words))
-            if number == "8":
-                self.assertTrue(who.endswith(f"Of a typed table: {wisteria._TABLE_SLIP}"))
+        numbers = (ROOT / "docs" / "REFUSALS.md").read_text().split("\n## In which order")[0]
+        rows = {int(number): (words, who) for number, words, who in re.findall(r"(?m)^\| (\d+) \| (.*?) \| (.*) \|$", numbers)}
+        self.assertEqual(list(wisteria._REFUSALS), [1, 2, 3, 4, 6, 8, 9, 10, 11, 12, 13, 14])
+        for number in wisteria._REFUSALS:
+            self.assertEqual(Refused(number).words, re.sub(r" \(\w+ of \[.*?\]\(.*?\)\)", "", rows[number][0]))
+        self.assertTrue(rows[8][1].endswith(f"Of a typed table: {wisteria._TABLE_SLIP}"))
 
     def test_damaged_words_answer_12(self):
         chance = random.Random(12)

@@ -49,15 +49,13 @@ _CONFIGURES = dict(_KINDS.values())
 # The kinds of step, with the number of each.
 _STEPS = {"read": 1, "write": 2, "line": 3}
 
-# docs/REFUSALS.md, "in words".
+# The refusals that a function of this module meets, in the words of docs/REFUSALS.md.
 _REFUSALS = {
     1: "the offset is no multiple of 4",
     2: "there is no register at this offset, or none in this configuration",
     3: "a read of a register that can only be written",
     4: "a write of a register that can only be read",
-    5: "protect mode of the AIC is asked for",
     6: "a number is beyond its limit",
-    7: "the limit of steps is reached, and bytes are left",
     8: "a number is cut short, has more than 32 bits or more than five bytes",
     9: "there is no such kind of controller or of step",
     10: "a number of the configuration is beyond its limit",
@@ -65,10 +63,6 @@ _REFUSALS = {
     12: "the record that was handed in breaks a rule of its model, or what is kept beside it does not agree with it",
     13: "an access without the privilege that it needs",
     14: "a number of a priority table is beyond its limit: a priority over 7, a type over 3, a frame over 65,535 bytes",
-    15: "a wire to the controller's own number or to a higher one",
-    16: "a total of handlers started would pass 4,294,967,295",
-    17: "the file cannot be opened or read",
-    18: "kept for a trace that does not keep the priority table that it is laid beside",
 }
 # The same of 8 where a typed table is refused by it.
 _TABLE_SLIP = "a number is missing, is none, or something stands behind the last; the word of forced sources has more than 32 bits"
@@ -91,7 +85,7 @@ class LibraryMissing(OSError):
 class Refused(Exception):
     """A step, a start or a table that is refused; what was asked has changed nothing.
 
-    number: the number of the refusal, 1 to 18 (docs/REFUSALS.md)
+    number: the number of the refusal (docs/REFUSALS.md)
     words:  what it says
     offset: where a table is at fault, in bytes from its start; None where there is no such place
     """
