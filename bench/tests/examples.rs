@@ -44,6 +44,9 @@ fn all() -> Examples {
     let mut examples = BTreeMap::<_, BTreeMap<_, _>>::new();
     for entry in fs::read_dir(folder).expect("the folder of the examples can be read") {
         let path = entry.expect("an entry can be read").path();
+        if path.is_dir() {
+            continue; // programs that ask a controller, which have no trace of their own
+        }
         let part = |part: Option<&std::ffi::OsStr>| {
             let part = part.expect("a file has a name and an ending");
             part.to_str().expect("names are plain text").to_owned()
