@@ -1,4 +1,5 @@
 """Tests of wisteria.py over the proved library: python3 python/test_wisteria.py, behind ./run library. They start ./run too."""
+import _ctypes
 import copy
 import doctest
 import os
@@ -268,6 +269,9 @@ class Copies(Case):
                 if aic.read(0x10C) >> 2 & 1 != level:
                     lost.append(level)
         self.assertEqual((lost, aic.words), ([], Controller("aic", 0, 0).words))
+        # by chance no call may have met another; so, too, that each keeps the interpreter's lock
+        for name in wisteria._KEPT:
+            self.assertTrue(getattr(wisteria._library(), name[len("wisteria_"):])._flags_ & _ctypes.FUNCFLAG_PYTHONAPI, name)
 
 
 class BesideTheListing(Case):
