@@ -25,7 +25,7 @@ use Rattle.aic_bounds.specs.Over.{bounds, better, loses}
 use Rattle.aic_bounds.proofs.WordLaws.{due-sum, by-idle, by-fresh, by-grown}
 use Rattle.aic_wait_figures.specs.declared.Figures.{Figures}
 use Rattle.aic_wait_figures.specs.Figures.{figuresWith}
-use Rattle.aic_wait_book.specs.Book.{rowOf, figuresIn, rowAfter, isQuiet, isStill, isSteady, gained, Small}
+use Rattle.aic_wait_book.specs.Book.{rowOf, figuresIn, rowAfter, isQuiet, isSteady, gained, Small}
 
 -- ---- numbers and words
 
@@ -193,6 +193,13 @@ module _ (k w n : ℕ) (m : Marks) (t : Aic) (f : Figures) where
           × (c .closed ≤ 4294967295)
 
 -- ---- what a step brings to one that waits
+
+-- it brought nothing to a source that waits, with these rivals and those of them that count, and the step that left it without a bound: none is first
+-- enabled, none that counts is brought anything, and a bound that holds goes on to hold
+unfoldable pub isStill : ℕ → ℕ → ℕ → ℕ → Marks → Bool
+isStill enabled rivals on broke m =
+    eqb (without (both rivals enabled) on) 0 && eqb (both on (m .edges)) 0 && eqb (both on (m .commands)) 0 && eqb (both on (m .turns)) 0 && eqb (both on (m .closed)) 0
+    && not (eqb broke 0 && m .rewrote)
 
 -- nothing: none of its rivals is first enabled, none that counts is brought anything, and its bound stays
 abbrev Nothing : ℕ → ℕ → ℕ → ℕ → Marks → Type 0

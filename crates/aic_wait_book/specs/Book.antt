@@ -102,13 +102,6 @@ pub record Kept (f : ℕ → Figures) (book : List (List ℕ)) : Type 0 where
 unfoldable pub isQuiet : Marks → Bool
 isQuiet m = eqb (m .edges) 0 && eqb (m .commands) 0 && eqb (m .turns) 0 && eqb (m .closed) 0 && not (m .rewrote)
 
--- it brought nothing to a source that waits, with these rivals and those of them that count, and the step that left it without a bound: none is first
--- enabled, none that counts is brought anything, and a bound that holds goes on to hold
-unfoldable pub isStill : ℕ → ℕ → ℕ → ℕ → Marks → Bool
-isStill enabled rivals on broke m =
-    eqb (without (both rivals enabled) on) 0 && eqb (both on (m .edges)) 0 && eqb (both on (m .commands)) 0 && eqb (both on (m .turns)) 0 && eqb (both on (m .closed)) 0
-    && not (eqb broke 0 && m .rewrote)
-
 -- it enables none of these rivals for the first time, and leaves a bound that holds
 unfoldable pub isSteady : ℕ → ℕ → ℕ → Bool → Bool
 isSteady enabled rivals on rewrote = eqb (without (both rivals enabled) on) 0 && not rewrote
