@@ -24,14 +24,14 @@ use Rattle.aic_runs.specs.Counted.{startedBy, startsOf, startsOther}
 use Rattle.aic_waits.specs.Figures.{waitAfter}
 use Rattle.aic_bounds.specs.declared.Bound.{Bound}
 use Rattle.aic_bounds.specs.declared.Marks.{Marks}
-use Rattle.aic_bounds.specs.Following.{boundBy}
+use Rattle.aic_bounds.specs.Following.{plus, boundBy}
 use Rattle.aic_wait_figures.specs.declared.Figures.{Figures}
 use Rattle.aic_wait_figures.specs.Figures.{noFigures, figuresWith}
 use Rattle.aic_figures.proofs.KeptLaws.{Way, way, asks-then, waits-then}
 use Rattle.aic_figures.proofs.KeptLaws.Way.{ends, starts, begins, rests, goes}
 use Rattle.aic_wait_book.specs.Waits.{followed}
-use Rattle.aic_wait_book.specs.Book.{rowOf, rowAfter, wordIn, isQuiet, isStill, touchedBy, Small, Kept, Rows, Moved}
-use Rattle.aic_wait_book.proofs.RowLaws.{row-then, row-rests, stands-asks, stands-waits, rests-then, seen-then, small-then, quiet-still, nothing-moves, row-stays, none-left}
+use Rattle.aic_wait_book.specs.Book.{rowOf, rowAfter, wordIn, isQuiet, isSteady, touchedBy, gained, Small, Kept, Rows, Moved}
+use Rattle.aic_wait_book.proofs.RowLaws.{row-then, row-rests, stands-asks, stands-waits, rests-then, seen-then, small-then, quiet-still, nothing-moves, row-stays, row-gains, none-left}
 
 -- ---- rows put anew one after another, by the bits of a word
 
@@ -105,16 +105,47 @@ set-own [] i = refl
 set-own (x ∷ l) zero = refl
 set-own (x ∷ l) (suc i) = ap (λ (r : List (List ℕ)). x ∷ r) (set-own l i)
 
-pub row-kept : (book : List (List ℕ)) (i : ℕ) (was is : Bool) (n : ℕ) (m : Marks) (t : Aic) (f : Figures) → getD book i [] ≡ rowOf f → Small f → was ≡ ltb 1 (f .bound .wait)
-    → {e : ℕ} → e ≡ t .enabled → {s : Bool} → s ≡ isStill e (getD (getD book i []) 0 0) (getD (getD book i []) 1 0) (getD (getD book i []) 8 0) m → ((was && is) && s) ≡ true
-    → book ≡ set book i (rowAfter i was is n m t (getD book i []))
-row-kept book i was is n m t f e small w ee es b =
+-- ---- a row put anew word by word
+
+set-twice : (l : List (List ℕ)) (i : ℕ) (x y : List ℕ) → set (set l i x) i y ≡ set l i y
+set-twice [] i x y = refl
+set-twice (z ∷ l) zero x y = refl
+set-twice (z ∷ l) (suc i) x y = ap (λ (r : List (List ℕ)). z ∷ r) (set-twice l i x y)
+
+-- a word of a row that was put already
+bump-next : (old book next : List (List ℕ)) (i j on w : ℕ) (row : List ℕ) → i < length old → book ≡ set old i row
+    → next ≡ set book i (set (getD book i []) j (plus (getD (getD book i []) j 0) on w)) → next ≡ set old i (set row j (plus (getD row j 0) on w))
+bump-next old book next i j on w row l e g =
+    g ∙ ap (λ (b : List (List ℕ)). set b i (set (getD b i []) j (plus (getD (getD b i []) j 0) on w))) e
+    ∙ ap (λ (r : List ℕ). set (set old i row) i (set r j (plus (getD r j 0) on w))) (getD-set-same old i row [] l) ∙ set-twice old i row _
+
+bump-first : (book : List (List ℕ)) (i : ℕ) (row : List ℕ) → getD book i [] ≡ row → book ≡ set book i row
+bump-first book i row e = set-own book i ∙ ap (set book i) e
+
+pub bump-all : (old b₁ b₂ b₃ b₄ : List (List ℕ)) (i on : ℕ) (m : Marks) (f : Figures) → i < length old → getD old i [] ≡ rowOf f → on ≡ f .bound .on
+    → b₁ ≡ set old i (set (getD old i []) 3 (plus (getD (getD old i []) 3 0) on (m .edges)))
+    → b₂ ≡ set b₁ i (set (getD b₁ i []) 4 (plus (getD (getD b₁ i []) 4 0) on (m .commands)))
+    → b₃ ≡ set b₂ i (set (getD b₂ i []) 5 (plus (getD (getD b₂ i []) 5 0) on (m .turns)))
+    → b₄ ≡ set b₃ i (set (getD b₃ i []) 6 (plus (getD (getD b₃ i []) 6 0) on (m .closed))) → b₄ ≡ set old i (rowOf (gained f m))
+bump-all old b₁ b₂ b₃ b₄ i on m f l e o g₁ g₂ g₃ g₄ =
+    let s₁ = bump-next old old b₁ i 3 on (m .edges) (rowOf f) l (bump-first old i (rowOf f) e) g₁ in
+    let s₂ = bump-next old b₁ b₂ i 4 on (m .commands) _ l s₁ g₂ in
+    let s₃ = bump-next old b₂ b₃ i 5 on (m .turns) _ l s₂ g₃ in
+    bump-next old b₃ b₄ i 6 on (m .closed) _ l s₃ g₄
+    ∙ ap (λ (x : ℕ). set old i
+    (f .bound .rivals ∷ f .bound .on ∷ f .bound .pending ∷ plus (f .bound .edges) x (m .edges) ∷ plus (f .bound .commands) x (m .commands) ∷ plus (f .bound .turns) x (m .turns)
+    ∷ plus (f .bound .closed) x (m .closed) ∷ f .bound .remembered ∷ f .bound .broke ∷ f .largest .pending ∷ f .largest .edges ∷ f .largest .commands ∷ f .largest .turns
+    ∷ f .largest .closed ∷ f .largest .remembered ∷ f .begun ∷ f .unbounded ∷ f .first ∷ [])) o
+
+pub row-grown : (book next : List (List ℕ)) (i : ℕ) (was is : Bool) (n : ℕ) (m : Marks) (t : Aic) (f : Figures) → getD book i [] ≡ rowOf f → Small f → was ≡ ltb 1 (f .bound .wait)
+    → {e : ℕ} → e ≡ t .enabled → {s : Bool} → s ≡ isSteady e (getD (getD book i []) 0 0) (getD (getD book i []) 1 0) (m .rewrote) → ((was && is) && s) ≡ true
+    → next ≡ set book i (rowOf (gained f m)) → next ≡ set book i (rowAfter i was is n m t (getD book i []))
+row-grown book next i was is n m t f e small w ee es b g =
     let both-wait = and-left (was && is) _ b in
     let p = and-left was is both-wait in
     let q = and-right was is both-wait in
-    set-own book i
-    ∙ ap (set book i) (e
-    ∙ sym (row-stays i n m t f small (sym (es ∙ ap₂ (λ (x : ℕ) (r : List ℕ). isStill x (getD r 0 0) (getD r 1 0) (getD r 8 0) m) ee e) ∙ and-right (was && is) _ b) (sym p ∙ w))
+    g ∙ ap (set book i)
+    (sym (row-gains i n m t f small (sym (es ∙ ap₂ (λ (x : ℕ) (r : List ℕ). isSteady x (getD r 0 0) (getD r 1 0) (m .rewrote)) ee e) ∙ and-right (was && is) _ b) (sym p ∙ w))
     ∙ row-same i n m t (sym p) (sym q) (sym e))
 
 touched-all : (was is : ℕ) → touchedBy was is true ≡ either was is

@@ -25,7 +25,7 @@ use Rattle.aic_bounds.specs.Over.{bounds, better, loses}
 use Rattle.aic_bounds.proofs.WordLaws.{due-sum, by-idle, by-fresh, by-grown}
 use Rattle.aic_wait_figures.specs.declared.Figures.{Figures}
 use Rattle.aic_wait_figures.specs.Figures.{figuresWith}
-use Rattle.aic_wait_book.specs.Book.{rowOf, figuresIn, rowAfter, isQuiet, isStill, Small}
+use Rattle.aic_wait_book.specs.Book.{rowOf, figuresIn, rowAfter, isQuiet, isSteady, gained, Small}
 
 -- ---- numbers and words
 
@@ -51,7 +51,7 @@ count-none : countBelow 32 (bit 0) ≡ 0
 unfolding countBelow bit
 count-none = refl
 
-plus-none : (n a b : ℕ) → n ≤ 4294967295 → both a b ≡ 0 → plus n a b ≡ n
+pub plus-none : (n a b : ℕ) → n ≤ 4294967295 → both a b ≡ 0 → plus n a b ≡ n
 plus-none n a b l z = ap (λ (w : ℕ). capped (n + countBelow 32 (bit w))) z ∙ ap (λ (c : ℕ). capped (n + c)) count-none ∙ capped-none n l
 
 -- nobody is brought anything
@@ -194,6 +194,13 @@ module _ (k w n : ℕ) (m : Marks) (t : Aic) (f : Figures) where
 
 -- ---- what a step brings to one that waits
 
+-- it brought nothing to a source that waits, with these rivals and those of them that count, and the step that left it without a bound: none is first
+-- enabled, none that counts is brought anything, and a bound that holds goes on to hold
+unfoldable pub isStill : ℕ → ℕ → ℕ → ℕ → Marks → Bool
+isStill enabled rivals on broke m =
+    eqb (without (both rivals enabled) on) 0 && eqb (both on (m .edges)) 0 && eqb (both on (m .commands)) 0 && eqb (both on (m .turns)) 0 && eqb (both on (m .closed)) 0
+    && not (eqb broke 0 && m .rewrote)
+
 -- nothing: none of its rivals is first enabled, none that counts is brought anything, and its bound stays
 abbrev Nothing : ℕ → ℕ → ℕ → ℕ → Marks → Type 0
 Nothing enabled rivals on broke m =
@@ -315,6 +322,43 @@ module _ (k n : ℕ) (m : Marks) (t : Aic) (f : Figures) (s : Small f)
 
   pub nothing-moves : figuresWith n f (boundBy k (f .bound .wait) n (f .bound) m t) ≡ f
   nothing-moves = ap (figuresWith n f) bound-same ∙ figures-same
+
+-- ---- a wait that goes on, with no rival enabled for the first time
+
+module _ (k n : ℕ) (m : Marks) (t : Aic) (f : Figures) (s : Small f) (q : isSteady (t .enabled) (f .bound .rivals) (f .bound .on) (m .rewrote) ≡ true)
+    (e : true ≡ ltb 1 (f .bound .wait)) where
+  covers : without (both (f .bound .rivals) (t .enabled)) (f .bound .on) ≡ 0
+  unfolding isSteady
+  covers = eqb-true (without (both (f .bound .rivals) (t .enabled)) (f .bound .on)) 0 (and-left (eqb (without (both (f .bound .rivals) (t .enabled)) (f .bound .on)) 0) (not (m .rewrote)) q)
+
+  steady : m .rewrote ≡ false
+  unfolding isSteady
+  steady = off-not (m .rewrote) (and-right (eqb (without (both (f .bound .rivals) (t .enabled)) (f .bound .on)) 0) (not (m .rewrote)) q)
+
+  waits-on : 2 ≤ f .bound .wait
+  waits-on = omega (arith, ltb-true 1 (f .bound .wait) (sym e))
+
+  bound-gains : grownBy (f .bound .wait) (f .bound) n m t ≡ gained f m .bound
+  bound-gains =
+      rw (
+        joined (f .bound .on) (enabledOf (f .bound .rivals) t) (s .0) covers,
+        sym (plus-nobody (f .bound .pending) (without (enabledOf (f .bound .rivals) t) (f .bound .on)) (wordOf 32 (dues t)) (s .1) covers),
+        steady,
+        and-false (eqb (f .bound .broke) 0),
+      ) (unfold pick in refl)
+
+  figures-gain : rowOf (figuresWith n f (gained f m .bound)) ≡ rowOf (gained f m)
+  unfolding figuresWith loses pick
+  figures-gain = rw (le-ltb (f .bound .wait) 2 waits-on, capped-none (f .begun) (s .6), lost (eqb (f .bound .broke) 0), capped-none (f .unbounded) (s .7))
+    where
+      lost : (x : Bool) → (x && not x) ≡ false
+      lost true = refl
+      lost false = refl
+
+  pub row-gains : rowAfter k true true n m t (rowOf f) ≡ rowOf (gained f m)
+  row-gains =
+      sym (row-then k (f .bound .wait) n m t f true true e e)
+      ∙ ap (λ (b : Bound). rowOf (figuresWith n f b)) (sym (by-grown k (f .bound .wait) n (f .bound) m t waits-on waits-on refl) ∙ bound-gains) ∙ figures-gain
 
 -- the row of a wait that is brought nothing stays
 pub row-stays : (k n : ℕ) (m : Marks) (t : Aic) (f : Figures) → Small f → isStill (t .enabled) (f .bound .rivals) (f .bound .on) (f .bound .broke) m ≡ true → true ≡ ltb 1 (f .bound .wait)

@@ -11,7 +11,7 @@ use Rattle.aic_record.specs.declared.Aic.{Aic}
 use Rattle.aic_bounds.specs.declared.Bound.{Bound}
 use Rattle.aic_bounds.specs.declared.Marks.{Marks}
 use Rattle.aic_bounds.specs.Bounds.{idle}
-use Rattle.aic_bounds.specs.Following.{boundBy}
+use Rattle.aic_bounds.specs.Following.{plus, boundBy}
 use Rattle.aic_wait_figures.specs.declared.Figures.{Figures}
 use Rattle.aic_wait_figures.specs.Figures.{figuresWith, largestNow, unendedNow}
 
@@ -102,12 +102,31 @@ pub record Kept (f : ℕ → Figures) (book : List (List ℕ)) : Type 0 where
 unfoldable pub isQuiet : Marks → Bool
 isQuiet m = eqb (m .edges) 0 && eqb (m .commands) 0 && eqb (m .turns) 0 && eqb (m .closed) 0 && not (m .rewrote)
 
--- it brought nothing to a source that waits, with these rivals and those of them that count, and the step that left it without a bound: none is first
--- enabled, none that counts is brought anything, and a bound that holds goes on to hold
-unfoldable pub isStill : ℕ → ℕ → ℕ → ℕ → Marks → Bool
-isStill enabled rivals on broke m =
-    eqb (without (both rivals enabled) on) 0 && eqb (both on (m .edges)) 0 && eqb (both on (m .commands)) 0 && eqb (both on (m .turns)) 0 && eqb (both on (m .closed)) 0
-    && not (eqb broke 0 && m .rewrote)
+-- it enables none of these rivals for the first time, and leaves a bound that holds
+unfoldable pub isSteady : ℕ → ℕ → ℕ → Bool → Bool
+isSteady enabled rivals on rewrote = eqb (without (both rivals enabled) on) 0 && not rewrote
+
+-- the figures of a source that waits on, by what such a step brings to those that count
+abbrev pub gained : Figures → Marks → Figures
+gained f m =
+    record {
+      bound = record {
+        wait = f .bound .wait;
+        rivals = f .bound .rivals;
+        on = f .bound .on;
+        pending = f .bound .pending;
+        edges = plus (f .bound .edges) (f .bound .on) (m .edges);
+        commands = plus (f .bound .commands) (f .bound .on) (m .commands);
+        turns = plus (f .bound .turns) (f .bound .on) (m .turns);
+        closed = plus (f .bound .closed) (f .bound .on) (m .closed);
+        remembered = f .bound .remembered;
+        broke = f .bound .broke;
+      };
+      largest = f .largest;
+      begun = f .begun;
+      unbounded = f .unbounded;
+      first = f .first;
+    }
 
 -- those that waited or wait; where nothing is brought to anybody those of which a wait ends or begins
 unfoldable pub touchedBy : ℕ → ℕ → Bool → ℕ

@@ -20,11 +20,11 @@ ghost use Rattle.aic_registers.specs.Effects.{turns};
 ghost use Rattle.aic.specs.Model.{step};
 ghost use Rattle.aic_layout.specs.Room.{Laid};
 ghost use Rattle.aic_waits.specs.Following.{startedFrom};
-ghost use Rattle.aic_bounds.specs.Following.{noMarks, hotLast, writeMarks, lineMarks, marksBy};
+ghost use Rattle.aic_bounds.specs.Following.{plus, noMarks, hotLast, writeMarks, lineMarks, marksBy};
 ghost use Rattle.aic_wait_figures.specs.declared.Figures.{Figures};
 ghost use Rattle.aic_wait_figures.specs.Figures.{noFigures};
 ghost use Rattle.aic_wait_book.specs.Waits.{waitsNow, followed};
-ghost use Rattle.aic_wait_book.specs.Book.{rowOf, figuresIn, rowAfter, numbersOf, wordIn, isQuiet, isStill, touchedBy, Small, Kept, Rows, Moved};
+ghost use Rattle.aic_wait_book.specs.Book.{rowOf, figuresIn, rowAfter, numbersOf, wordIn, isQuiet, isSteady, touchedBy, gained, Small, Kept, Rows, Moved};
 
 mod bounds;
 
@@ -46,6 +46,15 @@ const ASKED: usize = 0;
 const WAITING: usize = 1;
 
 const ENABLED: usize = 2;
+
+// In the row of a source: the edges, set commands, turns and closes of those that count.
+const EDGES: usize = 3;
+
+const COMMANDS: usize = 4;
+
+const TURNS: usize = 5;
+
+const CLOSED: usize = 6;
 
 // ---- what a step brings
 
@@ -255,27 +264,55 @@ fn row_after(
 
 // ---- a step
 
-// Whether a step brought nothing to a source that waits.
-fn is_still(enabled: u32, rivals: u32, on: u32, broke: u32, m: Marks) -> bool
-    ensures { λ r. ⌜ r ≡ isStill enabled rivals on broke m ⌝ }
+// Whether a step enables no rival of a wait for the first time, and leaves its bound.
+fn is_steady(enabled: u32, rivals: u32, on: u32, rewrote: bool) -> bool
+    ensures { λ r. ⌜ r ≡ isSteady enabled rivals on rewrote ⌝ }
 {
-    (words::drop_bits(words::meet(rivals, enabled), on) == 0)
-        & (words::meet(on, m.edges) == 0)
-        & (words::meet(on, m.commands) == 0)
-        & (words::meet(on, m.turns) == 0)
-        & (words::meet(on, m.closed) == 0)
-        & !((broke == 0) & m.rewrote)
+    (words::drop_bits(words::meet(rivals, enabled), on) == 0) & !rewrote
+}
+
+// n and the number of sources that two words share: mostly there are none to count.
+fn more(n: u32, a: u32, b: u32) -> u32
+    ensures { λ r. ⌜ r ≡ plus n a b ⌝ }
+{
+    if words::meet(a, b) == 0 {
+        return n;
+    }
+    aic_bounds::plus(n, a, b)
+}
+
+// Number j of the row of source i, and as many more as two words share.
+fn bump(book: &mut Book, i: u32, j: usize, on: u32, w: u32)
+    requires { ⌜ (i < 32) × (j < 18) ⌝ }
+    ensures { λ _. ⌜ now (book .exit) ≡ set (now (book .entry)) i (set (getD (now (book .entry)) i []) j (plus (getD (getD (now (book .entry)) i []) j 0) on w)) ⌝ }
+{
+    let n = more(book[i as usize][j], on, w);
+    book[i as usize][j] = n;
+}
+
+// What a step brought to those that count for source i, which waits on.
+fn grow_row(book: &mut Book, i: u32, on: u32, m: Marks)
+    requires { ⌜ i < 32 ⌝ }
+    ensures { λ _. ⌜ ((f : Figures) → length (now (book .entry)) ≡ 33 → getD (now (book .entry)) i [] ≡ rowOf f → on ≡ f .bound .on → now (book .exit) ≡ set (now (book .entry)) i (rowOf (gained f m))) ⌝ }
+{
+    bump(book, i, EDGES, on, m.edges);
+    bump(book, i, COMMANDS, on, m.commands);
+    bump(book, i, TURNS, on, m.turns);
+    bump(book, i, CLOSED, on, m.closed);
 }
 
 // The row of source i after the n-th step, by whether it waited and whether it waits then.
 fn move_row<'a>(book: &'a mut Book, room: &'a Room, i: u32, was: bool, is: bool, n: u32, m: Marks)
     requires { ⌜ i < 32 ⌝ }
-    ensures { λ _. ⌜ ((f : Figures) (t : Aic) → sound t ≡ true → Laid t (now (room .entry)) → getD (now (book .entry)) i [] ≡ rowOf f → Small f → was ≡ ltb 1 (f .bound .wait) → now (book .exit) ≡ set (now (book .entry)) i (rowAfter i was is n m t (getD (now (book .entry)) i []))) ⌝ }
+    ensures { λ _. ⌜ ((f : Figures) (t : Aic) → sound t ≡ true → Laid t (now (room .entry)) → length (now (book .entry)) ≡ 33 → getD (now (book .entry)) i [] ≡ rowOf f → Small f → was ≡ ltb 1 (f .bound .wait) → now (book .exit) ≡ set (now (book .entry)) i (rowAfter i was is n m t (getD (now (book .entry)) i []))) ⌝ }
 {
-    let row = book[i as usize];
-    if was & is & is_still(room[aic_layout::ENABLED], row[0], row[1], row[8], m) {
+    let rivals = book[i as usize][0];
+    let on = book[i as usize][1];
+    if was & is & is_steady(room[aic_layout::ENABLED], rivals, on, m.rewrote) {
+        grow_row(book, i, on, m);
         return;
     }
+    let row = book[i as usize];
     let next = row_after(room, i, was, is, n, m, row);
     book[i as usize] = next;
 }

@@ -57,7 +57,7 @@ loop-again c =
           let d = l .inv .2 f t ok h k w in
           let o = still _ (a .some) (l .left) (a .book .now) (l .book) (i .result) (p .0) (p .1) d in
           let u = c .before .before .before .has .ensures in
-          let e = c .before .move-row .ensures (f (i .result)) t ok h (o ∙ k .rows (i .result) (p .0)) (k .small (i .result) (p .0))
+          let e = c .before .move-row .ensures (f (i .result)) t ok h (d .size ∙ k .size) (o ∙ k .rows (i .result) (p .0)) (k .small (i .result) (p .0))
           (u ∙ ap (λ (x : ℕ). bit x (i .result)) w ∙ k .waits (i .result) (p .0)) in
           rw e (rows-more _ (a .some) (l .left) (a .book .now) (l .book) (i .result) (p .0) (p .1) d _ _ (k .size) (l .inv .1 (i .result) (p .0) (p .1)) (c .with-bit .ensures)
           (row-same (i .result) (a .n) (a .m) t u (c .before .before .has2 .ensures) o)),
