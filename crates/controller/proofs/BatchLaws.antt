@@ -16,7 +16,6 @@ use Rattle.words.proofs.TruthLaws.{and-left, and-right, and-both, not-holds}
 use Rattle.words.proofs.CountingLaws.{upto-none, upto-more}
 use Rattle.steps.specs.Refusals.{carriedOut, unknown, unsound}
 use Rattle.steps.specs.declared.Recorded.{Recorded}
-use Rattle.aic.proofs.Promises.{kept as aic}
 use Rattle.coreinterrupt.proofs.Promises.{kept as core}
 use Rattle.cic.proofs.Promises.{kept as cic}
 use Rattle.cic_indexed.proofs.Promises.{kept as prioritised}
@@ -30,7 +29,7 @@ use Rattle.machine_record.proofs.MachineLaws.{sound-core, sound-cic, sound-aint
 use Rattle.machine.specs.declared.Answer.{Answer}
 use Rattle.machine.specs.Steps.{refused, step}
 use Rattle.machine.proofs.StepLaws.{core-steps, cic-steps, aintc-steps, indexed-steps, step-ready}
-use Rattle.machine_room.specs.Room.{Done, replyOf}
+use Rattle.machine_room.specs.Room.{Done}
 use Rattle.controller.specs.Batch.{isStep, stepTold, Taken, kthTold, afterSteps, kthReply, answersIn, SteppedAll}
 use Rattle.controller.specs.Controller.{Stands, Vacant, Stepped}
 

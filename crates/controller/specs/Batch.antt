@@ -1,6 +1,6 @@
 -- Many steps at once on a controller in words that a caller outside keeps: four words tell a step, two answer it (01, "House trace", "Numbers";
 -- docs/EMBED.md).
-use Prim.Native.Nat.{ℕ, _+_, _*_, _/_, _<_, min}
+use Prim.Native.Nat.{ℕ, _+_, _*_, _/_, min}
 use mathlib.Core.Path.{_≡_}
 use mathlib.Core.Bool.{Bool, _&&_}
 use mathlib.Core.List.{List}

@@ -1,18 +1,18 @@
 -- What is printed of a record is read back as the table in it.
 use Prim.Native.Nat.{ℕ, zero, suc, _+_, _*_, _/_, _%_, _^_, _≤_, _<_}
-use mathlib.Core.Path.{_≡_, refl, sym, ap, ap₂, _∙_, subst}
+use mathlib.Core.Path.{_≡_, refl, sym, ap, _∙_, subst}
 use mathlib.Core.List.{List, [], _∷_, _++_, append-assoc, map}
 use mathlib.Core.Logic.{inl, inr}
 use native.Mathlib.Nat.{add-zero, zero-add}
 use native.Mathlib.Omega.{arith}
 use lib.ListN.{length, getD}
-use Rattle.text.specs.Text.{hex, decimal, field}
+use Rattle.text.specs.Text.{decimal, field}
 use Rattle.phrases.specs.Phrases.{bytes, counted}
 use Rattle.aic_record.specs.declared.Aic.{Aic}
 use Rattle.aic_record.specs.Mode.{priorityOf, typeOf}
-use Rattle.tables.specs.Layout.{Gap, nothing, space, comment, Parted, Spread, done, more}
+use Rattle.tables.specs.Layout.{Without, Gap, nothing, space, comment, Parted, Spread, done, more}
 use Rattle.tables.specs.Number.{worth}
-use Rattle.tables.specs.Reading.{listOf, everyThird, tableOf, entered, readTable, taken}
+use Rattle.tables.specs.Reading.{listOf, everyThird, tableOf, entered, readTable}
 use Rattle.tables.proofs.FillLaws.{listOf-same}
 use Rattle.tables.proofs.Promises.{kept as tables}
 use Rattle.table_text.specs.Text.{tableIn, heading, sourceLine, sourceLines, lastLines, tableText}
@@ -72,9 +72,6 @@ unfolding tableOf tableIn
 table-back a =
     rw (each 0 (λ i. priorityOf (getD (a .mode) i 0)) (λ k i. unfold numbersFrom in refl), each 1 (λ i. typeOf (getD (a .mode) i 0)) (λ k i. unfold numbersFrom in refl), each 2 (λ i. 0) (λ k i. unfold numbersFrom in refl), last-two (a .mode) (a .forced % 2 ^ 32) 32 0 0, last-two (a .mode) (a .forced % 2 ^ 32) 32 0 1)
   where
-    vs : List ℕ
-    vs = numbersFrom (a .mode) (a .forced % 2 ^ 32) 32 0
-
     each : (f : ℕ) (get : ℕ → ℕ) → ((k i : ℕ) → getD (numbersFrom (a .mode) (a .forced % 2 ^ 32) (suc k) i) f 0 ≡ get i)
         → everyThird (numbersFrom (a .mode) (a .forced % 2 ^ 32) 32 0) f ≡ listOf 32 get
     each f get h =
@@ -90,7 +87,7 @@ at-blank : (s : List ℕ) → Parted (32 ∷ s)
 at-blank s = inr (inl (inl refl))
 
 -- a space and a comment to the end of the line
-noted : (c : List ℕ) → Rattle.tables.specs.Layout.Without 10 c → Gap (32 ∷ 35 ∷ (c ++ (10 ∷ [])))
+noted : (c : List ℕ) → Without 10 c → Gap (32 ∷ 35 ∷ (c ++ (10 ∷ [])))
 noted c w = space 32 _ (inl refl) (comment c [] w nothing)
 
 head-gap : Gap heading
