@@ -7,6 +7,7 @@ use std::time::Duration;
 
 use self::sheet::{Form, Sheet};
 use super::coverage::Coverage;
+use super::lead::lead;
 use super::text::NUMBERS;
 use super::{line, needed, Row, Table, MOST_FRAME, MOST_PRIORITY, MOST_TYPE};
 use crate::batch::Request;
@@ -58,6 +59,11 @@ impl Subject for Typed {
     #[cfg(feature = "exports")]
     fn by_library(&self) -> crate::compare::Outcome {
         crate::exports::stack(self)
+    }
+
+    fn told(&self) -> Vec<u8> {
+        let line = lead(&self.text).map(|line| format!("stacksize: {line}"));
+        line.unwrap_or_default().into_bytes()
     }
 
     fn for_program(self) -> Typed {
