@@ -55,7 +55,7 @@ pub trait Subject: Clone {
     }
 
     /// What a program of its own says of it on standard error.
-    fn told(&self) -> Vec<u8> {
+    fn complaint(&self) -> Vec<u8> {
         Vec::new()
     }
 
