@@ -7,6 +7,7 @@ use std::time::Duration;
 
 use self::sheet::{Form, Sheet};
 use super::coverage::Coverage;
+use super::lead::lead;
 use super::text::NUMBERS;
 use super::{line, needed, Row, Table, MOST_FRAME, MOST_PRIORITY, MOST_TYPE};
 use crate::batch::Request;
@@ -58,6 +59,11 @@ impl Subject for Typed {
     #[cfg(feature = "exports")]
     fn by_library(&self) -> crate::compare::Outcome {
         crate::exports::stack(self)
+    }
+
+    fn complaint(&self) -> Vec<u8> {
+        let line = lead(&self.text).map(|line| format!("stacksize: {line}"));
+        line.unwrap_or_default().into_bytes()
     }
 
     fn for_program(self) -> Typed {
@@ -252,12 +258,20 @@ fn name(random: &mut Random, sheet: &mut Sheet) {
     let good = random.pick(&[5, 7, 7, 7, NAMES.len()]);
     for source in 0..SOURCES {
         if random.one_in(3) {
-            sheet.name(3 * source + 3, random.pick(&NAMES[..good]), random.pick::<&[u8]>(&[b" ", b"\t", b"#\n", b"\n"]));
+            sheet.name(
+                3 * source + 3,
+                random.pick(&NAMES[..good]),
+                random.pick::<&[u8]>(&[b" ", b"\t", b"#\n", b"\n"]),
+            );
         }
     }
     if random.one_in(4) {
         let nth = random.below(NUMBERS as u32 + 1) as usize;
-        sheet.name(nth, random.pick(&NAMES), random.pick::<&[u8]>(&[b" ", b" ", b""]));
+        sheet.name(
+            nth,
+            random.pick(&NAMES),
+            random.pick::<&[u8]>(&[b" ", b" ", b""]),
+        );
     }
 }
 

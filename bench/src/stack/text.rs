@@ -328,13 +328,26 @@ mod tests {
         for name in ["a", " ", "#", "~", &"x".repeat(24), "a, b; c!"] {
             assert_eq!(quoted(name), "0 bytes\n", "{name}");
         }
-        for name in ["", &"x".repeat(25), "a\tb", "a\nb", "<", ">", "&", "\u{7f}", "é"] {
+        for name in [
+            "",
+            &"x".repeat(25),
+            "a\tb",
+            "a\nb",
+            "<",
+            ">",
+            "&",
+            "\u{7f}",
+            "é",
+        ] {
             assert_eq!(quoted(name), "E 8 6\n", "{name}");
         }
         for text in ["\"a", "\"a\"0", "\"a\"\"b\"", "\"", "\"a\".", "\"a b\"x"] {
             assert_eq!(printed(&behind(3, text)), "E 8 6\n", "{text}");
         }
-        assert_eq!(printed(&format!("0 0 0\"a\"{}", " 0".repeat(95))), "E 8 4\n");
+        assert_eq!(
+            printed(&format!("0 0 0\"a\"{}", " 0".repeat(95))),
+            "E 8 4\n"
+        );
     }
 
     #[test]

@@ -175,6 +175,15 @@ pub too-long : (s : List ℕ) (r : Reading) → 65536 < length s → r ≡ refus
 unfolding readTable
 too-long s r l g = g ∙ pick-true _ (lt-ltb 65536 (length s) l)
 
+-- a text that is read is none that is too long
+pub read-short : (s : List ℕ) → readTable s .refusal ≡ 0 → length s ≤ 65536
+unfolding refusedAt
+read-short s e = go (decLt 65536 (length s))
+  where
+    go : Dec (65536 < length s) → length s ≤ 65536
+    go (yes l) = absurd (omega (arith, ap (λ (x : Reading). x .refusal) (too-long s _ l refl)))
+    go (no l) = omega arith
+
 pub not-long : (s : List ℕ) (r : Reading) → length s ≤ 65536 → r ≡ readBare (cleared s) → r ≡ readTable s
 unfolding readTable
 not-long s r l g = g ∙ pick-false _ (le-ltb 65536 (length s) l)

@@ -4,7 +4,7 @@ use borrow.Author.Tests.{eq-eqb, ne-eqb}
 use Rattle.words.proofs.ChoiceLaws.{pick-true, pick-false}
 use Rattle.tables.specs.declared.Reading.{Reading}
 use Rattle.tables.specs.Named.{namesOf}
-use Rattle.tables.proofs.RefusalLaws.{read}
+use Rattle.tables.proofs.ReadLaws.{read-short}
 use borrow.Author.Needs.{needs}
 use Rattle.tables.proofs.names.names_of.Statement.{statement}
 use Rattle.tables.proofs.names.names_of.Tie as tie
@@ -14,8 +14,7 @@ unfolding namesOf
 returns c = c .no-names .ensures ∙ pick-false _ (ne-eqb _ _ (λ z. c .before .if1 .taken (ap (λ (x : Reading). x .refusal) (c .before .before .before .read-table .ensures) ∙ z)))
 
 names-in-requires : tie.Need-names-in-requires
-names-in-requires c κs =
-    read _ .0 (sym (ap (λ (x : Reading). x .refusal) (c .before .before .read-table .ensures)) ∙ c .if1 .left) .0
+names-in-requires c κs = read-short _ (sym (ap (λ (x : Reading). x .refusal) (c .before .before .read-table .ensures)) ∙ c .if1 .left)
 
 returns-2 : tie.Need-returns-2
 unfolding namesOf
