@@ -205,6 +205,10 @@ most-bound : (begun unbounded bound : ℕ) → begun ≢ 0 → unbounded ≢ beg
 unfolding most
 most-bound begun unbounded bound d u = sym (pick-false _ (ne-eqb unbounded begun u) ∙ pick-false _ (ne-eqb begun 0 d))
 
+first-of : (unbounded step trace : ℕ) → unbounded ≢ 0 → first unbounded step trace ≡ counted (bytes "step ") step ++ counted (bytes " of trace ") trace
+unfolding first
+first-of unbounded step trace d = sym (pick-false _ (ne-eqb unbounded 0 d))
+
 pub kept : Promises
 kept =
     record {
@@ -265,7 +269,7 @@ kept =
       mostBound = most-bound;
       boundIs = unfold boundOf in (λ w i. refl);
       firstNone = unfold first pick in (λ step trace. refl);
-      firstOf = λ unbounded step trace d. unfold first in (sym (pick-false _ (ne-eqb unbounded 0 d)));
+      firstOf = first-of;
       othersNone = unfold others pick in refl;
       othersSome = λ unbounded d. unfold others in (sym (pick-false _ (ne-eqb unbounded 0 d)));
       boundedIs = bounded-is;
