@@ -44,7 +44,14 @@ pub(crate) fn fill(names: &mut [u8], held: usize) -> Came
 
 // What is kept of a begun name: nothing where it is passed over, nor where it fills the room, for then it is too long to be opened. Of the one that is
 // passed over the first 4,096 bytes have been told, and it has been counted.
-pub(crate) fn settle(names: &[u8], held: usize, skipping: bool, table: Table, sum: Sum, came: Came) -> State
+pub(crate) fn settle(
+    names: &[u8],
+    held: usize,
+    skipping: bool,
+    table: Table,
+    sum: Sum,
+    came: Came,
+) -> State
     ensures { λ r. ⌜ (r .held ≤ length (now (names .entry))) × Put table (sum .sheet) (r .sum .sheet) ⌝ }
 {
     if skipping | !sum.written {

@@ -17,10 +17,10 @@ returns : tie.Need-returns
 returns c = (omega (arith, c .standing .ensures .0), put-none _ _ _ (ap (λ (m : Sum). m .sheet) (c .standing .ensures .1)))
 
 returns-2 : tie.Need-returns-2
-returns-2 c = (omega (arith, c .standing .ensures .0, c .before .if2 .taken), put-none _ _ _ (ap (λ (m : Sum). m .sheet) (c .standing .ensures .1)))
+returns-2 c = (omega (arith, c .standing2 .ensures .0, c .before .if2 .taken), put-none _ _ _ (ap (λ (m : Sum). m .sheet) (c .standing2 .ensures .1)))
 
 returns-3 : tie.Need-returns-3
-returns-3 c = ?
+returns-3 c = (omega (arith, c .standing3 .ensures .0), put-shut _ _ _ (ap (λ (m : Sum). m .sheet) (c .standing3 .ensures .1) ∙ c .before .unopened .ensures))
 
 pub settle-spec : {M : Type 1} → statement M
 settle-spec =
