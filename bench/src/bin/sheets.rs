@@ -74,12 +74,11 @@ fn print_table() -> Outcome {
     Ok(true)
 }
 
-/// Makes a folder of traces, and `names` in it.
+/// Makes a folder of traces.
 fn make_sample(folder: &Path, count: u32, table: &str) -> Outcome {
     let text = fs::read(table)?;
     let (table, _) = named_table(&text).map_err(|_| "the table is refused")?;
-    let names = sample(&text, &table, count).write(folder)?;
-    fs::write(folder.join("names"), names)?;
+    sample(&text, &table, count).write(folder)?;
     Ok(true)
 }
 

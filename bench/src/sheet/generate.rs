@@ -34,7 +34,7 @@ pub struct Folder {
 pub type Generator = Numbered<Folder>;
 
 impl Folder {
-    /// Makes the folder, with the table in it, and gives the list of names, which begin with the folder's.
+    /// Makes the folder, with `table` and `names` in it, and gives the list of names, which begin with the folder's.
     pub fn write(&self, folder: &Path) -> io::Result<Vec<u8>> {
         fs::create_dir_all(folder)?;
         fs::write(folder.join("table"), &self.table)?;
@@ -49,6 +49,7 @@ impl Folder {
         if self.traces.len() % 2 == 1 {
             list.truncate(list.len() - self.line_end.len());
         }
+        fs::write(folder.join("names"), &list)?;
         Ok(list)
     }
 }

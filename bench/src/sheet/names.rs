@@ -11,7 +11,7 @@ pub type Names = [String; SOURCES];
 pub const LONGEST_SOURCE_NAME: usize = 24;
 
 /// A table within its limits and its names. Names that may stand where they do are taken out of the text; any other
-/// quote is left in it, and is no number.
+/// quote is no number.
 pub fn named_table(typed: &[u8]) -> Result<(Table, Names), Fault> {
     let mut names = Names::default();
     let mut bare = typed.to_vec();
@@ -36,6 +36,8 @@ pub fn named_table(typed: &[u8]) -> Result<(Table, Names), Fault> {
                     name.len() + 2
                 }
                 _ => {
+                    // Any other quote is no number, to a reader that takes names too.
+                    bare[at] = if first == b'"' { b'?' } else { first };
                     words += 1;
                     rest.iter()
                         .position(|byte| ends_word(*byte))

@@ -221,7 +221,7 @@ fn stack(table: &Table, names: &Names) -> String {
         let whose = match whose {
             None => "the mark".to_owned(),
             Some(n) if names[*n].is_empty() => format!("source {n}"),
-            Some(n) => format!("source {n}, {}", names[*n]),
+            Some(n) => format!("source {n}, {}", escaped(names[*n].as_bytes())),
         };
         bars += &format!("<text x=\"8\" y=\"{text}\">level {l}</text><rect x=\"64\" y=\"{top}\" width=\"{width}\" height=\"16\" fill=\"none\" stroke=\"black\"/><text x=\"{behind}\" y=\"{text}\">{bytes} bytes</text>\n");
         rows += &format!("<tr><th>level {l}</th><td data-figure=\"level-bytes\" data-level=\"{l}\">{bytes} bytes</td><td data-figure=\"level-source\" data-level=\"{l}\">{whose}</td></tr>\n");
@@ -258,7 +258,10 @@ fn source(table: &Table, names: &Names, sheet: &Sheet, n: usize, place: usize) -
     let (priority, kind, frame) = (row.priority, TYPES[row.kind as usize], row.frame);
     let (started, waited, entries) = (of_it.started, of_it.waited, of_it.entries);
     let (waits, unbounded) = (sheet.waits[n].waits, sheet.waits[n].unbounded);
-    let name = if names[n].is_empty() { "-" } else { &names[n] };
+    let name = match names[n].as_str() {
+        "" => "-".to_owned(),
+        name => escaped(name.as_bytes()),
+    };
     let ahead = match table.is_normal(n) {
         true => format!("{place} sources"),
         false => "-".to_owned(),
