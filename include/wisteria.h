@@ -24,6 +24,9 @@
 extern "C" {
 #endif
 
+/* What this is a header of: as VERSION has it, and ./run --version. */
+#define WISTERIA_VERSION "1.12.0"
+
 /* The longest trace that is played and the longest text that is read, in bytes; and the most steps that the program `wisteria` plays of a trace. */
 #define WISTERIA_LONGEST 65536
 #define WISTERIA_LIMIT 20000
@@ -235,6 +238,32 @@ uint32_t wisteria_line(wisteria_controller *controller, uint32_t line, uint32_t 
 
 /* Writes the three numbers that a listing's line ends with to columns, zeros where it answers 12. */
 uint32_t wisteria_outputs(const wisteria_controller *controller, uint32_t *columns);
+
+/* A step among many: its kind, WISTERIA_READ, WISTERIA_WRITE or WISTERIA_LINE; the offset in bytes, or the line; the value of a write, or the level of a line
+ * (a read does not look at it); and the privilege of an access, 0 or 1, which an AINTC alone looks at. */
+typedef struct {
+    uint32_t kind, x, y, privilege;
+} wisteria_step;
+
+/* What it is answered: 0, or the number of the refusal; and the value read, 0 for anything else. */
+typedef struct {
+    uint32_t refusal, value;
+} wisteria_answer;
+
+/* Many steps at once, in words: steps points to steps_len words, four to a step as in wisteria_step, and answers to answers_len words, two to a step as in
+ * wisteria_answer. min(steps_len / 4, answers_len / 2) steps are taken, and no word of answers behind theirs is written. */
+uint32_t wisteria_step_words(wisteria_controller *controller, const uint32_t *steps, size_t steps_len, uint32_t *answers, size_t answers_len);
+
+/* Takes n steps one after the other, each on what those before it left, and writes the answer of each: what the functions above answer, and leave, one by one.
+ * The words of the controller are looked through once and not at every step. There is no limit to n.
+ * A step of another kind is refused by 9 and changes nothing; those behind it are still taken. Answers 0; or 12 where the words are not those of a controller,
+ * and then each step is answered 12 and the value 0, and no word of the controller changes.
+ * steps points to n steps that nothing changes during the call, answers to n answers that nothing else uses; neither is a part of the other, nor of the
+ * controller. */
+static inline uint32_t wisteria_steps_in(wisteria_controller *controller, const wisteria_step *steps, uint32_t n, wisteria_answer *answers)
+{
+    return wisteria_step_words(controller, &steps->kind, 4 * (size_t)n, &answers->refusal, 2 * (size_t)n);
+}
 
 #ifdef __cplusplus
 }

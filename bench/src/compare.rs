@@ -54,6 +54,11 @@ pub trait Subject: Clone {
         Err("nothing is tuned for it".to_string())
     }
 
+    /// What a program of its own says of it on standard error.
+    fn complaint(&self) -> Vec<u8> {
+        Vec::new()
+    }
+
     /// What a program of its own makes of it has all the room it wants.
     fn for_program(self) -> Self;
 

@@ -45,6 +45,7 @@ pub mod picture;
 pub mod program;
 pub mod random;
 pub mod report;
+pub mod sheet;
 pub mod stack;
 pub mod tally;
 pub mod trace;

@@ -32,10 +32,15 @@ impl Program {
         command
     }
 
-    /// What the program prints for a trace or table. It has to end well, in time, and with nothing on standard error.
+    /// What the program prints for a trace. It has to end well, in time, and with nothing on standard error.
     pub fn ask(&self, input: &[u8]) -> Outcome {
+        self.ask_with(input, b"")
+    }
+
+    /// What it prints for a trace or table of which it says just this on standard error.
+    pub fn ask_with(&self, input: &[u8], complaint: &[u8]) -> Outcome {
         let (printed, complaints) = self.run(&[], input)?;
-        match complaints.is_empty() {
+        match complaints == complaint {
             true => Ok(printed),
             false => Err(format!("on standard error: {}", complaints.escape_ascii())),
         }

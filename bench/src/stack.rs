@@ -2,6 +2,7 @@
 
 pub mod coverage;
 pub mod generate;
+pub mod lead;
 pub mod text;
 
 use self::text::Misread;

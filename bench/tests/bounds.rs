@@ -99,14 +99,7 @@ fn generated_traces_reach_every_term_end_and_break() {
             let bounded = records.bounded(&wait);
             match bounded.bound {
                 Bound::Terms(terms) => {
-                    let each = [
-                        terms.pending,
-                        terms.edges,
-                        terms.commands,
-                        terms.turns,
-                        terms.closed_active,
-                        terms.remembered,
-                    ];
+                    let each = terms.each();
                     for (reached, term) in reached.iter_mut().zip(each) {
                         *reached += u32::from(term > 0);
                     }

@@ -1,5 +1,5 @@
 //! The examples: a readable text, the bytes it stands for and their listing have to belong together, the waves and the
-//! picture of some of them, and a typed table and its line.
+//! picture of some of them, and a typed table, its line and what leads to its slip.
 
 use std::collections::BTreeMap;
 use std::fs;
@@ -7,6 +7,7 @@ use std::path::PathBuf;
 
 use bench::hex;
 use bench::listing::listing;
+use bench::stack::lead::lead;
 use bench::stack::{line, text};
 use bench::trace::{decode, encode, NUMBER_BYTES, PROGRAM_LIMIT};
 use bench::{picture, typed, waves};
@@ -43,6 +44,9 @@ fn all() -> Examples {
     let mut examples = BTreeMap::<_, BTreeMap<_, _>>::new();
     for entry in fs::read_dir(folder).expect("the folder of the examples can be read") {
         let path = entry.expect("an entry can be read").path();
+        if path.is_dir() {
+            continue; // programs that ask a controller, which have no trace of their own
+        }
         let part = |part: Option<&std::ffi::OsStr>| {
             let part = part.expect("a file has a name and an ending");
             part.to_str().expect("names are plain text").to_owned()
@@ -173,7 +177,13 @@ fn each_table_has_its_line() {
     assert!(tables.len() >= 8);
     for (name, files) in tables {
         let endings: Vec<&str> = files.keys().map(String::as_str).collect();
-        assert_eq!(endings, ["line", "table"], "{name}");
+        match lead(&files["table"]) {
+            None => assert_eq!(endings, ["line", "table"], "{name}"),
+            Some(slip) => {
+                assert_eq!(endings, ["line", "slip", "table"], "{name}");
+                assert_eq!(files["slip"], slip.into_bytes(), "{name}");
+            }
+        }
         assert!(name.starts_with("stack-"), "{name}");
         let (there, expected) = (&files["line"], line(&files["table"]));
         assert_eq!(

@@ -4,7 +4,7 @@
 use std::process::ExitCode;
 
 use bench::bounds::text::told;
-use bench::bounds::waits::{Bound, Bounded, Summary, Terms};
+use bench::bounds::waits::{Bound, Bounded, Summary};
 use bench::bounds::Records;
 use bench::compare::MOST_FAILURES;
 use bench::model::aic::SOURCES;
@@ -53,7 +53,7 @@ impl Coverage {
                         return Err(format!("more is started than its bound: {wait:?}"));
                     }
                     self.met += u64::from(wait.started > 0 && wait.started == terms.sum());
-                    let each = six(&terms);
+                    let each = terms.each();
                     let some = each.iter().filter(|&&term| term > 0).count();
                     self.several += u64::from(some > 2);
                     for (count, term) in self.terms.iter_mut().zip(each) {
@@ -84,17 +84,6 @@ impl Coverage {
     }
 }
 
-fn six(terms: &Terms) -> [u32; 6] {
-    [
-        terms.pending,
-        terms.edges,
-        terms.commands,
-        terms.turns,
-        terms.closed_active,
-        terms.remembered,
-    ]
-}
-
 /// The figures of a source as the library writes them: waits, unended, unbounded, the first step, the terms, their sum.
 type Numbers = ([u32; 4], [u32; 6], u64);
 
@@ -108,7 +97,7 @@ fn expected(summary: &Summary) -> Numbers {
             summary.unbounded,
             summary.first_unbounded.unwrap_or(0),
         ],
-        six(&most),
+        most.each(),
         u64::from(most.sum()),
     )
 }

@@ -216,7 +216,7 @@ impl Other {
 
     fn ask<S: Subject>(&mut self, case: &S) -> Outcome {
         match self {
-            Other::Program(program) => program.ask(case.input()),
+            Other::Program(program) => program.ask_with(case.input(), &case.complaint()),
             Other::Batch(batch) => case.heard(batch.ask(case.request())?),
             Other::Exports => in_process(case),
             Other::Tuned => case.by_tuned(),

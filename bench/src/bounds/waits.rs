@@ -28,6 +28,18 @@ impl Terms {
         let by_line = self.edges + self.turns + self.closed_active;
         self.pending + self.commands + by_line + self.remembered
     }
+
+    /// All six, in this order.
+    pub fn each(&self) -> [u32; 6] {
+        [
+            self.pending,
+            self.edges,
+            self.commands,
+            self.turns,
+            self.closed_active,
+            self.remembered,
+        ]
+    }
 }
 
 /// A wait with what bounds it.
@@ -106,7 +118,7 @@ impl Records {
     }
 
     /// The register that the step to a record wrote, and the value.
-    fn written(&self, at: usize) -> Option<(Register, u32)> {
+    pub fn written(&self, at: usize) -> Option<(Register, u32)> {
         match self.carried_out(at)? {
             Step::Write { offset, value } => Some((Register::at(offset)?, value)),
             _ => None,

@@ -2,7 +2,7 @@
 //! sources wait, other tours of an AIC, cut and damaged ones, and a share of all that is listed.
 
 mod sweeps;
-mod waits;
+pub(crate) mod waits;
 
 pub use self::sweeps::steps_of_kind;
 

@@ -26,7 +26,7 @@ pub fn report(names: &mut impl BufRead, to: &mut impl Write) -> io::Result<()> {
 
 /// The next name: what stands before a line feed, less one carriage return right before it, or before the end if
 /// anything does.
-fn next_name(names: &mut impl BufRead) -> io::Result<Option<Vec<u8>>> {
+pub fn next_name(names: &mut impl BufRead) -> io::Result<Option<Vec<u8>>> {
     let mut name = Vec::new();
     if names.read_until(b'\n', &mut name)? == 0 {
         return Ok(None);
@@ -55,7 +55,7 @@ fn line_of(name: &[u8], totals: &mut Totals) -> Vec<u8> {
 
 /// What the file of a name begins with, one byte more than the longest trace at most; nothing if it cannot be opened or
 /// read.
-fn content(name: &[u8]) -> Option<Vec<u8>> {
+pub fn content(name: &[u8]) -> Option<Vec<u8>> {
     if name.is_empty() || name.len() >= LONGEST_NAME || name.contains(&0) {
         return None;
     }

@@ -166,6 +166,7 @@ impl Coverage {
                 self.figure(&table, bytes);
                 self.typed(text);
                 self.layout(text);
+                self.named(text);
             }
             (Err(Fault::Misread(misread)), _) => {
                 self.reach(Item::Misread(Field::of(misread.nth), misread.slip));
@@ -291,6 +292,19 @@ impl Coverage {
         self.fact_if(has(|byte| !byte.is_ascii()), "other bytes in a comment");
     }
 
+    /// Of a table with a figure.
+    fn named(&mut self, text: &[u8]) {
+        let names = text::names(text);
+        let some = |fits: &dyn Fn(&[u8]) -> bool| names.iter().any(|name| fits(name));
+        self.fact_if(some(&|name| name.len() == 1), "a name of 1 byte");
+        self.fact_if(some(&|name| name.len() == 24), "a name of 24 bytes");
+        self.fact_if(some(&|name| name.contains(&b' ')), "a space in a name");
+        self.fact_if(some(&|name| name.contains(&b'#')), "a # in a name");
+        self.fact_if(!names[0].is_empty(), "a name of the first source");
+        self.fact_if(!names[SOURCES - 1].is_empty(), "a name of the last source");
+        self.fact_if(!some(&|name| name.is_empty()), "a name of every source");
+    }
+
     fn misread(&mut self, text: &[u8], nth: usize) {
         let words = words(text);
         self.fact_if(text.is_empty(), "an empty text");
@@ -377,7 +391,12 @@ impl Listed for Coverage {
             items.push(Item::AtLimit(number));
             items.extend([Far::ByOne, Far::ByMore].map(|far| Item::Beyond(number, far)));
         }
-        let slips = [Slip::Missing, Slip::OtherCharacter, Slip::NoDigit];
+        let slips = [
+            Slip::Missing,
+            Slip::OtherCharacter,
+            Slip::NoDigit,
+            Slip::Quote,
+        ];
         for field in Field::NUMBERS {
             items.extend(slips.map(|slip| Item::Misread(field, slip)));
             items.push(match field {
@@ -388,6 +407,7 @@ impl Listed for Coverage {
             items.extend(forms.map(|form| Item::Typed(field, form)));
         }
         items.push(Item::Misread(Field::Behind, Slip::TooMany));
+        items.push(Item::Misread(Field::Behind, Slip::Quote));
         items.extend(FACTS.map(Item::Fact));
         items
     }
@@ -402,7 +422,7 @@ fn limited() -> Vec<Limited> {
     all
 }
 
-const FACTS: [&str; 37] = [
+const FACTS: [&str; 44] = [
     "the figure 0",
     "the figure 524,280",
     "bit 0 of the forced word",
@@ -430,6 +450,13 @@ const FACTS: [&str; 37] = [
     "something before the first number",
     "nothing behind the last number",
     "all numbers on one line",
+    "a name of 1 byte",
+    "a name of 24 bytes",
+    "a space in a name",
+    "a # in a name",
+    "a name of the first source",
+    "a name of the last source",
+    "a name of every source",
     "an empty text",
     "no word at all",
     "the prefix 0X",

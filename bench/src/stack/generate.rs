@@ -7,6 +7,7 @@ use std::time::Duration;
 
 use self::sheet::{Form, Sheet};
 use super::coverage::Coverage;
+use super::lead::lead;
 use super::text::NUMBERS;
 use super::{line, needed, Row, Table, MOST_FRAME, MOST_PRIORITY, MOST_TYPE};
 use crate::batch::Request;
@@ -58,6 +59,11 @@ impl Subject for Typed {
     #[cfg(feature = "exports")]
     fn by_library(&self) -> crate::compare::Outcome {
         crate::exports::stack(self)
+    }
+
+    fn complaint(&self) -> Vec<u8> {
+        let line = lead(&self.text).map(|line| format!("stacksize: {line}"));
+        line.unwrap_or_default().into_bytes()
     }
 
     fn for_program(self) -> Typed {
@@ -117,6 +123,9 @@ fn random_typed(random: &mut Random) -> Typed {
     let mut sheet = Sheet::plain(&table);
     if !matches!(style, Style::Plain) && random.below(4) > 0 {
         adorn(random, &mut sheet);
+    }
+    if random.one_in(3) {
+        name(random, &mut sheet);
     }
     let (name, text) = match style {
         Style::Plain => ("plain", sheet.text()),
@@ -226,6 +235,46 @@ fn adorn(random: &mut Random, sheet: &mut Sheet) {
     }
 }
 
+/// What may stand between quotes, or may not: the last ones are no names.
+const NAMES: [&[u8]; 14] = [
+    b"a",
+    b"timer tick",
+    b"#",
+    b"0 0 0 # 7",
+    b" ",
+    b"~!$%'()*+,-./:;=?@[]^_`{|",
+    b"twenty-four characters..",
+    b"twenty-five characters...",
+    b"",
+    b"a<b",
+    b"a&b",
+    b"a\tb",
+    b"a\nb",
+    b"\x7F",
+];
+
+/// Names behind some sources; now and then one that is none, or one elsewhere.
+fn name(random: &mut Random, sheet: &mut Sheet) {
+    let good = random.pick(&[5, 7, 7, 7, NAMES.len()]);
+    for source in 0..SOURCES {
+        if random.one_in(3) {
+            sheet.name(
+                3 * source + 3,
+                random.pick(&NAMES[..good]),
+                random.pick::<&[u8]>(&[b" ", b"\t", b"#\n", b"\n"]),
+            );
+        }
+    }
+    if random.one_in(4) {
+        let nth = random.below(NUMBERS as u32 + 1) as usize;
+        sheet.name(
+            nth,
+            random.pick(&NAMES),
+            random.pick::<&[u8]>(&[b" ", b" ", b""]),
+        );
+    }
+}
+
 /// Words that are no number, or none of 32 bits.
 const NO_NUMBERS: [&[u8]; 18] = [
     b"0x",
@@ -274,7 +323,7 @@ fn harmed(random: &mut Random, mut text: Vec<u8>) -> Vec<u8> {
             2 => text[at] = random.below(256) as u8,
             3 => drop(text.remove(at)),
             4 => text.insert(at, text[at]),
-            _ => text.insert(at, random.pick(b"0 \n\t\r#xX9aF")),
+            _ => text.insert(at, random.pick(b"0 \n\t\r#xX9aF\"")),
         }
         if text.is_empty() || !random.one_in(3) {
             return text;

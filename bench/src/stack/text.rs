@@ -1,4 +1,4 @@
-//! A priority table as people type it, read into its 98 numbers: words between white space, comments left out.
+//! A priority table as people type it, read into its 98 numbers: words between white space, comments and names left out.
 
 use super::{Fault, Row, Table};
 use crate::model::aic::SOURCES;
@@ -23,6 +23,8 @@ pub enum Slip {
     TooManyBits,
     /// Something stands behind the last number.
     TooMany,
+    /// A quote that begins no name, or one where none may stand.
+    Quote,
 }
 
 /// The first slip of a text.
@@ -84,33 +86,72 @@ pub fn numbers(text: &[u8]) -> Result<Vec<Option<u32>>, Misread> {
     match words.get(NUMBERS) {
         None => Ok(numbers),
         Some(word) => Err(Misread {
-            slip: Slip::TooMany,
+            slip: match word.characters {
+                [b'"', ..] => Slip::Quote,
+                _ => Slip::TooMany,
+            },
             nth: NUMBERS,
             offset: word.offset,
         }),
     }
 }
 
-/// The words of all lines; what stands behind a `#` is none.
+/// The words of all lines; what stands behind a `#` is none, nor is a name.
 pub fn words(text: &[u8]) -> Vec<Word<'_>> {
-    let mut words = Vec::new();
-    let mut start = 0;
-    for line in text.split(|&byte| byte == b'\n') {
-        let typed = line.split(|&byte| byte == b'#').next().unwrap_or(line);
-        let mut offset = start;
-        for characters in typed.split(|byte| b" \t\r".contains(byte)) {
-            if !characters.is_empty() {
-                words.push(Word { offset, characters });
+    parts(text).0
+}
+
+/// The name of each source, empty where it has none, whatever else is wrong with the text.
+pub fn names(text: &[u8]) -> [&[u8]; SOURCES] {
+    parts(text).1
+}
+
+/// The words of a text, and the names behind the third, the sixth and so on up to the last source's.
+fn parts(text: &[u8]) -> (Vec<Word<'_>>, [&[u8]; SOURCES]) {
+    let (mut words, mut names) = (Vec::new(), [b"".as_slice(); SOURCES]);
+    let mut offset = 0;
+    while let Some(&first) = text.get(offset) {
+        let rest = &text[offset..];
+        let up_to = |ends: &[u8]| rest.iter().position(|byte| ends.contains(byte));
+        let place = match words.len() {
+            count if count > 0 && count % 3 == 0 => names.get_mut(count / 3 - 1),
+            _ => None,
+        };
+        let free = place.filter(|name| name.is_empty());
+        offset += match (first, free.zip(quoted(rest))) {
+            (b' ' | b'\t' | b'\r' | b'\n', _) => 1,
+            (b'#', _) => up_to(b"\n").unwrap_or(rest.len()),
+            (_, Some((name, there))) => {
+                *name = there;
+                there.len() + 2
             }
-            offset += characters.len() + 1;
-        }
-        start += line.len() + 1;
+            _ => {
+                let characters = &rest[..up_to(b" \t\r\n#").unwrap_or(rest.len())];
+                words.push(Word { offset, characters });
+                characters.len()
+            }
+        };
     }
-    words
+    (words, names)
+}
+
+/// The name in quotes with which a text begins, where white space, a comment or nothing stands behind it.
+fn quoted(text: &[u8]) -> Option<&[u8]> {
+    let behind = text.strip_prefix(b"\"")?;
+    let name = &behind[..behind.iter().position(|&byte| byte == b'"')?];
+    let fits = |byte: &u8| (b' '..=b'~').contains(byte) && !b"<>&".contains(byte);
+    let parted = match behind.get(name.len() + 1) {
+        Some(next) => b" \t\r\n#".contains(next),
+        None => true,
+    };
+    ((1..=24).contains(&name.len()) && name.iter().all(fits) && parted).then_some(name)
 }
 
 /// The value of a number in decimal or, behind `0x`, in hexadecimal; none where it passes 32 bits.
 fn value(word: &[u8]) -> Result<Option<u32>, Slip> {
+    if word.starts_with(b"\"") {
+        return Err(Slip::Quote);
+    }
     let (digits, base) = match word.strip_prefix(b"0x") {
         Some(digits) => (digits, 16),
         None => (word, 10),
@@ -251,6 +292,62 @@ mod tests {
             let seen = (misread.slip, misread.nth, misread.offset);
             assert_eq!(seen, expected, "{byte:#x}");
         }
+    }
+
+    /// A text of zeros with something behind the nth number, from 1.
+    fn behind(nth: usize, what: &str) -> String {
+        format!("{}{what}{}", "0 ".repeat(nth), " 0".repeat(NUMBERS - nth))
+    }
+
+    #[test]
+    fn a_name_stands_behind_three_numbers() {
+        for source in 0..SOURCES {
+            let text = behind(3 * source + 3, "\"timer # tick\"");
+            assert_eq!(printed(&text), "0 bytes\n", "{source}");
+            let names = names(text.as_bytes());
+            for (other, name) in names.iter().enumerate() {
+                let expected = match other == source {
+                    true => b"timer # tick".as_slice(),
+                    false => b"",
+                };
+                assert_eq!(*name, expected);
+            }
+        }
+        for nth in (0..=NUMBERS).filter(|nth| *nth == 0 || nth % 3 != 0 || *nth > 96) {
+            let slip = format!("E 8 {}\n", 2 * nth);
+            assert_eq!(printed(&behind(nth, "\"name\"")), slip, "{nth}");
+        }
+        assert_eq!(printed(&behind(3, "#\"\n\"a\"# \"\n")), "0 bytes\n");
+        assert_eq!(printed(&behind(3, "\"a\"  \"b\"")), "E 8 11\n");
+        assert_eq!(printed(&behind(3, "# \"\n")), "0 bytes\n");
+    }
+
+    #[test]
+    fn a_name_has_1_to_24_printable_characters() {
+        let quoted = |name: &str| printed(&behind(3, &format!("\"{name}\"")));
+        for name in ["a", " ", "#", "~", &"x".repeat(24), "a, b; c!"] {
+            assert_eq!(quoted(name), "0 bytes\n", "{name}");
+        }
+        for name in [
+            "",
+            &"x".repeat(25),
+            "a\tb",
+            "a\nb",
+            "<",
+            ">",
+            "&",
+            "\u{7f}",
+            "é",
+        ] {
+            assert_eq!(quoted(name), "E 8 6\n", "{name}");
+        }
+        for text in ["\"a", "\"a\"0", "\"a\"\"b\"", "\"", "\"a\".", "\"a b\"x"] {
+            assert_eq!(printed(&behind(3, text)), "E 8 6\n", "{text}");
+        }
+        assert_eq!(
+            printed(&format!("0 0 0\"a\"{}", " 0".repeat(95))),
+            "E 8 4\n"
+        );
     }
 
     #[test]

@@ -149,7 +149,7 @@ pub fn add(a: u32, b: u32) -> u32
 }
 
 // n and the number of sources that two words share.
-fn plus(n: u32, a: u32, b: u32) -> u32
+pub fn plus(n: u32, a: u32, b: u32) -> u32
     ensures { λ r. ⌜ r ≡ plus n a b ⌝ }
 {
     add(n, words::count(words::meet(a, b)))
@@ -231,7 +231,8 @@ pub fn marks_of(s: Aic, x: Step, ok: bool) -> Marks
     }
 }
 
-fn no_marks() -> Marks
+// What a step brings that is refused.
+pub fn no_marks() -> Marks
     ensures { λ r. ⌜ r ≡ noMarks ⌝ }
 {
     Marks {

@@ -39,7 +39,7 @@ pub data Way (w : ℕ) (asks own any : Bool) (v : ℕ) : Type 0 where
   rests : asks ≡ true → own ≡ false → w ≡ 1 → v ≡ 1 → Way w asks own any v
   goes : asks ≡ true → own ≡ false → 1 < w → v ≡ w + one any → Way w asks own any v
 
-way : (w : ℕ) (asks own any : Bool) → Way w asks own any (waitNext w asks own (any && not own))
+pub way : (w : ℕ) (asks own any : Bool) → Way w asks own any (waitNext w asks own (any && not own))
 unfolding waitNext pick
 way w false own any = ends refl refl
 way w true true any = starts refl refl refl

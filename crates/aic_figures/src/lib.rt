@@ -99,7 +99,7 @@ fn begin_all(book: &mut Book, some: u32)
 // ---- entries and starts
 
 // The source of the entry above so many, 32 where there is none or it is a mark.
-fn started_from(room: &Room, before: u32) -> u32
+pub fn started_from(room: &Room, before: u32) -> u32
     ensures { λ r. ⌜ ((t : Aic) → sound t ≡ true → Laid t (now (room .entry)) → r ≡ startedFrom before t) ⌝ }
 {
     if room[aic_layout::DEPTH] <= before {
@@ -158,7 +158,7 @@ fn count_start(book: &mut Book, by: u32)
 // ---- a step
 
 // Those that wait after a step: they ask, are not started by it, and waited before it or did not ask.
-fn waits_after(asks: u32, by: u32, asked: u32, waiting: u32) -> u32
+pub fn waits_after(asks: u32, by: u32, asked: u32, waiting: u32) -> u32
     ensures { λ r. ⌜ ((i : ℕ) → i < 32 → bit r i ≡ ((bit asks i && not (eqb i by)) && (bit waiting i || not (bit asked i)))) × (r < 4294967296) ⌝ }
 {
     let others = words::with_bit(asks, by, false);

@@ -76,7 +76,8 @@ pub fn has_bound(b: Bound) -> bool
     (1 < b.wait) & (b.broke == 0)
 }
 
-fn figures_with(n: u32, f: Figures, b: Bound) -> Figures
+// The figures after the n-th step, by which b is observed of the wait that stands.
+pub fn figures_with(n: u32, f: Figures, b: Bound) -> Figures
     ensures { λ r. ⌜ r ≡ figuresWith n f b ⌝ }
 {
     let largest = better_if(b.wait < 2, f.largest, f.bound);

@@ -2,13 +2,15 @@
 // of a sound record, derived and unused words among it, 12, and nothing changes (01, Numbers).
 ghost use mathlib.Core.Path.{_≡_};
 ghost use mathlib.Core.Bool.{true, false};
-ghost use Prim.Native.Nat.{_<_};
+ghost use Prim.Native.Nat.{_*_, _/_, _≤_, _<_, min};
+ghost use lib.ListN.{length};
 ghost use Rattle.words.specs.Choice.{pick};
-ghost use Rattle.steps.specs.Refusals.{carriedOut, misconfigured, privileged};
+ghost use Rattle.steps.specs.Refusals.{carriedOut, misconfigured, unsound, privileged};
 ghost use Rattle.steps.specs.declared.Step.the-variants.{Read, Write, Line};
-ghost use Rattle.rooms.specs.Reply.{told};
+ghost use Rattle.rooms.specs.Reply.{reply, told};
 ghost use Rattle.turns.specs.Turns.{made, stepOf};
 ghost use Rattle.machine_record.specs.declared.Machine.{Machine};
+ghost use Rattle.controller.specs.Batch.{stepTold, Taken, afterSteps, kthReply, answersIn, stepsIn, SteppedAll};
 ghost use Rattle.controller.specs.Controller.{Stands, Vacant, same, accepted, startRefusal, Started, Stepped, Showing};
 use kinds::Configuration;
 use machine_record::Machine;
@@ -98,6 +100,70 @@ fn step(room: &mut Room, kind: u32, x: u32, y: u32, privilege: u32) -> u64
     }
     rooms::refuse(steps::UNSOUND)
 }
+
+// ---- many steps at once
+
+// Four words tell a step: its kind, 1 to 3 as in a trace, its two numbers and its privilege. Two answer it: refusal and value. The words of the controller are
+// looked through once, before the first.
+pub fn steps_in(room: &mut Room, words: &[u32], answers: &mut [u32]) -> u32
+    ensures { λ r. ⌜ SteppedAll (now (room .entry)) (now (words .entry)) (now (answers .entry)) (stepsIn (now (words .entry)) (now (answers .entry))) (now (room .exit)) (now (answers .exit)) r ⌝ }
+{
+    let n = number_of(words.len(), answers.len());
+    if is_controller(room) {
+        take_all(room, words, answers, n);
+        return steps::CARRIED_OUT;
+    }
+    refuse_all(answers, n);
+    steps::UNSOUND
+}
+
+// As many steps as are told whole and as there is room to answer.
+fn number_of(words: usize, room: usize) -> usize
+    ensures { λ r. ⌜ r ≡ min (words / 4) (room / 2) ⌝ }
+{
+    if words / 4 < room / 2 {
+        return words / 4;
+    }
+    room / 2
+}
+
+fn take_all(room: &mut Room, words: &[u32], answers: &mut [u32], n: usize)
+    requires { ⌜ (4 * n ≤ length (now words)) × (2 * n ≤ length (now answers)) ⌝ }
+    ensures { λ _. ⌜ ((m : Machine) → Stands (now (room .entry)) m → Stands (now (room .exit)) (afterSteps m (now (words .entry)) n) × (now (answers .exit) ≡ answersIn (kthReply m (now (words .entry))) (now (answers .entry)) n)) ⌝ }
+{
+    let mut k: usize = 0;
+    while k < n {
+        let at = 4 * k;
+        let a = take(room, words[at], words[at + 1], words[at + 2], words[at + 3]);
+        answers[2 * k] = rooms::refusal_in(a);
+        answers[2 * k + 1] = rooms::value_in(a);
+        k = k + 1;
+    }
+}
+
+// The step of a kind; there is none of another than 1 to 3.
+fn take(room: &mut Room, kind: u32, x: u32, y: u32, privilege: u32) -> u64
+    ensures { λ r. ⌜ ((m : Machine) → Stands (now (room .entry)) m → Taken (stepTold m kind x y privilege) (now (room .exit)) (told r)) ⌝ }
+{
+    if (0 < kind) & (kind < 4) {
+        return machine_room::step(room, kind, x, y, privilege);
+    }
+    rooms::refuse(steps::UNKNOWN)
+}
+
+fn refuse_all(answers: &mut [u32], n: usize)
+    requires { ⌜ 2 * n ≤ length (now answers) ⌝ }
+    ensures { λ _. ⌜ now (answers .exit) ≡ answersIn (λ _. reply unsound 0) (now (answers .entry)) n ⌝ }
+{
+    let mut k: usize = 0;
+    while k < n {
+        answers[2 * k] = steps::UNSOUND;
+        answers[2 * k + 1] = 0;
+        k = k + 1;
+    }
+}
+
+// ---- what it shows, and whether it is one
 
 // What a listing shows of it.
 pub fn outputs(room: &Room) -> Shown

@@ -1,16 +1,19 @@
 -- The promises of the words for what a step did, kept.
-use Prim.Native.Nat.{ℕ, _+_, _-_, _%_, _<_, _≤_}
+use Prim.Native.Nat.{ℕ, zero, suc, _+_, _-_, _<_, _≤_}
 use mathlib.Core.Path.{_≡_, refl, sym, ap, ap₂, _∙_}
 use mathlib.Core.Bool.{Bool, true, false, not, _&&_}
 use mathlib.Core.List.{List, [], _++_, append-nil}
 use mathlib.Core.Logic.{_↔_, _≢_}
 use native.Mathlib.Omega.{arith}
+use native.Mathlib.Decide.{decLt, ℕ-discrete}
 use lib.Dec.{eqb, ltb}
+use lib.ListN.{getD}
 use borrow.Author.Tests.{eq-eqb, ne-eqb, lt-ltb, le-ltb, not-true}
 use Rattle.words.specs.Choice.{pick}
-use Rattle.words.specs.Counting.{countBelow, lowestBelow}
+use Rattle.words.specs.Counting.{one, countBelow, lowestBelow}
 use Rattle.words.proofs.ChoiceLaws.{pick-true, pick-false}
-use Rattle.words.proofs.TruthLaws.{and-left, and-right, and-both}
+use Rattle.words.proofs.CountingLaws.{count-same, lowest-found}
+use Rattle.words.proofs.TruthLaws.{and-left, and-right, and-both, not-holds}
 use Rattle.phrases.specs.Phrases.{bytes, counted}
 use Rattle.steps.specs.declared.Step.{Step}
 use Rattle.steps.specs.declared.Step.the-variants.{Write}
@@ -25,67 +28,26 @@ use Rattle.machine_record.specs.declared.Machine.{Machine}
 use Rattle.machine_record.specs.Shown.{shown}
 use Rattle.deeds.specs.Deeds.{openedWords, closedWords, ends, entryWords, sameSeen, seenWords, gains, furtherWords, hostWords, gainWords, cicDeeds, chosenWords, choiceWords, aintcDeeds, turnWords, sideWords}
 use Rattle.deeds.specs.Promises.{Promises}
-
--- ---- the AIC
-
-module _ (s : Aic) (x : Step) (t : Aic) where
-  starts : s .depth < t .depth → lastSource t ≢ 0 → lastSource t < 32 → lastLevel t < 8
-      → entryWords s x t ≡ counted (bytes "; starts source ") (lastSource t) ++ counted (bytes " at level ") (lastLevel t)
-  unfolding entryWords openedWords
-  starts h n a b =
-      sym (pick-true _ (lt-ltb (s .depth) (t .depth) h))
-      ∙ sym (pick-false _ (ne-eqb (lastSource t % 32) 0 (λ e. n (omega (arith, e, a)))))
-      ∙ ap₂ (λ (k l : ℕ). counted (bytes "; starts source ") k ++ counted (bytes " at level ") l) (omega (arith, a)) (omega (arith, b))
-
-  marks : s .depth < t .depth → lastSource t ≡ 0 → entryWords s x t ≡ bytes "; opens a mark"
-  unfolding entryWords openedWords
-  marks h n = sym (pick-true _ (lt-ltb (s .depth) (t .depth) h)) ∙ sym (pick-true _ (eq-eqb (lastSource t % 32) 0 (omega (arith, n))))
-
-  closes : t .depth < s .depth → lastSource s ≢ 0 → lastSource s < 32 → entryWords s x t ≡ counted (bytes "; closes source ") (lastSource s)
-  unfolding entryWords closedWords
-  closes h n a =
-      sym (pick-true _ (lt-ltb (t .depth) (s .depth) h) ∙ pick-false _ (le-ltb (s .depth) (t .depth) (omega (arith, h))))
-      ∙ sym (pick-false _ (ne-eqb (lastSource s % 32) 0 (λ e. n (omega (arith, e, a)))))
-      ∙ ap (counted (bytes "; closes source ")) (omega (arith, a))
-
-  closes-mark : t .depth < s .depth → lastSource s ≡ 0 → entryWords s x t ≡ bytes "; closes a mark"
-  unfolding entryWords closedWords
-  closes-mark h n =
-      sym (pick-true _ (lt-ltb (t .depth) (s .depth) h) ∙ pick-false _ (le-ltb (s .depth) (t .depth) (omega (arith, h))))
-      ∙ sym (pick-true _ (eq-eqb (lastSource s % 32) 0 (omega (arith, n))))
-
-nothing-open : (s : Aic) (v : ℕ) (t : Aic) → s .depth ≡ 0 → t .depth ≡ 0 → entryWords s (Write 0x130 v) t ≡ bytes "; nothing open"
-unfolding entryWords ends
-nothing-open s v t e f =
-    sym (pick-true _ (eq-eqb (s .depth) 0 e) ∙ pick-false _ (le-ltb (t .depth) (s .depth) (omega (arith, e, f))) ∙ pick-false _ (le-ltb (s .depth) (t .depth) (omega (arith, e, f))))
-
--- ---- what is remembered
-
-same-seen : (a : Seen) → seenWords a a ≡ []
-unfolding seenWords sameSeen
-same-seen a =
-    sym (pick-true _ (and-both (and-both (and-both (eq-eqb (a .what) (a .what) refl) (eq-eqb (a .source) (a .source) refl)) (eq-eqb (a .level) (a .level) refl)) (eq-eqb (a .vector) (a .vector) refl)))
-
-other-seen : (a b : Seen) → a .what ≢ b .what → sameSeen a b ≡ false
-unfolding sameSeen
-other-seen a b h = ap (λ (t : Bool). t && eqb (a .source) (b .source) && eqb (a .level) (b .level) && eqb (a .vector) (b .vector)) (ne-eqb (a .what) (b .what) h)
-
-forgets : (a b : Seen) → a .what ≢ 0 → b .what ≡ 0 → seenWords a b ≡ bytes "; forgets"
-unfolding seenWords
-forgets a b h e = sym (pick-true _ (eq-eqb (b .what) 0 e) ∙ pick-false _ (other-seen a b (λ z. h (z ∙ e))))
-
-remembers : (a b : Seen) → a .what ≢ 1 → b .what ≡ 1 → b .source < 32 → seenWords a b ≡ counted (bytes "; remembers source ") (b .source)
-unfolding seenWords
-remembers a b h e l =
-    sym (pick-true _ (eq-eqb (b .what) 1 e) ∙ pick-false _ (ne-eqb (b .what) 0 (λ z. omega (arith, z, e))) ∙ pick-false _ (other-seen a b (λ z. h (z ∙ e))))
-    ∙ ap (counted (bytes "; remembers source ")) (omega (arith, l))
-
-remembers-none : (a b : Seen) → a .what ≢ 2 → b .what ≡ 2 → seenWords a b ≡ bytes "; remembers no source"
-unfolding seenWords
-remembers-none a b h e =
-    sym (pick-false _ (ne-eqb (b .what) 1 (λ z. omega (arith, z, e))) ∙ pick-false _ (ne-eqb (b .what) 0 (λ z. omega (arith, z, e))) ∙ pick-false _ (other-seen a b (λ z. h (z ∙ e))))
+use Rattle.deeds.proofs.EntryLaws.{starts, marks, closes, closes-mark, nothing-open, same-seen, forgets, remembers, remembers-none}
+use Rattle.deeds.proofs.SaidLaws.{remembers-told, none-told, forgets-told, irq-told, fiq-told}
+use Rattle.deeds.proofs.ToldLaws.{starts-told, marks-told, closes-told, closes-mark-told, nothing-told}
 
 -- ---- the CIC
+
+no-count : (n : ℕ) → countBelow n (λ _. false) ≡ 0
+unfolding countBelow
+no-count zero = refl
+no-count (suc n) = ap (λ (k : ℕ). k + 0) (no-count n)
+
+-- one that passes is counted
+count-hit : (n : ℕ) (p : ℕ → Bool) (h : ℕ) → h < n → p h ≡ true → 0 < countBelow n p
+unfolding countBelow
+count-hit zero p h l t = absurd (omega (arith, l))
+count-hit (suc n) p h l t = go (ℕ-discrete h n) (λ k. count-hit n p h k t)
+  where
+    go : Dec (h ≡ n) → (h < n → 0 < countBelow n p) → 0 < countBelow n p + one (p n)
+    go (yes e) f = let q : one (p n) ≡ 1 = ap (λ (k : ℕ). one (p k)) (sym e) ∙ ap one t in omega (arith, q)
+    go (no e) f = omega (arith, f (omega (arith, l, e)))
 
 gained : (c d : Cic) (h : ℕ) → (gains c d h ≡ true) ↔ ((asserted d (hostNumber h) ≡ true) × (asserted c (hostNumber h) ≡ false))
 unfolding gains
@@ -111,6 +73,28 @@ module _ (what : List ℕ) (c d : Cic) where
   several h =
       sym (pick-false _ (ne-eqb (countBelow 256 (gains c d)) 0 (λ z. omega (arith, z, h))))
       ∙ ap (λ (l : List ℕ). counted what (lowestBelow 256 (gains c d)) ++ l) (sym (pick-false _ (ne-eqb (countBelow 256 (gains c d)) 1 (λ z. omega (arith, z, h)))))
+
+module _ (c d : Cic) where
+  count-some : (n : ℕ) → countBelow n (gains c d) ≡ 0 → (h : ℕ) → h < n → gains c d h ≡ false
+  count-some n e h l = not-holds (gains c d h) (λ t. omega (arith, e, count-hit n (gains c d) h l t))
+
+  none-gained : (gainWords (bytes "; asserts host ") c d ≡ []) ↔ ((h : ℕ) → h < 256 → gains c d h ≡ false)
+  unfolding gainWords hostWords counted bytes
+  none-gained = (
+    λ e. count-some 256 (go (ℕ-discrete (countBelow 256 (gains c d)) 0) e),
+    λ f. none (bytes "; asserts host ") c d (count-same 256 (gains c d) (λ _. false) f ∙ no-count 256),
+  )
+    where
+      go : Dec (countBelow 256 (gains c d) ≡ 0) → gainWords (bytes "; asserts host ") c d ≡ [] → countBelow 256 (gains c d) ≡ 0
+      go (yes z) e = z
+      go (no z) e = let y : _≡_ {A = ℕ} 59 0 = ap (λ (l : List ℕ). getD l 0 0) (pick-false _ (ne-eqb (countBelow 256 (gains c d)) 0 z) ∙ e) in absurd (omega (arith, y))
+
+  lowest-gained : countBelow 256 (gains c d) ≢ 0 → (gains c d (lowestBelow 256 (gains c d)) ≡ true) × ((h : ℕ) → h < lowestBelow 256 (gains c d) → gains c d h ≡ false)
+  lowest-gained n = (lowest-found 256 (gains c d) .found (within (decLt (lowestBelow 256 (gains c d)) 256)), lowest-found 256 (gains c d) .before)
+    where
+      within : Dec (lowestBelow 256 (gains c d) < 256) → lowestBelow 256 (gains c d) < 256
+      within (yes l) = l
+      within (no l) = absurd (n (count-same 256 (gains c d) (λ _. false) (λ h k. lowest-found 256 (gains c d) .before h (omega (arith, l, k))) ∙ no-count 256))
 
 hosts : (c d : Cic) → cicDeeds c d ≡ gainWords (bytes "; asserts host ") c d ++ gainWords (bytes "; ends host ") d c
 unfolding cicDeeds
@@ -189,6 +173,18 @@ module _ (m a : Machine) where
 pub kept : Promises
 kept =
     record {
+      startsTold = starts-told;
+      marksTold = marks-told;
+      closesTold = closes-told;
+      closesMarkTold = closes-mark-told;
+      nothingTold = nothing-told;
+      remembersTold = remembers-told;
+      noneTold = none-told;
+      forgetsTold = forgets-told;
+      irqTold = irq-told;
+      fiqTold = fiq-told;
+      noneGained = none-gained;
+      lowestGained = lowest-gained;
       starts = starts;
       marks = marks;
       closes = closes;

@@ -1,9 +1,9 @@
--- What is promised of the words for what a step did: each says what the records before and after it hold.
+-- What is promised of the words for what a step did: each is said exactly if the step does that, and says what the records before and after it hold.
 use Prim.Native.Nat.{ℕ, _+_, _-_, _<_, _≤_}
 use mathlib.Core.Path.{_≡_}
 use mathlib.Core.Bool.{Bool, true, false}
 use mathlib.Core.List.{List, [], _++_}
-use mathlib.Core.Logic.{_↔_, _≢_}
+use mathlib.Core.Logic.{_↔_, _≢_, _⊎_}
 use Rattle.words.specs.Counting.{countBelow, lowestBelow}
 use Rattle.phrases.specs.Phrases.{bytes, counted}
 use Rattle.steps.specs.declared.Step.{Step}
@@ -11,6 +11,10 @@ use Rattle.steps.specs.declared.Step.the-variants.{Write}
 use Rattle.aic_record.specs.declared.Aic.{Aic}
 use Rattle.aic_record.specs.declared.Seen.{Seen}
 use Rattle.aic_last.specs.Last.{lastSource, lastLevel}
+use Rattle.aic_record.specs.Sound.{sound}
+use Rattle.aic_record.specs.Promises.{Shaped}
+use Rattle.aic.specs.Model.{step}
+use Rattle.aic_runs.specs.Counted.{starts, startedBy, levelOf, startsOf, closes}
 use Rattle.cic_record.specs.declared.Cic.{Cic}
 use Rattle.cic_record.specs.Kinds.{hostNumber}
 use Rattle.cic_hosts.specs.Hosts.{asserted}
@@ -19,9 +23,36 @@ use Rattle.machine_record.specs.declared.Machine.{Machine}
 use Rattle.machine_record.specs.Shown.{shown}
 use Rattle.deeds.specs.Deeds.{entryWords, seenWords, gains, gainWords, cicDeeds, choiceWords, aintcDeeds, sideWords}
 
+-- what is said of the input that is chosen for an output, b, after a, and of the output that is free
+abbrev pub ChoiceTold : List ℕ → List ℕ → Chosen → Chosen → ℕ → Type 0
+ChoiceTold w f a b n =
+    ((choiceWords w f a b ≡ counted (bytes "; chooses input ") n ++ w) ↔ ((b .active ≡ true) × (b .number ≡ n) × ((a .active ≡ false) ⊎ (a .number ≢ n))))
+    × ((choiceWords w f a b ≡ f) ↔ ((a .active ≡ true) × (b .active ≡ false)))
+
 pub record Promises : Type 0 where
   -- ---- the AIC
 
+  -- what is said of entries is what the step does, from a sound record: each text exactly if the step counts as such (crates/aic_runs/specs/Counted.antt)
+
+  -- a handler of source i is started, at level l (01, AIC, Normal side; 02, 9/12)
+  pub startsTold : (s : Aic) (x : Step) (i l : ℕ) → Shaped s → sound s ≡ true → i < 32 → l < 8
+      → (entryWords s x (step s x .aic) ≡ counted (bytes "; starts source ") i ++ counted (bytes " at level ") l) ↔ ((startsOf i s x ≡ true) × (levelOf s x ≡ l))
+  -- a start of no source opens a mark (02, 3/12)
+  pub marksTold : (s : Aic) (x : Step) → Shaped s → sound s ≡ true
+      → (entryWords s x (step s x .aic) ≡ bytes "; opens a mark") ↔ ((starts s x ≡ true) × (32 ≤ startedBy s x))
+  -- a close that finds a handler of source i last, and one that finds a mark (02, 3/12; 003, 27.8.15)
+  pub closesTold : (s : Aic) (x : Step) (i : ℕ) → Shaped s → sound s ≡ true → 0 < i → i < 32
+      → (entryWords s x (step s x .aic) ≡ counted (bytes "; closes source ") i) ↔ ((closes s x ≡ true) × (lastSource s ≡ i))
+  pub closesMarkTold : (s : Aic) (x : Step) → Shaped s → sound s ≡ true
+      → (entryWords s x (step s x .aic) ≡ bytes "; closes a mark") ↔ ((closes s x ≡ true) × (lastSource s ≡ 0))
+  -- a write of EOICR that finds no entry open (003, 27.8.15)
+  pub nothingTold : (s : Aic) (x : Step) → Shaped s → sound s ≡ true
+      → (entryWords s x (step s x .aic) ≡ bytes "; nothing open") ↔ ((v : ℕ) × (x ≡ Write 0x130 v) × (s .depth ≡ 0))
+  -- what is remembered after a step, source i, that there was none, or nothing any more, and was not before it (02, 9/12)
+  pub remembersTold : (a b : Seen) (i : ℕ) → b .source < 32 → i < 32
+      → (seenWords a b ≡ counted (bytes "; remembers source ") i) ↔ ((a ≢ b) × (b .what ≡ 1) × (b .source ≡ i))
+  pub noneTold : (a b : Seen) → b .what ≤ 2 → (seenWords a b ≡ bytes "; remembers no source") ↔ ((a ≢ b) × (b .what ≡ 2))
+  pub forgetsTold : (a b : Seen) → (seenWords a b ≡ bytes "; forgets") ↔ ((a ≢ b) × (b .what ≡ 0))
   -- one entry more: the handler that is last now, of a source from 1 to 31, at the level of its entry (01, AIC, Normal side)
   pub starts : (s : Aic) (x : Step) (t : Aic) → s .depth < t .depth → lastSource t ≢ 0 → lastSource t < 32 → lastLevel t < 8
       → entryWords s x t ≡ counted (bytes "; starts source ") (lastSource t) ++ counted (bytes " at level ") (lastLevel t)
@@ -42,6 +73,10 @@ pub record Promises : Type 0 where
 
   -- a host is gained exactly if it is asserted after and was not before; one that ended is gained the other way round (01, CIC, outputs)
   pub gained : (c d : Cic) (h : ℕ) → (gains c d h ≡ true) ↔ ((asserted d (hostNumber h) ≡ true) × (asserted c (hostNumber h) ≡ false))
+  -- nothing is said exactly if no host is; else the lowest that is, is told (01, CIC, outputs)
+  pub noneGained : (c d : Cic) → (gainWords (bytes "; asserts host ") c d ≡ []) ↔ ((h : ℕ) → h < 256 → gains c d h ≡ false)
+  pub lowestGained : (c d : Cic) → countBelow 256 (gains c d) ≢ 0
+      → (gains c d (lowestBelow 256 (gains c d)) ≡ true) × ((h : ℕ) → h < lowestBelow 256 (gains c d) → gains c d h ≡ false)
   -- those that became asserted are told first, then those that are no longer
   pub hosts : (c d : Cic) → cicDeeds c d ≡ gainWords (bytes "; asserts host ") c d ++ gainWords (bytes "; ends host ") d c
   -- of several the lowest is told, and how many more
@@ -59,6 +94,9 @@ pub record Promises : Type 0 where
   pub frees : (w f : List ℕ) (a b : Chosen) → b .active ≡ false → a .active ≡ true → choiceWords w f a b ≡ f
   pub keeps : (w f : List ℕ) (a b : Chosen) → b .active ≡ true → a .active ≡ true → a .number ≡ b .number → choiceWords w f a b ≡ []
   pub stays : (w f : List ℕ) (a b : Chosen) → b .active ≡ false → a .active ≡ false → choiceWords w f a b ≡ []
+  -- so input n is told to be chosen exactly if it is chosen now and was not, and the output to be freed exactly if it is free now and was not
+  pub irqTold : (a b : Chosen) (n : ℕ) → b .number < 128 → n < 128 → ChoiceTold (bytes " for IRQ") (bytes "; frees IRQ") a b n
+  pub fiqTold : (a b : Chosen) (n : ℕ) → b .number < 128 → n < 128 → ChoiceTold (bytes " for FIQ") (bytes "; frees FIQ") a b n
   -- of IRQ first, then of FIQ
   pub inputs : (i f j g : Chosen)
       → aintcDeeds i f j g ≡ choiceWords (bytes " for IRQ") (bytes "; frees IRQ") i j ++ choiceWords (bytes " for FIQ") (bytes "; frees FIQ") f g

@@ -19,6 +19,7 @@ ghost use Rattle.coreinterrupt_lent.specs.Lent.{leftBy, startOver, stepTold};
 ghost use Rattle.steps.specs.Refusals.{privileged};
 ghost use Rattle.steps.specs.declared.Step.the-variants.{Read, Write, Line};
 ghost use Rattle.turns.specs.Turns.{made};
+ghost use Rattle.controller.specs.Batch.{stepsIn, SteppedAll};
 ghost use Rattle.controller.specs.Controller.{numbered, Started, Stepped, Showing, shownIn};
 
 // Writes the listing of a trace of at most `limit` steps to the start of the lent buffer. Answers the number of bytes written: what finds no room
@@ -285,4 +286,18 @@ pub extern "C" fn wisteria_outputs<'a>(held: &'a [u32; 2048], columns: &'a mut [
     let three = [s.first, s.second, s.third];
     *columns = three;
     s.refusal
+}
+
+// Many steps at once, of which the controller is looked at once. Four words tell a step, kind, two numbers and privilege; two answer it, refusal and value. As many
+// are carried out as are told whole and as there is room to answer; the header has the same of arrays of structs. Answers 0, or 12 where no controller stands
+// in the words, and then so is each step.
+#[no_mangle]
+pub extern "C" fn wisteria_step_words<'a>(
+    held: &'a mut [u32; 2048],
+    words: &'a [u32],
+    answers: &'a mut [u32],
+) -> u32
+    ensures { λ r. ⌜ SteppedAll (now (held .entry)) (now (words .entry)) (now (answers .entry)) (stepsIn (now (words .entry)) (now (answers .entry))) (now (held .exit)) (now (answers .exit)) r ⌝ }
+{
+    controller::steps_in(held, words, answers)
 }

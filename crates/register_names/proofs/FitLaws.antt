@@ -89,8 +89,8 @@ core-fits = ((refl, refl), ((refl, refl), ((refl, refl), ((refl, refl), ((refl, 
 
 groups-fit : (written : Bool) (systems channels hosts : ℕ) → AllFit (cicGroups written systems channels hosts)
 unfolding bytes short clear pick
-groups-fit true systems channels hosts = ((there-words 32 systems (omega arith), refl, refl), ((there-words 32 systems (omega arith), refl, refl), ((there-words 32 systems (omega arith), refl, refl), ((there-words 32 systems (omega arith), refl, refl), ((there-quarters 256 systems (omega arith), refl, refl), ((there-quarters 64 channels (omega arith), refl, refl), ((there-words 8 hosts (omega arith), refl, refl), tt)))))))
-groups-fit false systems channels hosts = ((there-words 32 systems (omega arith), refl, refl), ((there-words 32 systems (omega arith), refl, refl), ((there-words 32 systems (omega arith), refl, refl), ((there-words 32 systems (omega arith), refl, refl), ((there-quarters 256 systems (omega arith), refl, refl), ((there-quarters 64 channels (omega arith), refl, refl), ((there-words 8 hosts (omega arith), refl, refl), tt)))))))
+groups-fit true systems channels hosts = ((there-words _ _ (omega arith), refl, refl), ((there-words _ _ (omega arith), refl, refl), ((there-words _ _ (omega arith), refl, refl), ((there-words _ _ (omega arith), refl, refl), ((there-quarters _ _ (omega arith), refl, refl), ((there-quarters _ _ (omega arith), refl, refl), ((there-words _ _ (omega arith), refl, refl), tt)))))))
+groups-fit false systems channels hosts = ((there-words _ _ (omega arith), refl, refl), ((there-words _ _ (omega arith), refl, refl), ((there-words _ _ (omega arith), refl, refl), ((there-words _ _ (omega arith), refl, refl), ((there-quarters _ _ (omega arith), refl, refl), ((there-quarters _ _ (omega arith), refl, refl), ((there-words _ _ (omega arith), refl, refl), tt)))))))
 
 pub cic-fits : (written : Bool) (systems channels hosts : ℕ) → AllFit (cicRows written systems channels hosts)
 unfolding bytes short clear pick

@@ -10,6 +10,10 @@ use Rattle.steps.specs.declared.Access.the-variants.{NoRegister}
 use Rattle.aic_registers.specs.Map.{access as aicAccess}
 use Rattle.coreinterrupt.specs.declared.Core.{Core}
 use Rattle.coreinterrupt.specs.Model.{access as coreAccess}
+use Rattle.cic_record.specs.declared.Cic.{Cic}
+use Rattle.cic_layout.specs.Map.{access as cicAccess}
+use Rattle.cic_held.specs.declared.Prioritised.{Prioritised}
+use Rattle.cic_indexed.specs.Tables.{accessAt}
 use Rattle.aintc_registers.specs.Map.{access as aintcAccess}
 use Rattle.register_names.specs.Rows.{Row, placeIn}
 use Rattle.register_names.specs.Maps.{aicRows, coreRows, cicRows, indexRows, aintcRows}
@@ -148,4 +152,11 @@ pub record Promises : Type 0 where
 
   pub aicExactly : (written : Bool) (o : ℕ) → Exactly (aicRows written) o (aicAccess o ≡ NoRegister)
   pub coreExactly : (c : Core) (o : ℕ) → Exactly coreRows o (coreAccess c o ≡ NoRegister)
+  -- of a CIC, and of one with prioritised indices, whatever numbers configure it
+  pub cicExactly : (c : Cic) (written : Bool) (o : ℕ) → Exactly (cicRows written (c .systems) (c .channels) (c .hosts)) o (cicAccess c o ≡ NoRegister)
+  pub indexedExactly : (p : Prioritised) (written : Bool) (o : ℕ) → p .held .choice ≡ 1
+      → Exactly (indexRows written (p .cic .systems) (p .cic .channels) (p .cic .hosts)) o (accessAt p o ≡ NoRegister)
+  -- with the choice off the map of a CIC has them
+  pub choiceOff : (p : Prioritised) (written : Bool) (o : ℕ) → p .held .choice ≡ 0
+      → Exactly (cicRows written (p .cic .systems) (p .cic .channels) (p .cic .hosts)) o (accessAt p o ≡ NoRegister)
   pub aintcExactly : (written : Bool) (o : ℕ) → Exactly (aintcRows written) o (aintcAccess o ≡ NoRegister)

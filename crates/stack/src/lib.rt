@@ -44,7 +44,7 @@ fn taller(t: Table, l: u32, b: u32, i: u32) -> u32
 }
 
 // What level l needs: the largest among the mark's frame and those of its normal sources.
-fn level_bytes(t: Table, l: u32) -> u32
+pub fn level_bytes(t: Table, l: u32) -> u32
     ensures { λ r. ⌜ r ≡ levelBytes t l ⌝ }
 {
     let mut b = t.mark;

@@ -1,19 +1,23 @@
 -- Numbers with white space and comments between them are found where they stand, and read as they are.
 use Prim.Native.Nat.{ℕ, zero, suc, _+_, _-_, _≤_, _<_}
 use mathlib.Core.Path.{_≡_, refl, sym, ap, _∙_, subst}
-use mathlib.Core.Bool.{true, false, not}
+use mathlib.Core.Bool.{true, false, not, _||_}
 use mathlib.Core.List.{List, [], _∷_, _++_, append-assoc, append-nil}
-use mathlib.Core.Logic.{_≢_, inl, inr}
+use mathlib.Core.Logic.{_≢_, _⊎_, inl, inr}
 use native.Mathlib.Nat.{add-zero}
 use native.Mathlib.Omega.{arith}
+use lib.Dec.{eqb}
 use lib.ListN.{length, getD, take, drop, replicate, length-append, List·getD-append}
 use lib.Seq.{getD-append-add, take-append-seam, drop-append-seam}
-use borrow.Author.Tests.{ne-eqb}
+use borrow.Author.Tests.{eqb-true, ne-eqb}
 use Rattle.words.specs.Choice.{pick}
+use Rattle.words.proofs.TruthLaws.{or-either, clash}
 use Rattle.tables.specs.Typed.{white, bareFrom, bare, startFrom, endFrom, pastNth, nthStart, nthTyped}
+use Rattle.tables.specs.Names.{cleared}
 use Rattle.tables.specs.Number.{isNumber}
 use Rattle.tables.specs.Layout.{White, Without, Gap, nothing, space, comment, Parted, Spread, done, leftOpen, more}
 use Rattle.tables.proofs.BareLaws.{length-bare, bare-plain, bare-comment, bare-open}
+use Rattle.tables.proofs.QuoteLaws.{quoteless}
 use Rattle.tables.proofs.SeekLaws.{start-is, end-is}
 use Rattle.tables.proofs.NumberLaws.{number-high, number-some}
 
@@ -25,6 +29,22 @@ white-is b (inl e) = rw e
 white-is b (inr (inl e)) = rw e
 white-is b (inr (inr (inl e))) = rw e
 white-is b (inr (inr (inr e))) = rw e
+
+pub is-white : (b : ℕ) → white b ≡ true → White b
+unfolding white
+is-white b h = go (or-either (eqb b 32 || eqb b 9 || eqb b 13) (eqb b 10) h)
+  where
+    two : (eqb b 32 ≡ true) ⊎ (eqb b 9 ≡ true) → White b
+    two (inl e) = inl (eqb-true b 32 e)
+    two (inr e) = inr (inl (eqb-true b 9 e))
+
+    three : ((eqb b 32 || eqb b 9) ≡ true) ⊎ (eqb b 13 ≡ true) → White b
+    three (inl e) = two (or-either (eqb b 32) (eqb b 9) e)
+    three (inr e) = inr (inr (inl (eqb-true b 13 e)))
+
+    go : ((eqb b 32 || eqb b 9 || eqb b 13) ≡ true) ⊎ (eqb b 10 ≡ true) → White b
+    go (inl e) = three (or-either (eqb b 32 || eqb b 9) (eqb b 13) e)
+    go (inr e) = inr (inr (inr (eqb-true b 10 e)))
 
 pub high-dark : (b : ℕ) → 48 ≤ b → white b ≡ false
 unfolding white
@@ -125,6 +145,28 @@ spaced ws s (more g w vs r q n p t) =
     let b = bared g (w ++ r) q in
     subst (Spaced (w ∷ vs)) (ap (λ (x : List ℕ). b .gap ++ x) (sym (bare-plain w r (number-plain w n))) ∙ sym (b .is))
     (next (b .gap) w vs (bare r) (b .blank) n (stops r p) (spaced vs r t))
+
+-- ---- none of their bytes is a quote
+
+all-of : (P : ℕ → Type 0) (p q : List ℕ) → ((k : ℕ) → k < length p → P (getD p k 0)) → ((k : ℕ) → k < length q → P (getD q k 0))
+    → (k : ℕ) → k < length (p ++ q) → P (getD (p ++ q) k 0)
+all-of P [] q f g k l = g k l
+all-of P (b ∷ p) q f g zero l = f 0 (omega arith)
+all-of P (b ∷ p) q f g (suc k) l = all-of P p q (λ j m. f (suc j) (omega arith)) g k (omega arith)
+
+blank-quoteless : (h : List ℕ) → Blank h → Without 34 h
+blank-quoteless h b k l e = clash (sym (ap white e) ∙ b k l) (unfold white in refl)
+
+number-quoteless : (w : List ℕ) → isNumber w ≡ true → Without 34 w
+number-quoteless w n k l e = omega (arith, number-high w n k l)
+
+spaced-quoteless : (ws : List (List ℕ)) (s : List ℕ) → Spaced ws s → Without 34 s
+spaced-quoteless ws s (end h b) = blank-quoteless h b
+spaced-quoteless ws s (next h w vs t b n q x) =
+    all-of (λ b. b ≢ 34) h (w ++ t) (blank-quoteless h b) (all-of (λ b. b ≢ 34) w t (number-quoteless w n) (spaced-quoteless vs t x))
+
+pub spread-quoteless : (ws : List (List ℕ)) (s : List ℕ) → Spread ws s → Without 34 (bare s)
+spread-quoteless ws s d = spaced-quoteless ws (bare s) (spaced ws s d)
 
 -- ---- where they are found
 
@@ -228,7 +270,7 @@ numbers ws s (leftOpen g c q e) k l = absurd (omega arith)
 numbers ws s (more g w vs r q n p t) zero l = n
 numbers ws s (more g w vs r q n p t) (suc k) l = numbers vs r t k (omega arith)
 
-pub found-words : (ws : List (List ℕ)) (s : List ℕ) → Spread ws s
+found-words : (ws : List (List ℕ)) (s : List ℕ) → Spread ws s
     → ((k : ℕ) → k < length ws → (nthTyped (bare s) k ≡ getD ws k []) × (isNumber (nthTyped (bare s) k) ≡ true)) × (nthStart (bare s) (length ws) ≡ length (bare s))
 found-words ws s d =
     let f = walk ws (bare s) (spaced ws s d) (bare s) [] 0 refl (unfold pastNth in refl) in
@@ -238,3 +280,7 @@ found-words ws s d =
           (i, ap isNumber i ∙ numbers ws s d k l),
       ap (nthStart (bare s)) (sym (z (length ws))) ∙ f .last,
     )
+
+pub found-cleared : (ws : List (List ℕ)) (s : List ℕ) → Spread ws s
+    → ((k : ℕ) → k < length ws → (nthTyped (cleared s) k ≡ getD ws k []) × (isNumber (nthTyped (cleared s) k) ≡ true)) × (nthStart (cleared s) (length ws) ≡ length (cleared s))
+found-cleared ws s d = rw (quoteless s (spread-quoteless ws s d)) (found-words ws s d)

@@ -3,9 +3,12 @@ pub mod BareLaws
 pub mod FillLaws
 pub mod LayoutLaws
 pub mod LimitLaws
+pub mod NameLaws
+pub mod NamedLaws
 pub mod NumberLaws
 pub mod PlainLaws
 pub mod Promises
+pub mod QuoteLaws
 pub mod ReadLaws
 pub mod RefusalLaws
 pub mod SeekLaws

@@ -12,7 +12,8 @@ use Rattle.stack.specs.declared.Table.{Table}
 use Rattle.stack.specs.Bytes.{stackBytes, needed}
 use Rattle.stack.specs.Promises.{Beyond}
 use Rattle.tables.specs.declared.Reading.{Reading}
-use Rattle.tables.specs.Typed.{bare, nthTyped}
+use Rattle.tables.specs.Names.{cleared}
+use Rattle.tables.specs.Typed.{nthTyped}
 use Rattle.tables.specs.Number.{worth}
 use Rattle.tables.specs.Reading.{entered, listOf, tableOf, taken, refusedAt, readTable, answerTo}
 use Rattle.tables.specs.Promises.{Whole, TooLarge}
@@ -82,23 +83,23 @@ no-letter [] rest h e = omega (arith, ap (λ (l : List ℕ). getD l 0 0) e)
 no-letter (d ∷ ds) rest h e = omega (arith, h 0 (omega arith) .1, ap (λ (l : List ℕ). getD l 0 0) e)
 
 module _ (s : List ℕ) where
-  read-as : Whole s → readTable s .table ≡ Read (bare s)
+  read-as : Whole s → readTable s .table ≡ Read (cleared s)
   unfolding taken
   read-as w = ap (λ (r : Reading). r .table) (whole-is s w)
 
-  pub figure : Whole s → (TooLarge (bare s) → ⊥) → answerTo s ≡ Figure (stackBytes (readTable s .table))
-  figure w n = answer-read s (read s .1 w) ∙ Stack.kept .printed (readTable s .table) (λ b. n (beyond-large (bare s) (subst Beyond (read-as w) b)))
+  pub figure : Whole s → (TooLarge (cleared s) → ⊥) → answerTo s ≡ Figure (stackBytes (readTable s .table))
+  figure w n = answer-read s (read s .1 w) ∙ Stack.kept .printed (readTable s .table) (λ b. n (beyond-large (cleared s) (subst Beyond (read-as w) b)))
 
-  large : Whole s → TooLarge (bare s) → answerTo s ≡ Fourteen
-  large w x = answer-read s (read s .1 w) ∙ Stack.kept .printedRefused (readTable s .table) (subst Beyond (sym (read-as w)) (large-beyond (bare s) x))
+  large : Whole s → TooLarge (cleared s) → answerTo s ≡ Fourteen
+  large w x = answer-read s (read s .1 w) ∙ Stack.kept .printedRefused (readTable s .table) (subst Beyond (sym (read-as w)) (large-beyond (cleared s) x))
 
-  told-large : Whole s → answerTo s ≡ Fourteen → TooLarge (bare s)
-  told-large w e = go (ℕ-discrete (needed (Read (bare s)) .refusal) 14)
+  told-large : Whole s → answerTo s ≡ Fourteen → TooLarge (cleared s)
+  told-large w e = go (ℕ-discrete (needed (Read (cleared s)) .refusal) 14)
     where
-      go : Dec (needed (Read (bare s)) .refusal ≡ 14) → TooLarge (bare s)
-      go (yes q) = beyond-large (bare s) (Stack.kept .refusedIs (Read (bare s)) .0 q)
+      go : Dec (needed (Read (cleared s)) .refusal ≡ 14) → TooLarge (cleared s)
+      go (yes q) = beyond-large (cleared s) (Stack.kept .refusedIs (Read (cleared s)) .0 q)
       go (no d) =
-          absurd (no-letter (decimal (stackBytes (readTable s .table))) _ (Text.kept .decimalBytes (stackBytes (readTable s .table))) (sym (figure w (λ x. d (Stack.kept .refusedIs (Read (bare s)) .1 (large-beyond (bare s) x)))) ∙ e))
+          absurd (no-letter (decimal (stackBytes (readTable s .table))) _ (Text.kept .decimalBytes (stackBytes (readTable s .table))) (sym (figure w (λ x. d (Stack.kept .refusedIs (Read (cleared s)) .1 (large-beyond (cleared s) x)))) ∙ e))
 
   -- the lines of 8 and 11 are others
   line-other : (n p k : ℕ) → (getD (Line n p) k 0 ≡ getD Fourteen k 0 → ⊥) → answerTo s ≡ Line n p → answerTo s ≡ Fourteen → ⊥
@@ -113,5 +114,5 @@ module _ (s : List ℕ) where
   told-whole r q (overlong l) e = absurd (line-other 11 65536 3 (unfold decimalOf pick in λ z. omega arith) (refused-told r q (λ z. omega arith)) e)
   told-whole r q (slipped p l d) e = absurd (line-other 8 p 2 (unfold decimalOf pick in λ z. omega arith) (refused-told r q (λ z. omega arith)) e)
 
-  pub fourteen : (answerTo s ≡ Fourteen) ↔ (Whole s × TooLarge (bare s))
+  pub fourteen : (answerTo s ≡ Fourteen) ↔ (Whole s × TooLarge (cleared s))
   fourteen = (λ e. let w = told-whole (readTable s) refl (way s) e in (w, told-large w e), λ h. large (h .0) (h .1))

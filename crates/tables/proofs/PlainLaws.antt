@@ -16,14 +16,15 @@ use Rattle.text.specs.Text.{decimal}
 use Rattle.text.specs.Promises.{worthAfter}
 use Rattle.text.proofs.DigitLaws.{length-below}
 use Rattle.stack.specs.declared.Table.{Table}
-use Rattle.tables.specs.Typed.{bare, nthStart, nthTyped}
+use Rattle.tables.specs.Names.{cleared}
+use Rattle.tables.specs.Typed.{nthStart, nthTyped}
 use Rattle.tables.specs.Number.{digit, worthFrom, isHex, isNumber, worth}
 use Rattle.tables.specs.Reading.{entered, everyThird, tableOf, taken, readTable}
 use Rattle.tables.specs.Layout.{Gap, nothing, space, Parted, Spread, done, more, linesFrom, plain}
 use Rattle.tables.specs.Promises.{Words}
-use Rattle.tables.proofs.BareLaws.{length-bare}
+use Rattle.tables.proofs.NameLaws.{length-cleared}
 use Rattle.tables.proofs.FillLaws.{length-listOf, getD-listOf}
-use Rattle.tables.proofs.LayoutLaws.{found-words}
+use Rattle.tables.proofs.LayoutLaws.{found-cleared}
 use Rattle.tables.proofs.NumberLaws.{are-digits, number-plain, hex-first}
 use Rattle.tables.proofs.RefusalLaws.{read, read-values}
 use Rattle.text.proofs.Promises as Text
@@ -191,10 +192,10 @@ value-none = refl
 pub spread : (ws : List (List ℕ)) (s : List ℕ) → Spread ws s → length ws ≡ 98 → worth (getD ws 96 []) < 2 ^ 32 → length s ≤ 65536
     → readTable s ≡ taken (tableOf (map valueAs ws))
 spread ws s d e w l =
-    let f = found-words ws s d in
-    let small : (k : ℕ) → k < 98 → k ≡ 96 → worth (nthTyped (bare s) k) < 2 ^ 32 = λ k m q. omega (arith, ap worth (f .0 k (omega arith) .0), ap (λ (n : ℕ). worth (getD ws n [])) q) in
+    let f = found-cleared ws s d in
+    let small : (k : ℕ) → k < 98 → k ≡ 96 → worth (nthTyped (cleared s) k) < 2 ^ 32 = λ k m q. omega (arith, ap worth (f .0 k (omega arith) .0), ap (λ (n : ℕ). worth (getD ws n [])) q) in
     read-values s (map valueAs ws)
-    (read s .1 (l, (λ k m. (f .0 k (omega arith) .1, small k m)), ap (nthStart (bare s)) (sym e) ∙ f .1 ∙ length-bare false s))
+    (read s .1 (l, (λ k m. (f .0 k (omega arith) .1, small k m)), ap (nthStart (cleared s)) (sym e) ∙ f .1 ∙ length-cleared s))
     (λ k m. ap (λ (x : ℕ). getD (map valueAs ws) k x) (sym value-none) ∙ List·getD-map valueAs ws k [] ∙ ap valueAs (sym (f .0 k (omega arith) .0)))
 
 pub read-back : (t : Table) → Words t → readTable (plain t) ≡ taken t

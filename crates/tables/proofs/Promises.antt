@@ -9,45 +9,47 @@ use lib.Dec.{eqb}
 use lib.ListN.{length, getD, take, drop}
 use borrow.Author.Tests.{eqb-true, le-leb, lt-leb, not-true, not-false}
 use Rattle.words.specs.Choice.{pick}
-use Rattle.words.proofs.TruthLaws.{or-either, clash, not-holds}
+use Rattle.words.proofs.TruthLaws.{clash, not-holds}
 use Rattle.text.specs.Text.{decimal}
 use Rattle.stack.specs.declared.Table.{Table}
-use Rattle.tables.specs.Typed.{white, startFrom, endFrom, pastNth, nthStart, nthTyped}
+use Rattle.tables.specs.Names.{behind, unnamedTo, cleared}
+use Rattle.tables.specs.Typed.{white, bare, startFrom, endFrom, pastNth, nthStart, nthTyped}
 use Rattle.tables.specs.Number.{digit, worthFrom, areDigits, isHex, isNumber, worth}
 use Rattle.tables.specs.Reading.{taken}
 use Rattle.tables.specs.Layout.{White, linesFrom}
 use Rattle.tables.specs.Promises.{Starts, Ends, Digits, Promises}
 use Rattle.tables.proofs.BareLaws.{length-bare, bare-none, bare-ended, bare-left}
+use Rattle.tables.proofs.NameLaws.{length-cleared}
+use Rattle.tables.proofs.NamedLaws.{named-is, named-none, unnamed-stays, unnamed-byte, unnamed-rest, name-count, name-bytes, quotes-gone, names-taken, names-refused}
+use Rattle.tables.proofs.QuoteLaws.{quoteless}
 use Rattle.tables.proofs.SeekLaws.{Sought, start-is, start-sought, end-is, end-sought, past-within}
 use Rattle.tables.proofs.NumberLaws.{digits-are, are-digits, number-hex, number-plain, number-some, hex-first}
-use Rattle.tables.proofs.LayoutLaws.{white-is}
+use Rattle.tables.proofs.LayoutLaws.{white-is, is-white}
 use Rattle.tables.proofs.PlainLaws.{digit-plain, entered-as, entered-most, spread, read-back}
 use Rattle.tables.proofs.RefusalLaws.{eleven, eleven-at, eight, read, only, refused-empty, read-values, rows, answer-read, answer-else, answer-most}
 use Rattle.tables.proofs.LimitLaws.{fourteen, figure}
 
 -- ---- white space
 
-is-white : (b : ℕ) → white b ≡ true → White b
-unfolding white
-is-white b h = go (or-either (eqb b 32 || eqb b 9 || eqb b 13) (eqb b 10) h)
-  where
-    two : (eqb b 32 ≡ true) ⊎ (eqb b 9 ≡ true) → White b
-    two (inl e) = inl (eqb-true b 32 e)
-    two (inr e) = inr (inl (eqb-true b 9 e))
-
-    three : ((eqb b 32 || eqb b 9) ≡ true) ⊎ (eqb b 13 ≡ true) → White b
-    three (inl e) = two (or-either (eqb b 32) (eqb b 9) e)
-    three (inr e) = inr (inr (inl (eqb-true b 13 e)))
-
-    go : ((eqb b 32 || eqb b 9 || eqb b 13) ≡ true) ⊎ (eqb b 10 ≡ true) → White b
-    go (inl e) = three (or-either (eqb b 32 || eqb b 9) (eqb b 13) e)
-    go (inr e) = inr (inr (inr (eqb-true b 10 e)))
-
 not-white : (b : ℕ) → white b ≡ false → White b → ⊥
 not-white b e h = clash (white-is b h) e
 
 white-not : (b : ℕ) → (White b → ⊥) → white b ≡ false
 white-not b h = not-holds (white b) (λ e. h (is-white b e))
+
+-- ---- names
+
+behind-is : (s : List ℕ) (i : ℕ) → behind s i ≡ nthStart (bare s) (3 * i + 3)
+unfolding behind
+behind-is s i = refl
+
+unnamed-none : (s : List ℕ) → unnamedTo s 0 ≡ s
+unfolding unnamedTo
+unnamed-none s = refl
+
+cleared-is : (s : List ℕ) → cleared s ≡ bare (unnamedTo s 32)
+unfolding cleared
+cleared-is s = refl
 
 -- ---- starts and ends
 
@@ -186,6 +188,21 @@ kept =
       bareEnded = bare-ended;
       bareOpen = bare-left;
       bareLength = length-bare false;
+      namedIs = named-is;
+      namedNone = named-none;
+      behindIs = behind-is;
+      unnamedNone = unnamed-none;
+      unnamedMore = unnamed-stays;
+      unnamedByte = unnamed-byte;
+      unnamedRest = unnamed-rest;
+      clearedIs = cleared-is;
+      clearedLength = length-cleared;
+      quoteless = quoteless;
+      quotesGone = quotes-gone;
+      nameLength = name-count;
+      nameByte = name-bytes;
+      namesRead = names-taken;
+      namesRefused = names-refused;
       starts = starts;
       ends = ends;
       pastNone = past-none;

@@ -23,7 +23,8 @@ use Rattle.tables.specs.declared.Reading.{Reading}
 use Rattle.tables.specs.declared.Typed.{Typed}
 use Rattle.tables.specs.declared.Next.{Next}
 use Rattle.tables.specs.declared.Values.{Values}
-use Rattle.tables.specs.Typed.{bare, startFrom, endFrom, pastNth, nthStart, nthTyped}
+use Rattle.tables.specs.Names.{cleared}
+use Rattle.tables.specs.Typed.{startFrom, endFrom, pastNth, nthStart, nthTyped}
 use Rattle.tables.specs.Number.{isNumber, worth}
 use Rattle.tables.specs.Reading.{fitsAt, fits, entered, listOf, tableOf, taken, refusedAt, firstFault, readBare, readTable, refusedLine, answerTo}
 use Rattle.tables.specs.Passes.{capped, readWord, readNext, room, valuesOf}
@@ -141,9 +142,13 @@ test-same s = go (ℕ-discrete (firstFault s) 98)
     go (yes e) = rw e
     go (no d) = rw (ne-eqb (firstFault s) 98 d)
 
-bare-tests : (s : List ℕ) (v : Values) → v ≡ valuesOf s → (eqb (v .count) 98 && eqb (v .start) (length s)) ≡ (eqb (firstFault s) 98 && eqb (nthStart s 98) (length s))
+pub bare-tests : (s : List ℕ) (v : Values) → v ≡ valuesOf s → (eqb (v .count) 98 && eqb (v .start) (length s)) ≡ (eqb (firstFault s) 98 && eqb (nthStart s 98) (length s))
 unfolding valuesOf
 bare-tests s v e = rw e (test-same s)
+
+pub bare-count : (s : List ℕ) (v : Values) → v ≡ valuesOf s → v .count ≡ firstFault s
+unfolding valuesOf
+bare-count s v e = ap (λ (x : Values). x .count) e
 
 bare-start : (s : List ℕ) (v : Values) → v ≡ valuesOf s → v .start ≡ nthStart s (firstFault s)
 unfolding valuesOf
@@ -170,7 +175,16 @@ pub too-long : (s : List ℕ) (r : Reading) → 65536 < length s → r ≡ refus
 unfolding readTable
 too-long s r l g = g ∙ pick-true _ (lt-ltb 65536 (length s) l)
 
-pub not-long : (s : List ℕ) (r : Reading) → length s ≤ 65536 → r ≡ readBare (bare s) → r ≡ readTable s
+-- a text that is read is none that is too long
+pub read-short : (s : List ℕ) → readTable s .refusal ≡ 0 → length s ≤ 65536
+unfolding refusedAt
+read-short s e = go (decLt 65536 (length s))
+  where
+    go : Dec (65536 < length s) → length s ≤ 65536
+    go (yes l) = absurd (omega (arith, ap (λ (x : Reading). x .refusal) (too-long s _ l refl)))
+    go (no l) = omega arith
+
+pub not-long : (s : List ℕ) (r : Reading) → length s ≤ 65536 → r ≡ readBare (cleared s) → r ≡ readTable s
 unfolding readTable
 not-long s r l g = g ∙ pick-false _ (le-ltb 65536 (length s) l)
 

@@ -20,11 +20,12 @@ use Rattle.stack.specs.declared.Table.{Table}
 use Rattle.stack.specs.Bytes.{needed}
 use Rattle.stack.specs.Printed.{textOf}
 use Rattle.tables.specs.declared.Reading.{Reading}
-use Rattle.tables.specs.Typed.{bare, nthStart, nthTyped}
+use Rattle.tables.specs.Names.{cleared}
+use Rattle.tables.specs.Typed.{nthStart, nthTyped}
 use Rattle.tables.specs.Number.{isNumber, worth}
 use Rattle.tables.specs.Reading.{fitsAt, fits, listOf, everyThird, tableOf, taken, refusedAt, firstFault, readBare, readTable, refusedLine, answerTo}
 use Rattle.tables.specs.Promises.{Numbers, Slip, SlipAt, Whole, Rows}
-use Rattle.tables.proofs.BareLaws.{length-bare}
+use Rattle.tables.proofs.NameLaws.{length-cleared}
 use Rattle.tables.proofs.FillLaws.{length-listOf, getD-listOf, listOf-same}
 use Rattle.tables.proofs.SeekLaws.{nth-within}
 use Rattle.tables.proofs.ReadLaws.{Fit, fault-is, valueOf, too-long, not-long, answer-taken, answer-refused}
@@ -116,31 +117,31 @@ module _ (s : List ℕ) where
 
 pub data Way (s : List ℕ) : Reading → Type 0 where
   overlong : 65536 < length s → Way s (refusedAt tooLong 65536)
-  slipped : (p : ℕ) → length s ≤ 65536 → SlipAt (bare s) p → Way s (refusedAt damaged p)
-  whole : Whole s → Way s (taken (tableOf (listOf 98 (valueOf (bare s)))))
+  slipped : (p : ℕ) → length s ≤ 65536 → SlipAt (cleared s) p → Way s (refusedAt damaged p)
+  whole : Whole s → Way s (taken (tableOf (listOf 98 (valueOf (cleared s)))))
 
 pub long-is : (s : List ℕ) → 65536 < length s → readTable s ≡ refusedAt tooLong 65536
 long-is s l = sym (too-long s _ l refl)
 
-pub slip-is : (s : List ℕ) (p : ℕ) → length s ≤ 65536 → SlipAt (bare s) p → readTable s ≡ refusedAt damaged p
-slip-is s p l d = sym (not-long s _ l refl) ∙ slip-answer (bare s) p d
+pub slip-is : (s : List ℕ) (p : ℕ) → length s ≤ 65536 → SlipAt (cleared s) p → readTable s ≡ refusedAt damaged p
+slip-is s p l d = sym (not-long s _ l refl) ∙ slip-answer (cleared s) p d
 
-pub whole-is : (s : List ℕ) → Whole s → readTable s ≡ taken (tableOf (listOf 98 (valueOf (bare s))))
-whole-is s (l, h, e) = sym (not-long s _ l refl) ∙ whole-answer (bare s) h (e ∙ sym (length-bare false s))
+pub whole-is : (s : List ℕ) → Whole s → readTable s ≡ taken (tableOf (listOf 98 (valueOf (cleared s))))
+whole-is s (l, h, e) = sym (not-long s _ l refl) ∙ whole-answer (cleared s) h (e ∙ sym (length-cleared s))
 
 pub way : (s : List ℕ) → Way s (readTable s)
 way s = go (decLt 65536 (length s))
   where
     go : Dec (65536 < length s) → Way s (readTable s)
     go (yes l) = rw (long-is s l) (overlong l)
-    go (no l) = by (slip-or (bare s))
+    go (no l) = by (slip-or (cleared s))
       where
         short : length s ≤ 65536
         short = omega arith
 
-        by : SlipAt (bare s) (nthStart (bare s) (firstFault (bare s))) ⊎ (Numbers (bare s) 98 × (nthStart (bare s) 98 ≡ length (bare s))) → Way s (readTable s)
+        by : SlipAt (cleared s) (nthStart (cleared s) (firstFault (cleared s))) ⊎ (Numbers (cleared s) 98 × (nthStart (cleared s) 98 ≡ length (cleared s))) → Way s (readTable s)
         by (inl d) = rw (slip-is s _ short d) (slipped _ short d)
-        by (inr (h, e)) = let w : Whole s = (short, h, e ∙ length-bare false s) in rw (whole-is s w) (whole w)
+        by (inr (h, e)) = let w : Whole s = (short, h, e ∙ length-cleared s) in rw (whole-is s w) (whole w)
 
 -- ---- as they are promised
 
@@ -157,13 +158,13 @@ module _ (s : List ℕ) where
   pub eleven-at : readTable s .refusal ≡ 11 → readTable s .offset ≡ 65536
   eleven-at e = rw (long-is s (eleven .0 e)) (unfold refusedAt in refl)
 
-  slip-only : (p : ℕ) (r : Reading) → Way s r → (r .refusal ≡ 8) × (r .offset ≡ p) → (length s ≤ 65536) × SlipAt (bare s) p
+  slip-only : (p : ℕ) (r : Reading) → Way s r → (r .refusal ≡ 8) × (r .offset ≡ p) → (length s ≤ 65536) × SlipAt (cleared s) p
   unfolding refusedAt taken
   slip-only p r (overlong l) (e, f) = absurd (omega arith)
-  slip-only p r (slipped q l d) (e, f) = (l, subst (SlipAt (bare s)) f d)
+  slip-only p r (slipped q l d) (e, f) = (l, subst (SlipAt (cleared s)) f d)
   slip-only p r (whole w) (e, f) = absurd (omega arith)
 
-  pub eight : (p : ℕ) → ((readTable s .refusal ≡ 8) × (readTable s .offset ≡ p)) ↔ ((length s ≤ 65536) × SlipAt (bare s) p)
+  pub eight : (p : ℕ) → ((readTable s .refusal ≡ 8) × (readTable s .offset ≡ p)) ↔ ((length s ≤ 65536) × SlipAt (cleared s) p)
   eight p = (slip-only p (readTable s) (way s), λ h. rw (slip-is s p (h .0) (h .1)) (unfold refusedAt in (refl, refl)))
 
   whole-only : (r : Reading) → Way s r → r .refusal ≡ 0 → Whole s
@@ -206,9 +207,9 @@ table-same vs us h =
     third : (f : ℕ) → f < 3 → listOf 32 (λ i. getD vs (3 * i + f) 0) ≡ listOf 32 (λ i. getD us (3 * i + f) 0)
     third f l = listOf-same 32 _ _ (λ i m. h (3 * i + f) (omega arith))
 
-pub read-values : (s vs : List ℕ) → readTable s .refusal ≡ 0 → ((k : ℕ) → k < 98 → getD vs k 0 ≡ valueOf (bare s) k) → readTable s ≡ taken (tableOf vs)
+pub read-values : (s vs : List ℕ) → readTable s .refusal ≡ 0 → ((k : ℕ) → k < 98 → getD vs k 0 ≡ valueOf (cleared s) k) → readTable s ≡ taken (tableOf vs)
 read-values s vs e h =
-    whole-is s (read s .0 e) ∙ ap taken (table-same (listOf 98 (valueOf (bare s))) vs (λ k l. getD-listOf 98 (valueOf (bare s)) k l ∙ sym (h k l)))
+    whole-is s (read s .0 e) ∙ ap taken (table-same (listOf 98 (valueOf (cleared s))) vs (λ k l. getD-listOf 98 (valueOf (cleared s)) k l ∙ sym (h k l)))
 
 pub rows : (vs : List ℕ) → Rows vs (tableOf vs)
 unfolding tableOf everyThird
@@ -249,5 +250,5 @@ answer-most s = go (readTable s) refl (way s)
 
     go : (r : Reading) → r ≡ readTable s → Way s r → length (answerTo s) ≤ 13
     go r e (overlong l) = none _ e (λ z. omega arith) (omega arith) (omega arith)
-    go r e (slipped p l d) = none _ e (λ z. omega arith) (omega arith) (omega (arith, slip-within (bare s) p d, length-bare false s))
+    go r e (slipped p l d) = none _ e (λ z. omega arith) (omega arith) (omega (arith, slip-within (cleared s) p d, length-cleared s))
     go r e (whole w) = rw (answer-read s (sym (ap (λ (x : Reading). x .refusal) e))) (Stack.kept .printedMost (readTable s .table))

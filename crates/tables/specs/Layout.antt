@@ -1,10 +1,10 @@
 -- How a table may be typed: its numbers, with white space and comments between them; and the plain way (docs/STACK.md).
-use Prim.Native.Nat.{ℕ, zero, suc, _+_, _<_}
+use Prim.Native.Nat.{ℕ, zero, suc, _+_, _≤_, _<_}
 use mathlib.Core.Path.{_≡_}
 use mathlib.Core.Bool.{true}
 use mathlib.Core.List.{List, [], _∷_, _++_}
 use mathlib.Core.Logic.{_≢_, _⊎_}
-use lib.ListN.{length, getD}
+use lib.ListN.{length, getD, drop}
 use Rattle.text.specs.Text.{decimal}
 use Rattle.stack.specs.declared.Table.{Table}
 use Rattle.tables.specs.Number.{isNumber}
@@ -33,7 +33,24 @@ pub data Spread : List (List ℕ) → List ℕ → Type 0 where
   leftOpen : (g c : List ℕ) → Gap g → Without 10 c → Spread [] (g ++ (35 ∷ c))
   more : (g w : List ℕ) (ws : List (List ℕ)) (s : List ℕ) → Gap g → isNumber w ≡ true → Parted s → Spread ws s → Spread (w ∷ ws) (g ++ (w ++ s))
 
--- the plain way: a line for each of k sources from the ith on, with its three numbers in decimal, then a line for each of the last two numbers
+-- ---- names
+
+-- a byte of a name: printable ASCII without " & < and >
+abbrev pub NameByte : ℕ → Type 0
+NameByte b = (32 ≤ b) × (b ≤ 126) × (b ≢ 34) × (b ≢ 38) × (b ≢ 60) × (b ≢ 62)
+
+-- at an offset of a text stands a name of n bytes in its quotes, parted from what follows
+pub record NameAt (s : List ℕ) (at n : ℕ) : Type 0 where
+  pub opened : getD s at 0 ≡ 34
+  pub some : 1 ≤ n
+  pub most : n ≤ 24
+  pub each : (k : ℕ) → k < n → NameByte (getD s (at + 1 + k) 0)
+  pub closed : getD s (at + n + 1) 0 ≡ 34
+  pub parted : Parted (drop (at + n + 2) s)
+
+-- ---- the plain way
+
+-- a line for each of k sources from the ith on, with its three numbers in decimal, then a line for each of the last two numbers
 unfoldable pub linesFrom : Table → ℕ → ℕ → List ℕ
 linesFrom t zero i = decimal (t .forced) ++ (10 ∷ (decimal (t .mark) ++ (10 ∷ [])))
 linesFrom t (suc k) i =

@@ -11,9 +11,12 @@ use Rattle.stack.specs.declared.Table.{Table}
 use Rattle.stack.specs.Bytes.{stackBytes, needed}
 use Rattle.stack.specs.Printed.{textOf}
 use Rattle.tables.specs.Typed.{bare, startFrom, endFrom, pastNth, nthStart, nthTyped}
+use Rattle.tables.specs.declared.names.Names.{Names}
+use Rattle.tables.specs.Names.{named, behind, unnamedTo, cleared}
+use Rattle.tables.specs.Named.{nameOf, namesOf}
 use Rattle.tables.specs.Number.{digit, worthFrom, isNumber, worth}
 use Rattle.tables.specs.Reading.{entered, tableOf, readTable, answerTo}
-use Rattle.tables.specs.Layout.{White, Without, Spread, linesFrom, plain}
+use Rattle.tables.specs.Layout.{White, Without, NameAt, Spread, linesFrom, plain}
 
 -- from an offset on, i is the first byte that is not white, or the end of the text
 pub record Starts (s : List ℕ) (at i : ℕ) : Type 0 where
@@ -49,7 +52,7 @@ SlipAt s p =
 
 -- a text of at most 65,536 bytes with the 98 numbers and nothing behind them
 abbrev pub Whole : List ℕ → Type 0
-Whole s = (length s ≤ 65536) × Numbers (bare s) 98 × (nthStart (bare s) 98 ≡ length s)
+Whole s = (length s ≤ 65536) × Numbers (cleared s) 98 × (nthStart (cleared s) 98 ≡ length s)
 
 -- among the numbers is a priority over 7, a type over 3 or a frame over 65,535, however many digits it has (02, 4/12, Refusals)
 abbrev pub TooLarge : List ℕ → Type 0
@@ -76,6 +79,18 @@ pub record Rows (vs : List ℕ) (t : Table) : Type 0 where
   pub forced : t .forced ≡ getD vs 96 0
   pub mark : t .mark ≡ getD vs 97 0
 
+-- the byte at k belongs to the name of source i, or is one of its quotes, in a text without the names before it
+pub record Within (s : List ℕ) (i k : ℕ) : Type 0 where
+  pub there : 1 ≤ named s (behind s i)
+  pub from : behind s i ≤ k
+  pub to : k < behind s i + named s (behind s i) + 2
+
+-- 24 bytes for each source: its name, and zeros behind it
+pub record NamesOf (name : ℕ → List ℕ) (n : Names) : Type 0 where
+  pub sizes : (length (n .bytes) ≡ 768) × (length (n .lengths) ≡ 32)
+  pub lengths : (i : ℕ) → i < 32 → getD (n .lengths) i 0 ≡ length (name i)
+  pub bytes : (i k : ℕ) → i < 32 → k < 24 → getD (n .bytes) (24 * i + k) 0 ≡ getD (name i) k 0
+
 pub record Promises : Type 0 where
   -- ---- comments
 
@@ -85,6 +100,30 @@ pub record Promises : Type 0 where
       → bare (before ++ (35 ∷ (c ++ (10 ∷ after)))) ≡ before ++ (replicate (length c + 2) 32 ++ bare after)
   pub bareOpen : (before c : List ℕ) → Without 35 before → Without 10 c → bare (before ++ (35 ∷ c)) ≡ before ++ replicate (length c + 1) 32
   pub bareLength : (s : List ℕ) → length (bare s) ≡ length s
+  -- ---- names
+
+  -- at an offset a name of n bytes is taken exactly if one stands there as it must, and none exactly if none does
+  pub namedIs : (s : List ℕ) (at n : ℕ) → 1 ≤ n → (named s at ≡ n) ↔ NameAt s at n
+  pub namedNone : (s : List ℕ) (at : ℕ) → (named s at ≡ 0) ↔ ((n : ℕ) → NameAt s at n → ⊥)
+  -- it is looked for at one place of each source alone: where the next word begins behind the three numbers of the source, in a text without
+  -- comments and without the names of the sources before it
+  pub behindIs : (s : List ℕ) (i : ℕ) → behind s i ≡ nthStart (bare s) (3 * i + 3)
+  pub unnamedNone : (s : List ℕ) → unnamedTo s 0 ≡ s
+  pub unnamedMore : (s : List ℕ) (i : ℕ) → named (unnamedTo s i) (behind (unnamedTo s i) i) ≡ 0 → unnamedTo s (suc i) ≡ unnamedTo s i
+  pub unnamedByte : (s : List ℕ) (i k : ℕ) → k < length s → Within (unnamedTo s i) i k → getD (unnamedTo s (suc i)) k 0 ≡ 32
+  pub unnamedRest : (s : List ℕ) (i k : ℕ) → (Within (unnamedTo s i) i k → ⊥) → getD (unnamedTo s (suc i)) k 0 ≡ getD (unnamedTo s i) k 0
+  pub clearedIs : (s : List ℕ) → cleared s ≡ bare (unnamedTo s 32)
+  pub clearedLength : (s : List ℕ) → length (cleared s) ≡ length s
+  -- a text without a quote outside its comments is read as if there were no names
+  pub quoteless : (s : List ℕ) → Without 34 (bare s) → cleared s ≡ bare s
+  -- and in a table that is read each quote belongs to a name or to a comment: any other is a slip
+  pub quotesGone : (s : List ℕ) → readTable s .refusal ≡ 0 → Without 34 (cleared s)
+  -- the name of source i is what stands between its quotes
+  pub nameLength : (s : List ℕ) (i : ℕ) → length (nameOf s i) ≡ named (unnamedTo s i) (behind (unnamedTo s i) i)
+  pub nameByte : (s : List ℕ) (i k : ℕ) → k < length (nameOf s i) → getD (nameOf s i) k 0 ≡ getD s (behind (unnamedTo s i) i + 1 + k) 0
+  -- of a table that is read 24 bytes for each source are answered, zeros behind its name; of one that is refused zeros alone
+  pub namesRead : (s : List ℕ) → readTable s .refusal ≡ 0 → NamesOf (nameOf s) (namesOf s)
+  pub namesRefused : (s : List ℕ) → readTable s .refusal ≢ 0 → NamesOf (λ i. []) (namesOf s)
   -- ---- where the numbers stand in a text without comments
 
   -- a number begins with the first byte that is not white, and ends with the first that is
@@ -120,10 +159,10 @@ pub record Promises : Type 0 where
   pub elevenAt : (s : List ℕ) → readTable s .refusal ≡ 11 → readTable s .offset ≡ 65536
   -- 8 at an offset exactly if the first slip begins there: at its first character, or at the end of the text where the number is missing. A number
   -- that is too large is a slip as the word of forced sources alone
-  pub eight : (s : List ℕ) (p : ℕ) → ((readTable s .refusal ≡ 8) × (readTable s .offset ≡ p)) ↔ ((length s ≤ 65536) × SlipAt (bare s) p)
+  pub eight : (s : List ℕ) (p : ℕ) → ((readTable s .refusal ≡ 8) × (readTable s .offset ≡ p)) ↔ ((length s ≤ 65536) × SlipAt (cleared s) p)
   -- else the table is read, exactly if the 98 numbers are there and nothing follows them, and it is the table of their values
   pub read : (s : List ℕ) → (readTable s .refusal ≡ 0) ↔ Whole s
-  pub readValues : (s vs : List ℕ) → readTable s .refusal ≡ 0 → ((k : ℕ) → k < 98 → getD vs k 0 ≡ entered (worth (nthTyped (bare s) k)))
+  pub readValues : (s vs : List ℕ) → readTable s .refusal ≡ 0 → ((k : ℕ) → k < 98 → getD vs k 0 ≡ entered (worth (nthTyped (cleared s) k)))
       → readTable s ≡ record { refusal = 0; offset = 0; table = tableOf vs }
   -- a number stands in the table as it is, or as the largest word where it is larger than that
   pub enteredAs : (v : ℕ) → v < 2 ^ 32 → entered v ≡ v
@@ -153,8 +192,8 @@ pub record Promises : Type 0 where
       → answerTo s ≡ 69 ∷ 32 ∷ (decimal (readTable s .refusal) ++ (32 ∷ (decimal (readTable s .offset) ++ (10 ∷ []))))
   -- so `E 14` is the line exactly of the 98 numbers with one among them that is too large for a priority, a type or a frame, and the figure is
   -- that of the 98 numbers without one (02, 4/12, Refusals)
-  pub fourteen : (s : List ℕ) → (answerTo s ≡ 69 ∷ 32 ∷ 49 ∷ 52 ∷ 10 ∷ []) ↔ (Whole s × TooLarge (bare s))
-  pub figure : (s : List ℕ) → Whole s → (TooLarge (bare s) → ⊥)
+  pub fourteen : (s : List ℕ) → (answerTo s ≡ 69 ∷ 32 ∷ 49 ∷ 52 ∷ 10 ∷ []) ↔ (Whole s × TooLarge (cleared s))
+  pub figure : (s : List ℕ) → Whole s → (TooLarge (cleared s) → ⊥)
       → answerTo s ≡ decimal (stackBytes (readTable s .table)) ++ (32 ∷ 98 ∷ 121 ∷ 116 ∷ 101 ∷ 115 ∷ 10 ∷ [])
   -- no line is longer than 13 bytes
   pub answerMost : (s : List ℕ) → length (answerTo s) ≤ 13

@@ -13,7 +13,8 @@ use Rattle.stack.specs.declared.Table.{Table}
 use Rattle.stack.specs.Bytes.{needed}
 use Rattle.stack.specs.Printed.{textOf}
 use Rattle.tables.specs.declared.Reading.{Reading}
-use Rattle.tables.specs.Typed.{bare, nthStart, nthTyped}
+use Rattle.tables.specs.Typed.{nthStart, nthTyped}
+use Rattle.tables.specs.Names.{cleared}
 use Rattle.tables.specs.Number.{isNumber, worth}
 
 -- ---- the table of 98 numbers
@@ -64,16 +65,16 @@ refusedAt refusal offset =
 unfoldable pub firstFault : List ℕ → ℕ
 firstFault s = lowestBelow 98 (λ n. not (fits n (nthTyped s n)))
 
--- a text without comments: its table, where the 98 numbers are there and nothing follows; else 8 where the first fault begins, or what follows
+-- a text without names and comments: its table, where the 98 numbers are there and nothing follows; else 8 where the first fault begins, or what follows
 unfoldable pub readBare : List ℕ → Reading
 readBare s =
     pick (eqb (firstFault s) 98 && eqb (nthStart s 98) (length s))
     (taken (tableOf (listOf 98 (λ n. entered (worth (nthTyped s n))))))
     (refusedAt damaged (nthStart s (firstFault s)))
 
--- a text is refused by 11 where it has more than 65,536 bytes, else its comments do not count
+-- a text is refused by 11 where it has more than 65,536 bytes, else its names and comments do not count
 unfoldable pub readTable : List ℕ → Reading
-readTable s = pick (ltb 65536 (length s)) (refusedAt tooLong 65536) (readBare (bare s))
+readTable s = pick (ltb 65536 (length s)) (refusedAt tooLong 65536) (readBare (cleared s))
 
 -- ---- what is printed of it
 

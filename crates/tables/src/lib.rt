@@ -8,6 +8,9 @@ ghost use Rattle.tables.specs.Typed.{white, bare, startFrom, endFrom};
 ghost use Rattle.tables.specs.Number.{digit, isHex};
 ghost use Rattle.tables.specs.Reading.{fitsAt, entered, everyThird, tableOf, refusedAt, readBare, readTable, refusedLine, answerTo};
 ghost use Rattle.tables.specs.Passes.{capped, readDigits, readWord, readNext, valuesOf};
+
+pub mod names;
+
 use stack::Table;
 
 // What came of a text: the table, or a refusal with the byte offset of what is at fault.
@@ -32,13 +35,13 @@ pub struct Next {
 }
 
 // How many of the 98 numbers come before the first fault, their values, and where the fault or what follows them begins.
-struct Values {
-    count: usize,
-    start: usize,
-    values: [u32; 98],
+pub struct Values {
+    pub count: usize,
+    pub start: usize,
+    pub values: [u32; 98],
 }
 
-const MOST: usize = 65536;
+pub const MOST: usize = 65536;
 
 // The place of the word of forced sources among the 98, and the first number over 32 bits.
 const FORCED: usize = 96;
@@ -67,11 +70,11 @@ pub fn read_table(text: &[u8]) -> Reading
         return refused_at(steps::TOO_LONG, MOST);
     }
     let mut room = [0u8; 65536];
-    let n = strip(text, &mut room);
+    let n = names::clear(text, &mut room);
     read_bare(&room[..n])
 }
 
-// The same of a text without comments.
+// The same of a text without names and comments.
 fn read_bare(bare: &[u8]) -> Reading
     ensures { λ r. ⌜ r ≡ readBare (now (bare .entry)) ⌝ }
 {
@@ -149,7 +152,7 @@ fn every_third(values: [u32; 98], first: usize) -> [u32; 32]
 }
 
 // The values up to the first fault.
-fn read_values(text: &[u8]) -> Values
+pub fn read_values(text: &[u8]) -> Values
     ensures { λ r. ⌜ r ≡ valuesOf (now (text .entry)) ⌝ }
 {
     let mut values = [0u32; 98];
@@ -295,14 +298,14 @@ fn digit_of(b: u8) -> u32
 
 // ---- white space and comments
 
-fn is_white(b: u8) -> bool
+pub(crate) fn is_white(b: u8) -> bool
     ensures { λ r. ⌜ r ≡ white b ⌝ }
 {
     (b == 32) | (b == 9) | (b == 13) | (b == 10)
 }
 
 // The text with each byte of a comment made a space.
-fn strip(text: &[u8], out: &mut [u8]) -> usize
+pub(crate) fn strip(text: &[u8], out: &mut [u8]) -> usize
     ensures { λ r. ⌜ (now (out .exit), r) ≡ write (now (out .entry), 0) (bare (now (text .entry))) ⌝ }
 {
     let mut at: usize = 0;

@@ -72,7 +72,7 @@ fn together(t: Totals, f: Totals) -> Totals
 }
 
 // Whether some sum would pass the figure.
-fn any_passes(a: [u32; 32], b: [u32; 32]) -> bool
+pub fn any_passes(a: [u32; 32], b: [u32; 32]) -> bool
     ensures { λ r. ⌜ r ≡ passes a b ⌝ }
 {
     let mut past = false;
@@ -85,7 +85,7 @@ fn any_passes(a: [u32; 32], b: [u32; 32]) -> bool
 }
 
 // Source by source the sum of both.
-fn sums(a: [u32; 32], b: [u32; 32]) -> [u32; 32]
+pub fn sums(a: [u32; 32], b: [u32; 32]) -> [u32; 32]
     requires { ⌜ passes a b ≡ false ⌝ }
     ensures { λ r. ⌜ r ≡ zipWith _+_ a b ⌝ }
 {

@@ -97,6 +97,12 @@ impl Sheet {
         self.gaps[nth] = gap.to_vec();
     }
 
+    /// Puts a name in quotes before the nth gap, parted from the word before it.
+    pub fn name(&mut self, nth: usize, name: &[u8], parted: &[u8]) {
+        let quoted = [parted, b"\"", name, b"\"", &self.gaps[nth]].concat();
+        self.gaps[nth] = quoted;
+    }
+
     /// Puts any word in the place of the nth, or behind the last one.
     pub fn put(&mut self, nth: usize, word: &[u8]) {
         match self.words.get_mut(nth) {

@@ -19,6 +19,7 @@ pub fn all() -> Vec<Vec<u8>> {
     texts.extend(forms().iter().map(Sheet::text));
     texts.extend(layouts().iter().map(Sheet::text));
     texts.extend(slips().iter().map(Sheet::text));
+    texts.extend(names().iter().map(Sheet::text));
     texts.extend(lengths());
     texts
 }
@@ -208,6 +209,30 @@ fn slips() -> Vec<Sheet> {
         sheets.push(sheet);
     }
     sheets.extend(two_slips());
+    sheets
+}
+
+/// A name behind each number, the shortest and the longest, each byte in one, and what is no name.
+fn names() -> Vec<Sheet> {
+    let with = |nth: usize, name: &[u8], parted: &[u8]| {
+        let mut sheet = Sheet::plain(&board());
+        sheet.name(nth, name, parted);
+        sheet
+    };
+    let mut sheets: Vec<Sheet> = (0..=NUMBERS).map(|nth| with(nth, b"name", b" ")).collect();
+    let bytes = (0..=u8::MAX).map(|byte| with(6, &[b'a', byte], b" "));
+    sheets.extend(bytes);
+    sheets.extend([0, 1, 24, 25].map(|length| with(3, &vec![b'x'; length], b"#\n")));
+    sheets.push(with(9, b"glued", b""));
+    sheets.push(with(9, b"first\" \"second", b" "));
+    sheets.push(with(9, b"first\"\"second", b" "));
+    sheets.push(with(9, b"a # b", b"\n# \"\n"));
+    let mut all = Sheet::plain(&board());
+    (0..SOURCES).for_each(|source| all.name(3 * source + 3, b"source", b"\t"));
+    sheets.push(all);
+    let mut open = Sheet::plain(&board());
+    open.gap(6, b" \"open\n");
+    sheets.push(open);
     sheets
 }
 

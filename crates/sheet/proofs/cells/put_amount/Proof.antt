@@ -1,0 +1,29 @@
+-- That `put_amount` of src/cells.rt keeps its contract.
+use Rattle.phrases.specs.Phrases.{bytes}
+use Rattle.sheet.specs.Texts.{amount}
+use Rattle.text.proofs.WriteLaws.{and-then, same-length as same-len}
+use borrow.Author.Needs.{needs}
+use Rattle.sheet.proofs.cells.put_amount.Statement.{statement}
+use Rattle.sheet.proofs.cells.put_amount.Tie as tie
+
+returns : tie.Need-returns
+unfolding amount bytes
+returns c =
+    let c3 = c .before .before in
+    let c2 = c3 .before .before .before .before in
+    let c1 = c2 .before .before .before .before .before in
+    and-then _ _ _ (and-then _ _ _ (c1 .put-decimal .ensures) (c2 .put-all .ensures)) (c3 .put-all2 .ensures)
+
+same-length : tie.Need-same-length
+same-length c = same-len _ _ _ (returns c)
+
+pub put-amount-spec : {M : Type 1} → statement M
+put-amount-spec =
+    tie.close
+    (tie.spec
+    (λ c κs. search needs)
+    (λ c. search needs)
+    (λ c κs. search needs)
+    (λ c κs. search needs)
+    same-length
+    returns)

@@ -1,0 +1,34 @@
+-- That `put_paper` of src/head.rt keeps its contract.
+use Rattle.phrases.specs.Phrases.{bytes}
+use Rattle.sheet.specs.Head.{stylePaper}
+use Rattle.text.proofs.WriteLaws.{and-then, same-length as same-len}
+use borrow.Author.Needs.{needs}
+use Rattle.sheet.proofs.head.put_paper.Statement.{statement}
+use Rattle.sheet.proofs.head.put_paper.Tie as tie
+
+returns : tie.Need-returns
+unfolding stylePaper bytes
+returns c =
+    let c4 = c .before .before in
+    let c3 = c4 .before .before .before .before .before in
+    let c2 = c3 .before .before .before .before .before in
+    let c1 = c2 .before .before .before .before .before in
+    and-then _ _ _ (and-then _ _ _ (and-then _ _ _ (c1 .put-all .ensures) (c2 .put-all2 .ensures)) (c3 .put-all3 .ensures)) (c4 .put-all4 .ensures)
+
+same-length : tie.Need-same-length
+same-length c = same-len _ _ _ (returns c)
+
+pub put-paper-spec : {M : Type 1} → statement M
+put-paper-spec =
+    tie.close
+    (tie.spec
+    (λ c. search needs)
+    (λ c κs. search needs)
+    (λ c. search needs)
+    (λ c κs. search needs)
+    (λ c. search needs)
+    (λ c κs. search needs)
+    (λ c. search needs)
+    (λ c κs. search needs)
+    same-length
+    returns)

@@ -1,0 +1,25 @@
+-- That `put_meaning` of src/meaning.rt keeps its contract.
+use Rattle.sheet.specs.Meaning.{meaning}
+use Rattle.text.proofs.WriteLaws.{and-then, same-length as same-len}
+use borrow.Author.Needs.{needs}
+use Rattle.sheet.proofs.meaning.put_meaning.Statement.{statement}
+use Rattle.sheet.proofs.meaning.put_meaning.Tie as tie
+
+returns : tie.Need-returns
+unfolding meaning
+returns c =
+    let c2 = c .before .before in
+    let c1 = c2 .before .before .before .before in
+    and-then _ _ _ (c1 .put-first .ensures) (c2 .put-last .ensures)
+
+same-length : tie.Need-same-length
+same-length c = same-len _ _ _ (returns c)
+
+pub put-meaning-spec : {M : Type 1} → statement M
+put-meaning-spec =
+    tie.close
+    (tie.spec
+    (λ c κs. search needs)
+    (λ c κs. search needs)
+    same-length
+    returns)

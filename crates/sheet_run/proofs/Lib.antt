@@ -1,0 +1,2 @@
+-- The laws of the sheet after names.
+pub mod PutLaws

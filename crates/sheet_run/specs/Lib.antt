@@ -1,0 +1,2 @@
+-- The sheet after names.
+pub mod Put

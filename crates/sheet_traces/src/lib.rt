@@ -1,0 +1,233 @@
+// What the tuning sheet takes from one trace: its figures, and of an AIC what was seen of it over the steps played (02, 4/12, 11/12 and 12/12).
+ghost use mathlib.Core.Path.{_≡_};
+ghost use mathlib.Core.Bool.{true, false};
+ghost use Prim.Native.Nat.{ℕ, _≤_, _<_};
+ghost use lib.Dec.{eqb};
+ghost use lib.ListN.{length};
+ghost use Rattle.words.specs.Choice.{pick};
+ghost use Rattle.steps.specs.Refusals.{carriedOut};
+ghost use Rattle.steps.specs.declared.Step.{Step};
+ghost use Rattle.trace.specs.Trace.{stepsFrom};
+ghost use Rattle.turns.specs.Turns.{stepOf};
+ghost use Rattle.kinds.specs.Kinds.{aicKind};
+ghost use Rattle.aic_record.specs.declared.Aic.{Aic as Record};
+ghost use Rattle.aic_record.specs.Sound.{sound};
+ghost use Rattle.aic_record.specs.Promises.{Shaped};
+ghost use Rattle.aic.specs.Model.{step};
+ghost use Rattle.aic_bounds.specs.Following.{noMarks};
+ghost use Rattle.aic_layout.specs.Room.{Laid};
+ghost use Rattle.stack_kept.specs.Kept.{unkept};
+ghost use Rattle.beginning.specs.Begin.{beginOf};
+ghost use Rattle.tally.specs.Tally.{stepsIn, tallyOf};
+ghost use Rattle.sheet_traces.specs.Watched.{opensMark, idleEnd};
+ghost use Rattle.sheet_traces.specs.Following.{watchedFirst, watchedBy, Met};
+ghost use Rattle.sheet_traces.specs.Noted.{playedIn, noted, unseen, noteOf};
+ghost use Rattle.wait_totals.specs.Waits.{noWaits};
+use aic_bounds::Marks;
+use aic_record::Aic;
+use beginning::Begun;
+use rooms::Room;
+use sheet_figures::Noted;
+use stack::Table;
+use tally::Tallied;
+use wait_totals::Waits;
+
+// Marks opened, ends of interrupt that found no entry open, entries open now, a word of the sources that were enabled; the lowest source that did not keep
+// the table in the first record that did not, 32 for none, and the step after which that was.
+pub struct Watched {
+    pub marks: u32,
+    pub idle: u32,
+    pub left: u32,
+    pub used: u32,
+    pub strays: u32,
+    pub astray: u32,
+}
+
+// What was seen over the steps played, and the waits of all sources.
+pub struct Played {
+    pub watched: Watched,
+    pub waits: Waits,
+}
+
+// ---- one step
+
+// Whether a step, before which so many entries were open, opened a mark.
+fn opened_mark(room: &Room, before: u32) -> bool
+    ensures { λ r. ⌜ ((s : Record) (x : Step) → sound s ≡ true → Shaped s → Laid (step s x .aic) (now (room .entry)) → before ≡ s .depth → r ≡ opensMark s x) ⌝ }
+{
+    if room[aic_layout::DEPTH] <= before {
+        return false;
+    }
+    room[aic_layout::SOURCE + (before % 8) as usize] == 0
+}
+
+// Whether a step that was carried out is an end of interrupt that found no entry open.
+fn is_idle(carried: bool, kind: u32, x: u32, before: u32) -> bool
+    ensures { λ r. ⌜ ((s : Record) (y : ℕ) → carried ≡ eqb (step s (stepOf kind x y) .refusal) carriedOut → before ≡ s .depth → r ≡ idleEnd s (stepOf kind x y)) ⌝ }
+{
+    carried & (kind == trace::WRITE) & (x == aic_registers::map::EOICR) & (before == 0)
+}
+
+// What a step brings: nothing where it is refused.
+fn brought(carried: bool, m: Marks) -> Marks
+    ensures { λ r. ⌜ r ≡ pick carried m noMarks ⌝ }
+{
+    if carried {
+        return m;
+    }
+    aic_wait_book::no_marks()
+}
+
+// The lowest source that does not keep the table: as it was where one did not before, or where nothing that matters is written since; else it is looked for.
+fn strays_after(room: &Room, table: Table, strays: u32, same: bool) -> u32
+    ensures { λ r. ⌜ ((s : Record) → sound s ≡ true → Laid s (now (room .entry)) → (same ≡ true → strays ≡ 32 → unkept table s ≡ 32) → r ≡ pick (eqb strays 32) (unkept table s) strays) ⌝ }
+{
+    if same | (strays != 32) {
+        return strays;
+    }
+    stack_kept::unkept(table, aic_layout::record_of(room))
+}
+
+// What is watched after the n-th step, before which so many entries were open and these sources enabled.
+fn watched_after(
+    w: Watched,
+    room: &Room,
+    table: Table,
+    before: u32,
+    enabled: u32,
+    idle: bool,
+    wrote: bool,
+    n: u32,
+) -> Watched
+    requires { ⌜ (w .marks < 4294967295) × (w .idle < 4294967295) ⌝ }
+    ensures { λ r. ⌜ ((s : Record) (x : Step) → sound s ≡ true → Shaped s → Laid (step s x .aic) (now (room .entry)) → Met table w s x before enabled idle wrote → r ≡ watchedBy table n w s x) ⌝ }
+{
+    let on = room[aic_layout::ENABLED];
+    let strays = strays_after(room, table, w.strays, !wrote & (on == enabled));
+    let astray = aic_bounds::either((w.strays == 32) & (strays != 32), n, w.astray);
+    let marks = w.marks + words::one_if(opened_mark(room, before));
+    let ends = w.idle + words::one_if(idle);
+    let used = words::join(w.used, on);
+    Watched {
+        marks,
+        idle: ends,
+        left: room[aic_layout::DEPTH],
+        used,
+        strays,
+        astray,
+    }
+}
+
+// ---- all steps
+
+// Before any step.
+fn watch_first(first: Aic, table: Table) -> Watched
+    ensures { λ r. ⌜ r ≡ watchedFirst table first ⌝ }
+{
+    let strays = stack_kept::unkept(table, first);
+    Watched {
+        marks: 0,
+        idle: 0,
+        left: first.depth,
+        used: first.enabled,
+        strays,
+        astray: 0,
+    }
+}
+
+// Plays the steps of an AIC from a place on in a room, watches each, and follows the waits of all sources. The limit falls by one with each step.
+fn watch_steps(trace: &[u8], limit: u32, start: usize, first: Aic, table: Table) -> Played
+    requires { ⌜ (sound first ≡ true) × Shaped first × (length (now trace) ≤ 65536) × (length (stepsIn (stepsFrom false limit (now trace) start .steps)) ≤ 65536) ⌝ }
+    ensures { λ r. ⌜ r ≡ playedIn table first (stepsIn (stepsFrom false limit (now (trace .entry)) start .steps)) ⌝ }
+{
+    let mut room = aic_layout::lay(first);
+    let mut book = aic_wait_book::start();
+    let mut w = watch_first(first, table);
+    let mut at = start;
+    let mut left = limit;
+    let mut n: u32 = 0;
+    loop {
+        let t = turns::sure(turns::quick(trace, at, left, false), trace, at, left, false);
+        if t.kind == turns::ENDED {
+            let waits = aic_wait_book::waits_in(&book);
+            return Played { watched: w, waits };
+        }
+        let before = room[aic_layout::DEPTH];
+        let enabled = room[aic_layout::ENABLED];
+        let brings = aic_wait_book::marks(&room, t.kind, t.x, t.y);
+        let a = aic_room::step(&mut room, t.kind, t.x, t.y);
+        let carried = rooms::refusal_in(a) == steps::CARRIED_OUT;
+        let m = brought(carried, brings);
+        let idle = is_idle(carried, t.kind, t.x, before);
+        n = n + 1;
+        aic_wait_book::follow(&mut book, &room, before, n, m);
+        w = watched_after(w, &room, table, before, enabled, idle, m.rewrote, n);
+        at = t.next;
+        left = left - 1;
+    }
+}
+
+// ---- the trace
+
+// What the sheet takes from a trace of which at most `limit` steps are played. The report's figures come first, of any kind of controller; of an AIC its
+// steps are played once more.
+pub fn note(trace: &[u8], limit: u32, table: Table) -> Noted
+    ensures { λ r. ⌜ r ≡ noteOf (now (trace .entry)) limit table ⌝ }
+{
+    let f = tally::figures(trace, limit);
+    let b = beginning::begin(trace);
+    let m = b.machine;
+    if (b.refusal == steps::CARRIED_OUT) & (m.kind == kinds::AIC) {
+        return note_aic(trace, limit, table, f, b);
+    }
+    note_other(f)
+}
+
+// That of a trace that starts an AIC.
+fn note_aic(trace: &[u8], limit: u32, table: Table, f: Tallied, b: Begun) -> Noted
+    requires { ⌜ (b ≡ beginOf (now trace)) × (b .refusal ≡ carriedOut) × (b .machine .kind ≡ aicKind) ⌝ }
+    ensures { λ r. ⌜ (f ≡ tallyOf (now (trace .entry)) limit → r ≡ noteOf (now (trace .entry)) limit table) ⌝ }
+{
+    let m = b.machine;
+    let p = watch_steps(trace, limit, b.place, m.aic, table);
+    let w = p.watched;
+    let waits = p.waits;
+    noted(f, true, w, waits)
+}
+
+// That of another kind, or of none.
+fn note_other(f: Tallied) -> Noted
+    ensures { λ r. ⌜ r ≡ noted f false unseen noWaits ⌝ }
+{
+    let w = Watched {
+        marks: 0,
+        idle: 0,
+        left: 0,
+        used: 0,
+        strays: 32,
+        astray: 0,
+    };
+    let waits = wait_totals::none();
+    noted(f, false, w, waits)
+}
+
+fn noted(f: Tallied, aic: bool, w: Watched, waits: Waits) -> Noted
+    ensures { λ r. ⌜ r ≡ noted f aic w waits ⌝ }
+{
+    let figures = f.figures;
+    Noted {
+        steps: f.steps,
+        refused: f.refused,
+        marks: w.marks,
+        idle: w.idle,
+        left: w.left,
+        refusal: f.refusal,
+        offset: f.offset,
+        aic,
+        used: w.used,
+        strays: w.strays,
+        astray: w.astray,
+        figures,
+        waits,
+    }
+}

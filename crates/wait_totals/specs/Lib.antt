@@ -1,0 +1,3 @@
+-- The waits of traces added up, and what is promised of them.
+pub mod Promises
+pub mod Waits
