@@ -14,18 +14,18 @@ use Rattle.words.specs.Counting.{one, countBelow, lowestBelow}
 use Rattle.words.proofs.ChoiceLaws.{pick-true, pick-false}
 use Rattle.words.proofs.CountingLaws.{count-same, lowest-found}
 use Rattle.words.proofs.TruthLaws.{and-left, and-right, and-both, not-holds}
-use Rattle.phrases.specs.Phrases.{bytes, counted}
+use Rattle.text.specs.Phrases.{bytes, counted}
 use Rattle.steps.specs.declared.Step.{Step}
 use Rattle.steps.specs.declared.Step.the-variants.{Write}
 use Rattle.aic_record.specs.declared.Aic.{Aic}
 use Rattle.aic_record.specs.declared.Seen.{Seen}
-use Rattle.aic_last.specs.Last.{lastSource, lastLevel}
+use Rattle.aic_record.specs.Last.{lastSource, lastLevel}
 use Rattle.cic_record.specs.declared.Cic.{Cic}
 use Rattle.cic_record.specs.Kinds.{hostNumber}
 use Rattle.cic_hosts.specs.Hosts.{asserted}
 use Rattle.aintc_record.specs.declared.Chosen.{Chosen}
-use Rattle.machine_record.specs.declared.Machine.{Machine}
-use Rattle.machine_record.specs.Shown.{shown}
+use Rattle.machine.specs.declared.record.Machine.{Machine}
+use Rattle.machine.specs.Shown.{shown}
 use Rattle.deeds.specs.Deeds.{openedWords, closedWords, ends, entryWords, sameSeen, seenWords, gains, furtherWords, hostWords, gainWords, cicDeeds, chosenWords, choiceWords, aintcDeeds, turnWords, sideWords}
 use Rattle.deeds.specs.Promises.{Promises}
 use Rattle.deeds.proofs.EntryLaws.{starts, marks, closes, closes-mark, nothing-open, same-seen, forgets, remembers, remembers-none}

@@ -5,6 +5,8 @@ ghost use mathlib.Core.List.{zipWith};
 ghost use Prim.Native.Nat.{_+_, max};
 ghost use Rattle.totals.specs.Totals.{zeros, passes, together, added};
 
+pub mod waits;
+
 // For each source, of one trace or of many: the handlers started, the most handlers started while it waited, and the most entries open while it was open.
 pub struct Totals {
     pub started: [u32; 32],
