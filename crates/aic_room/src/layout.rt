@@ -142,7 +142,7 @@ pub fn renew(room: &mut Room)
 }
 
 // The word of level p and its bit of the byte, after a change that no other level depends on.
-pub fn renew_level(room: &mut Room, p: u32)
+pub(crate) fn renew_level(room: &mut Room, p: u32)
     requires { ⌜ p < 8 ⌝ }
     ensures { λ _. ⌜ ((a b : Aic) → StaleAt a b p (now (room .entry)) → Laid b (now (room .exit))) ⌝ }
 {
@@ -189,7 +189,7 @@ pub fn put_seen(room: &mut Room, what: u32, source: u32, level: u32, vector: u32
 }
 
 // Slot i of the open entries, a handler or a mark, how many are open, and the level of the last.
-pub fn put_entry(room: &mut Room, i: u32, source: u32, level: u32, depth: u32, last: u32)
+pub(crate) fn put_entry(room: &mut Room, i: u32, source: u32, level: u32, depth: u32, last: u32)
     requires { ⌜ i < 8 ⌝ }
     ensures { λ _. ⌜ ((a : Aic) → Laid a (now (room .entry)) → last ≡ levelBelow (set (a .level) i level) depth → Laid (withHandlers a (set (a .source) i source) (set (a .level) i level) depth) (now (room .exit))) ⌝ }
 {
@@ -215,7 +215,7 @@ fn put_class(room: &mut Room, k: u32, p: u32)
 }
 
 // The mode of source k. The levels are to be renewed.
-pub fn put_mode(room: &mut Room, k: u32, mode: u32)
+pub(crate) fn put_mode(room: &mut Room, k: u32, mode: u32)
     requires { ⌜ k < 32 ⌝ }
     ensures { λ _. ⌜ ((a : Aic) → Stale a (now (room .entry)) → Stale (withMode a (set (a .mode) k mode)) (now (room .exit))) ⌝ }
 {

@@ -100,7 +100,7 @@ fn with_due(room: &Room, n: u32, some: u32) -> u32
 // ---- the three ways of a step
 
 // The bound of source k after the n-th step, which brought m: how it stands after it is w.
-pub fn bound_after(room: &Room, k: u32, w: u32, n: u32, b: Bound, m: Marks) -> Bound
+pub(crate) fn bound_after(room: &Room, k: u32, w: u32, n: u32, b: Bound, m: Marks) -> Bound
     requires { ⌜ k < 32 ⌝ }
     ensures { λ r. ⌜ ((t : Aic) → sound t ≡ true → Laid t (now (room .entry)) → r ≡ boundBy k w n b m t) ⌝ }
 {

@@ -269,7 +269,7 @@ fn put_bits(room: &mut Room, n: u32, i: u32, p: u32)
 }
 
 // The route of input k, with its bits in the words that are kept beside the routes.
-pub fn put_route(room: &mut Room, k: u32, route: u32)
+pub(crate) fn put_route(room: &mut Room, k: u32, route: u32)
     requires { ⌜ (k < 128) × (route < 256) ⌝ }
     ensures { λ _. ⌜ ((a : Aintc) → Laid a (now (room .entry)) → Laid (withRoutes a (set (a .routes) k route)) (now (room .exit))) ⌝ }
 {

@@ -245,7 +245,7 @@ fn differing(a: u32, b: u32) -> u32
 }
 
 // The active system interrupts of word k become those of a new word. Only what differs is looked at.
-pub fn renew(room: &mut Room, k: u32, new: u32)
+pub(crate) fn renew(room: &mut Room, k: u32, new: u32)
     requires { ⌜ k < 32 ⌝ }
     ensures { λ _. ⌜ ((f : Frame) (c : Cic) (ws : List ℕ) → f .kept ≡ true → Counted f c ws (now (room .entry)) → Counted f c (set ws k new) (now (room .exit))) ⌝ }
 {

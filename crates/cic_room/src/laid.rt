@@ -90,7 +90,7 @@ pub(crate) fn byte_of(w: u32, j: u32) -> u16
 }
 
 // The channel of a system interrupt.
-pub fn channel_at(room: &Room, s: System) -> Channel
+pub(crate) fn channel_at(room: &Room, s: System) -> Channel
     requires { ⌜ s .0 < 1024 ⌝ }
     ensures { λ r. ⌜ ((f : Frame) (c : Cic) → Held f c (now (room .entry)) → r ≡ channelOf c s) × (r .0 < 256) ⌝ }
 {
@@ -99,7 +99,7 @@ pub fn channel_at(room: &Room, s: System) -> Channel
 }
 
 // The host of a channel.
-pub fn host_at(room: &Room, k: Channel) -> Host
+pub(crate) fn host_at(room: &Room, k: Channel) -> Host
     requires { ⌜ k .0 < 256 ⌝ }
     ensures { λ r. ⌜ ((f : Frame) (c : Cic) → Held f c (now (room .entry)) → r ≡ hostOf c k) × (r .0 < 256) ⌝ }
 {
@@ -108,7 +108,7 @@ pub fn host_at(room: &Room, k: Channel) -> Host
 }
 
 // The active system interrupts of word k, kept or not.
-pub fn active_word(room: &Room, k: u32) -> u32
+pub(crate) fn active_word(room: &Room, k: u32) -> u32
     requires { ⌜ k < 32 ⌝ }
     ensures { λ r. ⌜ ((f : Frame) (c : Cic) → Laid f c (now (room .entry)) → r ≡ activeWord c k) ⌝ }
 {
@@ -147,7 +147,7 @@ fn store_enable(room: &mut Room, k: u32, w: u32)
 }
 
 // The status of a system interrupt is set or cleared.
-pub fn mark_status(room: &mut Room, s: System, on: bool)
+pub(crate) fn mark_status(room: &mut Room, s: System, on: bool)
     requires { ⌜ s .0 < 1024 ⌝ }
     ensures { λ _. ⌜ ((f : Frame) (c : Cic) → Laid f c (now (room .entry)) → Laid f (withStatus c (withBitAt (c .status) (s .0) on)) (now (room .exit))) ⌝ }
 {
@@ -157,7 +157,7 @@ pub fn mark_status(room: &mut Room, s: System, on: bool)
 }
 
 // A system interrupt is enabled or disabled.
-pub fn mark_enable(room: &mut Room, s: System, on: bool)
+pub(crate) fn mark_enable(room: &mut Room, s: System, on: bool)
     requires { ⌜ s .0 < 1024 ⌝ }
     ensures { λ _. ⌜ ((f : Frame) (c : Cic) → Laid f c (now (room .entry)) → Laid f (withEnable c (withBitAt (c .enable) (s .0) on)) (now (room .exit))) ⌝ }
 {
@@ -167,7 +167,7 @@ pub fn mark_enable(room: &mut Room, s: System, on: bool)
 }
 
 // Each 1 of v sets its bit of word k of the status.
-pub fn set_status(room: &mut Room, k: u32, v: u32)
+pub(crate) fn set_status(room: &mut Room, k: u32, v: u32)
     requires { ⌜ k < 32 ⌝ }
     ensures { λ _. ⌜ ((f : Frame) (c : Cic) → Laid f c (now (room .entry)) → Laid f (withStatus c (bitsSet (c .systems) (c .status) k v)) (now (room .exit))) ⌝ }
 {
@@ -177,7 +177,7 @@ pub fn set_status(room: &mut Room, k: u32, v: u32)
 }
 
 // Each 1 of v clears it.
-pub fn clear_status(room: &mut Room, k: u32, v: u32)
+pub(crate) fn clear_status(room: &mut Room, k: u32, v: u32)
     requires { ⌜ k < 32 ⌝ }
     ensures { λ _. ⌜ ((f : Frame) (c : Cic) → Laid f c (now (room .entry)) → Laid f (withStatus c (bitsCleared (c .status) k v)) (now (room .exit))) ⌝ }
 {
@@ -186,7 +186,7 @@ pub fn clear_status(room: &mut Room, k: u32, v: u32)
 }
 
 // Each 1 of v sets its bit of word k of the enables.
-pub fn set_enable(room: &mut Room, k: u32, v: u32)
+pub(crate) fn set_enable(room: &mut Room, k: u32, v: u32)
     requires { ⌜ k < 32 ⌝ }
     ensures { λ _. ⌜ ((f : Frame) (c : Cic) → Laid f c (now (room .entry)) → Laid f (withEnable c (bitsSet (c .systems) (c .enable) k v)) (now (room .exit))) ⌝ }
 {
@@ -196,7 +196,7 @@ pub fn set_enable(room: &mut Room, k: u32, v: u32)
 }
 
 // Each 1 of v clears it.
-pub fn clear_enable(room: &mut Room, k: u32, v: u32)
+pub(crate) fn clear_enable(room: &mut Room, k: u32, v: u32)
     requires { ⌜ k < 32 ⌝ }
     ensures { λ _. ⌜ ((f : Frame) (c : Cic) → Laid f c (now (room .entry)) → Laid f (withEnable c (bitsCleared (c .enable) k v)) (now (room .exit))) ⌝ }
 {
@@ -217,7 +217,7 @@ fn put_line(room: &mut Room, s: System, high: bool)
 }
 
 // A line goes high or low: a rising one sets the status.
-pub fn move_line(room: &mut Room, s: System, high: bool)
+pub(crate) fn move_line(room: &mut Room, s: System, high: bool)
     requires { ⌜ s .0 < 1024 ⌝ }
     ensures { λ _. ⌜ ((f : Frame) (c : Cic) → Laid f c (now (room .entry)) → Laid f (moved c s high) (now (room .exit))) ⌝ }
 {
@@ -247,7 +247,7 @@ fn store_allow(room: &mut Room, k: u32, w: u32)
 }
 
 // A host is enabled or disabled.
-pub fn mark_host(room: &mut Room, h: Host, on: bool)
+pub(crate) fn mark_host(room: &mut Room, h: Host, on: bool)
     requires { ⌜ h .0 < 256 ⌝ }
     ensures { λ _. ⌜ ((f : Frame) (c : Cic) → Laid f c (now (room .entry)) → Laid f (withAllow c (withBitAt (c .allow) (h .0) on)) (now (room .exit))) ⌝ }
 {
@@ -257,7 +257,7 @@ pub fn mark_host(room: &mut Room, h: Host, on: bool)
 }
 
 // Word k of the host enables is replaced.
-pub fn replace_hosts(room: &mut Room, k: u32, v: u32)
+pub(crate) fn replace_hosts(room: &mut Room, k: u32, v: u32)
     requires { ⌜ k < 8 ⌝ }
     ensures { λ _. ⌜ ((f : Frame) (c : Cic) → Laid f c (now (room .entry)) → Laid f (withAllow c (wordReplaced (c .hosts) (c .allow) k v)) (now (room .exit))) ⌝ }
 {
@@ -278,7 +278,7 @@ fn existing(rest: u32, v: u32) -> u32
 }
 
 // The channels of four system interrupts, of a register that is there.
-pub fn write_channels(room: &mut Room, k: u32, v: u32)
+pub(crate) fn write_channels(room: &mut Room, k: u32, v: u32)
     requires { ⌜ k < 256 ⌝ }
     ensures { λ _. ⌜ ((f : Frame) (c : Cic) → sound c ≡ true → 4 * k < c .systems → Laid f c (now (room .entry)) → Laid f (withChannel c (mapPut (c .systems) k v (c .channel))) (now (room .exit))) ⌝ }
 {
@@ -297,7 +297,7 @@ pub fn write_channels(room: &mut Room, k: u32, v: u32)
 }
 
 // The hosts of four channels, of a register that is there. Nothing is counted anew.
-pub fn write_hosts(room: &mut Room, k: u32, v: u32)
+pub(crate) fn write_hosts(room: &mut Room, k: u32, v: u32)
     requires { ⌜ k < 64 ⌝ }
     ensures { λ _. ⌜ ((f : Frame) (c : Cic) → sound c ≡ true → 4 * k < c .channels → Laid f c (now (room .entry)) → Laid f (withHost c (mapPut (c .channels) k v (c .host))) (now (room .exit))) ⌝ }
 {

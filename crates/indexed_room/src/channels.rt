@@ -60,7 +60,7 @@ fn replace(room: &mut Room, w: u32, from: Channel, to: Channel)
 }
 
 // Byte j of a word of the channel map, the lowest being byte 0.
-pub fn channel_in(w: u32, j: u32) -> Channel
+pub(crate) fn channel_in(w: u32, j: u32) -> Channel
     requires { ⌜ j < 4 ⌝ }
     ensures { λ r. ⌜ (r ≡ channelNumber (byteOf w j)) × (r .0 < 256) ⌝ }
 {

@@ -87,7 +87,7 @@ pub fn any_passes(a: [u32; 32], b: [u32; 32]) -> bool
 }
 
 // Source by source the sum of both.
-pub fn sums(a: [u32; 32], b: [u32; 32]) -> [u32; 32]
+pub(crate) fn sums(a: [u32; 32], b: [u32; 32]) -> [u32; 32]
     requires { ⌜ passes a b ≡ false ⌝ }
     ensures { λ r. ⌜ r ≡ zipWith _+_ a b ⌝ }
 {
