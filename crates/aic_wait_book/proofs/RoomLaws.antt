@@ -25,7 +25,7 @@ use Rattle.aic_registers.specs.Map.{eoicr}
 use Rattle.aic_registers.specs.Effects.{turns}
 use Rattle.aic_room.specs.Room.{Laid}
 use Rattle.aic_room.proofs.CellLaws.{depth-is, edges-is, source-is}
-use Rattle.aic_effects.proofs.EffectLaws.{low-told}
+use Rattle.aic_room.proofs.EffectLaws.{low-told}
 use Rattle.aic_bounds.specs.Following.{hotLast, noMarks, lineMarks}
 
 module _ {s : Aic} {room : List ℕ} (h : Laid s room) where

@@ -46,10 +46,10 @@ module _ (s : List ℕ) (limit : ℕ) (z : beginOf s .refusal ≡ 0) where
   abbrev R : List ℕ
   R = bytesOf (numbersIn told (recordsOf s limit .steps))
 
-  parts : bytesOf (playedNumbers s limit) ≡ B ++ R
+  pub parts : bytesOf (playedNumbers s limit) ≡ B ++ R
   parts = bytes-parts s limit z
 
-  reads : Reads (B ++ R) 0 (kind ∷ ns) (length B)
+  pub reads : Reads (B ++ R) 0 (kind ∷ ns) (length B)
   reads = subst (λ (p : ℕ). Reads (B ++ R) 0 (kind ∷ ns) p) (zero-add (length B)) (reads-back (kind ∷ ns) [] R (reads-fit s 0 (kind ∷ ns) (beginOf s .place) (b .reads)))
 
   few : length (B ++ R) ≤ 65536

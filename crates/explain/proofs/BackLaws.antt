@@ -1,6 +1,6 @@
 -- The bytes of numbers are read as these numbers, and those of steps as these steps.
 use Prim.Native.Nat.{ℕ, zero, suc, _+_, _-_, _*_, _/_, _%_, _^_, _≤_, _<_}
-use mathlib.Core.Path.{_≡_, refl, sym, ap, _∙_, subst}
+use mathlib.Core.Path.{_≡_, refl, sym, ap, ap₂, _∙_, subst}
 use mathlib.Core.Bool.{Bool, true, false}
 use mathlib.Core.List.{List, [], _∷_, _++_, append-assoc, append-nil}
 use native.Mathlib.Decide.{decLt}
@@ -13,7 +13,7 @@ use Rattle.numbers.specs.Promises.{toldAt, Form}
 use Rattle.numbers.proofs.Promises as Numbers
 use Rattle.trace.specs.Promises.{Reads, Unwritten, Along}
 use Rattle.trace.specs.Steps.{numbersOf, stepAt, tell}
-use Rattle.trace.specs.Trace.{Trace, turnAt, stepsFrom}
+use Rattle.trace.specs.Trace.{after, turnAt, stepsFrom}
 use Rattle.trace.specs.declared.Turn.{Turn}
 use Rattle.trace.specs.declared.Turn.the-variants.{Found}
 use Rattle.trace.proofs.Promises as Traces
@@ -225,17 +225,23 @@ module _ (told : Bool) (x : Recorded) (xs : List Recorded) (limit : ℕ) (a : Li
   turn : turnAt told t (length a) (suc limit) ≡ Found x p
   turn = Traces.kept .turnStep told t (length a) (suc limit) some (omega arith) ∙ found
 
+  joined : a ++ bytesOf (numbersIn told (x ∷ xs)) ≡ (a ++ B) ++ R
+  unfolding numbersIn
+  joined = ap (λ (u : List ℕ). a ++ u) (bytes-append (numbersOf told x) (numbersIn told xs)) ∙ sym (append-assoc a B R)
+
+  pub steps-left : length a < length (a ++ bytesOf (numbersIn told (x ∷ xs)))
+  steps-left = omega (arith, some, ap length (joined ∙ append-assoc a B R))
+
+  pub steps-onward : stepsFrom told (suc limit) (a ++ bytesOf (numbersIn told (x ∷ xs))) (length a) ≡ after x (stepsFrom told limit ((a ++ B) ++ R) (length (a ++ B)))
+  steps-onward =
+      ap (λ (u : List ℕ). stepsFrom told (suc limit) u (length a)) (joined ∙ append-assoc a B R)
+      ∙ Traces.kept .onward told limit t (length a) x p turn
+      ∙ ap₂ (λ (u : List ℕ) (k : ℕ). after x (stepsFrom told limit u k)) (sym (append-assoc a B R)) (sym (length-append a B))
+
   steps-more : stepsFrom told limit ((a ++ B) ++ R) (length (a ++ B)) ≡ record { steps = xs; refusal = 0; offset = length ((a ++ B) ++ R) }
       → stepsFrom told (suc limit) (a ++ bytesOf (numbersIn told (x ∷ xs))) (length a)
       ≡ record { steps = x ∷ xs; refusal = 0; offset = length (a ++ bytesOf (numbersIn told (x ∷ xs))) }
-  unfolding numbersIn
-  steps-more ih =
-      subst (λ (u : List ℕ). stepsFrom told (suc limit) (a ++ u) (length a) ≡ record { steps = x ∷ xs; refusal = 0; offset = length (a ++ u) })
-      (sym (bytes-append (numbersOf told x) (numbersIn told xs)))
-      (Traces.kept .onward told limit t (length a) x p turn
-      ∙ ap (λ (r : Trace). record { steps = x ∷ r .steps; refusal = r .refusal; offset = r .offset })
-      (subst (λ (k : ℕ). stepsFrom told limit t k ≡ record { steps = xs; refusal = 0; offset = length t }) (length-append a B)
-      (subst (λ (u : List ℕ). stepsFrom told limit u (length (a ++ B)) ≡ record { steps = xs; refusal = 0; offset = length u }) (append-assoc a B R) ih)))
+  steps-more ih = steps-onward ∙ ap (after x) ih ∙ ap (λ (u : List ℕ). record { steps = x ∷ xs; refusal = 0; offset = length u }) (sym joined)
 
 pub steps-back : (told : Bool) (xs : List Recorded) (limit : ℕ) (a : List ℕ) → AllWords told xs → AllPlain told xs → length xs ≤ limit
     → stepsFrom told limit (a ++ bytesOf (numbersIn told xs)) (length a) ≡ record { steps = xs; refusal = 0; offset = length (a ++ bytesOf (numbersIn told xs)) }

@@ -6,8 +6,11 @@ pub mod DigitLaws
 pub mod ExplainLaws
 pub mod LineLaws
 pub mod Promises
+pub mod SaidLaws
+pub mod SameLaws
 pub mod SizeLaws
 pub mod SpellingLaws
 pub mod StatedLaws
+pub mod StatementLaws
 pub mod TextLaws
 pub mod WordLaws

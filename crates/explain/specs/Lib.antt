@@ -3,4 +3,5 @@ pub mod AgainPromises
 pub mod Explain
 pub mod Promises
 pub mod Read
+pub mod Said
 pub mod Stated
