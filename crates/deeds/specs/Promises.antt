@@ -75,6 +75,7 @@ pub record Promises : Type 0 where
   pub gained : (c d : Cic) (h : ℕ) → (gains c d h ≡ true) ↔ ((asserted d (hostNumber h) ≡ true) × (asserted c (hostNumber h) ≡ false))
   -- nothing is said exactly if no host is; else the lowest that is, is told (01, CIC, outputs)
   pub noneGained : (c d : Cic) → (gainWords (bytes "; asserts host ") c d ≡ []) ↔ ((h : ℕ) → h < 256 → gains c d h ≡ false)
+  pub noneEnded : (c d : Cic) → (gainWords (bytes "; ends host ") c d ≡ []) ↔ ((h : ℕ) → h < 256 → gains c d h ≡ false)
   pub lowestGained : (c d : Cic) → countBelow 256 (gains c d) ≢ 0
       → (gains c d (lowestBelow 256 (gains c d)) ≡ true) × ((h : ℕ) → h < lowestBelow 256 (gains c d) → gains c d h ≡ false)
   -- those that became asserted are told first, then those that are no longer
