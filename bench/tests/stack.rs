@@ -12,7 +12,7 @@ use bench::stack::Table;
 use bench::tally::Listed;
 
 /// How many tables .ci/checks/differential sends through the program.
-const THROUGH_THE_PROGRAM: usize = 250;
+const THROUGH_THE_PROGRAM: usize = 700;
 
 /// The sweeps and so many random tables.
 fn compare_some(more: usize, other: impl FnMut(&Typed) -> Outcome) -> Summary<Typed> {
@@ -154,12 +154,12 @@ fn status(program: &str, argument: &str, count: &str) -> Option<i32> {
 fn the_exit_status_tells() {
     let reference = env!("CARGO_BIN_EXE_reference");
     let count = &THROUGH_THE_PROGRAM.to_string();
-    assert_eq!(status(reference, "--stack", count), Some(0));
+    assert_eq!(status(reference, "--stacksize", count), Some(0));
     assert_eq!(
-        status(reference, "--stack", "3"),
+        status(reference, "--stacksize", "3"),
         Some(1),
         "a gap in coverage"
     );
     assert_eq!(status(reference, "--batch", count), Some(1));
-    assert_eq!(status(reference, "--stack", "many"), Some(2));
+    assert_eq!(status(reference, "--stacksize", "many"), Some(2));
 }

@@ -1,5 +1,5 @@
 //! The model as a program: a trace on standard input, its listing on standard output; with `--stack` a typed table and
-//! its line, with `--slip` what leads to its slip; with `--batch` many of both and words looked at; with `--boards` a number on standard input, and a transcript of so many boards;
+//! its line, with `--slip` what leads to its slip, with `--stacksize` both, as `./run stack` prints them; with `--batch` many of both and words looked at; with `--boards` a number on standard input, and a transcript of so many boards;
 //! with `--wave` the waves of a trace, with `--picture` the picture of some of its steps, and with `--explain` all or some
 //! of it as text, explained.
 
@@ -18,8 +18,8 @@ use bench::trace::PROGRAM_LIMIT;
 use bench::waves;
 
 const USAGE: &str = "\
-reference [--stack | --slip | --batch | --boards | --wave | --picture FIRST STEPS | --explain [FIRST STEPS]]: lists the trace on
-standard input, or says the stack of the table there or what leads to its slip, or many (batch.c), or prints a transcript of as many boards as the
+reference [--stack | --slip | --stacksize | --batch | --boards | --wave | --picture FIRST STEPS | --explain [FIRST STEPS]]: lists the trace on
+standard input, or says the stack of the table there, what leads to its slip or both, or many (batch.c), or prints a transcript of as many boards as the
 number there says, or the waves of the trace, or the picture of some of its steps, or the trace explained
 ";
 
@@ -31,6 +31,12 @@ fn main() -> ExitCode {
         [word] if word == "--slip" => {
             print_one(|text| stack::lead::lead(text).unwrap_or_default().into_bytes());
         }
+        [word] if word == "--stacksize" => print_one(|text| {
+            if let Some(line) = stack::lead::lead(text) {
+                eprint!("stacksize: {line}");
+            }
+            stack::line(text)
+        }),
         [word] if word == "--batch" => print_many(),
         [word] if word == "--boards" => print_one(boards),
         [word] if word == "--wave" => {

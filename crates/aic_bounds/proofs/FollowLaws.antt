@@ -15,7 +15,7 @@ use Rattle.aic_record.specs.declared.Aic.{Aic}
 use Rattle.aic.specs.Model.{step}
 use Rattle.aic_runs.specs.Counted.{edges}
 use Rattle.aic_runs.specs.Runs.{sumOver}
-use Rattle.aic_turns.specs.Turns.{closesHot, due}
+use Rattle.aic_runs.specs.Turns.{closesHot, due}
 use Rattle.aic_waits.specs.Figures.{waitAfter}
 use Rattle.aic_waits.proofs.FigureLaws.{capped-is}
 use Rattle.aic_bounds.specs.declared.Bound.{Bound}

@@ -1,5 +1,7 @@
 -- Theorems about the bound of a wait.
 pub mod BestLaws
+pub mod FigureLaws
+pub mod FiguresPromises
 pub mod FollowLaws
 pub mod MarkLaws
 pub mod MostLaws

@@ -17,7 +17,7 @@ use Rattle.aic_sources.specs.Pending.{active, edgeWord}
 use Rattle.aic_registers.specs.Map.{svr, iscr, eoicr, ffer, ffdr}
 use Rattle.aic_registers.specs.Effects.{turns}
 use Rattle.aic_runs.specs.Counted.{carried, closes, rises, edges, commands, rewrites}
-use Rattle.aic_turns.specs.Turns.{closesOf, closesHot}
+use Rattle.aic_runs.specs.Turns.{closesOf, closesHot}
 use Rattle.aic_bounds.specs.declared.Marks.{Marks}
 use Rattle.aic_bounds.specs.Bounds.{sets, lifts}
 use Rattle.aic_bounds.specs.Following.{marksOf, noMarks, hotLast, writeMarks, lineMarks, marksBy}

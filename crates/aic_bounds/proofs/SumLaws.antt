@@ -18,9 +18,9 @@ use Rattle.aic.specs.Model.{step}
 use Rattle.aic_runs.specs.Counted.{rises, edges, commands}
 use Rattle.aic_runs.specs.Runs.{count, sumOver}
 use Rattle.aic_runs.proofs.RunLaws.{over-le, over-add}
-use Rattle.aic_turns.specs.Turns.{closesHot, gains, gained, due}
-use Rattle.aic_rivals.specs.Rivals.{chances, onceOn, allowed}
-use Rattle.aic_rivals.proofs.OnLaws.{once-first, once-off}
+use Rattle.aic_runs.specs.Turns.{closesHot, gains, gained, due}
+use Rattle.aic_runs.specs.Rivals.{chances, onceOn, allowed}
+use Rattle.aic_runs.proofs.OnLaws.{once-first, once-off}
 use Rattle.aic_bounds.specs.Bounds.{sets, lifts}
 
 -- ---- sums

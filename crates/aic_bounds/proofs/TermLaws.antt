@@ -23,10 +23,10 @@ use Rattle.aic_runs.specs.Counted.{carries, startsOf, startsOther, edges, rewri
 use Rattle.aic_runs.specs.Runs.{run, count, always, sumOver}
 use Rattle.aic_runs.specs.Promises.{rivalOf}
 use Rattle.aic_runs.proofs.RunLaws.{over-add}
-use Rattle.aic_turns.specs.Turns.{closesHot, Cool, due}
-use Rattle.aic_rivals.specs.Rivals.{onceOn, allowed}
-use Rattle.aic_rivals.specs.Promises.{allowedBefore, levelsBefore, AllOn}
-use Rattle.aic_rivals.proofs.Promises as Rivals
+use Rattle.aic_runs.specs.Turns.{closesHot, Cool, due}
+use Rattle.aic_runs.specs.Rivals.{onceOn, allowed}
+use Rattle.aic_runs.specs.RivalsPromises.{allowedBefore, levelsBefore, AllOn}
+use Rattle.aic_runs.proofs.RivalsPromises as Rivals
 use Rattle.aic_waits.specs.Figures.{waitAfter, standing}
 use Rattle.aic_waits.specs.Promises.{Waits}
 use Rattle.aic_waits.proofs.Promises as Waited

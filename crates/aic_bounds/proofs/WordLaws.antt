@@ -20,7 +20,7 @@ use Rattle.aic_sources.specs.Normal.{ahead}
 use Rattle.aic_runs.specs.Counted.{carries}
 use Rattle.aic_runs.specs.Runs.{sumOver}
 use Rattle.aic_runs.specs.Promises.{rivalOf}
-use Rattle.aic_turns.specs.Turns.{held, due}
+use Rattle.aic_runs.specs.Turns.{held, due}
 use Rattle.aic_waits.specs.Following.{capped}
 use Rattle.aic_bounds.specs.declared.Bound.{Bound}
 use Rattle.aic_bounds.specs.declared.Marks.{Marks}

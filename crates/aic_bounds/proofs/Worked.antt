@@ -17,7 +17,7 @@ use Rattle.aic_registers.specs.Registers.{readAt, writtenAt}
 use Rattle.aic.specs.Model.{readNumber, writeNumber, lineNumber, read, write, line}
 use Rattle.aic_runs.specs.Counted.{carried, takes, begins, startedBy, carries, startsOf, startsOther, closes, rises, edges, commands, rewrites}
 use Rattle.aic_runs.specs.Runs.{sumOver}
-use Rattle.aic_turns.specs.Turns.{closesOf, closesHot, held, due}
+use Rattle.aic_runs.specs.Turns.{closesOf, closesHot, held, due}
 use Rattle.aic_waits.specs.Figures.{waitNext, standing, waitMost, waitedOf}
 use Rattle.aic_bounds.specs.Bounds.{sets, lifts, boundNext, boundOver, boundAt, boundOf}
 use Rattle.aic_bounds.specs.Over.{bounds, withBound, mostOver, boundedOf, begunOver, waitsBegun}

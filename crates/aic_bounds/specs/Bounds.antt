@@ -13,7 +13,7 @@ use Rattle.aic.specs.Model.{step}
 use Rattle.aic_runs.specs.Counted.{carries, rises, edges, commands, rewrites}
 use Rattle.aic_runs.specs.Runs.{sumOver}
 use Rattle.aic_runs.specs.Promises.{rivalOf}
-use Rattle.aic_turns.specs.Turns.{closesHot, due}
+use Rattle.aic_runs.specs.Turns.{closesHot, due}
 use Rattle.aic_waits.specs.Figures.{waitAfter}
 use Rattle.aic_bounds.specs.declared.Bound.{Bound}
 

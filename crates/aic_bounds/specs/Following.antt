@@ -16,7 +16,7 @@ use Rattle.aic_registers.specs.Map.{svr, iscr, eoicr, ffer, ffdr}
 use Rattle.aic_registers.specs.Effects.{turns}
 use Rattle.aic.specs.Model.{step}
 use Rattle.aic_runs.specs.Counted.{edges, rewrites}
-use Rattle.aic_turns.specs.Turns.{closesHot, held}
+use Rattle.aic_runs.specs.Turns.{closesHot, held}
 use Rattle.aic_waits.specs.Figures.{waitAfter}
 use Rattle.aic_waits.specs.Following.{capped}
 use Rattle.aic_bounds.specs.declared.Bound.{Bound}

@@ -18,9 +18,9 @@ use Rattle.aic.specs.Model.{step}
 use Rattle.aic_runs.specs.Counted.{carried, carries, startsOf, startsOther, rises, edges, commands, rewrites, steady}
 use Rattle.aic_runs.specs.Runs.{run, count, always, sumOver}
 use Rattle.aic_runs.specs.Promises.{rivalOf}
-use Rattle.aic_turns.specs.Turns.{closesHot, Cool, due}
-use Rattle.aic_rivals.specs.Rivals.{onceOn}
-use Rattle.aic_rivals.specs.Promises.{allowedBefore, levelsBefore, AllOn}
+use Rattle.aic_runs.specs.Turns.{closesHot, Cool, due}
+use Rattle.aic_runs.specs.Rivals.{onceOn}
+use Rattle.aic_runs.specs.RivalsPromises.{allowedBefore, levelsBefore, AllOn}
 use Rattle.aic_waits.specs.Figures.{waitAfter, standing, waitedOf}
 use Rattle.aic_waits.specs.Promises.{Waits}
 use Rattle.aic_bounds.specs.declared.Bound.{Bound}

@@ -12,10 +12,13 @@ ghost use Rattle.aic_sources.specs.Pending.{active};
 ghost use Rattle.aic_registers.specs.Effects.{turns};
 ghost use Rattle.aic_runs.specs.Counted.{carries};
 ghost use Rattle.aic_runs.specs.Promises.{rivalOf};
-ghost use Rattle.aic_turns.specs.Turns.{held};
+ghost use Rattle.aic_runs.specs.Turns.{held};
 ghost use Rattle.aic_waits.specs.Following.{capped};
 ghost use Rattle.aic_bounds.specs.Bounds.{idle, fresh};
 ghost use Rattle.aic_bounds.specs.Following.{dues, plus, grownBy, boundBy, noMarks, hotLast, writeMarks, lineMarks, marksBy};
+
+pub mod figures;
+
 use aic_record::Aic;
 use steps::Step;
 

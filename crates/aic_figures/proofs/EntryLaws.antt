@@ -25,8 +25,8 @@ use Rattle.aic_registers.specs.Handlers.{opened, closedLast}
 use Rattle.aic.specs.Model.{step}
 use Rattle.aic_runs.specs.Counted.{starts, closes}
 use Rattle.aic_runs.proofs.StepLaws.{depth-law, start-law, close-law, other-law}
-use Rattle.aic_layout.specs.Room.{Laid}
-use Rattle.aic_layout.proofs.CellLaws.{source-is}
+use Rattle.aic_room.specs.Room.{Laid}
+use Rattle.aic_room.proofs.CellLaws.{source-is}
 use Rattle.aic_waits.specs.Figures.{isOpen, entriesNow}
 use Rattle.aic_waits.specs.Following.{startedFrom}
 use Rattle.aic_figures.specs.Book.{Put}

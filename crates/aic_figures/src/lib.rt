@@ -13,7 +13,7 @@ ghost use Rattle.aic_record.specs.Promises.{Shaped};
 ghost use Rattle.aic_record.specs.Sound.{sound};
 ghost use Rattle.aic_sources.specs.Normal.{waiting};
 ghost use Rattle.aic.specs.Model.{step};
-ghost use Rattle.aic_layout.specs.Room.{Laid};
+ghost use Rattle.aic_room.specs.Room.{Laid};
 ghost use Rattle.aic_waits.specs.Figures.{entriesNow};
 ghost use Rattle.aic_waits.specs.Following.{Figures, capped, noFigures, startedFrom, followed};
 ghost use Rattle.aic_figures.specs.Book.{Kept, Put, Moved, settledAt};
@@ -102,10 +102,10 @@ fn begin_all(book: &mut Book, some: u32)
 pub fn started_from(room: &Room, before: u32) -> u32
     ensures { λ r. ⌜ ((t : Aic) → sound t ≡ true → Laid t (now (room .entry)) → r ≡ startedFrom before t) ⌝ }
 {
-    if room[aic_layout::DEPTH] <= before {
+    if room[aic_room::layout::DEPTH] <= before {
         return 32;
     }
-    let k = room[aic_layout::SOURCE + (before % 8) as usize];
+    let k = room[aic_room::layout::SOURCE + (before % 8) as usize];
     if k == 0 {
         return 32;
     }
@@ -129,13 +129,13 @@ fn see(book: &mut Book, k: u32, depth: u32)
 fn deepen<'a>(book: &'a mut Book, room: &'a Room)
     ensures { λ _. ⌜ ((t : Aic) → sound t ≡ true → Laid t (now (room .entry)) → length (now (book .entry)) ≡ 160 → Put 128 (λ i. max (getD (now (book .entry)) (128 + i) 0) (entriesNow t i)) (now (book .entry)) (now (book .exit))) ⌝ }
 {
-    let depth = room[aic_layout::DEPTH];
+    let depth = room[aic_room::layout::DEPTH];
     if 8 < depth {
         return;
     }
     let mut d: u32 = 0;
     while d < depth {
-        let k = room[aic_layout::SOURCE + d as usize] % 32;
+        let k = room[aic_room::layout::SOURCE + d as usize] % 32;
         see(book, k, depth);
         d = d + 1;
     }
@@ -187,8 +187,8 @@ fn move_on<'a>(book: &'a mut Book, room: &'a Room, before: u32, asks: u32)
 pub fn follow<'a>(book: &'a mut Book, room: &'a Room, before: u32)
     ensures { λ _. ⌜ ((f : Figures) (s : Aic) (n : ℕ) (x : Step) → sound s ≡ true → Shaped s → n < 4294967290 → before ≡ s .depth → Kept f s n (now (book .entry)) → Laid (step s x .aic) (now (room .entry)) → Kept (followed f s x) (step s x .aic) (n + 1) (now (book .exit))) ⌝ }
 {
-    let asks = aic_layout::waiting(room);
-    if (asks == book[ASKED]) & (room[aic_layout::DEPTH] <= before) {
+    let asks = aic_room::layout::waiting(room);
+    if (asks == book[ASKED]) & (room[aic_room::layout::DEPTH] <= before) {
         return;
     }
     move_on(book, room, before, asks);

@@ -1,4 +1,5 @@
 -- Laws and theorems about the AT91 controller's record.
+pub mod LastPromises
 pub mod PassLaws
 pub mod Promises
 pub mod RankLaws

@@ -11,6 +11,8 @@ ghost use Rattle.aic_record.specs.Record.{reset, nothingSeen};
 ghost use Rattle.aic_record.specs.Sound.{sourceAt, levelAt, levelBelow, over, entryFits, seenFits, sound};
 ghost use Rattle.aic_record.specs.Passes.{floorOver, slotSound, modeSound};
 
+pub mod last;
+
 // One word has a bit for each of the 32 sources. `source` and `level` hold the open entries, the last one at `depth - 1`: handlers, and
 // spurious marks, whose source is 0.
 pub struct Aic {

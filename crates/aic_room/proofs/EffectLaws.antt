@@ -15,8 +15,8 @@ use Rattle.aic_sources.specs.Pending.{activeLow, activeAt, active}
 use Rattle.aic_sources.specs.Search.{modeWord}
 use Rattle.aic_sources.proofs.PendingLaws.{bit-edges, low-bit}
 use Rattle.aic_registers.specs.Effects.{turns}
-use Rattle.aic_layout.specs.Room.{Laid}
-use Rattle.aic_layout.proofs.CellLaws.{lines-is, edges-is, low-is, mode-is}
+use Rattle.aic_room.specs.Room.{Laid}
+use Rattle.aic_room.proofs.CellLaws.{lines-is, edges-is, low-is, mode-is}
 
 module _ {a : Aic} {room : List ℕ} (h : Laid a room) (k : ℕ) (l : k < 32) where
   -- the type of a source is another than that written, or is that

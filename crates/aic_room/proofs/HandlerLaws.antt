@@ -36,8 +36,8 @@ use Rattle.aic_levels.proofs.ChosenLaws.{Started, none-by, some-by}
 use Rattle.aic_levels.proofs.HighestLaws.{highest-is}
 use Rattle.aic_levels.proofs.LevelLaws.{any-lt}
 use Rattle.aic_levels.proofs.Promises.{kept as levels}
-use Rattle.aic_layout.specs.Room.{fastWord, Laid, Gives}
-use Rattle.aic_layout.proofs.CellLaws.{depth-is, any-is, fast-is, seen-source-is, source-is, level-is, table-is}
+use Rattle.aic_room.specs.Room.{fastWord, Laid, Gives}
+use Rattle.aic_room.proofs.CellLaws.{depth-is, any-is, fast-is, seen-source-is, source-is, level-is, table-is}
 
 -- what a read gives it gives of an equal answer
 pub gives-as : {x y : Answer} {room : List ℕ} {v : ℕ} → x ≡ y → Gives x room v → Gives y room v

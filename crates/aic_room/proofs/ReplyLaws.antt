@@ -22,7 +22,7 @@ use Rattle.aic_registers.specs.Registers.{readAt, writtenAt}
 use Rattle.aic.specs.declared.Signals.{Signals}
 use Rattle.aic.specs.Model.{readNumber, writeNumber, lineNumber, read, write, line, outputs}
 use Rattle.aic.proofs.CallLaws.{read-number, write-number, line-number, done, stopped}
-use Rattle.aic_layout.specs.Room.{Laid, Gives}
+use Rattle.aic_room.specs.Room.{Laid, Gives}
 use Rattle.rooms.specs.Reply.{Reply, reply}
 use Rattle.aic_room.specs.Reply.{Done}
 

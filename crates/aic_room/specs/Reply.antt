@@ -3,7 +3,7 @@ use mathlib.Core.Path.{_≡_}
 use mathlib.Core.List.{List}
 use Prim.Native.Nat.{ℕ}
 use Rattle.aic_registers.specs.declared.Answer.{Answer}
-use Rattle.aic_layout.specs.Room.{Laid}
+use Rattle.aic_room.specs.Room.{Laid}
 use Rattle.rooms.specs.Reply.{Reply, reply}
 
 -- the refusal and the value of an answer

@@ -10,19 +10,18 @@ ghost use Rattle.aic_record.specs.declared.Aic.{Aic};
 ghost use Rattle.aic_record.specs.Mode.{typeOf, kind, edge};
 ghost use Rattle.aic_record.specs.Record.{withSpurious};
 ghost use Rattle.aic_registers.specs.Effects.{moded, vectored, enabledBy, disabledBy, setBy, clearedBy, debugBy, forcedBy, unforcedBy, turns, moved};
-ghost use Rattle.aic_layout.specs.Room.{Laid};
-
-use aic_layout::DEBUG;
-use aic_layout::EDGES;
-use aic_layout::ENABLED;
-use aic_layout::FORCED;
-use aic_layout::LINES;
-use aic_layout::LOW;
-use aic_layout::MEMORY;
-use aic_layout::MODE;
-use aic_layout::SPURIOUS;
-use aic_layout::VECTOR;
-use aic_layout::renew;
+ghost use Rattle.aic_room.specs.Room.{Laid};
+use super::layout::DEBUG;
+use super::layout::EDGES;
+use super::layout::ENABLED;
+use super::layout::FORCED;
+use super::layout::LINES;
+use super::layout::LOW;
+use super::layout::MEMORY;
+use super::layout::MODE;
+use super::layout::SPURIOUS;
+use super::layout::VECTOR;
+use super::layout::renew;
 use rooms::Room;
 
 // ---- commands: each bit of the value is for one source
@@ -32,7 +31,7 @@ pub(crate) fn enable(room: &mut Room, v: u32)
     ensures { λ _. ⌜ ((a : Aic) → Laid a (now (room .entry)) → Laid (enabledBy a v) (now (room .exit))) ⌝ }
 {
     let w = words::join(room[ENABLED], v);
-    aic_layout::put_enabled(room, w);
+    super::layout::put_enabled(room, w);
     renew(room);
 }
 
@@ -41,7 +40,7 @@ pub(crate) fn disable(room: &mut Room, v: u32)
     ensures { λ _. ⌜ ((a : Aic) → Laid a (now (room .entry)) → Laid (disabledBy a v) (now (room .exit))) ⌝ }
 {
     let w = words::drop_bits(room[ENABLED], v);
-    aic_layout::put_enabled(room, w);
+    super::layout::put_enabled(room, w);
     renew(room);
 }
 
@@ -68,7 +67,7 @@ pub(crate) fn force(room: &mut Room, v: u32)
     ensures { λ _. ⌜ ((a : Aic) → Laid a (now (room .entry)) → Laid (forcedBy a v) (now (room .exit))) ⌝ }
 {
     let w = words::join(room[FORCED], words::drop_bits(v, 1));
-    aic_layout::put_forced(room, w);
+    super::layout::put_forced(room, w);
     renew(room);
 }
 
@@ -77,7 +76,7 @@ pub(crate) fn unforce(room: &mut Room, v: u32)
     ensures { λ _. ⌜ ((a : Aic) → Laid a (now (room .entry)) → Laid (unforcedBy a v) (now (room .exit))) ⌝ }
 {
     let w = words::drop_bits(room[FORCED], v);
-    aic_layout::put_forced(room, w);
+    super::layout::put_forced(room, w);
     renew(room);
 }
 
@@ -107,7 +106,7 @@ pub(crate) fn write_debug(room: &mut Room, v: u32)
     if words::has(v, 0) {
         return;
     }
-    aic_layout::put_seen(room, 0, 0, 0, 0);
+    super::layout::put_seen(room, 0, 0, 0, 0);
 }
 
 // ---- a mode write
@@ -130,7 +129,7 @@ pub(crate) fn write_mode(room: &mut Room, k: u32, v: u32)
 {
     let memory = forget_other_type(room, k, v);
     room[MEMORY] = memory;
-    aic_layout::put_mode(room, k, aic_record::kept_of(v) as u32);
+    super::layout::put_mode(room, k, aic_record::kept_of(v) as u32);
     renew(room);
 }
 
@@ -177,5 +176,5 @@ pub(crate) fn move_line(room: &mut Room, k: u32, high: bool)
     let lines = words::with_bit(room[LINES], k, high);
     room[MEMORY] = memory;
     room[LINES] = lines;
-    aic_layout::renew_level(room, priority);
+    super::layout::renew_level(room, priority);
 }

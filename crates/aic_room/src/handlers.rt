@@ -11,25 +11,25 @@ ghost use Rattle.aic_sources.specs.Fast.{fastAsks, fiq};
 ghost use Rattle.aic_sources.specs.Normal.{above, candidates, chosen, irq};
 ghost use Rattle.aic_registers.specs.Handlers.{answered, spent, opened, startedAt, marked, ended, vectorAt, ivrTaken, ivrLooked, ivrRead, begun, ivrWritten, fastSpent, fvrRead, current};
 ghost use Rattle.aic_levels.specs.Levels.{anyOf, highestOf};
-ghost use Rattle.aic_layout.specs.Room.{Laid, Gives};
-use aic_layout::ANY;
-use aic_layout::DEBUG;
-use aic_layout::DEPTH;
-use aic_layout::EDGES;
-use aic_layout::FAST;
-use aic_layout::FORCED;
-use aic_layout::LAST;
-use aic_layout::LEVEL;
-use aic_layout::LEVELS;
-use aic_layout::MEMORY;
-use aic_layout::MODE;
-use aic_layout::SEEN;
-use aic_layout::SEEN_LEVEL;
-use aic_layout::SEEN_SOURCE;
-use aic_layout::SOURCE;
-use aic_layout::SPURIOUS;
-use aic_layout::TABLE;
-use aic_layout::VECTOR;
+ghost use Rattle.aic_room.specs.Room.{Laid, Gives};
+use super::layout::ANY;
+use super::layout::DEBUG;
+use super::layout::DEPTH;
+use super::layout::EDGES;
+use super::layout::FAST;
+use super::layout::FORCED;
+use super::layout::LAST;
+use super::layout::LEVEL;
+use super::layout::LEVELS;
+use super::layout::MEMORY;
+use super::layout::MODE;
+use super::layout::SEEN;
+use super::layout::SEEN_LEVEL;
+use super::layout::SEEN_SOURCE;
+use super::layout::SOURCE;
+use super::layout::SPURIOUS;
+use super::layout::TABLE;
+use super::layout::VECTOR;
 use rooms::Room;
 
 // ---- the one ahead of all others
@@ -110,7 +110,7 @@ fn normal_asks(room: &Room) -> bool
 fn fast_asks(room: &Room) -> bool
     ensures { λ r. ⌜ ((a : Aic) → Laid a (now (room .entry)) → r ≡ fastAsks a) ⌝ }
 {
-    words::meet(aic_layout::pending(room), room[FAST]) != 0
+    words::meet(super::layout::pending(room), room[FAST]) != 0
 }
 
 // ---- the two outputs, unless debug control masks them
@@ -138,7 +138,7 @@ fn spend(room: &mut Room, k: u32)
         let priority = room[MODE + k as usize] % 8;
         let w = words::with_bit(room[MEMORY], k, false);
         room[MEMORY] = w;
-        aic_layout::renew_level(room, priority);
+        super::layout::renew_level(room, priority);
     }
 }
 
@@ -150,7 +150,7 @@ fn open_entry(room: &mut Room, k: u32, level: u32)
     if 8 <= depth {
         return;
     }
-    aic_layout::put_entry(room, depth, k, level, depth + 1, level);
+    super::layout::put_entry(room, depth, k, level, depth + 1, level);
 }
 
 // Source k starts at a level: a handler is opened, and its memory is cleared if it is edge-triggered.
@@ -171,7 +171,7 @@ fn open_mark(room: &mut Room)
         return;
     }
     let level = room[LAST];
-    aic_layout::put_entry(room, depth, 0, level, depth + 1, level);
+    super::layout::put_entry(room, depth, 0, level, depth + 1, level);
 }
 
 // The last entry is closed, mark or handler. With none open nothing changes.
@@ -186,7 +186,7 @@ pub(crate) fn end_last(room: &mut Room)
         return;
     }
     let last = level_below(room, depth - 1);
-    aic_layout::put_entry(room, depth - 1, 0, 0, depth - 1, last);
+    super::layout::put_entry(room, depth - 1, 0, 0, depth - 1, last);
 }
 
 // The source of the last entry, 0 if that is a mark or none is open.
@@ -234,11 +234,11 @@ fn look_ivr(room: &mut Room) -> u32
     if k < 32 {
         let level = room[MODE + k as usize] % 8;
         let vector = room[VECTOR + k as usize];
-        aic_layout::put_seen(room, 1, k, level, vector);
+        super::layout::put_seen(room, 1, k, level, vector);
         return vector;
     }
     let spurious = room[SPURIOUS];
-    aic_layout::put_seen(room, 2, 0, 0, 0);
+    super::layout::put_seen(room, 2, 0, 0, 0);
     spurious
 }
 
@@ -275,7 +275,7 @@ fn begin_seen(room: &mut Room)
         return;
     }
     open_seen(room);
-    aic_layout::put_seen(room, 0, 0, 0, 0);
+    super::layout::put_seen(room, 0, 0, 0, 0);
 }
 
 // A write of IVR. Outside protect mode it does nothing.

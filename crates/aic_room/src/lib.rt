@@ -7,23 +7,25 @@ ghost use Rattle.aic_record.specs.Sound.{sound};
 ghost use Rattle.aic_registers.specs.Registers.{outputBits, stored, readAt, writtenAt};
 ghost use Rattle.aic.specs.Model.{read, write, line, step, outputs};
 ghost use Rattle.rooms.specs.Reply.{told};
-ghost use Rattle.turns.specs.Turns.{stepOf};
-ghost use Rattle.aic_layout.specs.Room.{Laid, Gives};
+ghost use Rattle.trace.specs.Turns.{stepOf};
+ghost use Rattle.aic_room.specs.Room.{Laid, Gives};
 ghost use Rattle.aic_room.specs.Reply.{Done};
 
 mod effects;
 mod handlers;
+pub mod layout;
+pub mod pair;
 
 use aic::Signals;
-use aic_layout::DEBUG;
-use aic_layout::DEPTH;
-use aic_layout::ENABLED;
-use aic_layout::FORCED;
-use aic_layout::MODE;
-use aic_layout::SPURIOUS;
-use aic_layout::VECTOR;
 use aic_registers::map;
 use aic_registers::map::access_of;
+use layout::DEBUG;
+use layout::DEPTH;
+use layout::ENABLED;
+use layout::FORCED;
+use layout::MODE;
+use layout::SPURIOUS;
+use layout::VECTOR;
 use rooms::Room;
 
 // ---- registers that may be read or written
@@ -49,7 +51,7 @@ fn read_stored(room: &Room, offset: u32) -> u32
     }
     match offset {
         map::ISR => handlers::current(room),
-        map::IPR => aic_layout::pending(room),
+        map::IPR => layout::pending(room),
         map::IMR => room[ENABLED],
         map::CISR => output_bits(room),
         map::SPU => room[SPURIOUS],

@@ -21,8 +21,8 @@ use Rattle.aic_record.proofs.SoundLaws.{sound-is}
 use Rattle.aic_sources.specs.Fast.{fast}
 use Rattle.aic_sources.specs.Normal.{ahead}
 use Rattle.aic_sources.proofs.HandlerLaws.{priority-small}
-use Rattle.aic_layout.specs.Room.{classWord, Laid}
-use Rattle.aic_layout.proofs.CellLaws.{part-is, source-is, level-is, priority-is, seen-what-is, seen-source-is}
+use Rattle.aic_room.specs.Room.{classWord, Laid}
+use Rattle.aic_room.proofs.CellLaws.{part-is, source-is, level-is, priority-is, seen-what-is, seen-source-is}
 use Rattle.aic_runs.specs.Counted.{carries}
 use Rattle.aic_runs.specs.Promises.{rivalOf}
 use Rattle.aic_waits.specs.Following.{capped}

@@ -25,8 +25,8 @@ use Rattle.aic_waits.specs.Figures.{waitAfter}
 use Rattle.aic_bounds.specs.declared.Bound.{Bound}
 use Rattle.aic_bounds.specs.declared.Marks.{Marks}
 use Rattle.aic_bounds.specs.Following.{plus, boundBy}
-use Rattle.aic_wait_figures.specs.declared.Figures.{Figures}
-use Rattle.aic_wait_figures.specs.Figures.{noFigures, figuresWith}
+use Rattle.aic_bounds.specs.declared.figures.Figures.{Figures}
+use Rattle.aic_bounds.specs.Figures.{noFigures, figuresWith}
 use Rattle.aic_figures.proofs.KeptLaws.{Way, way, asks-then, waits-then}
 use Rattle.aic_figures.proofs.KeptLaws.Way.{ends, starts, begins, rests, goes}
 use Rattle.aic_wait_book.specs.Waits.{followed}

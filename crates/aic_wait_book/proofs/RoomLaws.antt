@@ -14,7 +14,7 @@ use Rattle.words.proofs.TruthLaws.{clash}
 use Rattle.words.proofs.WordLaws.{past-withBit}
 use Rattle.steps.specs.declared.Step.{Step}
 use Rattle.steps.specs.declared.Step.the-variants.{Read, Write, Line}
-use Rattle.turns.specs.Turns.{stepOf}
+use Rattle.trace.specs.Turns.{stepOf}
 use Rattle.aic_record.specs.declared.Aic.{Aic}
 use Rattle.aic_record.specs.Mode.{edge}
 use Rattle.aic_record.specs.Sound.{sourceAt, sound}
@@ -23,9 +23,9 @@ use Rattle.aic_sources.specs.Pending.{activeAt}
 use Rattle.aic_sources.proofs.PendingLaws.{bit-edges}
 use Rattle.aic_registers.specs.Map.{eoicr}
 use Rattle.aic_registers.specs.Effects.{turns}
-use Rattle.aic_layout.specs.Room.{Laid}
-use Rattle.aic_layout.proofs.CellLaws.{depth-is, edges-is, source-is}
-use Rattle.aic_effects.proofs.EffectLaws.{low-told}
+use Rattle.aic_room.specs.Room.{Laid}
+use Rattle.aic_room.proofs.CellLaws.{depth-is, edges-is, source-is}
+use Rattle.aic_room.proofs.EffectLaws.{low-told}
 use Rattle.aic_bounds.specs.Following.{hotLast, noMarks, lineMarks}
 
 module _ {s : Aic} {room : List ℕ} (h : Laid s room) where

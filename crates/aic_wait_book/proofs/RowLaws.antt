@@ -23,8 +23,8 @@ use Rattle.aic_bounds.specs.Bounds.{idle, rivalsOf, enabledOf, fresh, boundOf}
 use Rattle.aic_bounds.specs.Following.{dues, plus, grownBy, boundBy}
 use Rattle.aic_bounds.specs.Over.{bounds, better, loses}
 use Rattle.aic_bounds.proofs.WordLaws.{due-sum, by-idle, by-fresh, by-grown}
-use Rattle.aic_wait_figures.specs.declared.Figures.{Figures}
-use Rattle.aic_wait_figures.specs.Figures.{figuresWith}
+use Rattle.aic_bounds.specs.declared.figures.Figures.{Figures}
+use Rattle.aic_bounds.specs.Figures.{figuresWith}
 use Rattle.aic_wait_book.specs.Book.{rowOf, figuresIn, rowAfter, isQuiet, isSteady, gained, Small}
 
 -- ---- numbers and words

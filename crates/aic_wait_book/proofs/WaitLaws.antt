@@ -19,11 +19,11 @@ use Rattle.aic_bounds.specs.declared.Bound.{Bound}
 use Rattle.aic_bounds.specs.Bounds.{boundOf}
 use Rattle.aic_bounds.specs.Following.{marksOf}
 use Rattle.aic_bounds.specs.Over.{bounds, better, largestOf, waitsBegun, waitsUnended, waitsUnbounded, firstUnbounded}
-use Rattle.aic_wait_figures.specs.declared.Figures.{Figures}
-use Rattle.aic_wait_figures.specs.Figures.{figuresOver, figuresOf, largestNow, unendedNow}
-use Rattle.aic_wait_figures.specs.Promises.{Tells}
-use Rattle.aic_wait_figures.proofs.Promises as Figures
-use Rattle.wait_totals.specs.declared.Waits.{Waits}
+use Rattle.aic_bounds.specs.declared.figures.Figures.{Figures}
+use Rattle.aic_bounds.specs.Figures.{figuresOver, figuresOf, largestNow, unendedNow}
+use Rattle.aic_bounds.specs.FiguresPromises.{Tells}
+use Rattle.aic_bounds.proofs.FiguresPromises as Figures
+use Rattle.totals.specs.declared.waits.Waits.{Waits}
 use Rattle.aic_wait_book.specs.Waits.{waitsOf, followed, waitsNow}
 use Rattle.aic_wait_book.specs.Promises.{Source}
 use Rattle.aic_wait_book.specs.Book.{rowOf, figuresIn, numbersOf, wordIn, Kept}

@@ -12,8 +12,8 @@ use Rattle.aic_bounds.specs.declared.Bound.{Bound}
 use Rattle.aic_bounds.specs.declared.Marks.{Marks}
 use Rattle.aic_bounds.specs.Bounds.{idle}
 use Rattle.aic_bounds.specs.Following.{plus, boundBy}
-use Rattle.aic_wait_figures.specs.declared.Figures.{Figures}
-use Rattle.aic_wait_figures.specs.Figures.{figuresWith, largestNow, unendedNow}
+use Rattle.aic_bounds.specs.declared.figures.Figures.{Figures}
+use Rattle.aic_bounds.specs.Figures.{figuresWith, largestNow, unendedNow}
 
 -- ---- a row
 

@@ -8,9 +8,9 @@ use Rattle.aic_record.specs.declared.Aic.{Aic}
 use Rattle.aic.specs.Model.{step}
 use Rattle.aic_bounds.specs.Following.{marksOf}
 use Rattle.aic_bounds.specs.Over.{largestOf, waitsBegun, waitsUnended, waitsUnbounded, firstUnbounded}
-use Rattle.aic_wait_figures.specs.declared.Figures.{Figures}
-use Rattle.aic_wait_figures.specs.Figures.{figuresOver, figuresOf}
-use Rattle.wait_totals.specs.declared.Waits.{Waits}
+use Rattle.aic_bounds.specs.declared.figures.Figures.{Figures}
+use Rattle.aic_bounds.specs.Figures.{figuresOver, figuresOf}
+use Rattle.totals.specs.declared.waits.Waits.{Waits}
 use Rattle.aic_wait_book.specs.Waits.{waitsOf, waitsNow, followed}
 use Rattle.aic_wait_book.specs.Book.{Kept}
 

@@ -11,9 +11,9 @@ use Rattle.aic_waits.specs.Figures.{waitAfter}
 use Rattle.aic_bounds.specs.declared.Marks.{Marks}
 use Rattle.aic_bounds.specs.Following.{boundBy}
 use Rattle.aic_bounds.specs.Over.{largestOf, waitsBegun, waitsUnended, waitsUnbounded, firstUnbounded}
-use Rattle.aic_wait_figures.specs.declared.Figures.{Figures}
-use Rattle.aic_wait_figures.specs.Figures.{figuresWith, largestNow, unendedNow}
-use Rattle.wait_totals.specs.declared.Waits.{Waits}
+use Rattle.aic_bounds.specs.declared.figures.Figures.{Figures}
+use Rattle.aic_bounds.specs.Figures.{figuresWith, largestNow, unendedNow}
+use Rattle.totals.specs.declared.waits.Waits.{Waits}
 
 -- of each source over a run from a record in which none waits: the waits that begin, have not ended, and have no bound, the first step by which one has
 -- none, and the six terms of the largest bound (02, 11/12 and 12/12): waits, waits, waits, the number of a step, handlers

@@ -7,22 +7,22 @@ ghost use Rattle.words.specs.Word.{wordOf};
 ghost use Rattle.aic_record.specs.declared.Aic.{Aic};
 ghost use Rattle.aic_record.specs.Mode.{priority};
 ghost use Rattle.aic_record.specs.Sound.{sound};
-ghost use Rattle.aic_layout.specs.Room.{Laid};
+ghost use Rattle.aic_room.specs.Room.{Laid};
 ghost use Rattle.aic_runs.specs.Counted.{carries};
 ghost use Rattle.aic_runs.specs.Promises.{rivalOf};
-ghost use Rattle.aic_turns.specs.Turns.{held};
+ghost use Rattle.aic_runs.specs.Turns.{held};
 ghost use Rattle.aic_bounds.specs.Bounds.{fresh};
 ghost use Rattle.aic_bounds.specs.Following.{dues, plus, grownBy, boundBy};
 use aic_bounds::Bound;
 use aic_bounds::Marks;
-use aic_layout::CLASS;
-use aic_layout::DEPTH;
-use aic_layout::EDGES;
-use aic_layout::ENABLED;
-use aic_layout::FORCED;
-use aic_layout::LEVEL;
-use aic_layout::MODE;
-use aic_layout::SOURCE;
+use aic_room::layout::CLASS;
+use aic_room::layout::DEPTH;
+use aic_room::layout::EDGES;
+use aic_room::layout::ENABLED;
+use aic_room::layout::FORCED;
+use aic_room::layout::LEVEL;
+use aic_room::layout::MODE;
+use aic_room::layout::SOURCE;
 use rooms::Room;
 
 // ---- the words of a record
@@ -31,7 +31,7 @@ use rooms::Room;
 fn is_carried(room: &Room, k: u32) -> bool
     ensures { λ r. ⌜ ((t : Aic) → Laid t (now (room .entry)) → r ≡ carries k t) ⌝ }
 {
-    (room[aic_layout::SEEN] == 1) & (k != room[aic_layout::SEEN_SOURCE])
+    (room[aic_room::layout::SEEN] == 1) & (k != room[aic_room::layout::SEEN_SOURCE])
 }
 
 // The sources of a priority above p.
@@ -82,7 +82,7 @@ fn held_word(room: &Room) -> u32
 fn due_word(room: &Room) -> u32
     ensures { λ r. ⌜ ((t : Aic) → sound t ≡ true → Laid t (now (room .entry)) → r ≡ wordOf 32 (dues t)) ⌝ }
 {
-    let pending = aic_layout::pending(room);
+    let pending = aic_room::layout::pending(room);
     let free = words::drop_bits(pending, held_word(room));
     words::join(words::meet(pending, room[EDGES]), free)
 }
@@ -100,7 +100,7 @@ fn with_due(room: &Room, n: u32, some: u32) -> u32
 // ---- the three ways of a step
 
 // The bound of source k after the n-th step, which brought m: how it stands after it is w.
-pub fn bound_after(room: &Room, k: u32, w: u32, n: u32, b: Bound, m: Marks) -> Bound
+pub(crate) fn bound_after(room: &Room, k: u32, w: u32, n: u32, b: Bound, m: Marks) -> Bound
     requires { ⌜ k < 32 ⌝ }
     ensures { λ r. ⌜ ((t : Aic) → sound t ≡ true → Laid t (now (room .entry)) → r ≡ boundBy k w n b m t) ⌝ }
 {

@@ -9,7 +9,7 @@ ghost use lib.ListN.{length, getD, set};
 ghost use Rattle.words.specs.Choice.{pick};
 ghost use Rattle.words.specs.Word.{bit, wordOf};
 ghost use Rattle.steps.specs.declared.Step.{Step};
-ghost use Rattle.turns.specs.Turns.{stepOf};
+ghost use Rattle.trace.specs.Turns.{stepOf};
 ghost use Rattle.aic_record.specs.declared.Aic.{Aic};
 ghost use Rattle.aic_record.specs.Promises.{Shaped};
 ghost use Rattle.aic_record.specs.Mode.{edge};
@@ -18,11 +18,11 @@ ghost use Rattle.aic_sources.specs.Pending.{activeAt, active};
 ghost use Rattle.aic_registers.specs.Map.{eoicr};
 ghost use Rattle.aic_registers.specs.Effects.{turns};
 ghost use Rattle.aic.specs.Model.{step};
-ghost use Rattle.aic_layout.specs.Room.{Laid};
+ghost use Rattle.aic_room.specs.Room.{Laid};
 ghost use Rattle.aic_waits.specs.Following.{startedFrom};
 ghost use Rattle.aic_bounds.specs.Following.{plus, noMarks, hotLast, writeMarks, lineMarks, marksBy};
-ghost use Rattle.aic_wait_figures.specs.declared.Figures.{Figures};
-ghost use Rattle.aic_wait_figures.specs.Figures.{noFigures};
+ghost use Rattle.aic_bounds.specs.declared.figures.Figures.{Figures};
+ghost use Rattle.aic_bounds.specs.Figures.{noFigures};
 ghost use Rattle.aic_wait_book.specs.Waits.{waitsNow, followed};
 ghost use Rattle.aic_wait_book.specs.Book.{rowOf, figuresIn, rowAfter, numbersOf, wordIn, isQuiet, isSteady, touchedBy, gained, Small, Kept, Rows, Moved};
 
@@ -30,10 +30,10 @@ mod bounds;
 
 use aic_bounds::Bound;
 use aic_bounds::Marks;
+use aic_bounds::figures::Figures;
 use aic_registers::map;
-use aic_wait_figures::Figures;
 use rooms::Room;
-use wait_totals::Waits;
+use totals::waits::Waits;
 
 // A row for each source, and the words of all of them in the last.
 pub type Book = [[u32; 18]; 33];
@@ -82,7 +82,11 @@ pub fn no_marks() -> Marks
 fn write_marks(room: &Room, o: u32, v: u32) -> Marks
     ensures { λ r. ⌜ ((s : Aic) → sound s ≡ true → Laid s (now (room .entry)) → r ≡ writeMarks true s o v) ⌝ }
 {
-    let commands = aic_bounds::either(o == map::ISCR, words::meet(v, room[aic_layout::EDGES]), 0);
+    let commands = aic_bounds::either(
+        o == map::ISCR,
+        words::meet(v, room[aic_room::layout::EDGES]),
+        0,
+    );
     let closed = closed_hot(room, o);
     Marks {
         edges: 0,
@@ -97,7 +101,7 @@ fn write_marks(room: &Room, o: u32, v: u32) -> Marks
 fn closed_hot(room: &Room, o: u32) -> u32
     ensures { λ r. ⌜ ((s : Aic) → sound s ≡ true → Laid s (now (room .entry)) → r ≡ pick (eqb o eoicr && not (eqb (s .depth) 0)) (wordOf 32 (hotLast s (sourceAt s (s .depth - 1)))) 0) ⌝ }
 {
-    let depth = room[aic_layout::DEPTH];
+    let depth = room[aic_room::layout::DEPTH];
     if (o == map::EOICR) & (depth != 0) {
         return hot_word(room, last_source(room, depth));
     }
@@ -111,7 +115,7 @@ fn last_source(room: &Room, depth: u32) -> u32
     if depth == 0 {
         return 0;
     }
-    room[aic_layout::SOURCE + ((depth - 1) % 8) as usize] % 32
+    room[aic_room::layout::SOURCE + ((depth - 1) % 8) as usize] % 32
 }
 
 // Source j alone, if it is level-sensitive and its line is active; source 0 is a mark's.
@@ -146,7 +150,7 @@ fn is_edge(room: &Room, k: u32) -> bool
     requires { ⌜ k < 32 ⌝ }
     ensures { λ r. ⌜ ((s : Aic) → Laid s (now (room .entry)) → r ≡ edge s k) ⌝ }
 {
-    words::has(room[aic_layout::EDGES], k)
+    words::has(room[aic_room::layout::EDGES], k)
 }
 
 // Whether a line that is high, or low, is at the active level of source k.
@@ -154,7 +158,7 @@ fn is_active_at(room: &Room, k: u32, high: bool) -> bool
     requires { ⌜ k < 32 ⌝ }
     ensures { λ r. ⌜ ((s : Aic) → Laid s (now (room .entry)) → r ≡ activeAt s k high) ⌝ }
 {
-    if words::has(room[aic_layout::LOW], k) {
+    if words::has(room[aic_room::layout::LOW], k) {
         return !high;
     }
     high
@@ -164,7 +168,7 @@ fn is_active(room: &Room, k: u32) -> bool
     requires { ⌜ k < 32 ⌝ }
     ensures { λ r. ⌜ ((s : Aic) → Laid s (now (room .entry)) → r ≡ active s k) ⌝ }
 {
-    is_active_at(room, k, words::has(room[aic_layout::LINES], k))
+    is_active_at(room, k, words::has(room[aic_room::layout::LINES], k))
 }
 
 // Whether a line that goes to this level turns source k from inactive to active.
@@ -259,7 +263,7 @@ fn row_after(
     let f = figures_of(row, was);
     let w = aic_bounds::either(is, 2, 0);
     let b = bounds::bound_after(room, k, w, n, f.bound, m);
-    row_of(aic_wait_figures::figures_with(n, f, b))
+    row_of(aic_bounds::figures::figures_with(n, f, b))
 }
 
 // ---- a step
@@ -308,7 +312,7 @@ fn move_row<'a>(book: &'a mut Book, room: &'a Room, i: u32, was: bool, is: bool,
 {
     let rivals = book[i as usize][0];
     let on = book[i as usize][1];
-    if was & is & is_steady(room[aic_layout::ENABLED], rivals, on, m.rewrote) {
+    if was & is & is_steady(room[aic_room::layout::ENABLED], rivals, on, m.rewrote) {
         grow_row(book, i, on, m);
         return;
     }
@@ -346,12 +350,12 @@ fn move_on<'a>(book: &'a mut Book, room: &'a Room, before: u32, asks: u32, n: u3
     let by = aic_figures::started_from(room, before);
     let was = book[WORDS][WAITING];
     let is = aic_figures::waits_after(asks, by, book[WORDS][ASKED], was);
-    let stirred = (room[aic_layout::ENABLED] != book[WORDS][ENABLED]) | !is_quiet(m);
+    let stirred = (room[aic_room::layout::ENABLED] != book[WORDS][ENABLED]) | !is_quiet(m);
     move_rows(book, room, touched(was, is, stirred), was, is, n, m);
     book[WORDS] = [
         asks,
         is,
-        room[aic_layout::ENABLED],
+        room[aic_room::layout::ENABLED],
         0,
         0,
         0,
@@ -381,10 +385,10 @@ fn is_quiet(m: Marks) -> bool
 pub fn follow<'a>(book: &'a mut Book, room: &'a Room, before: u32, n: u32, m: Marks)
     ensures { λ _. ⌜ ((f : ℕ → Figures) (s : Aic) (x : Step) → sound s ≡ true → Shaped s → before ≡ s .depth → Kept f (now (book .entry)) → Laid (step s x .aic) (now (room .entry)) → Kept (followed n m f s x) (now (book .exit))) ⌝ }
 {
-    let asks = aic_layout::waiting(room);
+    let asks = aic_room::layout::waiting(room);
     let same = (asks == book[WORDS][ASKED])
-        & (room[aic_layout::ENABLED] == book[WORDS][ENABLED])
-        & (room[aic_layout::DEPTH] <= before);
+        & (room[aic_room::layout::ENABLED] == book[WORDS][ENABLED])
+        & (room[aic_room::layout::DEPTH] <= before);
     if same & is_quiet(m) {
         return;
     }
@@ -413,10 +417,10 @@ fn figures_at(book: &Book, k: u32) -> Figures
 fn numbers_of(f: Figures) -> [u32; 10]
     ensures { λ r. ⌜ r ≡ numbersOf f ⌝ }
 {
-    let b = aic_wait_figures::largest_now(f);
+    let b = aic_bounds::figures::largest_now(f);
     [
         f.begun,
-        aic_wait_figures::unended_now(f),
+        aic_bounds::figures::unended_now(f),
         f.unbounded,
         f.first,
         b.pending,

@@ -29,7 +29,7 @@ use Rattle.aintc_registers.specs.declared.Answer.{Answer}
 use Rattle.aintc_registers.specs.Effects.{writtenAt, moved}
 use Rattle.aintc_registers.specs.Map.{access}
 use Rattle.aintc_registers.specs.Registers.{answered, refused, readAt}
-use Rattle.aintc_steps.specs.Model.{barred, accessNumber, start, readNumber, writeNumber, lineNumber, read, write, line, step, outputs}
+use Rattle.aintc_registers.specs.Model.{barred, accessNumber, start, readNumber, writeNumber, lineNumber, read, write, line, step, outputs}
 use Rattle.aintc.specs.Promises.{SomeChosen, SameReply, Promises}
 use Rattle.aintc.specs.Tables.{ReadTable, WriteTable}
 use Rattle.aintc.proofs.NumberLaws.{access-read, access-write}

@@ -23,7 +23,7 @@ use Rattle.aintc_registers.specs.Effects.{released, agreed, configured, singleW
 use Rattle.aintc_registers.specs.Map.{revision, sysconfig, sysstatus, sirIrq, sirFiq, control, protection, idle, irqPriority, fiqPriority, threshold, itr, mir, mirClear, mirSet, isrSet, isrClear, pendingIrq, pendingFiq, ilr, past, rowOf, rowAccess, access, inputOf}
 use Rattle.aintc_registers.specs.declared.Answer.{Answer}
 use Rattle.aintc_registers.specs.Registers.{answered, shown, idleBits, singleRead, bankRead, readAt}
-use Rattle.aintc_steps.specs.Model.{readNumber, writeNumber, read, write}
+use Rattle.aintc_registers.specs.Model.{readNumber, writeNumber, read, write}
 use Rattle.aintc.specs.Tables.{MapTable, Shows, Reads, Sets, Writes}
 use Rattle.aintc.proofs.NumberLaws.{access-read, access-write}
 

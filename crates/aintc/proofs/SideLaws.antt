@@ -30,7 +30,7 @@ use Rattle.aintc_choice.specs.Settle.{settle, sound}
 use Rattle.aintc_choice.proofs.Promises as choice-promises
 use Rattle.aintc_registers.specs.declared.Answer.{Answer}
 use Rattle.aintc_registers.specs.Effects.{released, agreed, configured, singleWritten, writtenAt, moved}
-use Rattle.aintc_steps.specs.Model.{readNumber, writeNumber, lineNumber, read, write, line, step}
+use Rattle.aintc_registers.specs.Model.{readNumber, writeNumber, lineNumber, read, write, line, step}
 use Rattle.aintc.specs.Promises.{Ends, Free}
 use Rattle.aintc.proofs.WriteLaws.{Plain, moved-plain, written}
 

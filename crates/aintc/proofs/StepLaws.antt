@@ -5,7 +5,7 @@ use Rattle.steps.specs.declared.Step.{Step}
 use Rattle.rooms.specs.Reply.{Reply}
 use Rattle.aintc_record.specs.declared.Aintc.{Aintc}
 use Rattle.aintc_registers.specs.declared.Answer.{Answer}
-use Rattle.aintc_steps.specs.Model.{step}
+use Rattle.aintc_registers.specs.Model.{step}
 use Rattle.aintc_room.specs.Reply.{replyOf}
 
 pub answer-told : (s : Aintc) (p : ℕ) (x : Step) (n v : ℕ) {q : Reply} (t : Aintc) → q ≡ replyOf (step s p x) → n ≡ q .0 → v ≡ q .1 → t ≡ step s p x .aintc

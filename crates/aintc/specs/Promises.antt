@@ -23,7 +23,7 @@ use Rattle.aintc_choice.specs.Settle.{settle, sound}
 use Rattle.aintc_registers.specs.declared.Answer.{Answer}
 use Rattle.aintc_registers.specs.Map.{access}
 use Rattle.aintc_registers.specs.Registers.{answered, refused}
-use Rattle.aintc_steps.specs.Model.{within, start, read, write, line, step, outputs}
+use Rattle.aintc_registers.specs.Model.{within, start, read, write, line, step, outputs}
 use Rattle.aintc.specs.Tables.{ReadTable, WriteTable, MapTable, Reads, Writes}
 
 -- the step ends what an output holds, FIQ where f, else IRQ: a write that is carried out, of its agreement bit, which is bit 1 of CONTROL for

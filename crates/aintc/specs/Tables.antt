@@ -18,7 +18,7 @@ use Rattle.aintc_choice.specs.Settle.{settle}
 use Rattle.aintc_registers.specs.declared.Answer.{Answer}
 use Rattle.aintc_registers.specs.Map.{access}
 use Rattle.aintc_registers.specs.Registers.{answered}
-use Rattle.aintc_steps.specs.Model.{read, write}
+use Rattle.aintc_registers.specs.Model.{read, write}
 
 -- ---- numbers
 

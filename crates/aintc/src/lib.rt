@@ -4,14 +4,14 @@ ghost use mathlib.Core.Bool.{true};
 ghost use Rattle.rooms.specs.Reply.{told};
 ghost use Rattle.aintc_record.specs.declared.Aintc.{Aintc};
 ghost use Rattle.aintc_choice.specs.Settle.{sound};
-ghost use Rattle.aintc_steps.specs.Model.{within, start, read, write, line, step, outputs};
-ghost use Rattle.aintc_layout.specs.Room.{Laid};
+ghost use Rattle.aintc_registers.specs.Model.{within, start, read, write, line, step, outputs};
+ghost use Rattle.aintc_room.specs.Room.{Laid};
 ghost use Rattle.aintc_room.specs.Reply.{Done};
 use aintc_record::Aintc;
 use aintc_registers::Answer;
+use aintc_registers::model::Begun;
+use aintc_registers::model::Signals;
 use aintc_registers::refusal_of;
-use aintc_steps::Begun;
-use aintc_steps::Signals;
 use rooms::Room;
 use steps::Step;
 
@@ -51,9 +51,9 @@ pub fn step_sound(s: Aintc, privilege: u32, x: Step) -> Answer
     requires { ⌜ sound s ≡ true ⌝ }
     ensures { λ r. ⌜ r ≡ step s privilege x ⌝ }
 {
-    let mut room = aintc_layout::lay(s);
+    let mut room = aintc_room::layout::lay(s);
     let reply = step_in(&mut room, privilege, x);
-    let aintc = aintc_layout::record_of(&room);
+    let aintc = aintc_room::layout::record_of(&room);
     Answer {
         refusal: rooms::refusal_in(reply),
         value: rooms::value_in(reply),

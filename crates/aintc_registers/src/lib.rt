@@ -4,6 +4,7 @@ ghost use mathlib.Core.Path.{_≡_};
 ghost use Rattle.aintc_registers.specs.Registers.{refused};
 
 pub mod map;
+pub mod model;
 
 use aintc_record::Aintc;
 

@@ -22,8 +22,8 @@ use Rattle.aintc_record.specs.Route.{routeOf, priorityOf, routeByte}
 use Rattle.aintc_record.proofs.RecordLaws.{same-getD}
 use Rattle.aintc_choice.specs.Search.{routeWord}
 use Rattle.aintc_registers.specs.Effects.{released, agreed}
-use Rattle.aintc_layout.specs.Room.{fiqWord, priorityWord, bitsWord, parts, sizes, laid, Laid, chosenFrom, chosenPut, withSide}
-use Rattle.aintc_layout.proofs.CellLaws.{laid-as, sized, put-side, put-soft, put-masks}
+use Rattle.aintc_room.specs.Room.{fiqWord, priorityWord, bitsWord, parts, sizes, laid, Laid, chosenFrom, chosenPut, withSide}
+use Rattle.aintc_room.proofs.CellLaws.{laid-as, sized, put-side, put-soft, put-masks}
 
 -- the room of a record that goes by an offset, at the offset of an arm
 pub laid-at : (f : ℕ → Aintc) {o k : ℕ} {room : List ℕ} → o ≡ k → Laid (f k) room → Laid (f o) room

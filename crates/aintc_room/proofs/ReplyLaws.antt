@@ -19,12 +19,12 @@ use Rattle.aintc_registers.specs.declared.Answer.{Answer}
 use Rattle.aintc_registers.specs.Map.{access}
 use Rattle.aintc_registers.specs.Effects.{writtenAt, moved}
 use Rattle.aintc_registers.specs.Registers.{answered, refused, shown, readAt}
-use Rattle.aintc_steps.specs.declared.Signals.{Signals}
-use Rattle.aintc_steps.specs.Model.{barred, accessNumber, readNumber, writeNumber, lineNumber, read, write, line, outputs}
-use Rattle.aintc_steps.proofs.CallLaws.{read-number, write-number, line-number, done, stopped}
-use Rattle.aintc_layout.specs.Room.{Laid, chosenFrom}
-use Rattle.aintc_layout.proofs.CellLaws.{active-is, number-is, priority-is, guarded-is, turbo-is, funcidle-is}
-use Rattle.aintc_layout.proofs.RecordLaws.{flag}
+use Rattle.aintc_registers.specs.declared.model.Signals.{Signals}
+use Rattle.aintc_registers.specs.Model.{barred, accessNumber, readNumber, writeNumber, lineNumber, read, write, line, outputs}
+use Rattle.aintc_registers.proofs.CallLaws.{read-number, write-number, line-number, done, stopped}
+use Rattle.aintc_room.specs.Room.{Laid, chosenFrom}
+use Rattle.aintc_room.proofs.CellLaws.{active-is, number-is, priority-is, guarded-is, turbo-is, funcidle-is}
+use Rattle.aintc_room.proofs.RecordLaws.{flag}
 use Rattle.rooms.specs.Reply.{Reply, reply}
 use Rattle.aintc_room.specs.Reply.{replyOf, Done}
 use Rattle.aintc_room.proofs.SideLaws.{is-free, is-taken}

@@ -29,9 +29,9 @@ use Rattle.aintc_choice.specs.Order.{before}
 use Rattle.aintc_choice.specs.Search.{routeWord}
 use Rattle.aintc_choice.proofs.InputLaws.{open-from, pending-from}
 use Rattle.aintc_choice.proofs.Promises as choice-promises
-use Rattle.aintc_layout.specs.Room.{priorityWord, Laid}
-use Rattle.aintc_layout.proofs.CellLaws.{lines-is, soft-is, masks-is, fiqs-is, bits-is}
-use Rattle.aintc_layout.proofs.Promises.{priority-bit}
+use Rattle.aintc_room.specs.Room.{priorityWord, Laid}
+use Rattle.aintc_room.proofs.CellLaws.{lines-is, soft-is, masks-is, fiqs-is, bits-is}
+use Rattle.aintc_room.proofs.Promises.{priority-bit}
 use Rattle.aintc_room.specs.First.{held, halves, SomeOf, FirstOf, HighestOf}
 
 -- ---- the words of what is pending

@@ -30,9 +30,9 @@ use Rattle.aintc_choice.specs.Settle.{settledSide, settle, sound}
 use Rattle.aintc_choice.proofs.Promises as choice-promises
 use Rattle.aintc_choice.proofs.SettleLaws.{is-none, settled-held, settled-none, side-settled}
 use Rattle.aintc_registers.specs.Effects.{moved}
-use Rattle.aintc_layout.specs.Room.{Laid, chosenFrom, chosenPut, withSide}
-use Rattle.aintc_layout.proofs.CellLaws.{laid-as, threshold-is, active-is, route-is, put-side, put-lines, lines-is}
-use Rattle.aintc_layout.proofs.Promises.{fiq-bit}
+use Rattle.aintc_room.specs.Room.{Laid, chosenFrom, chosenPut, withSide}
+use Rattle.aintc_room.proofs.CellLaws.{laid-as, threshold-is, active-is, route-is, put-side, put-lines, lines-is}
+use Rattle.aintc_room.proofs.Promises.{fiq-bit}
 use Rattle.aintc_room.specs.First.{held, SomeOf, FirstOf, Leads, Alone}
 use Rattle.aintc_room.proofs.SearchLaws.{held-is, none-held, some-held}
 

@@ -3,7 +3,7 @@ use mathlib.Core.Path.{_≡_}
 use mathlib.Core.List.{List}
 use Prim.Native.Nat.{ℕ}
 use Rattle.aintc_registers.specs.declared.Answer.{Answer}
-use Rattle.aintc_layout.specs.Room.{Laid}
+use Rattle.aintc_room.specs.Room.{Laid}
 use Rattle.rooms.specs.Reply.{Reply, reply}
 
 -- the refusal and the value of an answer

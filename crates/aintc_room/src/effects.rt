@@ -9,21 +9,21 @@ ghost use Rattle.aintc_record.specs.Record.{withRoutes, side, reset};
 ghost use Rattle.aintc_record.specs.Route.{routeByte};
 ghost use Rattle.aintc_choice.specs.Settle.{settle, sound};
 ghost use Rattle.aintc_registers.specs.Effects.{released, agreed, configured, singleWritten, bankWritten, writtenAt, moved};
-ghost use Rattle.aintc_layout.specs.Room.{Laid, withSide};
+ghost use Rattle.aintc_room.specs.Room.{Laid, withSide};
+use super::layout::AUTOIDLE;
+use super::layout::BITS;
+use super::layout::FIQS;
+use super::layout::FUNCIDLE;
+use super::layout::GUARDED;
+use super::layout::LINES;
+use super::layout::MASKS;
+use super::layout::REVISION;
+use super::layout::ROUTES;
+use super::layout::SOFT;
+use super::layout::THRESHOLD;
+use super::layout::TURBO;
 use super::sides;
 use super::sides::place_of;
-use aintc_layout::AUTOIDLE;
-use aintc_layout::BITS;
-use aintc_layout::FIQS;
-use aintc_layout::FUNCIDLE;
-use aintc_layout::GUARDED;
-use aintc_layout::LINES;
-use aintc_layout::MASKS;
-use aintc_layout::REVISION;
-use aintc_layout::ROUTES;
-use aintc_layout::SOFT;
-use aintc_layout::THRESHOLD;
-use aintc_layout::TURBO;
 use aintc_registers::map;
 use rooms::Room;
 
@@ -148,7 +148,7 @@ fn write_route(room: &mut Room, k: u32, v: u32)
     if 128 <= k {
         return;
     }
-    aintc_layout::put_route(room, k, v / 4 % 128 * 2 + v % 2);
+    super::layout::put_route(room, k, v / 4 % 128 * 2 + v % 2);
 }
 
 // A write of a register that takes the value.

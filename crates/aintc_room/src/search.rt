@@ -10,13 +10,13 @@ ghost use Rattle.words.specs.Counting.{anyBelow};
 ghost use Rattle.words.specs.Word.{bit, either};
 ghost use Rattle.aintc_record.specs.declared.Aintc.{Aintc};
 ghost use Rattle.aintc_choice.specs.Inputs.{openWord, pendingWord};
-ghost use Rattle.aintc_layout.specs.Room.{Laid};
+ghost use Rattle.aintc_room.specs.Room.{Laid};
 ghost use Rattle.aintc_room.specs.First.{held, halves, SomeOf, FirstOf, HighestOf};
-use aintc_layout::BITS;
-use aintc_layout::FIQS;
-use aintc_layout::LINES;
-use aintc_layout::MASKS;
-use aintc_layout::SOFT;
+use super::layout::BITS;
+use super::layout::FIQS;
+use super::layout::LINES;
+use super::layout::MASKS;
+use super::layout::SOFT;
 use rooms::Room;
 
 // Word n of the inputs that are raised, by their line or by a soft interrupt, and not masked.

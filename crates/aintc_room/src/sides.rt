@@ -5,14 +5,14 @@ ghost use Prim.Native.Nat.{ℕ, _<_, _≤_};
 ghost use Rattle.aintc_record.specs.declared.Aintc.{Aintc};
 ghost use Rattle.aintc_record.specs.Record.{side};
 ghost use Rattle.aintc_choice.specs.Settle.{settledSide, settle};
-ghost use Rattle.aintc_layout.specs.Room.{Laid, chosenFrom, withSide};
+ghost use Rattle.aintc_room.specs.Room.{Laid, chosenFrom, withSide};
 ghost use Rattle.aintc_room.specs.First.{Leads, Alone};
+use super::layout::FIQ;
+use super::layout::FIQS;
+use super::layout::IRQ;
+use super::layout::ROUTES;
+use super::layout::THRESHOLD;
 use super::search;
-use aintc_layout::FIQ;
-use aintc_layout::FIQS;
-use aintc_layout::IRQ;
-use aintc_layout::ROUTES;
-use aintc_layout::THRESHOLD;
 use rooms::Room;
 
 // Where the one stands that is chosen for FIQ, where `fast`, or for IRQ.

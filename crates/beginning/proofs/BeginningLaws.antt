@@ -20,12 +20,12 @@ use Rattle.numbers.specs.declared.Number.the-variants.{Value, Refused}
 use Rattle.numbers.proofs.ReadLaws.{IsRead, number-is}
 use Rattle.trace.specs.Promises.{Reads}
 use Rattle.kinds.specs.declared.Configuration.{Configuration}
-use Rattle.machine_record.specs.declared.Machine.{Machine}
+use Rattle.machine.specs.declared.record.Machine.{Machine}
 use Rattle.kinds.specs.Kinds.{isKind, wanted, within}
 use Rattle.kinds.specs.Configuration.{noNumbers, withNumber, filled}
 use Rattle.kinds.specs.Promises.{Within}
-use Rattle.machine_record.specs.Promises.{Ready, startWith}
-use Rattle.machine_record.proofs.MachineLaws.{start-ready}
+use Rattle.machine.specs.RecordPromises.{Ready, startWith}
+use Rattle.machine.proofs.MachineLaws.{start-ready}
 use Rattle.beginning.specs.declared.Begun.{Begun}
 use Rattle.beginning.specs.declared.Setup.{Setup}
 use Rattle.beginning.specs.Begin.{longest, refusedSetup, acceptedSetup, setupFrom, setupOf, notBegun, bySetup, byController, beginOf}

@@ -20,7 +20,7 @@ use Rattle.kinds.specs.declared.Configuration.{Configuration}
 use Rattle.kinds.specs.Kinds.{isKind, wanted, within}
 use Rattle.kinds.specs.Configuration.{noNumbers, withNumber, filled}
 use Rattle.kinds.specs.Promises.{Within}
-use Rattle.machine_record.specs.Promises.{startWith}
+use Rattle.machine.specs.RecordPromises.{startWith}
 use Rattle.beginning.specs.Begin.{longest, refusedSetup, acceptedSetup, setupFrom, setupOf, notBegun, bySetup, byController, beginOf}
 use Rattle.beginning.specs.Asked.{Wanting}
 use Rattle.beginning.proofs.BeginLaws.{setup-done, setup-damaged, setup-beyond, setup-taken}

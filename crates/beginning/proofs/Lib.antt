@@ -3,3 +3,4 @@ pub mod BeginLaws
 pub mod BeginningLaws
 pub mod KnownLaws
 pub mod OwnLaws
+pub mod PlayLaws

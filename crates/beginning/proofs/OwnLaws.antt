@@ -11,8 +11,8 @@ use Rattle.coreinterrupt.specs.declared.Core.{Core}
 use Rattle.kinds.specs.declared.Configuration.{Configuration}
 use Rattle.kinds.specs.Kinds.{aicKind, coreKind, cicKind, aintcKind}
 use Rattle.kinds.proofs.KindLaws.{KindOf, isAic, isCore, isCic, isAintc, isIndexed, isNone, kind-of, at-aic, at-core, at-cic, at-aintc, at-indexed, at-none}
-use Rattle.machine_record.specs.declared.Machine.{Machine}
-use Rattle.machine_record.specs.Machine.{blank, ofAic, ofCore, ofCic, ofAintc, ofIndexed, start}
+use Rattle.machine.specs.declared.record.Machine.{Machine}
+use Rattle.machine.specs.Machine.{blank, ofAic, ofCore, ofCic, ofAintc, ofIndexed, start}
 use Rattle.beginning.specs.declared.Begun.{Begun}
 use Rattle.beginning.specs.Begin.{beginOf}
 use Rattle.beginning.proofs.BeginningLaws.{Beginning, overlong, damagedAt, noKind, beyondAt, configured, beginning}

@@ -11,7 +11,7 @@ use Rattle.numbers.specs.declared.Number.the-variants.{Value, Refused}
 use Rattle.kinds.specs.declared.Configuration.{Configuration}
 use Rattle.kinds.specs.Kinds.{isKind, wanted, within}
 use Rattle.kinds.specs.Configuration.{noNumbers, withNumber}
-use Rattle.machine_record.specs.Machine.{blank, start}
+use Rattle.machine.specs.Machine.{blank, start}
 use Rattle.beginning.specs.declared.Setup.{Setup}
 use Rattle.beginning.specs.declared.Begun.{Begun}
 

@@ -1,8 +1,11 @@
 // How a trace begins: the machine that it names, and where its steps begin (01, "House trace"; 02, 2/12).
 ghost use mathlib.Core.Path.{_≡_};
 ghost use Rattle.beginning.specs.Begin.{refusedSetup, setupOf, notBegun, bySetup, byController, beginOf};
+
+pub mod reports;
+
 use kinds::Configuration;
-use machine_record::Machine;
+use machine::record::Machine;
 use numbers::Number;
 use numbers::read_number;
 
@@ -36,7 +39,7 @@ pub fn begin(trace: &[u8]) -> Begun
 fn not_begun(refusal: u32, offset: usize) -> Begun
     ensures { λ r. ⌜ r ≡ notBegun refusal offset ⌝ }
 {
-    let m = machine_record::empty();
+    let m = machine::record::empty();
     Begun {
         refusal,
         place: offset,
@@ -66,7 +69,7 @@ fn by_setup(kind: u32, t: Setup) -> Begun
     if t.refusal != steps::CARRIED_OUT {
         return not_begun(t.refusal, t.place);
     }
-    let m = machine_record::start(kind, t.configuration);
+    let m = machine::record::start(kind, t.configuration);
     Begun {
         refusal: steps::CARRIED_OUT,
         place: t.place,

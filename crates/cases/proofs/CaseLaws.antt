@@ -23,11 +23,11 @@ use Rattle.coreinterrupt_side.specs.Side.{clearAccess, sideAccess, sideRead, si
 use Rattle.coreinterrupt.specs.Model as CoreInterrupt
 use Rattle.cic_record.specs.Sound as Cic
 use Rattle.cic_record.specs.Start.{fresh, configured, start as cicStart}
-use Rattle.cic_maps.specs.Maps.{byteRead, mapRead, byteTaken, mapTaken, bytePut, mapPut}
+use Rattle.cic_registers.specs.Maps.{byteRead, mapRead, byteTaken, mapTaken, bytePut, mapPut}
 use Rattle.cic_registers.specs.Bits.{wordRead}
-use Rattle.cic_layout.specs.Map.{singleAt, registerAt, accessOf}
+use Rattle.cic_registers.specs.Map.{singleAt, registerAt, accessOf}
 use Rattle.cic_registers.specs.Registers as Registers
-use Rattle.cic_steps.specs.Model.{readAs, writeAs, stepAs}
+use Rattle.cic_registers.specs.Model.{readAs, writeAs, stepAs}
 use Rattle.cases.specs.Cases.{ran, raise, answers, starts, marks, startsNone, pendingBit, sameList, same, higherPriorityStarts, lowerNumberStarts, atLevelThree, spuriousThen, equalPriorityWaits, nextPriorityNests, levelNotCleared, disabledEdge, disabledEdgeKept, forcedNine, forcedIsFast, allLevels, eightAtMost, noneToClose, clearOfNoneRead, clearOfOneRefused, cic, secondWordThere, thirdWordAbsent, channelOneNotTwo, starred, holds}
 
 pub cases-hold : holds starred ≡ true

@@ -24,9 +24,9 @@ use Rattle.coreinterrupt_side.specs.Side.{clearAccess, sideAccess, sideRead, se
 use Rattle.coreinterrupt.specs.Model as CoreInterrupt
 use Rattle.cic_record.specs.Sound as Cic
 use Rattle.cic_record.specs.Start.{fresh, configured, start as cicStart}
-use Rattle.cic_layout.specs.Map.{singleAt, registerAt, accessOf}
+use Rattle.cic_registers.specs.Map.{singleAt, registerAt, accessOf}
 use Rattle.cic_registers.specs.Registers as Registers
-use Rattle.cic_steps.specs.Model.{readAs, writeAs, stepAs}
+use Rattle.cic_registers.specs.Model.{readAs, writeAs, stepAs}
 use Rattle.aintc_record.specs.Bounds.{chosenBounded, bounded}
 use Rattle.aintc_record.specs.Record as AintcRecord
 use Rattle.aintc_choice.specs.Inputs as Inputs
@@ -36,7 +36,7 @@ use Rattle.aintc_registers.specs.Map.{threshold}
 use Rattle.aintc_registers.specs.Map as AintcMap
 use Rattle.aintc_registers.specs.Effects as Effects
 use Rattle.aintc_registers.specs.Registers as AintcRegisters
-use Rattle.aintc_steps.specs.Model as Aintc
+use Rattle.aintc_registers.specs.Model as Aintc
 use Rattle.cic_held.specs.Held as Held
 use Rattle.cic_indexed.specs.Registers.{ownAt}
 use Rattle.cic_indexed.specs.Model as Indexed

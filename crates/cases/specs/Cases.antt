@@ -15,7 +15,7 @@ use Rattle.aic_runs.specs.Worked.{ready, tower}
 use Rattle.coreinterrupt.specs.Model as CoreInterrupt
 use Rattle.cic_record.specs.declared.Cic.{Cic}
 use Rattle.cic_record.specs.Start.{start as cicStart}
-use Rattle.cic_steps.specs.Model as Cic
+use Rattle.cic_registers.specs.Model as Cic
 
 -- ---- how an AIC is brought where a case begins
 

@@ -10,9 +10,9 @@ use Rattle.aic.specs.Model as Aic
 use Rattle.coreinterrupt.specs.declared.Core.{Core}
 use Rattle.coreinterrupt.specs.Model as CoreInterrupt
 use Rattle.cic_record.specs.declared.Cic.{Cic}
-use Rattle.cic_steps.specs.Model as Cic
+use Rattle.cic_registers.specs.Model as Cic
 use Rattle.aintc_record.specs.declared.Aintc.{Aintc}
-use Rattle.aintc_steps.specs.Model as Aintc
+use Rattle.aintc_registers.specs.Model as Aintc
 use Rattle.cic_held.specs.declared.Prioritised.{Prioritised}
 use Rattle.cic_indexed.specs.Model as Indexed
 

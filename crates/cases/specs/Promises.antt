@@ -11,7 +11,7 @@ use Rattle.coreinterrupt.specs.Model as CoreInterrupt
 use Rattle.cic_record.specs.declared.Cic.{Cic}
 use Rattle.cic_record.specs.Start.{start as cicStart}
 use Rattle.aintc_record.specs.declared.Aintc.{Aintc}
-use Rattle.aintc_steps.specs.Model as Aintc
+use Rattle.aintc_registers.specs.Model as Aintc
 use Rattle.cic_held.specs.declared.Prioritised.{Prioritised}
 use Rattle.cic_held.specs.Held.{start as indexedStart}
 use Rattle.cases.specs.Cases.{starred, holds}

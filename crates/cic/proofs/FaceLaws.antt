@@ -5,8 +5,8 @@ use mathlib.Core.Path.{_≡_, ap₂}
 use Rattle.rooms.specs.Reply.{Reply}
 use Rattle.cic_record.specs.declared.Answer.{Answer}
 use Rattle.cic_record.specs.declared.Cic.{Cic}
-use Rattle.cic_laid.specs.Room.{Frame, Laid}
-use Rattle.cic_laid.proofs.Promises as of-laid
+use Rattle.cic_room.specs.Room.{Frame, Laid}
+use Rattle.cic_room.proofs.Promises as of-laid
 use Rattle.cic_room.specs.Reply.{replyOf, Done}
 
 -- the answer that is put together from a reply and a record

@@ -22,7 +22,7 @@ use Rattle.cic_record.specs.Record.{withLines, withStatus, answered}
 use Rattle.cic_record.specs.Sound.{sound}
 use Rattle.cic_record.proofs.PartsLaws.{sound-parts, sound-lines, sound-status}
 use Rattle.cic_record.proofs.Promises as of-record
-use Rattle.cic_steps.specs.Model.{moved, write, line}
+use Rattle.cic_registers.specs.Model.{moved, write, line}
 use Rattle.cic.specs.Promises.{ClearedHigh}
 use Rattle.cic.specs.Tables.{Sets}
 use Rattle.cic.proofs.StepLaws.{line-done}

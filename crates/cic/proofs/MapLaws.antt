@@ -7,14 +7,14 @@ use Rattle.words.specs.Array.{byteOf}
 use Rattle.steps.specs.declared.Access.{Access}
 use Rattle.steps.specs.declared.Access.the-variants.{NoRegister, ReadWrite}
 use Rattle.cic_record.specs.declared.Cic.{Cic}
-use Rattle.cic_maps.specs.Maps.{mapTaken}
-use Rattle.cic_layout.specs.declared.Register.{Register}
-use Rattle.cic_layout.specs.Map.{registerAt, ifAny, accessOf}
-use Rattle.cic_layout.proofs.AccessLaws.{there-if}
-use Rattle.cic_layout.proofs.Promises as layout
+use Rattle.cic_registers.specs.Maps.{mapTaken}
+use Rattle.cic_registers.specs.declared.layout.Register.{Register}
+use Rattle.cic_registers.specs.Map.{registerAt, ifAny, accessOf}
+use Rattle.cic_registers.proofs.AccessLaws.{there-if}
+use Rattle.cic_registers.proofs.LayoutPromises as layout
 use Rattle.cic_registers.specs.Registers.{unless, valueRefusal}
 use Rattle.cic_registers.proofs.WrittenLaws.{refused-from, taken-if, value-six}
-use Rattle.cic_steps.specs.Model.{refusalAt}
+use Rattle.cic_registers.specs.Model.{refusalAt}
 use Rattle.cic.specs.Tables.{ThereIf, MapTable, LimitAt, BytesAt, Limits}
 
 -- ---- what each register allows

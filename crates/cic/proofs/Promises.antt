@@ -17,10 +17,10 @@ use Rattle.cic_record.specs.Kinds.{system}
 use Rattle.cic_record.specs.Promises.{Shaped}
 use Rattle.cic_record.specs.Record.{refused, answered}
 use Rattle.cic_record.specs.Sound.{sound}
-use Rattle.cic_layout.specs.Map.{registerAt, access}
+use Rattle.cic_registers.specs.Map.{registerAt, access}
 use Rattle.cic_registers.specs.Registers.{valueOf, writtenTo}
 use Rattle.cic_registers.proofs.WrittenLaws.{value-number, sound-written, shaped-written}
-use Rattle.cic_steps.specs.Model.{refusalAt, readAs, writeAs, moved, lineAs, stepAs, read, write, line, step}
+use Rattle.cic_registers.specs.Model.{refusalAt, readAs, writeAs, moved, lineAs, stepAs, read, write, line, step}
 use Rattle.cic.specs.Promises.{Promises}
 use Rattle.cic.proofs.LineLaws.{moved-sound, moved-shaped, line-moves, line-bits, clears-high, index-clears-high}
 use Rattle.cic.proofs.MapLaws.{the-map, the-limits}

@@ -20,17 +20,17 @@ use Rattle.cic_record.specs.Record.{answered}
 use Rattle.cic_record.specs.Sound.{sound}
 use Rattle.cic_record.proofs.PartsLaws.{sound-parts}
 use Rattle.cic_record.proofs.Promises as of-record
-use Rattle.cic_maps.specs.Maps.{mapRead}
-use Rattle.cic_maps.proofs.Promises as maps
+use Rattle.cic_registers.specs.Maps.{mapRead}
+use Rattle.cic_registers.proofs.MapsPromises as maps
 use Rattle.cic_registers.specs.Bits.{wordRead}
 use Rattle.cic_registers.proofs.BitsLaws.{read-bit}
-use Rattle.cic_layout.specs.declared.Register.{Register}
-use Rattle.cic_layout.specs.Map.{registerAt, ifAny, accessOf}
-use Rattle.cic_layout.proofs.AccessLaws.{is-there}
-use Rattle.cic_layout.proofs.Promises as layout
+use Rattle.cic_registers.specs.declared.layout.Register.{Register}
+use Rattle.cic_registers.specs.Map.{registerAt, ifAny, accessOf}
+use Rattle.cic_registers.proofs.AccessLaws.{is-there}
+use Rattle.cic_registers.proofs.LayoutPromises as layout
 use Rattle.cic_registers.specs.Registers.{valueOf}
 use Rattle.cic_registers.proofs.MapRegisterLaws.{read-bytes}
-use Rattle.cic_steps.specs.Model.{read}
+use Rattle.cic_registers.specs.Model.{read}
 use Rattle.cic.specs.Tables.{Shows, BitsOf, BytesOf, Reads}
 use Rattle.cic.proofs.StepLaws.{read-done}
 

@@ -14,12 +14,12 @@ use Rattle.cic_record.specs.declared.Cic.{Cic}
 use Rattle.cic_record.specs.Kinds.{system}
 use Rattle.cic_record.specs.Record.{refused, answered}
 use Rattle.cic_record.specs.Sound.{sound}
-use Rattle.cic_layout.specs.declared.Register.{Register}
-use Rattle.cic_layout.specs.Map.{registerAt, accessOf, access}
+use Rattle.cic_registers.specs.declared.layout.Register.{Register}
+use Rattle.cic_registers.specs.Map.{registerAt, accessOf, access}
 use Rattle.cic_registers.specs.Registers.{valueOf, valueRefusal, writtenTo}
 use Rattle.cic_registers.proofs.WrittenLaws.{value-number}
-use Rattle.cic_steps.specs.Model.{unlessRefused, refusalAt, readAs, writeAs, lineAs, moved, read, write, line}
-use Rattle.cic_steps.proofs.StepLaws.{refused-by, carried-by}
+use Rattle.cic_registers.specs.Model.{unlessRefused, refusalAt, readAs, writeAs, lineAs, moved, read, write, line}
+use Rattle.cic_registers.proofs.StepLaws.{refused-by, carried-by}
 
 -- ---- by the number
 

@@ -22,17 +22,17 @@ use Rattle.cic_record.specs.Promises.{Shaped, Rules}
 use Rattle.cic_record.specs.Record.{withStatus, withEnable, withChannel, withHost, withAllow, answered}
 use Rattle.cic_record.specs.Sound.{sound}
 use Rattle.cic_record.proofs.Promises as of-record
-use Rattle.cic_maps.specs.Maps.{mapPut}
-use Rattle.cic_maps.proofs.Promises as maps
+use Rattle.cic_registers.specs.Maps.{mapPut}
+use Rattle.cic_registers.proofs.MapsPromises as maps
 use Rattle.cic_registers.specs.Bits.{bitsSet, bitsCleared, wordReplaced}
-use Rattle.cic_layout.specs.declared.Register.{Register}
-use Rattle.cic_layout.specs.Map.{registerAt, ifAny, accessOf}
-use Rattle.cic_layout.proofs.AccessLaws.{is-there}
-use Rattle.cic_layout.proofs.Promises as layout
+use Rattle.cic_registers.specs.declared.layout.Register.{Register}
+use Rattle.cic_registers.specs.Map.{registerAt, ifAny, accessOf}
+use Rattle.cic_registers.proofs.AccessLaws.{is-there}
+use Rattle.cic_registers.proofs.LayoutPromises as layout
 use Rattle.cic_registers.specs.Registers.{unless, valueRefusal, writtenTo}
 use Rattle.cic_registers.proofs.MapRegisterLaws.{put-bytes}
 use Rattle.cic_registers.proofs.WrittenLaws.{taken-if}
-use Rattle.cic_steps.specs.Model.{write}
+use Rattle.cic_registers.specs.Model.{write}
 use Rattle.cic.specs.Tables.{Sets, Maps, Writes}
 use Rattle.cic.proofs.StepLaws.{write-done}
 

@@ -15,8 +15,8 @@ use Rattle.cic_record.specs.declared.Cic.{Cic}
 use Rattle.cic_record.specs.Promises.{Shaped}
 use Rattle.cic_record.specs.Record.{withLines, withStatus, refused, answered}
 use Rattle.cic_record.specs.Sound.{sound}
-use Rattle.cic_layout.specs.Map.{access}
-use Rattle.cic_steps.specs.Model.{refusalAt, read, write, line, step}
+use Rattle.cic_registers.specs.Map.{access}
+use Rattle.cic_registers.specs.Model.{refusalAt, read, write, line, step}
 use Rattle.cic.specs.Tables.{MapTable, Limits, Reads, Writes}
 
 -- after a write of v at the offset o the status of system interrupt s is 0 and its line still high

@@ -13,8 +13,8 @@ use Rattle.steps.specs.declared.Access.the-variants.{NoRegister, ReadOnly, Writ
 use Rattle.cic_record.specs.declared.Answer.{Answer}
 use Rattle.cic_record.specs.declared.Cic.{Cic}
 use Rattle.cic_record.specs.Record.{withGlobal, withStatus, withEnable, withChannel, withHost, withAllow, answered}
-use Rattle.cic_layout.specs.Map.{access}
-use Rattle.cic_steps.specs.Model.{refusalAt, read, write}
+use Rattle.cic_registers.specs.Map.{access}
+use Rattle.cic_registers.specs.Model.{refusalAt, read, write}
 
 -- the register at the offset o can be read and written exactly if thing `first` is one of n things, and is not there exactly if it is none
 abbrev pub ThereIf : Cic → ℕ → ℕ → ℕ → Type 0

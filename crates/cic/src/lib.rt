@@ -6,7 +6,7 @@ ghost use Rattle.cic_record.specs.Sound.{within, sound};
 ghost use Rattle.cic_record.specs.Start.{start};
 ghost use Rattle.cic_hosts.specs.Hosts.{asserted, outputs};
 ghost use Rattle.rooms.specs.Reply.{told};
-ghost use Rattle.cic_steps.specs.Model.{readAs, writeAs, lineAs, stepAs, read, write, line, step};
+ghost use Rattle.cic_registers.specs.Model.{readAs, writeAs, lineAs, stepAs, read, write, line, step};
 use cic_record::Answer;
 use cic_record::Begun;
 use cic_record::Cic;
@@ -115,7 +115,7 @@ fn read_in(c: Cic, offset: u32) -> Answer
     requires { ⌜ sound c ≡ true ⌝ }
     ensures { λ r. ⌜ r ≡ readAs true c offset ⌝ }
 {
-    let room = cic_transfer::lay(c, false);
+    let room = cic_room::transfer::lay(c, false);
     let r = cic_room::read(&room, offset);
     answer_with(r, c)
 }
@@ -124,18 +124,18 @@ fn write_in(c: Cic, offset: u32, value: u32) -> Answer
     requires { ⌜ sound c ≡ true ⌝ }
     ensures { λ r. ⌜ r ≡ writeAs true c offset value ⌝ }
 {
-    let mut room = cic_transfer::lay(c, false);
+    let mut room = cic_room::transfer::lay(c, false);
     let r = cic_room::write(&mut room, offset, value);
-    answer_with(r, cic_transfer::record_of(&room))
+    answer_with(r, cic_room::transfer::record_of(&room))
 }
 
 fn line_in(c: Cic, number: u32, level: u32) -> Answer
     requires { ⌜ sound c ≡ true ⌝ }
     ensures { λ r. ⌜ r ≡ lineAs true c number level ⌝ }
 {
-    let mut room = cic_transfer::lay(c, false);
+    let mut room = cic_room::transfer::lay(c, false);
     let r = cic_room::line(&mut room, number, level);
-    answer_with(r, cic_transfer::record_of(&room))
+    answer_with(r, cic_room::transfer::record_of(&room))
 }
 
 fn step_in(c: Cic, s: Step) -> Answer

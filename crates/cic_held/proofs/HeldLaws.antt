@@ -20,8 +20,8 @@ use Rattle.words.proofs.TruthLaws.{and-left, and-right, and-both, same-test, to
 use Rattle.cic_record.specs.declared.Cic.{Cic}
 use Rattle.cic_record.specs.declared.Host.{Host}
 use Rattle.cic_record.specs.Sound as cic
-use Rattle.cic_indices.specs.Order.{noneWord, indexOf}
-use Rattle.cic_indices.proofs.Promises as index-promises
+use Rattle.cic_held.specs.Order.{noneWord, indexOf}
+use Rattle.cic_held.proofs.IndicesPromises as index-promises
 use Rattle.cic_held.specs.declared.Held.{Held}
 use Rattle.cic_held.specs.Held.{nothingHeld, withGlobal, withHosts, heldAs, wordHeld, entrySound, heldSound, freedHosts, controlled}
 

@@ -23,7 +23,7 @@ use Rattle.cic_record.specs.Sound as cic
 use Rattle.cic_record.specs.Start.{fresh}
 use Rattle.cic_record.specs.Start as cicStart
 use Rattle.cic_record.proofs.Promises as record-promises
-use Rattle.cic_indices.specs.Order.{noneWord}
+use Rattle.cic_held.specs.Order.{noneWord}
 use Rattle.cic_held.specs.declared.Begun.{Begun}
 use Rattle.cic_held.specs.declared.Held.{Held}
 use Rattle.cic_held.specs.declared.Prioritised.{Prioritised}

@@ -7,6 +7,9 @@ ghost use lib.ListN.{getD};
 ghost use Rattle.words.specs.Counting.{allBelow};
 ghost use Rattle.cic_record.specs.Kinds.{system};
 ghost use Rattle.cic_held.specs.Held.{prioritised, nothingHeld, wordHeld, within, entrySound, heldSound, sound, start};
+
+pub mod indices;
+
 use cic_record::Cic;
 use cic_record::Host;
 use cic_record::System;
@@ -147,7 +150,7 @@ pub fn word_held(x: u16) -> u32
     ensures { λ r. ⌜ r ≡ wordHeld x ⌝ }
 {
     if x == 1 {
-        return cic_indices::NONE;
+        return indices::NONE;
     }
     if x < 2 {
         return 0;

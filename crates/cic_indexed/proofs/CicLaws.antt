@@ -19,9 +19,9 @@ use Rattle.cic_record.specs.declared.Cic.{Cic}
 use Rattle.cic_record.specs.Kinds.{hostNumber}
 use Rattle.cic_record.specs.Record as record-of
 use Rattle.cic_record.specs.Sound as cic-sound
-use Rattle.cic_layout.specs.Map.{access}
-use Rattle.cic_steps.specs.Model as cic
-use Rattle.cic_steps.proofs.StepLaws as of-steps
+use Rattle.cic_registers.specs.Map.{access}
+use Rattle.cic_registers.specs.Model as cic
+use Rattle.cic_registers.proofs.StepLaws as of-steps
 use Rattle.cic.proofs.Promises as of-cic
 use Rattle.cic_held.specs.declared.Answer.{Answer}
 use Rattle.cic_held.specs.declared.Held.{Held}

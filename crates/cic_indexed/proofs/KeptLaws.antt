@@ -20,11 +20,11 @@ use Rattle.cic_record.specs.declared.Cic.{Cic}
 use Rattle.cic_record.specs.declared.Host.{Host}
 use Rattle.cic_record.specs.Kinds.{hostNumber}
 use Rattle.cic_record.specs.Sound as cic-sound
-use Rattle.cic_layout.specs.Map.{registerAt, access}
+use Rattle.cic_registers.specs.Map.{registerAt, access}
 use Rattle.cic_registers.proofs.Promises as of-registers
-use Rattle.cic_steps.specs.Model as cic
+use Rattle.cic_registers.specs.Model as cic
 use Rattle.cic.proofs.Promises as of-cic
-use Rattle.cic_indices.specs.Order.{noneWord, indexOf}
+use Rattle.cic_held.specs.Order.{noneWord, indexOf}
 use Rattle.cic_held.specs.declared.Answer.{Answer}
 use Rattle.cic_held.specs.declared.Held.{Held}
 use Rattle.cic_held.specs.declared.Prioritised.{Prioritised}

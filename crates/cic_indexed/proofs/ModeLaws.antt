@@ -17,7 +17,7 @@ use Rattle.steps.specs.declared.Step.{Step}
 use Rattle.steps.specs.declared.Step.the-variants.{Read, Write, Line}
 use Rattle.steps.specs.Refusals.{carriedOut, readRefusal, writeRefusal}
 use Rattle.cic_record.specs.declared.Cic.{Cic}
-use Rattle.cic_steps.specs.Model as cic
+use Rattle.cic_registers.specs.Model as cic
 use Rattle.cic_held.specs.declared.Answer.{Answer}
 use Rattle.cic_held.specs.declared.Held.{Held}
 use Rattle.cic_held.specs.declared.Prioritised.{Prioritised}

@@ -18,13 +18,13 @@ use Rattle.cic_record.specs.declared.Answer.{Answer as CicAnswer}
 use Rattle.cic_record.specs.declared.Cic.{Cic}
 use Rattle.cic_record.specs.Kinds.{system}
 use Rattle.cic_record.specs.Record as record-of
-use Rattle.cic_layout.specs.declared.Register.{Register}
-use Rattle.cic_layout.specs.declared.Register.the-variants.{Nothing}
-use Rattle.cic_layout.specs.Map.{registerAt, access}
-use Rattle.cic_layout.proofs.Promises as layout
+use Rattle.cic_registers.specs.declared.layout.Register.{Register}
+use Rattle.cic_registers.specs.declared.layout.Register.the-variants.{Nothing}
+use Rattle.cic_registers.specs.Map.{registerAt, access}
+use Rattle.cic_registers.proofs.LayoutPromises as layout
 use Rattle.cic_registers.specs.Registers.{valueOf, valueRefusal, writtenTo}
 use Rattle.cic_registers.proofs.WrittenLaws.{value-number}
-use Rattle.cic_steps.specs.Model as cic
+use Rattle.cic_registers.specs.Model as cic
 use Rattle.cic.proofs.StepLaws as of-cic
 use Rattle.cic_held.specs.declared.Answer.{Answer}
 use Rattle.cic_held.specs.declared.Prioritised.{Prioritised}

@@ -11,8 +11,8 @@ use Rattle.words.proofs.ChoiceLaws.{pick-true, pick-false}
 use Rattle.steps.specs.declared.Access.{Access}
 use Rattle.steps.specs.declared.Access.the-variants.{NoRegister, ReadWrite}
 use Rattle.cic_record.specs.Kinds.{hostNumber}
-use Rattle.cic_layout.specs.Map.{access}
-use Rattle.cic_layout.proofs.AccessLaws.{there-if}
+use Rattle.cic_registers.specs.Map.{access}
+use Rattle.cic_registers.proofs.AccessLaws.{there-if}
 use Rattle.cic_held.specs.declared.Prioritised.{Prioritised}
 use Rattle.cic_indexed.specs.declared.Own.{Own}
 use Rattle.cic_indexed.specs.declared.Own.the-variants.{Elsewhere, Control, GlobalIndex, HostIndex}

@@ -15,9 +15,9 @@ use Rattle.cic_record.specs.declared.Signals.{Signals}
 use Rattle.cic_record.specs.Kinds.{hostNumber}
 use Rattle.cic_record.specs.Sound as cic-sound
 use Rattle.cic_hosts.specs.Hosts as hosts
-use Rattle.cic_indices.specs.Order.{indexOf}
-use Rattle.cic_indices.specs.Promises.{Meets, MeetsFor}
-use Rattle.cic_indices.proofs.Promises as of-indices
+use Rattle.cic_held.specs.Order.{indexOf}
+use Rattle.cic_held.specs.IndicesPromises.{Meets, MeetsFor}
+use Rattle.cic_held.proofs.IndicesPromises as of-indices
 use Rattle.cic_held.specs.declared.Answer.{Answer}
 use Rattle.cic_held.specs.declared.Prioritised.{Prioritised}
 use Rattle.cic_held.specs.Held.{sound, start}

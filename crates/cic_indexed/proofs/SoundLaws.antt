@@ -14,7 +14,7 @@ use Rattle.cic_record.specs.declared.Cic.{Cic}
 use Rattle.cic_record.specs.declared.Host.{Host}
 use Rattle.cic_record.specs.Sound as cic
 use Rattle.cic_record.proofs.PartsLaws.{sound-counts}
-use Rattle.cic_indices.specs.Order.{noneWord, indexOf}
+use Rattle.cic_held.specs.Order.{noneWord, indexOf}
 use Rattle.cic_held.specs.declared.Held.{Held}
 use Rattle.cic_held.specs.declared.Prioritised.{Prioritised}
 use Rattle.cic_held.specs.Held.{prioritised, wordHeld, entrySound, heldSound, sound}

@@ -14,7 +14,7 @@ use Rattle.words.proofs.ChoiceLaws.{pick-cases}
 use Rattle.steps.specs.declared.Access.the-variants.{ReadWrite}
 use Rattle.steps.specs.Refusals.{carriedOut, writeRefusal}
 use Rattle.cic_record.specs.declared.Cic.{Cic}
-use Rattle.cic_steps.specs.Model as cic
+use Rattle.cic_registers.specs.Model as cic
 use Rattle.cic_held.specs.declared.Answer.{Answer}
 use Rattle.cic_held.specs.declared.Held.{Held}
 use Rattle.cic_held.specs.declared.Prioritised.{Prioritised}

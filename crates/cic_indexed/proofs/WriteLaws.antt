@@ -15,7 +15,7 @@ use Rattle.steps.specs.declared.Step.the-variants.{Write}
 use Rattle.steps.specs.Refusals.{carriedOut}
 use Rattle.cic_record.specs.Kinds.{hostNumber}
 use Rattle.cic_record.proofs.PartsLaws.{sound-counts}
-use Rattle.cic_steps.specs.Model as cic
+use Rattle.cic_registers.specs.Model as cic
 use Rattle.cic.proofs.Promises as of-cic
 use Rattle.cic_held.specs.declared.Answer.{Answer}
 use Rattle.cic_held.specs.declared.Held.{Held}

@@ -11,7 +11,7 @@ use Rattle.steps.specs.Refusals.{carriedOut, unsound, readRefusal, writeRefusal
 use Rattle.cic_record.specs.declared.Answer.{Answer as CicAnswer}
 use Rattle.cic_record.specs.declared.Signals.{Signals}
 use Rattle.cic_hosts.specs.Hosts.{shown}
-use Rattle.cic_steps.specs.Model as cic
+use Rattle.cic_registers.specs.Model as cic
 use Rattle.cic_held.specs.declared.Answer.{Answer}
 use Rattle.cic_held.specs.declared.Held.{Held}
 use Rattle.cic_held.specs.declared.Prioritised.{Prioritised}

@@ -12,9 +12,9 @@ use Rattle.steps.specs.Tables.{ReadTable, WriteTable, LineTable}
 use Rattle.cic_record.specs.declared.Answer.{Answer as CicAnswer}
 use Rattle.cic_record.specs.Kinds.{hostNumber}
 use Rattle.cic_hosts.specs.Hosts as hosts
-use Rattle.cic_layout.specs.Map.{access}
-use Rattle.cic_steps.specs.Model as cic
-use Rattle.cic_indices.specs.Promises.{Meets, MeetsFor}
+use Rattle.cic_registers.specs.Map.{access}
+use Rattle.cic_registers.specs.Model as cic
+use Rattle.cic_held.specs.IndicesPromises.{Meets, MeetsFor}
 use Rattle.cic_held.specs.declared.Held.{Held}
 use Rattle.cic_held.specs.declared.Prioritised.{Prioritised}
 use Rattle.cic_held.specs.Held.{prioritised, nothingHeld, withGlobal, withHosts, heldAs, wordHeld, sound, start}

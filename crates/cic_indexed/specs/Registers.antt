@@ -10,8 +10,8 @@ use Rattle.steps.specs.declared.Access.{Access}
 use Rattle.steps.specs.declared.Access.the-variants.{NoRegister, ReadWrite}
 use Rattle.cic_record.specs.declared.Cic.{Cic}
 use Rattle.cic_record.specs.Kinds.{hostNumber}
-use Rattle.cic_layout.specs.Map.{access}
-use Rattle.cic_indices.specs.Order.{indexOf}
+use Rattle.cic_registers.specs.Map.{access}
+use Rattle.cic_held.specs.Order.{indexOf}
 use Rattle.cic_held.specs.declared.Held.{Held}
 use Rattle.cic_held.specs.declared.Prioritised.{Prioritised}
 use Rattle.cic_held.specs.Held.{withGlobal, withHosts, heldAs, wordHeld, freedHosts}

@@ -10,8 +10,8 @@ use Rattle.steps.specs.declared.Step.{Step}
 use Rattle.steps.specs.declared.Step.the-variants.{Write}
 use Rattle.cic_record.specs.declared.Cic.{Cic}
 use Rattle.cic_record.specs.Kinds.{system}
-use Rattle.cic_layout.specs.Map.{access}
-use Rattle.cic_indices.specs.Order.{comesBefore}
+use Rattle.cic_registers.specs.Map.{access}
+use Rattle.cic_held.specs.Order.{comesBefore}
 use Rattle.cic_held.specs.declared.Held.{Held}
 use Rattle.cic_held.specs.declared.Prioritised.{Prioritised}
 use Rattle.cic_indexed.specs.Registers.{ownAt, accessOf}

@@ -18,9 +18,9 @@ use Rattle.cic_record.specs.declared.Channel.{Channel}
 use Rattle.cic_record.specs.declared.Cic.{Cic}
 use Rattle.cic_record.specs.declared.Host.{Host}
 use Rattle.cic_record.specs.Kinds.{channelNumber, hostNumber}
-use Rattle.cic_indices.specs.Looked.{wordsOf, searched, lookedOver}
-use Rattle.cic_indices.specs.Order.{leads}
-use Rattle.cic_indices.proofs.Promises as indices
+use Rattle.cic_held.specs.Looked.{wordsOf, searched, lookedOver}
+use Rattle.cic_held.specs.Order.{leads}
+use Rattle.cic_held.proofs.IndicesPromises as indices
 use Rattle.cic_held.specs.declared.Answer.{Answer}
 use Rattle.cic_held.specs.declared.Prioritised.{Prioritised}
 use Rattle.cic_held.specs.Held.{sound}

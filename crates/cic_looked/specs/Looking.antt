@@ -8,9 +8,9 @@ use Rattle.steps.specs.Refusals.{carriedOut}
 use Rattle.cic_record.specs.declared.Cic.{Cic}
 use Rattle.cic_record.specs.declared.Host.{Host}
 use Rattle.cic_record.specs.Kinds.{hostNumber}
-use Rattle.cic_indices.specs.declared.Found.{Found}
-use Rattle.cic_indices.specs.Looked.{lookedOver}
-use Rattle.cic_indices.specs.Order.{leads, indexOf}
+use Rattle.cic_held.specs.declared.indices.Found.{Found}
+use Rattle.cic_held.specs.Looked.{lookedOver}
+use Rattle.cic_held.specs.Order.{leads, indexOf}
 use Rattle.cic_held.specs.declared.Answer.{Answer}
 use Rattle.cic_held.specs.declared.Prioritised.{Prioritised}
 use Rattle.cic_indexed.specs.declared.Own.{Own}

@@ -7,8 +7,8 @@ use lib.Dec.{eqb}
 use lib.ListN.{getD}
 use Rattle.words.specs.Counting.{countBelow}
 use Rattle.cic_record.specs.Kinds.{hostNumber}
-use Rattle.cic_indices.specs.Looked.{searched, lookedOver}
-use Rattle.cic_indices.specs.Order.{leads}
+use Rattle.cic_held.specs.Looked.{searched, lookedOver}
+use Rattle.cic_held.specs.Order.{leads}
 use Rattle.cic_held.specs.declared.Prioritised.{Prioritised}
 use Rattle.cic_held.specs.Held.{sound}
 use Rattle.cic_indexed.specs.Model.{read}

@@ -8,8 +8,8 @@ ghost use Rattle.cic_indexed.specs.Registers.{ownAt};
 ghost use Rattle.cic_indexed.specs.Model.{read};
 ghost use Rattle.cic_looked.specs.Looking.{looked, foundNow, lookedFrom, lookAs, lookAt};
 use cic_held::Prioritised;
+use cic_held::indices::Found;
 use cic_indexed::Own;
-use cic_indices::Found;
 use cic_record::Cic;
 use cic_record::Host;
 use steps::Access;
@@ -88,7 +88,7 @@ fn look_now(c: Cic, x: u16, every: bool, h: Host) -> Found
     ensures { λ r. ⌜ r ≡ foundNow c x every h ⌝ }
 {
     if x == 0 {
-        return cic_indices::look(c, every, h);
+        return cic_held::indices::look(c, every, h);
     }
     Found {
         index: cic_held::word_held(x),

@@ -134,25 +134,25 @@ fn read_in(p: Prioritised, offset: u32) -> Answer
     requires { ⌜ sound p ≡ true ⌝ }
     ensures { λ r. ⌜ r ≡ read p offset ⌝ }
 {
-    let mut room = indexed_transfer::lay(p);
+    let mut room = indexed_room::transfer::lay(p);
     let r = indexed_room::read(&mut room, offset);
-    answer_with(r, indexed_transfer::record_of(&room))
+    answer_with(r, indexed_room::transfer::record_of(&room))
 }
 
 fn write_in(p: Prioritised, offset: u32, v: u32) -> Answer
     requires { ⌜ sound p ≡ true ⌝ }
     ensures { λ r. ⌜ r ≡ write p offset v ⌝ }
 {
-    let mut room = indexed_transfer::lay(p);
+    let mut room = indexed_room::transfer::lay(p);
     let r = indexed_room::write(&mut room, offset, v);
-    answer_with(r, indexed_transfer::record_of(&room))
+    answer_with(r, indexed_room::transfer::record_of(&room))
 }
 
 fn line_in(p: Prioritised, number: u32, level: u32) -> Answer
     requires { ⌜ sound p ≡ true ⌝ }
     ensures { λ r. ⌜ r ≡ line p number level ⌝ }
 {
-    let mut room = indexed_transfer::lay(p);
+    let mut room = indexed_room::transfer::lay(p);
     let r = indexed_room::line(&mut room, number, level);
-    answer_with(r, indexed_transfer::record_of(&room))
+    answer_with(r, indexed_room::transfer::record_of(&room))
 }

@@ -13,8 +13,8 @@ use Rattle.words.specs.Array.{byteOf}
 use Rattle.words.specs.Choice.{pick}
 use Rattle.words.proofs.ChoiceLaws.{pick-true, pick-false}
 use Rattle.words.proofs.TruthLaws.{and-both}
-use Rattle.cic_maps.specs.Maps.{mapRead, mapPut}
-use Rattle.cic_maps.proofs.Promises as maps
+use Rattle.cic_registers.specs.Maps.{mapRead, mapPut}
+use Rattle.cic_registers.proofs.MapsPromises as maps
 
 -- the four bytes that are read
 pub read-bytes : (n : ℕ) (m : List ℕ) (k j : ℕ) → ((i : ℕ) → getD m i 0 < 256) → j < 4 → byteOf (mapRead n m k) j ≡ pick (ltb (4 * k + j) n) (getD m (4 * k + j) 0) 0

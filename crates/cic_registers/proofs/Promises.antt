@@ -7,8 +7,8 @@ use Rattle.words.specs.Array.{bitAt}
 use Rattle.words.specs.Word.{bit}
 use Rattle.words.proofs.WordLaws.{bit-both}
 use Rattle.cic_record.specs.declared.Cic.{Cic}
-use Rattle.cic_layout.specs.declared.Register.{Register}
-use Rattle.cic_layout.specs.declared.Register.the-variants.{Nothing, Revision, GlobalEnable, StatusIndexSet, StatusIndexClear, EnableIndexSet, EnableIndexClear, HostIndexSet, HostIndexClear, RawSet, EnabledClear, EnableSet, EnableClear, ChannelMap, HostMap, HostEnable}
+use Rattle.cic_registers.specs.declared.layout.Register.{Register}
+use Rattle.cic_registers.specs.declared.layout.Register.the-variants.{Nothing, Revision, GlobalEnable, StatusIndexSet, StatusIndexClear, EnableIndexSet, EnableIndexClear, HostIndexSet, HostIndexClear, RawSet, EnabledClear, EnableSet, EnableClear, ChannelMap, HostMap, HostEnable}
 use Rattle.cic_registers.specs.Bits.{wordRead}
 use Rattle.cic_registers.specs.Registers.{valueOf, writtenTo}
 use Rattle.cic_registers.specs.Promises.{SameOutside, Promises}

@@ -8,7 +8,7 @@ use Rattle.steps.specs.declared.Access.{Access}
 use Rattle.steps.specs.declared.Access.the-variants.{NoRegister, ReadOnly, WriteOnly, ReadWrite}
 use Rattle.steps.specs.Refusals.{absent, unreadable, readAccess}
 use Rattle.cic_record.specs.Parts.{refusedReply, answeredReply}
-use Rattle.cic_layout.specs.Map.{ifAny}
+use Rattle.cic_registers.specs.Map.{ifAny}
 use Rattle.cic_registers.specs.Access.{replyBy}
 
 -- ---- a register that allows a

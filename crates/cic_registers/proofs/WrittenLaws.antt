@@ -17,13 +17,13 @@ use Rattle.cic_record.specs.declared.Cic.{Cic}
 use Rattle.cic_record.specs.Promises.{Shaped}
 use Rattle.cic_record.specs.Sound.{sound}
 use Rattle.cic_record.proofs.PartsLaws.{sound-parts, sound-global, sound-status, sound-enable, sound-channel, sound-host, sound-allow}
-use Rattle.cic_maps.specs.Maps.{mapTaken, mapPut}
-use Rattle.cic_maps.proofs.MapLaws.{sound-mapPut}
-use Rattle.cic_maps.proofs.Promises as maps
+use Rattle.cic_registers.specs.Maps.{mapTaken, mapPut}
+use Rattle.cic_registers.proofs.MapLaws.{sound-mapPut}
+use Rattle.cic_registers.proofs.MapsPromises as maps
 use Rattle.cic_registers.specs.Bits.{bitsSet, bitsCleared, wordReplaced}
 use Rattle.cic_registers.proofs.BitsLaws.{clean-bitsSet, clean-bitsCleared, clean-wordReplaced}
-use Rattle.cic_layout.specs.declared.Register.{Register}
-use Rattle.cic_layout.specs.declared.Register.the-variants.{Nothing, Revision, GlobalEnable, StatusIndexSet, StatusIndexClear, EnableIndexSet, EnableIndexClear, HostIndexSet, HostIndexClear, RawSet, EnabledClear, EnableSet, EnableClear, ChannelMap, HostMap, HostEnable}
+use Rattle.cic_registers.specs.declared.layout.Register.{Register}
+use Rattle.cic_registers.specs.declared.layout.Register.the-variants.{Nothing, Revision, GlobalEnable, StatusIndexSet, StatusIndexClear, EnableIndexSet, EnableIndexClear, HostIndexSet, HostIndexClear, RawSet, EnabledClear, EnableSet, EnableClear, ChannelMap, HostMap, HostEnable}
 use Rattle.cic_registers.specs.Registers.{unless, valueRefusal, writtenTo}
 
 -- what is not refused passed the test

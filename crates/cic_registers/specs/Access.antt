@@ -8,8 +8,8 @@ use Rattle.cic_record.specs.declared.Cic.{Cic}
 use Rattle.cic_record.specs.declared.Reply.{Reply}
 use Rattle.cic_record.specs.Parts.{refusedReply, answeredReply}
 use Rattle.cic_record.specs.Record.{refused, answered}
-use Rattle.cic_layout.specs.declared.Register.{Register}
-use Rattle.cic_layout.specs.Map.{accessOf}
+use Rattle.cic_registers.specs.declared.layout.Register.{Register}
+use Rattle.cic_registers.specs.Map.{accessOf}
 use Rattle.cic_registers.specs.Registers.{valueOf, valueRefusal, writtenTo}
 
 -- the reply with the value v where nothing is refused, else with the number n (01, Numbers)

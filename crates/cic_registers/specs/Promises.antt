@@ -10,8 +10,8 @@ use lib.ListN.{getD, length}
 use Rattle.words.specs.Array.{bitAt}
 use Rattle.words.specs.Word.{bit}
 use Rattle.cic_record.specs.declared.Cic.{Cic}
-use Rattle.cic_layout.specs.declared.Register.{Register}
-use Rattle.cic_layout.specs.declared.Register.the-variants.{RawSet, EnabledClear, EnableSet, EnableClear, HostEnable}
+use Rattle.cic_registers.specs.declared.layout.Register.{Register}
+use Rattle.cic_registers.specs.declared.layout.Register.the-variants.{RawSet, EnabledClear, EnableSet, EnableClear, HostEnable}
 use Rattle.cic_registers.specs.Bits.{wordRead, bitsSet, bitsCleared, wordReplaced}
 use Rattle.cic_registers.specs.Registers.{valueOf, writtenTo}
 

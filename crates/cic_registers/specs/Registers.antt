@@ -8,10 +8,10 @@ use Rattle.words.specs.Word.{both}
 use Rattle.steps.specs.Refusals.{carriedOut, beyond}
 use Rattle.cic_record.specs.declared.Cic.{Cic}
 use Rattle.cic_record.specs.Record.{withGlobal, withStatus, withEnable, withChannel, withHost, withAllow}
-use Rattle.cic_maps.specs.Maps.{mapRead, mapTaken, mapPut}
+use Rattle.cic_registers.specs.Maps.{mapRead, mapTaken, mapPut}
 use Rattle.cic_registers.specs.Bits.{wordRead, bitsSet, bitsCleared, wordReplaced}
-use Rattle.cic_layout.specs.declared.Register.{Register}
-use Rattle.cic_layout.specs.declared.Register.the-variants.{Nothing, Revision, GlobalEnable, StatusIndexSet, StatusIndexClear, EnableIndexSet, EnableIndexClear, HostIndexSet, HostIndexClear, RawSet, EnabledClear, EnableSet, EnableClear, ChannelMap, HostMap, HostEnable}
+use Rattle.cic_registers.specs.declared.layout.Register.{Register}
+use Rattle.cic_registers.specs.declared.layout.Register.the-variants.{Nothing, Revision, GlobalEnable, StatusIndexSet, StatusIndexClear, EnableIndexSet, EnableIndexClear, HostIndexSet, HostIndexClear, RawSet, EnabledClear, EnableSet, EnableClear, ChannelMap, HostMap, HostEnable}
 
 -- what a read of a register that exists answers (01, CIC, registers; 001, 2.2)
 unfoldable pub valueOf : Cic → Register → ℕ

@@ -26,23 +26,23 @@ use Rattle.cic_record.specs.declared.Size.{Size}
 use Rattle.cic_record.specs.Parts.{sizeOf, answeredReply, refusedReply, answerOf}
 use Rattle.cic_record.specs.Record.{answered, refused}
 use Rattle.cic_record.specs.Sound.{sound}
-use Rattle.cic_maps.specs.Maps.{byteRead, mapRead}
-use Rattle.cic_maps.proofs.MapLaws.{read-four}
+use Rattle.cic_registers.specs.Maps.{byteRead, mapRead}
+use Rattle.cic_registers.proofs.MapLaws.{read-four}
 use Rattle.cic_registers.specs.Bits.{wordRead}
-use Rattle.cic_layout.specs.declared.Register.{Register}
-use Rattle.cic_layout.specs.declared.Register.the-variants.{Nothing, Revision, GlobalEnable, RawSet, EnabledClear, EnableSet, EnableClear, ChannelMap, HostMap, HostEnable}
-use Rattle.cic_layout.specs.Map.{registerAt, accessOf, ifAny}
-use Rattle.cic_layout.proofs.Promises as of-layout
+use Rattle.cic_registers.specs.declared.layout.Register.{Register}
+use Rattle.cic_registers.specs.declared.layout.Register.the-variants.{Nothing, Revision, GlobalEnable, RawSet, EnabledClear, EnableSet, EnableClear, ChannelMap, HostMap, HostEnable}
+use Rattle.cic_registers.specs.Map.{registerAt, accessOf, ifAny}
+use Rattle.cic_registers.proofs.LayoutPromises as of-layout
 use Rattle.cic_registers.specs.Registers.{unless, valueOf}
 use Rattle.cic_registers.proofs.ReplyLaws.{absent-read, unreadable-read, only-read, plain-read, group-read}
 use Rattle.cic_registers.specs.Access.{replyBy, answerBy, readIn}
-use Rattle.cic_steps.specs.Model.{readAs}
-use Rattle.cic_steps.proofs.StepLaws.{aligned-read}
+use Rattle.cic_registers.specs.Model.{readAs}
+use Rattle.cic_registers.proofs.StepLaws.{aligned-read}
 use Rattle.rooms.specs.Reply.{Reply, reply}
 use Rattle.cic_hosts.specs.Hosts.{shown, outputs}
-use Rattle.cic_laid.specs.Room.{Frame, Laid}
-use Rattle.cic_laid.proofs.Promises as of-laid
-use Rattle.cic_laid.proofs.PutLaws.{systems-is, channels-is, hosts-is, revision-is}
+use Rattle.cic_room.specs.Room.{Frame, Laid}
+use Rattle.cic_room.proofs.Promises as of-laid
+use Rattle.cic_room.proofs.PutLaws.{systems-is, channels-is, hosts-is, revision-is}
 use Rattle.cic_room.specs.Reply.{readReply, Done}
 
 -- ---- answers

@@ -4,7 +4,7 @@ use mathlib.Core.List.{List}
 use Prim.Native.Nat.{ℕ}
 use Rattle.cic_record.specs.declared.Answer.{Answer}
 use Rattle.cic_record.specs.declared.Reply as of-cic
-use Rattle.cic_laid.specs.Room.{Frame, Laid}
+use Rattle.cic_room.specs.Room.{Frame, Laid}
 use Rattle.rooms.specs.Reply.{Reply, reply}
 
 -- the refusal and the value of an answer

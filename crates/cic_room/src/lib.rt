@@ -5,20 +5,23 @@ ghost use Prim.Native.Nat.{ℕ};
 ghost use Rattle.cic_record.specs.declared.Cic.{Cic};
 ghost use Rattle.cic_record.specs.Sound.{sound};
 ghost use Rattle.cic_hosts.specs.Hosts.{outputs};
-ghost use Rattle.cic_steps.specs.Model.{readAs, writeAs, lineAs, stepAs};
+ghost use Rattle.cic_registers.specs.Model.{readAs, writeAs, lineAs, stepAs};
 ghost use Rattle.rooms.specs.Reply.{told};
-ghost use Rattle.turns.specs.Turns.{stepOf};
-ghost use Rattle.cic_laid.specs.Room.{Frame, Laid};
+ghost use Rattle.trace.specs.Turns.{stepOf};
+ghost use Rattle.cic_room.specs.Room.{Frame, Laid};
 ghost use Rattle.cic_room.specs.Reply.{Done};
 
+pub mod counts;
+pub mod laid;
 mod reads;
+pub mod transfer;
 mod writes;
 
-use cic_laid::ASSERTED;
-use cic_laid::LOWEST;
-use cic_laid::SYSTEMS;
 use cic_record::Signals;
 use cic_record::System;
+use laid::ASSERTED;
+use laid::LOWEST;
+use laid::SYSTEMS;
 use rooms::Room;
 
 // A read of the register at an offset. Nothing changes.
@@ -48,7 +51,7 @@ pub fn line(room: &mut Room, number: u32, level: u32) -> u64
     if ((room[SYSTEMS] <= number) | (1024 <= number)) | (1 < level) {
         return rooms::refuse(steps::BEYOND);
     }
-    cic_laid::move_line(room, System(number as u16), level == 1);
+    laid::move_line(room, System(number as u16), level == 1);
     rooms::answer(0)
 }
 

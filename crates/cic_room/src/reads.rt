@@ -8,21 +8,21 @@ ghost use Rattle.steps.specs.Refusals.{absent};
 ghost use Rattle.cic_record.specs.declared.Cic.{Cic};
 ghost use Rattle.cic_record.specs.Parts.{answeredReply, refusedReply};
 ghost use Rattle.cic_record.specs.Sound.{sound};
-ghost use Rattle.cic_layout.specs.Map.{registerAt};
+ghost use Rattle.cic_registers.specs.Map.{registerAt};
 ghost use Rattle.cic_registers.specs.Access.{readIn};
 ghost use Rattle.rooms.specs.Reply.{told};
-ghost use Rattle.cic_laid.specs.Room.{Frame, Laid};
+ghost use Rattle.cic_room.specs.Room.{Frame, Laid};
 ghost use Rattle.cic_room.specs.Reply.{readReply};
-use cic_laid::ALLOW;
-use cic_laid::CHANNEL_MAP;
-use cic_laid::CHANNELS;
-use cic_laid::ENABLE;
-use cic_laid::GLOBAL;
-use cic_laid::HOST_MAP;
-use cic_laid::HOSTS;
-use cic_laid::REVISION;
-use cic_laid::STATUS;
-use cic_laid::SYSTEMS;
+use super::laid::ALLOW;
+use super::laid::CHANNEL_MAP;
+use super::laid::CHANNELS;
+use super::laid::ENABLE;
+use super::laid::GLOBAL;
+use super::laid::HOST_MAP;
+use super::laid::HOSTS;
+use super::laid::REVISION;
+use super::laid::STATUS;
+use super::laid::SYSTEMS;
 use rooms::Room;
 
 // The word w of a register that exists if `first` is one of n things.
@@ -62,7 +62,7 @@ fn read_bits(room: &Room, offset: u32) -> u64
     let n = room[SYSTEMS];
     match offset / 128 {
         4 => if_any(32 * k, n, room[STATUS + k as usize]),
-        5 => if_any(32 * k, n, cic_laid::active_word(room, k)),
+        5 => if_any(32 * k, n, super::laid::active_word(room, k)),
         _ => if_any(32 * k, n, room[ENABLE + k as usize]),
     }
 }

@@ -8,17 +8,17 @@ ghost use Rattle.cic_record.specs.declared.Cic.{Cic};
 ghost use Rattle.cic_record.specs.Parts.{sizeOf};
 ghost use Rattle.cic_record.specs.Record.{withStatus, withEnable, withAllow};
 ghost use Rattle.cic_record.specs.Sound.{sound};
-ghost use Rattle.cic_layout.specs.declared.Register.the-variants.{GlobalEnable, RawSet, EnabledClear, EnableSet, EnableClear, ChannelMap, HostMap, HostEnable};
-ghost use Rattle.cic_layout.specs.Map.{registerAt};
+ghost use Rattle.cic_registers.specs.declared.layout.Register.the-variants.{GlobalEnable, RawSet, EnabledClear, EnableSet, EnableClear, ChannelMap, HostMap, HostEnable};
+ghost use Rattle.cic_registers.specs.Map.{registerAt};
 ghost use Rattle.cic_registers.specs.Registers.{unless};
 ghost use Rattle.cic_registers.specs.Access.{answerBy, writeIn};
 ghost use Rattle.rooms.specs.Reply.{told};
-ghost use Rattle.cic_laid.specs.Room.{Frame, Laid};
+ghost use Rattle.cic_room.specs.Room.{Frame, Laid};
 ghost use Rattle.cic_room.specs.Reply.{Done};
-use cic_laid::CHANNELS;
-use cic_laid::HOSTS;
-use cic_laid::REVISION;
-use cic_laid::SYSTEMS;
+use super::laid::CHANNELS;
+use super::laid::HOSTS;
+use super::laid::REVISION;
+use super::laid::SYSTEMS;
 use cic_record::Host;
 use cic_record::Size;
 use cic_record::System;
@@ -33,7 +33,7 @@ fn index_status(room: &mut Room, v: u32, on: bool) -> u64
     if (room[SYSTEMS] <= v) | (1024 <= v) {
         return rooms::refuse(steps::BEYOND);
     }
-    cic_laid::mark_status(room, System(v as u16), on);
+    super::laid::mark_status(room, System(v as u16), on);
     rooms::answer(0)
 }
 
@@ -44,7 +44,7 @@ fn index_enable(room: &mut Room, v: u32, on: bool) -> u64
     if (room[SYSTEMS] <= v) | (1024 <= v) {
         return rooms::refuse(steps::BEYOND);
     }
-    cic_laid::mark_enable(room, System(v as u16), on);
+    super::laid::mark_enable(room, System(v as u16), on);
     rooms::answer(0)
 }
 
@@ -55,7 +55,7 @@ fn index_host(room: &mut Room, v: u32, on: bool) -> u64
     if (room[HOSTS] <= v) | (256 <= v) {
         return rooms::refuse(steps::BEYOND);
     }
-    cic_laid::mark_host(room, Host(v as u16), on);
+    super::laid::mark_host(room, Host(v as u16), on);
     rooms::answer(0)
 }
 
@@ -69,7 +69,7 @@ fn set_status(room: &mut Room, k: u32, v: u32) -> u64
     if room[SYSTEMS] <= 32 * k {
         return rooms::refuse(steps::ABSENT);
     }
-    cic_laid::set_status(room, k, v);
+    super::laid::set_status(room, k, v);
     rooms::answer(0)
 }
 
@@ -81,7 +81,7 @@ fn clear_status(room: &mut Room, k: u32, v: u32) -> u64
     if room[SYSTEMS] <= 32 * k {
         return rooms::refuse(steps::ABSENT);
     }
-    cic_laid::clear_status(room, k, v);
+    super::laid::clear_status(room, k, v);
     rooms::answer(0)
 }
 
@@ -93,7 +93,7 @@ fn set_enable(room: &mut Room, k: u32, v: u32) -> u64
     if room[SYSTEMS] <= 32 * k {
         return rooms::refuse(steps::ABSENT);
     }
-    cic_laid::set_enable(room, k, v);
+    super::laid::set_enable(room, k, v);
     rooms::answer(0)
 }
 
@@ -105,7 +105,7 @@ fn clear_enable(room: &mut Room, k: u32, v: u32) -> u64
     if room[SYSTEMS] <= 32 * k {
         return rooms::refuse(steps::ABSENT);
     }
-    cic_laid::clear_enable(room, k, v);
+    super::laid::clear_enable(room, k, v);
     rooms::answer(0)
 }
 
@@ -117,7 +117,7 @@ fn replace_hosts(room: &mut Room, k: u32, v: u32) -> u64
     if room[HOSTS] <= 32 * k {
         return rooms::refuse(steps::ABSENT);
     }
-    cic_laid::replace_hosts(room, k, v);
+    super::laid::replace_hosts(room, k, v);
     rooms::answer(0)
 }
 
@@ -141,9 +141,9 @@ fn write_channels(room: &mut Room, k: u32, v: u32) -> u64
     if room[SYSTEMS] <= 4 * k {
         return rooms::refuse(steps::ABSENT);
     }
-    let taken = cic_maps::channels_taken(size_of(room), k, v);
+    let taken = cic_registers::maps::channels_taken(size_of(room), k, v);
     if taken {
-        cic_laid::write_channels(room, k, v);
+        super::laid::write_channels(room, k, v);
         return rooms::answer(0);
     }
     rooms::refuse(steps::BEYOND)
@@ -157,9 +157,9 @@ fn write_hosts(room: &mut Room, k: u32, v: u32) -> u64
     if room[CHANNELS] <= 4 * k {
         return rooms::refuse(steps::ABSENT);
     }
-    let taken = cic_maps::hosts_taken(size_of(room), k, v);
+    let taken = cic_registers::maps::hosts_taken(size_of(room), k, v);
     if taken {
-        cic_laid::write_hosts(room, k, v);
+        super::laid::write_hosts(room, k, v);
         return rooms::answer(0);
     }
     rooms::refuse(steps::BEYOND)
@@ -171,7 +171,7 @@ fn write_hosts(room: &mut Room, k: u32, v: u32) -> u64
 fn write_global(room: &mut Room, v: u32) -> u64
     ensures { λ r. ⌜ ((f : Frame) (c : Cic) → sound c ≡ true → Laid f c (now (room .entry)) → Done f (writeIn c (GlobalEnable) v) (now (room .exit)) (told r)) ⌝ }
 {
-    cic_laid::set_global(room, v);
+    super::laid::set_global(room, v);
     rooms::answer(0)
 }
 

@@ -20,12 +20,12 @@ use Rattle.coreinterrupt.proofs.Promises.{kept as core}
 use Rattle.cic.proofs.Promises.{kept as cic}
 use Rattle.cic_indexed.proofs.Promises.{kept as prioritised}
 use Rattle.aintc.proofs.Promises.{kept as aintc}
-use Rattle.turns.specs.Turns.{made, stepOf}
+use Rattle.trace.specs.Turns.{made, stepOf}
 use Rattle.rooms.specs.Reply.{Reply, reply}
 use Rattle.kinds.proofs.KindLaws.{KindOf, isAic, isCore, isCic, isAintc, isIndexed, isNone, kind-of}
-use Rattle.machine_record.specs.declared.Machine.{Machine}
-use Rattle.machine_record.specs.Machine.{sound, indexed}
-use Rattle.machine_record.proofs.MachineLaws.{sound-core, sound-cic, sound-aintc, sound-indexed, fifth-kind}
+use Rattle.machine.specs.declared.record.Machine.{Machine}
+use Rattle.machine.specs.Machine.{sound, indexed}
+use Rattle.machine.proofs.MachineLaws.{sound-core, sound-cic, sound-aintc, sound-indexed, fifth-kind}
 use Rattle.machine.specs.declared.Answer.{Answer}
 use Rattle.machine.specs.Steps.{refused, step}
 use Rattle.machine.proofs.StepLaws.{core-steps, cic-steps, aintc-steps, indexed-steps, step-ready}

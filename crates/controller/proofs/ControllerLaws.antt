@@ -14,18 +14,18 @@ use Rattle.words.specs.Choice.{pick}
 use Rattle.steps.specs.Refusals.{carriedOut, unknown, misconfigured}
 use Rattle.steps.specs.declared.Recorded.{Recorded}
 use Rattle.steps.specs.declared.Step.{Step}
-use Rattle.turns.specs.Turns.{made}
+use Rattle.trace.specs.Turns.{made}
 use Rattle.rooms.specs.Reply.{Reply}
 use Rattle.kinds.specs.declared.Configuration.{Configuration}
 use Rattle.kinds.specs.Configuration.{numberIn}
 use Rattle.kinds.specs.Kinds.{aicKind, coreKind, cicKind, aintcKind, indexedKind, isKind, wanted, within}
 use Rattle.kinds.proofs.KindLaws.{KindOf, isAic, isCore, isCic, isAintc, isIndexed, isNone, kind-of, at-none}
 use Rattle.kinds.proofs.Promises.{kept as kinds}
-use Rattle.machine_record.specs.declared.Machine.{Machine}
-use Rattle.machine_record.specs.Machine.{blank, start, sound, indexed}
-use Rattle.machine_record.specs.Promises.{Ready}
-use Rattle.machine_record.proofs.Promises.{kept as records}
-use Rattle.machine_record.proofs.MachineLaws.{sound-aic, sound-core, sound-cic, sound-aintc, sound-indexed, fifth-kind, aic-starts, core-starts, cic-starts, aintc-starts, indexed-starts, start-ready}
+use Rattle.machine.specs.declared.record.Machine.{Machine}
+use Rattle.machine.specs.Machine.{blank, start, sound, indexed}
+use Rattle.machine.specs.RecordPromises.{Ready}
+use Rattle.machine.proofs.RecordPromises.{kept as records}
+use Rattle.machine.proofs.MachineLaws.{sound-aic, sound-core, sound-cic, sound-aintc, sound-indexed, fifth-kind, aic-starts, core-starts, cic-starts, aintc-starts, indexed-starts, start-ready}
 use Rattle.machine_room.specs.Room.{Laid, Beside, withAic, withCore, withCic, withAintc, withIndexed}
 use Rattle.machine_room.proofs.RoomLaws.{aic-laid, core-laid, cic-laid, aintc-laid, indexed-laid}
 use Rattle.controller.specs.Controller.{Stands, same, accepted, startRefusal, Stepped}

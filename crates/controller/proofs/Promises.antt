@@ -10,12 +10,12 @@ use Rattle.words.proofs.ChoiceLaws.{pick-true, pick-false}
 use Rattle.words.specs.Counting.{upto}
 use Rattle.words.proofs.CountingLaws.{all-at, at-all, all-fails}
 use Rattle.steps.specs.declared.Step.{Step}
-use Rattle.turns.specs.Turns.{made}
-use Rattle.turns.proofs.TurnLaws.{step-read, step-write}
+use Rattle.trace.specs.Turns.{made}
+use Rattle.trace.proofs.TurnLaws.{step-read, step-write}
 use Rattle.rooms.specs.Reply.{Reply}
 use Rattle.kinds.specs.declared.Configuration.{Configuration}
 use Rattle.kinds.specs.Kinds.{isKind, wanted, within}
-use Rattle.machine_record.specs.declared.Machine.{Machine}
+use Rattle.machine.specs.declared.record.Machine.{Machine}
 use Rattle.machine.specs.Steps.{step}
 use Rattle.machine_room.proofs.Promises.{kept as rooms}
 use Rattle.machine_room.proofs.RoomLaws.{line-step}

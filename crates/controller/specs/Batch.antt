@@ -9,9 +9,9 @@ use lib.ListN.{length, getD, set}
 use Rattle.words.specs.Choice.{pick}
 use Rattle.words.specs.Counting.{upto}
 use Rattle.steps.specs.Refusals.{carriedOut, unknown, unsound}
-use Rattle.turns.specs.Turns.{made, stepOf}
+use Rattle.trace.specs.Turns.{made, stepOf}
 use Rattle.rooms.specs.Reply.{Reply, reply}
-use Rattle.machine_record.specs.declared.Machine.{Machine}
+use Rattle.machine.specs.declared.record.Machine.{Machine}
 use Rattle.machine.specs.declared.Answer.{Answer}
 use Rattle.machine.specs.Steps.{refused, step}
 use Rattle.machine_room.specs.Room.{replyOf}

@@ -15,10 +15,10 @@ use Rattle.rooms.specs.Reply.{Reply, reply}
 use Rattle.kinds.specs.declared.Configuration.{Configuration}
 use Rattle.kinds.specs.Configuration.{numberIn}
 use Rattle.kinds.specs.Kinds.{isKind, wanted, within}
-use Rattle.machine_record.specs.declared.Columns.{Columns}
-use Rattle.machine_record.specs.declared.Machine.{Machine}
-use Rattle.machine_record.specs.Machine.{start, sound}
-use Rattle.machine_record.specs.Shown.{noColumns, shown}
+use Rattle.machine.specs.declared.record.Columns.{Columns}
+use Rattle.machine.specs.declared.record.Machine.{Machine}
+use Rattle.machine.specs.Machine.{start, sound}
+use Rattle.machine.specs.Shown.{noColumns, shown}
 use Rattle.machine.specs.Steps.{step}
 use Rattle.machine_room.specs.Room.{Laid, Done}
 use Rattle.controller.specs.declared.Shown.{Shown}

@@ -8,12 +8,12 @@ use mathlib.Core.Logic.{_↔_, _≢_, _⊎_}
 use lib.ListN.{length, getD, set}
 use Rattle.steps.specs.declared.Recorded.{Recorded}
 use Rattle.steps.specs.declared.Step.the-variants.{Read, Write, Line}
-use Rattle.turns.specs.Turns.{made, stepOf}
+use Rattle.trace.specs.Turns.{made, stepOf}
 use Rattle.rooms.specs.Reply.{Reply}
 use Rattle.kinds.specs.declared.Configuration.{Configuration}
 use Rattle.kinds.specs.Kinds.{isKind, wanted, within}
-use Rattle.machine_record.specs.declared.Machine.{Machine}
-use Rattle.machine_record.specs.Machine.{start, sound}
+use Rattle.machine.specs.declared.record.Machine.{Machine}
+use Rattle.machine.specs.Machine.{start, sound}
 use Rattle.machine.specs.Steps.{step}
 use Rattle.controller.specs.Batch.{stepTold, kthTold, afterSteps, answersIn, SteppedAll}
 use Rattle.controller.specs.Controller.{Stands, Vacant, same, startRefusal, Stepped}

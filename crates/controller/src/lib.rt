@@ -8,12 +8,12 @@ ghost use Rattle.words.specs.Choice.{pick};
 ghost use Rattle.steps.specs.Refusals.{carriedOut, misconfigured, unsound, privileged};
 ghost use Rattle.steps.specs.declared.Step.the-variants.{Read, Write, Line};
 ghost use Rattle.rooms.specs.Reply.{reply, told};
-ghost use Rattle.turns.specs.Turns.{made, stepOf};
-ghost use Rattle.machine_record.specs.declared.Machine.{Machine};
+ghost use Rattle.trace.specs.Turns.{made, stepOf};
+ghost use Rattle.machine.specs.declared.record.Machine.{Machine};
 ghost use Rattle.controller.specs.Batch.{stepTold, Taken, afterSteps, kthReply, answersIn, stepsIn, SteppedAll};
 ghost use Rattle.controller.specs.Controller.{Stands, Vacant, same, accepted, startRefusal, Started, Stepped, Showing};
 use kinds::Configuration;
-use machine_record::Machine;
+use machine::record::Machine;
 use rooms::Room;
 
 // The three numbers of a listing's line, or the refusal.
@@ -32,7 +32,7 @@ pub fn start(room: &mut Room, kind: u32, c: Configuration) -> u32
 {
     let refusal = start_refusal(kind, c);
     if refusal == steps::CARRIED_OUT {
-        *room = machine_room::lay(machine_record::start(kind, c), true);
+        *room = machine_room::lay(machine::record::start(kind, c), true);
     }
     refusal
 }
@@ -190,7 +190,7 @@ pub fn outputs(room: &Room) -> Shown
 pub fn is_controller(room: &Room) -> bool
     ensures { λ r. ⌜ (r ≡ true → (m : Machine) × Stands (now (room .entry)) m) × (r ≡ false → Vacant (now (room .entry))) ⌝ }
 {
-    let mut first = machine_record::empty();
+    let mut first = machine::record::empty();
     first.kind = room[KIND];
     let m = machine_room::record_of(room, first);
     is_laid(*room, m)
@@ -200,7 +200,7 @@ pub fn is_controller(room: &Room) -> bool
 fn is_laid(room: Room, m: Machine) -> bool
     ensures { λ r. ⌜ (r ≡ true → Stands room m) × (r ≡ false → Stands room m → ⊥) ⌝ }
 {
-    if machine_record::is_sound(m) {
+    if machine::record::is_sound(m) {
         let again = machine_room::lay(m, true);
         return is_same(&room, &again);
     }

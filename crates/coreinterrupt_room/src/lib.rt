@@ -8,7 +8,7 @@ ghost use Rattle.words.specs.Word.{withBit};
 ghost use Rattle.coreinterrupt_side.specs.Side.{raw, status, active, outputLevel, moved, sideWrite};
 ghost use Rattle.coreinterrupt.specs.declared.Core.{Core};
 ghost use Rattle.coreinterrupt.specs.Model.{side, withSide, sound, read, write, line, step, outputs};
-ghost use Rattle.turns.specs.Turns.{stepOf};
+ghost use Rattle.trace.specs.Turns.{stepOf};
 ghost use Rattle.rooms.specs.Reply.{reply, told};
 ghost use Rattle.coreinterrupt_room.specs.Room.{Laid, firstOf, replyOf, Done, readFrom, writeTo, turned};
 use coreinterrupt::Core;

@@ -11,7 +11,7 @@ use Rattle.words.specs.Counting.{countBelow, lowestBelow}
 use Rattle.words.proofs.ChoiceLaws.{pick-cases}
 use Rattle.words.proofs.CountingLaws.{count-le}
 use Rattle.words.proofs.Promises.{kept as words}
-use Rattle.phrases.specs.Phrases.{bytes, counted}
+use Rattle.text.specs.Phrases.{bytes, counted}
 use Rattle.tables.specs.Layout.{Without}
 use Rattle.steps.specs.declared.Step.{Step}
 use Rattle.steps.specs.declared.Recorded.{Recorded}
@@ -20,7 +20,7 @@ use Rattle.aic_record.specs.declared.Seen.{Seen}
 use Rattle.cic_record.specs.declared.Cic.{Cic}
 use Rattle.aintc_record.specs.declared.Chosen.{Chosen}
 use Rattle.kinds.specs.Kinds.{Each, byKind}
-use Rattle.machine_record.specs.declared.Machine.{Machine}
+use Rattle.machine.specs.declared.record.Machine.{Machine}
 use Rattle.register_names.proofs.TextLaws.{Fits, clear, short, known, empty, wider, joined, either, few, behind}
 use Rattle.deeds.specs.Deeds.{openedWords, closedWords, entryWords, seenWords, aicDeeds, gains, furtherWords, hostWords, gainWords, cicDeeds, chosenWords, choiceWords, aintcDeeds, deedsAt, deedWords, turnWords, sideWords, outputWords}
 

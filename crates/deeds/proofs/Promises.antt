@@ -2,7 +2,7 @@
 use Prim.Native.Nat.{ℕ, zero, suc, _+_, _-_, _<_, _≤_}
 use mathlib.Core.Path.{_≡_, refl, sym, ap, ap₂, _∙_}
 use mathlib.Core.Bool.{Bool, true, false, not, _&&_}
-use mathlib.Core.List.{List, [], _++_, append-nil}
+use mathlib.Core.List.{List, [], _∷_, _++_, append-nil}
 use mathlib.Core.Logic.{_↔_, _≢_}
 use native.Mathlib.Omega.{arith}
 use native.Mathlib.Decide.{decLt, ℕ-discrete}
@@ -14,18 +14,18 @@ use Rattle.words.specs.Counting.{one, countBelow, lowestBelow}
 use Rattle.words.proofs.ChoiceLaws.{pick-true, pick-false}
 use Rattle.words.proofs.CountingLaws.{count-same, lowest-found}
 use Rattle.words.proofs.TruthLaws.{and-left, and-right, and-both, not-holds}
-use Rattle.phrases.specs.Phrases.{bytes, counted}
+use Rattle.text.specs.Phrases.{bytes, counted}
 use Rattle.steps.specs.declared.Step.{Step}
 use Rattle.steps.specs.declared.Step.the-variants.{Write}
 use Rattle.aic_record.specs.declared.Aic.{Aic}
 use Rattle.aic_record.specs.declared.Seen.{Seen}
-use Rattle.aic_last.specs.Last.{lastSource, lastLevel}
+use Rattle.aic_record.specs.Last.{lastSource, lastLevel}
 use Rattle.cic_record.specs.declared.Cic.{Cic}
 use Rattle.cic_record.specs.Kinds.{hostNumber}
 use Rattle.cic_hosts.specs.Hosts.{asserted}
 use Rattle.aintc_record.specs.declared.Chosen.{Chosen}
-use Rattle.machine_record.specs.declared.Machine.{Machine}
-use Rattle.machine_record.specs.Shown.{shown}
+use Rattle.machine.specs.declared.record.Machine.{Machine}
+use Rattle.machine.specs.Shown.{shown}
 use Rattle.deeds.specs.Deeds.{openedWords, closedWords, ends, entryWords, sameSeen, seenWords, gains, furtherWords, hostWords, gainWords, cicDeeds, chosenWords, choiceWords, aintcDeeds, turnWords, sideWords}
 use Rattle.deeds.specs.Promises.{Promises}
 use Rattle.deeds.proofs.EntryLaws.{starts, marks, closes, closes-mark, nothing-open, same-seen, forgets, remembers, remembers-none}
@@ -78,16 +78,25 @@ module _ (c d : Cic) where
   count-some : (n : ℕ) → countBelow n (gains c d) ≡ 0 → (h : ℕ) → h < n → gains c d h ≡ false
   count-some n e h l = not-holds (gains c d h) (λ t. omega (arith, e, count-hit n (gains c d) h l t))
 
-  none-gained : (gainWords (bytes "; asserts host ") c d ≡ []) ↔ ((h : ℕ) → h < 256 → gains c d h ≡ false)
-  unfolding gainWords hostWords counted bytes
-  none-gained = (
+  -- words that begin with a semicolon are told exactly if a host is gained
+  no-host : (rest : List ℕ) → (gainWords (59 ∷ rest) c d ≡ []) ↔ ((h : ℕ) → h < 256 → gains c d h ≡ false)
+  unfolding gainWords hostWords counted
+  no-host rest = (
     λ e. count-some 256 (go (ℕ-discrete (countBelow 256 (gains c d)) 0) e),
-    λ f. none (bytes "; asserts host ") c d (count-same 256 (gains c d) (λ _. false) f ∙ no-count 256),
+    λ f. none (59 ∷ rest) c d (count-same 256 (gains c d) (λ _. false) f ∙ no-count 256),
   )
     where
-      go : Dec (countBelow 256 (gains c d) ≡ 0) → gainWords (bytes "; asserts host ") c d ≡ [] → countBelow 256 (gains c d) ≡ 0
+      go : Dec (countBelow 256 (gains c d) ≡ 0) → gainWords (59 ∷ rest) c d ≡ [] → countBelow 256 (gains c d) ≡ 0
       go (yes z) e = z
       go (no z) e = let y : _≡_ {A = ℕ} 59 0 = ap (λ (l : List ℕ). getD l 0 0) (pick-false _ (ne-eqb (countBelow 256 (gains c d)) 0 z) ∙ e) in absurd (omega (arith, y))
+
+  none-gained : (gainWords (bytes "; asserts host ") c d ≡ []) ↔ ((h : ℕ) → h < 256 → gains c d h ≡ false)
+  unfolding bytes
+  none-gained = no-host _
+
+  none-ended : (gainWords (bytes "; ends host ") c d ≡ []) ↔ ((h : ℕ) → h < 256 → gains c d h ≡ false)
+  unfolding bytes
+  none-ended = no-host _
 
   lowest-gained : countBelow 256 (gains c d) ≢ 0 → (gains c d (lowestBelow 256 (gains c d)) ≡ true) × ((h : ℕ) → h < lowestBelow 256 (gains c d) → gains c d h ≡ false)
   lowest-gained n = (lowest-found 256 (gains c d) .found (within (decLt (lowestBelow 256 (gains c d)) 256)), lowest-found 256 (gains c d) .before)
@@ -184,6 +193,7 @@ kept =
       irqTold = irq-told;
       fiqTold = fiq-told;
       noneGained = none-gained;
+      noneEnded = none-ended;
       lowestGained = lowest-gained;
       starts = starts;
       marks = marks;

@@ -15,7 +15,7 @@ use Rattle.words.proofs.ChoiceLaws.{pick-true, pick-false}
 use Rattle.words.proofs.TruthLaws.{and-left, and-right, and-both, told, clash}
 use Rattle.words.proofs.Promises.{kept as words}
 use Rattle.text.specs.Text.{decimalOf}
-use Rattle.phrases.specs.Phrases.{bytes, counted}
+use Rattle.text.specs.Phrases.{bytes, counted}
 use Rattle.aic_record.specs.declared.Seen.{Seen}
 use Rattle.aintc_record.specs.declared.Chosen.{Chosen}
 use Rattle.deeds.specs.Deeds.{sameSeen, seenWords, chosenWords, choiceWords}

@@ -17,16 +17,16 @@ use Rattle.words.proofs.TruthLaws.{and-parts}
 use Rattle.words.proofs.WordLaws.{bit-without}
 use Rattle.text.specs.Text.{write}
 use Rattle.text.proofs.WriteLaws.{and-then}
-use Rattle.phrases.specs.Phrases.{bytes}
+use Rattle.text.specs.Phrases.{bytes}
 use Rattle.steps.specs.declared.Step.{Step}
 use Rattle.aic_record.specs.declared.Aic.{Aic}
-use Rattle.aic_last.specs.Last.{lastSource, lastLevel}
+use Rattle.aic_record.specs.Last.{lastSource, lastLevel}
 use Rattle.cic_record.specs.declared.Cic.{Cic}
 use Rattle.cic_record.specs.Kinds.{hostNumber}
 use Rattle.cic_hosts.specs.Hosts.{asserted}
-use Rattle.machine_record.specs.declared.Columns.{Columns}
-use Rattle.machine_record.specs.declared.Machine.{Machine}
-use Rattle.machine_record.specs.Shown.{shown}
+use Rattle.machine.specs.declared.record.Columns.{Columns}
+use Rattle.machine.specs.declared.record.Machine.{Machine}
+use Rattle.machine.specs.Shown.{shown}
 use Rattle.deeds.specs.Deeds.{openedWords, closedWords, ends, gains, hostWords, gainWords, turnWords, sideWords}
 
 -- ---- the AIC

@@ -17,7 +17,7 @@ use Rattle.words.proofs.ChoiceLaws.{pick-true, pick-false}
 use Rattle.words.proofs.TruthLaws.{and-left, and-right, and-both, not-holds, told, clash}
 use Rattle.words.proofs.Promises.{kept as words}
 use Rattle.text.specs.Text.{decimalOf}
-use Rattle.phrases.specs.Phrases.{bytes, counted}
+use Rattle.text.specs.Phrases.{bytes, counted}
 use Rattle.steps.specs.declared.Step.{Step}
 use Rattle.steps.specs.declared.Step.the-variants.{Read, Write, Line}
 use Rattle.aic_record.specs.declared.Aic.{Aic}
@@ -25,8 +25,8 @@ use Rattle.aic_record.specs.Record.{withSeen}
 use Rattle.aic_record.specs.Sound.{sourceAt, levelAt, sound}
 use Rattle.aic_record.specs.Promises.{Shaped}
 use Rattle.aic_record.proofs.Promises.{kept as aic-record}
-use Rattle.aic_last.specs.Last.{lastSource, lastLevel}
-use Rattle.aic_last.proofs.Promises.{kept as last-entry}
+use Rattle.aic_record.specs.Last.{lastSource, lastLevel}
+use Rattle.aic_record.proofs.LastPromises.{kept as last-entry}
 use Rattle.aic.specs.Model.{step}
 use Rattle.aic.proofs.Promises.{kept as aic}
 use Rattle.aic_runs.specs.Counted.{starts, startedBy, levelOf, startsOf, closes}

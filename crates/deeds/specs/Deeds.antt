@@ -5,20 +5,20 @@ use mathlib.Core.List.{List, [], _++_}
 use lib.Dec.{eqb, ltb}
 use Rattle.words.specs.Choice.{pick}
 use Rattle.words.specs.Counting.{countBelow, lowestBelow}
-use Rattle.phrases.specs.Phrases.{bytes, counted}
+use Rattle.text.specs.Phrases.{bytes, counted}
 use Rattle.steps.specs.declared.Step.{Step}
 use Rattle.steps.specs.declared.Step.the-variants.{Read, Write, Line}
 use Rattle.steps.specs.declared.Recorded.{Recorded}
 use Rattle.aic_record.specs.declared.Aic.{Aic}
 use Rattle.aic_record.specs.declared.Seen.{Seen}
-use Rattle.aic_last.specs.Last.{lastSource, lastLevel}
+use Rattle.aic_record.specs.Last.{lastSource, lastLevel}
 use Rattle.cic_record.specs.declared.Cic.{Cic}
 use Rattle.cic_record.specs.Kinds.{hostNumber}
 use Rattle.cic_hosts.specs.Hosts.{asserted}
 use Rattle.aintc_record.specs.declared.Chosen.{Chosen}
 use Rattle.kinds.specs.Kinds.{byKind}
-use Rattle.machine_record.specs.declared.Machine.{Machine}
-use Rattle.machine_record.specs.Shown.{shown}
+use Rattle.machine.specs.declared.record.Machine.{Machine}
+use Rattle.machine.specs.Shown.{shown}
 
 -- ---- the AIC: a source is told in five bits and a level in three, as IRQID and PRIOR hold them (003, 27.8.3 and 27.8.7)
 

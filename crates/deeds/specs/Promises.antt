@@ -5,12 +5,12 @@ use mathlib.Core.Bool.{Bool, true, false}
 use mathlib.Core.List.{List, [], _++_}
 use mathlib.Core.Logic.{_↔_, _≢_, _⊎_}
 use Rattle.words.specs.Counting.{countBelow, lowestBelow}
-use Rattle.phrases.specs.Phrases.{bytes, counted}
+use Rattle.text.specs.Phrases.{bytes, counted}
 use Rattle.steps.specs.declared.Step.{Step}
 use Rattle.steps.specs.declared.Step.the-variants.{Write}
 use Rattle.aic_record.specs.declared.Aic.{Aic}
 use Rattle.aic_record.specs.declared.Seen.{Seen}
-use Rattle.aic_last.specs.Last.{lastSource, lastLevel}
+use Rattle.aic_record.specs.Last.{lastSource, lastLevel}
 use Rattle.aic_record.specs.Sound.{sound}
 use Rattle.aic_record.specs.Promises.{Shaped}
 use Rattle.aic.specs.Model.{step}
@@ -19,8 +19,8 @@ use Rattle.cic_record.specs.declared.Cic.{Cic}
 use Rattle.cic_record.specs.Kinds.{hostNumber}
 use Rattle.cic_hosts.specs.Hosts.{asserted}
 use Rattle.aintc_record.specs.declared.Chosen.{Chosen}
-use Rattle.machine_record.specs.declared.Machine.{Machine}
-use Rattle.machine_record.specs.Shown.{shown}
+use Rattle.machine.specs.declared.record.Machine.{Machine}
+use Rattle.machine.specs.Shown.{shown}
 use Rattle.deeds.specs.Deeds.{entryWords, seenWords, gains, gainWords, cicDeeds, choiceWords, aintcDeeds, sideWords}
 
 -- what is said of the input that is chosen for an output, b, after a, and of the output that is free
@@ -75,6 +75,7 @@ pub record Promises : Type 0 where
   pub gained : (c d : Cic) (h : ℕ) → (gains c d h ≡ true) ↔ ((asserted d (hostNumber h) ≡ true) × (asserted c (hostNumber h) ≡ false))
   -- nothing is said exactly if no host is; else the lowest that is, is told (01, CIC, outputs)
   pub noneGained : (c d : Cic) → (gainWords (bytes "; asserts host ") c d ≡ []) ↔ ((h : ℕ) → h < 256 → gains c d h ≡ false)
+  pub noneEnded : (c d : Cic) → (gainWords (bytes "; ends host ") c d ≡ []) ↔ ((h : ℕ) → h < 256 → gains c d h ≡ false)
   pub lowestGained : (c d : Cic) → countBelow 256 (gains c d) ≢ 0
       → (gains c d (lowestBelow 256 (gains c d)) ≡ true) × ((h : ℕ) → h < lowestBelow 256 (gains c d) → gains c d h ≡ false)
   -- those that became asserted are told first, then those that are no longer

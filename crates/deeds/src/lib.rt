@@ -5,13 +5,13 @@ ghost use Prim.Native.Nat.{ℕ, _<_};
 ghost use mathlib.Core.Bool.{not, _&&_};
 ghost use Rattle.words.specs.Array.{bitAt};
 ghost use Rattle.text.specs.Text.{write};
-ghost use Rattle.phrases.specs.Phrases.{counted};
+ghost use Rattle.text.specs.Phrases.{counted};
 ghost use Rattle.deeds.specs.Deeds.{openedWords, closedWords, ends, entryWords, sameSeen, seenWords, aicDeeds, gains, furtherWords, hostWords, gainWords, cicDeeds, chosenWords, choiceWords, aintcDeeds, deedsAt, deedWords, turnWords, sideWords, outputWords};
 use aic_record::Aic;
 use aic_record::Seen;
 use aintc_record::Chosen;
 use cic_record::Cic;
-use machine_record::Machine;
+use machine::record::Machine;
 use steps::Recorded;
 use steps::Step;
 
@@ -66,9 +66,9 @@ fn put_entry(out: &mut [u8], at: usize, s: Aic, x: Step, t: Aic) -> usize
     ensures { λ r. ⌜ (now (out .exit), r) ≡ write (now (out .entry), at) (entryWords s x t) ⌝ }
 {
     let close = ends(x);
-    let opened = aic_last::last_source(t);
-    let level = aic_last::last_level(t);
-    let closed = aic_last::last_source(s);
+    let opened = aic_record::last::last_source(t);
+    let level = aic_record::last::last_level(t);
+    let closed = aic_record::last::last_source(s);
     if s.depth < t.depth {
         return put_opened(out, at, opened % 32, level % 8);
     }
@@ -106,7 +106,7 @@ fn put_closed(out: &mut [u8], at: usize, source: u32) -> usize
     if source == 0 {
         return text::put_all(out, at, b"; closes a mark");
     }
-    phrases::put_counted(out, at, b"; closes source ", source)
+    text::phrases::put_counted(out, at, b"; closes source ", source)
 }
 
 fn same_seen(a: Seen, b: Seen) -> bool
@@ -126,7 +126,7 @@ fn put_seen(out: &mut [u8], at: usize, a: Seen, b: Seen) -> usize
         return text::put_all(out, at, b"; forgets");
     }
     if b.what == 1 {
-        return phrases::put_counted(out, at, b"; remembers source ", (b.source % 32) as u32);
+        return text::phrases::put_counted(out, at, b"; remembers source ", (b.source % 32) as u32);
     }
     text::put_all(out, at, b"; remembers no source")
 }
@@ -156,7 +156,7 @@ fn put_hosts(out: &mut [u8], at: usize, what: &[u8], count: u32, lowest: u32) ->
     if count == 0 {
         return at;
     }
-    let a = phrases::put_counted(out, at, what, lowest);
+    let a = text::phrases::put_counted(out, at, what, lowest);
     put_further(out, a, count)
 }
 
@@ -167,7 +167,7 @@ fn put_further(out: &mut [u8], at: usize, count: u32) -> usize
     if count == 1 {
         return at;
     }
-    let a = phrases::put_counted(out, at, b" and ", count - 1);
+    let a = text::phrases::put_counted(out, at, b" and ", count - 1);
     text::put_all(out, a, b" more")
 }
 
@@ -235,7 +235,7 @@ fn put_chosen(out: &mut [u8], at: usize, chooses: &[u8], a: Chosen, b: Chosen) -
     if a.active & (a.number == b.number) {
         return at;
     }
-    let n = phrases::put_counted(out, at, b"; chooses input ", (b.number % 128) as u32);
+    let n = text::phrases::put_counted(out, at, b"; chooses input ", (b.number % 128) as u32);
     text::put_all(out, n, chooses)
 }
 
@@ -267,8 +267,8 @@ pub fn put_outputs(out: &mut [u8], at: usize, m: Machine, after: Machine) -> usi
 fn put_sides(out: &mut [u8], at: usize, m: Machine, after: Machine) -> usize
     ensures { λ r. ⌜ (now (out .exit), r) ≡ write (now (out .entry), at) (sideWords m after) ⌝ }
 {
-    let a = machine_record::shown(m);
-    let b = machine_record::shown(after);
+    let a = machine::record::shown(m);
+    let b = machine::record::shown(after);
     let n = put_turn(
         out,
         at,
@@ -312,6 +312,6 @@ fn put_turn(
 fn put_pair(out: &mut [u8], at: usize, first: &[u8], m: u32, second: &[u8], n: u32) -> usize
     ensures { λ r. ⌜ (now (out .exit), r) ≡ write (now (out .entry), at) (counted (now (first .entry)) m ++ counted (now (second .entry)) n) ⌝ }
 {
-    let a = phrases::put_counted(out, at, first, m);
-    phrases::put_counted(out, a, second, n)
+    let a = text::phrases::put_counted(out, at, first, m);
+    text::phrases::put_counted(out, a, second, n)
 }

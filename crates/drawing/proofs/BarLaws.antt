@@ -11,7 +11,7 @@ use Rattle.words.specs.Choice.{pick}
 use Rattle.words.proofs.ChoiceLaws.{pick-true, pick-false}
 use Rattle.text.specs.Text.{write}
 use Rattle.text.proofs.WriteLaws.{and-then, nothing}
-use Rattle.phrases.specs.Phrases.{bytes}
+use Rattle.text.specs.Phrases.{bytes}
 use Rattle.drawing.specs.Bars.{Bar, columnAt, entriesAt, free, opens, opened, openedFrom, stayed, still, bars}
 use Rattle.drawing.specs.Shapes.{bar}
 use Rattle.drawing.specs.Frame.{head, rows}

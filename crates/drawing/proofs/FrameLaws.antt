@@ -5,7 +5,7 @@ use mathlib.Core.List.{List, _++_}
 use native.Mathlib.Numerals.{add-one}
 use Rattle.text.specs.Text.{write}
 use Rattle.text.proofs.WriteLaws.{and-then, nothing}
-use Rattle.phrases.specs.Phrases.{bytes, counted}
+use Rattle.text.specs.Phrases.{bytes, counted}
 use Rattle.drawing.specs.Shapes.{top, centred}
 use Rattle.drawing.specs.Frame.{wide, title, rows}
 

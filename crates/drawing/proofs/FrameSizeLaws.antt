@@ -4,8 +4,8 @@ use native.Mathlib.Omega.{arith}
 use lib.Dec.{ltb}
 use lib.ListN.{length, length-append}
 use Rattle.words.proofs.ChoiceLaws.{pick-cases}
-use Rattle.phrases.specs.Phrases.{bytes}
-use Rattle.phrases.proofs.SizeLaws.{length-few}
+use Rattle.text.specs.Phrases.{bytes}
+use Rattle.text.proofs.SizeLaws.{length-few}
 use Rattle.drawing.specs.Shapes.{left, top}
 use Rattle.drawing.proofs.ShapeSizeLaws.{length-centred}
 use Rattle.drawing.specs.Frame.{wide, title, axes, signs, head, rows}

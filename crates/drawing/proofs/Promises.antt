@@ -12,7 +12,7 @@ use Rattle.words.specs.Choice.{pick}
 use Rattle.words.specs.Counting.{one}
 use Rattle.words.proofs.ChoiceLaws.{pick-true, pick-false}
 use Rattle.text.specs.Text.{decimalOf}
-use Rattle.phrases.specs.Phrases.{bytes, counted}
+use Rattle.text.specs.Phrases.{bytes, counted}
 use Rattle.drawing.specs.Bars.{Column, Bar, packed, column, columnAt, entriesAt, freeFrom, free, opens, opened, openedFrom, stayed, still, bars}
 use Rattle.drawing.specs.Shapes.{box, label, centred, active, refused, numbered, mark, handler, bar}
 use Rattle.drawing.specs.Frame.{wide, title, axes, signs, head, rows}

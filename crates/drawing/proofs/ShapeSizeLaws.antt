@@ -5,8 +5,8 @@ use native.Mathlib.Omega.{arith}
 use lib.Dec.{eqb}
 use lib.ListN.{length, length-append}
 use Rattle.words.proofs.ChoiceLaws.{pick-cases}
-use Rattle.phrases.specs.Phrases.{bytes}
-use Rattle.phrases.proofs.SizeLaws.{length-few}
+use Rattle.text.specs.Phrases.{bytes}
+use Rattle.text.proofs.SizeLaws.{length-few}
 use Rattle.drawing.specs.Shapes.{left, middle, top, box, label, centred, active, refused, numbered, mark, handler, bar}
 
 -- ---- shapes, whose numbers have so many digits

@@ -7,7 +7,7 @@ use native.Mathlib.Nat.{min-le-left}
 use native.Mathlib.Omega.{arith}
 use lib.ListN.{length, length-append, getD}
 use Rattle.words.specs.Choice.{pick}
-use Rattle.phrases.specs.Phrases.{bytes}
+use Rattle.text.specs.Phrases.{bytes}
 use Rattle.drawing.proofs.ShapeSizeLaws.{length-active, length-refused, length-numbered, length-bar}
 use Rattle.drawing.proofs.FrameSizeLaws.{length-head, length-rows}
 use Rattle.drawing.specs.Bars.{Bar, column, entriesAt, free, opens, opened, openedFrom, stayed, still, bars}

@@ -2,7 +2,7 @@
 use Prim.Native.Nat.{ℕ, zero, suc, _+_, _-_}
 use mathlib.Core.List.{List, [], _∷_, _++_}
 use lib.ListN.{length}
-use Rattle.phrases.specs.Phrases.{bytes}
+use Rattle.text.specs.Phrases.{bytes}
 use Rattle.drawing.specs.Shapes.{active, refused, numbered, bar}
 use Rattle.drawing.specs.Frame.{head, rows}
 use Rattle.drawing.specs.Bars.{Column, Bar, columnAt, bars}

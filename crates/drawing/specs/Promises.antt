@@ -6,7 +6,7 @@ use mathlib.Core.List.{List, [], _∷_, _++_}
 use mathlib.Core.Logic.{_↔_, _≢_}
 use lib.ListN.{length, getD}
 use Rattle.words.specs.Counting.{one}
-use Rattle.phrases.specs.Phrases.{bytes, counted}
+use Rattle.text.specs.Phrases.{bytes, counted}
 use Rattle.drawing.specs.Shapes.{box, label, centred, active, refused, numbered, mark, handler}
 use Rattle.drawing.specs.Frame.{wide, title, axes, signs, head, rows}
 use Rattle.drawing.specs.Bars.{Column, Bar, packed, column, columnAt, entriesAt, free, opens, opened, openedFrom, stayed, still, bars}

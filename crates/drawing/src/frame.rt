@@ -35,7 +35,7 @@ fn put_title(out: &mut [u8], at: usize, first: u32, n: u32) -> usize
 {
     let w = wide(n);
     let last = one_less(first + n);
-    let a = phrases::put_counted(
+    let a = text::phrases::put_counted(
         out,
         at,
         b"<svg xmlns=\"http://www.w3.org/2000/svg\" font-family=\"sans-serif\" font-size=\"10\" height=\"390\" width=\"",
@@ -46,8 +46,8 @@ fn put_title(out: &mut [u8], at: usize, first: u32, n: u32) -> usize
         a,
         b"\">\n<rect width=\"100%\" height=\"100%\" fill=\"white\"/>\n",
     );
-    let c = phrases::put_counted(out, b, b"<text x=\"8\" y=\"14\">AIC, steps ", first);
-    let d = phrases::put_counted(out, c, b" to ", last);
+    let c = text::phrases::put_counted(out, b, b"<text x=\"8\" y=\"14\">AIC, steps ", first);
+    let d = text::phrases::put_counted(out, c, b" to ", last);
     text::put_all(
         out,
         d,
@@ -70,7 +70,7 @@ fn put_axes(out: &mut [u8], at: usize, n: u32) -> usize
         a,
         b"<text transform=\"translate(24 262) rotate(-90)\">entries open, at most 8</text>\n",
     );
-    let c = phrases::put_counted(out, b, b"<path d=\"M64 92V316H", 40 + 24 * (n + 1));
+    let c = text::phrases::put_counted(out, b, b"<path d=\"M64 92V316H", 40 + 24 * (n + 1));
     text::put_all(out, c, b"\" fill=\"none\" stroke=\"black\"/>\n")
 }
 

@@ -25,7 +25,7 @@ pub(crate) fn put_refused(out: &mut [u8], at: usize, k: u32, refusal: u32) -> us
     if refusal == 0 {
         return at;
     }
-    let a = phrases::put_counted(out, at, b"<path d=\"M", 52 + 24 * k);
+    let a = text::phrases::put_counted(out, at, b"<path d=\"M", 52 + 24 * k);
     let b = text::put_all(out, a, b" 64v8\" stroke=\"black\"/>\n");
     put_centred(out, b, 52 + 24 * k, 84, refusal)
 }
@@ -77,8 +77,8 @@ fn put_mark(out: &mut [u8], at: usize, x: u32, y: u32, w: u32) -> usize
         26,
         b"fill=\"#ddd\" stroke=\"black\" stroke-dasharray=\"3 2\"",
     );
-    let b = phrases::put_counted(out, a, b"<text font-size=\"9\" x=\"", x + 1);
-    let c = phrases::put_counted(out, b, b"\" y=\"", y + 17);
+    let b = text::phrases::put_counted(out, a, b"<text font-size=\"9\" x=\"", x + 1);
+    let c = text::phrases::put_counted(out, b, b"\" y=\"", y + 17);
     text::put_all(out, c, b"\">mark</text>\n")
 }
 
@@ -97,10 +97,10 @@ fn put_handler(out: &mut [u8], at: usize, x: u32, y: u32, w: u32, source: u32, l
 fn put_box(out: &mut [u8], at: usize, x: u32, y: u32, w: u32, h: u32, look: &[u8]) -> usize
     ensures { λ r. ⌜ (now (out .exit), r) ≡ write (now (out .entry), at) (box x y w h (now (look .entry))) ⌝ }
 {
-    let a = phrases::put_counted(out, at, b"<rect x=\"", x);
-    let b = phrases::put_counted(out, a, b"\" y=\"", y);
-    let c = phrases::put_counted(out, b, b"\" width=\"", w);
-    let d = phrases::put_counted(out, c, b"\" height=\"", h);
+    let a = text::phrases::put_counted(out, at, b"<rect x=\"", x);
+    let b = text::phrases::put_counted(out, a, b"\" y=\"", y);
+    let c = text::phrases::put_counted(out, b, b"\" width=\"", w);
+    let d = text::phrases::put_counted(out, c, b"\" height=\"", h);
     let e = text::put_all(out, d, b"\" ");
     let f = text::put_all(out, e, look);
     text::put_all(out, f, b"/>\n")
@@ -110,10 +110,10 @@ fn put_box(out: &mut [u8], at: usize, x: u32, y: u32, w: u32, h: u32, look: &[u8
 fn put_label(out: &mut [u8], at: usize, x: u32, y: u32, word: &[u8], n: u32) -> usize
     ensures { λ r. ⌜ (now (out .exit), r) ≡ write (now (out .entry), at) (label x y (now (word .entry)) n) ⌝ }
 {
-    let a = phrases::put_counted(out, at, b"<text x=\"", x);
-    let b = phrases::put_counted(out, a, b"\" y=\"", y);
+    let a = text::phrases::put_counted(out, at, b"<text x=\"", x);
+    let b = text::phrases::put_counted(out, a, b"\" y=\"", y);
     let c = text::put_all(out, b, b"\">");
-    let d = phrases::put_counted(out, c, word, n);
+    let d = text::phrases::put_counted(out, c, word, n);
     text::put_all(out, d, b"</text>\n")
 }
 
@@ -121,9 +121,9 @@ fn put_label(out: &mut [u8], at: usize, x: u32, y: u32, word: &[u8], n: u32) -> 
 pub(crate) fn put_centred(out: &mut [u8], at: usize, x: u32, y: u32, n: u32) -> usize
     ensures { λ r. ⌜ (now (out .exit), r) ≡ write (now (out .entry), at) (centred x y n) ⌝ }
 {
-    let a = phrases::put_counted(out, at, b"<text text-anchor=\"middle\" x=\"", x);
-    let b = phrases::put_counted(out, a, b"\" y=\"", y);
-    let c = phrases::put_counted(out, b, b"\">", n);
+    let a = text::phrases::put_counted(out, at, b"<text text-anchor=\"middle\" x=\"", x);
+    let b = text::phrases::put_counted(out, a, b"\" y=\"", y);
+    let c = text::phrases::put_counted(out, b, b"\">", n);
     text::put_all(out, c, b"</text>\n")
 }
 

@@ -13,9 +13,9 @@ use Rattle.words.specs.Choice.{pick}
 use Rattle.words.proofs.ChoiceLaws.{pick-true, pick-false, pick-cases}
 use Rattle.text.specs.Text.{write, laid}
 use Rattle.text.proofs.WriteLaws.{rest-of, nothing, write-laid}
-use Rattle.statements.specs.declared.Statement.{Statement}
-use Rattle.statements.specs.Statements.{asItShouldBe, astray, statementOf, bytesIn}
-use Rattle.statements.specs.Words.{noKind}
+use Rattle.encode.specs.declared.statements.Statement.{Statement}
+use Rattle.encode.specs.Statements.{asItShouldBe, astray, statementOf, bytesIn}
+use Rattle.encode.specs.Words.{noKind}
 use Rattle.encode.specs.declared.Refusal.{Refusal}
 use Rattle.encode.specs.Encode.{longestText, longestTrace, aShorterTrace, aShorterText, roomFor, lineOf, Encoding, refusedAs, endedBy, after, goOn, encodedFrom, encoded, linesOf}
 use Rattle.encode.proofs.LineLaws.{linesAt, lines-first, lines-none, end, line, line-length, lines-more}

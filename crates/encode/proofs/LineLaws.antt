@@ -17,8 +17,8 @@ use Rattle.words.proofs.ChoiceLaws.{pick-true, pick-false}
 use Rattle.words.proofs.TruthLaws.{clash}
 use Rattle.tables.specs.Layout.{Without}
 use Rattle.tables.proofs.SeekLaws.{Sought}
-use Rattle.statements.specs.Statements.{placeFrom}
-use Rattle.statements.proofs.PlaceLaws.{is, place-sought}
+use Rattle.encode.specs.Statements.{placeFrom}
+use Rattle.encode.proofs.PlaceLaws.{is, place-sought}
 use Rattle.encode.specs.Encode.{onFirst, linesOf}
 
 -- ---- a line and those behind it

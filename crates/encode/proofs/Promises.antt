@@ -10,16 +10,16 @@ use lib.ListN.{length}
 use borrow.Author.Tests.{eq-eqb, ne-eqb, lt-ltb, le-ltb}
 use Rattle.words.specs.Choice.{pick}
 use Rattle.words.proofs.ChoiceLaws.{pick-true, pick-false}
-use Rattle.phrases.specs.Phrases.{bytes}
+use Rattle.text.specs.Phrases.{bytes}
 use Rattle.tables.specs.Typed.{nthStart, nthTyped}
 use Rattle.kinds.specs.Kinds.{wanted}
 use Rattle.trace.specs.Steps.{operandsOf}
-use Rattle.statements.specs.declared.Statement.{Statement}
-use Rattle.statements.specs.Bytes.{groups, shortest, bytesOf}
-use Rattle.statements.specs.Words.{same, kindOf, stepOf}
-use Rattle.statements.specs.Statements.{uncommented, silent, astray, controllerBy, stepBy, byOpening, statementOf, bytesIn}
-use Rattle.statements.proofs.ByteLaws.{groups-last, groups-more}
-use Rattle.statements.proofs.NumberLaws.{words-none}
+use Rattle.encode.specs.declared.statements.Statement.{Statement}
+use Rattle.encode.specs.Bytes.{groups, shortest, bytesOf}
+use Rattle.encode.specs.Words.{same, kindOf, stepOf}
+use Rattle.encode.specs.Statements.{uncommented, silent, astray, controllerBy, stepBy, byOpening, statementOf, bytesIn}
+use Rattle.encode.proofs.ByteLaws.{groups-last, groups-more}
+use Rattle.encode.proofs.NumberLaws.{words-none}
 use Rattle.encode.specs.Encode.{roomFor, lineOf, Encoding, endedBy, after, goOn, encodedFrom, encoded, linesOf}
 use Rattle.encode.specs.Promises.{Fits, Misfits, Stands, Opens, Numbered, refusedBy, Promises}
 use Rattle.encode.proofs.LineLaws.{lines-ended, lines-open}

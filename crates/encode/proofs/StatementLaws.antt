@@ -20,12 +20,12 @@ use Rattle.tables.specs.Layout.{Without}
 use Rattle.tables.specs.Reading.{entered, listOf}
 use Rattle.tables.proofs.SeekLaws.{Sought}
 use Rattle.tables.proofs.FillLaws.{listOf-same}
-use Rattle.statements.specs.declared.Statement.{Statement}
-use Rattle.statements.specs.Bytes.{shortest, bytesOf}
-use Rattle.statements.specs.Words.{kindOf, stepOf}
-use Rattle.statements.specs.Statements.{placeFrom, uncommented, fitting, worthOf, valuesIn, fittingIn, aNumber, theLineEnd, silent, astray, controllerBy, stepBy, openingOf, byNumbers, byOpening, statementIn, statementOf, bytesIn}
-use Rattle.statements.proofs.PlaceLaws.{is, place-is}
-use Rattle.statements.proofs.NumberLaws.{Fitting, fitting-is, words-none, words-some}
+use Rattle.encode.specs.declared.statements.Statement.{Statement}
+use Rattle.encode.specs.Bytes.{shortest, bytesOf}
+use Rattle.encode.specs.Words.{kindOf, stepOf}
+use Rattle.encode.specs.Statements.{placeFrom, uncommented, fitting, worthOf, valuesIn, fittingIn, aNumber, theLineEnd, silent, astray, controllerBy, stepBy, openingOf, byNumbers, byOpening, statementIn, statementOf, bytesIn}
+use Rattle.encode.proofs.PlaceLaws.{is, place-is}
+use Rattle.encode.proofs.NumberLaws.{Fitting, fitting-is, words-none, words-some}
 use Rattle.encode.specs.Promises.{Fits, Misfits, Stands, Numbered}
 
 -- ---- comments

@@ -4,9 +4,9 @@ use mathlib.Core.List.{List, [], _∷_, _++_}
 use lib.Dec.{eqb, ltb}
 use lib.ListN.{length}
 use Rattle.words.specs.Choice.{pick}
-use Rattle.statements.specs.declared.Statement.{Statement}
-use Rattle.statements.specs.Words.{noKind}
-use Rattle.statements.specs.Statements.{asItShouldBe, aController, astray, statementOf, bytesIn}
+use Rattle.encode.specs.declared.statements.Statement.{Statement}
+use Rattle.encode.specs.Words.{noKind}
+use Rattle.encode.specs.Statements.{asItShouldBe, aController, astray, statementOf, bytesIn}
 use Rattle.encode.specs.declared.Refusal.{Refusal}
 
 -- the most bytes that a text may have, and a trace (01, Numbers, 11)

@@ -4,8 +4,8 @@ use mathlib.Core.List.{List, [], _∷_, _++_}
 use lib.Dec.{eqb}
 use Rattle.words.specs.Choice.{pick}
 use Rattle.text.specs.Text.{newline, decimal}
-use Rattle.phrases.specs.Phrases.{bytes, counted}
-use Rattle.statements.specs.Statements.{aController, aStep, aNumber, theLineEnd}
+use Rattle.text.specs.Phrases.{bytes, counted}
+use Rattle.encode.specs.Statements.{aController, aStep, aNumber, theLineEnd}
 use Rattle.encode.specs.declared.Refusal.{Refusal}
 use Rattle.encode.specs.Encode.{aShorterTrace}
 

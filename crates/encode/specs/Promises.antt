@@ -13,10 +13,10 @@ use Rattle.tables.specs.Typed.{nthStart, nthTyped}
 use Rattle.tables.specs.Number.{isNumber, worth}
 use Rattle.tables.specs.Layout.{Without}
 use Rattle.tables.specs.Reading.{listOf}
-use Rattle.statements.specs.declared.Statement.{Statement}
-use Rattle.statements.specs.Bytes.{shortest, bytesOf}
-use Rattle.statements.specs.Words.{kindOf, stepOf}
-use Rattle.statements.specs.Statements.{uncommented, statementOf, bytesIn}
+use Rattle.encode.specs.declared.statements.Statement.{Statement}
+use Rattle.encode.specs.Bytes.{shortest, bytesOf}
+use Rattle.encode.specs.Words.{kindOf, stepOf}
+use Rattle.encode.specs.Statements.{uncommented, statementOf, bytesIn}
 use Rattle.encode.specs.Encode.{linesOf, after, encodedFrom, encoded}
 
 -- a word of a line is a number of at most 32 bits

@@ -5,6 +5,9 @@ ghost use Prim.Native.Nat.{_≤_};
 ghost use Rattle.text.specs.Text.{write, laid};
 ghost use Rattle.encode.specs.Encode.{longestTrace, roomFor, lineOf, endedBy, encoded};
 ghost use Rattle.encode.specs.Lines.{expectedWords, refusedLine};
+
+pub mod statements;
+
 use statements::Statement;
 
 // What was expected, 0 where nothing else was; the line, and the word in it, each counted from 1.

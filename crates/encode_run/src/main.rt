@@ -22,7 +22,7 @@ fn print(text: &[u8]) {
     let e = encode::encode(text, &mut out);
     let r = e.refusal;
     let k = e.bytes;
-    if r.expected != statements::AS_IT_SHOULD_BE {
+    if r.expected != encode::statements::AS_IT_SHOULD_BE {
         say(r);
         return;
     }

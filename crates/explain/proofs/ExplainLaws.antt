@@ -16,13 +16,13 @@ use Rattle.trace.specs.declared.Turn.the-variants.{Found, Ended}
 use Rattle.trace.specs.Trace.{Trace, ends, after, turnAt, stepsFrom}
 use Rattle.trace.proofs.TraceLaws.{trace-ended, trace-found}
 use Rattle.kinds.specs.Kinds.{tellsPrivilege}
-use Rattle.machine_record.specs.declared.Machine.{Machine}
+use Rattle.machine.specs.declared.record.Machine.{Machine}
 use Rattle.machine.specs.declared.Answer.{Answer}
 use Rattle.machine.specs.Steps.{step}
 use Rattle.beginning.specs.declared.Begun.{Begun}
 use Rattle.beginning.specs.Begin.{beginOf}
-use Rattle.reports.specs.Play.{recordsFrom}
-use Rattle.reports.proofs.PlayLaws.{records-begun}
+use Rattle.beginning.specs.Play.{recordsFrom}
+use Rattle.beginning.proofs.PlayLaws.{records-begun}
 use Rattle.explain.specs.declared.Window.{Window}
 use Rattle.explain.specs.Explain.{stepLine, shows, linesFrom, endOf, textFrom, headOf, startedText, explainedBy}
 

@@ -14,14 +14,14 @@ use Rattle.words.proofs.TruthLaws.{and-both, and-left, and-right}
 use Rattle.steps.specs.declared.Recorded.{Recorded}
 use Rattle.steps.specs.declared.Step.the-variants.{Read, Write, Line}
 use Rattle.text.specs.Text.{space, newline, hexDigit, hexOf, hex, decimalOf, decimal, field}
-use Rattle.phrases.specs.Phrases.{bytes, counted}
+use Rattle.text.specs.Phrases.{bytes, counted}
 use Rattle.trace.specs.Promises.{made}
 use Rattle.kinds.specs.Kinds.{byKind, tellsPrivilege}
-use Rattle.machine_record.specs.declared.Machine.{Machine}
+use Rattle.machine.specs.declared.record.Machine.{Machine}
 use Rattle.machine.specs.declared.Answer.{Answer}
 use Rattle.machine.specs.Steps.{step}
 use Rattle.beginning.specs.Begin.{beginOf}
-use Rattle.reports.specs.Play.{recordsOf}
+use Rattle.beginning.specs.Play.{recordsOf}
 use Rattle.register_words.specs.Registers.{placeWords, fieldWords}
 use Rattle.deeds.specs.Deeds.{deedWords, outputWords}
 use Rattle.explain.specs.declared.Window.{Window}

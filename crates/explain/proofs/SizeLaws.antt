@@ -17,20 +17,20 @@ use Rattle.numbers.specs.Promises.{toldAt}
 use Rattle.numbers.proofs.Promises as Numbers
 use Rattle.text.specs.Text.{space, newline, decimal, hex, field}
 use Rattle.text.proofs.DigitLaws.{length-hex, length-below, length-decimal, length-field}
-use Rattle.phrases.specs.Phrases.{bytes, counted}
-use Rattle.phrases.proofs.SizeLaws.{length-word}
+use Rattle.text.specs.Phrases.{bytes, counted}
+use Rattle.text.proofs.SizeLaws.{length-word}
 use Rattle.trace.specs.Promises.{Reads, Along}
 use Rattle.trace.specs.Steps.{numbersOf}
 use Rattle.trace.specs.Trace.{Trace, stepsFrom}
 use Rattle.trace.proofs.Promises as Traces
 use Rattle.kinds.specs.Kinds.{wanted, tellsPrivilege}
-use Rattle.machine_record.specs.declared.Machine.{Machine}
+use Rattle.machine.specs.declared.record.Machine.{Machine}
 use Rattle.machine.specs.declared.Answer.{Answer}
 use Rattle.machine.specs.Steps.{step}
 use Rattle.beginning.specs.declared.Begun.{Begun}
 use Rattle.beginning.specs.Begin.{beginOf}
-use Rattle.reports.specs.Play.{recordsFrom, recordsOf}
-use Rattle.reports.proofs.PlayLaws.{records-limited}
+use Rattle.beginning.specs.Play.{recordsFrom, recordsOf}
+use Rattle.beginning.proofs.PlayLaws.{records-limited}
 use Rattle.register_words.specs.Registers.{placeWords, fieldWords, limitWords}
 use Rattle.register_words.proofs.RegisterLaws.{place-length, field-length, limit-length}
 use Rattle.deeds.specs.Deeds.{deedWords, outputWords}

@@ -19,7 +19,7 @@ use Rattle.text.specs.Text.{space, hexDigit, hexOf, field, write}
 use Rattle.text.proofs.DigitLaws.{length-hex, length-field}
 use Rattle.text.proofs.Promises as Text
 use Rattle.text.proofs.WriteLaws.{and-then, rest-of, nothing}
-use Rattle.phrases.specs.Phrases.{bytes}
+use Rattle.text.specs.Phrases.{bytes}
 use Rattle.kinds.specs.Kinds.{Each, byKind, wanted}
 use Rattle.kinds.proofs.KindLaws.{KindOf, kind-of, isAic, isCore, isCic, isAintc, isIndexed, isNone, at-aic, at-core, at-cic, at-aintc, at-indexed, at-none}
 use Rattle.explain.specs.Stated.{offsetDigits, hexField, fields, kindWord, numbersAt, controller, privilegeField, readStated, writeStated, lineStated, statedBy, stated, gap, toColumn}

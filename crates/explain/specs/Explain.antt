@@ -10,14 +10,14 @@ use Rattle.steps.specs.declared.Step.{Step}
 use Rattle.steps.specs.declared.Step.the-variants.{Read, Write, Line}
 use Rattle.numbers.specs.Promises.{toldAt}
 use Rattle.text.specs.Text.{newline, hex, decimal, field}
-use Rattle.phrases.specs.Phrases.{bytes, counted}
+use Rattle.text.specs.Phrases.{bytes, counted}
 use Rattle.trace.specs.Trace.{Trace}
 use Rattle.kinds.specs.Kinds.{byKind, wanted, tellsPrivilege}
-use Rattle.machine_record.specs.declared.Machine.{Machine}
+use Rattle.machine.specs.declared.record.Machine.{Machine}
 use Rattle.machine.specs.declared.Answer.{Answer}
 use Rattle.machine.specs.Steps.{step}
 use Rattle.beginning.specs.Begin.{beginOf}
-use Rattle.reports.specs.Play.{recordsOf}
+use Rattle.beginning.specs.Play.{recordsOf}
 use Rattle.register_words.specs.Registers.{placeWords, fieldWords, limitWords}
 use Rattle.deeds.specs.Deeds.{deedWords, outputWords}
 use Rattle.explain.specs.declared.Window.{Window}

@@ -9,16 +9,16 @@ use lib.ListN.{length, replicate}
 use Rattle.steps.specs.declared.Recorded.{Recorded}
 use Rattle.steps.specs.declared.Step.the-variants.{Read, Write, Line}
 use Rattle.text.specs.Text.{hexOf, hex, decimal, field}
-use Rattle.phrases.specs.Phrases.{bytes}
+use Rattle.text.specs.Phrases.{bytes}
 use Rattle.numbers.specs.Promises.{toldAt}
 use Rattle.trace.specs.Promises.{made}
 use Rattle.trace.specs.Steps.{numbersOf}
 use Rattle.kinds.specs.Kinds.{wanted, tellsPrivilege}
-use Rattle.machine_record.specs.declared.Machine.{Machine}
+use Rattle.machine.specs.declared.record.Machine.{Machine}
 use Rattle.machine.specs.declared.Answer.{Answer}
 use Rattle.machine.specs.Steps.{step}
 use Rattle.beginning.specs.Begin.{beginOf}
-use Rattle.reports.specs.Play.{recordsOf}
+use Rattle.beginning.specs.Play.{recordsOf}
 use Rattle.register_words.specs.Registers.{placeWords, fieldWords, limitWords}
 use Rattle.deeds.specs.Deeds.{deedWords, outputWords}
 use Rattle.explain.specs.Stated.{hexField, numbersAt, controller, stated, toColumn}

@@ -10,7 +10,7 @@ use Rattle.steps.specs.declared.Step.{Step}
 use Rattle.steps.specs.declared.Step.the-variants.{Read, Write, Line}
 use Rattle.numbers.specs.Promises.{toldAt}
 use Rattle.text.specs.Text.{space, hexOf, field}
-use Rattle.phrases.specs.Phrases.{bytes}
+use Rattle.text.specs.Phrases.{bytes}
 use Rattle.kinds.specs.Kinds.{byKind}
 
 -- ---- numbers

@@ -11,7 +11,7 @@ ghost use Rattle.numbers.specs.Number.{told};
 ghost use Rattle.text.specs.Text.{space, write, laid, hexDigit, hexOf};
 ghost use Rattle.trace.specs.Trace.{stepsFrom};
 ghost use Rattle.kinds.specs.Kinds.{wanted, tellsPrivilege};
-ghost use Rattle.machine_record.specs.Promises.{Ready};
+ghost use Rattle.machine.specs.RecordPromises.{Ready};
 ghost use Rattle.machine.specs.Steps.{step};
 ghost use Rattle.beginning.specs.Begin.{beginOf};
 ghost use Rattle.explain.specs.Stated.{offsetDigits, hexField, fields, kindWord, numbersAt, controller, privilegeField, readStated, writeStated, lineStated, statedBy, stated, gap, toColumn};
@@ -19,7 +19,7 @@ ghost use Rattle.explain.specs.Explain.{commented, cicDocument, document
 ghost use Rattle.explain.specs.Explain.{endReason, endLine, shows, linesFrom, endOf, textFrom, headOf, startedText, explainedBy, explainedOf, explainedWindow};
 use beginning::Begun;
 use machine::Answer;
-use machine_record::Machine;
+use machine::record::Machine;
 use numbers::Number;
 use steps::Recorded;
 use steps::Step;
@@ -525,7 +525,7 @@ fn put_value(out: &mut [u8], at: usize, value: u32) -> usize
 fn put_refused(out: &mut [u8], at: usize, m: Machine, x: Recorded, refusal: u32) -> usize
     ensures { λ r. ⌜ (now (out .exit), r) ≡ write (now (out .entry), at) (refusedWords m x refusal) ⌝ }
 {
-    let a = phrases::put_counted(out, at, b" refused by ", refusal);
+    let a = text::phrases::put_counted(out, at, b" refused by ", refusal);
     let b = text::put_all(out, a, b": ");
     put_reason(out, b, m, x, refusal)
 }

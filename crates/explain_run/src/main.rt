@@ -37,7 +37,7 @@ fn main() {
 fn argument(i: usize) -> u32 {
     let mut typed = [0u8; 16];
     let n = os::arg(i, &mut typed);
-    arguments::number(&typed[..n])
+    text::arguments::number(&typed[..n])
 }
 
 // Whether there are arguments that are no window.

@@ -5,12 +5,12 @@ ghost use mathlib.Core.Path.{_≡_};
 ghost use mathlib.Core.List.{[], _∷_};
 ghost use Prim.Native.Nat.{ℕ};
 ghost use Rattle.text.specs.Text.{laid};
-ghost use Rattle.reports.specs.Play.{playOf};
+ghost use Rattle.beginning.specs.Play.{playOf};
 ghost use Rattle.lines.specs.Listing.{listingOf};
-ghost use Rattle.play_looked.specs.After.{wordsAfter};
+ghost use Rattle.player.specs.After.{wordsAfter};
 ghost use Rattle.tally.specs.Tally.{tallyOf};
 ghost use Rattle.aic_bounds.specs.Bounds.{boundOf};
-ghost use Rattle.aic_wait_figures.specs.Figures.{largestNow};
+ghost use Rattle.aic_bounds.specs.Figures.{largestNow};
 ghost use Rattle.trace_bounds.specs.Figures.{figuresIn, countsOf, termsOf};
 ghost use Rattle.tables.specs.Reading.{answerTo};
 ghost use Rattle.encode.specs.Encode.{encoded};
@@ -18,7 +18,7 @@ ghost use Rattle.explain.specs.Explain.{explainedOf, explainedWindow};
 ghost use Rattle.coreinterrupt_lent.specs.Lent.{leftBy, startOver, stepTold};
 ghost use Rattle.steps.specs.Refusals.{privileged};
 ghost use Rattle.steps.specs.declared.Step.the-variants.{Read, Write, Line};
-ghost use Rattle.turns.specs.Turns.{made};
+ghost use Rattle.trace.specs.Turns.{made};
 ghost use Rattle.controller.specs.Batch.{stepsIn, SteppedAll};
 ghost use Rattle.controller.specs.Controller.{numbered, Started, Stepped, Showing, shownIn};
 
@@ -82,7 +82,7 @@ pub extern "C" fn wisteria_offset(trace: &[u8], limit: u32) -> usize
 pub extern "C" fn wisteria_looked(trace: &[u8], limit: u32, offset: u32) -> u32
     ensures { λ r. ⌜ r ≡ wordsAfter (now (trace .entry)) limit offset ⌝ }
 {
-    play_looked::words_after(trace, limit, offset)
+    player::looked::words_after(trace, limit, offset)
 }
 
 // Writes what each of the 32 sources of an AIC did over the steps played to the lent arrays, source 0 first: the handlers started; the most handlers of

@@ -22,9 +22,9 @@ use Rattle.cic_record.specs.declared.Host.{Host}
 use Rattle.cic_record.specs.Kinds.{channelNumber}
 use Rattle.cic_record.specs.Sound.{entrySound, sound}
 use Rattle.cic_record.proofs.PartsLaws.{sound-parts, sound-counts}
-use Rattle.cic_indices.specs.Order.{noneWord, pendingIn, busy, firstIn, leads, indexOf}
-use Rattle.cic_indices.proofs.IndexLaws.{passes, first-parts, found-channel, found-no-channel}
-use Rattle.cic_laid.specs.Room.{active, ofChannel, ofHost, someWord}
+use Rattle.cic_held.specs.Order.{noneWord, pendingIn, busy, firstIn, leads, indexOf}
+use Rattle.cic_held.proofs.IndexLaws.{passes, first-parts, found-channel, found-no-channel}
+use Rattle.cic_room.specs.Room.{active, ofChannel, ofHost, someWord}
 use Rattle.indexed_room.specs.Search.{Asked}
 
 -- ---- counts

@@ -22,8 +22,8 @@ use Rattle.cic_record.specs.declared.Host.{Host}
 use Rattle.cic_record.specs.Kinds.{system, channelNumber}
 use Rattle.cic_record.specs.Sound.{sound}
 use Rattle.cic_record.proofs.PartsLaws.{sound-parts, sound-counts}
-use Rattle.cic_indices.specs.Order.{noneWord, pendingIn, busy, firstIn, indexOf}
-use Rattle.cic_indices.proofs.SearchLaws.{found-here}
+use Rattle.cic_held.specs.Order.{noneWord, pendingIn, busy, firstIn, indexOf}
+use Rattle.cic_held.proofs.SearchLaws.{found-here}
 use Rattle.cic_held.specs.declared.Prioritised.{Prioritised}
 use Rattle.rooms.proofs.PartLaws.{made-get}
 use Rattle.indexed_room.specs.Marks.{Marks}

@@ -13,9 +13,9 @@ use Rattle.rooms.specs.Parts.{Sized, place}
 use Rattle.rooms.proofs.PartLaws.{part-get, part-set, made-length, made-get}
 use Rattle.cic_record.specs.declared.Cic.{Cic}
 use Rattle.cic_record.specs.Promises.{Shaped}
-use Rattle.cic_maps.specs.Maps.{mapRead}
-use Rattle.cic_maps.proofs.Promises as maps
-use Rattle.cic_laid.specs.Room.{Frame, Framed, activeWord, ofChannel, ofHost, someWord, shownWord, permitted, ifKept, parts, sizes, laid, Laid}
+use Rattle.cic_registers.specs.Maps.{mapRead}
+use Rattle.cic_registers.proofs.MapsPromises as maps
+use Rattle.cic_room.specs.Room.{Frame, Framed, activeWord, ofChannel, ofHost, someWord, shownWord, permitted, ifKept, parts, sizes, laid, Laid}
 use Rattle.indexed_room.specs.Marks.{Marks}
 use Rattle.indexed_room.specs.Room.{withKind, withIndex, withHeld, withWords}
 

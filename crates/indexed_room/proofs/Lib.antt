@@ -7,4 +7,5 @@ pub mod HoldLaws
 pub mod Promises
 pub mod ReplyLaws
 pub mod StepLaws
+pub mod TransferLaws
 pub mod WordLaws

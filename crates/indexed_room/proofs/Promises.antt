@@ -14,8 +14,8 @@ use Rattle.words.proofs.CountingLaws.{any-some, some-any}
 use Rattle.words.proofs.WordLaws.{bit-wordOf}
 use Rattle.rooms.proofs.PartLaws.{made-length, made-get}
 use Rattle.cic_record.specs.declared.Cic.{Cic}
-use Rattle.cic_laid.specs.Room.{laid}
-use Rattle.cic_laid.proofs.Promises as cic
+use Rattle.cic_room.specs.Room.{laid}
+use Rattle.cic_room.proofs.Promises as cic
 use Rattle.cic_held.specs.declared.Held.{Held}
 use Rattle.cic_held.specs.declared.Prioritised.{Prioritised}
 use Rattle.cic_held.specs.Held.{prioritised, heldOf}

@@ -15,7 +15,7 @@ use Rattle.steps.specs.Refusals.{carriedOut, readRefusal, writeRefusal}
 use Rattle.rooms.specs.Reply.{Reply, reply}
 use Rattle.cic_record.specs.declared.Host.{Host}
 use Rattle.cic_record.specs.Kinds.{hostNumber}
-use Rattle.cic_indices.specs.Order.{noneWord, indexOf}
+use Rattle.cic_held.specs.Order.{noneWord, indexOf}
 use Rattle.cic_held.specs.declared.Answer.{Answer}
 use Rattle.cic_held.specs.declared.Prioritised.{Prioritised}
 use Rattle.cic_held.specs.Held.{prioritised, withGlobal, withHosts, sound, controlled}

@@ -22,7 +22,7 @@ use Rattle.rooms.proofs.PartLaws.{made-length, made-get}
 use Rattle.cic_record.specs.declared.Channel.{Channel}
 use Rattle.cic_record.specs.declared.Cic.{Cic}
 use Rattle.cic_record.specs.Kinds.{channelNumber}
-use Rattle.cic_laid.specs.Room.{Frame, Laid}
+use Rattle.cic_room.specs.Room.{Frame, Laid}
 use Rattle.indexed_room.specs.Marks.{Marks}
 use Rattle.indexed_room.specs.Room.{Renewing, withWords}
 use Rattle.indexed_room.specs.Words.{inWord, wordsOf, Written, oneOf, Right}

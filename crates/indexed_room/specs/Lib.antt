@@ -1,4 +1,5 @@
 -- The CIC with prioritised indices in a room.
+pub mod Entered
 pub mod Marks
 pub mod Promises
 pub mod Reply

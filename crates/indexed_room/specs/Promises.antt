@@ -7,7 +7,7 @@ use mathlib.Core.Path.{_≡_}
 use lib.ListN.{length, getD}
 use Rattle.words.specs.Word.{bit}
 use Rattle.cic_record.specs.Promises.{Shaped}
-use Rattle.cic_laid.specs.Room.{Bytes}
+use Rattle.cic_room.specs.Room.{Bytes}
 use Rattle.cic_held.specs.declared.Prioritised.{Prioritised}
 use Rattle.indexed_room.specs.Room.{Laid}
 

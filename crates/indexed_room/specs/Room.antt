@@ -5,8 +5,8 @@ use mathlib.Core.List.{List, [], _∷_}
 use Rattle.rooms.specs.Parts.{made}
 use Rattle.cic_record.specs.declared.Cic.{Cic}
 use Rattle.cic_held.specs.declared.Prioritised.{Prioritised}
-use Rattle.cic_laid.specs.Room.{Frame}
-use Rattle.cic_laid.specs.Room as cic
+use Rattle.cic_room.specs.Room.{Frame}
+use Rattle.cic_room.specs.Room as cic
 use Rattle.indexed_room.specs.Words.{wordsOf, Right}
 
 -- the frame: kind 4, and all that can be kept is; the choice, the hold mode and what is held for the global index; what is held for each host's; and

@@ -8,8 +8,8 @@ use Rattle.words.specs.Word.{bit}
 use Rattle.cic_record.specs.declared.Cic.{Cic}
 use Rattle.cic_record.specs.declared.Host.{Host}
 use Rattle.cic_record.specs.Kinds.{channelNumber}
-use Rattle.cic_indices.specs.Order.{busy, leads}
-use Rattle.cic_laid.specs.Room.{activeWord}
+use Rattle.cic_held.specs.Order.{busy, leads}
+use Rattle.cic_room.specs.Room.{activeWord}
 
 -- bit i of x tells whether system interrupt 32 * w + i is set and enabled and its channel is k
 pub record Lit (c : Cic) (k w x : ℕ) : Type 0 where

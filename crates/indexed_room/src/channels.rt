@@ -10,13 +10,13 @@ ghost use Rattle.words.specs.Word.{bit};
 ghost use Rattle.rooms.specs.Parts.{made};
 ghost use Rattle.cic_record.specs.declared.Cic.{Cic};
 ghost use Rattle.cic_record.specs.Kinds.{channelNumber};
-ghost use Rattle.cic_laid.specs.Room.{Frame, Laid};
+ghost use Rattle.cic_room.specs.Room.{Frame, Laid};
 ghost use Rattle.indexed_room.specs.Room.{Renewing, withWords};
 ghost use Rattle.indexed_room.specs.Words.{inWord, wordsOf, Written, oneOf};
 use super::search::members;
-use cic_laid::CHANNEL_MAP;
-use cic_laid::WORDS;
 use cic_record::Channel;
+use cic_room::laid::CHANNEL_MAP;
+use cic_room::laid::WORDS;
 use rooms::Room;
 
 // Whether a word has any bit.
@@ -60,7 +60,7 @@ fn replace(room: &mut Room, w: u32, from: Channel, to: Channel)
 }
 
 // Byte j of a word of the channel map, the lowest being byte 0.
-pub fn channel_in(w: u32, j: u32) -> Channel
+pub(crate) fn channel_in(w: u32, j: u32) -> Channel
     requires { ⌜ j < 4 ⌝ }
     ensures { λ r. ⌜ (r ≡ channelNumber (byteOf w j)) × (r .0 < 256) ⌝ }
 {

@@ -5,14 +5,14 @@ ghost use Prim.Native.Nat.{_<_};
 ghost use lib.ListN.{set};
 ghost use Rattle.words.specs.Array.{restAt};
 ghost use Rattle.words.specs.Choice.{pick};
-ghost use Rattle.cic_indices.specs.Order.{noneWord};
+ghost use Rattle.cic_held.specs.Order.{noneWord};
 ghost use Rattle.cic_held.specs.declared.Prioritised.{Prioritised};
 ghost use Rattle.cic_held.specs.Held.{prioritised, nothingHeld, withGlobal, withHosts, heldAs, wordHeld, freedHosts, controlled};
 ghost use Rattle.cic_indexed.specs.Registers.{afterHost, hostsWritten, heldAfter};
 ghost use Rattle.indexed_room.specs.Room.{Laid};
-use cic_laid::HELD;
-use cic_laid::HOSTS;
 use cic_record::Host;
+use cic_room::laid::HELD;
+use cic_room::laid::HOSTS;
 use rooms::Room;
 
 // Whether prioritisation is chosen, whether a read of an index holds it, and what is held for the global index.
@@ -29,7 +29,7 @@ pub(crate) fn word_held(x: u32) -> u32
     ensures { λ r. ⌜ r ≡ wordHeld x ⌝ }
 {
     if x == 1 {
-        return cic_indices::NONE;
+        return cic_held::indices::NONE;
     }
     if x < 2 {
         return 0;
@@ -41,7 +41,7 @@ pub(crate) fn word_held(x: u32) -> u32
 pub(crate) fn held_as(word: u32) -> u32
     ensures { λ r. ⌜ ((word ≢ noneWord → word < 65534) → r ≡ heldAs word) ⌝ }
 {
-    if word == cic_indices::NONE {
+    if word == cic_held::indices::NONE {
         return 1;
     }
     word % 65534 + 2

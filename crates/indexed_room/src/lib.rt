@@ -2,8 +2,8 @@
 ghost use mathlib.Core.Path.{_≡_};
 ghost use mathlib.Core.Bool.{true};
 ghost use Rattle.rooms.specs.Reply.{told};
-ghost use Rattle.turns.specs.Turns.{stepOf};
-ghost use Rattle.cic_steps.specs.Model.{writeAs as cicWriteAs};
+ghost use Rattle.trace.specs.Turns.{stepOf};
+ghost use Rattle.cic_registers.specs.Model.{writeAs as cicWriteAs};
 ghost use Rattle.cic_held.specs.declared.Prioritised.{Prioritised};
 ghost use Rattle.cic_held.specs.Held.{sound};
 ghost use Rattle.cic_indexed.specs.declared.Own.the-variants.{Elsewhere};
@@ -15,10 +15,11 @@ pub mod channels;
 pub mod holds;
 pub mod own;
 mod search;
+pub mod transfer;
 
 use cic_indexed::Own;
-use cic_laid::CHANNEL_MAP;
 use cic_record::Signals;
+use cic_room::laid::CHANNEL_MAP;
 use holds::CHOICE;
 use holds::MODE;
 use rooms::Room;

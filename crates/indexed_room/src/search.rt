@@ -4,21 +4,21 @@ ghost use Prim.Native.Nat.{_+_, _*_, _/_, _%_, _<_, _≤_};
 ghost use mathlib.Core.Bool.{true};
 ghost use Rattle.words.specs.Counting.{one};
 ghost use Rattle.cic_record.specs.Kinds.{system};
-ghost use Rattle.cic_indices.specs.Order.{busy, firstIn, indexOf};
+ghost use Rattle.cic_held.specs.Order.{busy, firstIn, indexOf};
 ghost use Rattle.cic_held.specs.declared.Prioritised.{Prioritised};
 ghost use Rattle.cic_held.specs.Held.{sound};
 ghost use Rattle.indexed_room.specs.Marks.{Marks};
 ghost use Rattle.indexed_room.specs.Room.{Laid};
 ghost use Rattle.indexed_room.specs.Search.{Lit, Asked};
-use cic_laid::ACTIVE;
-use cic_laid::BUSY;
-use cic_laid::CHANNEL_MAP;
-use cic_laid::HOST_MAP;
-use cic_laid::OF_HOST;
-use cic_laid::WORDS;
 use cic_record::Channel;
 use cic_record::Host;
 use cic_record::System;
+use cic_room::laid::ACTIVE;
+use cic_room::laid::BUSY;
+use cic_room::laid::CHANNEL_MAP;
+use cic_room::laid::HOST_MAP;
+use cic_room::laid::OF_HOST;
+use cic_room::laid::WORDS;
 use rooms::Room;
 
 // A word as it is, whose size is known.
@@ -134,7 +134,7 @@ pub(crate) fn index(room: &Room, every: bool, h: Host) -> u32
     ensures { λ r. ⌜ ((p : Prioritised) → sound p ≡ true → Laid p (now (room .entry)) → r ≡ indexOf (p .cic) every h) ⌝ }
 {
     if !every & (room[OF_HOST + h.0 as usize] == 0) {
-        return cic_indices::NONE;
+        return cic_held::indices::NONE;
     }
     let mut w: u32 = 0;
     while w < 8 {
@@ -146,5 +146,5 @@ pub(crate) fn index(room: &Room, every: bool, h: Host) -> u32
         }
         w = w + 1;
     }
-    cic_indices::NONE
+    cic_held::indices::NONE
 }

@@ -7,13 +7,13 @@ use lib.Bits.{bitOr, or-add-and, and-le-l, and-le-r}
 use lib.ListN.{length, length-append}
 use Rattle.text.specs.Text.{space, newline, hex, decimal, field, write}
 use Rattle.text.proofs.DigitLaws.{length-hex, decimal-last}
-use Rattle.text_room.specs.Bytes.{bytesOf}
-use Rattle.text_room.proofs.BytesLaws.{length-bytes, bytes-parts, bytes-first, bytes-low}
-use Rattle.text_room.specs.declared.Numeral.{Numeral}
-use Rattle.text_room.specs.Numeral.{numeralOf}
-use Rattle.text_room.proofs.NumeralLaws.{numeral-text}
-use Rattle.text_room.proofs.OverLaws.{over}
-use Rattle.machine_record.specs.declared.Columns.{Columns}
+use Rattle.text.specs.Bytes.{bytesOf}
+use Rattle.text.proofs.BytesLaws.{length-bytes, bytes-parts, bytes-first, bytes-low}
+use Rattle.text.specs.declared.room.Numeral.{Numeral}
+use Rattle.text.specs.Numeral.{numeralOf}
+use Rattle.text.proofs.NumeralLaws.{numeral-text}
+use Rattle.text.proofs.OverLaws.{over}
+use Rattle.machine.specs.declared.record.Columns.{Columns}
 use Rattle.lines.specs.Behind.{behind}
 use Rattle.lines.specs.Listing.{lineOf}
 

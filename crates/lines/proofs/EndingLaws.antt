@@ -18,15 +18,15 @@ use Rattle.steps.specs.declared.Recorded.{Recorded}
 use Rattle.steps.specs.declared.Step.{Step}
 use Rattle.steps.specs.declared.Step.the-variants.{Read, Write, Line}
 use Rattle.text.specs.Text.{newline, hexDigit, hexOf, decimalOf, field}
-use Rattle.machine_record.specs.declared.Columns.{Columns}
-use Rattle.machine_record.specs.declared.Machine.{Machine}
+use Rattle.machine.specs.declared.record.Columns.{Columns}
+use Rattle.machine.specs.declared.record.Machine.{Machine}
 use Rattle.kinds.specs.Kinds.{isKind, name}
 use Rattle.kinds.specs.Promises.{endings}
 use Rattle.kinds.proofs.Promises.{kept as kinds}
-use Rattle.machine_record.specs.Machine.{sound}
-use Rattle.machine_record.specs.Shown.{shown}
+use Rattle.machine.specs.Machine.{sound}
+use Rattle.machine.specs.Shown.{shown}
 use Rattle.machine.specs.Steps.{step}
-use Rattle.machine_record.proofs.Promises.{kept as machine}
+use Rattle.machine.proofs.RecordPromises.{kept as machine}
 use Rattle.lines.specs.Listing.{letterOf, letter, shownValue, lineOf, stepLine, linesFrom, joined, endLine, endOf}
 
 -- ---- bytes

@@ -17,17 +17,17 @@ use Rattle.trace.specs.declared.Turn.the-variants.{Found, Ended}
 use Rattle.trace.specs.Steps.{readKind, writeKind, lineKind}
 use Rattle.trace.specs.Trace.{Trace, ends, after, turnAt, stepsFrom}
 use Rattle.trace.proofs.TraceLaws.{trace-ended, trace-found}
-use Rattle.turns.specs.Turns.{stepOf}
+use Rattle.trace.specs.Turns.{stepOf}
 use Rattle.machine.specs.declared.Answer.{Answer}
-use Rattle.machine_record.specs.declared.Columns.{Columns}
-use Rattle.machine_record.specs.declared.Machine.{Machine}
+use Rattle.machine.specs.declared.record.Columns.{Columns}
+use Rattle.machine.specs.declared.record.Machine.{Machine}
 use Rattle.kinds.specs.Kinds.{name, tellsPrivilege}
-use Rattle.machine_record.specs.Shown.{shown}
+use Rattle.machine.specs.Shown.{shown}
 use Rattle.machine.specs.Steps.{step}
 use Rattle.beginning.specs.declared.Begun.{Begun}
 use Rattle.beginning.specs.Begin.{beginOf}
-use Rattle.reports.specs.Play.{recordsFrom}
-use Rattle.reports.proofs.PlayLaws.{records-begun, records-refused}
+use Rattle.beginning.specs.Play.{recordsFrom}
+use Rattle.beginning.proofs.PlayLaws.{records-begun, records-refused}
 use Rattle.lines.specs.Listing.{letterOf, letter, letterBy, shownValue, lineOf, stepLine, linesFrom, joined, endOf, textFrom, nameLine, listingOf}
 
 -- nothing follows

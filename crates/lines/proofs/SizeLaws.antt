@@ -13,18 +13,18 @@ use Rattle.steps.specs.declared.Recorded.{Recorded}
 use Rattle.text.specs.Text.{field}
 use Rattle.text.proofs.DigitLaws.{length-hex, length-below, length-field}
 use Rattle.trace.specs.Trace.{Trace}
-use Rattle.machine_record.specs.declared.Columns.{Columns}
-use Rattle.machine_record.specs.declared.Machine.{Machine}
+use Rattle.machine.specs.declared.record.Columns.{Columns}
+use Rattle.machine.specs.declared.record.Machine.{Machine}
 use Rattle.kinds.proofs.Promises.{kept as kinds}
-use Rattle.machine_record.specs.Promises.{Ready, Small}
-use Rattle.machine_record.specs.Shown.{shown}
+use Rattle.machine.specs.RecordPromises.{Ready, Small}
+use Rattle.machine.specs.Shown.{shown}
 use Rattle.machine.specs.Steps.{step}
-use Rattle.machine_record.proofs.ShownLaws.{small}
+use Rattle.machine.proofs.ShownLaws.{small}
 use Rattle.machine.proofs.StepLaws.{step-ready}
 use Rattle.beginning.specs.declared.Begun.{Begun}
 use Rattle.beginning.specs.Begin.{beginOf}
-use Rattle.reports.specs.Play.{recordsOf}
-use Rattle.reports.proofs.PlayLaws.{records-limited}
+use Rattle.beginning.specs.Play.{recordsOf}
+use Rattle.beginning.proofs.PlayLaws.{records-limited}
 use Rattle.beginning.proofs.BeginningLaws.{begin-ready}
 use Rattle.lines.specs.Listing.{letter, shownValue, lineOf, stepLine, linesFrom, joined, endLine, endOf, textFrom, nameLine, listingOf}
 use Rattle.lines.proofs.LineLaws.{listing-refused}

@@ -9,15 +9,15 @@ ghost use lib.ListN.{length};
 ghost use Rattle.words.specs.Choice.{pick};
 ghost use Rattle.steps.specs.Refusals.{carriedOut};
 ghost use Rattle.text.specs.Text.{space, write};
-ghost use Rattle.text_room.specs.Bytes.{bytesOf};
-ghost use Rattle.text_room.specs.Numeral.{numeralOf};
+ghost use Rattle.text.specs.Bytes.{bytesOf};
+ghost use Rattle.text.specs.Numeral.{numeralOf};
 ghost use Rattle.lines.specs.Behind.{behind};
 ghost use Rattle.lines.specs.Listing.{letterOf, letter, letterOfKind, letterBy, shownValue, lineOf, endLine, endOf};
-use machine_record::Columns;
+use machine::record::Columns;
 use steps::Step;
 use text::NEWLINE;
 use text::SPACE;
-use text_room::Numeral;
+use text::room::Numeral;
 
 // The line of a step: its number, its letter, the value in eight digits, and the machine's three numbers. Byte by byte: what finds no room is dropped.
 pub fn put_line(out: &mut [u8], at: usize, n: u32, letter: u8, value: u32, c: Columns) -> usize
@@ -99,7 +99,7 @@ fn numbered_in(
     requires { ⌜ (at + 55 ≤ length (now out)) × (width ≤ 8) ⌝ }
     ensures { λ r. ⌜ (now (out .exit), r) ≡ write (now (out .entry), at) (bytesOf width digits ++ behind letter value c) ⌝ }
 {
-    text_room::word_in(out, at, digits);
+    text::room::word_in(out, at, digits);
     behind_in(out, at + width, letter, value, c)
 }
 
@@ -119,11 +119,11 @@ fn short_in(out: &mut [u8], at: usize, letter: u8, value: u32, c: Columns) -> us
     requires { ⌜ (at + 18 ≤ length (now out)) × (bitOr (bitOr (c .first) (c .second)) (c .third) < 8) ⌝ }
     ensures { λ r. ⌜ (now (out .exit), r) ≡ write (now (out .entry), at) (behind letter value c) ⌝ }
 {
-    let w = text_room::digits(value);
-    let a = text_room::word_in(out, at, opening(letter, w));
-    let b = text_room::word_in(out, a, middle(w, c.first, c.second));
-    let d = text_room::put_in(out, b, (c.third + 48) as u8);
-    text_room::put_in(out, d, NEWLINE)
+    let w = text::room::digits(value);
+    let a = text::room::word_in(out, at, opening(letter, w));
+    let b = text::room::word_in(out, a, middle(w, c.first, c.second));
+    let d = text::room::put_in(out, b, (c.third + 48) as u8);
+    text::room::put_in(out, d, NEWLINE)
 }
 
 // A space, the letter, a space, and the first five of eight digits.
@@ -149,14 +149,14 @@ fn long_in(out: &mut [u8], at: usize, letter: u8, value: u32, c: Columns) -> usi
     requires { ⌜ at + 45 ≤ length (now out) ⌝ }
     ensures { λ r. ⌜ (now (out .exit), r) ≡ write (now (out .entry), at) (behind letter value c) ⌝ }
 {
-    let a = text_room::put_in(out, at, SPACE);
-    let b = text_room::put_in(out, a, letter);
-    let d = text_room::put_in(out, b, SPACE);
-    let e = text_room::hex_in(out, d, value);
-    let f = text_room::field_in(out, e, c.first);
-    let g = text_room::field_in(out, f, c.second);
-    let h = text_room::field_in(out, g, c.third);
-    text_room::put_in(out, h, NEWLINE)
+    let a = text::room::put_in(out, at, SPACE);
+    let b = text::room::put_in(out, a, letter);
+    let d = text::room::put_in(out, b, SPACE);
+    let e = text::room::hex_in(out, d, value);
+    let f = text::room::field_in(out, e, c.first);
+    let g = text::room::field_in(out, f, c.second);
+    let h = text::room::field_in(out, g, c.third);
+    text::room::put_in(out, h, NEWLINE)
 }
 
 // The last line of a listing that ends with a refusal; nothing where there is none.

@@ -8,13 +8,13 @@ use Rattle.text.specs.Text.{hexDigit, hexOf, decimalOf, field}
 use Rattle.trace.specs.Steps.{operandsOf, twoNumbers, stepAt}
 use Rattle.trace.specs.Trace.{turnAt, stepsFrom}
 use Rattle.machine.specs.declared.Answer.{Answer}
-use Rattle.machine_record.specs.declared.Columns.{Columns}
-use Rattle.machine_record.specs.declared.Machine.{Machine}
-use Rattle.machine_record.specs.Promises.{Ready}
+use Rattle.machine.specs.declared.record.Columns.{Columns}
+use Rattle.machine.specs.declared.record.Machine.{Machine}
+use Rattle.machine.specs.RecordPromises.{Ready}
 use Rattle.machine.proofs.Computing.{aic-computes, core-computes, cic-computes, aintc-computes, cicQuick, cicSeen, cic-quick, cic-seen}
 use Rattle.machine.proofs.StepLaws.{step-ready}
 use Rattle.beginning.specs.Begin.{setupFrom, setupOf, bySetup, beginOf}
-use Rattle.reports.specs.Play.{recordsFrom, recordsOf}
+use Rattle.beginning.specs.Play.{recordsFrom, recordsOf}
 use Rattle.beginning.proofs.BeginningLaws.{begin-ready}
 use Rattle.lines.specs.Listing.{letter, shownValue, lineOf, stepLine, linesFrom, joined, endLine, endOf, textFrom, nameLine, listingOf}
 use Rattle.listing.specs.Promises.{aicTrace, aicText, coreTrace, coreText, cicTrace, cicText, aintcTrace, aintcText}

@@ -11,24 +11,24 @@ use Rattle.text.specs.Text.{hexDigit, hexOf, decimalOf, field}
 use Rattle.trace.specs.Steps.{operandsOf, twoNumbers, stepAt}
 use Rattle.trace.specs.Trace.{turnAt, stepsFrom}
 use Rattle.cic_hosts.specs.Hosts.{shown as cicShown}
-use Rattle.cic_indices.specs.Order.{pendingIn, busy, firstIn, channelFirst, indexOver, indexOf}
+use Rattle.cic_held.specs.Order.{pendingIn, busy, firstIn, channelFirst, indexOver, indexOf}
 use Rattle.cic_held.specs.Held.{heldAs, wordHeld, within, start, freedHosts, controlled}
 use Rattle.cic_indexed.specs.Registers.{ownAt, hostAccess, hostsWritten, heldAfter}
 use Rattle.cic_indexed.specs.Model.{readAs, writeAs, stepAs, outputs}
 use Rattle.machine.specs.declared.Answer.{Answer}
-use Rattle.machine_record.specs.declared.Columns.{Columns}
-use Rattle.machine_record.specs.declared.Machine.{Machine}
-use Rattle.machine_record.specs.Machine.{indexed, sound}
-use Rattle.machine_record.specs.Promises.{Ready}
-use Rattle.machine_record.specs.Shown.{cicColumns, shown}
-use Rattle.machine_record.proofs.MachineLaws.{sound-indexed}
-use Rattle.machine_record.proofs.ShownLaws.{indexed-shows}
+use Rattle.machine.specs.declared.record.Columns.{Columns}
+use Rattle.machine.specs.declared.record.Machine.{Machine}
+use Rattle.machine.specs.Machine.{indexed, sound}
+use Rattle.machine.specs.RecordPromises.{Ready}
+use Rattle.machine.specs.Shown.{cicColumns, shown}
+use Rattle.machine.proofs.MachineLaws.{sound-indexed}
+use Rattle.machine.proofs.ShownLaws.{indexed-shows}
 use Rattle.machine.specs.Steps.{afterIndexed, step}
 use Rattle.machine.proofs.Computing.{cic-computes}
 use Rattle.machine.proofs.StepLaws.{indexed-steps, step-ready}
 use Rattle.beginning.specs.Begin.{setupFrom, setupOf, bySetup, beginOf}
 use Rattle.beginning.proofs.BeginningLaws.{begin-ready}
-use Rattle.reports.specs.Play.{recordsFrom, recordsOf}
+use Rattle.beginning.specs.Play.{recordsFrom, recordsOf}
 use Rattle.lines.specs.Listing.{letter, shownValue, lineOf, stepLine, linesFrom, joined, endLine, endOf, textFrom, nameLine, listingOf}
 use Rattle.listing.specs.Indexed.{Alike, indexedTrace, indexedText}
 

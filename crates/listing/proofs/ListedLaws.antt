@@ -16,15 +16,15 @@ use Rattle.cic_record.proofs.Promises.{kept as cic}
 use Rattle.cic_held.proofs.Promises.{kept as held}
 use Rattle.kinds.specs.Kinds.{name, isKind, tellsPrivilege}
 use Rattle.kinds.proofs.Promises.{kept as kinds}
-use Rattle.machine_record.specs.declared.Machine.{Machine}
-use Rattle.machine_record.specs.Promises.{startWith}
-use Rattle.machine_record.proofs.Promises.{kept as record-kept}
+use Rattle.machine.specs.declared.record.Machine.{Machine}
+use Rattle.machine.specs.RecordPromises.{startWith}
+use Rattle.machine.proofs.RecordPromises.{kept as record-kept}
 use Rattle.beginning.specs.Asked.{Configures}
 use Rattle.beginning.specs.Begin.{beginOf}
 use Rattle.beginning.proofs.BeginningLaws.{begun}
 use Rattle.beginning.proofs.KnownLaws.{configured-so}
-use Rattle.reports.specs.Play.{recordsFrom, recordsOf, report, playOf}
-use Rattle.reports.proofs.PlayLaws.{records-begun}
+use Rattle.beginning.specs.Play.{recordsFrom, recordsOf, report, playOf}
+use Rattle.beginning.proofs.PlayLaws.{records-begun}
 use Rattle.lines.specs.Listing.{linesFrom, joined, endOf, textFrom, listingOf}
 use Rattle.lines.proofs.LineLaws.{listing-begun}
 use Rattle.listing.specs.Indexed.{Off, Alike, lastLine, SameBut}

@@ -7,13 +7,13 @@ use Rattle.steps.specs.declared.Recorded.{Recorded}
 use Rattle.trace.specs.Trace.{Trace}
 use Rattle.cic_record.specs.declared.Cic.{Cic}
 use Rattle.cic_hosts.specs.Hosts.{outputs as cicOutputs}
-use Rattle.cic_steps.specs.Model.{step as cicStep}
+use Rattle.cic_registers.specs.Model.{step as cicStep}
 use Rattle.cic_indexed.proofs.Promises.{kept as prioritised}
-use Rattle.machine_record.specs.declared.Machine.{Machine}
-use Rattle.machine_record.specs.Machine.{indexed, sound}
-use Rattle.machine_record.specs.Shown.{cicColumns, shown}
-use Rattle.machine_record.proofs.MachineLaws.{sound-indexed}
-use Rattle.machine_record.proofs.ShownLaws.{cic-shows, indexed-seen}
+use Rattle.machine.specs.declared.record.Machine.{Machine}
+use Rattle.machine.specs.Machine.{indexed, sound}
+use Rattle.machine.specs.Shown.{cicColumns, shown}
+use Rattle.machine.proofs.MachineLaws.{sound-indexed}
+use Rattle.machine.proofs.ShownLaws.{cic-shows, indexed-seen}
 use Rattle.machine.specs.declared.Answer.{Answer}
 use Rattle.machine.specs.Steps.{step}
 use Rattle.machine.proofs.StepLaws.{cic-steps, indexed-steps, indexed-off}

@@ -21,17 +21,17 @@ use Rattle.text.proofs.Promises.{kept as text}
 use Rattle.text.proofs.WriteLaws.{write-laid}
 use Rattle.trace.specs.Trace.{Trace}
 use Rattle.machine.specs.declared.Answer.{Answer}
-use Rattle.machine_record.specs.declared.Columns.{Columns}
-use Rattle.machine_record.specs.declared.Machine.{Machine}
+use Rattle.machine.specs.declared.record.Columns.{Columns}
+use Rattle.machine.specs.declared.record.Machine.{Machine}
 use Rattle.kinds.specs.Kinds.{name}
 use Rattle.kinds.specs.Promises.{endings}
-use Rattle.machine_record.specs.Shown.{shown}
+use Rattle.machine.specs.Shown.{shown}
 use Rattle.machine.specs.Steps.{step}
 use Rattle.beginning.specs.declared.Begun.{Begun}
-use Rattle.reports.specs.declared.Played.{Played}
+use Rattle.beginning.specs.declared.reports.Played.{Played}
 use Rattle.beginning.specs.Begin.{beginOf}
-use Rattle.reports.specs.Play.{recordsOf, runOf, report, playOf}
-use Rattle.reports.proofs.PlayLaws.{records-begun}
+use Rattle.beginning.specs.Play.{recordsOf, runOf, report, playOf}
+use Rattle.beginning.proofs.PlayLaws.{records-begun}
 use Rattle.player.proofs.Promises.{kept as player}
 use Rattle.beginning.proofs.BeginningLaws.{begin-ready}
 use Rattle.lines.specs.Listing.{letterOf, letter, shownValue, lineOf, stepLine, linesFrom, joined, endLine, endOf, textFrom, listingOf}

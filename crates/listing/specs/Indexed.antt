@@ -6,9 +6,9 @@ use mathlib.Core.List.{List, [], _∷_, _++_}
 use lib.ListN.{length}
 use Rattle.cic_record.specs.Promises.{InRange}
 use Rattle.trace.specs.Promises.{Reads}
-use Rattle.machine_record.specs.declared.Machine.{Machine}
-use Rattle.machine_record.specs.Machine.{sound}
-use Rattle.reports.specs.Play.{playOf}
+use Rattle.machine.specs.declared.record.Machine.{Machine}
+use Rattle.machine.specs.Machine.{sound}
+use Rattle.beginning.specs.Play.{playOf}
 use Rattle.lines.specs.Listing.{endOf, listingOf}
 
 -- one machine is a sound CIC of kind 4 with its choice off, and the other the same CIC of kind 2 (02, 6/12)

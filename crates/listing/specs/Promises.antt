@@ -15,14 +15,14 @@ use Rattle.text.specs.Text.{hex, decimal, laid}
 use Rattle.kinds.specs.Kinds.{name}
 use Rattle.kinds.specs.Promises.{endings}
 use Rattle.machine.specs.declared.Answer.{Answer}
-use Rattle.machine_record.specs.declared.Columns.{Columns}
-use Rattle.machine_record.specs.Shown.{shown}
+use Rattle.machine.specs.declared.record.Columns.{Columns}
+use Rattle.machine.specs.Shown.{shown}
 use Rattle.machine.specs.Steps.{step}
 use Rattle.beginning.specs.Begin.{beginOf}
-use Rattle.reports.specs.Play.{recordsOf, runOf, playOf}
+use Rattle.beginning.specs.Play.{recordsOf, runOf, playOf}
 use Rattle.lines.specs.Listing.{stepLine, linesFrom, joined, endOf, listingOf, textFrom}
 use Rattle.trace.specs.Trace.{Trace}
-use Rattle.machine_record.specs.declared.Machine.{Machine}
+use Rattle.machine.specs.declared.record.Machine.{Machine}
 use Rattle.listing.specs.Indexed.{Off, Alike, SameBut, indexedTrace, indexedText}
 
 -- the lines of the steps of a trace, of which at most so many are played

@@ -50,5 +50,5 @@ fn list_any(trace: &[u8], limit: u32, b: Begun, out: &mut [u8], at: usize) -> us
 {
     let m = b.machine;
     let told = kinds::tells_privilege(m.kind);
-    loops_any::list_steps(trace, limit, told, b.place, m, out, at)
+    loops::plain::list_steps(trace, limit, told, b.place, m, out, at)
 }

@@ -24,11 +24,11 @@ use Rattle.coreinterrupt.specs.Model.{side, withSide, sound as coreSound, withi
 use Rattle.cic_record.specs.Sound.{within as cicWithin}
 use Rattle.cic_record.specs.Start.{fresh, configured, start as cicStart}
 use Rattle.cic_hosts.specs.Hosts.{raises, asserted, outputs as cicOutputs, shown as cicShown}
-use Rattle.cic_layout.specs.Map.{singleAt, registerAt, accessOf}
-use Rattle.cic_maps.specs.Maps.{byteRead, mapRead, byteTaken, mapTaken, bytePut, mapPut}
+use Rattle.cic_registers.specs.Map.{singleAt, registerAt, accessOf}
+use Rattle.cic_registers.specs.Maps.{byteRead, mapRead, byteTaken, mapTaken, bytePut, mapPut}
 use Rattle.cic_registers.specs.Registers.{valueOf, valueRefusal as cicValueRefusal, writtenTo}
 use Rattle.cic_registers.specs.Bits.{wordRead, bitsSet, bitsCleared, wordReplaced}
-use Rattle.cic_steps.specs.Model.{readAs, writeAs, moved as cicMoved, lineAs, stepAs}
+use Rattle.cic_registers.specs.Model.{readAs, writeAs, moved as cicMoved, lineAs, stepAs}
 use Rattle.aintc_record.specs.Bounds.{chosenBounded, bounded}
 use Rattle.aintc_record.specs.Record.{side as aintcSide, reset as aintcReset, blank as aintcBlank}
 use Rattle.aintc_record.specs.Route.{priority as aintcPriority, routed}
@@ -38,17 +38,17 @@ use Rattle.aintc_choice.specs.Settle.{settledSide, settle, sideQuiet, sound as 
 use Rattle.aintc_registers.specs.Effects.{released, agreed, configured as aintcConfigured, singleWritten, bankWritten, writtenAt as aintcWrittenAt, moved as aintcMoved}
 use Rattle.aintc_registers.specs.Map.{rowOf, rowAccess, access as aintcAccess}
 use Rattle.aintc_registers.specs.Registers.{shown as aintcShown, singleRead, bankRead, readAt as aintcReadAt}
-use Rattle.aintc_steps.specs.Model.{start as aintcStart, barred, accessNumber, readNumber as aintcReadNumber, writeNumber as aintcWriteNumber, lineNumber as aintcLineNumber, read as aintcRead, write as aintcWrite, line as aintcLine, outputs as aintcOutputs}
+use Rattle.aintc_registers.specs.Model.{start as aintcStart, barred, accessNumber, readNumber as aintcReadNumber, writeNumber as aintcWriteNumber, lineNumber as aintcLineNumber, read as aintcRead, write as aintcWrite, line as aintcLine, outputs as aintcOutputs}
 use Rattle.kinds.specs.Configuration.{withNumber}
 use Rattle.kinds.specs.Kinds.{cicKind, byKind, isKind, wanted, within, name}
 use Rattle.machine.specs.declared.Answer.{Answer}
-use Rattle.machine_record.specs.declared.Columns.{Columns}
-use Rattle.machine_record.specs.declared.Machine.{Machine}
-use Rattle.machine_record.specs.Machine.{start, sound}
-use Rattle.machine_record.specs.Shown.{cicColumns, shown}
+use Rattle.machine.specs.declared.record.Columns.{Columns}
+use Rattle.machine.specs.declared.record.Machine.{Machine}
+use Rattle.machine.specs.Machine.{start, sound}
+use Rattle.machine.specs.Shown.{cicColumns, shown}
 use Rattle.machine.specs.Steps.{afterCic, step}
-use Rattle.machine_record.proofs.MachineLaws.{sound-cic}
-use Rattle.machine_record.proofs.ShownLaws.{cic-shows}
+use Rattle.machine.proofs.MachineLaws.{sound-cic}
+use Rattle.machine.proofs.ShownLaws.{cic-shows}
 use Rattle.machine.proofs.StepLaws.{cic-steps}
 
 -- what all kinds share

@@ -14,23 +14,23 @@ use Rattle.aic.proofs.Promises.{kept as aic}
 use Rattle.coreinterrupt.specs.Model.{sound as coreSound, step as coreStep}
 use Rattle.coreinterrupt.proofs.Promises.{kept as core}
 use Rattle.cic_record.specs.Sound.{sound as cicSound}
-use Rattle.cic_steps.specs.Model.{step as cicStep, stepAs}
+use Rattle.cic_registers.specs.Model.{step as cicStep, stepAs}
 use Rattle.cic.proofs.Promises.{kept as cic}
 use Rattle.cic_held.specs.declared.Prioritised.{Prioritised}
 use Rattle.cic_held.specs.Held.{sound as indexedSound}
 use Rattle.cic_indexed.specs.Model.{step as indexedStep}
 use Rattle.cic_indexed.proofs.Promises.{kept as prioritised}
 use Rattle.aintc_choice.specs.Settle.{sound as aintcSound}
-use Rattle.aintc_steps.specs.Model.{step as aintcStep}
+use Rattle.aintc_registers.specs.Model.{step as aintcStep}
 use Rattle.aintc.proofs.Promises.{kept as aintc}
 use Rattle.machine.specs.declared.Answer.{Answer}
-use Rattle.machine_record.specs.declared.Machine.{Machine}
+use Rattle.machine.specs.declared.record.Machine.{Machine}
 use Rattle.kinds.specs.Kinds.{aicKind, coreKind, cicKind, aintcKind, indexedKind}
-use Rattle.machine_record.specs.Machine.{indexed, sound}
+use Rattle.machine.specs.Machine.{indexed, sound}
 use Rattle.machine.specs.Steps.{afterAic, afterCore, afterCic, afterAintc, afterIndexed, refused, step}
-use Rattle.machine_record.specs.Promises.{Ready}
+use Rattle.machine.specs.RecordPromises.{Ready}
 use Rattle.kinds.proofs.KindLaws.{KindOf, isAic, isCore, isCic, isAintc, isIndexed, isNone, kind-of, at-aic, at-core, at-cic, at-aintc, at-indexed, at-none}
-use Rattle.machine_record.proofs.MachineLaws.{sound-aic, sound-core, sound-cic, sound-aintc, sound-indexed, sound-none}
+use Rattle.machine.proofs.MachineLaws.{sound-aic, sound-core, sound-cic, sound-aintc, sound-indexed, sound-none}
 
 -- ---- the step of each kind
 

@@ -5,14 +5,14 @@ use mathlib.Core.Logic.{_↔_, _≢_}
 use Rattle.steps.specs.declared.Recorded.{Recorded}
 use Rattle.aic.specs.Model.{step as aicStep}
 use Rattle.coreinterrupt.specs.Model.{step as coreStep}
-use Rattle.cic_steps.specs.Model.{step as cicStep}
+use Rattle.cic_registers.specs.Model.{step as cicStep}
 use Rattle.cic_held.specs.declared.Prioritised.{Prioritised}
 use Rattle.cic_indexed.specs.Model.{step as indexedStep}
-use Rattle.aintc_steps.specs.Model.{step as aintcStep}
+use Rattle.aintc_registers.specs.Model.{step as aintcStep}
 use Rattle.kinds.specs.Kinds.{isKind}
-use Rattle.machine_record.specs.declared.Machine.{Machine}
-use Rattle.machine_record.specs.Machine.{sound}
-use Rattle.machine_record.specs.Promises.{Ready}
+use Rattle.machine.specs.declared.record.Machine.{Machine}
+use Rattle.machine.specs.Machine.{sound}
+use Rattle.machine.specs.RecordPromises.{Ready}
 use Rattle.machine.specs.Steps.{step}
 
 -- the CIC of a machine, and what is held beside it (02, 6/12)

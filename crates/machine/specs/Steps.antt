@@ -7,14 +7,14 @@ use Rattle.aic.specs.Model.{step as aicStep}
 use Rattle.coreinterrupt.specs.declared.Answer.{Answer as CoreAnswer}
 use Rattle.coreinterrupt.specs.Model.{step as coreStep}
 use Rattle.cic_record.specs.declared.Answer.{Answer as CicAnswer}
-use Rattle.cic_steps.specs.Model.{step as cicStep}
+use Rattle.cic_registers.specs.Model.{step as cicStep}
 use Rattle.cic_held.specs.declared.Answer.{Answer as IndexedAnswer}
 use Rattle.cic_indexed.specs.Model.{step as indexedStep}
 use Rattle.aintc_registers.specs.declared.Answer.{Answer as AintcAnswer}
-use Rattle.aintc_steps.specs.Model.{step as aintcStep}
+use Rattle.aintc_registers.specs.Model.{step as aintcStep}
 use Rattle.kinds.specs.Kinds.{byKind}
-use Rattle.machine_record.specs.declared.Machine.{Machine}
-use Rattle.machine_record.specs.Machine.{indexed}
+use Rattle.machine.specs.declared.record.Machine.{Machine}
+use Rattle.machine.specs.Machine.{indexed}
 use Rattle.machine.specs.declared.Answer.{Answer}
 
 -- what the model answers, its record put back into the machine

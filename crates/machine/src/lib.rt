@@ -7,14 +7,17 @@ ghost use Rattle.aic_record.specs.Sound.{sound as aicSound};
 ghost use Rattle.aic.specs.Model.{step as aicStep};
 ghost use Rattle.coreinterrupt.specs.Model.{sound as coreSound, step as coreStep};
 ghost use Rattle.cic_record.specs.Sound.{sound as cicSound};
-ghost use Rattle.cic_steps.specs.Model.{step as cicStep};
+ghost use Rattle.cic_registers.specs.Model.{step as cicStep};
 ghost use Rattle.cic_held.specs.Held.{sound as indexedSound};
 ghost use Rattle.cic_indexed.specs.Model.{step as indexedStep};
 ghost use Rattle.aintc_choice.specs.Settle.{sound as aintcSound};
-ghost use Rattle.aintc_steps.specs.Model.{step as aintcStep};
-ghost use Rattle.machine_record.specs.Machine.{indexed, sound};
+ghost use Rattle.aintc_registers.specs.Model.{step as aintcStep};
+ghost use Rattle.machine.specs.Machine.{indexed, sound};
 ghost use Rattle.machine.specs.Steps.{afterAic, afterCore, afterCic, afterAintc, afterIndexed, step};
-use machine_record::Machine;
+
+pub mod record;
+
+use record::Machine;
 use steps::Recorded;
 
 // The refusal, 0 for none, the value read, and the machine after the step.
@@ -98,7 +101,7 @@ fn indexed_step(m: Machine, x: Recorded) -> Answer
     requires { ⌜ indexedSound (indexed m) ≡ true ⌝ }
     ensures { λ r. ⌜ r ≡ afterIndexed m (indexedStep (indexed m) (x .step)) ⌝ }
 {
-    let s = machine_record::indexed(m);
+    let s = record::indexed(m);
     let y = x.step;
     let a = cic_prioritised::step_sound(s, y);
     let t = a.prioritised;
@@ -139,7 +142,7 @@ pub fn step_sound(m: Machine, x: Recorded) -> Answer
 pub fn step(m: Machine, x: Recorded) -> Answer
     ensures { λ r. ⌜ r ≡ step m x ⌝ }
 {
-    if machine_record::is_sound(m) {
+    if record::is_sound(m) {
         return step_sound(m, x);
     }
     Answer {

@@ -7,16 +7,16 @@ use Prim.Native.Nat.{ℕ}
 use lib.ListN.{length, getD}
 use Rattle.steps.specs.declared.Recorded.{Recorded}
 use Rattle.rooms.specs.Reply.{Reply}
-use Rattle.aic_layout.proofs.Promises.{kept as laidAic}
+use Rattle.aic_room.proofs.Promises.{kept as laidAic}
 use Rattle.coreinterrupt_room.proofs.Promises.{kept as laidCore}
-use Rattle.cic_laid.specs.Room.{plain}
-use Rattle.cic_laid.proofs.Promises.{kept as laidCic}
+use Rattle.cic_room.specs.Room.{plain}
+use Rattle.cic_room.proofs.Promises.{kept as laidCic}
 use Rattle.indexed_room.proofs.Promises.{kept as laidIndexed}
-use Rattle.aintc_layout.proofs.Promises.{kept as laidAintc}
+use Rattle.aintc_room.proofs.Promises.{kept as laidAintc}
 use Rattle.kinds.proofs.KindLaws.{KindOf, isAic, isCore, isCic, isAintc, isIndexed, isNone, kind-of}
-use Rattle.machine_record.specs.declared.Machine.{Machine}
-use Rattle.machine_record.specs.Machine.{indexed, sound}
-use Rattle.machine_record.proofs.MachineLaws.{fifth-kind}
+use Rattle.machine.specs.declared.record.Machine.{Machine}
+use Rattle.machine.specs.Machine.{indexed, sound}
+use Rattle.machine.proofs.MachineLaws.{fifth-kind}
 use Rattle.machine.specs.declared.Answer.{Answer}
 use Rattle.machine.specs.Steps.{step}
 use Rattle.machine.proofs.Promises.{kept as steps}

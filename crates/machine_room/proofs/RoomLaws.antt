@@ -11,8 +11,8 @@ use Rattle.steps.specs.declared.Step.{Step}
 use Rattle.steps.specs.declared.Step.the-variants.{Line}
 use Rattle.aic_record.specs.declared.Aic.{Aic}
 use Rattle.aic.specs.Model.{step as aicStep, outputs as aicOutputs}
-use Rattle.aic_layout.specs.Room.{Laid as AicLaid}
-use Rattle.aic_layout.proofs.CellLaws.{kind-is as aic-kind}
+use Rattle.aic_room.specs.Room.{Laid as AicLaid}
+use Rattle.aic_room.proofs.CellLaws.{kind-is as aic-kind}
 use Rattle.aic_room.specs.Reply.{Done as AicDone}
 use Rattle.coreinterrupt.specs.declared.Core.{Core}
 use Rattle.coreinterrupt.specs.Model.{step as coreStep, outputs as coreOutputs}
@@ -21,9 +21,9 @@ use Rattle.coreinterrupt_room.proofs.RoomLaws.{kind-is as core-kind}
 use Rattle.cic_record.specs.declared.Cic.{Cic}
 use Rattle.cic_record.specs.Sound.{sound as cicSound}
 use Rattle.cic_hosts.specs.Hosts.{outputs as cicOutputs}
-use Rattle.cic_steps.specs.Model.{step as cicStep, stepAs as cicStepAs}
-use Rattle.cic_laid.specs.Room.{plain, Laid as CicLaid}
-use Rattle.cic_laid.proofs.Promises.{kept as laidCic}
+use Rattle.cic_registers.specs.Model.{step as cicStep, stepAs as cicStepAs}
+use Rattle.cic_room.specs.Room.{plain, Laid as CicLaid}
+use Rattle.cic_room.proofs.Promises.{kept as laidCic}
 use Rattle.cic_room.specs.Reply.{Done as CicDone}
 use Rattle.cic_held.specs.declared.Prioritised.{Prioritised}
 use Rattle.cic_held.specs.Held.{sound as indexedSound}
@@ -32,23 +32,23 @@ use Rattle.indexed_room.specs.Room.{Laid as IndexedLaid}
 use Rattle.indexed_room.specs.Reply.{Done as IndexedDone}
 use Rattle.indexed_room.proofs.Promises.{kept as laidIndexed}
 use Rattle.aintc_record.specs.declared.Aintc.{Aintc}
-use Rattle.aintc_steps.specs.Model.{step as aintcStep, outputs as aintcOutputs}
-use Rattle.aintc_layout.specs.Room.{Laid as AintcLaid}
-use Rattle.aintc_layout.proofs.CellLaws.{kind-is as aintc-kind}
+use Rattle.aintc_registers.specs.Model.{step as aintcStep, outputs as aintcOutputs}
+use Rattle.aintc_room.specs.Room.{Laid as AintcLaid}
+use Rattle.aintc_room.proofs.CellLaws.{kind-is as aintc-kind}
 use Rattle.aintc_room.specs.Reply.{Done as AintcDone}
 use Rattle.kinds.specs.Kinds.{aicKind, coreKind, cicKind, aintcKind, indexedKind}
 use Rattle.kinds.proofs.KindLaws.{KindOf, isAic, isCore, isCic, isAintc, isIndexed, isNone, kind-of}
-use Rattle.machine_record.specs.declared.Machine.{Machine}
-use Rattle.machine_record.specs.declared.Columns.{Columns}
-use Rattle.machine_record.specs.Machine.{indexed, sound}
-use Rattle.machine_record.specs.Shown.{aicColumns, coreColumns, cicColumns, aintcColumns, shown}
-use Rattle.machine_record.proofs.MachineLaws.{sound-indexed, fifth-kind}
-use Rattle.machine_record.proofs.ShownLaws.{aic-shows, core-shows, cic-shows, aintc-shows, indexed-shows}
+use Rattle.machine.specs.declared.record.Machine.{Machine}
+use Rattle.machine.specs.declared.record.Columns.{Columns}
+use Rattle.machine.specs.Machine.{indexed, sound}
+use Rattle.machine.specs.Shown.{aicColumns, coreColumns, cicColumns, aintcColumns, shown}
+use Rattle.machine.proofs.MachineLaws.{sound-indexed, fifth-kind}
+use Rattle.machine.proofs.ShownLaws.{aic-shows, core-shows, cic-shows, aintc-shows, indexed-shows}
 use Rattle.machine.specs.declared.Answer.{Answer}
 use Rattle.machine.specs.Steps.{afterAic, afterCore, afterCic, afterAintc, afterIndexed, step}
 use Rattle.machine.proofs.StepLaws.{aic-steps, core-steps, cic-steps, aintc-steps, indexed-steps}
-use Rattle.turns.specs.Turns.{made, stepOf}
-use Rattle.turns.proofs.TurnLaws.{step-line}
+use Rattle.trace.specs.Turns.{made, stepOf}
+use Rattle.trace.proofs.TurnLaws.{step-line}
 use Rattle.rooms.specs.Reply.{Reply}
 use Rattle.machine_room.specs.Room.{Laid, Done, withAic, withCore, withCic, withAintc, withIndexed, Beside}
 

@@ -8,8 +8,8 @@ use mathlib.Core.Logic.{_≢_}
 use lib.ListN.{length, getD}
 use Rattle.steps.specs.declared.Recorded.{Recorded}
 use Rattle.rooms.specs.Reply.{Reply}
-use Rattle.machine_record.specs.declared.Machine.{Machine}
-use Rattle.machine_record.specs.Machine.{sound}
+use Rattle.machine.specs.declared.record.Machine.{Machine}
+use Rattle.machine.specs.Machine.{sound}
 use Rattle.machine.specs.Steps.{step}
 use Rattle.machine_room.specs.Room.{Laid, Done, Beside}
 

@@ -5,18 +5,18 @@ use mathlib.Core.List.{List}
 use Prim.Native.Nat.{ℕ}
 use lib.ListN.{getD}
 use Rattle.aic_record.specs.declared.Aic.{Aic}
-use Rattle.aic_layout.specs.Room.{Laid as AicLaid}
+use Rattle.aic_room.specs.Room.{Laid as AicLaid}
 use Rattle.coreinterrupt.specs.declared.Core.{Core}
 use Rattle.coreinterrupt_room.specs.Room.{Laid as CoreLaid}
 use Rattle.cic_record.specs.declared.Cic.{Cic}
-use Rattle.cic_laid.specs.Room.{plain, Laid as CicLaid}
+use Rattle.cic_room.specs.Room.{plain, Laid as CicLaid}
 use Rattle.cic_held.specs.declared.Prioritised.{Prioritised}
 use Rattle.indexed_room.specs.Room.{Laid as IndexedLaid}
 use Rattle.aintc_record.specs.declared.Aintc.{Aintc}
-use Rattle.aintc_layout.specs.Room.{Laid as AintcLaid}
+use Rattle.aintc_room.specs.Room.{Laid as AintcLaid}
 use Rattle.kinds.specs.Kinds.{aicKind, coreKind, cicKind, aintcKind, indexedKind}
-use Rattle.machine_record.specs.declared.Machine.{Machine}
-use Rattle.machine_record.specs.Machine.{indexed}
+use Rattle.machine.specs.declared.record.Machine.{Machine}
+use Rattle.machine.specs.Machine.{indexed}
 use Rattle.machine.specs.declared.Answer.{Answer}
 use Rattle.rooms.specs.Reply.{Reply, reply}
 

@@ -3,17 +3,17 @@
 ghost use mathlib.Core.Path.{_≡_};
 ghost use mathlib.Core.Bool.{Bool, true};
 ghost use Prim.Native.Nat.{_+_, _*_, _<_};
-ghost use Rattle.aic_layout.specs.Room.{Laid as AicLaid};
-ghost use Rattle.machine_record.specs.declared.Machine.{Machine};
-ghost use Rattle.machine_record.specs.Machine.{sound};
-ghost use Rattle.machine_record.specs.Shown.{shown};
+ghost use Rattle.aic_room.specs.Room.{Laid as AicLaid};
+ghost use Rattle.machine.specs.declared.record.Machine.{Machine};
+ghost use Rattle.machine.specs.Machine.{sound};
+ghost use Rattle.machine.specs.Shown.{shown};
 ghost use Rattle.machine.specs.Steps.{step};
 ghost use Rattle.rooms.specs.Reply.{told};
-ghost use Rattle.turns.specs.Turns.{made, stepOf};
+ghost use Rattle.trace.specs.Turns.{made, stepOf};
 ghost use Rattle.machine_room.specs.Room.{Laid, Done, Beside};
 use aic_record::Aic;
-use machine_record::Columns;
-use machine_record::Machine;
+use machine::record::Columns;
+use machine::record::Machine;
 use rooms::Room;
 
 const KIND: usize = 0;
@@ -32,20 +32,20 @@ pub fn lay(m: Machine, kept: bool) -> Room
     }
     if m.kind == kinds::CIC {
         let c = m.cic;
-        return cic_transfer::lay(c, kept);
+        return cic_room::transfer::lay(c, kept);
     }
     if m.kind == kinds::AINTC {
         let a = m.aintc;
-        return aintc_layout::lay(a);
+        return aintc_room::layout::lay(a);
     }
-    indexed_transfer::lay(machine_record::indexed(m))
+    indexed_room::transfer::lay(machine::record::indexed(m))
 }
 
 // The arrays of a record that is passed have their lengths.
 fn lay_aic(a: Aic) -> Room
     ensures { λ r. ⌜ AicLaid a r ⌝ }
 {
-    aic_layout::lay(a)
+    aic_room::layout::lay(a)
 }
 
 // The machine in a room; what does not stand there is the first machine's.
@@ -54,7 +54,7 @@ pub fn record_of(room: &Room, first: Machine) -> Machine
 {
     let mut m = first;
     if room[KIND] == kinds::AIC {
-        let a = aic_layout::record_of(room);
+        let a = aic_room::layout::record_of(room);
         m.aic = a;
         return m;
     }
@@ -64,16 +64,16 @@ pub fn record_of(room: &Room, first: Machine) -> Machine
         return m;
     }
     if room[KIND] == kinds::CIC {
-        let c = cic_transfer::record_of(room);
+        let c = cic_room::transfer::record_of(room);
         m.cic = c;
         return m;
     }
     if room[KIND] == kinds::AINTC {
-        let a = aintc_layout::record_of(room);
+        let a = aintc_room::layout::record_of(room);
         m.aintc = a;
         return m;
     }
-    let p = indexed_transfer::record_of(room);
+    let p = indexed_room::transfer::record_of(room);
     let c = p.cic;
     let h = p.held;
     m.cic = c;
@@ -117,16 +117,16 @@ pub fn columns(room: &Room) -> Columns
     ensures { λ r. ⌜ ((m : Machine) → sound m ≡ true → Laid true m (now (room .entry)) → r ≡ shown m) ⌝ }
 {
     if room[KIND] == kinds::AIC {
-        return machine_record::aic_columns(aic_room::outputs(room));
+        return machine::record::aic_columns(aic_room::outputs(room));
     }
     if room[KIND] == kinds::CORE {
-        return machine_record::core_columns(coreinterrupt_room::outputs(room));
+        return machine::record::core_columns(coreinterrupt_room::outputs(room));
     }
     if room[KIND] == kinds::CIC {
-        return machine_record::cic_columns(cic_room::outputs(room));
+        return machine::record::cic_columns(cic_room::outputs(room));
     }
     if room[KIND] == kinds::AINTC {
-        return machine_record::aintc_columns(aintc_room::outputs(room));
+        return machine::record::aintc_columns(aintc_room::outputs(room));
     }
-    machine_record::cic_columns(indexed_room::outputs(room))
+    machine::record::cic_columns(indexed_room::outputs(room))
 }

@@ -11,12 +11,12 @@ use Rattle.words.specs.Counting.{one}
 use Rattle.steps.specs.declared.Recorded.{Recorded}
 use Rattle.steps.specs.declared.Step.the-variants.{Read}
 use Rattle.kinds.specs.Kinds.{aicKind}
-use Rattle.machine_record.specs.declared.Machine.{Machine}
-use Rattle.machine_record.specs.Promises.{Ready}
+use Rattle.machine.specs.declared.record.Machine.{Machine}
+use Rattle.machine.specs.RecordPromises.{Ready}
 use Rattle.machine.specs.Steps.{step}
 use Rattle.machine.proofs.StepLaws.{step-ready, step-kind}
-use Rattle.reports.specs.Play.{runOf}
-use Rattle.reports.proofs.PlayLaws.{run-ready}
+use Rattle.beginning.specs.Play.{runOf}
+use Rattle.beginning.proofs.PlayLaws.{run-ready}
 use Rattle.drawing.specs.Bars.{packed, column, entriesAt, opens}
 use Rattle.drawing.specs.Promises.{openings}
 use Rattle.picture.specs.Window.{columnOf, columnsFrom, within, before, columnsOf}

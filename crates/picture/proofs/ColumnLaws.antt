@@ -14,16 +14,16 @@ use Rattle.trace.specs.declared.Turn.the-variants.{Found, Ended}
 use Rattle.trace.specs.Trace.{Trace, turnAt, stepsFrom}
 use Rattle.trace.proofs.TraceLaws.{trace-ended, trace-found, steps-limited}
 use Rattle.aic_record.specs.declared.Aic.{Aic}
-use Rattle.aic_last.specs.Last.{lastSource, lastLevel}
+use Rattle.aic_record.specs.Last.{lastSource, lastLevel}
 use Rattle.aic.specs.declared.Signals.{Signals}
 use Rattle.aic.specs.Model.{outputs}
-use Rattle.machine_record.specs.declared.Machine.{Machine}
-use Rattle.machine_record.specs.Promises.{Ready}
+use Rattle.machine.specs.declared.record.Machine.{Machine}
+use Rattle.machine.specs.RecordPromises.{Ready}
 use Rattle.machine.specs.declared.Answer.{Answer}
 use Rattle.machine.specs.Steps.{step}
-use Rattle.reports.specs.declared.Played.{Played}
-use Rattle.reports.specs.Play.{runOf, report}
-use Rattle.reports.proofs.PlayLaws.{run-ready}
+use Rattle.beginning.specs.declared.reports.Played.{Played}
+use Rattle.beginning.specs.Play.{runOf, report}
+use Rattle.beginning.proofs.PlayLaws.{run-ready}
 use Rattle.drawing.specs.Bars.{packed}
 use Rattle.picture.specs.Window.{columnOf, columnsFrom, within, before, columnsOf}
 use Rattle.picture.proofs.StepsLaws.{steps-take, steps-drop, steps-most}

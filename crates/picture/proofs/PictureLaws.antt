@@ -17,14 +17,14 @@ use Rattle.text.proofs.WriteLaws.{write-laid}
 use Rattle.text.proofs.Promises as Text
 use Rattle.trace.specs.Trace.{Trace, stepsFrom}
 use Rattle.kinds.specs.Kinds.{aicKind, tellsPrivilege}
-use Rattle.machine_record.specs.declared.Machine.{Machine}
-use Rattle.machine_record.specs.Promises.{Ready}
+use Rattle.machine.specs.declared.record.Machine.{Machine}
+use Rattle.machine.specs.RecordPromises.{Ready}
 use Rattle.beginning.specs.declared.Begun.{Begun}
 use Rattle.beginning.specs.Begin.{beginOf}
 use Rattle.beginning.proofs.BeginningLaws.{begin-ready}
-use Rattle.reports.specs.declared.Played.{Played}
-use Rattle.reports.specs.Play.{recordsFrom, recordsOf, report, playOf}
-use Rattle.reports.proofs.PlayLaws.{records-begun, play-begun}
+use Rattle.beginning.specs.declared.reports.Played.{Played}
+use Rattle.beginning.specs.Play.{recordsFrom, recordsOf, report, playOf}
+use Rattle.beginning.proofs.PlayLaws.{records-begun, play-begun}
 use Rattle.drawing.specs.Drawing.{drawing}
 use Rattle.picture.specs.Window.{before, columnsOf}
 use Rattle.picture.proofs.ColumnLaws.{columns-most}

@@ -16,16 +16,16 @@ use Rattle.numbers.specs.Number.{sizeAt, worthAt, faulty, numberAt}
 use Rattle.text.specs.Text.{decimal, field, laid}
 use Rattle.text.proofs.WriteLaws.{write-laid}
 use Rattle.text.proofs.Promises as Text
-use Rattle.phrases.specs.Phrases.{bytes, counted}
+use Rattle.text.specs.Phrases.{bytes, counted}
 use Rattle.trace.specs.Steps.{operandsOf, twoNumbers, stepAt}
 use Rattle.trace.specs.Trace.{turnAt, stepsFrom}
 use Rattle.kinds.specs.Kinds.{aicKind}
-use Rattle.aic_last.specs.Last.{lastSource, lastLevel}
+use Rattle.aic_record.specs.Last.{lastSource, lastLevel}
 use Rattle.machine.proofs.Computing.{aic-computes}
 use Rattle.beginning.specs.Begin.{setupFrom, setupOf, bySetup, beginOf}
 use Rattle.beginning.proofs.BeginningLaws.{begin-ready}
-use Rattle.reports.specs.Play.{recordsFrom, recordsOf, runOf, report, playOf}
-use Rattle.reports.proofs.PlayLaws.{records-limited}
+use Rattle.beginning.specs.Play.{recordsFrom, recordsOf, runOf, report, playOf}
+use Rattle.beginning.proofs.PlayLaws.{records-limited}
 use Rattle.drawing.specs.Drawing.{drawing}
 use Rattle.drawing.specs.Promises.{Below}
 use Rattle.drawing.proofs.Promises.{kept as drawn}

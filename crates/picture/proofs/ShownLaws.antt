@@ -18,20 +18,20 @@ use Rattle.steps.specs.Tables.{ReadTable, WriteTable, LineTable}
 use Rattle.aic_record.specs.declared.Aic.{Aic}
 use Rattle.aic_record.specs.Sound.{sound}
 use Rattle.aic_record.proofs.SoundLaws.{sound-is}
-use Rattle.aic_last.proofs.Promises.{kept as last}
+use Rattle.aic_record.proofs.LastPromises.{kept as last}
 use Rattle.aic_registers.specs.Map.{access}
 use Rattle.aic.specs.declared.Signals.{Signals}
 use Rattle.aic.specs.Model.{step as aicStep, outputs}
 use Rattle.aic.proofs.Promises.{kept as aic}
 use Rattle.kinds.specs.Kinds.{aicKind}
-use Rattle.machine_record.specs.declared.Machine.{Machine}
-use Rattle.machine_record.specs.Promises.{Ready}
-use Rattle.machine_record.proofs.MachineLaws.{sound-aic}
+use Rattle.machine.specs.declared.record.Machine.{Machine}
+use Rattle.machine.specs.RecordPromises.{Ready}
+use Rattle.machine.proofs.MachineLaws.{sound-aic}
 use Rattle.machine.specs.declared.Answer.{Answer}
 use Rattle.machine.specs.Steps.{step}
 use Rattle.machine.proofs.StepLaws.{aic-steps, step-ready, step-kind}
-use Rattle.reports.specs.Play.{runOf}
-use Rattle.reports.proofs.PlayLaws.{run-ready}
+use Rattle.beginning.specs.Play.{runOf}
+use Rattle.beginning.proofs.PlayLaws.{run-ready}
 use Rattle.drawing.specs.Bars.{Column, packed, column, columnAt, entriesAt}
 use Rattle.drawing.specs.Promises.{Small}
 use Rattle.drawing.proofs.Promises.{kept as drawing}

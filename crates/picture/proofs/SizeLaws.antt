@@ -6,19 +6,19 @@ use native.Mathlib.Decide.{decLt}
 use native.Mathlib.Omega.{arith}
 use lib.ListN.{length, length-append, getD, take}
 use Rattle.text.proofs.DigitLaws.{length-decimal, length-field}
-use Rattle.phrases.specs.Phrases.{bytes, counted}
+use Rattle.text.specs.Phrases.{bytes, counted}
 use Rattle.aic_record.specs.declared.Aic.{Aic}
 use Rattle.aic_record.specs.Sound.{sound}
 use Rattle.aic_record.specs.Promises.{Shaped, Rules}
 use Rattle.aic_record.proofs.SoundLaws.{below-next, sound-is}
 use Rattle.aic_record.proofs.TableLaws.{past-getD}
-use Rattle.aic_last.proofs.Promises.{below-small}
+use Rattle.aic_record.proofs.LastPromises.{below-small}
 use Rattle.trace.specs.Trace.{Trace}
 use Rattle.kinds.specs.Kinds.{aicKind}
-use Rattle.machine_record.specs.declared.Machine.{Machine}
-use Rattle.machine_record.specs.Promises.{Ready}
-use Rattle.machine_record.proofs.MachineLaws.{sound-aic}
-use Rattle.reports.proofs.PlayLaws.{run-ready}
+use Rattle.machine.specs.declared.record.Machine.{Machine}
+use Rattle.machine.specs.RecordPromises.{Ready}
+use Rattle.machine.proofs.MachineLaws.{sound-aic}
+use Rattle.beginning.proofs.PlayLaws.{run-ready}
 use Rattle.drawing.proofs.Promises.{kept as drawing}
 use Rattle.picture.specs.Window.{before, columnsOf}
 use Rattle.picture.proofs.ColumnLaws.{columns-most}

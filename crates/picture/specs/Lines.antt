@@ -2,7 +2,7 @@
 use Prim.Native.Nat.{ℕ}
 use mathlib.Core.List.{List, [], _∷_, _++_}
 use Rattle.text.specs.Text.{field, newline}
-use Rattle.phrases.specs.Phrases.{bytes, counted}
+use Rattle.text.specs.Phrases.{bytes, counted}
 
 -- the trace has no beginning, its controller is none with entries, the window is wrong
 unfoldable pub noBeginning : ℕ → ℕ → List ℕ

@@ -6,10 +6,10 @@ use lib.Dec.{eqb, leb}
 use Rattle.words.specs.Choice.{pick}
 use Rattle.steps.specs.Refusals.{carriedOut}
 use Rattle.kinds.specs.Kinds.{aicKind}
-use Rattle.machine_record.specs.declared.Machine.{Machine}
+use Rattle.machine.specs.declared.record.Machine.{Machine}
 use Rattle.trace.specs.Trace.{Trace}
 use Rattle.beginning.specs.Begin.{beginOf}
-use Rattle.reports.specs.Play.{recordsOf, playOf}
+use Rattle.beginning.specs.Play.{recordsOf, playOf}
 use Rattle.drawing.specs.Drawing.{drawing}
 use Rattle.picture.specs.Lines.{noBeginning, noEntries, wrongWindow}
 use Rattle.picture.specs.Window.{before, columnsOf}

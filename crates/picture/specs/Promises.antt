@@ -6,19 +6,19 @@ use lib.ListN.{length, drop}
 use Rattle.words.specs.Counting.{one}
 use Rattle.steps.specs.declared.Recorded.{Recorded}
 use Rattle.aic_record.specs.declared.Aic.{Aic}
-use Rattle.aic_last.specs.Last.{lastSource, lastLevel}
+use Rattle.aic_record.specs.Last.{lastSource, lastLevel}
 use Rattle.aic.specs.Model.{outputs}
-use Rattle.machine_record.specs.declared.Machine.{Machine}
-use Rattle.machine_record.specs.Promises.{Ready}
+use Rattle.machine.specs.declared.record.Machine.{Machine}
+use Rattle.machine.specs.RecordPromises.{Ready}
 use Rattle.machine.specs.Steps.{step}
-use Rattle.reports.specs.Play.{runOf, recordsOf, playOf}
+use Rattle.beginning.specs.Play.{runOf, recordsOf, playOf}
 use Rattle.drawing.specs.Bars.{Column, columnAt, entriesAt, Bar, packed, bars}
 use Rattle.picture.specs.Window.{before, columnsOf, within}
 use mathlib.Core.Bool.{true}
 use mathlib.Core.Logic.{_↔_, _≢_}
 use lib.Dec.{ltb}
 use Rattle.text.specs.Text.{decimal, field, laid}
-use Rattle.phrases.specs.Phrases.{bytes}
+use Rattle.text.specs.Phrases.{bytes}
 use Rattle.beginning.specs.Begin.{beginOf}
 use Rattle.drawing.specs.Drawing.{drawing}
 use Rattle.drawing.specs.Promises.{Below}

@@ -5,11 +5,11 @@ use lib.ListN.{take, drop}
 use Rattle.words.specs.Counting.{one}
 use Rattle.steps.specs.declared.Recorded.{Recorded}
 use Rattle.aic_record.specs.declared.Aic.{Aic}
-use Rattle.aic_last.specs.Last.{lastSource, lastLevel}
+use Rattle.aic_record.specs.Last.{lastSource, lastLevel}
 use Rattle.aic.specs.Model.{outputs}
-use Rattle.machine_record.specs.declared.Machine.{Machine}
+use Rattle.machine.specs.declared.record.Machine.{Machine}
 use Rattle.machine.specs.Steps.{step}
-use Rattle.reports.specs.Play.{runOf}
+use Rattle.beginning.specs.Play.{runOf}
 use Rattle.drawing.specs.Bars.{Column, packed}
 
 -- what holds after a step: the outputs, how many entries are open, the last of them, and the number by which the step is refused

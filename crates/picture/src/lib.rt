@@ -7,7 +7,7 @@ ghost use Rattle.steps.specs.Refusals.{carriedOut};
 ghost use Rattle.text.specs.Text.{laid};
 ghost use Rattle.trace.specs.Trace.{stepsFrom};
 ghost use Rattle.kinds.specs.Kinds.{aicKind};
-ghost use Rattle.machine_record.specs.Promises.{Ready};
+ghost use Rattle.machine.specs.RecordPromises.{Ready};
 ghost use Rattle.beginning.specs.Begin.{beginOf};
 ghost use Rattle.picture.specs.Picture.{inside, isDrawn, drawnOf, pictureOf};
 
@@ -15,7 +15,7 @@ mod reasons;
 mod window;
 
 use beginning::Begun;
-use machine_record::Machine;
+use machine::record::Machine;
 
 // Whether there is a picture, and how many bytes of it, or of the line of text, were written.
 pub struct Drawn {
@@ -63,7 +63,7 @@ fn picture_aic(trace: &[u8], first: u32, steps: u32, b: Begun, out: &mut [u8]) -
     ensures { λ r. ⌜ ((now (out .exit), r .bytes) ≡ laid (now (out .entry)) (pictureOf (now (trace .entry)) first steps)) × (r .drawn ≡ isDrawn (now (trace .entry)) first steps) ⌝ }
 {
     let m = b.machine;
-    let p = loops_any::play_steps(trace, MOST, false, b.place, m);
+    let p = loops::plain::play_steps(trace, MOST, false, b.place, m);
     if inside(p.steps, first, steps) {
         let n = draw_window(trace, first, steps, b.place, m, out);
         return Drawn {

@@ -29,7 +29,7 @@ pub(crate) fn put_no_entries(out: &mut [u8]) -> usize
 pub(crate) fn put_wrong_window(out: &mut [u8], played: u32) -> usize
     ensures { λ r. ⌜ (now (out .exit), r) ≡ laid (now (out .entry)) (wrongWindow played) ⌝ }
 {
-    let a = phrases::put_counted(
+    let a = text::phrases::put_counted(
         out,
         0,
         b"no picture: a window has 1 to 500 steps and begins with a step that is played, steps played ",

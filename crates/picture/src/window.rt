@@ -6,11 +6,11 @@ ghost use Prim.Native.Nat.{_+_, _*_, _≤_, min};
 ghost use lib.ListN.{length};
 ghost use Rattle.text.specs.Text.{write, laid};
 ghost use Rattle.trace.specs.Trace.{stepsFrom};
-ghost use Rattle.machine_record.specs.Promises.{Ready};
+ghost use Rattle.machine.specs.RecordPromises.{Ready};
 ghost use Rattle.drawing.specs.Bars.{packed};
 ghost use Rattle.picture.specs.Window.{columnOf, columnsFrom, before, columnsOf};
 use aic_record::Aic;
-use machine_record::Machine;
+use machine::record::Machine;
 use trace::Turn;
 
 // How many columns there are, and the sources and levels of the entries that were open before the window.
@@ -34,7 +34,7 @@ pub(crate) fn fill(
     requires { ⌜ Ready m × (1 ≤ first) × (first ≤ length (stepsFrom false limit (now trace) start .steps)) ⌝ }
     ensures { λ r. ⌜ ((now (columns .exit), r .count) ≡ laid (now (columns .entry)) (columnsOf first steps m (stepsFrom false limit (now (trace .entry)) start .steps))) × (r .source ≡ before first m (stepsFrom false limit (now (trace .entry)) start .steps) .aic .source) × (r .level ≡ before first m (stepsFrom false limit (now (trace .entry)) start .steps) .aic .level) ⌝ }
 {
-    let p = loops_any::play_steps(trace, first - 1, false, start, m);
+    let p = loops::plain::play_steps(trace, first - 1, false, start, m);
     let b = p.machine;
     let a = b.aic;
     let next = put_column(columns, 0, column(a, steps::CARRIED_OUT));
@@ -98,8 +98,8 @@ fn column(s: Aic, refusal: u32) -> u64
     ensures { λ r. ⌜ r ≡ packed (columnOf refusal s) ⌝ }
 {
     let o = aic::outputs(s);
-    let source = aic_last::last_source(s);
-    let level = aic_last::last_level(s);
+    let source = aic_record::last::last_source(s);
+    let level = aic_record::last::last_level(s);
     pack(
         words::one_if(o.irq),
         words::one_if(o.fiq),

@@ -22,7 +22,7 @@ fn main() {
 fn argument(i: usize) -> u32 {
     let mut typed = [0u8; 16];
     let n = os::arg(i, &mut typed);
-    arguments::number(&typed[..n])
+    text::arguments::number(&typed[..n])
 }
 
 // Writes the picture to standard output, or why there is none to standard error.

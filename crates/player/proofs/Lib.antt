@@ -1,2 +1,3 @@
 -- The proof of what is promised.
+pub mod LookedPromises
 pub mod Promises

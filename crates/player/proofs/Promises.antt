@@ -18,18 +18,18 @@ use Rattle.trace.specs.Steps.{tell}
 use Rattle.trace.specs.Trace.{Trace}
 use Rattle.trace.proofs.Promises.{kept as trace-kept}
 use Rattle.trace.proofs.StepLaws.{Outcome, noKind as Outcome·noKind, unknownKind, noFirst, oneNumber, noSecond, twoNumbered, noThird, threeNumbered, outcome}
-use Rattle.machine_record.specs.declared.Machine.{Machine}
+use Rattle.machine.specs.declared.record.Machine.{Machine}
 use Rattle.kinds.specs.Kinds.{isKind, within}
-use Rattle.machine_record.specs.Machine.{blank, sound}
-use Rattle.machine_record.specs.Promises.{startWith}
+use Rattle.machine.specs.Machine.{blank, sound}
+use Rattle.machine.specs.RecordPromises.{startWith}
 use Rattle.machine.specs.Steps.{step}
 use Rattle.beginning.specs.declared.Begun.{Begun}
-use Rattle.reports.specs.declared.Played.{Played}
+use Rattle.beginning.specs.declared.reports.Played.{Played}
 use Rattle.beginning.specs.Asked.{Wanting, Configures}
 use Rattle.beginning.specs.Begin.{longest, notBegun, beginOf}
-use Rattle.reports.specs.Play.{recordsOf, runOf, report, playOf}
+use Rattle.beginning.specs.Play.{recordsOf, runOf, report, playOf}
 use Rattle.player.specs.Promises.{Begins, told, Promises}
-use Rattle.reports.proofs.PlayLaws.{report-ends, play-refused, records-begun, records-limited, run-ready}
+use Rattle.beginning.proofs.PlayLaws.{report-ends, play-refused, records-begun, records-limited, run-ready}
 use Rattle.beginning.proofs.KnownLaws.{overlong-so, damaged-so, no-kind-so, beyond-so, configured-so}
 use Rattle.beginning.proofs.BeginningLaws.{Beginning, overlong, damagedAt, noKind, beyondAt, configured, beginning, begun, begin-ready}
 

@@ -8,14 +8,14 @@ use lib.ListN.{length}
 use Rattle.steps.specs.declared.Recorded.{Recorded}
 use Rattle.numbers.specs.Promises.{toldAt}
 use Rattle.trace.specs.Promises.{Reads, Along, Ends}
-use Rattle.machine_record.specs.declared.Machine.{Machine}
+use Rattle.machine.specs.declared.record.Machine.{Machine}
 use Rattle.kinds.specs.Kinds.{isKind, within, tellsPrivilege}
-use Rattle.machine_record.specs.Machine.{blank, sound}
+use Rattle.machine.specs.Machine.{blank, sound}
 use Rattle.machine.specs.Steps.{step}
-use Rattle.machine_record.specs.Promises.{startWith}
+use Rattle.machine.specs.RecordPromises.{startWith}
 use Rattle.beginning.specs.Asked.{Wanting, Configures}
 use Rattle.beginning.specs.Begin.{beginOf}
-use Rattle.reports.specs.Play.{recordsOf, runOf, playOf}
+use Rattle.beginning.specs.Play.{recordsOf, runOf, playOf}
 
 -- a trace begins with a refusal, 0 for none, at a place
 abbrev pub Begins : List ℕ → ℕ → ℕ → Type 0

@@ -2,9 +2,12 @@
 ghost use mathlib.Core.Path.{_≡_};
 ghost use Rattle.steps.specs.Refusals.{carriedOut};
 ghost use Rattle.beginning.specs.Begin.{beginOf};
-ghost use Rattle.reports.specs.Play.{playOf};
+ghost use Rattle.beginning.specs.Play.{playOf};
+
+pub mod looked;
+
 use beginning::Begun;
-use reports::Played;
+use beginning::reports::Played;
 
 // Plays at most `limit` steps of a trace.
 pub fn play(trace: &[u8], limit: u32) -> Played
@@ -12,7 +15,7 @@ pub fn play(trace: &[u8], limit: u32) -> Played
 {
     let b = beginning::begin(trace);
     if b.refusal != steps::CARRIED_OUT {
-        return reports::not_played(b);
+        return beginning::reports::not_played(b);
     }
     play_begun(trace, limit, b)
 }
@@ -23,7 +26,7 @@ pub fn play_plain(trace: &[u8], limit: u32) -> Played
 {
     let b = beginning::begin(trace);
     if b.refusal != steps::CARRIED_OUT {
-        return reports::not_played(b);
+        return beginning::reports::not_played(b);
     }
     play_any(trace, limit, b)
 }
@@ -45,5 +48,5 @@ fn play_any(trace: &[u8], limit: u32, b: Begun) -> Played
 {
     let m = b.machine;
     let told = kinds::tells_privilege(m.kind);
-    loops_any::play_steps(trace, limit, told, b.place, m)
+    loops::plain::play_steps(trace, limit, told, b.place, m)
 }

@@ -13,11 +13,11 @@ use Rattle.words.specs.Counting.{allBelow}
 use Rattle.words.proofs.ChoiceLaws.{pick-cases}
 use Rattle.words.proofs.TruthLaws.{and-left, and-right, and-parts, same-test}
 use Rattle.words.proofs.Promises.{kept as words}
-use Rattle.phrases.specs.Phrases.{bytes}
+use Rattle.text.specs.Phrases.{bytes}
 use Rattle.steps.specs.declared.Access.{Access}
 use Rattle.steps.specs.declared.Access.the-variants.{NoRegister, ReadWrite}
 use Rattle.cic_record.specs.declared.Cic.{Cic}
-use Rattle.cic_layout.specs.Map.{singleAt, registerAt, accessOf, access}
+use Rattle.cic_registers.specs.Map.{singleAt, registerAt, accessOf, access}
 use Rattle.cic.proofs.Promises.{kept as cic}
 use Rattle.cic_held.specs.declared.Prioritised.{Prioritised}
 use Rattle.cic_indexed.specs.Tables.{accessAt}

@@ -11,7 +11,7 @@ use Rattle.words.specs.Choice.{pick}
 use Rattle.words.proofs.ChoiceLaws.{pick-cases}
 use Rattle.words.proofs.TruthLaws.{and-right}
 use Rattle.text.specs.Text.{space}
-use Rattle.phrases.specs.Phrases.{bytes, counted}
+use Rattle.text.specs.Phrases.{bytes, counted}
 use Rattle.register_names.specs.Rows.{Row, alone, group, inGroup, inRow, sectioned, named, numbered, rowWords, placeIn, thereOf, atMost}
 use Rattle.register_names.specs.Maps.{aicRows, aicCommands, coreRows, coreIrqRows, cicRows, cicGroups, indexRows, aintcRows, aintcBanks}
 use Rattle.register_names.proofs.TextLaws.{Fits, clear, short, known, empty, wider, joined, few, behind}

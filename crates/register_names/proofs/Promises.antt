@@ -16,7 +16,7 @@ use Rattle.words.proofs.ChoiceLaws.{pick-true, pick-false}
 use Rattle.words.proofs.TruthLaws.{told, clash}
 use Rattle.words.proofs.Promises.{kept as words}
 use Rattle.text.specs.Text.{decimalOf}
-use Rattle.phrases.specs.Phrases.{bytes, counted}
+use Rattle.text.specs.Phrases.{bytes, counted}
 use Rattle.steps.specs.declared.Access.{Access}
 use Rattle.steps.specs.declared.Access.the-variants.{NoRegister, ReadOnly, WriteOnly, ReadWrite}
 use Rattle.aic_registers.specs.Map.{access as aicAccess}

@@ -16,7 +16,7 @@ use Rattle.words.proofs.ChoiceLaws.{pick-true, pick-false}
 use Rattle.words.proofs.TruthLaws.{told}
 use Rattle.text.specs.Text.{write, decimal}
 use Rattle.text.proofs.WriteLaws.{rest-of, nothing, and-then}
-use Rattle.phrases.specs.Phrases.{counted}
+use Rattle.text.specs.Phrases.{counted}
 use Rattle.register_names.specs.declared.Sizes.{Sizes}
 use Rattle.register_names.specs.Rows.{Row, inRow, inGroup, sectioned, named, numbered, rowWords, placeIn}
 use Rattle.register_names.specs.Table.{digitOf, twoAt, fourAt, until, countBy, countAt, sectionFrom, firstAt, stepAt, nameAt, sectionAt, rowAt, rowsFrom, rowsIn, standsBy, standsAt, rowFrom, numberBy, titleAt, wordsAt}

@@ -15,7 +15,7 @@ use Rattle.words.proofs.ChoiceLaws.{pick-cases}
 use Rattle.words.proofs.TruthLaws.{and-left, and-right}
 use Rattle.text.specs.Text.{decimal}
 use Rattle.text.proofs.DigitLaws.{length-decimal, length-below, decimal-digits}
-use Rattle.phrases.specs.Phrases.{counted}
+use Rattle.text.specs.Phrases.{counted}
 use Rattle.tables.specs.Layout.{Without}
 
 -- no line feed, and at most n bytes

@@ -5,13 +5,13 @@ use mathlib.Core.Path.{_≡_}
 use mathlib.Core.Bool.{Bool, true, false}
 use mathlib.Core.List.{List, [], _∷_}
 use mathlib.Core.Logic.{_↔_, _≢_, _⊎_}
-use Rattle.phrases.specs.Phrases.{bytes}
+use Rattle.text.specs.Phrases.{bytes}
 use Rattle.steps.specs.declared.Access.the-variants.{NoRegister}
 use Rattle.aic_registers.specs.Map.{access as aicAccess}
 use Rattle.coreinterrupt.specs.declared.Core.{Core}
 use Rattle.coreinterrupt.specs.Model.{access as coreAccess}
 use Rattle.cic_record.specs.declared.Cic.{Cic}
-use Rattle.cic_layout.specs.Map.{access as cicAccess}
+use Rattle.cic_registers.specs.Map.{access as cicAccess}
 use Rattle.cic_held.specs.declared.Prioritised.{Prioritised}
 use Rattle.cic_indexed.specs.Tables.{accessAt}
 use Rattle.aintc_registers.specs.Map.{access as aintcAccess}

@@ -14,7 +14,7 @@ use Rattle.words.specs.Counting.{one, countBelow}
 use Rattle.words.specs.Word.{bit, kept}
 use Rattle.text.specs.Text.{write, decimal}
 use Rattle.text.proofs.WriteLaws.{and-then, nothing}
-use Rattle.phrases.specs.Phrases.{bytes, counted}
+use Rattle.text.specs.Phrases.{bytes, counted}
 use Rattle.aic_record.specs.Mode.{priorityOf, typeOf}
 use Rattle.register_words.specs.Fields.{toldBit, toldBelow, moreWords, bitWords, shareWords, byteWords, mapWords, typeWords, modeWords, routeWords}
 

@@ -14,7 +14,7 @@ use Rattle.words.specs.Word.{bit}
 use Rattle.words.proofs.ChoiceLaws.{pick-true, pick-false}
 use Rattle.words.proofs.TruthLaws.{or-left, or-right}
 use Rattle.text.specs.Text.{decimalOf}
-use Rattle.phrases.specs.Phrases.{bytes, counted}
+use Rattle.text.specs.Phrases.{bytes, counted}
 use Rattle.steps.specs.declared.Recorded.{Recorded}
 use Rattle.steps.specs.declared.Step.the-variants.{Read, Write, Line}
 use Rattle.register_names.specs.Rows.{placeIn}
@@ -22,7 +22,7 @@ use Rattle.register_names.specs.Maps.{aicRows, coreRows, cicRows, indexRows, ai
 use Rattle.aic_record.specs.Mode.{priorityOf, typeOf, keptMode}
 use Rattle.kinds.specs.Kinds.{cicKind, indexedKind}
 use Rattle.kinds.proofs.KindLaws.{at-aic, at-core, at-cic, at-aintc, at-indexed}
-use Rattle.machine_record.specs.declared.Machine.{Machine}
+use Rattle.machine.specs.declared.record.Machine.{Machine}
 use Rattle.register_words.specs.Fields.{toldBit, toldBelow, moreWords, bitWords, byteWords, mapWords, typeWords, modeWords, routeWords}
 use Rattle.register_words.specs.Registers.{registerWords, beyondWords, accessWords, levelWords, limitAt, limitWords}
 use Rattle.register_words.specs.Promises.{Accesses, Promises}

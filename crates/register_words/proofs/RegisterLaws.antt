@@ -14,14 +14,14 @@ use Rattle.words.specs.Word.{bit, without, kept}
 use Rattle.words.proofs.ChoiceLaws.{pick-cases}
 use Rattle.words.proofs.CountingLaws.{count-le}
 use Rattle.words.proofs.TruthLaws.{and-left, and-right}
-use Rattle.phrases.specs.Phrases.{bytes, counted}
+use Rattle.text.specs.Phrases.{bytes, counted}
 use Rattle.tables.specs.Layout.{Without}
 use Rattle.steps.specs.declared.Step.{Step}
 use Rattle.steps.specs.declared.Step.the-variants.{Read, Write, Line}
 use Rattle.steps.specs.declared.Recorded.{Recorded}
 use Rattle.aic_record.specs.Mode.{priorityOf, typeOf}
 use Rattle.kinds.specs.Kinds.{Each, byKind, cicKind, indexedKind}
-use Rattle.machine_record.specs.declared.Machine.{Machine}
+use Rattle.machine.specs.declared.record.Machine.{Machine}
 use Rattle.register_names.proofs.TextLaws.{Fits, clear, short, known, empty, wider, joined, either, number, few, behind}
 use Rattle.register_names.proofs.FitLaws.{place-fits, aic-fits, core-fits, cic-fits, index-fits, aintc-fits}
 use Rattle.register_words.specs.Fields.{toldBit, toldBelow, moreWords, bitWords, shareWords, byteWords, mapWords, typeWords, modeWords, aicFields, coreFields, cicSingles, cicFields, indexedFields, routeWords, aintcSingles, aintcFields}

@@ -7,7 +7,7 @@ use Rattle.words.specs.Array.{restAt, byteOf}
 use Rattle.words.specs.Choice.{pick}
 use Rattle.words.specs.Counting.{countBelow}
 use Rattle.words.specs.Word.{bit, without, kept}
-use Rattle.phrases.specs.Phrases.{bytes, counted}
+use Rattle.text.specs.Phrases.{bytes, counted}
 use Rattle.aic_record.specs.Mode.{priorityOf, typeOf}
 
 -- ---- bits of a word as numbers

@@ -4,13 +4,13 @@ use Prim.Native.Nat.{ℕ, _<_, _≤_}
 use mathlib.Core.Path.{_≡_}
 use mathlib.Core.Bool.{Bool}
 use mathlib.Core.Logic.{_≢_, _⊎_}
-use Rattle.phrases.specs.Phrases.{bytes}
+use Rattle.text.specs.Phrases.{bytes}
 use Rattle.steps.specs.declared.Recorded.{Recorded}
 use Rattle.steps.specs.declared.Step.the-variants.{Read, Write, Line}
 use Rattle.register_names.specs.Rows.{placeIn}
 use Rattle.register_names.specs.Maps.{aicRows, coreRows, cicRows, indexRows, aintcRows}
 use Rattle.aic_record.specs.Mode.{keptMode}
-use Rattle.machine_record.specs.declared.Machine.{Machine}
+use Rattle.machine.specs.declared.record.Machine.{Machine}
 use Rattle.register_words.specs.Fields.{modeWords, bitWords, mapWords, routeWords}
 use Rattle.register_words.specs.Registers.{registerWords, limitWords}
 

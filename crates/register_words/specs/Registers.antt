@@ -4,14 +4,14 @@ use mathlib.Core.Bool.{Bool, true, false, _||_}
 use mathlib.Core.List.{List, []}
 use lib.Dec.{eqb, ltb}
 use Rattle.words.specs.Choice.{pick}
-use Rattle.phrases.specs.Phrases.{bytes, counted}
+use Rattle.text.specs.Phrases.{bytes, counted}
 use Rattle.steps.specs.declared.Step.{Step}
 use Rattle.steps.specs.declared.Step.the-variants.{Read, Write, Line}
 use Rattle.steps.specs.declared.Recorded.{Recorded}
 use Rattle.register_names.specs.Rows.{placeIn}
 use Rattle.register_names.specs.Maps.{aicRows, coreRows, cicRows, indexRows, aintcRows}
 use Rattle.kinds.specs.Kinds.{cicKind, indexedKind, byKind}
-use Rattle.machine_record.specs.declared.Machine.{Machine}
+use Rattle.machine.specs.declared.record.Machine.{Machine}
 use Rattle.register_words.specs.Fields.{aicFields, coreFields, cicFields, indexedFields, aintcFields}
 
 -- ---- the place

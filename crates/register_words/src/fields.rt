@@ -8,7 +8,7 @@ ghost use Rattle.words.specs.Choice.{pick};
 ghost use Rattle.words.specs.Counting.{countBelow};
 ghost use Rattle.words.specs.Word.{bit, without, kept};
 ghost use Rattle.text.specs.Text.{write};
-ghost use Rattle.phrases.specs.Phrases.{bytes, counted};
+ghost use Rattle.text.specs.Phrases.{bytes, counted};
 ghost use Rattle.register_words.specs.Fields.{toldBit, toldBelow, moreWords, bitWords, shareWords, byteWords, mapWords, typeWords, modeWords, aicFields, coreFields, cicSingles, cicFields, indexedFields, routeWords, aintcSingles, aintcFields};
 
 // ---- the AIC
@@ -44,7 +44,7 @@ fn put_mode(out: &mut [u8], at: usize, external: u32, o: u32, v: u32) -> usize
 {
     let outer = words::has(external, o / 4);
     let a = put_type(out, at, outer, v / 32 % 4);
-    phrases::put_counted(out, a, b", priority ", v % 8)
+    text::phrases::put_counted(out, a, b", priority ", v % 8)
 }
 
 fn put_type(out: &mut [u8], at: usize, external: bool, kind: u32) -> usize
@@ -111,7 +111,7 @@ pub fn put_indexed(
     ensures { λ r. ⌜ (now (out .exit), r) ≡ write (now (out .entry), at) (indexedFields systems channels hosts o v) ⌝ }
 {
     if o == 0x004 {
-        return phrases::put_counted(out, at, b"; PRIORITY_HOLD ", v / 16 % 2);
+        return text::phrases::put_counted(out, at, b"; PRIORITY_HOLD ", v / 16 % 2);
     }
     put_cic(out, at, systems, channels, hosts, o, v)
 }
@@ -162,19 +162,19 @@ fn put_cic_single(out: &mut [u8], at: usize, o: u32, v: u32) -> usize
     ensures { λ r. ⌜ (now (out .exit), r) ≡ write (now (out .entry), at) (cicSingles o v) ⌝ }
 {
     if o == 0x010 {
-        return phrases::put_counted(out, at, b"; ENABLE ", v % 2);
+        return text::phrases::put_counted(out, at, b"; ENABLE ", v % 2);
     }
     if o < 0x020 {
         return at;
     }
     if o < 0x030 {
-        return phrases::put_counted(out, at, b"; system ", v);
+        return text::phrases::put_counted(out, at, b"; system ", v);
     }
     if o < 0x034 {
         return at;
     }
     if o < 0x03C {
-        return phrases::put_counted(out, at, b"; host ", v);
+        return text::phrases::put_counted(out, at, b"; host ", v);
     }
     at
 }
@@ -207,13 +207,13 @@ fn put_aintc_single(out: &mut [u8], at: usize, o: u32, v: u32) -> usize
         return put_pair(out, at, b"; NEWIRQAGR ", v % 2, b", NEWFIQAGR ", v / 2 % 2);
     }
     if o == 0x04C {
-        return phrases::put_counted(out, at, b"; PROTECTION ", v % 2);
+        return text::phrases::put_counted(out, at, b"; PROTECTION ", v % 2);
     }
     if o == 0x050 {
         return put_pair(out, at, b"; TURBO ", v / 2 % 2, b", FUNCIDLE ", v % 2);
     }
     if o == 0x068 {
-        return phrases::put_counted(out, at, b"; PRIORITYTHRESHOLD ", v % 256);
+        return text::phrases::put_counted(out, at, b"; PRIORITYTHRESHOLD ", v % 256);
     }
     at
 }
@@ -306,7 +306,7 @@ fn put_more(out: &mut [u8], at: usize, n: u32) -> usize
     ensures { λ r. ⌜ (now (out .exit), r) ≡ write (now (out .entry), at) (moreWords n) ⌝ }
 {
     if 8 < n {
-        let a = phrases::put_counted(out, at, b" and ", n - 8);
+        let a = text::phrases::put_counted(out, at, b" and ", n - 8);
         return text::put_all(out, a, b" more");
     }
     at
@@ -326,8 +326,8 @@ fn put_map(
     requires { ⌜ first ≤ 1024 ⌝ }
     ensures { λ r. ⌜ (now (out .exit), r) ≡ write (now (out .entry), at) (mapWords (now (thing .entry)) (now (target .entry)) count first v) ⌝ }
 {
-    let a = phrases::put_counted(out, at, thing, first);
-    let b = phrases::put_counted(out, a, target, v % 256);
+    let a = text::phrases::put_counted(out, at, thing, first);
+    let b = text::phrases::put_counted(out, a, target, v % 256);
     let c = put_byte(out, b, count, first + 1, v / 256 % 256);
     let d = put_byte(out, c, count, first + 2, v / 65536 % 256);
     put_byte(out, d, count, first + 3, v / 16777216 % 256)
@@ -338,8 +338,8 @@ fn put_byte(out: &mut [u8], at: usize, count: u32, n: u32, b: u32) -> usize
     ensures { λ r. ⌜ (now (out .exit), r) ≡ write (now (out .entry), at) (byteWords count n b) ⌝ }
 {
     if n < count {
-        let a = phrases::put_counted(out, at, b", ", n);
-        return phrases::put_counted(out, a, b" to ", b);
+        let a = text::phrases::put_counted(out, at, b", ", n);
+        return text::phrases::put_counted(out, a, b" to ", b);
     }
     at
 }
@@ -350,8 +350,8 @@ fn put_byte(out: &mut [u8], at: usize, count: u32, n: u32, b: u32) -> usize
 fn put_pair(out: &mut [u8], at: usize, first: &[u8], m: u32, second: &[u8], n: u32) -> usize
     ensures { λ r. ⌜ (now (out .exit), r) ≡ write (now (out .entry), at) (counted (now (first .entry)) m ++ counted (now (second .entry)) n) ⌝ }
 {
-    let a = phrases::put_counted(out, at, first, m);
-    phrases::put_counted(out, a, second, n)
+    let a = text::phrases::put_counted(out, at, first, m);
+    text::phrases::put_counted(out, a, second, n)
 }
 
 // One text where a test holds, else another.

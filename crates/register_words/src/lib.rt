@@ -6,7 +6,7 @@ ghost use lib.Dec.{eqb};
 ghost use Rattle.register_names.specs.Rows.{placeIn};
 ghost use Rattle.register_names.specs.Maps.{cicRows, indexRows};
 ghost use Rattle.register_words.specs.Registers.{registerWords, below, inputWords, lineWords, placeAt, placeWords, writtenWords, fieldsAt, fieldWords, beyondWords, accessWords, levelWords, limitAt, limitWords};
-use machine_record::Machine;
+use machine::record::Machine;
 use steps::Recorded;
 use steps::Step;
 
@@ -116,7 +116,7 @@ fn put_below(out: &mut [u8], at: usize, n: u32, what: &[u8], k: u32) -> usize
     ensures { λ r. ⌜ (now (out .exit), r) ≡ write (now (out .entry), at) (below n (now (what .entry)) k) ⌝ }
 {
     if k < n {
-        return phrases::put_counted(out, at, what, k);
+        return text::phrases::put_counted(out, at, what, k);
     }
     at
 }
@@ -126,10 +126,10 @@ fn put_input(out: &mut [u8], at: usize, k: u32) -> usize
     ensures { λ r. ⌜ (now (out .exit), r) ≡ write (now (out .entry), at) (inputWords k) ⌝ }
 {
     if k < 32 {
-        return phrases::put_counted(out, at, b" IRQ input ", k);
+        return text::phrases::put_counted(out, at, b" IRQ input ", k);
     }
     if k < 40 {
-        return phrases::put_counted(out, at, b" FIQ input ", k - 32);
+        return text::phrases::put_counted(out, at, b" FIQ input ", k - 32);
     }
     at
 }

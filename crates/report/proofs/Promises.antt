@@ -12,7 +12,7 @@ use Rattle.words.proofs.ChoiceLaws.{pick-true, pick-false}
 use Rattle.text.specs.Text.{decimal, decimalOf, field, laid}
 use Rattle.text.proofs.Promises.{kept as texts}
 use Rattle.text.proofs.WriteLaws.{write-laid}
-use Rattle.phrases.specs.Phrases.{bytes, counted}
+use Rattle.text.specs.Phrases.{bytes, counted}
 use Rattle.totals.specs.declared.Totals.{Totals}
 use Rattle.report.specs.Lines.{lineEnd}
 use Rattle.report.specs.Printed.{named, endedAt, traceLine, leftOutLine, sourceLine, sourceLines}

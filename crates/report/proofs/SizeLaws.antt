@@ -9,8 +9,8 @@ use Rattle.words.proofs.ChoiceLaws.{pick-cases}
 use Rattle.steps.specs.Refusals.{carriedOut}
 use Rattle.text.specs.Text.{field}
 use Rattle.text.proofs.DigitLaws.{length-field}
-use Rattle.phrases.specs.Phrases.{bytes, counted}
-use Rattle.phrases.proofs.SizeLaws.{length-word, length-counted, length-few}
+use Rattle.text.specs.Phrases.{bytes, counted}
+use Rattle.text.proofs.SizeLaws.{length-word, length-counted, length-few}
 use Rattle.totals.specs.declared.Totals.{Totals}
 use Rattle.report.specs.Printed.{named, endedAt, traceLine, leftOutLine, sourceLine, sourceLines}
 use Rattle.report.specs.Promises.{Words}

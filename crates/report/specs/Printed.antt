@@ -6,7 +6,7 @@ use lib.ListN.{getD}
 use Rattle.words.specs.Choice.{pick}
 use Rattle.steps.specs.Refusals.{carriedOut}
 use Rattle.text.specs.Text.{newline, field}
-use Rattle.phrases.specs.Phrases.{bytes, counted}
+use Rattle.text.specs.Phrases.{bytes, counted}
 use Rattle.totals.specs.declared.Totals.{Totals}
 
 -- ---- a line for each trace named

@@ -11,7 +11,7 @@ use Rattle.report.specs.Put.{figuresOf, putAll}
 use mathlib.Core.Logic.{_≢_}
 use lib.ListN.{length, getD, drop}
 use Rattle.text.specs.Text.{decimal, field, laid}
-use Rattle.phrases.specs.Phrases.{bytes}
+use Rattle.text.specs.Phrases.{bytes}
 use Rattle.report.specs.Lines.{lineEnd, nameEnd, feedsBefore}
 use Rattle.report.specs.Printed.{traceLine, leftOutLine, sourceLine, sourceLines}
 

@@ -57,8 +57,8 @@ pub fn put_trace(
 ) -> usize
     ensures { λ r. ⌜ (now (out .exit), r) ≡ laid (now (out .entry)) (traceLine played refused refusal offset (now (name .entry))) ⌝ }
 {
-    let a = phrases::put_counted(out, 0, b"steps played ", played);
-    let b = phrases::put_counted(out, a, b", steps refused ", refused);
+    let a = text::phrases::put_counted(out, 0, b"steps played ", played);
+    let b = text::phrases::put_counted(out, a, b", steps refused ", refused);
     let c = put_ended(out, b, refusal, offset);
     put_name(out, c, name)
 }
@@ -67,7 +67,7 @@ pub fn put_trace(
 pub fn put_left_out(out: &mut [u8], refusal: u32, name: &[u8]) -> usize
     ensures { λ r. ⌜ (now (out .exit), r) ≡ laid (now (out .entry)) (leftOutLine refusal (now (name .entry))) ⌝ }
 {
-    let a = phrases::put_counted(out, 0, b"refusal ", refusal);
+    let a = text::phrases::put_counted(out, 0, b"refusal ", refusal);
     put_name(out, a, name)
 }
 
@@ -109,9 +109,9 @@ fn put_name(out: &mut [u8], at: usize, name: &[u8]) -> usize
 fn put_source(out: &mut [u8], at: usize, i: u32, started: u32, waited: u32, entries: u32) -> usize
     ensures { λ r. ⌜ (now (out .exit), r) ≡ write (now (out .entry), at) (sourceLine i started waited entries) ⌝ }
 {
-    let a = phrases::put_counted(out, at, b"source ", i);
-    let b = phrases::put_counted(out, a, b": handlers started ", started);
-    let c = phrases::put_counted(out, b, b", most handlers started while it waited ", waited);
-    let d = phrases::put_counted(out, c, b", most entries open while it was open ", entries);
+    let a = text::phrases::put_counted(out, at, b"source ", i);
+    let b = text::phrases::put_counted(out, a, b": handlers started ", started);
+    let c = text::phrases::put_counted(out, b, b", most handlers started while it waited ", waited);
+    let d = text::phrases::put_counted(out, c, b", most entries open while it was open ", entries);
     text::put(out, d, NEWLINE)
 }

@@ -14,7 +14,7 @@ use Rattle.words.proofs.ChoiceLaws.{pick-true, pick-false, pick-cases}
 use Rattle.words.proofs.TruthLaws.{and-both, told}
 use Rattle.text.specs.Text.{hexOf, hexDigit}
 use Rattle.text.proofs.DigitLaws.{length-hex}
-use Rattle.phrases.specs.Phrases.{bytes}
+use Rattle.text.specs.Phrases.{bytes}
 use Rattle.sheet.specs.Texts.{each}
 use Rattle.sheet.specs.Names.{plain, escape}
 use Rattle.sheet.specs.Promises.{Bytes}

@@ -8,10 +8,10 @@ use lib.Dec.{eqb, ltb}
 use lib.ListN.{length, getD, length-append}
 use Rattle.words.proofs.ChoiceLaws.{pick-cases}
 use Rattle.text.proofs.DigitLaws.{length-field}
-use Rattle.phrases.specs.Phrases.{bytes, counted}
+use Rattle.text.specs.Phrases.{bytes, counted}
 use Rattle.stack.specs.declared.Table.{Table}
 use Rattle.stack.specs.Bytes.{normal, levelBytes, stackBytes}
-use Rattle.wait_totals.specs.declared.Waits.{Waits}
+use Rattle.totals.specs.declared.waits.Waits.{Waits}
 use Rattle.sheet_figures.specs.declared.Noted.{Noted}
 use Rattle.sheet_figures.specs.declared.Sheet.{Sheet}
 use Rattle.sheet.specs.Texts.{amount, each}

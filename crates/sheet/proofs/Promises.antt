@@ -16,7 +16,7 @@ use Rattle.words.proofs.ChoiceLaws.{pick-true, pick-false}
 use Rattle.words.proofs.CountingLaws.{lowest-one, lowest-found}
 use Rattle.words.proofs.TruthLaws.{and-left, and-right, and-both, or-either, or-left, or-right, not-holds}
 use Rattle.text.specs.Text.{decimalOf, hexOf, hexDigit, field}
-use Rattle.phrases.specs.Phrases.{bytes, counted}
+use Rattle.text.specs.Phrases.{bytes, counted}
 use Rattle.stack.specs.declared.Table.{Table}
 use Rattle.stack.specs.Bytes.{normal, isOf, levelBytes}
 use Rattle.stack.specs.Promises.{NormalOf}

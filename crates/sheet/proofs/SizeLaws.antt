@@ -9,7 +9,7 @@ use lib.ListN.{length, length-append, length-take, take, drop}
 use Rattle.words.proofs.ChoiceLaws.{pick-cases}
 use Rattle.text.specs.Text.{decimal, hexOf}
 use Rattle.text.proofs.DigitLaws.{length-decimal, length-hex}
-use Rattle.phrases.specs.Phrases.{bytes, counted}
+use Rattle.text.specs.Phrases.{bytes, counted}
 use Rattle.sheet.specs.Texts.{amount, cell, cellOf, sourceCell, emptyCell, each, down}
 use Rattle.sheet.specs.Names.{plain, escape, nameOf}
 

@@ -1,7 +1,7 @@
 -- How the page ends, after the last trace: the sums over the traces that are counted, the stack, the sources, and what each figure counts.
 use Prim.Native.Nat.{ℕ, _+_}
 use mathlib.Core.List.{List, _++_}
-use Rattle.phrases.specs.Phrases.{bytes}
+use Rattle.text.specs.Phrases.{bytes}
 use Rattle.stack.specs.declared.Table.{Table}
 use Rattle.sheet_figures.specs.declared.Sheet.{Sheet}
 use Rattle.sheet.specs.Texts.{amount, cell, each}

@@ -2,7 +2,7 @@
 -- they are written as they are read, and last on the page.
 use Prim.Native.Nat.{ℕ}
 use mathlib.Core.List.{List, _++_}
-use Rattle.phrases.specs.Phrases.{bytes}
+use Rattle.text.specs.Phrases.{bytes}
 
 unfoldable pub documentHead : List ℕ
 documentHead =

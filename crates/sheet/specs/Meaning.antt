@@ -1,7 +1,7 @@
 -- What each figure of the page counts, with the name of the theorem that says so.
 use Prim.Native.Nat.{ℕ}
 use mathlib.Core.List.{List, _++_}
-use Rattle.phrases.specs.Phrases.{bytes}
+use Rattle.text.specs.Phrases.{bytes}
 
 unfoldable pub meaningFirst : List ℕ
 meaningFirst =

@@ -6,7 +6,7 @@ use lib.Dec.{eqb, leb}
 use lib.ListN.{take, drop}
 use Rattle.words.specs.Choice.{pick}
 use Rattle.text.specs.Text.{hexOf}
-use Rattle.phrases.specs.Phrases.{bytes}
+use Rattle.text.specs.Phrases.{bytes}
 use Rattle.sheet.specs.Texts.{each}
 
 -- a byte that prints stands for itself, any other is told by its number

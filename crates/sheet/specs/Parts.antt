@@ -4,10 +4,10 @@ use mathlib.Core.Path.{_≡_}
 use mathlib.Core.Bool.{Bool}
 use mathlib.Core.List.{List, _++_}
 use lib.ListN.{getD}
-use Rattle.phrases.specs.Phrases.{bytes, counted}
+use Rattle.text.specs.Phrases.{bytes, counted}
 use Rattle.stack.specs.declared.Table.{Table}
 use Rattle.stack.specs.Bytes.{levelBytes, stackBytes}
-use Rattle.wait_totals.specs.declared.Waits.{Waits}
+use Rattle.totals.specs.declared.waits.Waits.{Waits}
 use Rattle.sheet_figures.specs.declared.Sheet.{Sheet}
 use Rattle.sheet.specs.Texts.{amount, cellOf, sourceCell, each, down}
 use Rattle.sheet.specs.Order.{inOrder, hidden}

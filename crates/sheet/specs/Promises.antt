@@ -9,11 +9,11 @@ use lib.ListN.{length, getD, take, drop}
 use Rattle.words.specs.Counting.{one, countBelow}
 use Rattle.words.specs.Word.{bit}
 use Rattle.text.specs.Text.{decimal, hexOf}
-use Rattle.phrases.specs.Phrases.{bytes, counted}
+use Rattle.text.specs.Phrases.{bytes, counted}
 use Rattle.stack.specs.declared.Table.{Table}
 use Rattle.stack.specs.Bytes.{normal, levelBytes, stackBytes}
 use Rattle.stack.specs.Promises.{NormalOf}
-use Rattle.wait_totals.specs.declared.Waits.{Waits}
+use Rattle.totals.specs.declared.waits.Waits.{Waits}
 use Rattle.sheet_figures.specs.declared.Noted.{Noted}
 use Rattle.sheet_figures.specs.declared.Sheet.{Sheet}
 use Rattle.sheet.specs.Texts.{amount, cell, cellOf, sourceCell, emptyCell, each, down}

@@ -6,7 +6,7 @@ use lib.Dec.{eqb}
 use Rattle.words.specs.Choice.{pick}
 use Rattle.steps.specs.Refusals.{carriedOut}
 use Rattle.text.specs.Text.{field}
-use Rattle.phrases.specs.Phrases.{bytes, counted}
+use Rattle.text.specs.Phrases.{bytes, counted}
 use Rattle.sheet_figures.specs.declared.Noted.{Noted}
 use Rattle.sheet.specs.Texts.{cell}
 use Rattle.sheet.specs.Names.{escaped}

@@ -5,10 +5,10 @@ use mathlib.Core.List.{List, [], _++_}
 use lib.Dec.{eqb}
 use lib.ListN.{getD}
 use Rattle.words.specs.Choice.{pick}
-use Rattle.phrases.specs.Phrases.{bytes, counted}
+use Rattle.text.specs.Phrases.{bytes, counted}
 use Rattle.stack.specs.declared.Table.{Table}
 use Rattle.stack.specs.Bytes.{normal}
-use Rattle.wait_totals.specs.declared.Waits.{Waits}
+use Rattle.totals.specs.declared.waits.Waits.{Waits}
 use Rattle.sheet_figures.specs.declared.Sheet.{Sheet}
 use Rattle.sheet.specs.Texts.{amount, cellOf, sourceCell, emptyCell}
 use Rattle.sheet.specs.Names.{escaped, nameOf}

@@ -2,7 +2,7 @@
 use Prim.Native.Nat.{ℕ, zero, suc}
 use mathlib.Core.List.{List, [], _∷_, _++_}
 use Rattle.text.specs.Text.{decimal}
-use Rattle.phrases.specs.Phrases.{bytes, counted}
+use Rattle.text.specs.Phrases.{bytes, counted}
 
 -- a number with the word of what it counts: the unit is part of the figure (02, 4/12 and 11/12)
 unfoldable pub amount : ℕ → List ℕ → List ℕ

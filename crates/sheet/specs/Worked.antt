@@ -2,9 +2,9 @@
 use Prim.Native.Nat.{ℕ}
 use mathlib.Core.Bool.{true}
 use mathlib.Core.List.{List, [], _∷_, _++_}
-use Rattle.phrases.specs.Phrases.{bytes}
+use Rattle.text.specs.Phrases.{bytes}
 use Rattle.totals.specs.declared.Totals.{Totals}
-use Rattle.wait_totals.specs.declared.Waits.{Waits}
+use Rattle.totals.specs.declared.waits.Waits.{Waits}
 use Rattle.stack.specs.declared.Table.{Table}
 use Rattle.sheet_figures.specs.declared.Noted.{Noted}
 use Rattle.sheet_figures.specs.declared.Sheet.{Sheet}

@@ -1,7 +1,7 @@
 // The pieces of the page: a number with its unit, and the cells of figures (02, 11/12).
 ghost use mathlib.Core.Path.{_≡_};
 ghost use Rattle.text.specs.Text.{write};
-ghost use Rattle.phrases.specs.Phrases.{counted};
+ghost use Rattle.text.specs.Phrases.{counted};
 ghost use Rattle.sheet.specs.Texts.{amount, cell, cellOf, sourceCell, emptyCell};
 
 // A number behind words.
@@ -38,7 +38,7 @@ pub(crate) fn put_cell_of(out: &mut [u8], at: usize, figure: &[u8], i: u32) -> u
 {
     let a = text::put_all(out, at, b"<td data-figure=\"");
     let b = text::put_all(out, a, figure);
-    let c = phrases::put_counted(out, b, b"\" data-source=\"", i);
+    let c = text::phrases::put_counted(out, b, b"\" data-source=\"", i);
     text::put_all(out, c, b"\">")
 }
 

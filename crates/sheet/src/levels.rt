@@ -77,9 +77,9 @@ fn put_bar(out: &mut [u8], at: usize, most: u32, b: u32, l: u32) -> usize
 {
     let w = width(most, b);
     let y = 8 + (7 - l) * 24;
-    let a = phrases::put_counted(out, at, b"<text x=\"8\" y=\"", y + 12);
-    let c = phrases::put_counted(out, a, b"\">level ", l);
-    let d = phrases::put_counted(out, c, b"</text><rect x=\"64\" y=\"", y);
+    let a = text::phrases::put_counted(out, at, b"<text x=\"8\" y=\"", y + 12);
+    let c = text::phrases::put_counted(out, a, b"\">level ", l);
+    let d = text::phrases::put_counted(out, c, b"</text><rect x=\"64\" y=\"", y);
     let e = cells::put_number(out, d, b"\" width=\"", w);
     let f = cells::put_number(
         out,
@@ -87,7 +87,7 @@ fn put_bar(out: &mut [u8], at: usize, most: u32, b: u32, l: u32) -> usize
         b"\" height=\"16\" fill=\"none\" stroke=\"black\"/><text x=\"",
         w + 72,
     );
-    let g = phrases::put_counted(out, f, b"\" y=\"", y + 12);
+    let g = text::phrases::put_counted(out, f, b"\" y=\"", y + 12);
     let h = text::put_all(out, g, b"\">");
     let i = cells::put_amount(out, h, b as u64, b"bytes");
     text::put_all(out, i, b"</text>\n")
@@ -130,8 +130,8 @@ fn put_row(out: &mut [u8], at: usize, t: Table, names: &[u8], lengths: [u32; 32]
     ensures { λ r. ⌜ (now (out .exit), r) ≡ write (now (out .entry), at) (levelRow t (now (names .entry)) lengths l) ⌝ }
 {
     let n = stack::level_bytes(t, l);
-    let a = phrases::put_counted(out, at, b"<tr><th>level ", l);
-    let b = phrases::put_counted(
+    let a = text::phrases::put_counted(out, at, b"<tr><th>level ", l);
+    let b = text::phrases::put_counted(
         out,
         a,
         b"</th><td data-figure=\"level-bytes\" data-level=\"",
@@ -139,7 +139,7 @@ fn put_row(out: &mut [u8], at: usize, t: Table, names: &[u8], lengths: [u32; 32]
     );
     let c = text::put_all(out, b, b"\">");
     let d = cells::put_amount(out, c, n as u64, b"bytes");
-    let e = phrases::put_counted(
+    let e = text::phrases::put_counted(
         out,
         d,
         b"</td><td data-figure=\"level-source\" data-level=\"",
@@ -167,7 +167,7 @@ fn put_whose(out: &mut [u8], at: usize, t: Table, names: &[u8], lengths: [u32; 3
 fn put_called(out: &mut [u8], at: usize, names: &[u8], k: u32, i: u32) -> usize
     ensures { λ r. ⌜ (now (out .exit), r) ≡ write (now (out .entry), at) (called (now (names .entry)) k i) ⌝ }
 {
-    let a = phrases::put_counted(out, at, b"source ", i);
+    let a = text::phrases::put_counted(out, at, b"source ", i);
     if k == 0 {
         return a;
     }

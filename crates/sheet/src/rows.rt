@@ -46,7 +46,7 @@ pub(crate) fn put_out(
 fn put_row_head(out: &mut [u8], at: usize, n: u32, name: &[u8]) -> usize
     ensures { λ r. ⌜ (now (out .exit), r) ≡ write (now (out .entry), at) (rowHead n (now (name .entry))) ⌝ }
 {
-    let a = phrases::put_counted(out, at, b"<tr><th>", n);
+    let a = text::phrases::put_counted(out, at, b"<tr><th>", n);
     let b = text::put_all(out, a, b"</th><td>");
     let c = escapes::put_escaped(out, b, name);
     text::put_all(out, c, b"</td>")
@@ -104,7 +104,7 @@ fn put_reason(out: &mut [u8], at: usize, refusal: u32, step: u32, source: u32) -
     if refusal == 17 {
         return text::put_all(out, at, b"left out by 17: it could not be opened or read");
     }
-    let a = phrases::put_counted(out, at, b"left out by 18: after step ", step);
-    let b = phrases::put_counted(out, a, b" source ", source);
+    let a = text::phrases::put_counted(out, at, b"left out by 18: after step ", step);
+    let b = text::phrases::put_counted(out, a, b" source ", source);
     text::put_all(out, b, b" is enabled and not as in the table")
 }

@@ -3,7 +3,7 @@ ghost use mathlib.Core.Path.{_≡_};
 ghost use Rattle.words.specs.Choice.{pick};
 ghost use lib.Dec.{eqb};
 ghost use Rattle.text.specs.Text.{write};
-ghost use Rattle.phrases.specs.Phrases.{bytes};
+ghost use Rattle.text.specs.Phrases.{bytes};
 ghost use Rattle.sheet.specs.Texts.{each};
 ghost use Rattle.sheet.specs.Names.{escaped, nameOf};
 ghost use Rattle.sheet.specs.Sources.{
@@ -28,7 +28,7 @@ use super::escapes;
 use super::order;
 use sheet_figures::Sheet;
 use stack::Table;
-use wait_totals::Waits;
+use totals::waits::Waits;
 
 // ---- rows
 
@@ -103,7 +103,7 @@ fn put_wait(out: &mut [u8], at: usize, w: Waits, trace: [u32; 32], i: u32) -> us
     let first = w.first;
     let f = order::word_at(first, i);
     let m = order::word_at(trace, i);
-    let a = phrases::put_counted(out, at, b"<tr><th>source ", i);
+    let a = text::phrases::put_counted(out, at, b"<tr><th>source ", i);
     let b = text::put_all(out, a, b"</th>");
     let c = cells::put_source_cell(out, b, b"waits-unended", i, e, b"waits");
     let d = cells::put_source_cell(out, c, b"waits-unbounded", i, u, b"waits");
@@ -119,7 +119,7 @@ fn put_wait(out: &mut [u8], at: usize, w: Waits, trace: [u32; 32], i: u32) -> us
 fn put_source_head(out: &mut [u8], at: usize, names: &[u8], k: u32, i: u32) -> usize
     ensures { λ r. ⌜ (now (out .exit), r) ≡ write (now (out .entry), at) (sourceHead (now (names .entry)) k i) ⌝ }
 {
-    let a = phrases::put_counted(out, at, b"<tr><th>source ", i);
+    let a = text::phrases::put_counted(out, at, b"<tr><th>source ", i);
     let b = text::put_all(out, a, b"</th><td>");
     let c = put_name_or(out, b, names, k, i);
     text::put_all(out, c, b"</td>")
@@ -138,7 +138,7 @@ fn put_tabled(out: &mut [u8], at: usize, i: u32, priority: u32, kind: u32, frame
     ensures { λ r. ⌜ (now (out .exit), r) ≡ write (now (out .entry), at) (tabled i priority kind frame) ⌝ }
 {
     let a = cells::put_cell_of(out, at, b"priority", i);
-    let b = phrases::put_counted(out, a, b"level ", priority);
+    let b = text::phrases::put_counted(out, a, b"level ", priority);
     let c = text::put_all(out, b, b"</td><td>");
     let d = put_typed(out, c, kind);
     let e = text::put_all(out, d, b"</td>");
@@ -212,7 +212,7 @@ fn put_most(out: &mut [u8], at: usize, begun: u32, unbounded: u32, bound: u64) -
 fn put_waited(out: &mut [u8], at: usize, i: u32, begun: u32, unbounded: u32) -> usize
     ensures { λ r. ⌜ (now (out .exit), r) ≡ write (now (out .entry), at) (waited i begun unbounded) ⌝ }
 {
-    let a = phrases::put_counted(
+    let a = text::phrases::put_counted(
         out,
         at,
         b"<td><span data-figure=\"waits\" data-source=\"",
@@ -231,7 +231,7 @@ fn put_unbounded(out: &mut [u8], at: usize, unbounded: u32) -> usize
     if unbounded == 0 {
         return at;
     }
-    let a = phrases::put_counted(out, at, b", ", unbounded);
+    let a = text::phrases::put_counted(out, at, b", ", unbounded);
     text::put_all(out, a, b" without a bound")
 }
 
@@ -241,8 +241,8 @@ fn put_first(out: &mut [u8], at: usize, unbounded: u32, step: u32, trace: u32) -
     if unbounded == 0 {
         return text::put_all(out, at, b"-");
     }
-    let a = phrases::put_counted(out, at, b"step ", step);
-    phrases::put_counted(out, a, b" of trace ", trace)
+    let a = text::phrases::put_counted(out, at, b"step ", step);
+    text::phrases::put_counted(out, a, b" of trace ", trace)
 }
 
 // ---- the largest bound

@@ -19,10 +19,10 @@ use Rattle.totals.specs.Promises.{Source}
 use Rattle.totals.specs.Totals as Sums
 use Rattle.totals.proofs.Promises as Figures
 use Rattle.totals.proofs.TotalsLaws.{sum-passes, refused-passes}
-use Rattle.wait_totals.specs.Promises.{Numbers}
-use Rattle.wait_totals.specs.Waits as Bounds
-use Rattle.wait_totals.proofs.Promises as Waits
-use Rattle.wait_totals.proofs.WaitLaws as Laws
+use Rattle.totals.specs.WaitsPromises.{Numbers}
+use Rattle.totals.specs.Waits as Bounds
+use Rattle.totals.proofs.WaitsPromises as Waits
+use Rattle.totals.proofs.WaitLaws as Laws
 use Rattle.sheet_figures.specs.declared.Noted.{Noted}
 use Rattle.sheet_figures.specs.declared.Sheet.{Sheet}
 use Rattle.sheet_figures.specs.declared.Added.{Added}

@@ -12,9 +12,9 @@ use Rattle.steps.specs.Refusals.{carriedOut}
 use Rattle.totals.specs.declared.Added.{Added as Summed}
 use Rattle.totals.specs.Totals as Sums
 use Rattle.totals.proofs.TotalsLaws.{sum-passes, refused-passes}
-use Rattle.wait_totals.specs.declared.Added.{Added as Bounded}
-use Rattle.wait_totals.specs.Waits as Bounds
-use Rattle.wait_totals.proofs.WaitLaws as Laws
+use Rattle.totals.specs.declared.waits.Added.{Added as Bounded}
+use Rattle.totals.specs.Waits as Bounds
+use Rattle.totals.proofs.WaitLaws as Laws
 use Rattle.sheet_figures.specs.declared.Noted.{Noted}
 use Rattle.sheet_figures.specs.declared.Sheet.{Sheet}
 use Rattle.sheet_figures.specs.Sheet.{tooMuch, numbersPass, passes, counted, more, together, summed, added}

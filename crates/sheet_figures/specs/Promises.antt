@@ -8,9 +8,9 @@ use Rattle.words.specs.Word.{bit}
 use Rattle.totals.specs.declared.Totals.{Totals}
 use Rattle.totals.specs.Totals as Sums
 use Rattle.totals.specs.Promises.{Source}
-use Rattle.wait_totals.specs.declared.Waits.{Waits}
-use Rattle.wait_totals.specs.Waits as Bounds
-use Rattle.wait_totals.specs.Promises.{Numbers}
+use Rattle.totals.specs.declared.waits.Waits.{Waits}
+use Rattle.totals.specs.Waits as Bounds
+use Rattle.totals.specs.WaitsPromises.{Numbers}
 use Rattle.sheet_figures.specs.declared.Noted.{Noted}
 use Rattle.sheet_figures.specs.declared.Sheet.{Sheet}
 use Rattle.sheet_figures.specs.Sheet.{noSheet, more, added, leftUnopened}

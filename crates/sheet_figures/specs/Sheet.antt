@@ -10,8 +10,8 @@ use Rattle.words.specs.Word.{either}
 use Rattle.steps.specs.Refusals.{carriedOut, overfull}
 use Rattle.totals.specs.declared.Totals.{Totals}
 use Rattle.totals.specs.Totals as Sums
-use Rattle.wait_totals.specs.declared.Waits.{Waits}
-use Rattle.wait_totals.specs.Waits as Bounds
+use Rattle.totals.specs.declared.waits.Waits.{Waits}
+use Rattle.totals.specs.Waits as Bounds
 use Rattle.sheet_figures.specs.declared.Noted.{Noted}
 use Rattle.sheet_figures.specs.declared.Sheet.{Sheet}
 use Rattle.sheet_figures.specs.declared.Added.{Added}

@@ -3,7 +3,7 @@ ghost use mathlib.Core.Path.{_≡_};
 ghost use mathlib.Core.Bool.{false};
 ghost use Rattle.sheet_figures.specs.Sheet.{noSheet, more, counted, tooMuch, numbersPass, firstOf, together, summed, added, leftUnopened};
 use totals::Totals;
-use wait_totals::Waits;
+use totals::waits::Waits;
 
 // What the sheet takes from one trace: the steps played and refused, marks opened, ends of interrupt that found no entry open, entries open after the last
 // step; how it ended and where; whether it starts an AIC; a word of the sources that are enabled in some record; the lowest source that does not keep the
@@ -58,7 +58,7 @@ pub fn none() -> Sheet
     ensures { λ r. ⌜ r ≡ noSheet ⌝ }
 {
     let f = totals::none();
-    let w = wait_totals::none();
+    let w = totals::waits::none();
     Sheet {
         named: 0,
         full: 0,
@@ -102,7 +102,7 @@ fn sum_up(s: Sheet, t: Noted) -> Added
     ensures { λ r. ⌜ r ≡ summed s t ⌝ }
 {
     let f = totals::add(s.figures, t.figures);
-    let w = wait_totals::add(s.waits, t.waits);
+    let w = totals::waits::add(s.waits, t.waits);
     if numbers_pass(s, t) | (f.refusal != steps::CARRIED_OUT) | (w.refusal != steps::CARRIED_OUT) {
         let out = counted(s, more(s.full), s.unopened, s.unkept);
         return Added {
@@ -170,11 +170,11 @@ fn together(s: Sheet, t: Noted, figures: Totals, waits: Waits) -> Sheet
 fn first_of(s: Sheet, t: Noted) -> [u32; 32]
     ensures { λ r. ⌜ r ≡ firstOf s t ⌝ }
 {
-    let lost = wait_totals::newly(s.waits, t.waits);
+    let lost = totals::waits::newly(s.waits, t.waits);
     let before = s.trace;
     let this = more(s.named);
     let all = [this; 32];
-    wait_totals::chosen(lost, before, all)
+    totals::waits::chosen(lost, before, all)
 }
 
 // Whether one of the sums that are of no source would pass 4,294,967,295.

@@ -5,7 +5,7 @@ ghost use mathlib.Core.Path.{_≡_};
 ghost use mathlib.Core.List.{List};
 ghost use Prim.Native.Nat.{ℕ, _≤_};
 ghost use lib.ListN.{length};
-ghost use Rattle.table_slips.specs.Slips.{slipLine};
+ghost use Rattle.tables.specs.Slips.{slipLine};
 
 mod held;
 mod names;
@@ -44,7 +44,7 @@ fn check(text: &[u8]) {
 // The line that leads to the slip of a refused table.
 fn refuse(text: &[u8]) {
     let mut line = slip_room();
-    let k = table_slips::put_slip(&mut line, text);
+    let k = tables::slips::put_slip(&mut line, text);
     tell(b"sheet_run: ");
     tell(&line[..k]);
 }

@@ -17,24 +17,24 @@ use Rattle.steps.specs.Refusals.{carriedOut}
 use Rattle.trace.specs.declared.Turn.the-variants.{Found, Ended}
 use Rattle.trace.specs.Trace.{Trace, turnAt, stepsFrom}
 use Rattle.trace.proofs.TraceLaws.{trace-ended, trace-found}
-use Rattle.turns.specs.declared.Told.{Told}
-use Rattle.turns.specs.Turns.{endedKind, stepOf, recordedOf, turnOf}
-use Rattle.turns.proofs.TurnLaws.{ends-here, finds, found-here}
+use Rattle.trace.specs.declared.turns.Told.{Told}
+use Rattle.trace.specs.Turns.{endedKind, stepOf, recordedOf, turnOf}
+use Rattle.trace.proofs.TurnLaws.{ends-here, finds, found-here}
 use Rattle.rooms.specs.Reply.{Reply}
 use Rattle.aic_record.specs.declared.Aic.{Aic}
 use Rattle.aic_record.specs.Promises.{Shaped}
 use Rattle.aic_record.specs.Sound.{sound}
 use Rattle.aic.specs.Model.{step}
 use Rattle.aic.proofs.SoundLaws.{step-sound}
-use Rattle.aic_layout.specs.Room.{Laid}
-use Rattle.aic_layout.proofs.CellLaws.{depth-is, enabled-is}
+use Rattle.aic_room.specs.Room.{Laid}
+use Rattle.aic_room.proofs.CellLaws.{depth-is, enabled-is}
 use Rattle.aic_room.specs.Reply.{Done}
 use Rattle.aic_runs.specs.Counted.{carried}
 use Rattle.aic_bounds.specs.declared.Marks.{Marks}
 use Rattle.aic_bounds.specs.Following.{noMarks, marksOf, marksBy}
-use Rattle.aic_wait_figures.specs.declared.Figures.{Figures}
-use Rattle.aic_wait_figures.specs.Figures.{noFigures, figuresOver, figuresOf}
-use Rattle.wait_totals.specs.declared.Waits.{Waits}
+use Rattle.aic_bounds.specs.declared.figures.Figures.{Figures}
+use Rattle.aic_bounds.specs.Figures.{noFigures, figuresOver, figuresOf}
+use Rattle.totals.specs.declared.waits.Waits.{Waits}
 use Rattle.aic_wait_book.specs.Book.{Kept}
 use Rattle.aic_wait_book.specs.Waits.{waitsNow, followed}
 use Rattle.aic_wait_book.proofs.Promises as Book

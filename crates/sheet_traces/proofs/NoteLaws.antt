@@ -16,20 +16,20 @@ use Rattle.kinds.specs.Kinds.{aicKind, tellsPrivilege}
 use Rattle.aic_record.specs.declared.Aic.{Aic}
 use Rattle.aic_record.specs.Sound.{sound}
 use Rattle.aic_record.specs.Promises.{Shaped}
-use Rattle.machine_record.proofs.MachineLaws.{sound-aic}
+use Rattle.machine.proofs.MachineLaws.{sound-aic}
 use Rattle.beginning.specs.declared.Begun.{Begun}
 use Rattle.beginning.specs.Begin.{beginOf}
 use Rattle.beginning.proofs.BeginningLaws.{begin-ready}
-use Rattle.reports.specs.Play.{recordsFrom, recordsOf}
-use Rattle.reports.proofs.PlayLaws.{records-begun}
+use Rattle.beginning.specs.Play.{recordsFrom, recordsOf}
+use Rattle.beginning.proofs.PlayLaws.{records-begun}
 use Rattle.stack.specs.declared.Table.{Table}
 use Rattle.tally.specs.declared.Tallied.{Tallied}
 use Rattle.tally.specs.Promises.{aicOf, playedOf}
 use Rattle.tally.specs.Tally.{stepsIn, tallyOf}
 use Rattle.tally.proofs.TallyLaws.{as-many}
 use Rattle.tally.proofs.LengthLaws.{begun-length, records-short}
-use Rattle.wait_totals.specs.declared.Waits.{Waits}
-use Rattle.wait_totals.specs.Waits.{noWaits}
+use Rattle.totals.specs.declared.waits.Waits.{Waits}
+use Rattle.totals.specs.Waits.{noWaits}
 use Rattle.aic_wait_book.specs.Waits.{waitsOf}
 use Rattle.sheet_figures.specs.declared.Noted.{Noted}
 use Rattle.sheet_traces.specs.declared.Played.{Played}

@@ -32,8 +32,8 @@ use Rattle.tally.proofs.TallyLaws.{fresh}
 use Rattle.tally.proofs.Promises as Tally
 use Rattle.totals.specs.declared.Totals.{Totals}
 use Rattle.totals.specs.Promises.{Whole}
-use Rattle.wait_totals.specs.Waits.{boundOf}
-use Rattle.wait_totals.specs.declared.Waits.{Waits}
+use Rattle.totals.specs.Waits.{boundOf}
+use Rattle.totals.specs.declared.waits.Waits.{Waits}
 use Rattle.sheet_figures.specs.declared.Noted.{Noted}
 use Rattle.sheet_traces.specs.Watched.{straysIn, watchedIn}
 use Rattle.sheet_traces.specs.Noted.{startsAic, noteOf}

@@ -19,16 +19,16 @@ use Rattle.words.proofs.WordLaws.{bit-either, either-lt, same-word, bit-some, b
 use Rattle.steps.specs.declared.Step.{Step}
 use Rattle.steps.specs.declared.Step.the-variants.{Read, Write, Line}
 use Rattle.trace.specs.Steps.{readKind, writeKind}
-use Rattle.turns.specs.Turns.{stepOf}
-use Rattle.turns.proofs.TurnLaws.{step-read, step-write, step-line}
+use Rattle.trace.specs.Turns.{stepOf}
+use Rattle.trace.proofs.TurnLaws.{step-read, step-write, step-line}
 use Rattle.aic_record.specs.declared.Aic.{Aic}
 use Rattle.aic_record.specs.Promises.{Shaped}
 use Rattle.aic_record.specs.Sound.{sound}
 use Rattle.aic_record.proofs.SoundLaws.{sound-is}
 use Rattle.aic.specs.Model.{step}
 use Rattle.aic.proofs.SoundLaws.{step-sound}
-use Rattle.aic_layout.specs.Room.{Laid}
-use Rattle.aic_layout.proofs.CellLaws.{depth-is, enabled-is, source-is}
+use Rattle.aic_room.specs.Room.{Laid}
+use Rattle.aic_room.proofs.CellLaws.{depth-is, enabled-is, source-is}
 use Rattle.aic_registers.specs.Map.{eoicr}
 use Rattle.aic_runs.specs.Counted.{carried, rewrites}
 use Rattle.aic_runs.specs.Runs.{run, count}

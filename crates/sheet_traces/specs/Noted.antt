@@ -13,8 +13,8 @@ use Rattle.stack.specs.declared.Table.{Table}
 use Rattle.tally.specs.declared.Tallied.{Tallied}
 use Rattle.tally.specs.Promises.{aicOf, playedOf}
 use Rattle.tally.specs.Tally.{tallyOf}
-use Rattle.wait_totals.specs.declared.Waits.{Waits}
-use Rattle.wait_totals.specs.Waits.{noWaits}
+use Rattle.totals.specs.declared.waits.Waits.{Waits}
+use Rattle.totals.specs.Waits.{noWaits}
 use Rattle.aic_wait_book.specs.Waits.{waitsOf}
 use Rattle.sheet_figures.specs.declared.Noted.{Noted}
 use Rattle.sheet_traces.specs.declared.Played.{Played}

@@ -18,7 +18,7 @@ use Rattle.stack_kept.specs.Kept.{keeps, unkept, keepsAlong}
 use Rattle.tally.specs.Promises.{aicOf, playedOf}
 use Rattle.tally.specs.Tally.{tallyOf}
 use Rattle.totals.specs.Promises.{Whole}
-use Rattle.wait_totals.specs.Waits.{noWaits, boundOf}
+use Rattle.totals.specs.Waits.{noWaits, boundOf}
 use Rattle.aic_wait_book.specs.Promises.{Source}
 use Rattle.sheet_figures.specs.declared.Noted.{Noted}
 use Rattle.sheet_traces.specs.Watched.{opensMark, idleEnd, usedIn, straysIn, astrayFrom}

@@ -8,21 +8,21 @@ ghost use Rattle.words.specs.Choice.{pick};
 ghost use Rattle.steps.specs.Refusals.{carriedOut};
 ghost use Rattle.steps.specs.declared.Step.{Step};
 ghost use Rattle.trace.specs.Trace.{stepsFrom};
-ghost use Rattle.turns.specs.Turns.{stepOf};
+ghost use Rattle.trace.specs.Turns.{stepOf};
 ghost use Rattle.kinds.specs.Kinds.{aicKind};
 ghost use Rattle.aic_record.specs.declared.Aic.{Aic as Record};
 ghost use Rattle.aic_record.specs.Sound.{sound};
 ghost use Rattle.aic_record.specs.Promises.{Shaped};
 ghost use Rattle.aic.specs.Model.{step};
 ghost use Rattle.aic_bounds.specs.Following.{noMarks};
-ghost use Rattle.aic_layout.specs.Room.{Laid};
+ghost use Rattle.aic_room.specs.Room.{Laid};
 ghost use Rattle.stack_kept.specs.Kept.{unkept};
 ghost use Rattle.beginning.specs.Begin.{beginOf};
 ghost use Rattle.tally.specs.Tally.{stepsIn, tallyOf};
 ghost use Rattle.sheet_traces.specs.Watched.{opensMark, idleEnd};
 ghost use Rattle.sheet_traces.specs.Following.{watchedFirst, watchedBy, Met};
 ghost use Rattle.sheet_traces.specs.Noted.{playedIn, noted, unseen, noteOf};
-ghost use Rattle.wait_totals.specs.Waits.{noWaits};
+ghost use Rattle.totals.specs.Waits.{noWaits};
 use aic_bounds::Marks;
 use aic_record::Aic;
 use beginning::Begun;
@@ -30,7 +30,7 @@ use rooms::Room;
 use sheet_figures::Noted;
 use stack::Table;
 use tally::Tallied;
-use wait_totals::Waits;
+use totals::waits::Waits;
 
 // Marks opened, ends of interrupt that found no entry open, entries open now, a word of the sources that were enabled; the lowest source that did not keep
 // the table in the first record that did not, 32 for none, and the step after which that was.
@@ -55,10 +55,10 @@ pub struct Played {
 fn opened_mark(room: &Room, before: u32) -> bool
     ensures { λ r. ⌜ ((s : Record) (x : Step) → sound s ≡ true → Shaped s → Laid (step s x .aic) (now (room .entry)) → before ≡ s .depth → r ≡ opensMark s x) ⌝ }
 {
-    if room[aic_layout::DEPTH] <= before {
+    if room[aic_room::layout::DEPTH] <= before {
         return false;
     }
-    room[aic_layout::SOURCE + (before % 8) as usize] == 0
+    room[aic_room::layout::SOURCE + (before % 8) as usize] == 0
 }
 
 // Whether a step that was carried out is an end of interrupt that found no entry open.
@@ -85,7 +85,7 @@ fn strays_after(room: &Room, table: Table, strays: u32, same: bool) -> u32
     if same | (strays != 32) {
         return strays;
     }
-    stack_kept::unkept(table, aic_layout::record_of(room))
+    stack_kept::unkept(table, aic_room::layout::record_of(room))
 }
 
 // What is watched after the n-th step, before which so many entries were open and these sources enabled.
@@ -102,7 +102,7 @@ fn watched_after(
     requires { ⌜ (w .marks < 4294967295) × (w .idle < 4294967295) ⌝ }
     ensures { λ r. ⌜ ((s : Record) (x : Step) → sound s ≡ true → Shaped s → Laid (step s x .aic) (now (room .entry)) → Met table w s x before enabled idle wrote → r ≡ watchedBy table n w s x) ⌝ }
 {
-    let on = room[aic_layout::ENABLED];
+    let on = room[aic_room::layout::ENABLED];
     let strays = strays_after(room, table, w.strays, !wrote & (on == enabled));
     let astray = aic_bounds::either((w.strays == 32) & (strays != 32), n, w.astray);
     let marks = w.marks + words::one_if(opened_mark(room, before));
@@ -111,7 +111,7 @@ fn watched_after(
     Watched {
         marks,
         idle: ends,
-        left: room[aic_layout::DEPTH],
+        left: room[aic_room::layout::DEPTH],
         used,
         strays,
         astray,
@@ -140,20 +140,26 @@ fn watch_steps(trace: &[u8], limit: u32, start: usize, first: Aic, table: Table)
     requires { ⌜ (sound first ≡ true) × Shaped first × (length (now trace) ≤ 65536) × (length (stepsIn (stepsFrom false limit (now trace) start .steps)) ≤ 65536) ⌝ }
     ensures { λ r. ⌜ r ≡ playedIn table first (stepsIn (stepsFrom false limit (now (trace .entry)) start .steps)) ⌝ }
 {
-    let mut room = aic_layout::lay(first);
+    let mut room = aic_room::layout::lay(first);
     let mut book = aic_wait_book::start();
     let mut w = watch_first(first, table);
     let mut at = start;
     let mut left = limit;
     let mut n: u32 = 0;
     loop {
-        let t = turns::sure(turns::quick(trace, at, left, false), trace, at, left, false);
-        if t.kind == turns::ENDED {
+        let t = trace::turns::sure(
+            trace::turns::quick(trace, at, left, false),
+            trace,
+            at,
+            left,
+            false,
+        );
+        if t.kind == trace::turns::ENDED {
             let waits = aic_wait_book::waits_in(&book);
             return Played { watched: w, waits };
         }
-        let before = room[aic_layout::DEPTH];
-        let enabled = room[aic_layout::ENABLED];
+        let before = room[aic_room::layout::DEPTH];
+        let enabled = room[aic_room::layout::ENABLED];
         let brings = aic_wait_book::marks(&room, t.kind, t.x, t.y);
         let a = aic_room::step(&mut room, t.kind, t.x, t.y);
         let carried = rooms::refusal_in(a) == steps::CARRIED_OUT;
@@ -207,7 +213,7 @@ fn note_other(f: Tallied) -> Noted
         strays: 32,
         astray: 0,
     };
-    let waits = wait_totals::none();
+    let waits = totals::waits::none();
     noted(f, false, w, waits)
 }
 

@@ -11,7 +11,7 @@ use Rattle.words.proofs.TruthLaws.{and-left, and-right}
 use Rattle.words.specs.Choice.{pick}
 use Rattle.words.specs.Counting.{allBelow}
 use Rattle.text.specs.Text.{decimalOf}
-use Rattle.phrases.specs.Phrases.{bytes}
+use Rattle.text.specs.Phrases.{bytes}
 use Rattle.vcd.specs.Dump.{Signal, opening, declared, declaration, declarations, heading}
 use Rattle.vcd.specs.Promises.{Named, Quiet}
 use Rattle.vcd.specs.Replay.{linesOf, identifiers}

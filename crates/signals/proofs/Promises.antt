@@ -11,7 +11,7 @@ use Rattle.words.specs.Word.{bit}
 use Rattle.words.proofs.Promises.{kept as words}
 use Rattle.aic_record.specs.declared.Aic.{Aic}
 use Rattle.aic_record.proofs.Promises.{kept as record-kept}
-use Rattle.aic_last.proofs.Promises.{kept as last-kept}
+use Rattle.aic_record.proofs.LastPromises.{kept as last-kept}
 use Rattle.aic_sources.specs.Pending.{pending, pendingWord}
 use Rattle.aic.specs.Model.{outputs as aicOutputs}
 use Rattle.aic.proofs.Promises.{kept as aic}
@@ -20,16 +20,16 @@ use Rattle.coreinterrupt.proofs.Promises.{kept as core}
 use Rattle.cic_hosts.proofs.Promises.{kept as hosts}
 use Rattle.cic_indexed.specs.Model.{outputs as indexedOutputs}
 use Rattle.aintc_choice.proofs.Promises.{kept as choice}
-use Rattle.aintc_steps.specs.Model.{outputs as aintcOutputs}
+use Rattle.aintc_registers.specs.Model.{outputs as aintcOutputs}
 use Rattle.aintc.proofs.Promises.{kept as aintc}
 use Rattle.vcd.specs.Dump.{Signal}
 use Rattle.kinds.specs.Kinds.{byKind, isKind}
 use Rattle.kinds.proofs.KindLaws.{KindOf, isAic, isCore, isCic, isAintc, isIndexed, isNone, kind-of, at-unknown}
-use Rattle.machine_record.specs.Machine.{indexed, sound}
-use Rattle.machine_record.specs.Promises.{Small}
-use Rattle.machine_record.specs.Shown.{cicColumns}
-use Rattle.machine_record.proofs.MachineLaws.{sound-aic, sound-core, sound-cic, sound-aintc}
-use Rattle.machine_record.proofs.ShownLaws.{aic-shows, core-shows, cic-shows, aintc-shows, indexed-shows, small}
+use Rattle.machine.specs.Machine.{indexed, sound}
+use Rattle.machine.specs.RecordPromises.{Small}
+use Rattle.machine.specs.Shown.{cicColumns}
+use Rattle.machine.proofs.MachineLaws.{sound-aic, sound-core, sound-cic, sound-aintc}
+use Rattle.machine.proofs.ShownLaws.{aic-shows, core-shows, cic-shows, aintc-shows, indexed-shows, small}
 use Rattle.signals.specs.Signals.{Moment, Row, ofEvery, ownRows, rows, signals, widths, values, declaredOf}
 use Rattle.signals.specs.Promises.{Shows, Fits, Promises}
 use Rattle.signals.proofs.SignalLaws.{rows-aic, rows-core, rows-cic, rows-aintc, rows-indexed, rows-none}

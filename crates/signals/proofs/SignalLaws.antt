@@ -6,7 +6,7 @@ use mathlib.Core.Logic.{_≢_}
 use Rattle.words.specs.Choice.{pick}
 use Rattle.words.specs.Counting.{one}
 use Rattle.aic_record.specs.declared.Aic.{Aic}
-use Rattle.aic_last.specs.Last.{lastSource, lastLevel}
+use Rattle.aic_record.specs.Last.{lastSource, lastLevel}
 use Rattle.aic_sources.specs.Pending.{pendingWord}
 use Rattle.aic.specs.declared.Signals.{Signals as AicSignals}
 use Rattle.aic.specs.Model.{outputs as aicOutputs}
@@ -18,12 +18,12 @@ use Rattle.cic_record.specs.declared.Signals.{Signals as CicSignals}
 use Rattle.cic_hosts.specs.Hosts.{outputs as cicOutputs}
 use Rattle.cic_indexed.specs.Model.{outputs as indexedOutputs}
 use Rattle.aintc_record.specs.declared.Aintc.{Aintc}
-use Rattle.aintc_steps.specs.declared.Signals.{Signals as AintcSignals}
-use Rattle.aintc_steps.specs.Model.{outputs as aintcOutputs}
+use Rattle.aintc_registers.specs.declared.model.Signals.{Signals as AintcSignals}
+use Rattle.aintc_registers.specs.Model.{outputs as aintcOutputs}
 use Rattle.kinds.specs.Kinds.{aicKind, coreKind, cicKind, aintcKind, indexedKind, byKind}
 use Rattle.kinds.proofs.KindLaws.{at-aic, at-core, at-cic, at-aintc, at-indexed, at-none}
-use Rattle.machine_record.specs.declared.Machine.{Machine}
-use Rattle.machine_record.specs.Machine.{ofAic, ofCore, ofAintc, indexed}
+use Rattle.machine.specs.declared.record.Machine.{Machine}
+use Rattle.machine.specs.Machine.{ofAic, ofCore, ofAintc, indexed}
 use Rattle.signals.specs.Signals.{Moment, moment, Row, ofEvery, ofAic as aicRows, ofCore as coreRows, ofCic as cicRows, ofAintc as aintcRows, ofIndexed as indexedRows, ownRows, rows, values, eleven}
 
 -- ---- tables by kind

@@ -7,22 +7,22 @@ use mathlib.Core.List.{[]}
 use lib.ListN.{length, getD}
 use Rattle.words.specs.Counting.{one}
 use Rattle.words.specs.Word.{bit}
-use Rattle.phrases.specs.Phrases.{bytes}
+use Rattle.text.specs.Phrases.{bytes}
 use Rattle.vcd.specs.Dump.{heading}
 use Rattle.vcd.specs.Promises.{Quiet}
 use Rattle.vcd.specs.Replay.{linesOf, identifiers}
 use Rattle.kinds.specs.Kinds.{isKind, name}
 use Rattle.aic_record.specs.declared.Aic.{Aic}
-use Rattle.aic_last.specs.Last.{lastSource, lastLevel}
+use Rattle.aic_record.specs.Last.{lastSource, lastLevel}
 use Rattle.aic_sources.specs.Pending.{pending, pendingWord}
 use Rattle.aic.specs.Model.{outputs as aicOutputs}
 use Rattle.coreinterrupt_side.specs.Side.{raw, status}
 use Rattle.coreinterrupt.specs.Model.{outputs as coreOutputs}
 use Rattle.cic_hosts.specs.Hosts.{outputs as cicOutputs}
 use Rattle.cic_indexed.specs.Model.{outputs as indexedOutputs}
-use Rattle.aintc_steps.specs.Model.{outputs as aintcOutputs}
-use Rattle.machine_record.specs.Machine.{sound}
-use Rattle.machine_record.specs.Shown.{shown}
+use Rattle.aintc_registers.specs.Model.{outputs as aintcOutputs}
+use Rattle.machine.specs.Machine.{sound}
+use Rattle.machine.specs.Shown.{shown}
 use Rattle.signals.specs.Signals.{Moment, signals, widths, values}
 
 -- the kth signal of a machine has this name and width, and at this moment this value

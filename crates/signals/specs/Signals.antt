@@ -4,19 +4,19 @@ use Prim.Native.String.{String}
 use mathlib.Core.List.{List, [], _∷_, _++_, map}
 use lib.ListN.{length, replicate}
 use Rattle.words.specs.Counting.{one}
-use Rattle.phrases.specs.Phrases.{bytes}
+use Rattle.text.specs.Phrases.{bytes}
 use Rattle.vcd.specs.Dump.{Signal}
 use Rattle.kinds.specs.Kinds.{byKind}
-use Rattle.aic_last.specs.Last.{lastSource, lastLevel}
+use Rattle.aic_record.specs.Last.{lastSource, lastLevel}
 use Rattle.aic_sources.specs.Pending.{pendingWord}
 use Rattle.aic.specs.Model.{outputs as aicOutputs}
 use Rattle.coreinterrupt_side.specs.Side.{raw, status}
 use Rattle.coreinterrupt.specs.Model.{outputs as coreOutputs}
 use Rattle.cic_hosts.specs.Hosts.{outputs as cicOutputs}
 use Rattle.cic_indexed.specs.Model.{outputs as indexedOutputs}
-use Rattle.aintc_steps.specs.Model.{outputs as aintcOutputs}
-use Rattle.machine_record.specs.declared.Machine.{Machine}
-use Rattle.machine_record.specs.Machine.{indexed}
+use Rattle.aintc_registers.specs.Model.{outputs as aintcOutputs}
+use Rattle.machine.specs.declared.record.Machine.{Machine}
+use Rattle.machine.specs.Machine.{indexed}
 
 -- what is known after a step: its refusal (0 for none), the value read, its letter in a listing, and the machine
 pub record Moment : Type 0 where

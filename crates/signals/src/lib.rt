@@ -6,12 +6,12 @@ ghost use lib.ListN.{length};
 ghost use Rattle.aic_record.specs.Sound.{sound as aicSound};
 ghost use Rattle.coreinterrupt.specs.Model.{sound as coreSound};
 ghost use Rattle.aintc_choice.specs.Settle.{sound as aintcSound};
-ghost use Rattle.machine_record.specs.Machine.{ofAic, ofCore, ofAintc, sound};
+ghost use Rattle.machine.specs.Machine.{ofAic, ofCore, ofAintc, sound};
 ghost use Rattle.signals.specs.Signals.{moment, rows, widths, values, eleven};
 use aic_record::Aic;
 use aintc_record::Aintc;
 use coreinterrupt::Core;
-use machine_record::Machine;
+use machine::record::Machine;
 
 // ---- values
 
@@ -37,7 +37,7 @@ pub fn values(refusal: u32, value: u32, letter: u32, m: Machine) -> [u32; 11]
         let s = m.aintc;
         return aintc_values(refusal, value, letter, s);
     }
-    let p = machine_record::indexed(m);
+    let p = machine::record::indexed(m);
     cic_values(refusal, value, letter, cic_prioritised::outputs_sound(p))
 }
 
@@ -48,8 +48,8 @@ fn aic_values(refusal: u32, value: u32, letter: u32, s: Aic) -> [u32; 11]
     let o = aic::outputs_sound(s);
     let irq = words::one_if(o.irq);
     let fiq = words::one_if(o.fiq);
-    let source = aic_last::last_source(s);
-    let level = aic_last::last_level(s);
+    let source = aic_record::last::last_source(s);
+    let level = aic_record::last::last_level(s);
     let pending = aic_sources::pending_word(s);
     [
         refusal,

@@ -5,7 +5,7 @@ ghost use mathlib.Core.List.{List};
 ghost use Prim.Native.Nat.{ℕ, _≤_};
 ghost use lib.ListN.{length};
 ghost use Rattle.tables.specs.Reading.{answerTo};
-ghost use Rattle.table_slips.specs.Slips.{slipLine};
+ghost use Rattle.tables.specs.Slips.{slipLine};
 
 // One byte more is read than a table may have, so that a longer one is told apart.
 fn main() {
@@ -33,7 +33,7 @@ fn print(text: &[u8]) {
 // Tells where the slip of a refused table is.
 fn lead(text: &[u8]) {
     let mut line = slip_room();
-    let k = table_slips::put_slip(&mut line, text);
+    let k = tables::slips::put_slip(&mut line, text);
     if k == 0 {
         return;
     }

@@ -13,7 +13,7 @@ use Rattle.words.proofs.CountingLaws.{all-at}
 use Rattle.words.proofs.TruthLaws.{and-left, and-right}
 use Rattle.text.specs.Text.{hexDigit, hexOf, hex, decimalOf, decimal}
 use Rattle.text.proofs.DigitLaws.{hex-nth, length-hex}
-use Rattle.phrases.specs.Phrases.{bytes}
+use Rattle.text.specs.Phrases.{bytes}
 use Rattle.tables.specs.Layout.{Without}
 use Rattle.tables.specs.Number.{digit, worthFrom, areDigits, isHex, isNumber, worth}
 use Rattle.tables.proofs.NumberLaws.{are-digits, number-hex}

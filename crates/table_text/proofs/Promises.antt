@@ -6,7 +6,7 @@ use mathlib.Core.Logic.{_≢_}
 use native.Mathlib.Omega.{arith}
 use lib.ListN.{length, getD}
 use Rattle.text.specs.Text.{hex, decimal, field}
-use Rattle.phrases.specs.Phrases.{bytes, counted}
+use Rattle.text.specs.Phrases.{bytes, counted}
 use Rattle.aic_record.specs.declared.Aic.{Aic}
 use Rattle.tables.proofs.FillLaws.{length-listOf, getD-listOf}
 use Rattle.beginning.specs.Begin.{beginOf}

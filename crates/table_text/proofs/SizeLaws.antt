@@ -10,7 +10,7 @@ use Rattle.words.proofs.ChoiceLaws.{pick-cases}
 use Rattle.steps.specs.Refusals.{carriedOut}
 use Rattle.text.specs.Text.{hex, decimal, field}
 use Rattle.text.proofs.DigitLaws.{length-hex, length-below, length-field}
-use Rattle.phrases.specs.Phrases.{bytes, counted}
+use Rattle.text.specs.Phrases.{bytes, counted}
 use Rattle.aic_record.specs.declared.Aic.{Aic}
 use Rattle.aic_record.specs.Mode.{priorityOf, typeOf}
 use Rattle.kinds.specs.Kinds.{aicKind}

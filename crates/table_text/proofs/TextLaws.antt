@@ -15,7 +15,7 @@ use Rattle.text.proofs.WriteLaws.{rest-of, nothing}
 use Rattle.kinds.specs.Kinds.{aicKind}
 use Rattle.beginning.specs.declared.Begun.{Begun}
 use Rattle.beginning.specs.Begin.{beginOf}
-use Rattle.reports.specs.Play.{playOf}
+use Rattle.beginning.specs.Play.{playOf}
 use Rattle.table_text.specs.Text.{sourceLine, sourceLines, tableText, isTabled, noBeginning, noTable, textOf}
 
 -- ---- the lines of the sources: those from here on give the whole

@@ -6,11 +6,11 @@ use mathlib.Core.List.{List, [], _∷_, _++_}
 use mathlib.Core.Logic.{_↔_, _≢_}
 use lib.ListN.{length, getD}
 use Rattle.text.specs.Text.{hex, decimal, field}
-use Rattle.phrases.specs.Phrases.{bytes}
+use Rattle.text.specs.Phrases.{bytes}
 use Rattle.aic_record.specs.declared.Aic.{Aic}
 use Rattle.tables.specs.Reading.{readTable}
 use Rattle.beginning.specs.Begin.{beginOf}
-use Rattle.reports.specs.Play.{playOf}
+use Rattle.beginning.specs.Play.{playOf}
 use Rattle.table_text.specs.Text.{tableIn, sourceLine, sourceLines, tableText, isTabled, textOf}
 
 pub record Promises : Type 0 where

@@ -8,14 +8,14 @@ use lib.ListN.{getD}
 use Rattle.words.specs.Choice.{pick}
 use Rattle.steps.specs.Refusals.{carriedOut}
 use Rattle.text.specs.Text.{newline, hex, decimal, field}
-use Rattle.phrases.specs.Phrases.{bytes, counted}
+use Rattle.text.specs.Phrases.{bytes, counted}
 use Rattle.aic_record.specs.declared.Aic.{Aic}
 use Rattle.aic_record.specs.Mode.{priorityOf, typeOf}
 use Rattle.stack.specs.declared.Table.{Table}
 use Rattle.tables.specs.Reading.{listOf}
 use Rattle.kinds.specs.Kinds.{aicKind}
 use Rattle.beginning.specs.Begin.{beginOf}
-use Rattle.reports.specs.Play.{playOf}
+use Rattle.beginning.specs.Play.{playOf}
 
 -- ---- the table of a record
 

@@ -4,7 +4,7 @@ ghost use Prim.Native.Nat.{_<_};
 ghost use Rattle.steps.specs.Refusals.{carriedOut};
 ghost use Rattle.text.specs.Text.{write, laid};
 ghost use Rattle.beginning.specs.Begin.{beginOf};
-ghost use Rattle.reports.specs.Play.{playOf};
+ghost use Rattle.beginning.specs.Play.{playOf};
 ghost use Rattle.table_text.specs.Text.{heading, sourceLine, sourceLines, lastLines, tableText, noBeginning, noTable, isTabled, textOf};
 use aic_record::Aic;
 use beginning::Begun;
@@ -106,7 +106,7 @@ fn put_source(out: &mut [u8], at: usize, mode: u8, source: u32) -> usize
 {
     let a = text::put_decimal(out, at, (mode % 8) as u64);
     let b = text::put_field(out, a, (mode / 32 % 4) as u64);
-    let c = phrases::put_counted(out, b, b" 0 # source ", source);
+    let c = text::phrases::put_counted(out, b, b" 0 # source ", source);
     text::put(out, c, NEWLINE)
 }
 

@@ -12,3 +12,5 @@ pub mod QuoteLaws
 pub mod ReadLaws
 pub mod RefusalLaws
 pub mod SeekLaws
+pub mod SlipLaws
+pub mod SlipsPromises

@@ -6,4 +6,6 @@ pub mod Number
 pub mod Passes
 pub mod Promises
 pub mod Reading
+pub mod Slips
+pub mod SlipsPromises
 pub mod Typed

@@ -10,6 +10,7 @@ ghost use Rattle.tables.specs.Reading.{fitsAt, entered, everyThird, tabl
 ghost use Rattle.tables.specs.Passes.{capped, readDigits, readWord, readNext, valuesOf};
 
 pub mod names;
+pub mod slips;
 
 use stack::Table;
 

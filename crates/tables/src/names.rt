@@ -105,7 +105,7 @@ fn byte_in(text: &[u8], start: usize, count: u32, k: usize) -> u8
 // ---- a text without its names
 
 // Names and comments made spaces.
-pub fn clear(text: &[u8], out: &mut [u8]) -> usize
+pub(crate) fn clear(text: &[u8], out: &mut [u8]) -> usize
     requires { ⌜ length (now text) ≤ 65536 ⌝ }
     ensures { λ r. ⌜ (now (out .exit), r) ≡ write (now (out .entry), 0) (cleared (now (text .entry))) ⌝ }
 {

@@ -18,8 +18,8 @@ use Rattle.kinds.specs.Kinds.{tellsPrivilege}
 use Rattle.beginning.specs.declared.Begun.{Begun}
 use Rattle.beginning.specs.Begin.{longest, beginOf}
 use Rattle.beginning.proofs.BeginningLaws.{Beginning, overlong, damagedAt, noKind, beyondAt, configured, beginning}
-use Rattle.reports.specs.Play.{recordsOf}
-use Rattle.reports.proofs.PlayLaws.{records-begun, records-refused}
+use Rattle.beginning.specs.Play.{recordsOf}
+use Rattle.beginning.proofs.PlayLaws.{records-begun, records-refused}
 
 -- the place after a step that is found is further on, and no further than the end
 abbrev Further : List ℕ → ℕ → Turn → Type 0

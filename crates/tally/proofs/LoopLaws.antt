@@ -11,16 +11,16 @@ use Rattle.words.proofs.CountingLaws.{one-le}
 use Rattle.steps.specs.declared.Recorded.{Recorded}
 use Rattle.steps.specs.Refusals.{carriedOut}
 use Rattle.trace.specs.Trace.{turnAt, stepsFrom}
-use Rattle.turns.specs.declared.Told.{Told}
-use Rattle.turns.specs.Turns.{endedKind, stepOf, made, recordedOf, turnOf}
-use Rattle.turns.proofs.TurnLaws.{finds, found-here}
+use Rattle.trace.specs.declared.turns.Told.{Told}
+use Rattle.trace.specs.Turns.{endedKind, stepOf, made, recordedOf, turnOf}
+use Rattle.trace.proofs.TurnLaws.{finds, found-here}
 use Rattle.rooms.specs.Reply.{Reply}
 use Rattle.kinds.specs.Kinds.{aicKind}
-use Rattle.aic_layout.proofs.CellLaws.{depth-is}
+use Rattle.aic_room.proofs.CellLaws.{depth-is}
 use Rattle.aic_waits.specs.Following.{Figures, noFigures}
-use Rattle.machine_record.specs.declared.Machine.{Machine}
-use Rattle.machine_record.specs.Machine.{sound}
-use Rattle.machine_record.specs.Promises.{Ready}
+use Rattle.machine.specs.declared.record.Machine.{Machine}
+use Rattle.machine.specs.Machine.{sound}
+use Rattle.machine.specs.RecordPromises.{Ready}
 use Rattle.machine.specs.Steps.{step}
 use Rattle.machine_room.specs.Room.{Laid, Done}
 use Rattle.loops.proofs.LoopLaws.{Standing, next, done}

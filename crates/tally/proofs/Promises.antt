@@ -26,11 +26,11 @@ use Rattle.aic_runs.specs.Runs.{count}
 use Rattle.aic.specs.Model.{step as aicStep}
 use Rattle.aic_waits.specs.Figures.{startedOf, waitedOf, entriesOf}
 use Rattle.aic_waits.proofs.Promises as Waits
-use Rattle.machine_record.specs.declared.Machine.{Machine}
+use Rattle.machine.specs.declared.record.Machine.{Machine}
 use Rattle.machine.specs.Steps.{step}
 use Rattle.beginning.specs.Begin.{beginOf}
-use Rattle.reports.specs.Play.{recordsOf, report, playOf}
-use Rattle.reports.proofs.PlayLaws.{records-begun}
+use Rattle.beginning.specs.Play.{recordsOf, report, playOf}
+use Rattle.beginning.proofs.PlayLaws.{records-begun}
 use Rattle.totals.specs.declared.Totals.{Totals}
 use Rattle.totals.specs.Promises.{Whole, Source}
 use Rattle.totals.specs.Totals.{zeros}

@@ -26,15 +26,15 @@ use Rattle.aic_waits.specs.Figures.{startedOf, waitedOf, entriesOf}
 use Rattle.aic_waits.specs.Following.{Figures, noFigures, figuresOver, followed}
 use Rattle.aic_waits.proofs.RunLaws.{Whole, whole-followed}
 use Rattle.aic_waits.proofs.Promises as Waits
-use Rattle.machine_record.specs.declared.Machine.{Machine}
-use Rattle.machine_record.specs.Machine.{blank, start}
+use Rattle.machine.specs.declared.record.Machine.{Machine}
+use Rattle.machine.specs.Machine.{blank, start}
 use Rattle.machine.specs.Steps.{step}
 use Rattle.machine.proofs.StepLaws.{step-kind}
 use Rattle.beginning.specs.declared.Begun.{Begun}
 use Rattle.beginning.specs.Begin.{beginOf}
 use Rattle.beginning.proofs.BeginningLaws.{Beginning, overlong, damagedAt, noKind, beyondAt, configured, beginning}
-use Rattle.reports.specs.Play.{recordsFrom, recordsOf, report, playOf}
-use Rattle.reports.proofs.PlayLaws.{records-begun, records-refused}
+use Rattle.beginning.specs.Play.{recordsFrom, recordsOf, report, playOf}
+use Rattle.beginning.proofs.PlayLaws.{records-begun, records-refused}
 use Rattle.totals.specs.declared.Totals.{Totals}
 use Rattle.totals.specs.Totals.{zeros}
 use Rattle.tally.specs.declared.Tallied.{Tallied}

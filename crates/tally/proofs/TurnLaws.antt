@@ -22,7 +22,7 @@ use Rattle.aic_record.specs.declared.Aic.{Aic}
 use Rattle.aic.specs.Model.{step as aicStep}
 use Rattle.aic_waits.specs.Following.{Figures, followed}
 use Rattle.aic_figures.specs.Book.{Kept}
-use Rattle.machine_record.specs.declared.Machine.{Machine}
+use Rattle.machine.specs.declared.record.Machine.{Machine}
 use Rattle.machine.specs.declared.Answer.{Answer}
 use Rattle.machine.specs.Steps.{step}
 use Rattle.machine.proofs.StepLaws.{aic-steps, step-kind}

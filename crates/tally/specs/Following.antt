@@ -11,7 +11,7 @@ use Rattle.kinds.specs.Kinds.{aicKind}
 use Rattle.aic_record.specs.declared.Aic.{Aic}
 use Rattle.aic_waits.specs.Following.{Figures, followed}
 use Rattle.aic_figures.specs.Book.{Kept}
-use Rattle.machine_record.specs.declared.Machine.{Machine}
+use Rattle.machine.specs.declared.record.Machine.{Machine}
 use Rattle.machine.specs.Steps.{step}
 use Rattle.totals.specs.declared.Totals.{Totals}
 use Rattle.totals.specs.Totals.{zeros}

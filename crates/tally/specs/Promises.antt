@@ -15,10 +15,10 @@ use Rattle.trace.specs.Promises.{made, Ends}
 use Rattle.kinds.specs.Kinds.{tellsPrivilege}
 use Rattle.aic_record.specs.declared.Aic.{Aic}
 use Rattle.aic_waits.specs.Figures.{startedOf, waitedOf, entriesOf}
-use Rattle.machine_record.specs.declared.Machine.{Machine}
+use Rattle.machine.specs.declared.record.Machine.{Machine}
 use Rattle.machine.specs.Steps.{step}
 use Rattle.beginning.specs.Begin.{beginOf}
-use Rattle.reports.specs.Play.{recordsOf, playOf}
+use Rattle.beginning.specs.Play.{recordsOf, playOf}
 use Rattle.totals.specs.Promises.{Whole, Source}
 use Rattle.tally.specs.Tally.{refusedIn, stepsIn, tallyOf}
 

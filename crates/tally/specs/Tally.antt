@@ -9,10 +9,10 @@ use Rattle.steps.specs.Refusals.{carriedOut}
 use Rattle.steps.specs.declared.Recorded.{Recorded}
 use Rattle.steps.specs.declared.Step.{Step}
 use Rattle.kinds.specs.Kinds.{aicKind}
-use Rattle.machine_record.specs.declared.Machine.{Machine}
+use Rattle.machine.specs.declared.record.Machine.{Machine}
 use Rattle.machine.specs.Steps.{step}
 use Rattle.beginning.specs.Begin.{beginOf}
-use Rattle.reports.specs.Play.{recordsOf, playOf}
+use Rattle.beginning.specs.Play.{recordsOf, playOf}
 use Rattle.aic_waits.specs.Figures.{startedOf, waitedOf, entriesOf}
 use Rattle.totals.specs.declared.Totals.{Totals}
 use Rattle.totals.specs.Totals.{zeros}

@@ -7,19 +7,19 @@ ghost use lib.ListN.{length};
 ghost use Rattle.words.specs.Counting.{one};
 ghost use Rattle.steps.specs.Refusals.{carriedOut};
 ghost use Rattle.trace.specs.Trace.{stepsFrom};
-ghost use Rattle.machine_record.specs.Promises.{Ready};
+ghost use Rattle.machine.specs.RecordPromises.{Ready};
 ghost use Rattle.beginning.specs.Begin.{beginOf};
 ghost use Rattle.kinds.specs.Kinds.{aicKind};
 ghost use Rattle.steps.specs.declared.Recorded.{Recorded};
 ghost use Rattle.aic_waits.specs.Following.{Figures, noFigures};
-ghost use Rattle.machine_record.specs.declared.Machine.{Machine};
+ghost use Rattle.machine.specs.declared.record.Machine.{Machine};
 ghost use Rattle.machine.specs.Steps.{step};
 ghost use Rattle.machine_room.specs.Room.{Laid};
 ghost use Rattle.tally.specs.Tally.{tallyOf};
 ghost use Rattle.tally.specs.Following.{followedBy, tallied, notTallied, Followed};
 use aic_figures::Book;
 use beginning::Begun;
-use machine_record::Machine;
+use machine::record::Machine;
 use rooms::Room;
 use totals::Totals;
 
@@ -80,8 +80,14 @@ fn tally_steps(trace: &[u8], limit: u32, told: bool, start: usize, first: Machin
     let mut count: u32 = 0;
     let mut refused: u32 = 0;
     loop {
-        let t = turns::sure(turns::quick(trace, at, left, told), trace, at, left, told);
-        if t.kind == turns::ENDED {
+        let t = trace::turns::sure(
+            trace::turns::quick(trace, at, left, told),
+            trace,
+            at,
+            left,
+            told,
+        );
+        if t.kind == trace::turns::ENDED {
             let f = aic_figures::totals_in(&mut book);
             return Tallied {
                 steps: count,
@@ -91,7 +97,7 @@ fn tally_steps(trace: &[u8], limit: u32, told: bool, start: usize, first: Machin
                 figures: f,
             };
         }
-        let before = room[aic_layout::DEPTH];
+        let before = room[aic_room::layout::DEPTH];
         let a = machine_room::step(&mut room, t.kind, t.x, t.y, t.privilege);
         follow_any(&mut book, &room, before);
         refused = refused + refused_one(rooms::refusal_in(a));
@@ -115,7 +121,7 @@ fn refused_one(refusal: u32) -> u32
 fn follow_any<'a>(book: &'a mut Book, room: &'a Room, before: u32)
     ensures { λ _. ⌜ ((f : Figures) (m : Machine) (n : ℕ) (x : Recorded) → Ready m → n < 4294967290 → (m .kind ≡ aicKind → before ≡ m .aic .depth) → Followed f m n (now (book .entry)) → Laid false (step m x .machine) (now (room .entry)) → Followed (followedBy f m x) (step m x .machine) (n + 1) (now (book .exit))) ⌝ }
 {
-    if room[aic_layout::KIND] == kinds::AIC {
+    if room[aic_room::layout::KIND] == kinds::AIC {
         aic_figures::follow(book, room, before);
     }
 }

@@ -4,6 +4,10 @@ ghost use mathlib.Core.List.{[], _∷_};
 ghost use Prim.Native.Nat.{_<_, _%_};
 ghost use Rattle.text.specs.Text.{write, decimal, decimalOf, lastOf, field, hex, hexDigit};
 
+pub mod arguments;
+pub mod phrases;
+pub mod room;
+
 pub const SPACE: u8 = b' ';
 
 pub const NEWLINE: u8 = b'\n';

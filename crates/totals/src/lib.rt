@@ -5,6 +5,8 @@ ghost use mathlib.Core.List.{zipWith};
 ghost use Prim.Native.Nat.{_+_, max};
 ghost use Rattle.totals.specs.Totals.{zeros, passes, together, added};
 
+pub mod waits;
+
 // For each source, of one trace or of many: the handlers started, the most handlers started while it waited, and the most entries open while it was open.
 pub struct Totals {
     pub started: [u32; 32],
@@ -85,7 +87,7 @@ pub fn any_passes(a: [u32; 32], b: [u32; 32]) -> bool
 }
 
 // Source by source the sum of both.
-pub fn sums(a: [u32; 32], b: [u32; 32]) -> [u32; 32]
+pub(crate) fn sums(a: [u32; 32], b: [u32; 32]) -> [u32; 32]
     requires { ⌜ passes a b ≡ false ⌝ }
     ensures { λ r. ⌜ r ≡ zipWith _+_ a b ⌝ }
 {

@@ -3,3 +3,5 @@ pub mod Examples
 pub mod Promises
 pub mod StepLaws
 pub mod TraceLaws
+pub mod TurnLaws
+pub mod TurnsStepLaws

@@ -2,3 +2,4 @@
 pub mod Promises
 pub mod Steps
 pub mod Trace
+pub mod Turns

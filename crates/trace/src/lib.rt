@@ -2,6 +2,9 @@
 ghost use mathlib.Core.Path.{_≡_};
 ghost use Rattle.trace.specs.Steps.{operandsOf, plain, twoNumbers, byThird, bySecond, byFirst, byKind, stepAt};
 ghost use Rattle.trace.specs.Trace.{turnAt};
+
+pub mod turns;
+
 use numbers::Number;
 use numbers::read_number;
 use steps::Recorded;

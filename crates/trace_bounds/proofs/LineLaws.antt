@@ -8,7 +8,7 @@ use borrow.Author.Tests.{eq-eqb, ne-eqb, lt-ltb, le-ltb}
 use Rattle.words.specs.Choice.{pick}
 use Rattle.words.proofs.ChoiceLaws.{pick-true, pick-false}
 use Rattle.text.specs.Text.{decimal, newline, write}
-use Rattle.phrases.specs.Phrases.{bytes, counted}
+use Rattle.text.specs.Phrases.{bytes, counted}
 use Rattle.aic_bounds.specs.declared.Bound.{Bound}
 use Rattle.aic_bounds.specs.Bounds.{boundOf}
 use Rattle.trace_bounds.specs.Waits.{Wait, waited, onlyIf}

@@ -21,16 +21,16 @@ use Rattle.aic_record.specs.Promises.{Shaped}
 use Rattle.aic_bounds.specs.declared.Bound.{Bound}
 use Rattle.aic_bounds.specs.Bounds.{boundOf}
 use Rattle.aic_bounds.specs.Over.{boundedOf, waitsBegun, waitsUnended, waitsUnbounded}
-use Rattle.aic_wait_figures.specs.declared.Figures.{Figures}
-use Rattle.aic_wait_figures.specs.Figures.{noFigures, figuresOf, largestNow, unendedNow}
-use Rattle.aic_wait_figures.proofs.Promises as Told
-use Rattle.machine_record.specs.declared.Machine.{Machine}
-use Rattle.machine_record.proofs.MachineLaws.{sound-aic}
+use Rattle.aic_bounds.specs.declared.figures.Figures.{Figures}
+use Rattle.aic_bounds.specs.Figures.{noFigures, figuresOf, largestNow, unendedNow}
+use Rattle.aic_bounds.proofs.FiguresPromises as Told
+use Rattle.machine.specs.declared.record.Machine.{Machine}
+use Rattle.machine.proofs.MachineLaws.{sound-aic}
 use Rattle.beginning.specs.declared.Begun.{Begun}
 use Rattle.beginning.specs.Begin.{beginOf}
 use Rattle.beginning.proofs.BeginningLaws.{begin-ready}
-use Rattle.reports.specs.Play.{recordsFrom, recordsOf}
-use Rattle.reports.proofs.PlayLaws.{records-begun}
+use Rattle.beginning.specs.Play.{recordsFrom, recordsOf}
+use Rattle.beginning.proofs.PlayLaws.{records-begun}
 use Rattle.lines.specs.Listing.{endOf}
 use Rattle.tally.specs.Tally.{stepsIn}
 use Rattle.tally.proofs.TallyLaws.{as-many}

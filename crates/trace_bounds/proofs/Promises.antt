@@ -15,15 +15,15 @@ use Rattle.steps.specs.Refusals.{carriedOut}
 use Rattle.text.specs.Text.{field, laid}
 use Rattle.text.proofs.WriteLaws.{write-laid}
 use Rattle.text.proofs.Promises as Text
-use Rattle.phrases.specs.Phrases.{bytes}
+use Rattle.text.specs.Phrases.{bytes}
 use Rattle.kinds.specs.Kinds.{aicKind}
 use Rattle.aic_bounds.specs.Over.{boundedOf, waitsBegun, waitsUnended, waitsUnbounded}
-use Rattle.aic_wait_figures.specs.Figures.{noFigures}
-use Rattle.aic_wait_figures.specs.Promises.{Tells}
-use Rattle.aic_wait_figures.proofs.Promises as Figures
+use Rattle.aic_bounds.specs.Figures.{noFigures}
+use Rattle.aic_bounds.specs.FiguresPromises.{Tells}
+use Rattle.aic_bounds.proofs.FiguresPromises as Figures
 use Rattle.beginning.specs.Begin.{beginOf}
-use Rattle.reports.specs.Play.{recordsOf}
-use Rattle.reports.proofs.PlayLaws.{records-limited}
+use Rattle.beginning.specs.Play.{recordsOf}
+use Rattle.beginning.proofs.PlayLaws.{records-limited}
 use Rattle.tally.specs.Promises.{aicOf, playedOf}
 use Rattle.tally.proofs.TallyLaws.{as-many}
 use Rattle.tally.proofs.LengthLaws.{records-short}

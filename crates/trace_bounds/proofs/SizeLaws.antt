@@ -15,7 +15,7 @@ use Rattle.words.proofs.CountingLaws.{one-le}
 use Rattle.steps.specs.Refusals.{carriedOut}
 use Rattle.steps.specs.declared.Step.{Step}
 use Rattle.text.proofs.DigitLaws.{length-decimal, length-below, length-field}
-use Rattle.phrases.specs.Phrases.{bytes, counted}
+use Rattle.text.specs.Phrases.{bytes, counted}
 use Rattle.aic_record.specs.declared.Aic.{Aic}
 use Rattle.aic.specs.Model.{step}
 use Rattle.aic_runs.specs.Counted.{carries}

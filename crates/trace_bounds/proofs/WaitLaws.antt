@@ -35,8 +35,8 @@ use Rattle.aic_bounds.specs.Following.{marksOf, marksBy, boundBy}
 use Rattle.aic_bounds.proofs.StepLaws.{after-wait}
 use Rattle.aic_bounds.proofs.FollowLaws.{Room, less, by-is, after-room}
 use Rattle.aic_bounds.proofs.Promises as Bounds
-use Rattle.aic_wait_figures.specs.declared.Figures.{Figures}
-use Rattle.aic_wait_figures.specs.Figures.{noFigures, figuresWith, figuresOver, figuresOf}
+use Rattle.aic_bounds.specs.declared.figures.Figures.{Figures}
+use Rattle.aic_bounds.specs.Figures.{noFigures, figuresWith, figuresOver, figuresOf}
 use Rattle.tally.specs.Tally.{stepsIn}
 use Rattle.tally.proofs.LengthLaws.{found-far}
 use Rattle.trace_bounds.specs.Waits.{Wait, waited, onlyIf, ends, waitsFrom, waitsOf}

@@ -3,10 +3,10 @@ use Prim.Native.Nat.{ℕ}
 use mathlib.Core.List.{List, [], _∷_}
 use Rattle.words.specs.Choice.{pick}
 use Rattle.aic_bounds.specs.declared.Bound.{Bound}
-use Rattle.aic_wait_figures.specs.declared.Figures.{Figures}
-use Rattle.aic_wait_figures.specs.Figures.{noFigures, figuresOf, largestNow, unendedNow}
+use Rattle.aic_bounds.specs.declared.figures.Figures.{Figures}
+use Rattle.aic_bounds.specs.Figures.{noFigures, figuresOf, largestNow, unendedNow}
 use Rattle.beginning.specs.Begin.{beginOf}
-use Rattle.reports.specs.Play.{recordsOf}
+use Rattle.beginning.specs.Play.{recordsOf}
 use Rattle.tally.specs.Tally.{stepsIn}
 use Rattle.trace_bounds.specs.Listing.{isListed}
 

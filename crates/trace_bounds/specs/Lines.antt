@@ -4,7 +4,7 @@ use mathlib.Core.List.{List, [], _∷_, _++_}
 use lib.Dec.{eqb, ltb}
 use Rattle.words.specs.Choice.{pick}
 use Rattle.text.specs.Text.{field, newline}
-use Rattle.phrases.specs.Phrases.{bytes, counted}
+use Rattle.text.specs.Phrases.{bytes, counted}
 use Rattle.aic_bounds.specs.declared.Bound.{Bound}
 use Rattle.aic_bounds.specs.Bounds.{boundOf}
 use Rattle.trace_bounds.specs.Waits.{Wait}

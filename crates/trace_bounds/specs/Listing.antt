@@ -11,7 +11,7 @@ use Rattle.kinds.specs.Kinds.{aicKind}
 use Rattle.aic_record.specs.declared.Aic.{Aic}
 use Rattle.aic_bounds.specs.Over.{boundedOf, waitsBegun, waitsUnended, waitsUnbounded}
 use Rattle.beginning.specs.Begin.{beginOf}
-use Rattle.reports.specs.Play.{recordsOf}
+use Rattle.beginning.specs.Play.{recordsOf}
 use Rattle.lines.specs.Listing.{endOf}
 use Rattle.tally.specs.Tally.{stepsIn}
 use Rattle.trace_bounds.specs.Waits.{waitsOf}

@@ -8,15 +8,15 @@ use mathlib.Core.Logic.{_↔_, _≢_}
 use lib.ListN.{length, drop}
 use Rattle.steps.specs.declared.Step.{Step}
 use Rattle.text.specs.Text.{field, laid}
-use Rattle.phrases.specs.Phrases.{bytes}
+use Rattle.text.specs.Phrases.{bytes}
 use Rattle.aic_record.specs.declared.Aic.{Aic}
 use Rattle.aic_bounds.specs.Bounds.{boundAt}
 use Rattle.aic_bounds.specs.Over.{boundedOf, waitsBegun, waitsUnended, waitsUnbounded}
 use Rattle.aic_bounds.specs.Promises.{Whole}
-use Rattle.aic_wait_figures.specs.Figures.{noFigures}
-use Rattle.aic_wait_figures.specs.Promises.{Tells}
+use Rattle.aic_bounds.specs.Figures.{noFigures}
+use Rattle.aic_bounds.specs.FiguresPromises.{Tells}
 use Rattle.beginning.specs.Begin.{beginOf}
-use Rattle.reports.specs.Play.{recordsOf}
+use Rattle.beginning.specs.Play.{recordsOf}
 use Rattle.lines.specs.Listing.{endOf}
 use Rattle.tally.specs.Promises.{aicOf, playedOf}
 use Rattle.trace_bounds.specs.Waits.{Wait, waitsOf}

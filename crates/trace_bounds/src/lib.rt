@@ -11,7 +11,7 @@ ghost use Rattle.kinds.specs.Kinds.{aicKind};
 ghost use Rattle.aic_record.specs.Sound.{sound};
 ghost use Rattle.aic_record.specs.Promises.{Shaped};
 ghost use Rattle.aic_bounds.specs.Bounds.{boundOf};
-ghost use Rattle.aic_wait_figures.specs.Figures.{figuresOf, largestNow, unendedNow};
+ghost use Rattle.aic_bounds.specs.Figures.{figuresOf, largestNow, unendedNow};
 ghost use Rattle.beginning.specs.Begin.{beginOf};
 ghost use Rattle.tally.specs.Tally.{stepsIn};
 ghost use Rattle.trace_bounds.specs.Waits.{waited, onlyIf, waitsOf};
@@ -20,8 +20,8 @@ ghost use Rattle.trace_bounds.specs.Lines.{noBeginning, noWaits, noSourc
 ghost use Rattle.trace_bounds.specs.Listing.{isSource, isListed, linesOf, boundText};
 ghost use Rattle.trace_bounds.specs.Figures.{figuresIn, countsOf, termsOf};
 use aic_bounds::Bound;
+use aic_bounds::figures::Figures;
 use aic_record::Aic;
-use aic_wait_figures::Figures;
 use beginning::Begun;
 use text::NEWLINE;
 use trace::Turn;
@@ -124,7 +124,7 @@ pub fn figures(trace: &[u8], limit: u32, source: u32) -> Figures
         let t = tell_steps(trace, limit, source, b.place, m.aic, &mut none);
         return t.figures;
     }
-    aic_wait_figures::no_figures()
+    aic_bounds::figures::no_figures()
 }
 
 // The waits that began, of these those that did not end and those without a bound; the number of the first step by which one has none, 0 where all have
@@ -132,7 +132,7 @@ pub fn figures(trace: &[u8], limit: u32, source: u32) -> Figures
 pub fn counts_of(f: Figures) -> [u32; 4]
     ensures { λ r. ⌜ r ≡ countsOf f ⌝ }
 {
-    let unended = aic_wait_figures::unended_now(f);
+    let unended = aic_bounds::figures::unended_now(f);
     [f.begun, unended, f.unbounded, f.first]
 }
 
@@ -140,7 +140,7 @@ pub fn counts_of(f: Figures) -> [u32; 4]
 pub fn terms_of(f: Figures) -> [u32; 6]
     ensures { λ r. ⌜ r ≡ termsOf f ⌝ }
 {
-    let b = aic_wait_figures::largest_now(f);
+    let b = aic_bounds::figures::largest_now(f);
     [
         b.pending,
         b.edges,
@@ -155,7 +155,7 @@ pub fn terms_of(f: Figures) -> [u32; 6]
 pub fn most(f: Figures) -> u64
     ensures { λ r. ⌜ r ≡ boundOf (largestNow f) ⌝ }
 {
-    aic_wait_figures::bound_of(aic_wait_figures::largest_now(f))
+    aic_bounds::figures::bound_of(aic_bounds::figures::largest_now(f))
 }
 
 // ---- the steps
@@ -181,7 +181,7 @@ fn tell_steps(
     let mut to: usize = 0;
     let mut n: u32 = 0;
     let mut began: u32 = 0;
-    let mut f = aic_wait_figures::no_figures();
+    let mut f = aic_bounds::figures::no_figures();
     loop {
         match trace::turn_at(trace, at, left, false) {
             Turn::Ended(refusal, offset) => {
@@ -204,7 +204,7 @@ fn tell_steps(
                 n = n + 1;
                 to = put_if(out, to, (1 < b.wait) & (w < 2), began, n, b);
                 began = aic_bounds::either(b.wait < 2, n, began);
-                f = aic_wait_figures::figures_after(source, w, n, f, m, t);
+                f = aic_bounds::figures::figures_after(source, w, n, f, m, t);
                 s = t;
                 at = next;
                 left = left - 1;
@@ -229,9 +229,9 @@ fn put_if(out: &mut [u8], at: usize, there: bool, began: u32, ended: u32, b: Bou
 fn put_wait(out: &mut [u8], at: usize, began: u32, ended: u32, b: Bound) -> usize
     ensures { λ r. ⌜ (now (out .exit), r) ≡ write (now (out .entry), at) (waitLine (waited began ended b)) ⌝ }
 {
-    let c = phrases::put_counted(out, at, b"began by step ", began);
+    let c = text::phrases::put_counted(out, at, b"began by step ", began);
     let d = put_ended(out, c, ended);
-    let e = phrases::put_counted(out, d, b"; handlers started ", less_two(b.wait));
+    let e = text::phrases::put_counted(out, d, b"; handlers started ", less_two(b.wait));
     let g = put_bound(out, e, b);
     text::put(out, g, NEWLINE)
 }
@@ -252,7 +252,7 @@ fn put_ended(out: &mut [u8], at: usize, ended: u32) -> usize
     if ended == 0 {
         return text::put_all(out, at, b", not ended");
     }
-    phrases::put_counted(out, at, b", ended by step ", ended)
+    text::phrases::put_counted(out, at, b", ended by step ", ended)
 }
 
 // Its bound, or by which step it has none.
@@ -261,10 +261,10 @@ fn put_bound(out: &mut [u8], at: usize, b: Bound) -> usize
 {
     if b.broke == 0 {
         let c = text::put_all(out, at, b", at most ");
-        let d = text::put_decimal(out, c, aic_wait_figures::bound_of(b));
+        let d = text::put_decimal(out, c, aic_bounds::figures::bound_of(b));
         return put_terms(out, d, b);
     }
-    phrases::put_counted(
+    text::phrases::put_counted(
         out,
         at,
         b", no bound: a mode or a forcing written by step ",
@@ -276,22 +276,27 @@ fn put_bound(out: &mut [u8], at: usize, b: Bound) -> usize
 fn put_terms(out: &mut [u8], at: usize, b: Bound) -> usize
     ensures { λ r. ⌜ (now (out .exit), r) ≡ write (now (out .entry), at) (termWords b) ⌝ }
 {
-    let c = phrases::put_counted(out, at, b" handlers: pending ", b.pending);
-    let d = phrases::put_counted(out, c, b", edges ", b.edges);
-    let e = phrases::put_counted(out, d, b", commands ", b.commands);
-    let g = phrases::put_counted(out, e, b", turns ", b.turns);
-    let h = phrases::put_counted(out, g, b", closed while active ", b.closed);
-    phrases::put_counted(out, h, b", remembered ", b.remembered)
+    let c = text::phrases::put_counted(out, at, b" handlers: pending ", b.pending);
+    let d = text::phrases::put_counted(out, c, b", edges ", b.edges);
+    let e = text::phrases::put_counted(out, d, b", commands ", b.commands);
+    let g = text::phrases::put_counted(out, e, b", turns ", b.turns);
+    let h = text::phrases::put_counted(out, g, b", closed while active ", b.closed);
+    text::phrases::put_counted(out, h, b", remembered ", b.remembered)
 }
 
 // The last line: all waits of a source.
 fn put_last(out: &mut [u8], at: usize, source: u32, f: Figures) -> usize
     ensures { λ r. ⌜ (now (out .exit), r) ≡ write (now (out .entry), at) (lastLine source (f .begun) (unendedNow f) (f .unbounded) (boundOf (largestNow f))) ⌝ }
 {
-    let a = phrases::put_counted(out, at, b"source ", source);
-    let b = phrases::put_counted(out, a, b": waits ", f.begun);
-    let c = phrases::put_counted(out, b, b", not ended ", aic_wait_figures::unended_now(f));
-    let d = phrases::put_counted(out, c, b", without a bound ", f.unbounded);
+    let a = text::phrases::put_counted(out, at, b"source ", source);
+    let b = text::phrases::put_counted(out, a, b": waits ", f.begun);
+    let c = text::phrases::put_counted(
+        out,
+        b,
+        b", not ended ",
+        aic_bounds::figures::unended_now(f),
+    );
+    let d = text::phrases::put_counted(out, c, b", without a bound ", f.unbounded);
     let e = put_most(out, d, f.begun, f.unbounded, most(f));
     text::put(out, e, NEWLINE)
 }

@@ -10,7 +10,7 @@ use Rattle.words.specs.Choice.{pick}
 use Rattle.words.specs.Counting.{allBelow}
 use Rattle.text.specs.Text.{decimal}
 use Rattle.text.proofs.Promises.{kept as texts}
-use Rattle.phrases.specs.Phrases.{bytes}
+use Rattle.text.specs.Phrases.{bytes}
 use Rattle.vcd.specs.Dump.{Signal, declaration, declarations, opening, declared, heading}
 use Rattle.vcd.specs.Promises.{Quiet, OneLine, Named}
 use Rattle.vcd.specs.Replay.{linesOf, lineRead, tablesFrom, behindSpace, identifiers}

@@ -11,7 +11,7 @@ use borrow.Author.Tests.{eq-eqb, ne-eqb}
 use Rattle.words.specs.Choice.{pick}
 use Rattle.words.proofs.ChoiceLaws.{pick-false}
 use Rattle.text.specs.Text.{decimalOf, decimal, field}
-use Rattle.phrases.specs.Phrases.{bytes}
+use Rattle.text.specs.Phrases.{bytes}
 use Rattle.vcd.specs.Dump.{Signal, declaration, declarations, heading, opening, declared, binaryOf, change, valuesFrom, changesFrom, tick, firstTick, nextTick, ticksFrom, ending, ticks}
 use Rattle.vcd.specs.Replay.{linesOf, digitsAfter, lineRead, tablesFrom, replay, behindSpace, identifiers}
 use Rattle.vcd.specs.Promises.{heldFrom, mostBytes, Promises}

@@ -11,7 +11,7 @@ use Rattle.words.specs.Choice.{pick}
 use Rattle.words.specs.Counting.{allBelow}
 use Rattle.words.proofs.ChoiceLaws.{pick-cases}
 use Rattle.text.specs.Text.{decimal, field}
-use Rattle.phrases.specs.Phrases.{bytes}
+use Rattle.text.specs.Phrases.{bytes}
 use Rattle.vcd.specs.Dump.{change, valuesFrom, changesFrom, tick, firstTick, nextTick, ticksFrom, ending, ticks}
 use Rattle.vcd.specs.Promises.{heldFrom, held, Quiet, OneLine}
 use Rattle.vcd.specs.Replay.{linesOf, lineRead, tablesFrom, replay}

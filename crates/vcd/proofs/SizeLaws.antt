@@ -9,7 +9,7 @@ use Rattle.words.specs.Choice.{pick}
 use Rattle.words.proofs.ChoiceLaws.{pick-cases}
 use Rattle.text.specs.Text.{decimalOf}
 use Rattle.text.proofs.DigitLaws.{length-below, length-field}
-use Rattle.phrases.specs.Phrases.{bytes}
+use Rattle.text.specs.Phrases.{bytes}
 use Rattle.vcd.specs.Dump.{change, valuesFrom, changesFrom, tick, firstTick, nextTick, ticksFrom, ending, ticks}
 use Rattle.vcd.specs.Promises.{mostBytes}
 use Rattle.vcd.proofs.BinaryLaws.{length-binary}

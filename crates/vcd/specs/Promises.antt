@@ -5,7 +5,7 @@ use mathlib.Core.List.{List, [], _∷_, _++_, map}
 use mathlib.Core.Logic.{_≢_}
 use lib.ListN.{length, getD, set, drop, replicate}
 use Rattle.text.specs.Text.{decimal, field}
-use Rattle.phrases.specs.Phrases.{bytes}
+use Rattle.text.specs.Phrases.{bytes}
 use Rattle.vcd.specs.Dump.{Signal, declaration, declarations, heading, opening, declared, binaryOf, change, valuesFrom, changesFrom, tick, firstTick, nextTick, ticksFrom, ending, ticks}
 use Rattle.vcd.specs.Replay.{linesOf, digitsAfter, lineRead, tablesFrom, replay, behindSpace, identifiers}
 

@@ -28,7 +28,7 @@ pub fn put_opening(out: &mut [u8], at: usize) -> usize
 pub fn put_declaration(out: &mut [u8], at: usize, k: u32, name: &[u8], width: u32) -> usize
     ensures { λ r. ⌜ (now (out .exit), r) ≡ write (now (out .entry), at) (declaration k (record { name = now (name .entry); width = width })) ⌝ }
 {
-    let a = phrases::put_counted(out, at, b"$var wire ", width);
+    let a = text::phrases::put_counted(out, at, b"$var wire ", width);
     let b = put_identifier(out, a, SPACE, k, SPACE);
     let c = text::put_all(out, b, name);
     text::put_all(out, c, b" $end\n")

@@ -4,16 +4,16 @@ use mathlib.Core.Path.{_≡_, refl, _∙_}
 use mathlib.Core.List.{List, [], _∷_, _++_, map}
 use Rattle.numbers.specs.Number.{sizeAt, worthAt, faulty, numberAt}
 use Rattle.text.specs.Text.{decimalOf, field}
-use Rattle.phrases.specs.Phrases.{bytes}
+use Rattle.text.specs.Phrases.{bytes}
 use Rattle.trace.specs.Steps.{operandsOf, twoNumbers, stepAt}
 use Rattle.trace.specs.Trace.{turnAt, stepsFrom}
 use Rattle.vcd.specs.Dump.{opening, declared, declaration, declarations, heading, binaryOf, change, valuesFrom, changesFrom, tick, firstTick, nextTick, ticksFrom, ending, ticks}
 use Rattle.kinds.specs.Kinds.{name}
 use Rattle.machine.proofs.Computing.{aic-computes}
 use Rattle.beginning.specs.Begin.{setupFrom, setupOf, bySetup, beginOf}
-use Rattle.reports.specs.Play.{recordsFrom, recordsOf, report, playOf}
+use Rattle.beginning.specs.Play.{recordsFrom, recordsOf, report, playOf}
 use Rattle.lines.specs.Listing.{letter}
-use Rattle.aic_last.specs.Last.{lastSource, lastLevel}
+use Rattle.aic_record.specs.Last.{lastSource, lastLevel}
 use Rattle.signals.specs.Signals.{ownRows, rows, signals, widths, values}
 use Rattle.waves.specs.Moments.{atStart, momentsFrom}
 use Rattle.waves.specs.Waves.{wavesOf}

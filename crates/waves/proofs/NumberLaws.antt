@@ -22,9 +22,9 @@ use Rattle.coreinterrupt.specs.declared.Core.{Core}
 use Rattle.coreinterrupt.specs.Model.{step as coreStep}
 use Rattle.coreinterrupt.proofs.Promises.{kept as core}
 use Rattle.cic_record.specs.declared.Cic.{Cic}
-use Rattle.cic_layout.specs.Map.{registerAt}
+use Rattle.cic_registers.specs.Map.{registerAt}
 use Rattle.cic_registers.proofs.WrittenLaws.{value-number}
-use Rattle.cic_steps.specs.Model.{step as cicStep, stepAs}
+use Rattle.cic_registers.specs.Model.{step as cicStep, stepAs}
 use Rattle.cic.proofs.Promises.{kept as cic}
 use Rattle.cic_held.specs.declared.Prioritised.{Prioritised}
 use Rattle.cic_indexed.specs.Model.{step as indexedStep}
@@ -33,10 +33,10 @@ use Rattle.aintc_record.specs.declared.Aintc.{Aintc}
 use Rattle.aintc_choice.specs.Settle.{sound as aintcSound}
 use Rattle.aintc_registers.specs.declared.Answer.{Answer as AintcAnswer}
 use Rattle.aintc_registers.specs.Map.{access}
-use Rattle.aintc_steps.specs.Model.{barred, accessNumber, readNumber, writeNumber, read, write, step as aintcStep}
+use Rattle.aintc_registers.specs.Model.{barred, accessNumber, readNumber, writeNumber, read, write, step as aintcStep}
 use Rattle.aintc.proofs.Promises.{kept as aintc}
 use Rattle.kinds.proofs.KindLaws.{KindOf, isAic, isCore, isCic, isAintc, isIndexed, isNone, kind-of}
-use Rattle.machine_record.specs.declared.Machine.{Machine}
+use Rattle.machine.specs.declared.record.Machine.{Machine}
 use Rattle.machine.specs.declared.Answer.{Answer}
 use Rattle.machine.specs.Steps.{step}
 use Rattle.machine.proofs.Promises.{kept as machine}

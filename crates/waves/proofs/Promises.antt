@@ -6,9 +6,9 @@ use lib.ListN.{getD}
 use Rattle.steps.specs.declared.Recorded.{Recorded}
 use Rattle.text.proofs.Promises.{kept as text}
 use Rattle.text.proofs.WriteLaws.{write-laid}
-use Rattle.machine_record.specs.declared.Columns.{Columns}
-use Rattle.machine_record.specs.Shown.{shown}
-use Rattle.machine_record.proofs.Promises.{kept as record-kept}
+use Rattle.machine.specs.declared.record.Columns.{Columns}
+use Rattle.machine.specs.Shown.{shown}
+use Rattle.machine.proofs.RecordPromises.{kept as record-kept}
 use Rattle.machine.specs.declared.Answer.{Answer}
 use Rattle.lines.specs.Listing.{letter, shownValue, lineOf, stepLine}
 use Rattle.signals.specs.Promises.{valueAt}

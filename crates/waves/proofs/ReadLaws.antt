@@ -18,22 +18,22 @@ use Rattle.steps.specs.declared.Recorded.{Recorded}
 use Rattle.steps.specs.declared.Step.{Step}
 use Rattle.steps.specs.declared.Step.the-variants.{Read, Write, Line}
 use Rattle.text.specs.Text.{field}
-use Rattle.phrases.specs.Phrases.{bytes}
+use Rattle.text.specs.Phrases.{bytes}
 use Rattle.vcd.specs.Dump.{opening, declared, heading, ticks}
 use Rattle.vcd.specs.Promises.{held, heldFrom, mostBytes}
 use Rattle.vcd.specs.Replay.{replay}
 use Rattle.vcd.proofs.Promises.{kept as vcd}
 use Rattle.kinds.specs.Kinds.{isKind, name}
 use Rattle.kinds.proofs.KindLaws.{KindOf, isAic, isCore, isCic, isAintc, isIndexed, isNone, kind-of}
-use Rattle.machine_record.specs.declared.Machine.{Machine}
-use Rattle.machine_record.proofs.Promises.{kept as record-kept}
+use Rattle.machine.specs.declared.record.Machine.{Machine}
+use Rattle.machine.proofs.RecordPromises.{kept as record-kept}
 use Rattle.machine.specs.declared.Answer.{Answer}
 use Rattle.machine.specs.Steps.{step}
 use Rattle.machine.proofs.Promises.{kept as machine}
 use Rattle.beginning.specs.Begin.{beginOf}
 use Rattle.beginning.proofs.BeginningLaws.{begin-ready}
-use Rattle.reports.specs.Play.{recordsOf, runOf, report, playOf}
-use Rattle.reports.proofs.PlayLaws.{records-limited}
+use Rattle.beginning.specs.Play.{recordsOf, runOf, report, playOf}
+use Rattle.beginning.proofs.PlayLaws.{records-limited}
 use Rattle.signals.specs.Signals.{Moment, signals, widths, values}
 use Rattle.signals.proofs.Promises.{kept as shows}
 use Rattle.signals.proofs.SignalLaws.{rows-aic, rows-core, rows-cic, rows-aintc, rows-indexed, rows-none}

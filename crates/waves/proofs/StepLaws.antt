@@ -10,7 +10,7 @@ use Rattle.trace.specs.declared.Turn.the-variants.{Found, Ended}
 use Rattle.trace.specs.Trace.{Trace, ends, after as afterStep, turnAt, stepsFrom}
 use Rattle.trace.proofs.TraceLaws.{trace-ended, trace-found}
 use Rattle.vcd.specs.Dump.{nextTick, ticksFrom, ending}
-use Rattle.machine_record.specs.declared.Machine.{Machine}
+use Rattle.machine.specs.declared.record.Machine.{Machine}
 use Rattle.machine.specs.declared.Answer.{Answer}
 use Rattle.machine.specs.Steps.{step}
 use Rattle.machine.proofs.Promises.{kept as machine}

@@ -7,7 +7,7 @@ use Rattle.text.specs.Text.{write}
 use Rattle.text.proofs.WriteLaws.{and-then}
 use Rattle.vcd.specs.Dump.{heading, firstTick, nextTick}
 use Rattle.kinds.specs.Kinds.{name}
-use Rattle.machine_record.specs.declared.Machine.{Machine}
+use Rattle.machine.specs.declared.record.Machine.{Machine}
 use Rattle.lines.specs.Listing.{letter}
 use Rattle.signals.specs.Signals.{moment, signals, widths, values, eleven}
 use Rattle.waves.proofs.PaddingLaws.{same, padded, first-same, next-same}

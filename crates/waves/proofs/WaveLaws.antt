@@ -11,11 +11,11 @@ use Rattle.text.proofs.WriteLaws.{and-then}
 use Rattle.trace.specs.Trace.{Trace, stepsFrom}
 use Rattle.vcd.specs.Dump.{opening, declared, heading, firstTick, ending, ticks}
 use Rattle.kinds.specs.Kinds.{name, tellsPrivilege}
-use Rattle.machine_record.specs.declared.Machine.{Machine}
+use Rattle.machine.specs.declared.record.Machine.{Machine}
 use Rattle.beginning.specs.declared.Begun.{Begun}
 use Rattle.beginning.specs.Begin.{beginOf}
-use Rattle.reports.specs.Play.{recordsFrom}
-use Rattle.reports.proofs.PlayLaws.{records-begun}
+use Rattle.beginning.specs.Play.{recordsFrom}
+use Rattle.beginning.proofs.PlayLaws.{records-begun}
 use Rattle.signals.specs.Signals.{signals, widths, values, eleven}
 use Rattle.waves.proofs.PaddingLaws.{padded}
 use Rattle.waves.specs.Moments.{atStart, restFrom}

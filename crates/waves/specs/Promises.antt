@@ -7,17 +7,17 @@ use mathlib.Core.Logic.{_≢_}
 use lib.ListN.{length, getD, drop}
 use Rattle.steps.specs.declared.Recorded.{Recorded}
 use Rattle.text.specs.Text.{field, laid}
-use Rattle.phrases.specs.Phrases.{bytes}
+use Rattle.text.specs.Phrases.{bytes}
 use Rattle.vcd.specs.Dump.{heading, ticks}
 use Rattle.vcd.specs.Promises.{held}
 use Rattle.vcd.specs.Replay.{replay}
 use Rattle.kinds.specs.Kinds.{name}
-use Rattle.machine_record.specs.declared.Machine.{Machine}
-use Rattle.machine_record.specs.Machine.{sound}
+use Rattle.machine.specs.declared.record.Machine.{Machine}
+use Rattle.machine.specs.Machine.{sound}
 use Rattle.machine.specs.declared.Answer.{Answer}
 use Rattle.machine.specs.Steps.{step}
 use Rattle.beginning.specs.Begin.{beginOf}
-use Rattle.reports.specs.Play.{recordsOf, runOf, playOf}
+use Rattle.beginning.specs.Play.{recordsOf, runOf, playOf}
 use Rattle.lines.specs.Listing.{letter, shownValue, lineOf, stepLine}
 use Rattle.signals.specs.Promises.{valueAt, Fits}
 use Rattle.signals.specs.Signals.{Moment, signals, widths, values}

@@ -6,9 +6,9 @@ use Rattle.words.specs.Choice.{pick}
 use Rattle.steps.specs.Refusals.{carriedOut}
 use Rattle.trace.specs.Trace.{Trace}
 use Rattle.kinds.specs.Kinds.{name}
-use Rattle.machine_record.specs.declared.Machine.{Machine}
+use Rattle.machine.specs.declared.record.Machine.{Machine}
 use Rattle.beginning.specs.Begin.{beginOf}
-use Rattle.reports.specs.Play.{recordsOf}
+use Rattle.beginning.specs.Play.{recordsOf}
 use Rattle.vcd.specs.Dump.{opening, declared, heading, ending, ticks}
 use Rattle.signals.specs.Signals.{signals, widths, values}
 use Rattle.waves.specs.Moments.{atStart, momentsFrom}

@@ -2,10 +2,10 @@
 ghost use mathlib.Core.Path.{_≡_};
 ghost use Rattle.text.specs.Text.{write};
 ghost use Rattle.trace.specs.Trace.{stepsFrom};
-ghost use Rattle.machine_record.specs.Promises.{Ready};
+ghost use Rattle.machine.specs.RecordPromises.{Ready};
 ghost use Rattle.waves.specs.Moments.{restFrom};
 use super::ticks;
-use machine_record::Machine;
+use machine::record::Machine;
 use trace::Turn;
 
 // The ticks of the steps from a place on, and how they end, on a machine that is known to be sound; where `told`, the steps tell their privilege. The limit

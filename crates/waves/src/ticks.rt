@@ -5,11 +5,11 @@ ghost use mathlib.Core.List.{_++_};
 ghost use Rattle.text.specs.Text.{write};
 ghost use Rattle.vcd.specs.Dump.{opening, declared, heading, firstTick, nextTick, ending};
 ghost use Rattle.kinds.specs.Kinds.{name};
-ghost use Rattle.machine_record.specs.Machine.{sound};
+ghost use Rattle.machine.specs.Machine.{sound};
 ghost use Rattle.lines.specs.Listing.{letter};
 ghost use Rattle.signals.specs.Signals.{moment, signals, widths, values, eleven};
 use super::by_kind;
-use machine_record::Machine;
+use machine::record::Machine;
 use steps::Step;
 
 // Where the next byte goes, and the values that the last tick tells.

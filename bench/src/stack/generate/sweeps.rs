@@ -226,6 +226,7 @@ fn names() -> Vec<Sheet> {
     sheets.push(with(9, b"glued", b""));
     sheets.push(with(9, b"first\" \"second", b" "));
     sheets.push(with(9, b"first\"\"second", b" "));
+    sheets.push(with(96, b"first\" \"second", b" "));
     sheets.push(with(9, b"a # b", b"\n# \"\n"));
     let mut all = Sheet::plain(&board());
     (0..SOURCES).for_each(|source| all.name(3 * source + 3, b"source", b"\t"));

@@ -4,7 +4,7 @@ use mathlib.Core.Path.{_≡_, refl}
 use native.Mathlib.Omega.{arith}
 use lib.ListN.{getD, length}
 use Rattle.aic_record.proofs.SoundLaws.{sound-is}
-use Rattle.aic_layout.proofs.CellLaws.{depth-is}
+use Rattle.aic_room.proofs.CellLaws.{depth-is}
 use Rattle.aic_figures.proofs.EntryLaws.{Seen, seen-none, seen-more, seen-all}
 use borrow.Author.Needs.{needs}
 use Rattle.aic_figures.proofs.deepen.Statement.{statement}

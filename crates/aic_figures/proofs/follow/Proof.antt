@@ -16,8 +16,8 @@ use Rattle.aic.specs.Model.{step}
 use Rattle.aic_runs.specs.Counted.{startedBy}
 use Rattle.aic_runs.specs.Runs.{run}
 use Rattle.aic_runs.proofs.SoundRuns.{run-sound}
-use Rattle.aic_layout.proofs.CellLaws.{depth-is}
-use Rattle.aic_layout.proofs.LevelLaws.{laid-stale}
+use Rattle.aic_room.proofs.CellLaws.{depth-is}
+use Rattle.aic_room.proofs.LevelLaws.{laid-stale}
 use Rattle.aic_waits.specs.Following.{startedFrom}
 use Rattle.aic_waits.proofs.FigureLaws.{none-more}
 use Rattle.aic_waits.proofs.TellLaws.{tells}

@@ -1,7 +1,7 @@
 -- That `started_from` of src/lib.rt keeps its contract.
 use native.Mathlib.Omega.{arith}
 use Rattle.aic_record.proofs.SoundLaws.{sound-is}
-use Rattle.aic_layout.proofs.CellLaws.{depth-is}
+use Rattle.aic_room.proofs.CellLaws.{depth-is}
 use Rattle.aic_waits.proofs.FigureLaws.{none-more, mark-more, some-more}
 use Rattle.aic_figures.proofs.EntryLaws.{started-at}
 use borrow.Author.Needs.{needs}

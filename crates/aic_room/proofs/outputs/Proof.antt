@@ -1,5 +1,5 @@
 -- That `outputs` of src/lib.rt keeps its contract.
-use Rattle.aic_layout.proofs.CellLaws.{depth-is}
+use Rattle.aic_room.proofs.CellLaws.{depth-is}
 use Rattle.aic_room.proofs.ReplyLaws.{outputs-told}
 use borrow.Author.Needs.{needs}
 use Rattle.aic_room.proofs.outputs.Statement.{statement}

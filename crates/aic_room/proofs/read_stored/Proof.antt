@@ -5,8 +5,8 @@ use borrow.Author.Tests.{ne-eqb, lt-ltb, le-ltb}
 use Rattle.words.specs.Choice.{pick}
 use Rattle.words.proofs.ChoiceLaws.{pick-true, pick-false}
 use Rattle.aic_registers.specs.Registers.{stored}
-use Rattle.aic_layout.proofs.CellLaws.{enabled-is, forced-is, spurious-is, debug-is, mode-is, vector-is}
-use Rattle.aic_layout.proofs.LevelLaws.{laid-stale}
+use Rattle.aic_room.proofs.CellLaws.{enabled-is, forced-is, spurious-is, debug-is, mode-is, vector-is}
+use Rattle.aic_room.proofs.LevelLaws.{laid-stale}
 use borrow.Author.Needs.{needs}
 use Rattle.aic_room.proofs.read_stored.Statement.{statement}
 use Rattle.aic_room.proofs.read_stored.Tie as tie

@@ -2,7 +2,7 @@
 use mathlib.Core.Path.{ap, _∙_}
 use borrow.Author.Tests.{eq-eqb, ne-eqb}
 use Rattle.words.proofs.ChoiceLaws.{pick-true, pick-false}
-use Rattle.turns.specs.Turns.{stepOf}
+use Rattle.trace.specs.Turns.{stepOf}
 use Rattle.aic.specs.Model.{step}
 use Rattle.aic_room.proofs.ReplyLaws.{done-as}
 use borrow.Author.Needs.{needs}

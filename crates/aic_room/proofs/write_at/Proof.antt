@@ -5,7 +5,7 @@ use borrow.Author.Tests.{ne-eqb, lt-ltb, le-ltb}
 use Rattle.words.specs.Choice.{pick}
 use Rattle.words.proofs.ChoiceLaws.{pick-true, pick-false}
 use Rattle.aic_registers.specs.Registers.{writtenAt}
-use Rattle.aic_layout.proofs.CellLaws.{laid-as}
+use Rattle.aic_room.proofs.CellLaws.{laid-as}
 use Rattle.aic_room.proofs.ReplyLaws.{laid-at, few}
 use borrow.Author.Needs.{needs}
 use Rattle.aic_room.proofs.write_at.Statement.{statement}

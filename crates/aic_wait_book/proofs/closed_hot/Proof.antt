@@ -4,7 +4,7 @@ use mathlib.Core.Bool.{not, _&&_, true}
 use lib.Dec.{eqb}
 use lib.ListN.{getD}
 use Rattle.words.proofs.TruthLaws.{and-right}
-use Rattle.aic_layout.proofs.CellLaws.{depth-is}
+use Rattle.aic_room.proofs.CellLaws.{depth-is}
 use Rattle.aic_wait_book.proofs.RoomLaws.{closed-some, closed-none, not-zero}
 use borrow.Author.Needs.{needs}
 use Rattle.aic_wait_book.proofs.closed_hot.Statement.{statement}

@@ -3,7 +3,7 @@ use Prim.Native.Nat.{ℕ}
 use mathlib.Core.Path.{ap, _∙_}
 use Rattle.words.specs.Word.{bit}
 use Rattle.aic_sources.specs.Pending.{activeAt, active}
-use Rattle.aic_layout.proofs.CellLaws.{lines-is}
+use Rattle.aic_room.proofs.CellLaws.{lines-is}
 use borrow.Author.Needs.{needs}
 use Rattle.aic_wait_book.proofs.is_active.Statement.{statement}
 use Rattle.aic_wait_book.proofs.is_active.Tie as tie

@@ -5,7 +5,7 @@ use mathlib.Core.Bool.{Bool, not, _||_}
 use mathlib.Core.List.{_∷_}
 use lib.Dec.{eqb}
 use lib.ListN.{getD, set, replicate}
-use Rattle.aic_layout.proofs.CellLaws.{enabled-is}
+use Rattle.aic_room.proofs.CellLaws.{enabled-is}
 use Rattle.aic_wait_book.specs.Book.{wordIn, Moved}
 use Rattle.aic_wait_book.proofs.KeptLaws.{rows-touched, moved-from}
 use borrow.Author.Needs.{needs}

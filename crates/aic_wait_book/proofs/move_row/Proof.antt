@@ -3,7 +3,7 @@ use Prim.Native.Nat.{ℕ}
 use mathlib.Core.Path.{_≡_, ap}
 use mathlib.Core.List.{List}
 use lib.ListN.{getD, set}
-use Rattle.aic_layout.proofs.CellLaws.{enabled-is}
+use Rattle.aic_room.proofs.CellLaws.{enabled-is}
 use Rattle.aic_wait_book.proofs.KeptLaws.{row-grown}
 use borrow.Author.Needs.{needs}
 use Rattle.aic_wait_book.proofs.move_row.Statement.{statement}

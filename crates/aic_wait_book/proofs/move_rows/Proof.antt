@@ -12,9 +12,9 @@ use Rattle.words.proofs.HopLaws.{lowest-in, hop-less}
 use Rattle.words.proofs.WordLaws.{withBit-lt}
 use Rattle.aic_record.specs.declared.Aic.{Aic}
 use Rattle.aic_record.specs.Sound.{sound}
-use Rattle.aic_layout.specs.Room.{Laid}
+use Rattle.aic_room.specs.Room.{Laid}
 use Rattle.aic_figures.proofs.BookLaws.{within}
-use Rattle.aic_wait_figures.specs.declared.Figures.{Figures}
+use Rattle.aic_bounds.specs.declared.figures.Figures.{Figures}
 use Rattle.aic_wait_book.specs.Book.{rowAfter, wordIn, Kept, Rows}
 use Rattle.aic_wait_book.proofs.KeptLaws.{rows-none, rows-all, rows-more, still, row-same}
 use borrow.Author.Needs.{needs}

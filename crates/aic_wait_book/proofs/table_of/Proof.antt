@@ -5,7 +5,7 @@ use mathlib.Core.List.{List, []}
 use native.Mathlib.Omega.{arith}
 use borrow.Author.Count.{below-none}
 use lib.ListN.{length, getD, length-set}
-use Rattle.aic_wait_figures.specs.declared.Figures.{Figures}
+use Rattle.aic_bounds.specs.declared.figures.Figures.{Figures}
 use Rattle.aic_wait_book.specs.Book.{numbersOf, Kept}
 use Rattle.aic_wait_book.proofs.WaitLaws.{filled-rows}
 use borrow.Author.Needs.{needs}

@@ -1,7 +1,7 @@
 -- That `write_marks` of src/lib.rt keeps its contract.
 use mathlib.Core.Path.{refl}
 use mathlib.Core.Bool.{true}
-use Rattle.aic_layout.proofs.CellLaws.{edges-is}
+use Rattle.aic_room.proofs.CellLaws.{edges-is}
 use Rattle.aic_bounds.proofs.MarkLaws.{write-from}
 use borrow.Author.Needs.{needs}
 use Rattle.aic_wait_book.proofs.write_marks.Statement.{statement}

@@ -1,6 +1,6 @@
 -- That `step_in` of src/lib.rt keeps its contract.
 use mathlib.Core.Path.{sym, ap}
-use Rattle.aintc_steps.specs.Model.{step}
+use Rattle.aintc_registers.specs.Model.{step}
 use Rattle.aintc_room.proofs.ReplyLaws.{done-as}
 use borrow.Author.Needs.{needs}
 use Rattle.aintc.proofs.step_in.Statement.{statement}

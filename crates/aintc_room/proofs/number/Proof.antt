@@ -1,9 +1,9 @@
 -- That `number` of src/lib.rt keeps its contract.
 use mathlib.Core.Path.{_≡_, refl, sym, ap, ap₂, _∙_}
 use mathlib.Core.Bool.{Bool, true}
-use Rattle.aintc_steps.specs.Model.{barred, accessNumber}
-use Rattle.aintc_layout.proofs.CellLaws.{guarded-is}
-use Rattle.aintc_layout.proofs.RecordLaws.{flag}
+use Rattle.aintc_registers.specs.Model.{barred, accessNumber}
+use Rattle.aintc_room.proofs.CellLaws.{guarded-is}
+use Rattle.aintc_room.proofs.RecordLaws.{flag}
 use Rattle.aintc_room.proofs.ReplyLaws.{number-privileged}
 use borrow.Author.Needs.{needs}
 use Rattle.aintc_room.proofs.number.Statement.{statement}

@@ -2,7 +2,7 @@
 use mathlib.Core.Path.{_≡_, refl, sym, ap, ap₂, _∙_}
 use Prim.Native.Nat.{ℕ, _+_, _-_, _*_, _/_, _%_, _≤_, _<_}
 use lib.ListN.{getD}
-use Rattle.aintc_layout.proofs.CellLaws.{priority-is}
+use Rattle.aintc_room.proofs.CellLaws.{priority-is}
 use Rattle.aintc_room.proofs.ReplyLaws.{shown-none, shown-some}
 use borrow.Author.Needs.{needs}
 use Rattle.aintc_room.proofs.priority_shown.Statement.{statement}

@@ -5,7 +5,7 @@ use borrow.Author.Tests.{eq-eqb, ne-eqb, lt-ltb, le-ltb, ltb-true, not-true}
 use Rattle.words.proofs.ChoiceLaws.{pick-true, pick-false}
 use Rattle.words.specs.Choice.{pick}
 use Rattle.aintc_registers.specs.Registers.{bankRead}
-use Rattle.aintc_layout.proofs.CellLaws.{lines-is, masks-is, soft-is}
+use Rattle.aintc_room.proofs.CellLaws.{lines-is, masks-is, soft-is}
 use borrow.Author.Needs.{needs}
 use Rattle.aintc_room.proofs.read_bank.Statement.{statement}
 use Rattle.aintc_room.proofs.read_bank.Tie as tie

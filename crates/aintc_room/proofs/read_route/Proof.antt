@@ -1,7 +1,7 @@
 -- That `read_route` of src/lib.rt keeps its contract.
 use mathlib.Core.Path.{_≡_, refl, sym, ap, ap₂, _∙_}
 use Rattle.aintc_record.specs.Route.{routeValue}
-use Rattle.aintc_layout.proofs.CellLaws.{route-is}
+use Rattle.aintc_room.proofs.CellLaws.{route-is}
 use Rattle.aintc_room.proofs.ReplyLaws.{route-none}
 use borrow.Author.Needs.{needs}
 use Rattle.aintc_room.proofs.read_route.Statement.{statement}

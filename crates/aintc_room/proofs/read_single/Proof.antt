@@ -7,7 +7,7 @@ use Rattle.words.proofs.ChoiceLaws.{pick-true, pick-false}
 use Rattle.words.specs.Choice.{pick}
 use Rattle.aintc_record.specs.Record.{side}
 use Rattle.aintc_registers.specs.Registers.{idleBits, singleRead}
-use Rattle.aintc_layout.proofs.CellLaws.{threshold-is, revision-is, guarded-is, autoidle-is, turbo-is, funcidle-is}
+use Rattle.aintc_room.proofs.CellLaws.{threshold-is, revision-is, guarded-is, autoidle-is, turbo-is, funcidle-is}
 use Rattle.aintc_room.proofs.ReplyLaws.{bit-is}
 use borrow.Author.Needs.{needs}
 use Rattle.aintc_room.proofs.read_single.Statement.{statement}

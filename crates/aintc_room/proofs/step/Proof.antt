@@ -2,8 +2,8 @@
 use mathlib.Core.Path.{_≡_, refl, sym, ap, ap₂, _∙_}
 use borrow.Author.Tests.{eq-eqb, ne-eqb, lt-ltb, le-ltb, ltb-true, not-true}
 use Rattle.words.proofs.ChoiceLaws.{pick-true, pick-false}
-use Rattle.turns.specs.Turns.{stepOf}
-use Rattle.aintc_steps.specs.Model.{step}
+use Rattle.trace.specs.Turns.{stepOf}
+use Rattle.aintc_registers.specs.Model.{step}
 use Rattle.aintc_room.proofs.ReplyLaws.{done-as}
 use borrow.Author.Needs.{needs}
 use Rattle.aintc_room.proofs.step.Statement.{statement}

@@ -11,7 +11,7 @@ fn waiting() -> Answer {
     let a = with_source(fresh(), 0x24, 0x47, 0xA4, 0xA9);
     let s = a.aic;
     let l = a.levels;
-    aic_pair::step(s, l, Step::Line(9, 1))
+    aic_room::pair::step(s, l, Step::Line(9, 1))
 }
 
 // The pair with word 7, the byte and the forced sources put so: a read of IVR, and what it leaves of these and of the entries.
@@ -22,7 +22,7 @@ fn put(seven: u32, byte: u8, forced: u32) {
     let mut l = a.levels;
     l.words[7] = seven;
     l.any = byte;
-    let r = aic_pair::step(s, l, Step::Read(0x100));
+    let r = aic_room::pair::step(s, l, Step::Read(0x100));
     lines::four(seven, byte as u32, forced, r.value, r.refusal);
     let t = r.aic;
     let m = r.levels;
@@ -84,7 +84,7 @@ fn also_in(p: u32) {
     let m = a.levels;
     let l = spoiled(m, p);
     let same = aic_levels::agrees(s, l);
-    let r = aic_pair::step(s, l, Step::Read(0x110));
+    let r = aic_room::pair::step(s, l, Step::Read(0x110));
     lines::four(p, same as u32, r.value, 0, r.refusal);
 }
 
@@ -105,11 +105,11 @@ fn first_of_all(byte: u8) {
     let s = a.aic;
     let mut l = a.levels;
     l.any = byte;
-    let r = aic_pair::step(s, l, Step::Read(0x119));
+    let r = aic_room::pair::step(s, l, Step::Read(0x119));
     lines::one(0x119, r.refusal);
-    let w = aic_pair::step(s, l, Step::Write(0x108, 1));
+    let w = aic_room::pair::step(s, l, Step::Write(0x108, 1));
     lines::one(0x108, w.refusal);
-    let i = aic_pair::step(s, l, Step::Line(32, 1));
+    let i = aic_room::pair::step(s, l, Step::Line(32, 1));
     lines::one(32, i.refusal);
     let o = aic_levels::outputs(s, l);
     lines::one(0, o.refusal);

@@ -39,7 +39,7 @@ pub(crate) fn starts() {
 fn on(a: Answer, x: Step) -> Answer {
     let s = a.aic;
     let l = a.levels;
-    aic_pair::step(s, l, x)
+    aic_room::pair::step(s, l, x)
 }
 
 // A step, and what is to be seen after it: the words are those of the levels p and q.

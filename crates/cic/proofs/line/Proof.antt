@@ -1,6 +1,6 @@
 -- That `line` of src/lib.rt keeps its contract.
-use Rattle.cic_steps.specs.Model.{lineAs}
-use Rattle.cic_steps.proofs.StepLaws.{line-unsound}
+use Rattle.cic_registers.specs.Model.{lineAs}
+use Rattle.cic_registers.proofs.StepLaws.{line-unsound}
 use mathlib.Core.Bool.{Bool}
 use mathlib.Core.Path.{sym, ap, _∙_}
 use borrow.Author.Needs.{needs}

@@ -1,6 +1,6 @@
 -- That `read` of src/lib.rt keeps its contract.
-use Rattle.cic_steps.specs.Model.{readAs}
-use Rattle.cic_steps.proofs.StepLaws.{read-unsound}
+use Rattle.cic_registers.specs.Model.{readAs}
+use Rattle.cic_registers.proofs.StepLaws.{read-unsound}
 use mathlib.Core.Bool.{Bool}
 use mathlib.Core.Path.{sym, ap, _∙_}
 use borrow.Author.Needs.{needs}

@@ -1,6 +1,6 @@
 -- That `step` of src/lib.rt keeps its contract.
-use Rattle.cic_steps.specs.Model.{stepAs}
-use Rattle.cic_steps.proofs.StepLaws.{step-unsound}
+use Rattle.cic_registers.specs.Model.{stepAs}
+use Rattle.cic_registers.proofs.StepLaws.{step-unsound}
 use mathlib.Core.Bool.{Bool}
 use mathlib.Core.Path.{sym, ap, _∙_}
 use borrow.Author.Needs.{needs}

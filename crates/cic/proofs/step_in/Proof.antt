@@ -1,7 +1,7 @@
 -- That `step_in` of src/lib.rt keeps its contract.
 use mathlib.Core.Path.{_∙_}
 use mathlib.Core.Bool.{true}
-use Rattle.cic_steps.proofs.StepLaws.{step-read, step-write, step-line}
+use Rattle.cic_registers.proofs.StepLaws.{step-read, step-write, step-line}
 use borrow.Author.Needs.{needs}
 use Rattle.cic.proofs.step_in.Statement.{statement}
 use Rattle.cic.proofs.step_in.Tie as tie

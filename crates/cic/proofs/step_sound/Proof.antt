@@ -1,5 +1,5 @@
 -- That `step_sound` of src/lib.rt keeps its contract.
-use Rattle.cic_steps.specs.Model.{stepAs}
+use Rattle.cic_registers.specs.Model.{stepAs}
 use mathlib.Core.Bool.{Bool}
 use mathlib.Core.Path.{sym, ap, _∙_}
 use borrow.Author.Needs.{needs}

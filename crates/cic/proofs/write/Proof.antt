@@ -1,6 +1,6 @@
 -- That `write` of src/lib.rt keeps its contract.
-use Rattle.cic_steps.specs.Model.{writeAs}
-use Rattle.cic_steps.proofs.StepLaws.{write-unsound}
+use Rattle.cic_registers.specs.Model.{writeAs}
+use Rattle.cic_registers.proofs.StepLaws.{write-unsound}
 use mathlib.Core.Bool.{Bool}
 use mathlib.Core.Path.{sym, ap, _∙_}
 use borrow.Author.Needs.{needs}

@@ -1,8 +1,8 @@
 -- That `write_in` of src/lib.rt keeps its contract.
 use mathlib.Core.Path.{_∙_}
 use mathlib.Core.Bool.{true, false}
-use Rattle.cic_steps.specs.Model.{writeAs}
-use Rattle.cic_laid.specs.Room.{plain}
+use Rattle.cic_registers.specs.Model.{writeAs}
+use Rattle.cic_room.specs.Room.{plain}
 use Rattle.cic.proofs.FaceLaws.{answer-is}
 use borrow.Author.Needs.{needs}
 use Rattle.cic.proofs.write_in.Statement.{statement}

@@ -1,7 +1,7 @@
 -- That `look_global` of src/lib.rt keeps its contract.
 use mathlib.Core.Path.{ap, _∙_}
 use Rattle.cic_record.proofs.PartsLaws.{sound-counts}
-use Rattle.cic_indices.specs.declared.Found.{Found}
+use Rattle.cic_held.specs.declared.indices.Found.{Found}
 use Rattle.cic_indexed.specs.Model.{readAs}
 use Rattle.cic_indexed.proofs.SoundLaws.{sound-cic}
 use Rattle.cic_looked.specs.Looking.{looked, wordsAt}

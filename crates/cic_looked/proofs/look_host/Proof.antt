@@ -4,7 +4,7 @@ use mathlib.Core.Path.{_≡_, ap, _∙_}
 use Prim.Native.Nat.{ℕ}
 use Rattle.steps.specs.Refusals.{readRefusal}
 use Rattle.cic_record.proofs.PartsLaws.{sound-counts}
-use Rattle.cic_indices.specs.declared.Found.{Found}
+use Rattle.cic_held.specs.declared.indices.Found.{Found}
 use Rattle.cic_indexed.specs.Registers.{hostAccess}
 use Rattle.cic_indexed.specs.Model.{readAs}
 use Rattle.cic_indexed.proofs.SoundLaws.{sound-cic}

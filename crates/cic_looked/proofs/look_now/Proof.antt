@@ -3,9 +3,9 @@ use mathlib.Core.Path.{ap, ap₂, _∙_}
 use Prim.Native.Nat.{ℕ}
 use borrow.Author.Tests.{eq-eqb, ne-eqb}
 use Rattle.words.proofs.ChoiceLaws.{pick-true, pick-false}
-use Rattle.cic_indices.specs.declared.Found.{Found}
-use Rattle.cic_indices.specs.Looked.{lookedOver, foundOver}
-use Rattle.cic_indices.specs.Order.{leads, indexOf}
+use Rattle.cic_held.specs.declared.indices.Found.{Found}
+use Rattle.cic_held.specs.Looked.{lookedOver, foundOver}
+use Rattle.cic_held.specs.Order.{leads, indexOf}
 use Rattle.cic_held.specs.Held.{wordHeld}
 use borrow.Author.Needs.{needs}
 use Rattle.cic_looked.proofs.look_now.Statement.{statement}

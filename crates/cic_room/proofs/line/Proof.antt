@@ -8,10 +8,10 @@ use lib.ListN.{getD}
 use Rattle.cic_record.specs.Kinds.{system}
 use Rattle.cic_record.specs.Record.{answered}
 use Rattle.cic_record.proofs.RuleLaws.{sound-is}
-use Rattle.cic_layout.proofs.Promises as of-layout
-use Rattle.cic_steps.specs.Model.{moved}
-use Rattle.cic_steps.proofs.StepLaws.{line-refused, line-carried}
-use Rattle.cic_laid.proofs.PutLaws.{systems-is}
+use Rattle.cic_registers.proofs.LayoutPromises as of-layout
+use Rattle.cic_registers.specs.Model.{moved}
+use Rattle.cic_registers.proofs.StepLaws.{line-refused, line-carried}
+use Rattle.cic_room.proofs.PutLaws.{systems-is}
 use Rattle.cic_room.proofs.ReplyLaws.{done-as, line-stops, line-goes}
 use borrow.Author.Needs.{needs}
 use Rattle.cic_room.proofs.line.Statement.{statement}

@@ -1,7 +1,7 @@
 -- That `read` of src/lib.rt keeps its contract.
 use Prim.Native.Nat.{_-_}
-use Rattle.cic_layout.proofs.Promises as of-layout
-use Rattle.cic_steps.proofs.StepLaws.{misaligned-read}
+use Rattle.cic_registers.proofs.LayoutPromises as of-layout
+use Rattle.cic_registers.proofs.StepLaws.{misaligned-read}
 use Rattle.cic_room.proofs.ReplyLaws.{done-as, read-done}
 use borrow.Author.Needs.{needs}
 use Rattle.cic_room.proofs.read.Statement.{statement}

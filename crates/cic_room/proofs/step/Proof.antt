@@ -4,9 +4,9 @@ use mathlib.Core.Bool.{true}
 use Prim.Native.Nat.{_-_}
 use borrow.Author.Tests.{eq-eqb, ne-eqb}
 use Rattle.words.proofs.ChoiceLaws.{pick-true, pick-false}
-use Rattle.cic_layout.proofs.Promises as of-layout
-use Rattle.cic_steps.proofs.StepLaws.{step-read, step-write, step-line}
-use Rattle.turns.specs.Turns.{stepOf}
+use Rattle.cic_registers.proofs.LayoutPromises as of-layout
+use Rattle.cic_registers.proofs.StepLaws.{step-read, step-write, step-line}
+use Rattle.trace.specs.Turns.{stepOf}
 use Rattle.cic_room.proofs.ReplyLaws.{done-as}
 use borrow.Author.Needs.{needs}
 use Rattle.cic_room.proofs.step.Statement.{statement}

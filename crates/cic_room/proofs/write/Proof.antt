@@ -1,8 +1,8 @@
 -- That `write` of src/lib.rt keeps its contract.
 use mathlib.Core.Path.{refl}
 use Prim.Native.Nat.{_-_}
-use Rattle.cic_layout.proofs.Promises as of-layout
-use Rattle.cic_steps.proofs.StepLaws.{misaligned-write, aligned-write}
+use Rattle.cic_registers.proofs.LayoutPromises as of-layout
+use Rattle.cic_registers.proofs.StepLaws.{misaligned-write, aligned-write}
 use Rattle.cic_room.proofs.ReplyLaws.{done-as}
 use borrow.Author.Needs.{needs}
 use Rattle.cic_room.proofs.write.Statement.{statement}

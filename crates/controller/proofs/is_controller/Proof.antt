@@ -2,7 +2,7 @@
 use mathlib.Core.Bool.{true}
 use lib.ListN.{getD}
 use mathlib.Core.Path.{_≡_, sym, ap, _∙_, subst}
-use Rattle.machine_record.specs.declared.Machine.{Machine}
+use Rattle.machine.specs.declared.record.Machine.{Machine}
 use Rattle.machine_room.specs.Room.{Beside}
 use Rattle.controller.specs.Controller.{Stands}
 use Rattle.controller.proofs.ControllerLaws.{withKind, alone}

@@ -1,7 +1,7 @@
 -- That `outputs` of src/lib.rt keeps its contract.
 use mathlib.Core.Path.{_≡_, refl, sym, ap, _∙_}
 use Rattle.steps.specs.Refusals.{carriedOut}
-use Rattle.machine_record.specs.declared.Columns.{Columns}
+use Rattle.machine.specs.declared.record.Columns.{Columns}
 use Rattle.controller.specs.Controller.{shownAs}
 use borrow.Author.Needs.{needs}
 use Rattle.controller.proofs.outputs.Statement.{statement}

@@ -1,7 +1,7 @@
 -- That `read` of src/lib.rt keeps its contract.
 use mathlib.Core.Path.{refl}
 use native.Mathlib.Omega.{arith}
-use Rattle.turns.proofs.TurnLaws.{step-read}
+use Rattle.trace.proofs.TurnLaws.{step-read}
 use Rattle.controller.proofs.ControllerLaws.{stepped-as}
 use borrow.Author.Needs.{needs}
 use Rattle.controller.proofs.read.Statement.{statement}

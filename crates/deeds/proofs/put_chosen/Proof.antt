@@ -3,7 +3,7 @@ use mathlib.Core.Path.{refl, ap, _∙_}
 use Rattle.text.specs.Text.{write}
 use Rattle.text.proofs.WriteLaws.{same-length as same-len, and-then, nothing}
 use Rattle.words.proofs.ChoiceLaws.{pick-true, pick-false}
-use Rattle.phrases.specs.Phrases.{bytes}
+use Rattle.text.specs.Phrases.{bytes}
 use Rattle.deeds.specs.Deeds.{chosenWords}
 use borrow.Author.Needs.{needs}
 use Rattle.deeds.proofs.put_chosen.Statement.{statement}

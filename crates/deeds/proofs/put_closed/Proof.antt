@@ -4,7 +4,7 @@ use Rattle.text.specs.Text.{write}
 use Rattle.text.proofs.WriteLaws.{same-length as same-len}
 use borrow.Author.Tests.{eq-eqb, ne-eqb}
 use Rattle.words.proofs.ChoiceLaws.{pick-true, pick-false}
-use Rattle.phrases.specs.Phrases.{bytes}
+use Rattle.text.specs.Phrases.{bytes}
 use Rattle.deeds.specs.Deeds.{closedWords}
 use Rattle.deeds.proofs.put_closed.Statement.{statement}
 use Rattle.deeds.proofs.put_closed.Tie as tie

@@ -4,7 +4,7 @@ use Rattle.text.specs.Text.{write}
 use Rattle.text.proofs.WriteLaws.{same-length as same-len, nothing}
 use borrow.Author.Tests.{lt-ltb, le-ltb}
 use Rattle.words.proofs.ChoiceLaws.{pick-true, pick-false}
-use Rattle.phrases.specs.Phrases.{bytes}
+use Rattle.text.specs.Phrases.{bytes}
 use Rattle.deeds.specs.Deeds.{entryWords}
 use Rattle.deeds.proofs.TextLaws.{opened-text, closed-text, ends-true, ends-false}
 use Rattle.deeds.proofs.put_entry.Statement.{statement}

@@ -2,7 +2,7 @@
 use mathlib.Core.Path.{refl, ap, _∙_}
 use Rattle.text.proofs.WriteLaws.{same-length as same-len, and-then}
 use Rattle.deeds.proofs.TextLaws.{sides-text}
-use Rattle.phrases.specs.Phrases.{bytes}
+use Rattle.text.specs.Phrases.{bytes}
 use Rattle.deeds.proofs.put_sides.Statement.{statement}
 use Rattle.deeds.proofs.put_sides.Tie as tie
 

@@ -1,6 +1,6 @@
 -- That `draw` of src/lib.rt keeps its contract.
 use Rattle.text.proofs.WriteLaws.{and-then, write-laid}
-use Rattle.phrases.specs.Phrases.{bytes}
+use Rattle.text.specs.Phrases.{bytes}
 use Rattle.text.specs.Text.{write}
 use mathlib.Core.Path.{ap, _∙_}
 use Rattle.drawing.proofs.BarLaws.{drawing-made}

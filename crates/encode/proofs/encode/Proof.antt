@@ -5,7 +5,7 @@ use native.Mathlib.Omega.{arith}
 use lib.ListN.{length, take, drop}
 use Rattle.text.specs.Text.{write}
 use Rattle.text.proofs.WriteLaws.{rest-of, nothing, write-laid, same-length as same-length-of}
-use Rattle.statements.proofs.PlaceLaws.{place-sought, place-within}
+use Rattle.encode.proofs.PlaceLaws.{place-sought, place-within}
 use Rattle.encode.specs.Encode.{longestTrace, Encoding, encoded}
 use Rattle.encode.proofs.EncodeLaws.{stops-within, size-within, leftOf, left-first, left-none, left-refused, left-more}
 use borrow.Author.Needs.{needs}

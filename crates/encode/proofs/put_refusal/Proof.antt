@@ -1,7 +1,7 @@
 -- That `put_refusal` of src/lib.rt keeps its contract.
 use mathlib.Core.Path.{_∙_}
 use Rattle.text.proofs.WriteLaws.{and-then, write-laid}
-use Rattle.phrases.specs.Phrases.{bytes, counted}
+use Rattle.text.specs.Phrases.{bytes, counted}
 use Rattle.encode.specs.Lines.{refusedLine}
 use borrow.Author.Needs.{needs}
 use Rattle.encode.proofs.put_refusal.Statement.{statement}

@@ -1,4 +1,4 @@
-use Rattle.phrases.specs.Phrases.{bytes}
+use Rattle.text.specs.Phrases.{bytes}
 use Rattle.explain.specs.Explain.{cicDocument}
 use borrow.Author.Needs.{needs}
 use Rattle.explain.proofs.put_cic_document.Statement.{statement}

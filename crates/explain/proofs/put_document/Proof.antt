@@ -1,7 +1,7 @@
 use mathlib.Core.Path.{_≡_, refl, sym, ap, _∙_}
 use Rattle.text.specs.Text.{write}
 use Rattle.text.proofs.WriteLaws.{and-then, nothing, write-laid, same-length as same-length-of}
-use Rattle.phrases.specs.Phrases.{bytes}
+use Rattle.text.specs.Phrases.{bytes}
 use Rattle.kinds.proofs.KindLaws.{at-aic, at-core, at-cic, at-aintc, at-indexed, at-none}
 use Rattle.explain.specs.Explain.{documentWords}
 use borrow.Author.Needs.{needs}

@@ -1,5 +1,5 @@
 use Rattle.text.proofs.WriteLaws.{and-then, nothing, write-laid, same-length as same-length-of}
-use Rattle.phrases.specs.Phrases.{bytes}
+use Rattle.text.specs.Phrases.{bytes}
 use Rattle.explain.specs.Explain.{endLine}
 use borrow.Author.Needs.{needs}
 use Rattle.explain.proofs.put_end_line.Statement.{statement}

@@ -2,7 +2,7 @@ use mathlib.Core.Path.{_≡_, refl, sym, ap, _∙_}
 use Rattle.text.specs.Text.{write}
 use borrow.Author.Tests.{eq-eqb, ne-eqb, lt-ltb, le-ltb}
 use Rattle.words.proofs.ChoiceLaws.{pick-true, pick-false, by-true, by-false}
-use Rattle.phrases.specs.Phrases.{bytes}
+use Rattle.text.specs.Phrases.{bytes}
 use Rattle.explain.specs.Explain.{endReason}
 use borrow.Author.Needs.{needs}
 use Rattle.explain.proofs.put_end_reason.Statement.{statement}

@@ -1,5 +1,5 @@
 use Rattle.text.proofs.WriteLaws.{and-then, nothing, write-laid, same-length as same-length-of}
-use Rattle.phrases.specs.Phrases.{bytes}
+use Rattle.text.specs.Phrases.{bytes}
 use Rattle.explain.specs.Explain.{refusedWords}
 use borrow.Author.Needs.{needs}
 use Rattle.explain.proofs.put_refused.Statement.{statement}
@@ -7,7 +7,7 @@ use Rattle.explain.proofs.put_refused.Tie as tie
 use Rattle.explain.proofs.put_refused.Reads as reads
 use Rattle.explain.proofs.put_refused.Lts as lts
 use Rattle.explain.proofs.put_reason.Reads as put-reason-reads
-use Rattle.phrases.proofs.put_counted.Reads as put-counted-reads
+use Rattle.text.proofs.phrases.put_counted.Reads as put-counted-reads
 use Rattle.text.proofs.put_all.Reads as put-all-reads
 
 -- src/lib.rt:499:43

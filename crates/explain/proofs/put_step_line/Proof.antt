@@ -2,7 +2,7 @@
 use mathlib.Core.Path.{sym, _∙_}
 use lib.Seq.{length-take-le}
 use Rattle.text.proofs.WriteLaws.{and-then, write-laid, laid-fits}
-use Rattle.phrases.specs.Phrases.{bytes}
+use Rattle.text.specs.Phrases.{bytes}
 use Rattle.explain.specs.Explain.{stepLine, commented}
 use Rattle.explain.proofs.StatedLaws.{column-so, stated-fits}
 use borrow.Author.Needs.{needs}

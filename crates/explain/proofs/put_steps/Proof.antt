@@ -6,8 +6,8 @@ use lib.ListN.{length}
 use Rattle.text.specs.Text.{write}
 use Rattle.trace.specs.Trace.{stepsFrom}
 use Rattle.trace.proofs.TraceLaws.{turn-found}
-use Rattle.machine_record.specs.Promises.{Ready}
-use Rattle.reports.proofs.PlayLaws.{next-ready}
+use Rattle.machine.specs.RecordPromises.{Ready}
+use Rattle.beginning.proofs.PlayLaws.{next-ready}
 use Rattle.explain.specs.Explain.{textFrom}
 use Rattle.explain.proofs.ExplainLaws.{text-ended, lined, text-told}
 use borrow.Author.Needs.{needs}

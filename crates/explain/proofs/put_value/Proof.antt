@@ -1,6 +1,6 @@
 -- That `put_value` of src/lib.rt keeps its contract.
 use Rattle.text.proofs.WriteLaws.{and-then}
-use Rattle.phrases.specs.Phrases.{bytes}
+use Rattle.text.specs.Phrases.{bytes}
 use Rattle.explain.specs.Explain.{valueWords}
 use borrow.Author.Needs.{needs}
 use Rattle.explain.proofs.put_value.Statement.{statement}

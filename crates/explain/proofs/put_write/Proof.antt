@@ -1,6 +1,6 @@
 -- That `put_write` of src/lib.rt keeps its contract.
 use Rattle.text.proofs.WriteLaws.{and-then}
-use Rattle.phrases.specs.Phrases.{bytes}
+use Rattle.text.specs.Phrases.{bytes}
 use Rattle.explain.specs.Stated.{writeStated}
 use Rattle.explain.proofs.StatedLaws.{offset-so}
 use borrow.Author.Needs.{needs}

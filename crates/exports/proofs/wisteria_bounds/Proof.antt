@@ -1,8 +1,8 @@
 -- That `wisteria_bounds` of src/lib.rt keeps its contract.
 use mathlib.Core.Path.{ap, _∙_}
 use Rattle.aic_bounds.specs.Bounds.{boundOf}
-use Rattle.aic_wait_figures.specs.declared.Figures.{Figures}
-use Rattle.aic_wait_figures.specs.Figures.{largestNow}
+use Rattle.aic_bounds.specs.declared.figures.Figures.{Figures}
+use Rattle.aic_bounds.specs.Figures.{largestNow}
 use Rattle.trace_bounds.specs.Figures.{countsOf, termsOf}
 use borrow.Author.Needs.{needs}
 use Rattle.exports.proofs.wisteria_bounds.Statement.{statement}

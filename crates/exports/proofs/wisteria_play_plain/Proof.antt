@@ -1,6 +1,6 @@
 -- That `wisteria_play_plain` of src/lib.rt keeps its contract.
 use mathlib.Core.Path.{ap}
-use Rattle.reports.specs.declared.Played.{Played}
+use Rattle.beginning.specs.declared.reports.Played.{Played}
 use borrow.Author.Needs.{needs}
 use Rattle.exports.proofs.wisteria_play_plain.Statement.{statement}
 use Rattle.exports.proofs.wisteria_play_plain.Tie as tie

@@ -1,6 +1,6 @@
 -- That `wisteria_steps` of src/lib.rt keeps its contract.
 use mathlib.Core.Path.{ap}
-use Rattle.reports.specs.declared.Played.{Played}
+use Rattle.beginning.specs.declared.reports.Played.{Played}
 use borrow.Author.Needs.{needs}
 use Rattle.exports.proofs.wisteria_steps.Statement.{statement}
 use Rattle.exports.proofs.wisteria_steps.Tie as tie

@@ -1,5 +1,5 @@
 -- That `write_cic` of src/lib.rt keeps its contract.
-use Rattle.cic_steps.specs.Model.{writeAs}
+use Rattle.cic_registers.specs.Model.{writeAs}
 use mathlib.Core.Bool.{true}
 use Rattle.cic_indexed.proofs.SoundLaws.{sound-cic}
 use Rattle.indexed_room.specs.Room.{framed}

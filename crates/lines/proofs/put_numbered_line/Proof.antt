@@ -1,5 +1,5 @@
 -- That `put_numbered_line` of src/lib.rt keeps its contract.
-use Rattle.text_room.proofs.NumeralLaws.{numeral-text}
+use Rattle.text.proofs.NumeralLaws.{numeral-text}
 use Rattle.lines.proofs.BehindLaws.{as-line}
 use borrow.Author.Needs.{needs}
 use Rattle.lines.proofs.put_numbered_line.Statement.{statement}

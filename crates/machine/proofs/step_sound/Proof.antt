@@ -1,6 +1,6 @@
 -- That `step_sound` of src/lib.rt keeps its contract.
 use mathlib.Core.Path.{sym, _∙_}
-use Rattle.machine_record.proofs.MachineLaws.{sound-aic, sound-core, sound-cic, sound-aintc, sound-indexed, fifth-kind}
+use Rattle.machine.proofs.MachineLaws.{sound-aic, sound-core, sound-cic, sound-aintc, sound-indexed, fifth-kind}
 use Rattle.machine.proofs.StepLaws.{aic-steps, core-steps, cic-steps, aintc-steps, indexed-steps}
 use Rattle.machine.proofs.step_sound.Statement.{statement}
 use Rattle.machine.proofs.step_sound.Tie as tie

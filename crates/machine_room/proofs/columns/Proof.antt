@@ -1,10 +1,10 @@
 -- That `columns` of src/lib.rt keeps its contract.
 use mathlib.Core.Path.{refl, ap, _∙_}
 use mathlib.Core.Bool.{true}
-use Rattle.cic_laid.specs.Room.{plain}
-use Rattle.machine_record.specs.Shown.{aicColumns, coreColumns, cicColumns, aintcColumns}
-use Rattle.machine_record.specs.Machine.{indexed}
-use Rattle.machine_record.proofs.MachineLaws.{sound-aic, sound-core, sound-cic, sound-aintc, sound-indexed}
+use Rattle.cic_room.specs.Room.{plain}
+use Rattle.machine.specs.Shown.{aicColumns, coreColumns, cicColumns, aintcColumns}
+use Rattle.machine.specs.Machine.{indexed}
+use Rattle.machine.proofs.MachineLaws.{sound-aic, sound-core, sound-cic, sound-aintc, sound-indexed}
 use Rattle.machine_room.proofs.RoomLaws.{of-kind, not-kind, aic-columns, core-columns, cic-columns, aintc-columns, indexed-columns, last-kind}
 use borrow.Author.Needs.{needs}
 use Rattle.machine_room.proofs.columns.Statement.{statement}

@@ -1,6 +1,6 @@
 -- That `lay` of src/lib.rt keeps its contract.
 use mathlib.Core.Path.{_∙_}
-use Rattle.machine_record.proofs.MachineLaws.{sound-cic}
+use Rattle.machine.proofs.MachineLaws.{sound-cic}
 use Rattle.machine_room.proofs.RoomLaws.{aic-laid, core-laid, cic-laid, aintc-laid, indexed-laid-as, last-kind}
 use borrow.Author.Needs.{needs}
 use Rattle.machine_room.proofs.lay.Statement.{statement}

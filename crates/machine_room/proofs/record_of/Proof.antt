@@ -1,8 +1,8 @@
 -- That `record_of` of src/lib.rt keeps its contract.
 use mathlib.Core.Path.{_∙_}
-use Rattle.cic_laid.specs.Room.{plain}
-use Rattle.machine_record.specs.Machine.{indexed}
-use Rattle.machine_record.proofs.MachineLaws.{sound-aic, sound-aintc, sound-indexed}
+use Rattle.cic_room.specs.Room.{plain}
+use Rattle.machine.specs.Machine.{indexed}
+use Rattle.machine.proofs.MachineLaws.{sound-aic, sound-aintc, sound-indexed}
 use Rattle.machine_room.proofs.RoomLaws.{of-kind, not-kind, aic-record, core-record, cic-record, aintc-record, indexed-record, last-kind}
 use borrow.Author.Needs.{needs}
 use Rattle.machine_room.proofs.record_of.Statement.{statement}

@@ -1,11 +1,11 @@
 -- That `step` of src/lib.rt keeps its contract.
 use mathlib.Core.Path.{refl, sym, _∙_}
 use native.Mathlib.Omega.{arith}
-use Rattle.cic_steps.specs.Model.{stepAs}
-use Rattle.cic_laid.specs.Room.{plain}
-use Rattle.turns.proofs.TurnLaws.{step-read, step-write}
-use Rattle.machine_record.specs.Machine.{indexed}
-use Rattle.machine_record.proofs.MachineLaws.{sound-aic, sound-core, sound-cic, sound-aintc, sound-indexed}
+use Rattle.cic_registers.specs.Model.{stepAs}
+use Rattle.cic_room.specs.Room.{plain}
+use Rattle.trace.proofs.TurnLaws.{step-read, step-write}
+use Rattle.machine.specs.Machine.{indexed}
+use Rattle.machine.proofs.MachineLaws.{sound-aic, sound-core, sound-cic, sound-aintc, sound-indexed}
 use Rattle.machine_room.proofs.RoomLaws.{of-kind, told-kind, told-step, line-step, last-step, aic-done, core-done, cic-done, aintc-done, indexed-done}
 use borrow.Author.Needs.{needs}
 use Rattle.machine_room.proofs.step.Statement.{statement}

@@ -1,6 +1,6 @@
 -- That `play` of src/lib.rt keeps its contract.
 use mathlib.Core.Path.{_∙_}
-use Rattle.reports.proofs.PlayLaws.{play-refused}
+use Rattle.beginning.proofs.PlayLaws.{play-refused}
 use borrow.Author.Needs.{needs}
 use Rattle.player.proofs.play.Statement.{statement}
 use Rattle.player.proofs.play.Tie as tie

@@ -1,7 +1,7 @@
 -- That `play_any` of src/lib.rt keeps its contract.
 use mathlib.Core.Path.{refl, _∙_}
 use Rattle.beginning.proofs.BeginningLaws.{begin-ready}
-use Rattle.reports.proofs.PlayLaws.{play-begun}
+use Rattle.beginning.proofs.PlayLaws.{play-begun}
 use borrow.Author.Needs.{needs}
 use Rattle.player.proofs.play_any.Statement.{statement}
 use Rattle.player.proofs.play_any.Tie as tie

@@ -1,6 +1,6 @@
 -- That `play_plain` of src/lib.rt keeps its contract.
 use mathlib.Core.Path.{_∙_}
-use Rattle.reports.proofs.PlayLaws.{play-refused}
+use Rattle.beginning.proofs.PlayLaws.{play-refused}
 use borrow.Author.Needs.{needs}
 use Rattle.player.proofs.play_plain.Statement.{statement}
 use Rattle.player.proofs.play_plain.Tie as tie

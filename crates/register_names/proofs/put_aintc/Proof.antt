@@ -2,7 +2,7 @@
 use mathlib.Core.Path.{refl}
 use Rattle.words.specs.Choice.{pick}
 use Rattle.text.proofs.WriteLaws.{same-length as same-length-of}
-use Rattle.phrases.specs.Phrases.{bytes}
+use Rattle.text.specs.Phrases.{bytes}
 use Rattle.register_names.specs.Maps.{aintcRows}
 use Rattle.register_names.specs.Table.{digitOf, twoAt, fourAt, until, countBy, firstAt, countAt, stepAt, nameAt, sectionFrom, sectionAt, rowAt, rowsFrom}
 use Rattle.register_names.proofs.TableLaws.{as-map}

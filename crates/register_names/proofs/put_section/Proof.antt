@@ -1,7 +1,7 @@
 -- That `put_section` of src/lib.rt keeps its contract.
 use mathlib.Core.Path.{refl}
 use Rattle.text.proofs.WriteLaws.{same-length as same-length-of, and-then}
-use Rattle.phrases.specs.Phrases.{bytes}
+use Rattle.text.specs.Phrases.{bytes}
 use Rattle.register_names.specs.Rows.{sectioned}
 use borrow.Author.Needs.{needs}
 use Rattle.register_names.proofs.put_section.Statement.{statement}

@@ -4,7 +4,7 @@ use Rattle.text.specs.Text.{write}
 use Rattle.text.proofs.WriteLaws.{same-length as same-len}
 use borrow.Author.Tests.{lt-ltb, le-ltb}
 use Rattle.words.proofs.ChoiceLaws.{pick-true, pick-false}
-use Rattle.phrases.specs.Phrases.{bytes}
+use Rattle.text.specs.Phrases.{bytes}
 use Rattle.register_words.specs.Registers.{accessWords}
 use Rattle.register_words.proofs.put_access.Statement.{statement}
 use Rattle.register_words.proofs.put_access.Tie as tie

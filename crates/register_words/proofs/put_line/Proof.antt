@@ -3,7 +3,7 @@ use mathlib.Core.Path.{refl, ap, _∙_}
 use Rattle.text.specs.Text.{write}
 use Rattle.text.proofs.WriteLaws.{same-length as same-len, nothing}
 use Rattle.kinds.proofs.KindLaws.{at-aic, at-core, at-cic, at-aintc, at-indexed, at-none}
-use Rattle.phrases.specs.Phrases.{bytes}
+use Rattle.text.specs.Phrases.{bytes}
 use Rattle.register_words.specs.Registers.{lineWords}
 use Rattle.register_words.proofs.put_line.Statement.{statement}
 use Rattle.register_words.proofs.put_line.Tie as tie

@@ -1,6 +1,6 @@
 -- That `put_name` of src/lib.rt keeps its contract.
 use Rattle.text.proofs.WriteLaws.{and-then}
-use Rattle.phrases.specs.Phrases.{bytes}
+use Rattle.text.specs.Phrases.{bytes}
 use Rattle.report.specs.Printed.{named}
 use borrow.Author.Needs.{needs}
 use Rattle.report.proofs.put_name.Statement.{statement}

@@ -1,6 +1,6 @@
 -- That `put_source` of src/lib.rt keeps its contract.
 use Rattle.text.proofs.WriteLaws.{and-then, same-length as same-len}
-use Rattle.phrases.specs.Phrases.{bytes}
+use Rattle.text.specs.Phrases.{bytes}
 use Rattle.report.specs.Printed.{sourceLine}
 use borrow.Author.Needs.{needs}
 use Rattle.report.proofs.put_source.Statement.{statement}

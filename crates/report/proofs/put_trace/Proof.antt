@@ -1,7 +1,7 @@
 -- That `put_trace` of src/lib.rt keeps its contract.
 use mathlib.Core.Path.{_∙_}
 use Rattle.text.proofs.WriteLaws.{and-then, write-laid}
-use Rattle.phrases.specs.Phrases.{bytes}
+use Rattle.text.specs.Phrases.{bytes}
 use Rattle.report.specs.Printed.{traceLine}
 use borrow.Author.Needs.{needs}
 use Rattle.report.proofs.put_trace.Statement.{statement}

@@ -4,7 +4,7 @@ use mathlib.Core.Path.{_≡_, ap, _∙_}
 use lib.ListN.{replicate}
 use Rattle.words.specs.Word.{bit}
 use Rattle.words.proofs.WordLaws.{bit-wordOf}
-use Rattle.wait_totals.specs.Waits.{newly, chosen}
+use Rattle.totals.specs.Waits.{newly, chosen}
 use Rattle.sheet_figures.specs.Sheet.{firstOf}
 use borrow.Author.Needs.{needs}
 use Rattle.sheet_figures.proofs.first_of.Statement.{statement}

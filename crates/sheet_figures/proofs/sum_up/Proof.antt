@@ -6,7 +6,7 @@ use lib.Dec.{eqb}
 use Rattle.words.proofs.ChoiceLaws.{by-true, by-false}
 use Rattle.words.proofs.TruthLaws.{or-neither}
 use Rattle.totals.specs.declared.Added.{Added as Summed}
-use Rattle.wait_totals.specs.declared.Added.{Added as Bounded}
+use Rattle.totals.specs.declared.waits.Added.{Added as Bounded}
 use Rattle.sheet_figures.specs.declared.Sheet.{Sheet}
 use Rattle.sheet_figures.specs.declared.Added.{Added}
 use Rattle.sheet_figures.specs.Sheet.{counted, together, summed}

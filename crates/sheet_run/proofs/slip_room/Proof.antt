@@ -1,6 +1,6 @@
 -- That `slip_room` of src/main.rt keeps its contract.
 use mathlib.Core.Path.{refl}
-use Rattle.table_slips.proofs.Promises.{kept}
+use Rattle.tables.proofs.SlipsPromises.{kept}
 use Rattle.sheet_run.proofs.slip_room.Statement.{statement}
 use Rattle.sheet_run.proofs.slip_room.Tie as tie
 

@@ -2,7 +2,7 @@
 use mathlib.Core.Path.{sym, ap, _∙_}
 use mathlib.Core.Bool.{false}
 use Rattle.tally.specs.declared.Tallied.{Tallied}
-use Rattle.wait_totals.specs.Waits.{noWaits}
+use Rattle.totals.specs.Waits.{noWaits}
 use Rattle.sheet_traces.specs.Noted.{noted, unseen}
 use Rattle.sheet_traces.proofs.NoteLaws.{starts-is, both-parts, of-other}
 use borrow.Author.Needs.{needs}

@@ -1,7 +1,7 @@
 -- That `note_other` of src/lib.rt keeps its contract.
 use mathlib.Core.Path.{ap, _∙_}
 use mathlib.Core.Bool.{false}
-use Rattle.wait_totals.specs.declared.Waits.{Waits}
+use Rattle.totals.specs.declared.waits.Waits.{Waits}
 use Rattle.sheet_traces.specs.Noted.{noted, unseen}
 use borrow.Author.Needs.{needs}
 use Rattle.sheet_traces.proofs.note_other.Statement.{statement}

@@ -6,8 +6,8 @@ use native.Mathlib.Omega.{arith}
 use lib.ListN.{length}
 use Rattle.aic_record.specs.declared.Aic.{Aic}
 use Rattle.aic_record.specs.Sound.{sound}
-use Rattle.aic_layout.specs.Room.{Laid}
-use Rattle.aic_wait_figures.specs.Figures.{noFigures}
+use Rattle.aic_room.specs.Room.{Laid}
+use Rattle.aic_bounds.specs.Figures.{noFigures}
 use Rattle.aic_wait_book.specs.Book.{Kept}
 use Rattle.sheet_traces.specs.Following.{watchedFirst}
 use Rattle.sheet_traces.proofs.LoopLaws.{Watching, begins, played-whole, small, some-left, stands, met, watches-on}

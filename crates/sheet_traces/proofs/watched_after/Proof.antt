@@ -2,7 +2,7 @@
 use native.Mathlib.Omega.{arith}
 use Rattle.words.proofs.CountingLaws.{one-le}
 use Rattle.aic.proofs.SoundLaws.{step-sound}
-use Rattle.aic_layout.proofs.CellLaws.{depth-is, enabled-is}
+use Rattle.aic_room.proofs.CellLaws.{depth-is, enabled-is}
 use Rattle.sheet_traces.proofs.WatchLaws.{kept-if-same, watched-from}
 use borrow.Author.Needs.{needs}
 use Rattle.sheet_traces.proofs.watched_after.Statement.{statement}

@@ -2,7 +2,7 @@
 use mathlib.Core.Path.{ap, _∙_}
 use Rattle.cic_held.specs.Held.{sound as indexedSound}
 use Rattle.cic_indexed.specs.Model.{outputs as indexedOutputs}
-use Rattle.machine_record.proofs.MachineLaws.{sound-aic, sound-core, sound-cic, sound-aintc, sound-indexed, fifth-kind}
+use Rattle.machine.proofs.MachineLaws.{sound-aic, sound-core, sound-cic, sound-aintc, sound-indexed, fifth-kind}
 use Rattle.signals.specs.Signals.{eleven}
 use Rattle.signals.proofs.SignalLaws.{aic-values, core-values, cic-values, aintc-values, indexed-values}
 use borrow.Author.Needs.{needs}

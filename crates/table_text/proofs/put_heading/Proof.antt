@@ -1,5 +1,5 @@
 -- That `put_heading` of src/lib.rt keeps its contract.
-use Rattle.phrases.specs.Phrases.{bytes}
+use Rattle.text.specs.Phrases.{bytes}
 use Rattle.table_text.specs.Text.{heading}
 use borrow.Author.Needs.{needs}
 use Rattle.table_text.proofs.put_heading.Statement.{statement}

@@ -1,6 +1,6 @@
 -- That `put_last` of src/lib.rt keeps its contract.
 use Rattle.text.proofs.WriteLaws.{and-then}
-use Rattle.phrases.specs.Phrases.{bytes}
+use Rattle.text.specs.Phrases.{bytes}
 use Rattle.table_text.specs.Text.{lastLines}
 use borrow.Author.Needs.{needs}
 use Rattle.table_text.proofs.put_last.Statement.{statement}

@@ -1,7 +1,7 @@
 -- That `put_no_table` of src/lib.rt keeps its contract.
 use mathlib.Core.Path.{_∙_}
 use Rattle.text.proofs.WriteLaws.{write-laid}
-use Rattle.phrases.specs.Phrases.{bytes}
+use Rattle.text.specs.Phrases.{bytes}
 use Rattle.table_text.specs.Text.{noTable}
 use borrow.Author.Needs.{needs}
 use Rattle.table_text.proofs.put_no_table.Statement.{statement}

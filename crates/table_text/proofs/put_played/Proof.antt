@@ -1,7 +1,7 @@
 -- That `put_played` of src/lib.rt keeps its contract.
 use mathlib.Core.Path.{ap, _∙_}
 use Rattle.text.specs.Text.{laid}
-use Rattle.reports.specs.declared.Played.{Played}
+use Rattle.beginning.specs.declared.reports.Played.{Played}
 use Rattle.table_text.specs.Text.{tableText}
 use borrow.Author.Needs.{needs}
 use Rattle.table_text.proofs.put_played.Statement.{statement}

@@ -2,9 +2,9 @@
 use mathlib.Core.Path.{_≡_, sym, ap, subst, _∙_}
 use Rattle.kinds.specs.Kinds.{aicKind}
 use Rattle.aic_record.specs.declared.Aic.{Aic}
-use Rattle.aic_layout.specs.Room.{Laid}
+use Rattle.aic_room.specs.Room.{Laid}
 use Rattle.aic_figures.specs.Book.{Kept}
-use Rattle.machine_record.proofs.MachineLaws.{sound-aic}
+use Rattle.machine.proofs.MachineLaws.{sound-aic}
 use Rattle.machine.proofs.StepLaws.{step-kind}
 use Rattle.tally.proofs.TurnLaws.{aic-after, follow-aic, follow-other}
 use borrow.Author.Needs.{needs}

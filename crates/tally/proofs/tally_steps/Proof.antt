@@ -7,11 +7,11 @@ use lib.Dec.{eqb}
 use lib.ListN.{length}
 use Rattle.words.proofs.CountingLaws.{one-le}
 use Rattle.steps.specs.Refusals.{carriedOut}
-use Rattle.turns.proofs.TurnLaws.{ends-here, found-here}
+use Rattle.trace.proofs.TurnLaws.{ends-here, found-here}
 use Rattle.aic_waits.specs.Following.{noFigures}
 use Rattle.aic_figures.specs.Book.{Kept}
-use Rattle.machine_record.specs.declared.Machine.{Machine}
-use Rattle.machine_record.specs.Promises.{Ready}
+use Rattle.machine.specs.declared.record.Machine.{Machine}
+use Rattle.machine.specs.RecordPromises.{Ready}
 use Rattle.machine_room.specs.Room.{Laid}
 use Rattle.loops.proofs.LoopLaws.{stands}
 use Rattle.tally.proofs.LoopLaws.{Tallying, tallies-on}

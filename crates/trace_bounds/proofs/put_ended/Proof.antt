@@ -1,7 +1,7 @@
 -- That `put_ended` of src/lib.rt keeps its contract.
 use mathlib.Core.Path.{ap, _∙_}
 use Rattle.text.specs.Text.{write}
-use Rattle.phrases.specs.Phrases.{bytes}
+use Rattle.text.specs.Phrases.{bytes}
 use Rattle.trace_bounds.proofs.LineLaws.{not-ended, ended-by}
 use borrow.Author.Needs.{needs}
 use Rattle.trace_bounds.proofs.put_ended.Statement.{statement}

@@ -2,7 +2,7 @@
 use mathlib.Core.Path.{ap, _∙_}
 use Rattle.text.specs.Text.{write}
 use Rattle.text.proofs.WriteLaws.{and-then, nothing}
-use Rattle.phrases.specs.Phrases.{bytes}
+use Rattle.text.specs.Phrases.{bytes}
 use Rattle.trace_bounds.proofs.LineLaws.{some-most, no-most}
 use borrow.Author.Needs.{needs}
 use Rattle.trace_bounds.proofs.put_most.Statement.{statement}

@@ -1,7 +1,7 @@
 -- That `put_no_waits` of src/lib.rt keeps its contract.
 use mathlib.Core.Path.{_∙_}
 use Rattle.text.proofs.WriteLaws.{write-laid}
-use Rattle.phrases.specs.Phrases.{bytes}
+use Rattle.text.specs.Phrases.{bytes}
 use Rattle.trace_bounds.specs.Lines.{noWaits}
 use borrow.Author.Needs.{needs}
 use Rattle.trace_bounds.proofs.put_no_waits.Statement.{statement}

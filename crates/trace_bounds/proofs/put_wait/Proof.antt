@@ -1,6 +1,6 @@
 -- That `put_wait` of src/lib.rt keeps its contract.
 use Rattle.text.proofs.WriteLaws.{and-then}
-use Rattle.phrases.specs.Phrases.{bytes}
+use Rattle.text.specs.Phrases.{bytes}
 use Rattle.trace_bounds.proofs.LineLaws.{wait-made}
 use borrow.Author.Needs.{needs}
 use Rattle.trace_bounds.proofs.put_wait.Statement.{statement}

@@ -1,6 +1,6 @@
 -- That `put_declaration` of src/lib.rt keeps its contract.
 use Rattle.text.proofs.WriteLaws.{and-then}
-use Rattle.phrases.specs.Phrases.{bytes, counted}
+use Rattle.text.specs.Phrases.{bytes, counted}
 use Rattle.vcd.specs.Dump.{declaration}
 use borrow.Author.Needs.{needs}
 use Rattle.vcd.proofs.put_declaration.Statement.{statement}

@@ -1,5 +1,5 @@
 -- That `put_declared` of src/lib.rt keeps its contract.
-use Rattle.phrases.specs.Phrases.{bytes}
+use Rattle.text.specs.Phrases.{bytes}
 use Rattle.vcd.specs.Dump.{declared}
 use borrow.Author.Needs.{needs}
 use Rattle.vcd.proofs.put_declared.Statement.{statement}

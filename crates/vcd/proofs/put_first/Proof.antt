@@ -2,7 +2,7 @@
 use Rattle.text.proofs.WriteLaws.{and-then}
 use Rattle.words.specs.Choice.{pick}
 use Rattle.text.specs.Text.{decimalOf}
-use Rattle.phrases.specs.Phrases.{bytes}
+use Rattle.text.specs.Phrases.{bytes}
 use Rattle.vcd.specs.Dump.{tick, firstTick}
 use borrow.Author.Needs.{needs}
 use Rattle.vcd.proofs.put_first.Statement.{statement}

@@ -1,5 +1,5 @@
 -- That `put_opening` of src/lib.rt keeps its contract.
-use Rattle.phrases.specs.Phrases.{bytes}
+use Rattle.text.specs.Phrases.{bytes}
 use Rattle.vcd.specs.Dump.{opening}
 use borrow.Author.Needs.{needs}
 use Rattle.vcd.proofs.put_opening.Statement.{statement}

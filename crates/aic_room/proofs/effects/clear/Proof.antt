@@ -2,8 +2,8 @@
 use mathlib.Core.Path.{ap, ap₂, _∙_}
 use Rattle.words.specs.Word.{both, without}
 use Rattle.aic_registers.specs.Effects.{clearedBy}
-use Rattle.aic_layout.proofs.CellLaws.{edges-is, memory-is, put-memory}
-use Rattle.aic_layout.proofs.LevelLaws.{laid-stale}
+use Rattle.aic_room.proofs.CellLaws.{edges-is, memory-is, put-memory}
+use Rattle.aic_room.proofs.LevelLaws.{laid-stale}
 use borrow.Author.Needs.{needs}
 use Rattle.aic_room.proofs.effects.clear.Statement.{statement}
 use Rattle.aic_room.proofs.effects.clear.Tie as tie

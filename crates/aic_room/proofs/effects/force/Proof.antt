@@ -3,8 +3,8 @@ use mathlib.Core.Path.{ap, ap₂, _∙_}
 use Rattle.words.specs.Word.{either}
 use Rattle.aic_record.specs.Record.{withForced}
 use Rattle.aic_registers.specs.Effects.{forcedBy}
-use Rattle.aic_layout.proofs.CellLaws.{laid-as, forced-is}
-use Rattle.aic_layout.proofs.LevelLaws.{laid-stale}
+use Rattle.aic_room.proofs.CellLaws.{laid-as, forced-is}
+use Rattle.aic_room.proofs.LevelLaws.{laid-stale}
 use borrow.Author.Needs.{needs}
 use Rattle.aic_room.proofs.effects.force.Statement.{statement}
 use Rattle.aic_room.proofs.effects.force.Tie as tie

@@ -4,7 +4,7 @@ use mathlib.Core.Bool.{false}
 use Prim.Native.Nat.{ℕ}
 use Rattle.words.specs.Word.{withBit}
 use Rattle.words.proofs.ChoiceLaws.{pick-true, pick-false}
-use Rattle.aic_layout.proofs.CellLaws.{memory-is}
+use Rattle.aic_room.proofs.CellLaws.{memory-is}
 use Rattle.aic_room.proofs.EffectLaws.{type-other, type-same}
 use borrow.Author.Needs.{needs}
 use Rattle.aic_room.proofs.effects.forget_other_type.Statement.{statement}

@@ -3,8 +3,8 @@ use mathlib.Core.Path.{ap, sym, _∙_}
 use Prim.Native.Nat.{ℕ}
 use Rattle.words.specs.Word.{withBit}
 use Rattle.aic.proofs.HandlerLaws.{moved-is}
-use Rattle.aic_layout.proofs.CellLaws.{priority-is, laid-as, lines-is}
-use Rattle.aic_layout.proofs.OneLaws.{put-source}
+use Rattle.aic_room.proofs.CellLaws.{priority-is, laid-as, lines-is}
+use Rattle.aic_room.proofs.OneLaws.{put-source}
 use borrow.Author.Needs.{needs}
 use Rattle.aic_room.proofs.effects.move_line.Statement.{statement}
 use Rattle.aic_room.proofs.effects.move_line.Tie as tie

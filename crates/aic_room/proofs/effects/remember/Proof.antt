@@ -4,7 +4,7 @@ use mathlib.Core.Bool.{true}
 use Prim.Native.Nat.{ℕ}
 use Rattle.words.specs.Word.{withBit}
 use Rattle.words.proofs.ChoiceLaws.{by-true, by-false}
-use Rattle.aic_layout.proofs.CellLaws.{memory-is}
+use Rattle.aic_room.proofs.CellLaws.{memory-is}
 use borrow.Author.Needs.{needs}
 use Rattle.aic_room.proofs.effects.remember.Statement.{statement}
 use Rattle.aic_room.proofs.effects.remember.Tie as tie

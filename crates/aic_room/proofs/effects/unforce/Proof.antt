@@ -4,8 +4,8 @@ use Prim.Native.Nat.{ℕ}
 use Rattle.words.specs.Word.{without}
 use Rattle.aic_record.specs.Record.{withForced}
 use Rattle.aic_registers.specs.Effects.{unforcedBy}
-use Rattle.aic_layout.proofs.CellLaws.{laid-as, forced-is}
-use Rattle.aic_layout.proofs.LevelLaws.{laid-stale}
+use Rattle.aic_room.proofs.CellLaws.{laid-as, forced-is}
+use Rattle.aic_room.proofs.LevelLaws.{laid-stale}
 use borrow.Author.Needs.{needs}
 use Rattle.aic_room.proofs.effects.unforce.Statement.{statement}
 use Rattle.aic_room.proofs.effects.unforce.Tie as tie

@@ -1,7 +1,7 @@
 -- That `write_debug` of src/effects.rt keeps its contract.
 use Rattle.words.proofs.ChoiceLaws.{by-true, by-false}
 use Rattle.aic_registers.specs.Effects.{debugBy}
-use Rattle.aic_layout.proofs.CellLaws.{laid-as, put-debug}
+use Rattle.aic_room.proofs.CellLaws.{laid-as, put-debug}
 use borrow.Author.Needs.{needs}
 use Rattle.aic_room.proofs.effects.write_debug.Statement.{statement}
 use Rattle.aic_room.proofs.effects.write_debug.Tie as tie

@@ -9,8 +9,8 @@ use Rattle.words.specs.Word.{withBit}
 use Rattle.aic_record.specs.Mode.{typeOf, kind}
 use Rattle.aic_record.specs.Record.{withMemory, withMode}
 use Rattle.aic.proofs.HandlerLaws.{moded-is}
-use Rattle.aic_layout.proofs.CellLaws.{laid-as, put-memory}
-use Rattle.aic_layout.proofs.LevelLaws.{laid-stale}
+use Rattle.aic_room.proofs.CellLaws.{laid-as, put-memory}
+use Rattle.aic_room.proofs.LevelLaws.{laid-stale}
 use borrow.Author.Needs.{needs}
 use Rattle.aic_room.proofs.effects.write_mode.Statement.{statement}
 use Rattle.aic_room.proofs.effects.write_mode.Tie as tie

@@ -1,5 +1,5 @@
 -- That `write_spurious` of src/effects.rt keeps its contract.
-use Rattle.aic_layout.proofs.CellLaws.{put-spurious}
+use Rattle.aic_room.proofs.CellLaws.{put-spurious}
 use borrow.Author.Needs.{needs}
 use Rattle.aic_room.proofs.effects.write_spurious.Statement.{statement}
 use Rattle.aic_room.proofs.effects.write_spurious.Tie as tie

@@ -1,6 +1,6 @@
 -- That `write_vector` of src/effects.rt keeps its contract.
 use Rattle.aic_registers.specs.Effects.{vectored}
-use Rattle.aic_layout.proofs.CellLaws.{put-vector}
+use Rattle.aic_room.proofs.CellLaws.{put-vector}
 use borrow.Author.Needs.{needs}
 use Rattle.aic_room.proofs.effects.write_vector.Statement.{statement}
 use Rattle.aic_room.proofs.effects.write_vector.Tie as tie

@@ -3,7 +3,7 @@ use mathlib.Core.Path.{sym, _∙_}
 use borrow.Author.Tests.{eq-eqb, ne-eqb}
 use Rattle.words.proofs.ChoiceLaws.{pick-true, pick-false}
 use Rattle.aic_registers.specs.Handlers.{begun}
-use Rattle.aic_layout.proofs.CellLaws.{laid-as, seen-what-is}
+use Rattle.aic_room.proofs.CellLaws.{laid-as, seen-what-is}
 use borrow.Author.Needs.{needs}
 use Rattle.aic_room.proofs.handlers.begin_seen.Statement.{statement}
 use Rattle.aic_room.proofs.handlers.begin_seen.Tie as tie

@@ -4,7 +4,7 @@ use Prim.Native.Nat.{ℕ}
 use Rattle.words.specs.Counting.{lowestBelow}
 use Rattle.words.specs.Word.{bit}
 use Rattle.aic_sources.proofs.OrderLaws.{chosen-none}
-use Rattle.aic_layout.proofs.CellLaws.{level-word-is}
+use Rattle.aic_room.proofs.CellLaws.{level-word-is}
 use Rattle.aic_room.proofs.HandlerLaws.{none-anywhere, none-above, some-above}
 use borrow.Author.Needs.{needs}
 use Rattle.aic_room.proofs.handlers.chosen.Statement.{statement}

@@ -3,7 +3,7 @@ use mathlib.Core.Path.{sym, _∙_}
 use borrow.Author.Tests.{eq-eqb}
 use Rattle.words.proofs.ChoiceLaws.{pick-true}
 use Rattle.aic_registers.specs.Handlers.{current}
-use Rattle.aic_layout.proofs.CellLaws.{depth-is}
+use Rattle.aic_room.proofs.CellLaws.{depth-is}
 use Rattle.aic_room.proofs.HandlerLaws.{current-told}
 use borrow.Author.Needs.{needs}
 use Rattle.aic_room.proofs.handlers.current.Statement.{statement}

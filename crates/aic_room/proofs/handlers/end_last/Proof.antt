@@ -7,7 +7,7 @@ use lib.ListN.{set}
 use Rattle.words.proofs.ChoiceLaws.{pick-true, pick-false}
 use Rattle.aic_record.specs.Record.{withHandlers}
 use Rattle.aic_registers.specs.Handlers.{ended, closedLast}
-use Rattle.aic_layout.proofs.CellLaws.{laid-as, depth-is}
+use Rattle.aic_room.proofs.CellLaws.{laid-as, depth-is}
 use Rattle.aic_room.proofs.HandlerLaws.{last-closed}
 use borrow.Author.Needs.{needs}
 use Rattle.aic_room.proofs.handlers.end_last.Statement.{statement}

@@ -1,5 +1,5 @@
 -- That `fast_asks` of src/handlers.rt keeps its contract.
-use Rattle.aic_layout.proofs.LevelLaws.{laid-stale}
+use Rattle.aic_room.proofs.LevelLaws.{laid-stale}
 use Rattle.aic_room.proofs.HandlerLaws.{fast-told}
 use borrow.Author.Needs.{needs}
 use Rattle.aic_room.proofs.handlers.fast_asks.Statement.{statement}

@@ -3,7 +3,7 @@ use mathlib.Core.Path.{ap, _∙_}
 use Prim.Native.Nat.{ℕ}
 use Rattle.words.specs.Word.{bit}
 use Rattle.aic_sources.proofs.SideLaws.{fiq-from}
-use Rattle.aic_layout.proofs.CellLaws.{debug-is}
+use Rattle.aic_room.proofs.CellLaws.{debug-is}
 use borrow.Author.Needs.{needs}
 use Rattle.aic_room.proofs.handlers.is_fiq.Statement.{statement}
 use Rattle.aic_room.proofs.handlers.is_fiq.Tie as tie

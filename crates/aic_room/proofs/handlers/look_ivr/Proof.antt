@@ -1,7 +1,7 @@
 -- That `look_ivr` of src/handlers.rt keeps its contract.
 use mathlib.Core.Path.{refl}
 use Rattle.aic_registers.proofs.CallLaws.{seen-from, look-some, look-none}
-use Rattle.aic_layout.proofs.CellLaws.{spurious-is, mode-is, vector-is}
+use Rattle.aic_room.proofs.CellLaws.{spurious-is, mode-is, vector-is}
 use Rattle.aic_room.proofs.HandlerLaws.{gives-as}
 use borrow.Author.Needs.{needs}
 use Rattle.aic_room.proofs.handlers.look_ivr.Statement.{statement}

@@ -1,6 +1,6 @@
 -- That `may_start` of src/handlers.rt keeps its contract.
 use Rattle.aic_room.proofs.HandlerLaws.{above-full, above-room}
-use Rattle.aic_layout.proofs.CellLaws.{depth-is, last-is}
+use Rattle.aic_room.proofs.CellLaws.{depth-is, last-is}
 use borrow.Author.Needs.{needs}
 use Rattle.aic_room.proofs.handlers.may_start.Statement.{statement}
 use Rattle.aic_room.proofs.handlers.may_start.Tie as tie

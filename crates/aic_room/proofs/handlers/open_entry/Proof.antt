@@ -5,7 +5,7 @@ use native.Mathlib.Omega.{arith}
 use lib.ListN.{set}
 use Rattle.aic_record.specs.Record.{withHandlers}
 use Rattle.aic_registers.specs.Handlers.{opened}
-use Rattle.aic_layout.proofs.CellLaws.{laid-as, depth-is}
+use Rattle.aic_room.proofs.CellLaws.{laid-as, depth-is}
 use Rattle.aic_room.proofs.HandlerLaws.{last-opened}
 use borrow.Author.Needs.{needs}
 use Rattle.aic_room.proofs.handlers.open_entry.Statement.{statement}

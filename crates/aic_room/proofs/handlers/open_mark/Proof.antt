@@ -8,7 +8,7 @@ use Rattle.words.proofs.ChoiceLaws.{pick-false}
 use Rattle.aic_record.specs.Record.{withHandlers}
 use Rattle.aic_registers.specs.Handlers.{marked}
 use Rattle.aic_registers.proofs.CallLaws.{marked-by}
-use Rattle.aic_layout.proofs.CellLaws.{laid-as, depth-is, last-is}
+use Rattle.aic_room.proofs.CellLaws.{laid-as, depth-is, last-is}
 use Rattle.aic_room.proofs.HandlerLaws.{last-opened}
 use borrow.Author.Needs.{needs}
 use Rattle.aic_room.proofs.handlers.open_mark.Statement.{statement}

@@ -3,7 +3,7 @@ use mathlib.Core.Path.{ap₂, sym, _∙_}
 use borrow.Author.Tests.{eq-eqb, ne-eqb}
 use Rattle.words.proofs.ChoiceLaws.{pick-true, pick-false}
 use Rattle.aic_registers.specs.Handlers.{startedAt}
-use Rattle.aic_layout.proofs.CellLaws.{laid-as, seen-what-is, seen-level-is}
+use Rattle.aic_room.proofs.CellLaws.{laid-as, seen-what-is, seen-level-is}
 use Rattle.aic_room.proofs.HandlerLaws.{source-told}
 use borrow.Author.Needs.{needs}
 use Rattle.aic_room.proofs.handlers.open_seen.Statement.{statement}

@@ -2,7 +2,7 @@
 use native.Mathlib.Omega.{arith}
 use Rattle.words.proofs.ChoiceLaws.{by-true, by-false}
 use Rattle.aic_registers.specs.Handlers.{fvrRead}
-use Rattle.aic_layout.proofs.CellLaws.{spurious-is, vector-is}
+use Rattle.aic_room.proofs.CellLaws.{spurious-is, vector-is}
 use Rattle.aic_room.proofs.HandlerLaws.{gives-as}
 use borrow.Author.Needs.{needs}
 use Rattle.aic_room.proofs.handlers.read_fvr.Statement.{statement}

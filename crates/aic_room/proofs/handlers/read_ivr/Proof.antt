@@ -4,7 +4,7 @@ use Prim.Native.Nat.{ℕ}
 use Rattle.words.specs.Word.{bit}
 use Rattle.words.proofs.ChoiceLaws.{by-true, by-false}
 use Rattle.aic_registers.specs.Handlers.{ivrRead}
-use Rattle.aic_layout.proofs.CellLaws.{debug-is}
+use Rattle.aic_room.proofs.CellLaws.{debug-is}
 use Rattle.aic_room.proofs.HandlerLaws.{gives-as}
 use borrow.Author.Needs.{needs}
 use Rattle.aic_room.proofs.handlers.read_ivr.Statement.{statement}

@@ -6,8 +6,8 @@ use Rattle.words.specs.Word.{bit, withBit}
 use Rattle.words.proofs.ChoiceLaws.{by-true, by-false}
 use Rattle.aic_sources.proofs.PendingLaws.{bit-edges}
 use Rattle.aic_registers.specs.Handlers.{spent}
-use Rattle.aic_layout.proofs.CellLaws.{priority-is, laid-as, edges-is, memory-is}
-use Rattle.aic_layout.proofs.OneLaws.{put-spent}
+use Rattle.aic_room.proofs.CellLaws.{priority-is, laid-as, edges-is, memory-is}
+use Rattle.aic_room.proofs.OneLaws.{put-spent}
 use borrow.Author.Needs.{needs}
 use Rattle.aic_room.proofs.handlers.spend.Statement.{statement}
 use Rattle.aic_room.proofs.handlers.spend.Tie as tie

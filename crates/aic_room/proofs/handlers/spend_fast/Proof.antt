@@ -3,7 +3,7 @@ use mathlib.Core.Path.{sym, _∙_}
 use borrow.Author.Tests.{eq-eqb, ne-eqb}
 use Rattle.words.proofs.ChoiceLaws.{pick-true, pick-false}
 use Rattle.aic_registers.specs.Handlers.{fastSpent}
-use Rattle.aic_layout.proofs.CellLaws.{laid-as, forced-is}
+use Rattle.aic_room.proofs.CellLaws.{laid-as, forced-is}
 use borrow.Author.Needs.{needs}
 use Rattle.aic_room.proofs.handlers.spend_fast.Statement.{statement}
 use Rattle.aic_room.proofs.handlers.spend_fast.Tie as tie

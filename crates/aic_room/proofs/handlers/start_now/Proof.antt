@@ -3,7 +3,7 @@ use mathlib.Core.Path.{ap}
 use Prim.Native.Nat.{ℕ, _%_}
 use Rattle.aic_record.specs.Mode.{priority}
 use Rattle.aic_registers.specs.Handlers.{startedAt}
-use Rattle.aic_layout.proofs.CellLaws.{laid-as, mode-is, vector-is}
+use Rattle.aic_room.proofs.CellLaws.{laid-as, mode-is, vector-is}
 use borrow.Author.Needs.{needs}
 use Rattle.aic_room.proofs.handlers.start_now.Statement.{statement}
 use Rattle.aic_room.proofs.handlers.start_now.Tie as tie

@@ -1,7 +1,7 @@
 -- That `take_ivr` of src/handlers.rt keeps its contract.
 use mathlib.Core.Path.{refl}
 use Rattle.aic_registers.proofs.CallLaws.{ivr-some, ivr-none}
-use Rattle.aic_layout.proofs.CellLaws.{spurious-is}
+use Rattle.aic_room.proofs.CellLaws.{spurious-is}
 use Rattle.aic_room.proofs.HandlerLaws.{gives-as, chosen-room}
 use borrow.Author.Needs.{needs}
 use Rattle.aic_room.proofs.handlers.take_ivr.Statement.{statement}

@@ -4,7 +4,7 @@ use Prim.Native.Nat.{ℕ}
 use Rattle.words.specs.Word.{bit}
 use Rattle.words.proofs.ChoiceLaws.{by-true, by-false}
 use Rattle.aic_registers.specs.Handlers.{ivrWritten}
-use Rattle.aic_layout.proofs.CellLaws.{laid-as, debug-is}
+use Rattle.aic_room.proofs.CellLaws.{laid-as, debug-is}
 use borrow.Author.Needs.{needs}
 use Rattle.aic_room.proofs.handlers.write_ivr.Statement.{statement}
 use Rattle.aic_room.proofs.handlers.write_ivr.Tie as tie

@@ -4,7 +4,7 @@ use mathlib.Core.Path.{_≡_, ap, _∙_}
 use native.Mathlib.Omega.{arith}
 use Rattle.words.specs.Word.{wordOf}
 use Rattle.aic_record.specs.declared.Aic.{Aic}
-use Rattle.aic_layout.specs.Room.{Laid}
+use Rattle.aic_room.specs.Room.{Laid}
 use Rattle.aic_wait_book.proofs.BoundLaws.{between, class-is, above-none, above-more, above-all}
 use borrow.Author.Needs.{needs}
 use Rattle.aic_wait_book.proofs.bounds.above.Statement.{statement}

@@ -1,7 +1,7 @@
 -- That `due_word` of src/bounds.rt keeps its contract.
 use mathlib.Core.Path.{refl}
-use Rattle.aic_layout.proofs.CellLaws.{edges-is}
-use Rattle.aic_layout.proofs.LevelLaws.{laid-stale}
+use Rattle.aic_room.proofs.CellLaws.{edges-is}
+use Rattle.aic_room.proofs.LevelLaws.{laid-stale}
 use Rattle.aic_bounds.proofs.WordLaws.{dues-from}
 use borrow.Author.Needs.{needs}
 use Rattle.aic_wait_book.proofs.bounds.due_word.Statement.{statement}

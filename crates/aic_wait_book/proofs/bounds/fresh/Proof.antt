@@ -1,7 +1,7 @@
 -- That `fresh` of src/bounds.rt keeps its contract.
 use mathlib.Core.Path.{refl, ap, _∙_}
 use Rattle.words.specs.Word.{both}
-use Rattle.aic_layout.proofs.CellLaws.{enabled-is}
+use Rattle.aic_room.proofs.CellLaws.{enabled-is}
 use Rattle.aic_bounds.proofs.WordLaws.{fresh-from}
 use Rattle.aic_wait_book.proofs.BoundLaws.{plus-first}
 use borrow.Author.Needs.{needs}

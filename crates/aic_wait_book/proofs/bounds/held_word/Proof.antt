@@ -8,8 +8,8 @@ use Rattle.words.specs.Word.{wordOf}
 use Rattle.aic_record.specs.declared.Aic.{Aic}
 use Rattle.aic_record.specs.Sound.{sound}
 use Rattle.aic_record.proofs.SoundLaws.{sound-is}
-use Rattle.aic_layout.specs.Room.{Laid}
-use Rattle.aic_layout.proofs.CellLaws.{depth-is}
+use Rattle.aic_room.specs.Room.{Laid}
+use Rattle.aic_room.proofs.CellLaws.{depth-is}
 use Rattle.aic_bounds.proofs.WordLaws.{heldAmong, held-none, held-more, held-from}
 use Rattle.aic_wait_book.proofs.BoundLaws.{source-at, over-at}
 use borrow.Author.Needs.{needs}

@@ -2,7 +2,7 @@
 use mathlib.Core.Path.{ap, _∙_}
 use native.Mathlib.Omega.{arith}
 use Rattle.words.specs.Word.{either}
-use Rattle.aic_layout.proofs.CellLaws.{priority-is, forced-is}
+use Rattle.aic_room.proofs.CellLaws.{priority-is, forced-is}
 use Rattle.aic_wait_book.proofs.BoundLaws.{class-is, rivals-from}
 use borrow.Author.Needs.{needs}
 use Rattle.aic_wait_book.proofs.bounds.rivals.Statement.{statement}

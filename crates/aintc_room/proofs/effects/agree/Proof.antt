@@ -1,5 +1,5 @@
 -- That `agree` of src/effects.rt keeps its contract.
-use Rattle.aintc_layout.proofs.CellLaws.{laid-as}
+use Rattle.aintc_room.proofs.CellLaws.{laid-as}
 use Rattle.aintc_room.proofs.EffectLaws.{both-agreed}
 use borrow.Author.Needs.{needs}
 use Rattle.aintc_room.proofs.effects.agree.Statement.{statement}

@@ -3,7 +3,7 @@ use mathlib.Core.Path.{_≡_, refl, sym, ap, ap₂, _∙_}
 use Rattle.words.proofs.ChoiceLaws.{pick-true, pick-false}
 use Rattle.words.specs.Counting.{one}
 use Rattle.aintc_registers.specs.Effects.{configured}
-use Rattle.aintc_layout.proofs.CellLaws.{laid-as, put-autoidle}
+use Rattle.aintc_room.proofs.CellLaws.{laid-as, put-autoidle}
 use borrow.Author.Needs.{needs}
 use Rattle.aintc_room.proofs.effects.configure.Statement.{statement}
 use Rattle.aintc_room.proofs.effects.configure.Tie as tie

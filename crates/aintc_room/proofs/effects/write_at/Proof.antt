@@ -5,7 +5,7 @@ use native.Mathlib.Omega.{arith}
 use borrow.Author.Tests.{eq-eqb, ne-eqb, lt-ltb, le-ltb, ltb-true, not-true}
 use Rattle.words.proofs.ChoiceLaws.{pick-true, pick-false}
 use Rattle.aintc_registers.specs.Effects.{bankWritten, writtenAt}
-use Rattle.aintc_layout.proofs.CellLaws.{laid-as}
+use Rattle.aintc_room.proofs.CellLaws.{laid-as}
 use borrow.Author.Needs.{needs}
 use Rattle.aintc_room.proofs.effects.write_at.Statement.{statement}
 use Rattle.aintc_room.proofs.effects.write_at.Tie as tie

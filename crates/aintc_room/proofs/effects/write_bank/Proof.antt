@@ -6,7 +6,7 @@ use Rattle.words.proofs.ChoiceLaws.{pick-true, pick-false}
 use Rattle.words.specs.Choice.{pick}
 use Rattle.words.specs.Word.{either, without}
 use Rattle.aintc_registers.specs.Effects.{bankWritten}
-use Rattle.aintc_layout.proofs.CellLaws.{laid-as, masks-is, soft-is, put-masks}
+use Rattle.aintc_room.proofs.CellLaws.{laid-as, masks-is, soft-is, put-masks}
 use Rattle.aintc_room.proofs.EffectLaws.{laid-at, masks-as, soft-as}
 use borrow.Author.Needs.{needs}
 use Rattle.aintc_room.proofs.effects.write_bank.Statement.{statement}

@@ -8,7 +8,7 @@ use Rattle.words.specs.Choice.{pick}
 use Rattle.words.specs.Counting.{one}
 use Rattle.words.specs.Word.{bit}
 use Rattle.aintc_registers.specs.Effects.{singleWritten}
-use Rattle.aintc_layout.proofs.CellLaws.{laid-as, put-revision, put-guarded, put-idle, put-threshold}
+use Rattle.aintc_room.proofs.CellLaws.{laid-as, put-revision, put-guarded, put-idle, put-threshold}
 use Rattle.aintc_room.proofs.EffectLaws.{laid-at}
 use borrow.Author.Needs.{needs}
 use Rattle.aintc_room.proofs.effects.write_single.Statement.{statement}

@@ -3,7 +3,7 @@ use mathlib.Core.Path.{_≡_, subst}
 use Prim.Native.Nat.{ℕ, suc, _-_, _≤_}
 use native.Mathlib.Omega.{arith}
 use Rattle.aintc_record.specs.declared.Aintc.{Aintc}
-use Rattle.aintc_layout.specs.Room.{Laid}
+use Rattle.aintc_room.specs.Room.{Laid}
 use Rattle.aintc_room.specs.First.{held, halves, SomeOf}
 use Rattle.aintc_room.proofs.SearchLaws.{halves-held, Least, least-all, turned, first-least}
 use borrow.Author.Needs.{needs}

@@ -1,7 +1,7 @@
 -- That `offer` of src/sides.rt keeps its contract.
 use native.Mathlib.Omega.{arith}
 use borrow.Author.Tests.{not-true, not-false}
-use Rattle.aintc_layout.proofs.CellLaws.{laid-as}
+use Rattle.aintc_room.proofs.CellLaws.{laid-as}
 use Rattle.aintc_room.proofs.SideLaws.{not-open, side-taken, side-settles, alone-leads, is-taken, is-free}
 use borrow.Author.Needs.{needs}
 use Rattle.aintc_room.proofs.sides.offer.Statement.{statement}

@@ -1,7 +1,7 @@
 -- That `place_of` of src/sides.rt keeps its contract.
 use mathlib.Core.Path.{_≡_, refl, sym, ap}
 use native.Mathlib.Omega.{arith}
-use Rattle.aintc_layout.specs.Room.{chosenFrom}
+use Rattle.aintc_room.specs.Room.{chosenFrom}
 use Rattle.aintc_room.proofs.sides.place_of.Statement.{statement}
 use Rattle.aintc_room.proofs.sides.place_of.Tie as tie
 

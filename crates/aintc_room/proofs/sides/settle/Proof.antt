@@ -1,5 +1,5 @@
 -- That `settle` of src/sides.rt keeps its contract.
-use Rattle.aintc_layout.proofs.CellLaws.{laid-as}
+use Rattle.aintc_room.proofs.CellLaws.{laid-as}
 use Rattle.aintc_room.proofs.SideLaws.{both-settled}
 use borrow.Author.Needs.{needs}
 use Rattle.aintc_room.proofs.sides.settle.Statement.{statement}

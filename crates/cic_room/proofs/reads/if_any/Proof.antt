@@ -4,7 +4,7 @@ use Prim.Native.Nat.{_-_}
 use native.Mathlib.Omega.{arith}
 use borrow.Author.Tests.{lt-ltb, le-ltb}
 use Rattle.words.proofs.ChoiceLaws.{pick-true, pick-false}
-use Rattle.cic_layout.proofs.Promises as of-layout
+use Rattle.cic_registers.proofs.LayoutPromises as of-layout
 use Rattle.cic_room.specs.Reply.{readReply}
 use borrow.Author.Needs.{needs}
 use Rattle.cic_room.proofs.reads.if_any.Statement.{statement}

@@ -4,8 +4,8 @@ use Prim.Native.Nat.{ℕ, _-_, _/_, _%_}
 use native.Mathlib.Omega.{arith}
 use Rattle.words.specs.Word.{both}
 use Rattle.cic_record.proofs.PartsLaws.{sound-parts}
-use Rattle.cic_layout.proofs.Promises as of-layout
-use Rattle.cic_laid.proofs.PutLaws.{systems-is, status-is, enable-is}
+use Rattle.cic_registers.proofs.LayoutPromises as of-layout
+use Rattle.cic_room.proofs.PutLaws.{systems-is, status-is, enable-is}
 use Rattle.cic_room.proofs.ReplyLaws.{at-raw, at-enabled, word-as, told-raw, told-enabled}
 use Rattle.cic_room.proofs.ReplyLaws.{told-either}
 use borrow.Author.Needs.{needs}

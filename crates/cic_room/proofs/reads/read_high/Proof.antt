@@ -6,8 +6,8 @@ use borrow.Author.Tests.{leb-false}
 use lib.Dec.{ltb, leb}
 use Rattle.words.proofs.TruthLaws.{or-neither}
 use Rattle.cic_record.proofs.PartsLaws.{sound-parts}
-use Rattle.cic_layout.proofs.Promises as of-layout
-use Rattle.cic_laid.proofs.PutLaws.{hosts-is, allow-is}
+use Rattle.cic_registers.proofs.LayoutPromises as of-layout
+use Rattle.cic_room.proofs.PutLaws.{hosts-is, allow-is}
 use Rattle.cic_room.proofs.ReplyLaws.{at-enables, at-none, word-as, told-nothing, told-allow}
 use borrow.Author.Tests.{ltb-false}
 use borrow.Author.Needs.{needs}

@@ -3,9 +3,9 @@ use mathlib.Core.Path.{_∙_}
 use Prim.Native.Nat.{_-_, _/_}
 use native.Mathlib.Omega.{arith}
 use Rattle.cic_record.proofs.RuleLaws.{sound-is}
-use Rattle.cic_layout.proofs.Promises as of-layout
-use Rattle.cic_laid.proofs.PutLaws.{systems-is, channels-is}
-use Rattle.cic_laid.proofs.RoomLaws.{held-of}
+use Rattle.cic_registers.proofs.LayoutPromises as of-layout
+use Rattle.cic_room.proofs.PutLaws.{systems-is, channels-is}
+use Rattle.cic_room.proofs.RoomLaws.{held-of}
 use Rattle.cic_room.proofs.ReplyLaws.{at-channels, at-hosts, map-as, told-channels, told-hosts}
 use borrow.Author.Needs.{needs}
 use Rattle.cic_room.proofs.reads.read_map.Statement.{statement}

@@ -1,10 +1,10 @@
 -- That `read_single` of src/reads.rt keeps its contract.
 use mathlib.Core.Path.{refl, ap, _∙_}
 use Prim.Native.Nat.{ℕ, _-_}
-use Rattle.cic_layout.specs.Map.{registerAt, accessOf}
-use Rattle.cic_layout.proofs.Promises as of-layout
+use Rattle.cic_registers.specs.Map.{registerAt, accessOf}
+use Rattle.cic_registers.proofs.LayoutPromises as of-layout
 use Rattle.rooms.specs.Reply.{reply}
-use Rattle.cic_laid.proofs.PutLaws.{revision-is, global-is}
+use Rattle.cic_room.proofs.PutLaws.{revision-is, global-is}
 use Rattle.cic_room.proofs.ReplyLaws.{told-revision, told-global, told-unreadable, told-nothing}
 use borrow.Author.Needs.{needs}
 use Rattle.cic_room.proofs.reads.read_single.Statement.{statement}

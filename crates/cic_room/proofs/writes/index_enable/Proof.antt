@@ -10,9 +10,9 @@ use Rattle.words.specs.Array.{withBitAt}
 use Rattle.steps.specs.Refusals.{beyond}
 use Rattle.cic_record.specs.Record.{withEnable}
 use Rattle.cic_record.proofs.RuleLaws.{sound-is}
-use Rattle.cic_layout.proofs.Promises as of-layout
+use Rattle.cic_registers.proofs.LayoutPromises as of-layout
 use Rattle.cic_registers.specs.Registers.{unless}
-use Rattle.cic_laid.proofs.PutLaws.{systems-is}
+use Rattle.cic_room.proofs.PutLaws.{systems-is}
 use Rattle.cic_room.proofs.ReplyLaws.{carried, stopped, within-limit, past-limit, past-first, before-both}
 use borrow.Author.Needs.{needs}
 use Rattle.cic_room.proofs.writes.index_enable.Statement.{statement}

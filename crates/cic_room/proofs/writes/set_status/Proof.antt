@@ -2,11 +2,11 @@
 use Prim.Native.Nat.{_-_, _*_}
 use native.Mathlib.Omega.{arith}
 use Rattle.steps.specs.Refusals.{absent, writeAccess}
-use Rattle.cic_layout.specs.declared.Register.the-variants.{RawSet}
-use Rattle.cic_layout.specs.Map.{accessOf, ifAny}
-use Rattle.cic_layout.proofs.Promises as of-layout
+use Rattle.cic_registers.specs.declared.layout.Register.the-variants.{RawSet}
+use Rattle.cic_registers.specs.Map.{accessOf, ifAny}
+use Rattle.cic_registers.proofs.LayoutPromises as of-layout
 use Rattle.cic_registers.specs.Registers.{valueRefusal, writtenTo}
-use Rattle.cic_laid.proofs.PutLaws.{systems-is}
+use Rattle.cic_room.proofs.PutLaws.{systems-is}
 use Rattle.cic_room.proofs.ReplyLaws.{carried, stopped, there, not-there}
 use borrow.Author.Needs.{needs}
 use Rattle.cic_room.proofs.writes.set_status.Statement.{statement}

@@ -1,6 +1,6 @@
 -- That `size_of` of src/writes.rt keeps its contract.
 use Prim.Native.Nat.{_-_}
-use Rattle.cic_layout.proofs.Promises as of-layout
+use Rattle.cic_registers.proofs.LayoutPromises as of-layout
 use Rattle.cic_room.proofs.ReplyLaws.{size-told}
 use borrow.Author.Needs.{needs}
 use Rattle.cic_room.proofs.writes.size_of.Statement.{statement}

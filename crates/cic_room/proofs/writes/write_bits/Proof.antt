@@ -2,8 +2,8 @@
 use mathlib.Core.Path.{sym, ap}
 use Prim.Native.Nat.{_-_}
 use native.Mathlib.Omega.{arith}
-use Rattle.cic_layout.specs.declared.Register.{Register}
-use Rattle.cic_layout.proofs.Promises as of-layout
+use Rattle.cic_registers.specs.declared.layout.Register.{Register}
+use Rattle.cic_registers.proofs.LayoutPromises as of-layout
 use Rattle.cic_registers.specs.Access.{writeIn}
 use Rattle.cic_room.proofs.ReplyLaws.{done-as, at-raw, at-enabled, at-set, at-clear}
 use borrow.Author.Needs.{needs}

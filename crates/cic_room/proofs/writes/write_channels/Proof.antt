@@ -4,12 +4,12 @@ use Prim.Native.Nat.{_-_, _*_, _<_}
 use native.Mathlib.Omega.{arith}
 use Rattle.steps.specs.Refusals.{absent, beyond, writeAccess}
 use Rattle.cic_record.specs.declared.Size.{Size}
-use Rattle.cic_maps.specs.Maps.{mapTaken}
-use Rattle.cic_layout.specs.declared.Register.the-variants.{ChannelMap}
-use Rattle.cic_layout.specs.Map.{accessOf, ifAny}
-use Rattle.cic_layout.proofs.Promises as of-layout
+use Rattle.cic_registers.specs.Maps.{mapTaken}
+use Rattle.cic_registers.specs.declared.layout.Register.the-variants.{ChannelMap}
+use Rattle.cic_registers.specs.Map.{accessOf, ifAny}
+use Rattle.cic_registers.proofs.LayoutPromises as of-layout
 use Rattle.cic_registers.specs.Registers.{unless, valueRefusal, writtenTo}
-use Rattle.cic_laid.proofs.PutLaws.{systems-is}
+use Rattle.cic_room.proofs.PutLaws.{systems-is}
 use Rattle.cic_room.proofs.ReplyLaws.{carried, stopped, within-limit, past-limit, there, not-there}
 use borrow.Author.Needs.{needs}
 use Rattle.cic_room.proofs.writes.write_channels.Statement.{statement}

@@ -2,8 +2,8 @@
 use mathlib.Core.Path.{refl}
 use Prim.Native.Nat.{_-_, _%_}
 use Rattle.cic_record.specs.Record.{withGlobal}
-use Rattle.cic_layout.specs.Map.{accessOf}
-use Rattle.cic_layout.proofs.Promises as of-layout
+use Rattle.cic_registers.specs.Map.{accessOf}
+use Rattle.cic_registers.proofs.LayoutPromises as of-layout
 use Rattle.cic_registers.specs.Registers.{valueRefusal, writtenTo}
 use Rattle.cic_room.proofs.ReplyLaws.{carried}
 use borrow.Author.Needs.{needs}

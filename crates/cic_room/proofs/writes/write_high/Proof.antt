@@ -6,10 +6,10 @@ use borrow.Author.Tests.{leb-false}
 use lib.Dec.{ltb, leb}
 use Rattle.words.proofs.TruthLaws.{or-neither}
 use Rattle.steps.specs.Refusals.{absent}
-use Rattle.cic_layout.specs.declared.Register.{Register}
-use Rattle.cic_layout.specs.declared.Register.the-variants.{Nothing}
-use Rattle.cic_layout.specs.Map.{accessOf}
-use Rattle.cic_layout.proofs.Promises as of-layout
+use Rattle.cic_registers.specs.declared.layout.Register.{Register}
+use Rattle.cic_registers.specs.declared.layout.Register.the-variants.{Nothing}
+use Rattle.cic_registers.specs.Map.{accessOf}
+use Rattle.cic_registers.proofs.LayoutPromises as of-layout
 use Rattle.cic_registers.specs.Registers.{valueRefusal, writtenTo}
 use Rattle.cic_registers.specs.Access.{writeIn}
 use Rattle.cic_room.proofs.ReplyLaws.{done-as, stopped, at-enables, at-none}

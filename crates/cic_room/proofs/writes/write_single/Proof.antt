@@ -3,10 +3,10 @@ use mathlib.Core.Path.{refl, sym, ap, _∙_}
 use Prim.Native.Nat.{_-_}
 use native.Mathlib.Omega.{arith}
 use Rattle.steps.specs.Refusals.{absent, unwritable}
-use Rattle.cic_layout.specs.declared.Register.{Register}
-use Rattle.cic_layout.specs.declared.Register.the-variants.{Nothing, Revision}
-use Rattle.cic_layout.specs.Map.{registerAt, accessOf}
-use Rattle.cic_layout.proofs.Promises as of-layout
+use Rattle.cic_registers.specs.declared.layout.Register.{Register}
+use Rattle.cic_registers.specs.declared.layout.Register.the-variants.{Nothing, Revision}
+use Rattle.cic_registers.specs.Map.{registerAt, accessOf}
+use Rattle.cic_registers.proofs.LayoutPromises as of-layout
 use Rattle.cic_registers.specs.Registers.{valueRefusal, writtenTo}
 use Rattle.cic_registers.specs.Access.{writeIn}
 use Rattle.cic_room.proofs.ReplyLaws.{done-as, stopped}

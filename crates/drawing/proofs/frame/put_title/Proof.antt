@@ -1,6 +1,6 @@
 -- That `put_title` of src/frame.rt keeps its contract.
 use Rattle.text.proofs.WriteLaws.{and-then, same-length as same-len}
-use Rattle.phrases.specs.Phrases.{bytes}
+use Rattle.text.specs.Phrases.{bytes}
 use Rattle.text.specs.Text.{write}
 use mathlib.Core.Path.{ap, _∙_}
 use Rattle.drawing.proofs.FrameLaws.{title-made}

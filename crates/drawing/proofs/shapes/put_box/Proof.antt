@@ -1,6 +1,6 @@
 -- That `put_box` of src/shapes.rt keeps its contract.
 use Rattle.text.proofs.WriteLaws.{and-then, same-length as same-len}
-use Rattle.phrases.specs.Phrases.{bytes}
+use Rattle.text.specs.Phrases.{bytes}
 use Rattle.drawing.specs.Shapes.{box}
 use borrow.Author.Needs.{needs}
 use Rattle.drawing.proofs.shapes.put_box.Statement.{statement}

@@ -1,6 +1,6 @@
 -- That `put_refused` of src/shapes.rt keeps its contract.
 use Rattle.drawing.specs.Shapes.{refused}
-use Rattle.phrases.specs.Phrases.{bytes}
+use Rattle.text.specs.Phrases.{bytes}
 use Rattle.text.proofs.WriteLaws.{and-then, nothing}
 use Rattle.text.specs.Text.{write}
 use Rattle.words.proofs.ChoiceLaws.{pick-true, pick-false}

@@ -1,7 +1,7 @@
 -- That `put_no_entries` of src/progress.rt keeps its contract.
 use mathlib.Core.Path.{_∙_}
 use Rattle.text.proofs.WriteLaws.{write-laid}
-use Rattle.phrases.specs.Phrases.{bytes}
+use Rattle.text.specs.Phrases.{bytes}
 use Rattle.picture.specs.Lines.{noEntries}
 use borrow.Author.Needs.{needs}
 use Rattle.picture.proofs.reasons.put_no_entries.Statement.{statement}

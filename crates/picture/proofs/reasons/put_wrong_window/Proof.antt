@@ -1,7 +1,7 @@
 -- That `put_wrong_window` of src/progress.rt keeps its contract.
 use mathlib.Core.Path.{_∙_}
 use Rattle.text.proofs.WriteLaws.{and-then, write-laid}
-use Rattle.phrases.specs.Phrases.{bytes}
+use Rattle.text.specs.Phrases.{bytes}
 use Rattle.picture.specs.Lines.{wrongWindow}
 use borrow.Author.Needs.{needs}
 use Rattle.picture.proofs.reasons.put_wrong_window.Statement.{statement}

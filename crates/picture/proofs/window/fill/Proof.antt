@@ -2,7 +2,7 @@
 use mathlib.Core.Path.{ap}
 use mathlib.Core.Bool.{false}
 use native.Mathlib.Omega.{arith}
-use Rattle.machine_record.specs.declared.Machine.{Machine}
+use Rattle.machine.specs.declared.record.Machine.{Machine}
 use Rattle.trace.proofs.TraceLaws.{steps-limited}
 use Rattle.picture.proofs.ColumnLaws.{played-ready, machine-before, filled}
 use borrow.Author.Needs.{needs}

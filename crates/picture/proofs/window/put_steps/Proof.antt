@@ -6,8 +6,8 @@ use Rattle.text.specs.Text.{write}
 use Rattle.trace.specs.Trace.{stepsFrom}
 use Rattle.trace.proofs.TraceLaws.{turn-found}
 use mathlib.Core.Bool.{false}
-use Rattle.machine_record.specs.Promises.{Ready}
-use Rattle.reports.proofs.PlayLaws.{next-ready}
+use Rattle.machine.specs.RecordPromises.{Ready}
+use Rattle.beginning.proofs.PlayLaws.{next-ready}
 use Rattle.picture.specs.Window.{columnsFrom}
 use Rattle.picture.proofs.ColumnLaws.{put-ended, put-found}
 use borrow.Author.Needs.{needs}

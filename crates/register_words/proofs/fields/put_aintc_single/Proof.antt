@@ -4,7 +4,7 @@ use Rattle.text.specs.Text.{write}
 use Rattle.text.proofs.WriteLaws.{same-length as same-len, nothing}
 use borrow.Author.Tests.{eq-eqb, ne-eqb}
 use Rattle.words.proofs.ChoiceLaws.{pick-true, pick-false}
-use Rattle.phrases.specs.Phrases.{bytes}
+use Rattle.text.specs.Phrases.{bytes}
 use Rattle.register_words.specs.Fields.{aintcSingles}
 use Rattle.register_words.proofs.fields.put_aintc_single.Statement.{statement}
 use Rattle.register_words.proofs.fields.put_aintc_single.Tie as tie

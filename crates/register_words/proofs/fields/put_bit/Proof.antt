@@ -1,7 +1,7 @@
 -- That `put_bit` of src/fields.rt keeps its contract.
 use mathlib.Core.Path.{refl, ap, _∙_}
 use Rattle.text.proofs.WriteLaws.{same-length as same-len}
-use Rattle.phrases.specs.Phrases.{bytes}
+use Rattle.text.specs.Phrases.{bytes}
 use Rattle.register_words.proofs.FieldLaws.{bit-text, bit-none}
 use borrow.Author.Needs.{needs}
 use Rattle.register_words.proofs.fields.put_bit.Statement.{statement}

@@ -2,7 +2,7 @@
 use mathlib.Core.Path.{refl, ap, _∙_}
 use Rattle.text.proofs.WriteLaws.{same-length as same-len, and-then}
 use Rattle.register_words.specs.Fields.{modeWords}
-use Rattle.phrases.specs.Phrases.{bytes}
+use Rattle.text.specs.Phrases.{bytes}
 use Rattle.register_words.proofs.FieldLaws.{mode-text}
 use Rattle.register_words.proofs.fields.put_mode.Statement.{statement}
 use Rattle.register_words.proofs.fields.put_mode.Tie as tie

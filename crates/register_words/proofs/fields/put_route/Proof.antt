@@ -1,7 +1,7 @@
 -- That `put_route` of src/fields.rt keeps its contract.
 use mathlib.Core.Path.{refl, ap, _∙_}
 use Rattle.text.proofs.WriteLaws.{same-length as same-len, and-then}
-use Rattle.phrases.specs.Phrases.{bytes}
+use Rattle.text.specs.Phrases.{bytes}
 use Rattle.register_words.proofs.FieldLaws.{route-text}
 use borrow.Author.Needs.{needs}
 use Rattle.register_words.proofs.fields.put_route.Statement.{statement}

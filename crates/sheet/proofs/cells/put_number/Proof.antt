@@ -1,5 +1,5 @@
 -- That `put_number` of src/cells.rt keeps its contract.
-use Rattle.phrases.specs.Phrases.{counted}
+use Rattle.text.specs.Phrases.{counted}
 use Rattle.text.proofs.WriteLaws.{and-then, same-length as same-len}
 use borrow.Author.Needs.{needs}
 use Rattle.sheet.proofs.cells.put_number.Statement.{statement}

@@ -1,5 +1,5 @@
 -- That `put_byte` of src/escapes.rt keeps its contract.
-use Rattle.phrases.specs.Phrases.{bytes}
+use Rattle.text.specs.Phrases.{bytes}
 use Rattle.sheet.specs.Names.{escape}
 use Rattle.text.specs.Text.{write}
 use Rattle.words.proofs.ChoiceLaws.{pick-false, pick-true}

@@ -1,5 +1,5 @@
 -- That `put_plain` of src/escapes.rt keeps its contract.
-use Rattle.phrases.specs.Phrases.{bytes}
+use Rattle.text.specs.Phrases.{bytes}
 use Rattle.sheet.proofs.PageLaws.{told-hex}
 use Rattle.sheet.specs.Names.{plain}
 use Rattle.text.proofs.WriteLaws.{and-then}

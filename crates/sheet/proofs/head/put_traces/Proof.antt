@@ -1,5 +1,5 @@
 -- That `put_traces` of src/head.rt keeps its contract.
-use Rattle.phrases.specs.Phrases.{bytes}
+use Rattle.text.specs.Phrases.{bytes}
 use Rattle.sheet.specs.Head.{tracesHead}
 use Rattle.text.proofs.WriteLaws.{and-then, same-length as same-len}
 use borrow.Author.Needs.{needs}

@@ -1,5 +1,5 @@
 -- That `put_called` of src/levels.rt keeps its contract.
-use Rattle.phrases.specs.Phrases.{bytes}
+use Rattle.text.specs.Phrases.{bytes}
 use Rattle.sheet.specs.Levels.{called}
 use Rattle.text.proofs.WriteLaws.{and-then, nothing}
 use Rattle.text.specs.Text.{write}

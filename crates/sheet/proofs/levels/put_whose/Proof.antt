@@ -1,5 +1,5 @@
 -- That `put_whose` of src/levels.rt keeps its contract.
-use Rattle.phrases.specs.Phrases.{bytes}
+use Rattle.text.specs.Phrases.{bytes}
 use Rattle.sheet.specs.Levels.{whose}
 use Rattle.text.specs.Text.{write}
 use Rattle.words.proofs.ChoiceLaws.{pick-false, pick-true}

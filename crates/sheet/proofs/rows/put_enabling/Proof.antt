@@ -1,5 +1,5 @@
 -- That `put_enabling` of src/rows.rt keeps its contract.
-use Rattle.phrases.specs.Phrases.{bytes}
+use Rattle.text.specs.Phrases.{bytes}
 use Rattle.sheet.specs.Rows.{enabling}
 use Rattle.text.proofs.WriteLaws.{nothing}
 use Rattle.text.specs.Text.{write}

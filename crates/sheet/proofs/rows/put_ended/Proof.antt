@@ -1,5 +1,5 @@
 -- That `put_ended` of src/rows.rt keeps its contract.
-use Rattle.phrases.specs.Phrases.{bytes}
+use Rattle.text.specs.Phrases.{bytes}
 use Rattle.sheet.specs.Rows.{ended}
 use Rattle.text.proofs.WriteLaws.{and-then}
 use Rattle.text.specs.Text.{write}

@@ -1,5 +1,5 @@
 -- That `put_row_head` of src/rows.rt keeps its contract.
-use Rattle.phrases.specs.Phrases.{bytes}
+use Rattle.text.specs.Phrases.{bytes}
 use Rattle.sheet.specs.Rows.{rowHead}
 use Rattle.text.proofs.WriteLaws.{and-then, same-length as same-len}
 use borrow.Author.Needs.{needs}

@@ -1,5 +1,5 @@
 -- That `put_first` of src/sources.rt keeps its contract.
-use Rattle.phrases.specs.Phrases.{bytes}
+use Rattle.text.specs.Phrases.{bytes}
 use Rattle.sheet.specs.Sources.{first}
 use Rattle.text.proofs.WriteLaws.{and-then}
 use Rattle.text.specs.Text.{write}

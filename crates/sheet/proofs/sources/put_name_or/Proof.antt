@@ -1,5 +1,5 @@
 -- That `put_name_or` of src/sources.rt keeps its contract.
-use Rattle.phrases.specs.Phrases.{bytes}
+use Rattle.text.specs.Phrases.{bytes}
 use Rattle.text.specs.Text.{write}
 use Rattle.words.proofs.ChoiceLaws.{pick-false, pick-true}
 use borrow.Author.Needs.{needs}

@@ -1,5 +1,5 @@
 -- That `put_typed` of src/sources.rt keeps its contract.
-use Rattle.phrases.specs.Phrases.{bytes}
+use Rattle.text.specs.Phrases.{bytes}
 use Rattle.sheet.specs.Sources.{typed}
 use Rattle.text.specs.Text.{write}
 use Rattle.words.proofs.ChoiceLaws.{pick-false, pick-true}

@@ -1,7 +1,7 @@
 -- That `put_heading` of src/by_kind.rt keeps its contract.
 use mathlib.Core.Path.{refl}
 use Rattle.text.proofs.WriteLaws.{and-then, same-length as same-len}
-use Rattle.phrases.specs.Phrases.{bytes}
+use Rattle.text.specs.Phrases.{bytes}
 use Rattle.vcd.specs.Dump.{heading}
 use Rattle.waves.proofs.HeadingLaws.{all-declared}
 use Rattle.waves.proofs.by_kind.put_heading.Statement.{statement}

@@ -6,8 +6,8 @@ use lib.ListN.{length}
 use Rattle.text.specs.Text.{write}
 use Rattle.trace.specs.Trace.{stepsFrom}
 use Rattle.trace.proofs.TraceLaws.{turn-found}
-use Rattle.machine_record.specs.Promises.{Ready}
-use Rattle.reports.proofs.PlayLaws.{next-ready}
+use Rattle.machine.specs.RecordPromises.{Ready}
+use Rattle.beginning.proofs.PlayLaws.{next-ready}
 use Rattle.waves.specs.Moments.{restFrom}
 use Rattle.waves.proofs.StepLaws.{rest-ended, ticked}
 use borrow.Author.Needs.{needs}

@@ -1,7 +1,7 @@
 -- That `put_aintc` of src/names.rt keeps its contract.
 use mathlib.Core.Path.{refl}
 use Rattle.text.proofs.WriteLaws.{same-length as same-len}
-use Rattle.phrases.specs.Phrases.{bytes}
+use Rattle.text.specs.Phrases.{bytes}
 use Rattle.waves.proofs.TextLaws.{last-declared, more-declared}
 use Rattle.waves.proofs.names.put_aintc.Statement.{statement}
 use Rattle.waves.proofs.names.put_aintc.Tie as tie

@@ -1,2 +1,0 @@
--- The proof of what is promised of the last entry.
-pub mod Promises

@@ -1,2 +1,0 @@
--- Laws about a step of the AT91 controller with its levels.
-pub mod PairLaws

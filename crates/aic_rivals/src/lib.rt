@@ -1,1 +1,0 @@
-// What the sources ahead of one that waits may start meanwhile. Definitions and theorems only.

@@ -1,3 +1,0 @@
--- Theorems about the figures of all waits of a source.
-pub mod FigureLaws
-pub mod Promises

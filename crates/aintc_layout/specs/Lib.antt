@@ -1,3 +1,0 @@
--- The AINTC laid out in a room.
-pub mod Promises
-pub mod Room

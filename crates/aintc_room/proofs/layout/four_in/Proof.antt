@@ -1,0 +1,45 @@
+-- That `four_in` of src/layout.rt keeps its contract.
+use mathlib.Core.Path.{_≡_, refl, ap, ap₂, _∙_}
+use Prim.Native.Nat.{ℕ, _+_, _-_, _*_, _/_, _%_, _≤_, _<_}
+use native.Mathlib.Omega.{arith}
+use lib.ListN.{length, getD, length-set}
+use borrow.Author.Count.{below-none}
+use Rattle.words.proofs.ArrayLaws.{filled}
+use borrow.Author.Needs.{needs}
+use Rattle.aintc_room.proofs.layout.four_in.Statement.{statement}
+use Rattle.aintc_room.proofs.layout.four_in.Tie as tie
+
+abbrev Inv-loop : tie.InvT-loop
+Inv-loop room at out₀ k₀ out k = (k ≤ 4) × (length out ≡ 4) × ((j : ℕ) → j < k → getD out j 0 ≡ getD room (at + j) 0)
+
+abbrev μ-loop : tie.MeasureT-loop
+μ-loop room at out₀ k₀ out k = 4 - k
+
+loop-holds : tie.Need-loop-holds Inv-loop μ-loop
+loop-holds c = (omega arith, refl, below-none _)
+
+loop-again : tie.Need-loop-again Inv-loop μ-loop
+loop-again c =
+    let l = c .before .before .loop in
+    let a = c .before .before .before .args in
+    (omega arith, simp length-set (l .inv .1), filled (l .out) (λ j. getD (a .room .now) (a .at + j) 0) (l .k) (omega (arith, l .inv .1)) (l .inv .2) _ refl)
+
+returns : tie.Need-returns Inv-loop μ-loop
+returns c = let l = c .before .loop in (l .inv .1, λ j m. l .inv .2 j (omega (arith, m, c .loop-test .left)))
+
+pub four-in-spec : {M : Type 1} → statement M
+four-in-spec =
+    tie.close
+    (tie.spec
+    Inv-loop
+    μ-loop
+    loop-holds
+    (λ c. search needs)
+    (λ c. search needs)
+    (λ c. search needs)
+    (λ c. search needs)
+    (λ c. search needs)
+    (λ c. search needs)
+    (λ c. search needs)
+    loop-again
+    returns)

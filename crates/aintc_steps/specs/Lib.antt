@@ -1,2 +1,0 @@
--- The AINTC's start, its steps and its outputs.
-pub mod Model

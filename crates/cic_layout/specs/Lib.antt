@@ -1,3 +1,0 @@
--- The CIC's register map, and what is promised of it.
-pub mod Map
-pub mod Promises

@@ -1,3 +1,0 @@
--- Registers of map bytes.
-pub mod Maps
-pub mod Promises

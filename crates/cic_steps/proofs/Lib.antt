@@ -1,2 +1,0 @@
--- The laws of refused and carried out steps.
-pub mod StepLaws

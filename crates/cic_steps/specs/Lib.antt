@@ -1,2 +1,0 @@
--- The CIC's steps.
-pub mod Model

@@ -1,2 +1,0 @@
--- A record into a room and back.
-pub mod Copies

@@ -1,2 +1,0 @@
--- Laws of a record into a room and back.
-pub mod TransferLaws

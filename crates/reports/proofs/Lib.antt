@@ -1,2 +1,0 @@
--- The laws of reports.
-pub mod PlayLaws

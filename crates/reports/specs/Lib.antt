@@ -1,2 +1,0 @@
--- What a player reports.
-pub mod Play

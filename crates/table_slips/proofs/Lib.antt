@@ -1,3 +1,0 @@
--- Laws and theorems about the line that leads to a slip.
-pub mod Promises
-pub mod SlipLaws

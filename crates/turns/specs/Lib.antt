@@ -1,2 +1,0 @@
--- A turn as numbers.
-pub mod Turns

@@ -1,3 +1,0 @@
--- The waits of traces added up, and what is promised of them.
-pub mod Promises
-pub mod Waits
