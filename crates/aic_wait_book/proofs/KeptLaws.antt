@@ -99,6 +99,11 @@ module _ (h : ℕ → List ℕ) (some left : ℕ) (old new : List (List ℕ)) (i
 pub row-same : (i n : ℕ) (m : Marks) (t : Aic) {x y p q : Bool} {r s : List ℕ} → x ≡ p → y ≡ q → r ≡ s → rowAfter i x y n m t r ≡ rowAfter i p q n m t s
 row-same i n m t ex ey er = rw (ex, ey, er)
 
+-- the row of one source
+pub row-moved : (old new : List (List ℕ)) (k : ℕ) (was is : Bool) (n : ℕ) (m : Marks) (t : Aic) {row next : List ℕ} → row ≡ rowAt old k → next ≡ rowAfter k was is n m t row
+    → Rows (λ i. next) (2 ^ k) old new → Rows (λ i. rowAfter k was is n m t (rowAt old k)) (2 ^ k) old new
+row-moved old new k was is n m t e f d = subst (λ (r : List ℕ). Rows (λ i. r) (2 ^ k) old new) (f ∙ ap (rowAfter k was is n m t) e) d
+
 -- ---- what is brought to those that wait on
 
 pub stands-still : (f : ℕ → Figures) (m : Marks) (some : ℕ) (book : List (List ℕ)) → some ≡ 0 → Stands f book → ((i : ℕ) → i < 32 → bit some i ≡ false → f i .bound .on ≡ 0)
