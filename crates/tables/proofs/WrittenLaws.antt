@@ -130,7 +130,7 @@ module _ (t : Table) (name : ℕ → List ℕ) (w : Words t) (names : (i : ℕ) 
   spaces i = replicate (count i) 32
 
   abbrev Written : List ℕ
-  Written = plainNamed t name
+  Written = linesFrom t quotes 32 0
 
   -- all up to the numbers of source n, names before it made spaces
   abbrev front : ℕ → List ℕ
