@@ -62,9 +62,14 @@ fn put_tables(out: &mut [u8], at: usize) -> usize
         c,
         b"#sources td:nth-child(2){overflow-wrap:anywhere;min-width:20mm}\n",
     );
-    let e = text::put_all(out, d, b"tbody th{white-space:nowrap}\n");
-    let f = text::put_all(out, e, b"h2,dt{break-after:avoid}\n");
-    text::put_all(out, f, b"dt{font-weight:bold}\n")
+    let e = text::put_all(
+        out,
+        d,
+        b"#traces td:last-child{min-width:24mm}\n#traces table{margin-bottom:0}\n",
+    );
+    let f = text::put_all(out, e, b"tbody th{white-space:nowrap}\n");
+    let g = text::put_all(out, f, b"h2,dt{break-after:avoid}\n");
+    text::put_all(out, g, b"dt{font-weight:bold}\n")
 }
 
 fn put_paper(out: &mut [u8], at: usize) -> usize
