@@ -1,5 +1,6 @@
 //! The model of the tuning sheet as a program, and what compares the proved programs with it on generated folders.
 
+use std::collections::BTreeSet;
 use std::error::Error;
 use std::fs;
 use std::io::{self, BufReader, Write};
@@ -15,6 +16,7 @@ use bench::sheet::names::named_table;
 use bench::sheet::reached::ITEMS;
 use bench::sheet::table::table;
 use bench::sheet::{sheet_of_files, Pages};
+use bench::stack::lead::lead;
 
 const USAGE: &str = "\
 sheets TABLE <NAMES                        prints the page over a typed table and the traces that are named
@@ -25,6 +27,22 @@ sheets --compare FOLDER COUNT PATH WORD..  compares COUNT pages of the program a
                                            the program's page in it as page.html
 sheets --tables COUNT PATH WORD..          the same with the typed tables of COUNT traces
 ";
+
+/// What the program's name puts before each line on standard error.
+const TELLS: &str = "sheet_run: ";
+
+/// What a line says that leads to the slip of a refused table: each is to be compared.
+const LEADS: [&str; 9] = [
+    "the text is longer than",
+    "a number was expected",
+    "the word of forced sources has",
+    "nothing may follow",
+    "a name has",
+    "is over 7\n",
+    "is over 3\n",
+    "frame 65540 is over",
+    "of the mark is over 65535\n",
+];
 
 type Outcome = Result<bool, Box<dyn Error>>;
 
@@ -55,13 +73,19 @@ fn asked(words: &[&str]) -> Outcome {
     }
 }
 
-/// Prints the page, or says that there is none; as the proved program, which has no status to set.
+/// Prints the page, or the line that leads to the table's slip; as the proved program, which has no status to set.
 fn print_page(table: &str) -> Outcome {
-    match sheet_of_files(&fs::read(table)?, BufReader::new(io::stdin().lock())) {
+    let table = fs::read(table)?;
+    match sheet_of_files(&table, BufReader::new(io::stdin().lock())) {
         Ok(pages) => io::stdout().write_all(pages.text().as_bytes())?,
-        Err(fault) => eprintln!("sheets: refusal {}", fault.refusal().number()),
+        Err(_) => eprint!("{}", told_of(&table)),
     }
     Ok(true)
+}
+
+/// What is told of a refused table.
+fn told_of(table: &[u8]) -> String {
+    TELLS.to_owned() + &lead(table).unwrap_or_default()
 }
 
 fn print_table() -> Outcome {
@@ -82,28 +106,49 @@ fn make_sample(folder: &Path, count: u32, table: &str) -> Outcome {
     Ok(true)
 }
 
+/// What the compared pages and lines have reached.
+#[derive(Default)]
+struct Reached(BTreeSet<&'static str>);
+
+impl Reached {
+    fn see(&mut self, pages: Option<&Pages>, table: &[u8]) {
+        match pages {
+            Some(pages) => {
+                let held = ITEMS.iter().filter(|(_, holds)| holds(pages));
+                self.0.extend(held.map(|(what, _)| *what));
+            }
+            None => {
+                let line = told_of(table);
+                let told = LEADS.iter().filter(|words| line.contains(**words));
+                self.0.extend(told);
+            }
+        }
+    }
+
+    /// Says what is not reached; whether all is.
+    fn all(&self) -> bool {
+        let listed: Vec<&str> = ITEMS.iter().map(|(what, _)| *what).chain(LEADS).collect();
+        let missed = listed.iter().filter(|what| !self.0.contains(**what));
+        missed.for_each(|what| say!("not reached: {what}"));
+        say!("{} of {} listed items reached", self.0.len(), listed.len());
+        self.0.len() == listed.len()
+    }
+}
+
 /// Compares so many pages; whether none differs and every item is reached.
 fn compare(folder: &Path, count: u32, program: &Program) -> Outcome {
     let generator = Generator::new(1);
-    let mut reached = [0_u32; ITEMS.len()];
+    let mut reached = Reached::default();
     let (mut wrong, mut traces, mut found, mut refused) = (0, 0, 0, 0);
     for number in 0..count as usize {
         let here = folder.join(number.to_string());
         let case = generator.case(number);
         let list = case.write(&here)?;
         let pages = sheet_of_files(&case.table, list.as_slice()).ok();
-        match &pages {
-            Some(pages) => {
-                traces += pages.rows.len();
-                let holds = ITEMS.map(|(_, holds)| u32::from(holds(pages)));
-                reached
-                    .iter_mut()
-                    .zip(holds)
-                    .for_each(|(count, more)| *count += more);
-            }
-            None => refused += 1,
-        }
-        match judged(pages.as_ref(), program, &here, &list) {
+        reached.see(pages.as_ref(), &case.table);
+        traces += pages.as_ref().map_or(0, |pages| pages.rows.len());
+        refused += u32::from(pages.is_none());
+        match judged(pages.as_ref(), program, &here, (&case.table, &list)) {
             Ok(count) => found += count,
             Err(why) => {
                 say!("{}: {why}", here.display());
@@ -114,31 +159,27 @@ fn compare(folder: &Path, count: u32, program: &Program) -> Outcome {
             break;
         }
     }
-    say!("{count} tables, {refused} of them refused, {traces} traces, {found} figures found; {wrong} pages differ");
-    let missed = ITEMS.iter().zip(reached).filter(|(_, count)| *count == 0);
-    let missed: Vec<&str> = missed.map(|((what, _), _)| *what).collect();
-    say!(
-        "{} of {} listed items reached",
-        ITEMS.len() - missed.len(),
-        ITEMS.len()
-    );
-    missed.iter().for_each(|what| say!("not reached: {what}"));
-    Ok(wrong == 0 && missed.is_empty())
+    say!("{count} tables, {refused} of them refused, {traces} traces, {found} figures found; {wrong} pages or lines differ");
+    Ok(reached.all() && wrong == 0)
 }
 
-/// How many figures a page has that is the model's; of a refused table there is a line on standard error and no page.
+/// How many figures a page has that is the model's; of a refused table there is the model's line on standard error and no
+/// page.
 fn judged(
     pages: Option<&Pages>,
     program: &Program,
     folder: &Path,
-    list: &[u8],
+    (table, list): (&[u8], &[u8]),
 ) -> Result<usize, String> {
     let (page, told) = program.run(&[&folder.join("table").to_string_lossy()], list)?;
     fs::write(folder.join("page.html"), &page).map_err(|error| error.to_string())?;
     let Some(pages) = pages else {
-        let one_line = told.iter().filter(|&&byte| byte == b'\n').count() == 1;
-        let good = (page.is_empty() && one_line).then_some(0);
-        return good.ok_or("no line alone for a table that is refused".to_owned());
+        let wanted = told_of(table);
+        let good = page.is_empty() && told == wanted.as_bytes();
+        let told = told.escape_ascii();
+        return good
+            .then_some(0)
+            .ok_or(format!("a table that is refused has a page, or is told by\n  {told}\n  and by the model\n  {wanted}"));
     };
     let wanted = pages.text();
     if !told.is_empty() {

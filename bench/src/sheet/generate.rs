@@ -77,7 +77,9 @@ impl Made for Folder {
         let [text, over] = [table, over].map(|table| typed(random, &table, &Names::default()));
         let too_long = [&text, b"\n#".as_slice(), &[b'.'; LONGEST]].concat();
         let tables = [text[40..].to_vec(), vec![], too_long, over, text.clone()];
-        let mut folders = tables.map(|table| plain(table, vec![])).to_vec();
+        let spoilt = SPOILT.map(|(nth, words)| zeros_but(nth, words));
+        let tables = tables.into_iter().chain(spoilt);
+        let mut folders: Vec<Folder> = tables.map(|table| plain(table, vec![])).collect();
         let year = year(1, PROGRAM_LIMIT + 1);
         let own = table_of(random, &year);
         let own = typed(random, &own, &Names::default());
@@ -165,6 +167,26 @@ const SLIPS: [&str; 5] = [
     " \"\" ",
     " \"a name of 25 characters..\" ",
 ];
+
+/// Words that spoil a table as its nth number, one for each thing that a line can tell of one.
+const SPOILT: [(usize, &str); 8] = [
+    (33, "8"),
+    (34, "4"),
+    (35, "65540"),
+    (36, "123456789012345678901"),
+    (8, "1,024"),
+    (4, "\"x\" 0"),
+    (96, "4294967296"),
+    (97, "0 0"),
+];
+
+/// A table of zeros, three to a line, but for its nth number.
+fn zeros_but(nth: usize, words: &str) -> Vec<u8> {
+    let word = |n| if n == nth { words } else { "0" };
+    let end = |n| if n % 3 == 2 { '\n' } else { ' ' };
+    let text: String = (0..98).map(|n| format!("{}{}", word(n), end(n))).collect();
+    text.into_bytes()
+}
 
 /// A table as it is typed, with names and comments.
 fn typed(random: &mut Random, table: &Table, names: &Names) -> Vec<u8> {

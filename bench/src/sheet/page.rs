@@ -26,6 +26,8 @@ table{border-collapse:collapse;margin:2mm 0;font-size:8pt}
 th,td{border:1px solid black;padding:0.5mm 1mm;text-align:left;vertical-align:top}
 #traces td:nth-child(2){overflow-wrap:anywhere}
 #sources td:nth-child(2){overflow-wrap:anywhere;min-width:20mm}
+#traces td:last-child{min-width:24mm}
+#traces table{margin-bottom:0}
 tbody th{white-space:nowrap}
 h2,dt{break-after:avoid}
 dt{font-weight:bold}

@@ -1,5 +1,6 @@
 -- Laws of the book, and the promises kept.
 pub mod BoundLaws
+pub mod ColumnLaws
 pub mod KeptLaws
 pub mod Promises
 pub mod RoomLaws

@@ -1,19 +1,21 @@
 -- The row of one source after a step, by whether it waited and whether it waits then; and a step that moves nothing.
-use Prim.Native.Nat.{ℕ, _+_, _≤_, _<_, _^_}
+use Prim.Native.Nat.{ℕ, zero, suc, _+_, _/_, _%_, _≤_, _<_, _^_}
 use mathlib.Core.Path.{_≡_, refl, sym, ap, ap₂, _∙_, subst}
-use mathlib.Core.Bool.{Bool, true, false, not, _&&_, _||_, and-false}
+use mathlib.Core.Bool.{Bool, true, false, not, _&&_, _||_, and-true, and-false}
 use mathlib.Core.List.{List}
 use native.Mathlib.Omega.{arith}
-use native.Mathlib.Decide.{decLt}
+use native.Mathlib.Nat.{mod-lt}
+use native.Mathlib.Decide.{ℕ-discrete, decLt}
 use lib.Dec.{eqb, ltb, leb}
 use borrow.Author.Tests.{eqb-true, eq-eqb, leb-true, lt-ltb, le-ltb, ltb-true, ltb-false}
 use Rattle.words.specs.Choice.{pick}
 use Rattle.words.specs.Counting.{one, countBelow}
-use Rattle.words.specs.Word.{bit, wordOf, either, both, without}
+use Rattle.words.specs.Word.{bit, wordOf, either, both, without, withBit}
 use Rattle.words.proofs.ChoiceLaws.{pick-cases}
-use Rattle.words.proofs.CountingLaws.{count-le}
+use Rattle.words.proofs.CountingLaws.{count-le, count-same}
+use Rattle.words.proofs.HopLaws.{hop-here, hop-other}
 use Rattle.words.proofs.TruthLaws.{and-left, and-right}
-use Rattle.words.proofs.WordLaws.{bit-none, bit-some, bit-either, bit-both, bit-without, either-lt, both-lt, without-lt, same-word}
+use Rattle.words.proofs.WordLaws.{bit-none, bit-some, bit-either, bit-both, bit-without, either-lt, both-lt, without-lt, same-word, one-eqb}
 use Rattle.aic_record.specs.declared.Aic.{Aic}
 use Rattle.aic_waits.specs.Following.{capped}
 use Rattle.aic_waits.proofs.FigureLaws.{capped-is}
@@ -25,7 +27,7 @@ use Rattle.aic_bounds.specs.Over.{bounds, better, loses}
 use Rattle.aic_bounds.proofs.WordLaws.{due-sum, by-idle, by-fresh, by-grown}
 use Rattle.aic_bounds.specs.declared.figures.Figures.{Figures}
 use Rattle.aic_bounds.specs.Figures.{figuresWith}
-use Rattle.aic_wait_book.specs.Book.{rowOf, figuresIn, rowAfter, isQuiet, isSteady, gained, Small}
+use Rattle.aic_wait_book.specs.Book.{rowOf, figuresIn, rowAfter, isQuiet, gained, Small}
 
 -- ---- numbers and words
 
@@ -323,18 +325,10 @@ module _ (k n : ℕ) (m : Marks) (t : Aic) (f : Figures) (s : Small f)
   pub nothing-moves : figuresWith n f (boundBy k (f .bound .wait) n (f .bound) m t) ≡ f
   nothing-moves = ap (figuresWith n f) bound-same ∙ figures-same
 
--- ---- a wait that goes on, with no rival enabled for the first time
+-- ---- a wait that goes on, with no rival enabled for the first time and no mode rewritten
 
-module _ (k n : ℕ) (m : Marks) (t : Aic) (f : Figures) (s : Small f) (q : isSteady (t .enabled) (f .bound .rivals) (f .bound .on) (m .rewrote) ≡ true)
+module _ (k n : ℕ) (m : Marks) (t : Aic) (f : Figures) (s : Small f) (covers : without (both (f .bound .rivals) (t .enabled)) (f .bound .on) ≡ 0) (steady : m .rewrote ≡ false)
     (e : true ≡ ltb 1 (f .bound .wait)) where
-  covers : without (both (f .bound .rivals) (t .enabled)) (f .bound .on) ≡ 0
-  unfolding isSteady
-  covers = eqb-true (without (both (f .bound .rivals) (t .enabled)) (f .bound .on)) 0 (and-left (eqb (without (both (f .bound .rivals) (t .enabled)) (f .bound .on)) 0) (not (m .rewrote)) q)
-
-  steady : m .rewrote ≡ false
-  unfolding isSteady
-  steady = off-not (m .rewrote) (and-right (eqb (without (both (f .bound .rivals) (t .enabled)) (f .bound .on)) 0) (not (m .rewrote)) q)
-
   waits-on : 2 ≤ f .bound .wait
   waits-on = omega (arith, ltb-true 1 (f .bound .wait) (sym e))
 
@@ -360,11 +354,101 @@ module _ (k n : ℕ) (m : Marks) (t : Aic) (f : Figures) (s : Small f) (q : isSt
       sym (row-then k (f .bound .wait) n m t f true true e e)
       ∙ ap (λ (b : Bound). rowOf (figuresWith n f b)) (sym (by-grown k (f .bound .wait) n (f .bound) m t waits-on waits-on refl) ∙ bound-gains) ∙ figures-gain
 
--- the row of a wait that is brought nothing stays
-pub row-stays : (k n : ℕ) (m : Marks) (t : Aic) (f : Figures) → Small f → isStill (t .enabled) (f .bound .rivals) (f .bound .on) (f .bound .broke) m ≡ true → true ≡ ltb 1 (f .bound .wait)
-    → rowAfter k true true n m t (rowOf f) ≡ rowOf f
-row-stays k n m t f s q e =
-    sym (row-then k (f .bound .wait) n m t f true true e e) ∙ ap rowOf (nothing-moves k n m t f s q (λ l. absurd (omega (arith, l, ltb-true 1 (f .bound .wait) (sym e)))))
+-- one for which none counts is brought nothing
+pub gains-none : (f : Figures) (m : Marks) → Small f → f .bound .on ≡ 0 → gained f m ≡ f
+gains-none f m s z =
+    rw (
+      sym (plus-nobody (f .bound .edges) (f .bound .on) (m .edges) (s .2) z),
+      sym (plus-nobody (f .bound .commands) (f .bound .on) (m .commands) (s .3) z),
+      sym (plus-nobody (f .bound .turns) (f .bound .on) (m .turns) (s .4) z),
+      sym (plus-nobody (f .bound .closed) (f .bound .on) (m .closed) (s .5) z),
+    )
+
+pub small-gains : (f : Figures) (m : Marks) → Small f → Small (gained f m)
+small-gains f m s = (s .0, s .1, capped-most _, capped-most _, capped-most _, capped-most _, s .6, s .7)
+
+-- ---- counted bit by bit
+
+capped-full : (n : ℕ) → 4294967295 ≤ n → capped n ≡ 4294967295
+unfolding capped
+capped-full n l = pick-cases (λ r. r ≡ 4294967295) (leb n 4294967295) (λ e. omega (arith, leb-true n 4294967295 e, l)) (λ e. refl)
+
+capped-twice : (a b : ℕ) → capped (capped a + b) ≡ capped (a + b)
+capped-twice a b = go (decLt a 4294967295)
+  where
+    go : Dec (a < 4294967295) → capped (capped a + b) ≡ capped (a + b)
+    go (yes l) = ap (λ (x : ℕ). capped (x + b)) (sym (capped-is a (omega (arith, l))))
+    go (no l) =
+        ap (λ (x : ℕ). capped (x + b)) (capped-full a (omega (arith, l))) ∙ capped-full (4294967295 + b) (omega arith) ∙ sym (capped-full (a + b) (omega (arith, l)))
+
+pub one-top : (n on i : ℕ) → n ≡ 4294967295 → n ≡ capped (n + one (bit on i))
+one-top n on i e = e ∙ sym (capped-full (n + one (bit on i)) (omega (arith, e)))
+
+pub one-is : (n on i : ℕ) → n ≤ 4294967295 → (n ≡ 4294967295 → ⊥) → n + on / 2 ^ i % 2 ≡ capped (n + one (bit on i))
+unfolding bit
+one-is n on i l d =
+    let x : on / 2 ^ i % 2 < 2 = mod-lt (on / 2 ^ i) (omega arith) in
+    capped-is (n + on / 2 ^ i % 2) (omega (arith, l, d, x)) ∙ ap (λ (y : ℕ). capped (n + y)) (sym (one-eqb (on / 2 ^ i % 2) x))
+
+-- one number passes that did not
+count-one : (n : ℕ) (p q : ℕ → Bool) (i : ℕ) → i < n → p i ≡ false → ((k : ℕ) → k < n → (k ≡ i → ⊥) → q k ≡ p k) → countBelow n q ≡ countBelow n p + one (q i)
+unfolding countBelow
+count-one zero p q i l z h = absurd (omega (arith, l))
+count-one (suc n) p q i l z h = go (ℕ-discrete i n) (λ m. count-one n p q i m z (λ k y. h k (omega (arith, y))))
+  where
+    go : Dec (i ≡ n) → (i < n → countBelow n q ≡ countBelow n p + one (q i)) → countBelow n q + one (q n) ≡ countBelow n p + one (p n) + one (q i)
+    go (yes e) more =
+        let c = count-same n q p (λ k m. h k (omega (arith, m)) (λ x. omega (arith, x, m, e))) in
+        let y : one (q i) ≡ one (q n) = ap (λ (k : ℕ). one (q k)) e in
+        let x : one (p n) ≡ 0 = ap (λ (k : ℕ). one (p k)) (sym e) ∙ ap one z in
+        omega (arith, c, x, y)
+    go (no e) more =
+        let c = more (omega (arith, l, e)) in
+        let x : one (q n) ≡ one (p n) = ap one (h n (omega arith) (λ x. e (sym x))) in
+        omega (arith, c, x)
+
+-- one of the sources of w after another
+pub plus-bit : (n on w left i : ℕ) {next : ℕ} → i < 32 → bit w i ≡ true → bit left i ≡ true → next ≡ withBit left i false
+    → capped (plus n on (without w left) + one (bit on i)) ≡ plus n on (without w next)
+plus-bit n on w left i {next} l y b e =
+    capped-twice (n + countBelow 32 p) (one (bit on i)) ∙ ap capped (let c = count-one 32 p q i l here there in let d : one (q i) ≡ one (bit on i) = ap one new in omega (arith, c, d))
+  where
+    p : ℕ → Bool
+    p = bit (both on (without w left))
+
+    q : ℕ → Bool
+    q = bit (both on (without w next))
+
+    at : (v k : ℕ) → k < 32 → bit (both on (without w v)) k ≡ (bit on k && (bit w k && not (bit v k)))
+    at v k m = bit-both on (without w v) k m ∙ ap (λ (x : Bool). bit on k && x) (bit-without w v k m)
+
+    here : p i ≡ false
+    here = at left i l ∙ ap₂ (λ (x y : Bool). bit on i && (x && not y)) y b ∙ and-false (bit on i)
+
+    new : q i ≡ bit on i
+    new = at next i l ∙ ap₂ (λ (x y : Bool). bit on i && (x && not y)) y (ap (λ (v : ℕ). bit v i) e ∙ hop-here left i l) ∙ and-true (bit on i)
+
+    there : (k : ℕ) → k < 32 → (k ≡ i → ⊥) → q k ≡ p k
+    there k m d = at next k m ∙ ap (λ (x : Bool). bit on k && (bit w k && not x)) (ap (λ (v : ℕ). bit v k) e ∙ hop-other left i k m d) ∙ sym (at left k m)
+
+pub plus-first : (n on w : ℕ) → n ≤ 4294967295 → n ≡ plus n on (without w w)
+plus-first n on w l = sym (plus-none n on (without w w) l (shared-none on (without w w) (λ k m. ap (λ (x : Bool). bit on k && x) (bit-without w w k m ∙ off (bit w k)) ∙ and-false (bit on k))))
+  where
+    off : (x : Bool) → (x && not x) ≡ false
+    off true = refl
+    off false = refl
+
+pub plus-last : (n on w left : ℕ) → left ≡ 0 → plus n on (without w left) ≡ plus n on w
+plus-last n on w left z = ap (λ (c : ℕ). capped (n + c)) (count-same 32 (bit (both on (without w left))) (bit (both on w)) same)
+  where
+    all : (x y : Bool) → y ≡ false → (x && not y) ≡ x
+    all true y e = rw e
+    all false y e = refl
+
+    same : (k : ℕ) → k < 32 → bit (both on (without w left)) k ≡ bit (both on w) k
+    same k m =
+        bit-both on (without w left) k m ∙ ap (λ (x : Bool). bit on k && x) (bit-without w left k m ∙ all (bit w k) (bit left k) (ap (λ (v : ℕ). bit v k) z ∙ bit-none k))
+        ∙ sym (bit-both on w k m)
 
 -- ---- of the function
 

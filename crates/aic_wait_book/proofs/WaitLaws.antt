@@ -26,7 +26,7 @@ use Rattle.aic_bounds.proofs.FiguresPromises as Figures
 use Rattle.totals.specs.declared.waits.Waits.{Waits}
 use Rattle.aic_wait_book.specs.Waits.{waitsOf, followed, waitsNow}
 use Rattle.aic_wait_book.specs.Promises.{Source}
-use Rattle.aic_wait_book.specs.Book.{rowOf, figuresIn, numbersOf, wordIn, Kept}
+use Rattle.aic_wait_book.specs.Book.{rowOf, figuresIn, numbersOf, rowAt, wordIn, Kept}
 
 -- a table filled row by row
 pub filled-rows : (out : List (List ℕ)) (f : ℕ → List ℕ) (j : ℕ) → j < length out → ((k : ℕ) → k < j → getD out k [] ≡ f k) → (x : List ℕ) → x ≡ f j
@@ -53,7 +53,7 @@ numbers-row f true e = rw (sym e) (go (eqb (f .bound .broke) 0 && ltb (boundOf (
 numbers-row f false e = rw (sym e)
 
 pub numbers-told : (f : ℕ → Figures) (book : List (List ℕ)) → Kept f book → (k : ℕ) → k < 32 → {waits : Bool} {r : Figures} → waits ≡ bit (wordIn book 1) k
-    → r ≡ figuresIn waits (getD book k []) → numbersOf r ≡ numbersOf (f k)
+    → r ≡ figuresIn waits (rowAt book k) → numbersOf r ≡ numbersOf (f k)
 numbers-told f book h k l e g =
     ap numbersOf (g ∙ ap₂ figuresIn (e ∙ h .waits k l) (h .rows k l)) ∙ numbers-row (f k) (ltb 1 (f k .bound .wait)) refl
 
@@ -111,7 +111,7 @@ waits-same f g e =
 pub one-way : (f g : ℕ → Figures) (book : List (List ℕ)) → Kept f book → Kept g book → waitsNow f ≡ waitsNow g
 one-way f g book p q =
     waits-same f g
-    (λ k l. sym (numbers-told f book p k l {waits = bit (wordIn book 1) k} {r = figuresIn (bit (wordIn book 1) k) (getD book k [])} refl refl) ∙ numbers-told g book q k l refl refl)
+    (λ k l. sym (numbers-told f book p k l {waits = bit (wordIn book 1) k} {r = figuresIn (bit (wordIn book 1) k) (rowAt book k)} refl refl) ∙ numbers-told g book q k l refl refl)
 
 pub tells-all : (s : Aic) (xs : List Step) → length xs ≤ 134217727 → waitsNow (λ k. figuresOf k s xs) ≡ waitsOf s xs
 unfolding waitsNow waitsOf

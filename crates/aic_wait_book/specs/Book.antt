@@ -1,4 +1,4 @@
--- The figures of the waits of the 32 sources in a book of rows, one for each source and one of words.
+-- The figures of the waits of the 32 sources in a book of columns, one for each number and one of words.
 use Prim.Native.Nat.{ℕ, _≤_, _<_}
 use mathlib.Core.Path.{_≡_}
 use mathlib.Core.Bool.{Bool, not, _&&_, _||_}
@@ -6,7 +6,8 @@ use mathlib.Core.List.{List, [], _∷_}
 use lib.Dec.{eqb, ltb}
 use lib.ListN.{length, getD}
 use Rattle.words.specs.Choice.{pick}
-use Rattle.words.specs.Word.{bit, either, both, without}
+use Rattle.words.specs.Word.{bit, both, without}
+use Rattle.rooms.specs.Parts.{made}
 use Rattle.aic_record.specs.declared.Aic.{Aic}
 use Rattle.aic_bounds.specs.declared.Bound.{Bound}
 use Rattle.aic_bounds.specs.declared.Marks.{Marks}
@@ -74,9 +75,21 @@ numbersOf f =
 
 -- ---- the book
 
--- a word of the last row: 0 the sources that are pending, enabled and not fast, 1 those that wait, 2 those that were enabled at the last look
+-- number j of source i: each number has a column
+abbrev pub cellIn : List (List ℕ) → ℕ → ℕ → ℕ
+cellIn book j i = getD (getD book j []) i 0
+
+-- the row of source i
+unfoldable pub rowAt : List (List ℕ) → ℕ → List ℕ
+rowAt book i = made 18 (λ j. cellIn book j i)
+
+-- 19 columns of 32 numbers
+abbrev pub Columns : List (List ℕ) → Type 0
+Columns book = (length book ≡ 19) × ((j : ℕ) → j < 19 → length (getD book j []) ≡ 32)
+
+-- a word of the last column: 0 the sources that are pending, enabled and not fast, 1 those that wait, 2 those that were enabled at the last look
 abbrev pub wordIn : List (List ℕ) → ℕ → ℕ
-wordIn book j = getD (getD book 32 []) j 0
+wordIn book j = cellIn book 18 j
 
 -- counts and words that have 32 bits
 abbrev pub Small : Figures → Type 0
@@ -86,8 +99,8 @@ Small f =
 
 -- the figures f of the sources stand in the book
 pub record Kept (f : ℕ → Figures) (book : List (List ℕ)) : Type 0 where
-  pub size : length book ≡ 33
-  pub rows : (i : ℕ) → i < 32 → getD book i [] ≡ rowOf (f i)
+  pub size : Columns book
+  pub rows : (i : ℕ) → i < 32 → rowAt book i ≡ rowOf (f i)
   pub asks : (i : ℕ) → i < 32 → bit (wordIn book 0) i ≡ ltb 0 (f i .bound .wait)
   pub waits : (i : ℕ) → i < 32 → bit (wordIn book 1) i ≡ ltb 1 (f i .bound .wait)
   -- of a source that does not wait nothing is observed
@@ -102,11 +115,7 @@ pub record Kept (f : ℕ → Figures) (book : List (List ℕ)) : Type 0 where
 unfoldable pub isQuiet : Marks → Bool
 isQuiet m = eqb (m .edges) 0 && eqb (m .commands) 0 && eqb (m .turns) 0 && eqb (m .closed) 0 && not (m .rewrote)
 
--- it enables none of these rivals for the first time, and leaves a bound that holds
-unfoldable pub isSteady : ℕ → ℕ → ℕ → Bool → Bool
-isSteady enabled rivals on rewrote = eqb (without (both rivals enabled) on) 0 && not rewrote
-
--- the figures of a source that waits on, by what such a step brings to those that count
+-- the figures of a source that waits on, by what a step brings to those that count
 abbrev pub gained : Figures → Marks → Figures
 gained f m =
     record {
@@ -128,21 +137,34 @@ gained f m =
       first = f .first;
     }
 
--- those that waited or wait; where nothing is brought to anybody those of which a wait ends or begins
-unfoldable pub touchedBy : ℕ → ℕ → Bool → ℕ
-touchedBy was is stirred = pick stirred (either was is) (either (without was is) (without is was))
+-- these figures stand in the columns, whatever the words say
+pub record Stands (f : ℕ → Figures) (book : List (List ℕ)) : Type 0 where
+  pub size : Columns book
+  pub rows : (i : ℕ) → i < 32 → rowAt book i ≡ rowOf (f i)
+  pub small : (i : ℕ) → i < 32 → Small (f i)
+
+-- some numbers are anew, number j of source i g j i, and all others are as they were
+pub record Cells (some : ℕ → ℕ → Bool) (g : ℕ → ℕ → ℕ) (old new : List (List ℕ)) : Type 0 where
+  pub size : Columns new
+  pub each : (j i : ℕ) → j < 19 → i < 32 → cellIn new j i ≡ pick (some j i) (g j i) (cellIn old j i)
 
 -- the rows of some sources are anew, and all others are as they were
 pub record Rows (h : ℕ → List ℕ) (some : ℕ) (old new : List (List ℕ)) : Type 0 where
-  pub size : length new ≡ length old
-  pub each : (i : ℕ) → i < 32 → getD new i [] ≡ pick (bit some i) (h i) (getD old i [])
-  pub last : getD new 32 [] ≡ getD old 32 []
+  pub size : Columns new
+  pub each : (i : ℕ) → i < 32 → rowAt new i ≡ pick (bit some i) (h i) (rowAt old i)
+  pub last : getD new 18 [] ≡ getD old 18 []
+
+-- the words are anew, and all rows are as they were
+pub record Worded (asks is enabled : ℕ) (old new : List (List ℕ)) : Type 0 where
+  pub size : Columns new
+  pub words : (wordIn new 0 ≡ asks) × (wordIn new 1 ≡ is) × (wordIn new 2 ≡ enabled)
+  pub rows : (i : ℕ) → i < 32 → rowAt new i ≡ rowAt old i
 
 -- what the n-th step does to the book that brings m, leaves the record t, starts source `by`, and after which these are pending, enabled and not fast
 pub record Moved (by asks n : ℕ) (m : Marks) (t : Aic) (old new : List (List ℕ)) : Type 0 where
-  pub size : length new ≡ length old
+  pub size : Columns new
   pub asked : wordIn new 0 ≡ asks
   pub waits : (i : ℕ) → i < 32 → bit (wordIn new 1) i ≡ ((bit asks i && not (eqb i by)) && (bit (wordIn old 1) i || not (bit (wordIn old 0) i)))
   pub enabled : wordIn new 2 ≡ t .enabled
-  pub rows : (i : ℕ) → i < 32 → getD new i []
-      ≡ pick (bit (wordIn old 1) i || bit (wordIn new 1) i) (rowAfter i (bit (wordIn old 1) i) (bit (wordIn new 1) i) n m t (getD old i [])) (getD old i [])
+  pub rows : (i : ℕ) → i < 32 → rowAt new i
+      ≡ pick (bit (wordIn old 1) i || bit (wordIn new 1) i) (rowAfter i (bit (wordIn old 1) i) (bit (wordIn new 1) i) n m t (rowAt old i)) (rowAt old i)

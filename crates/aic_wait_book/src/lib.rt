@@ -1,13 +1,14 @@
 // The figures of the waits of all sources of an AIC that stands in a room, each wait with its bound (02, 11/12 and 12/12), kept in a book beside it: only
 // sources that wait have anything to move on, and a step that brings nothing to anybody costs a test.
 ghost use mathlib.Core.Path.{_≡_};
-ghost use mathlib.Core.Bool.{true, not, _&&_};
+ghost use mathlib.Core.Bool.{true, false, not, _&&_};
 ghost use mathlib.Core.List.{[]};
-ghost use Prim.Native.Nat.{ℕ, _-_, _<_};
-ghost use lib.Dec.{eqb, ltb};
-ghost use lib.ListN.{length, getD, set};
+ghost use Prim.Native.Nat.{ℕ, _+_, _-_, _<_, _≤_, _^_};
+ghost use lib.Dec.{eqb};
+ghost use lib.ListN.{length, getD};
 ghost use Rattle.words.specs.Choice.{pick};
-ghost use Rattle.words.specs.Word.{bit, wordOf};
+ghost use Rattle.words.specs.Counting.{one};
+ghost use Rattle.words.specs.Word.{bit, wordOf, either};
 ghost use Rattle.steps.specs.declared.Step.{Step};
 ghost use Rattle.trace.specs.Turns.{stepOf};
 ghost use Rattle.aic_record.specs.declared.Aic.{Aic};
@@ -19,12 +20,12 @@ ghost use Rattle.aic_registers.specs.Map.{eoicr};
 ghost use Rattle.aic_registers.specs.Effects.{turns};
 ghost use Rattle.aic.specs.Model.{step};
 ghost use Rattle.aic_room.specs.Room.{Laid};
-ghost use Rattle.aic_waits.specs.Following.{startedFrom};
+ghost use Rattle.aic_waits.specs.Following.{capped, startedFrom};
 ghost use Rattle.aic_bounds.specs.Following.{plus, noMarks, hotLast, writeMarks, lineMarks, marksBy};
 ghost use Rattle.aic_bounds.specs.declared.figures.Figures.{Figures};
 ghost use Rattle.aic_bounds.specs.Figures.{noFigures};
 ghost use Rattle.aic_wait_book.specs.Waits.{waitsNow, followed};
-ghost use Rattle.aic_wait_book.specs.Book.{rowOf, figuresIn, rowAfter, numbersOf, wordIn, isQuiet, isSteady, touchedBy, gained, Small, Kept, Rows, Moved};
+ghost use Rattle.aic_wait_book.specs.Book.{rowOf, figuresIn, rowAfter, numbersOf, cellIn, rowAt, Columns, wordIn, Kept, isQuiet, gained, Stands, Rows, Cells, Worded, Moved};
 
 mod bounds;
 
@@ -35,19 +36,21 @@ use aic_registers::map;
 use rooms::Room;
 use totals::waits::Waits;
 
-// A row for each source, and the words of all of them in the last.
-pub type Book = [[u32; 18]; 33];
+// A column for each number of a source, and the words of all of them in the last.
+pub type Book = [[u32; 32]; 19];
 
-const WORDS: usize = 32;
+const WORDS: usize = 18;
 
-// The words of the last row: the sources that are pending, enabled and not fast, those of them that wait, and those enabled at the last look.
+// The words of the last column: the sources that are pending, enabled and not fast, those of them that wait, and those enabled at the last look.
 const ASKED: usize = 0;
 
 const WAITING: usize = 1;
 
 const ENABLED: usize = 2;
 
-// In the row of a source: the edges, set commands, turns and closes of those that count.
+// Columns: the sources that count; their edges, set commands, turns and closes.
+const ON: usize = 1;
+
 const EDGES: usize = 3;
 
 const COMMANDS: usize = 4;
@@ -266,64 +269,45 @@ fn row_after(
     row_of(aic_bounds::figures::figures_with(n, f, b))
 }
 
-// ---- a step
-
-// Whether a step enables no rival of a wait for the first time, and leaves its bound.
-fn is_steady(enabled: u32, rivals: u32, on: u32, rewrote: bool) -> bool
-    ensures { λ r. ⌜ r ≡ isSteady enabled rivals on rewrote ⌝ }
+// The row of source k.
+fn row_at(book: &Book, k: u32) -> [u32; 18]
+    requires { ⌜ k < 32 ⌝ }
+    ensures { λ r. ⌜ r ≡ rowAt (now (book .entry)) k ⌝ }
 {
-    (words::drop_bits(words::meet(rivals, enabled), on) == 0) & !rewrote
-}
-
-// n and the number of sources that two words share: mostly there are none to count.
-fn more(n: u32, a: u32, b: u32) -> u32
-    ensures { λ r. ⌜ r ≡ plus n a b ⌝ }
-{
-    if words::meet(a, b) == 0 {
-        return n;
+    let mut row = [0u32; 18];
+    let mut j: usize = 0;
+    while j < 18 {
+        row[j] = book[j][k as usize];
+        j = j + 1;
     }
-    aic_bounds::plus(n, a, b)
+    row
 }
 
-// Number j of the row of source i, and as many more as two words share.
-fn bump(book: &mut Book, i: u32, j: usize, on: u32, w: u32)
-    requires { ⌜ (i < 32) × (j < 18) ⌝ }
-    ensures { λ _. ⌜ now (book .exit) ≡ set (now (book .entry)) i (set (getD (now (book .entry)) i []) j (plus (getD (getD (now (book .entry)) i []) j 0) on w)) ⌝ }
+// The same put anew.
+fn put_row(book: &mut Book, k: u32, row: [u32; 18])
+    requires { ⌜ k < 32 ⌝ }
+    ensures { λ _. ⌜ (Columns (now (book .entry)) → Rows (λ i. row) (2 ^ k) (now (book .entry)) (now (book .exit))) ⌝ }
 {
-    let n = more(book[i as usize][j], on, w);
-    book[i as usize][j] = n;
-}
-
-// What a step brought to those that count for source i, which waits on.
-fn grow_row(book: &mut Book, i: u32, on: u32, m: Marks)
-    requires { ⌜ i < 32 ⌝ }
-    ensures { λ _. ⌜ ((f : Figures) → length (now (book .entry)) ≡ 33 → getD (now (book .entry)) i [] ≡ rowOf f → on ≡ f .bound .on → now (book .exit) ≡ set (now (book .entry)) i (rowOf (gained f m))) ⌝ }
-{
-    bump(book, i, EDGES, on, m.edges);
-    bump(book, i, COMMANDS, on, m.commands);
-    bump(book, i, TURNS, on, m.turns);
-    bump(book, i, CLOSED, on, m.closed);
-}
-
-// The row of source i after the n-th step, by whether it waited and whether it waits then.
-fn move_row<'a>(book: &'a mut Book, room: &'a Room, i: u32, was: bool, is: bool, n: u32, m: Marks)
-    requires { ⌜ i < 32 ⌝ }
-    ensures { λ _. ⌜ ((f : Figures) (t : Aic) → sound t ≡ true → Laid t (now (room .entry)) → length (now (book .entry)) ≡ 33 → getD (now (book .entry)) i [] ≡ rowOf f → Small f → was ≡ ltb 1 (f .bound .wait) → now (book .exit) ≡ set (now (book .entry)) i (rowAfter i was is n m t (getD (now (book .entry)) i []))) ⌝ }
-{
-    let rivals = book[i as usize][0];
-    let on = book[i as usize][1];
-    if was & is & is_steady(room[aic_room::layout::ENABLED], rivals, on, m.rewrote) {
-        grow_row(book, i, on, m);
-        return;
+    let mut j: usize = 0;
+    while j < 18 {
+        book[j][k as usize] = row[j];
+        j = j + 1;
     }
-    let row = book[i as usize];
-    let next = row_after(room, i, was, is, n, m, row);
-    book[i as usize] = next;
+}
+
+// The row of source k after the n-th step, by whether it waited and whether it waits then.
+fn move_row<'a>(book: &'a mut Book, room: &'a Room, k: u32, was: bool, is: bool, n: u32, m: Marks)
+    requires { ⌜ k < 32 ⌝ }
+    ensures { λ _. ⌜ ((t : Aic) → sound t ≡ true → Laid t (now (room .entry)) → Columns (now (book .entry)) → Rows (λ i. rowAfter k was is n m t (rowAt (now (book .entry)) k)) (2 ^ k) (now (book .entry)) (now (book .exit))) ⌝ }
+{
+    let row = row_at(book, k);
+    let next = row_after(room, k, was, is, n, m, row);
+    put_row(book, k, next);
 }
 
 // The rows of some sources, by whether they waited before the n-th step and wait after it.
 fn move_rows<'a>(book: &'a mut Book, room: &'a Room, some: u32, was: u32, is: u32, n: u32, m: Marks)
-    ensures { λ _. ⌜ ((f : ℕ → Figures) (t : Aic) → sound t ≡ true → Laid t (now (room .entry)) → Kept f (now (book .entry)) → was ≡ wordIn (now (book .entry)) 1 → Rows (λ i. rowAfter i (bit was i) (bit is i) n m t (getD (now (book .entry)) i [])) some (now (book .entry)) (now (book .exit))) ⌝ }
+    ensures { λ _. ⌜ ((t : Aic) → sound t ≡ true → Laid t (now (room .entry)) → Columns (now (book .entry)) → Rows (λ i. rowAfter i (bit was i) (bit is i) n m t (rowAt (now (book .entry)) i)) some (now (book .entry)) (now (book .exit))) ⌝ }
 {
     let mut left = some;
     while left != 0 {
@@ -333,14 +317,87 @@ fn move_rows<'a>(book: &'a mut Book, room: &'a Room, some: u32, was: u32, is: u3
     }
 }
 
-// Those that waited or wait; where nothing is brought to anybody only those of which a wait ends or begins.
-fn touched(was: u32, is: u32, stirred: bool) -> u32
-    ensures { λ r. ⌜ r ≡ touchedBy was is stirred ⌝ }
+// ---- what a step brings, by columns
+
+// n, and one more where source i is one of these.
+fn one_more(n: u32, on: u32, i: u32) -> u32
+    requires { ⌜ i < 32 ⌝ }
+    ensures { λ r. ⌜ r ≡ capped (n + one (bit on i)) ⌝ }
 {
-    if stirred {
-        return words::join(was, is);
+    if n == 4294967295 {
+        return n;
     }
-    words::join(words::drop_bits(was, is), words::drop_bits(is, was))
+    n + (on >> i) % 2
+}
+
+// One more in column j for each source for which source i counts.
+fn bump(book: &mut Book, j: usize, i: u32)
+    requires { ⌜ (j < 18) × (i < 32) ⌝ }
+    ensures { λ _. ⌜ (Columns (now (book .entry)) → Cells (λ a b. eqb a j) (λ a b. capped (cellIn (now (book .entry)) j b + one (bit (cellIn (now (book .entry)) 1 b) i))) (now (book .entry)) (now (book .exit))) ⌝ }
+{
+    let mut k: usize = 0;
+    while k < 32 {
+        let n = one_more(book[j][k], book[ON][k], i);
+        book[j][k] = n;
+        k = k + 1;
+    }
+}
+
+// In column j as many more for each source as of these count for it.
+fn grow(book: &mut Book, j: usize, w: u32)
+    requires { ⌜ (1 < j) × (j < 18) ⌝ }
+    ensures { λ _. ⌜ (Columns (now (book .entry)) → ((i : ℕ) → i < 32 → cellIn (now (book .entry)) j i ≤ 4294967295) → Cells (λ a b. eqb a j) (λ a b. plus (cellIn (now (book .entry)) j b) (cellIn (now (book .entry)) 1 b) w) (now (book .entry)) (now (book .exit))) ⌝ }
+{
+    let mut left = w;
+    while left != 0 {
+        let i = words::lowest(left);
+        bump(book, j, i);
+        left = words::with_bit(left, i, false);
+    }
+}
+
+// What a step brought to those that count, for each source that waits on: these do.
+fn grow_all(book: &mut Book, some: u32, m: Marks)
+    ensures { λ _. ⌜ ((f : ℕ → Figures) → Stands f (now (book .entry)) → ((i : ℕ) → i < 32 → bit some i ≡ false → f i .bound .on ≡ 0) → Stands (λ i. gained (f i) m) (now (book .exit)) × (getD (now (book .exit)) 18 [] ≡ getD (now (book .entry)) 18 [])) ⌝ }
+{
+    if some == 0 {
+        return;
+    }
+    grow(book, EDGES, m.edges);
+    grow(book, COMMANDS, m.commands);
+    grow(book, TURNS, m.turns);
+    grow(book, CLOSED, m.closed);
+}
+
+// ---- a step
+
+// The rows after a step that enables no source and rewrites no mode: waits end, those that go on are brought something, others begin.
+fn move_steady<'a>(book: &'a mut Book, room: &'a Room, was: u32, is: u32, n: u32, m: Marks)
+    ensures { λ _. ⌜ ((f : ℕ → Figures) (t : Aic) → sound t ≡ true → Laid t (now (room .entry)) → Kept f (now (book .entry)) → was ≡ wordIn (now (book .entry)) 1 → t .enabled ≡ wordIn (now (book .entry)) 2 → m .rewrote ≡ false → Rows (λ i. rowAfter i (bit was i) (bit is i) n m t (rowAt (now (book .entry)) i)) (either was is) (now (book .entry)) (now (book .exit))) ⌝ }
+{
+    move_rows(book, room, words::drop_bits(was, is), was, is, n, m);
+    grow_all(book, words::meet(was, is), m);
+    move_rows(book, room, words::drop_bits(is, was), was, is, n, m);
+}
+
+// The rows of those that waited before the n-th step or wait after it.
+fn move_all<'a>(book: &'a mut Book, room: &'a Room, was: u32, is: u32, n: u32, m: Marks)
+    ensures { λ _. ⌜ ((f : ℕ → Figures) (t : Aic) → sound t ≡ true → Laid t (now (room .entry)) → Kept f (now (book .entry)) → was ≡ wordIn (now (book .entry)) 1 → Rows (λ i. rowAfter i (bit was i) (bit is i) n m t (rowAt (now (book .entry)) i)) (either was is) (now (book .entry)) (now (book .exit))) ⌝ }
+{
+    if (room[aic_room::layout::ENABLED] == book[WORDS][ENABLED]) & !m.rewrote {
+        move_steady(book, room, was, is, n, m);
+        return;
+    }
+    move_rows(book, room, words::join(was, is), was, is, n, m);
+}
+
+// The words of the last column.
+fn put_words(book: &mut Book, asks: u32, is: u32, enabled: u32)
+    ensures { λ _. ⌜ (Columns (now (book .entry)) → Worded asks is enabled (now (book .entry)) (now (book .exit))) ⌝ }
+{
+    book[WORDS][ASKED] = asks;
+    book[WORDS][WAITING] = is;
+    book[WORDS][ENABLED] = enabled;
 }
 
 // The book after a step that may have moved something.
@@ -350,28 +407,8 @@ fn move_on<'a>(book: &'a mut Book, room: &'a Room, before: u32, asks: u32, n: u3
     let by = aic_figures::started_from(room, before);
     let was = book[WORDS][WAITING];
     let is = aic_figures::waits_after(asks, by, book[WORDS][ASKED], was);
-    let stirred = (room[aic_room::layout::ENABLED] != book[WORDS][ENABLED]) | !is_quiet(m);
-    move_rows(book, room, touched(was, is, stirred), was, is, n, m);
-    book[WORDS] = [
-        asks,
-        is,
-        room[aic_room::layout::ENABLED],
-        0,
-        0,
-        0,
-        0,
-        0,
-        0,
-        0,
-        0,
-        0,
-        0,
-        0,
-        0,
-        0,
-        0,
-        0,
-    ];
+    move_all(book, room, was, is, n, m);
+    put_words(book, asks, is, room[aic_room::layout::ENABLED]);
 }
 
 // Whether a step brought nothing.
@@ -401,8 +438,8 @@ pub fn follow<'a>(book: &'a mut Book, room: &'a Room, before: u32, n: u32, m: Ma
 pub fn start() -> Book
     ensures { λ r. ⌜ Kept (λ k. noFigures) r ⌝ }
 {
-    let row = [0u32; 18];
-    [row; 33]
+    let column = [0u32; 32];
+    [column; 19]
 }
 
 // The figures of source k, but for how many handlers were started in a wait.
@@ -410,7 +447,7 @@ fn figures_at(book: &Book, k: u32) -> Figures
     requires { ⌜ k < 32 ⌝ }
     ensures { λ r. ⌜ ((f : ℕ → Figures) → Kept f (now (book .entry)) → numbersOf r ≡ numbersOf (f k)) ⌝ }
 {
-    figures_of(book[k as usize], words::has(book[WORDS][WAITING], k))
+    figures_of(row_at(book, k), words::has(book[WORDS][WAITING], k))
 }
 
 // What is told of a source in the end.

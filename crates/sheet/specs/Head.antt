@@ -30,6 +30,7 @@ styleTables =
     ++ bytes "th,td{border:1px solid black;padding:0.5mm 1mm;text-align:left;vertical-align:top}\n"
     ++ bytes "#traces td:nth-child(2){overflow-wrap:anywhere}\n"
     ++ bytes "#sources td:nth-child(2){overflow-wrap:anywhere;min-width:20mm}\n"
+    ++ bytes "#traces td:last-child{min-width:24mm}\n#traces table{margin-bottom:0}\n"
     ++ bytes "tbody th{white-space:nowrap}\n"
     ++ bytes "h2,dt{break-after:avoid}\n"
     ++ bytes "dt{font-weight:bold}\n"

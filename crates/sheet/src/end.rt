@@ -193,39 +193,27 @@ fn put_ordered(
 fn put_sources_head(out: &mut [u8], at: usize) -> usize
     ensures { λ r. ⌜ (now (out .exit), r) ≡ write (now (out .entry), at) sourcesHead ⌝ }
 {
-    let a = text::put_all(
+    text::put_all(
         out,
         at,
-        b"<section id=\"sources\">\n<h2>Sources</h2>\n<table>\n<thead>\n",
-    );
-    let b = text::put_all(
-        out,
-        a,
-        b"<tr><th>source</th><th>name</th><th>priority</th><th>type</th><th>frame</th><th>ahead of it</th><th>started</th>",
-    );
-    let c = text::put_all(
-        out,
-        b,
-        b"<th>started while it waited: most seen</th><th>at most</th><th>waits</th><th>entries open while it was: most</th></tr>\n",
-    );
-    text::put_all(out, c, b"</thead>\n<tbody>\n")
+        b"<section id=\"sources\">\n<h2>Sources</h2>\n<table>\n<thead>\n\
+        <tr><th>source</th><th>name</th><th>priority</th><th>type</th><th>frame</th><th>ahead of it</th><th>started</th>\
+        <th>started while it waited: most seen</th><th>at most</th><th>waits</th><th>entries open while it was: most</th></tr>\n\
+        </thead>\n<tbody>\n",
+    )
 }
 
 fn put_waits_head(out: &mut [u8], at: usize) -> usize
     ensures { λ r. ⌜ (now (out .exit), r) ≡ write (now (out .entry), at) waitsHead ⌝ }
 {
-    let a = text::put_all(out, at, b"</tbody>\n</table>\n<table>\n<thead>\n");
-    let b = text::put_all(
+    text::put_all(
         out,
-        a,
-        b"<tr><th>source</th><th>waits not ended</th><th>waits without a bound</th><th>first of these</th><th>pending</th><th>edges</th>",
-    );
-    let c = text::put_all(
-        out,
-        b,
-        b"<th>commands</th><th>turns</th><th>closed while active</th><th>remembered</th></tr>\n",
-    );
-    text::put_all(out, c, b"</thead>\n<tbody>\n")
+        at,
+        b"</tbody>\n</table>\n<table>\n<thead>\n\
+        <tr><th>source</th><th>waits not ended</th><th>waits without a bound</th><th>first of these</th><th>pending</th><th>edges</th>\
+        <th>commands</th><th>turns</th><th>closed while active</th><th>remembered</th></tr>\n\
+        </thead>\n<tbody>\n",
+    )
 }
 
 fn put_hidden(out: &mut [u8], at: usize, t: Table, used: u32) -> usize

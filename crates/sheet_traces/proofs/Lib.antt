@@ -3,4 +3,5 @@ pub mod LoopLaws
 pub mod NoteLaws
 pub mod Promises
 pub mod SeenLaws
+pub mod TalliedLaws
 pub mod WatchLaws

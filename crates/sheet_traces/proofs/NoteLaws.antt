@@ -16,6 +16,7 @@ use Rattle.kinds.specs.Kinds.{aicKind, tellsPrivilege}
 use Rattle.aic_record.specs.declared.Aic.{Aic}
 use Rattle.aic_record.specs.Sound.{sound}
 use Rattle.aic_record.specs.Promises.{Shaped}
+use Rattle.aic_waits.specs.Following.{noFigures}
 use Rattle.machine.proofs.MachineLaws.{sound-aic}
 use Rattle.beginning.specs.declared.Begun.{Begun}
 use Rattle.beginning.specs.Begin.{beginOf}
@@ -26,7 +27,7 @@ use Rattle.stack.specs.declared.Table.{Table}
 use Rattle.tally.specs.declared.Tallied.{Tallied}
 use Rattle.tally.specs.Promises.{aicOf, playedOf}
 use Rattle.tally.specs.Tally.{stepsIn, tallyOf}
-use Rattle.tally.proofs.TallyLaws.{as-many}
+use Rattle.tally.proofs.TallyLaws.{as-many, tally-begun, none-open}
 use Rattle.tally.proofs.LengthLaws.{begun-length, records-short}
 use Rattle.totals.specs.declared.waits.Waits.{Waits}
 use Rattle.totals.specs.Waits.{noWaits}
@@ -35,7 +36,9 @@ use Rattle.sheet_figures.specs.declared.Noted.{Noted}
 use Rattle.sheet_traces.specs.declared.Played.{Played}
 use Rattle.sheet_traces.specs.declared.Watched.{Watched}
 use Rattle.sheet_traces.specs.Watched.{watchedIn}
+use Rattle.sheet_traces.specs.Following.{talliedFrom}
 use Rattle.sheet_traces.specs.Noted.{playedIn, noted, unseen, startsAic, noteOf}
+use Rattle.sheet_traces.proofs.TalliedLaws.{of-machine}
 
 module _ (s : List ℕ) (limit : ℕ) (t : Table) where
   pub of-aic : startsAic s ≡ true
@@ -66,6 +69,9 @@ module _ (s : List ℕ) (b : Begun) (e : b ≡ beginOf s) (r : b .refusal ≡ ca
   pub is-shaped : Shaped (b .machine .aic)
   is-shaped = begin-ready s b e r .1
 
+  pub is-shut : b .machine .aic .depth ≡ 0
+  is-shut = none-open s b e
+
   pub is-short : length s ≤ 65536
   is-short = begun-length s b e r
 
@@ -83,9 +89,13 @@ module _ (s : List ℕ) (b : Begun) (e : b ≡ beginOf s) (r : b .refusal ≡ ca
   started =
       and-both (eq-eqb (beginOf s .refusal) carriedOut (ap (λ (d : Begun). d .refusal) (sym e) ∙ r)) (eq-eqb (beginOf s .machine .kind) aicKind (ap (λ (d : Begun). d .machine .kind) (sym e) ∙ z))
 
-  pub note-is : (limit : ℕ) (t : Table) (f : Tallied) (p : Played) → f ≡ tallyOf s limit
-      → p ≡ playedIn t (b .machine .aic) (stepsIn (stepsFrom false limit s (b .place) .steps)) → noted f true (p .watched) (p .waits) ≡ noteOf s limit t
+  tally-is : (limit : ℕ) → talliedFrom 0 0 noFigures (b .machine .aic) (stepsFrom false limit s (b .place)) ≡ tallyOf s limit
+  tally-is limit = of-machine 0 0 noFigures (b .machine) (stepsFrom false limit s (b .place)) z ∙ tally-begun s limit false b e r told
+
+  pub note-is : (limit : ℕ) (t : Table) (p : Played) → p ≡ playedIn t (b .machine .aic) (stepsFrom false limit s (b .place))
+      → noted (p .tallied) true (p .watched) (p .waits) ≡ noteOf s limit t
   unfolding playedIn
-  note-is limit t f p ef ep =
-      ap₂ (λ (g : Tallied) (q : Played). noted g true (q .watched) (q .waits)) ef
-      (ep ∙ ap₂ (λ (d : Begun) (q : Trace). playedIn t (d .machine .aic) (stepsIn (q .steps))) e (records limit)) ∙ sym (of-aic s limit t started)
+  note-is limit t p ep =
+      ap (λ (q : Played). noted (q .tallied) true (q .watched) (q .waits)) ep
+      ∙ ap₂ (λ (f : Tallied) (q : Played). noted f true (q .watched) (q .waits)) (tally-is limit)
+      (ap₂ (λ (d : Begun) (q : Trace). playedIn t (d .machine .aic) q) e (records limit)) ∙ sym (of-aic s limit t started)

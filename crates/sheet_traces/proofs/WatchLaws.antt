@@ -9,12 +9,12 @@ use native.Mathlib.Nat.{add-zero, zero-add}
 use native.Mathlib.Decide.{ℕ-discrete}
 use lib.Dec.{eqb, ltb}
 use lib.ListN.{getD}
-use borrow.Author.Tests.{eq-eqb, ne-eqb, eqb-true, not-true, lt-ltb, le-ltb}
+use borrow.Author.Tests.{eq-eqb, ne-eqb, eqb-true, not-true, not-false, lt-ltb, le-ltb, ltb-false}
 use Rattle.words.specs.Choice.{pick}
 use Rattle.words.specs.Counting.{one}
 use Rattle.words.specs.Word.{bit, either, withBit}
 use Rattle.words.proofs.ChoiceLaws.{pick-true, pick-false}
-use Rattle.words.proofs.TruthLaws.{told, clash, not-fails, and-left, and-right, or-left, or-right, or-either, or-neither}
+use Rattle.words.proofs.TruthLaws.{told, clash, not-fails, and-left, and-right, and-both, or-left, or-right, or-either, or-neither}
 use Rattle.words.proofs.WordLaws.{bit-either, either-lt, same-word, bit-some, bit-none, bit-cleared, withBit-lt}
 use Rattle.steps.specs.declared.Step.{Step}
 use Rattle.steps.specs.declared.Step.the-variants.{Read, Write, Line}
@@ -106,6 +106,36 @@ watched-from t n w s x {z = z} eo eb ei ec ed eu ev ez ea =
     let r = eu ∙ ap (either (w .used)) ev in
     let f = ea ∙ ap (λ (k : ℕ). pick (eqb (w .strays) 32 && not (eqb k 32)) n (w .astray)) ez in
     λ j. record { marks = p j; idle = q j; left = ed j; used = r j; strays = ez j; astray = f j }
+
+-- where it brought nothing that is looked for
+neither : (b : Bool) → (b && not b) ≡ false
+neither true = refl
+neither false = refl
+
+module _ (t : Table) (n : ℕ) (w : Watched) (s : Aic) (x : Step) (room : List ℕ) {before enabled : ℕ} {idle wrote : Bool} (laid : Laid (step s x .aic) room)
+    (q : Met t w s x before enabled idle wrote)
+    (h : (((idle || wrote) || ltb before (getD room 7 0)) || not (eqb (getD room 2 0) enabled)) ≡ false) where
+  same-sources : eqb (getD room 2 0) enabled ≡ true
+  same-sources = not-false _ (or-neither ((idle || wrote) || ltb before (getD room 7 0)) (not (eqb (getD room 2 0) enabled)) h .1)
+
+  others : ((idle || wrote) ≡ false) × (ltb before (getD room 7 0) ≡ false)
+  others = or-neither (idle || wrote) (ltb before (getD room 7 0)) (or-neither ((idle || wrote) || ltb before (getD room 7 0)) (not (eqb (getD room 2 0) enabled)) h .0)
+
+  strays-same : w .strays ≡ straysNext t (w .strays) (step s x .aic)
+  strays-same =
+      strays-as-they-were t (step s x .aic) (w .strays) true refl
+      (λ _ z. kept-if-same t w s x room laid q (and-both (ap not (or-neither idle wrote (others .0) .1)) same-sources) z)
+
+  pub watched-still : {u : ℕ} → u ≡ either (w .used) (getD room 2 0)
+      → record { marks = w .marks; idle = w .idle; left = getD room 7 0; used = u; strays = w .strays; astray = w .astray } ≡ watchedBy t n w s x
+  unfolding watchedBy
+  watched-still eu =
+      let a = sym (add-zero (w .marks)) ∙ ap (λ (b : Bool). w .marks + one b) (no-mark s x room before laid (q .depth) (ltb-false before (getD room 7 0) (others .1))) in
+      let b = sym (add-zero (w .idle)) ∙ ap (λ (c : Bool). w .idle + one c) (sym (or-neither idle wrote (others .0) .0) ∙ q .ends) in
+      let d = eu ∙ ap (either (w .used)) (enabled-is laid) in
+      let c = ap (λ (k : ℕ). eqb (w .strays) 32 && not (eqb k 32)) (sym strays-same) ∙ neither (eqb (w .strays) 32) in
+      let f = pick-false _ c in
+      λ i. record { marks = a i; idle = b i; left = depth-is laid i; used = d i; strays = strays-same i; astray = f i }
 
 -- a step is one of three kinds
 data Kind (kind x y : ℕ) : Type 0 where

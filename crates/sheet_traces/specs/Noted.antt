@@ -5,14 +5,15 @@ use mathlib.Core.List.{List}
 use lib.Dec.{eqb}
 use Rattle.words.specs.Choice.{pick}
 use Rattle.steps.specs.Refusals.{carriedOut}
-use Rattle.steps.specs.declared.Step.{Step}
+use Rattle.trace.specs.Trace.{Trace}
 use Rattle.kinds.specs.Kinds.{aicKind}
 use Rattle.aic_record.specs.declared.Aic.{Aic}
+use Rattle.aic_waits.specs.Following.{noFigures}
 use Rattle.beginning.specs.Begin.{beginOf}
 use Rattle.stack.specs.declared.Table.{Table}
 use Rattle.tally.specs.declared.Tallied.{Tallied}
 use Rattle.tally.specs.Promises.{aicOf, playedOf}
-use Rattle.tally.specs.Tally.{tallyOf}
+use Rattle.tally.specs.Tally.{stepsIn, tallyOf}
 use Rattle.totals.specs.declared.waits.Waits.{Waits}
 use Rattle.totals.specs.Waits.{noWaits}
 use Rattle.aic_wait_book.specs.Waits.{waitsOf}
@@ -20,10 +21,12 @@ use Rattle.sheet_figures.specs.declared.Noted.{Noted}
 use Rattle.sheet_traces.specs.declared.Played.{Played}
 use Rattle.sheet_traces.specs.declared.Watched.{Watched}
 use Rattle.sheet_traces.specs.Watched.{watchedIn}
+use Rattle.sheet_traces.specs.Following.{talliedFrom}
 
--- what is seen of an AIC over a run, and the waits of its sources
-unfoldable pub playedIn : Table → Aic → List Step → Played
-playedIn t a xs = record { watched = watchedIn t a xs; waits = waitsOf a xs }
+-- the tally of the step records of an AIC, what is seen over them, and the waits of its sources
+unfoldable pub playedIn : Table → Aic → Trace → Played
+playedIn t a q =
+    record { tallied = talliedFrom 0 0 noFigures a q; watched = watchedIn t a (stepsIn (q .steps)); waits = waitsOf a (stepsIn (q .steps)) }
 
 -- all of it, of a trace that starts an AIC or not
 abbrev pub noted : Tallied → Bool → Watched → Waits → Noted

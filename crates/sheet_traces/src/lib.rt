@@ -7,18 +7,24 @@ ghost use lib.ListN.{length};
 ghost use Rattle.words.specs.Choice.{pick};
 ghost use Rattle.steps.specs.Refusals.{carriedOut};
 ghost use Rattle.steps.specs.declared.Step.{Step};
-ghost use Rattle.trace.specs.Trace.{stepsFrom};
-ghost use Rattle.trace.specs.Turns.{stepOf};
+ghost use Rattle.trace.specs.Trace.{turnAt, stepsFrom};
+ghost use Rattle.trace.specs.Turns.{stepOf, turnOf};
 ghost use Rattle.kinds.specs.Kinds.{aicKind};
 ghost use Rattle.aic_record.specs.declared.Aic.{Aic as Record};
 ghost use Rattle.aic_record.specs.Sound.{sound};
 ghost use Rattle.aic_record.specs.Promises.{Shaped};
 ghost use Rattle.aic.specs.Model.{step};
+ghost use Rattle.aic_waits.specs.Following.{Figures};
+ghost use Rattle.aic_figures.specs.Book.{Kept as Counted};
 ghost use Rattle.aic_bounds.specs.Following.{noMarks};
+ghost use Rattle.aic_bounds.specs.declared.figures.Figures.{Figures as Bounds};
+ghost use Rattle.aic_wait_book.specs.Book.{Kept};
+ghost use Rattle.aic_wait_book.specs.Waits.{waitsNow};
 ghost use Rattle.aic_room.specs.Room.{Laid};
 ghost use Rattle.stack_kept.specs.Kept.{unkept};
 ghost use Rattle.beginning.specs.Begin.{beginOf};
-ghost use Rattle.tally.specs.Tally.{stepsIn, tallyOf};
+ghost use Rattle.tally.specs.Tally.{stepsIn};
+ghost use Rattle.tally.specs.Following.{totalsOf};
 ghost use Rattle.sheet_traces.specs.Watched.{opensMark, idleEnd};
 ghost use Rattle.sheet_traces.specs.Following.{watchedFirst, watchedBy, Met};
 ghost use Rattle.sheet_traces.specs.Noted.{playedIn, noted, unseen, noteOf};
@@ -31,6 +37,7 @@ use sheet_figures::Noted;
 use stack::Table;
 use tally::Tallied;
 use totals::waits::Waits;
+use trace::turns::Told;
 
 // Marks opened, ends of interrupt that found no entry open, entries open now, a word of the sources that were enabled; the lowest source that did not keep
 // the table in the first record that did not, 32 for none, and the step after which that was.
@@ -43,8 +50,9 @@ pub struct Watched {
     pub astray: u32,
 }
 
-// What was seen over the steps played, and the waits of all sources.
+// The report's figures of the steps played, what was seen over them, and the waits of all sources.
 pub struct Played {
+    pub tallied: Tallied,
     pub watched: Watched,
     pub waits: Waits,
 }
@@ -88,8 +96,38 @@ fn strays_after(room: &Room, table: Table, strays: u32, same: bool) -> u32
     stack_kept::unkept(table, aic_room::layout::record_of(room))
 }
 
-// What is watched after the n-th step, before which so many entries were open and these sources enabled.
+// What is watched after the n-th step, before which so many entries were open and these sources enabled. Most steps bring nothing that is looked for.
 fn watched_after(
+    w: Watched,
+    room: &Room,
+    table: Table,
+    before: u32,
+    enabled: u32,
+    idle: bool,
+    wrote: bool,
+    n: u32,
+) -> Watched
+    requires { ⌜ (w .marks < 4294967295) × (w .idle < 4294967295) ⌝ }
+    ensures { λ r. ⌜ ((s : Record) (x : Step) → sound s ≡ true → Shaped s → Laid (step s x .aic) (now (room .entry)) → Met table w s x before enabled idle wrote → r ≡ watchedBy table n w s x) ⌝ }
+{
+    let on = room[aic_room::layout::ENABLED];
+    let depth = room[aic_room::layout::DEPTH];
+    if idle | wrote | (before < depth) | (on != enabled) {
+        return watched_anew(w, room, table, before, enabled, idle, wrote, n);
+    }
+    let used = words::join(w.used, on);
+    Watched {
+        marks: w.marks,
+        idle: w.idle,
+        left: depth,
+        used,
+        strays: w.strays,
+        astray: w.astray,
+    }
+}
+
+// The same where it may have brought something.
+fn watched_anew(
     w: Watched,
     room: &Room,
     table: Table,
@@ -135,28 +173,63 @@ fn watch_first(first: Aic, table: Table) -> Watched
     }
 }
 
-// Plays the steps of an AIC from a place on in a room, watches each, and follows the waits of all sources. The limit falls by one with each step.
-fn watch_steps(trace: &[u8], limit: u32, start: usize, first: Aic, table: Table) -> Played
-    requires { ⌜ (sound first ≡ true) × Shaped first × (length (now trace) ≤ 65536) × (length (stepsIn (stepsFrom false limit (now trace) start .steps)) ≤ 65536) ⌝ }
-    ensures { λ r. ⌜ r ≡ playedIn table first (stepsIn (stepsFrom false limit (now (trace .entry)) start .steps)) ⌝ }
+// The turn at a place with `left` of the limit. One loop alone calls this, so that it becomes a part of it.
+fn turn(trace: &[u8], at: usize, left: u32) -> Told
+    ensures { λ r. ⌜ turnOf r ≡ turnAt false (now (trace .entry)) at left ⌝ }
+{
+    let q = trace::turns::quick(trace, at, left, false);
+    if q.kind == trace::turns::UNSURE {
+        return trace::turns::slow(trace, at, left, false);
+    }
+    q
+}
+
+// What is told after the last step: n were played and so many of them refused, and the trace ended by a refusal at an offset.
+fn ended<'a>(
+    counts: &'a mut aic_figures::Book,
+    book: &'a aic_wait_book::Book,
+    w: Watched,
+    n: u32,
+    refused: u32,
+    refusal: u32,
+    offset: usize,
+) -> Played
+    ensures { λ r. ⌜ ((f : Figures) (s : Record) (k : ℕ) (g : ℕ → Bounds) → Counted f s k (now (counts .entry)) → Kept g (now (book .entry)) → r ≡ record { tallied = record { steps = n; refused = refused; refusal = refusal; offset = offset; figures = totalsOf f }; watched = w; waits = waitsNow g }) ⌝ }
+{
+    let figures = aic_figures::totals_in(counts);
+    let tallied = Tallied {
+        steps: n,
+        refused,
+        refusal,
+        offset,
+        figures,
+    };
+    let waits = aic_wait_book::waits_in(book);
+    Played {
+        tallied,
+        watched: w,
+        waits,
+    }
+}
+
+// Plays the steps of an AIC from a place on in a room, once: moves the report's figures and the waits of all sources on with each, and watches it. The
+// limit falls by one with each step.
+fn play_steps(trace: &[u8], limit: u32, start: usize, first: Aic, table: Table) -> Played
+    requires { ⌜ (sound first ≡ true) × Shaped first × (first .depth ≡ 0) × (length (now trace) ≤ 65536) × (length (stepsIn (stepsFrom false limit (now trace) start .steps)) ≤ 65536) ⌝ }
+    ensures { λ r. ⌜ r ≡ playedIn table first (stepsFrom false limit (now (trace .entry)) start) ⌝ }
 {
     let mut room = aic_room::layout::lay(first);
+    let mut counts = aic_figures::start();
     let mut book = aic_wait_book::start();
     let mut w = watch_first(first, table);
     let mut at = start;
     let mut left = limit;
     let mut n: u32 = 0;
+    let mut refused: u32 = 0;
     loop {
-        let t = trace::turns::sure(
-            trace::turns::quick(trace, at, left, false),
-            trace,
-            at,
-            left,
-            false,
-        );
+        let t = turn(trace, at, left);
         if t.kind == trace::turns::ENDED {
-            let waits = aic_wait_book::waits_in(&book);
-            return Played { watched: w, waits };
+            return ended(&mut counts, &book, w, n, refused, t.refusal, t.next);
         }
         let before = room[aic_room::layout::DEPTH];
         let enabled = room[aic_room::layout::ENABLED];
@@ -166,6 +239,8 @@ fn watch_steps(trace: &[u8], limit: u32, start: usize, first: Aic, table: Table)
         let m = brought(carried, brings);
         let idle = is_idle(carried, t.kind, t.x, before);
         n = n + 1;
+        refused = refused + words::one_if(!carried);
+        aic_figures::follow(&mut counts, &room, before);
         aic_wait_book::follow(&mut book, &room, before, n, m);
         w = watched_after(w, &room, table, before, enabled, idle, m.rewrote, n);
         at = t.next;
@@ -175,27 +250,26 @@ fn watch_steps(trace: &[u8], limit: u32, start: usize, first: Aic, table: Table)
 
 // ---- the trace
 
-// What the sheet takes from a trace of which at most `limit` steps are played. The report's figures come first, of any kind of controller; of an AIC its
-// steps are played once more.
+// What the sheet takes from a trace of which at most `limit` steps are played: of an AIC all of it in one play, of other kinds the report's figures.
 pub fn note(trace: &[u8], limit: u32, table: Table) -> Noted
     ensures { λ r. ⌜ r ≡ noteOf (now (trace .entry)) limit table ⌝ }
 {
-    let f = tally::figures(trace, limit);
     let b = beginning::begin(trace);
     let m = b.machine;
     if (b.refusal == steps::CARRIED_OUT) & (m.kind == kinds::AIC) {
-        return note_aic(trace, limit, table, f, b);
+        return note_aic(trace, limit, table, b);
     }
-    note_other(f)
+    note_other(tally::figures(trace, limit))
 }
 
 // That of a trace that starts an AIC.
-fn note_aic(trace: &[u8], limit: u32, table: Table, f: Tallied, b: Begun) -> Noted
+fn note_aic(trace: &[u8], limit: u32, table: Table, b: Begun) -> Noted
     requires { ⌜ (b ≡ beginOf (now trace)) × (b .refusal ≡ carriedOut) × (b .machine .kind ≡ aicKind) ⌝ }
-    ensures { λ r. ⌜ (f ≡ tallyOf (now (trace .entry)) limit → r ≡ noteOf (now (trace .entry)) limit table) ⌝ }
+    ensures { λ r. ⌜ r ≡ noteOf (now (trace .entry)) limit table ⌝ }
 {
     let m = b.machine;
-    let p = watch_steps(trace, limit, b.place, m.aic, table);
+    let p = play_steps(trace, limit, b.place, m.aic, table);
+    let f = p.tallied;
     let w = p.watched;
     let waits = p.waits;
     noted(f, true, w, waits)

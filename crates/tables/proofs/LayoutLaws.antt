@@ -58,7 +58,7 @@ white-low b (inr (inr (inr e))) z = omega arith
 
 -- ---- white space alone
 
-abbrev Blank : List ℕ → Type 0
+abbrev pub Blank : List ℕ → Type 0
 Blank h = (k : ℕ) → k < length h → white (getD h k 0) ≡ true
 
 blank-more : (b : ℕ) (h : List ℕ) → white b ≡ true → Blank h → Blank (b ∷ h)
@@ -69,7 +69,7 @@ a-space : white 32 ≡ true
 unfolding white
 a-space = refl
 
-blank-spaces : (n : ℕ) (h : List ℕ) → Blank h → Blank (replicate n 32 ++ h)
+pub blank-spaces : (n : ℕ) (h : List ℕ) → Blank h → Blank (replicate n 32 ++ h)
 blank-spaces zero h f = f
 blank-spaces (suc n) h f = blank-more 32 (replicate n 32 ++ h) a-space (blank-spaces n h f)
 
@@ -123,7 +123,7 @@ stops (b ∷ s) p l = go p
     go (inr (inl e)) = unfold bareFrom pick in (rw (ne-eqb b 35 (white-low b e)) (white-is b e))
     go (inr (inr e)) = unfold bareFrom pick white in (rw e)
 
-number-plain : (w : List ℕ) → isNumber w ≡ true → Without 35 w
+pub number-plain : (w : List ℕ) → isNumber w ≡ true → Without 35 w
 number-plain w n k l e = omega (arith, number-high w n k l)
 
 nothing-more : (h : List ℕ) → h ++ bare [] ≡ h
@@ -148,7 +148,7 @@ spaced ws s (more g w vs r q n p t) =
 
 -- ---- none of their bytes is a quote
 
-all-of : (P : ℕ → Type 0) (p q : List ℕ) → ((k : ℕ) → k < length p → P (getD p k 0)) → ((k : ℕ) → k < length q → P (getD q k 0))
+pub all-of : (P : ℕ → Type 0) (p q : List ℕ) → ((k : ℕ) → k < length p → P (getD p k 0)) → ((k : ℕ) → k < length q → P (getD q k 0))
     → (k : ℕ) → k < length (p ++ q) → P (getD (p ++ q) k 0)
 all-of P [] q f g k l = g k l
 all-of P (b ∷ p) q f g zero l = f 0 (omega arith)

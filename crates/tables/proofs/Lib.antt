@@ -1,6 +1,7 @@
 -- Laws and theorems about typed tables.
 pub mod BareLaws
 pub mod FillLaws
+pub mod ForeLaws
 pub mod LayoutLaws
 pub mod LimitLaws
 pub mod NameLaws
@@ -14,3 +15,4 @@ pub mod RefusalLaws
 pub mod SeekLaws
 pub mod SlipLaws
 pub mod SlipsPromises
+pub mod WrittenLaws

@@ -16,7 +16,7 @@ use Rattle.tables.specs.Names.{cleared}
 use Rattle.tables.specs.Typed.{nthTyped}
 use Rattle.tables.specs.Number.{worth}
 use Rattle.tables.specs.Reading.{entered, listOf, tableOf, taken, refusedAt, readTable, answerTo}
-use Rattle.tables.specs.Promises.{Whole, TooLarge}
+use Rattle.tables.specs.Facts.{Whole, TooLarge}
 use Rattle.tables.proofs.FillLaws.{getD-listOf}
 use Rattle.tables.proofs.ReadLaws.{valueOf}
 use Rattle.tables.proofs.RefusalLaws.{Way, overlong, slipped, whole, way, whole-is, read, rows, answer-read, answer-else}

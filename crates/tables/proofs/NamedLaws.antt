@@ -22,7 +22,7 @@ use Rattle.tables.specs.Names.{nameByte, nameRun, isName, named, behind,
 use Rattle.tables.specs.Named.{placeOf, nameOf, namesIn, noNames, namesOf}
 use Rattle.tables.specs.Reading.{readTable}
 use Rattle.tables.specs.Layout.{White, Without, Parted, NameByte, NameAt}
-use Rattle.tables.specs.Promises.{Within, NamesOf, Numbers}
+use Rattle.tables.specs.Facts.{Within, NamesOf, Numbers}
 use Rattle.tables.proofs.FillLaws.{length-listOf, getD-listOf}
 use Rattle.tables.proofs.LayoutLaws.{white-is, is-white}
 use Rattle.tables.proofs.NumberLaws.{number-high}
@@ -100,7 +100,7 @@ module _ (s : List ℕ) (at n : ℕ) where
           run : nameRun s (at + 1) ≡ n
           run = named-yes s at _ refl h ∙ e
 
-  name-is : NameAt s at n → named s at ≡ n
+  pub name-is : NameAt s at n → named s at ≡ n
   name-is h = sym (named-yes s at n run test)
     where
       z : at + 1 + n ≡ at + n + 1
@@ -139,11 +139,11 @@ blank-out s at zero k h = refl
 blank-out s at (suc n) k (inl a) = getD-set-other (blanked s at n) (at + n) k 32 0 (λ e. omega arith) ∙ blank-out s at n k (inl a)
 blank-out s at (suc n) k (inr b) = getD-set-other (blanked s at n) (at + n) k 32 0 (λ e. omega arith) ∙ blank-out s at n k (inr (omega arith))
 
-quoted-none : (n : ℕ) → n ≡ 0 → quoted n ≡ 0
+pub quoted-none : (n : ℕ) → n ≡ 0 → quoted n ≡ 0
 unfolding quoted pick
 quoted-none n e = rw e
 
-quoted-some : (n : ℕ) → 1 ≤ n → quoted n ≡ n + 2
+pub quoted-some : (n : ℕ) → 1 ≤ n → quoted n ≡ n + 2
 unfolding quoted
 quoted-some n l = sym (pick-false _ (ne-eqb n 0 (λ e. omega arith)))
 

@@ -19,7 +19,7 @@ use Rattle.words.proofs.TruthLaws.{and-left, and-right, and-both, not-holds, to
 use Rattle.tables.specs.declared.Typed.{Typed}
 use Rattle.tables.specs.Number.{digit, worthFrom, areDigits, isHex, isNumber, worth}
 use Rattle.tables.specs.Passes.{capped, readDigits, readWord}
-use Rattle.tables.specs.Promises.{Digits}
+use Rattle.tables.specs.Facts.{Digits}
 
 pub digit-small : (b : ℕ) → digit b ≤ 16
 unfolding digit

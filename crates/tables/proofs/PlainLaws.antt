@@ -1,13 +1,13 @@
--- A table that is written out in the plain way is read back as it is.
+-- A table that is written out in the plain way is read back as it is, also with spaces behind the numbers of its sources.
 use Prim.Native.Nat.{ℕ, zero, suc, _+_, _-_, _*_, _^_, _≤_, _<_}
-use mathlib.Core.Path.{_≡_, refl, sym, ap, _∙_}
+use mathlib.Core.Path.{_≡_, refl, sym, ap, _∙_, subst}
 use mathlib.Core.Bool.{true, false}
-use mathlib.Core.List.{List, [], _∷_, _++_, map}
+use mathlib.Core.List.{List, [], _∷_, _++_, map, append-assoc}
 use mathlib.Core.Logic.{inl, inr}
 use native.Mathlib.Nat.{add-zero, zero-add}
 use native.Mathlib.Omega.{arith}
 use native.Mathlib.Decide.{decLt, ℕ-discrete}
-use lib.ListN.{length, getD, length-append, length-map, List·getD-map, List·getD-eq-default}
+use lib.ListN.{length, getD, replicate, length-append, length-map, length-replicate, List·getD-map, List·getD-eq-default}
 use lib.Seq.{ext-getD}
 use borrow.Author.Tests.{le-leb}
 use Rattle.words.specs.Choice.{pick}
@@ -17,14 +17,14 @@ use Rattle.text.specs.Promises.{worthAfter}
 use Rattle.text.proofs.DigitLaws.{length-below}
 use Rattle.stack.specs.declared.Table.{Table}
 use Rattle.tables.specs.Names.{cleared}
-use Rattle.tables.specs.Typed.{nthStart, nthTyped}
+use Rattle.tables.specs.Typed.{bare, nthStart, nthTyped}
 use Rattle.tables.specs.Number.{digit, worthFrom, isHex, isNumber, worth}
 use Rattle.tables.specs.Reading.{entered, everyThird, tableOf, taken, readTable}
-use Rattle.tables.specs.Layout.{Gap, nothing, space, Parted, Spread, done, more, linesFrom, plain}
-use Rattle.tables.specs.Promises.{Words}
+use Rattle.tables.specs.Layout.{Without, Gap, nothing, space, Parted, Spread, done, more, linesFrom, plain}
+use Rattle.tables.specs.Facts.{Words}
 use Rattle.tables.proofs.NameLaws.{length-cleared}
 use Rattle.tables.proofs.FillLaws.{length-listOf, getD-listOf}
-use Rattle.tables.proofs.LayoutLaws.{found-cleared}
+use Rattle.tables.proofs.LayoutLaws.{spread-quoteless, found-cleared}
 use Rattle.tables.proofs.NumberLaws.{are-digits, number-plain, hex-first}
 use Rattle.tables.proofs.RefusalLaws.{read, read-values}
 use Rattle.text.proofs.Promises as Text
@@ -52,13 +52,13 @@ worth-tens v [] h = refl
 worth-tens v (b ∷ ds) h = rw (digit-plain b (h 0 (omega arith) .0) (h 0 (omega arith) .1)) (worth-tens (10 * v + (b - 48)) ds (λ k l. h (suc k) (omega arith)))
 
 module _ (v : ℕ) (l : v < 2 ^ 32) where
-  tens : Tens (decimal v)
+  pub tens : Tens (decimal v)
   tens = Text.kept .decimalBytes v
 
   worth-is : worthFrom 10 0 (decimal v) ≡ v
   worth-is = worth-tens 0 (decimal v) tens ∙ Text.kept .decimalWorth v (omega arith)
 
-  some-digit : 0 < length (decimal v)
+  pub some-digit : 0 < length (decimal v)
   some-digit = go (ℕ-discrete v 0) (decLt 0 (length (decimal v)))
     where
       none : (ds : List ℕ) → (0 < length ds → ⊥) → ds ≡ []
@@ -77,7 +77,7 @@ module _ (v : ℕ) (l : v < 2 ^ 32) where
       go (yes m) e = omega (arith, tens 1 m .1)
       go (no m) e = omega (arith, List·getD-eq-default (decimal v) 0 {n = 1} (omega arith))
 
-  decimal-number : isNumber (decimal v) ≡ true
+  pub decimal-number : isNumber (decimal v) ≡ true
   decimal-number =
       number-plain (decimal v) not-hex .0
       ∙ are-digits 10 (decimal v) (record {
@@ -141,14 +141,25 @@ feed = space 10 [] (inr (inr (inr refl))) nothing
 blank : Gap (32 ∷ [])
 blank = space 32 [] (inl refl) nothing
 
-at-feed : (s : List ℕ) → Parted (10 ∷ s)
+pub at-feed : (s : List ℕ) → Parted (10 ∷ s)
 at-feed s = inr (inl (inr (inr (inr refl))))
 
 at-blank : (s : List ℕ) → Parted (32 ∷ s)
 at-blank s = inr (inl (inl refl))
 
-module _ (t : Table) (w : Words t) where
-  spread-lines : (k i : ℕ) → i + k ≡ 32 → (g : List ℕ) → Gap g → Spread (wordsFrom t k i) (g ++ linesFrom t k i)
+spaces-gap : (n : ℕ) → Gap (replicate n 32 ++ (10 ∷ []))
+spaces-gap zero = feed
+spaces-gap (suc n) = space 32 (replicate n 32 ++ (10 ∷ [])) (inl refl) (spaces-gap n)
+
+at-spaces : (n : ℕ) (s : List ℕ) → Parted (replicate n 32 ++ (10 ∷ s))
+at-spaces zero s = at-feed s
+at-spaces (suc n) s = at-blank (replicate n 32 ++ (10 ∷ s))
+
+module _ (t : Table) (w : Words t) (m : ℕ → ℕ) where
+  abbrev spaces : ℕ → List ℕ
+  spaces i = replicate (m i) 32
+
+  spread-lines : (k i : ℕ) → i + k ≡ 32 → (g : List ℕ) → Gap g → Spread (wordsFrom t k i) (g ++ linesFrom t spaces k i)
   unfolding linesFrom valuesFrom
   spread-lines zero i e g q =
       more g (decimal (t .forced)) _ _ q (decimal-number (t .forced) (w .forced)) (at-feed _)
@@ -156,16 +167,18 @@ module _ (t : Table) (w : Words t) where
   spread-lines (suc k) i e g q =
       more g (decimal (getD (t .priority) i 0)) _ _ q (decimal-number _ (w .priority i (omega arith))) (at-blank _)
       (more (32 ∷ []) (decimal (getD (t .kind) i 0)) _ _ blank (decimal-number _ (w .kind i (omega arith))) (at-blank _)
-      (more (32 ∷ []) (decimal (getD (t .frame) i 0)) _ _ blank (decimal-number _ (w .frame i (omega arith))) (at-feed _)
-      (spread-lines k (i + 1) (omega arith) (10 ∷ []) feed)))
+      (more (32 ∷ []) (decimal (getD (t .frame) i 0)) _ _ blank (decimal-number _ (w .frame i (omega arith))) (at-spaces (m i) _)
+      (subst (Spread (wordsFrom t k (i + 1))) (append-assoc (spaces i) (10 ∷ []) (linesFrom t spaces k (i + 1)))
+      (spread-lines k (i + 1) (omega arith) (spaces i ++ (10 ∷ [])) (spaces-gap (m i))))))
 
-  lines-length : (k i : ℕ) → i + k ≡ 32 → length (linesFrom t k i) ≤ 33 * k + 22
+  lines-length : ((i : ℕ) → i < 32 → m i ≤ 27) → (k i : ℕ) → i + k ≡ 32 → length (linesFrom t spaces k i) ≤ 60 * k + 22
   unfolding linesFrom
-  lines-length zero i e =
+  lines-length b zero i e =
       simp length-append (omega (arith, decimal-length (t .forced) (w .forced), decimal-length (t .mark) (w .mark)))
-  lines-length (suc k) i e =
-      simp length-append (omega (arith, lines-length k (i + 1) (omega arith), decimal-length _ (w .priority i (omega arith)), decimal-length _ (w .kind i (omega arith)), decimal-length _ (w .frame i (omega arith))))
+  lines-length b (suc k) i e =
+      simp length-append (omega (arith, lines-length b k (i + 1) (omega arith), b i (omega arith), length-replicate {0} {A = ℕ} (m i) 32, decimal-length _ (w .priority i (omega arith)), decimal-length _ (w .kind i (omega arith)), decimal-length _ (w .frame i (omega arith))))
 
+module _ (t : Table) (w : Words t) where
   values-length : (k i : ℕ) → length (valuesFrom t k i) ≡ 3 * k + 2
   unfolding valuesFrom
   values-length zero i = refl
@@ -198,7 +211,14 @@ spread ws s d e w l =
     (read s .1 (l, (λ k m. (f .0 k (omega arith) .1, small k m)), ap (nthStart (cleared s)) (sym e) ∙ f .1 ∙ length-cleared s))
     (λ k m. ap (λ (x : ℕ). getD (map valueAs ws) k x) (sym value-none) ∙ List·getD-map valueAs ws k [] ∙ ap valueAs (sym (f .0 k (omega arith) .0)))
 
+module _ (t : Table) (w : Words t) (m : ℕ → ℕ) where
+  pub spaced-quoteless : Without 34 (bare (linesFrom t (λ i. replicate (m i) 32) 32 0))
+  spaced-quoteless = spread-quoteless (wordsFrom t 32 0) _ (spread-lines t w m 32 0 refl [] nothing)
+
+  pub spaced-back : ((i : ℕ) → i < 32 → m i ≤ 27) → readTable (linesFrom t (λ i. replicate (m i) 32) 32 0) ≡ taken t
+  spaced-back b =
+      spread (wordsFrom t 32 0) _ (spread-lines t w m 32 0 refl [] nothing) (length-map (valuesFrom t 32 0) decimal ∙ values-length t w 32 0) (forced-worth t w) (omega (arith, lines-length t w m b 32 0 refl))
+      ∙ ap taken (ap tableOf (values-worth t w 32 0 refl) ∙ table-back t w)
+
 pub read-back : (t : Table) → Words t → readTable (plain t) ≡ taken t
-read-back t w =
-    spread (wordsFrom t 32 0) (plain t) (spread-lines t w 32 0 refl [] nothing) (length-map (valuesFrom t 32 0) decimal ∙ values-length t w 32 0) (forced-worth t w) (omega (arith, lines-length t w 32 0 refl))
-    ∙ ap taken (ap tableOf (values-worth t w 32 0 refl) ∙ table-back t w)
+read-back t w = spaced-back t w (λ i. 0) (λ i l. omega arith)

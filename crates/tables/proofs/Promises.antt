@@ -16,8 +16,9 @@ use Rattle.tables.specs.Names.{behind, unnamedTo, cleared}
 use Rattle.tables.specs.Typed.{white, bare, startFrom, endFrom, pastNth, nthStart, nthTyped}
 use Rattle.tables.specs.Number.{digit, worthFrom, areDigits, isHex, isNumber, worth}
 use Rattle.tables.specs.Reading.{taken}
-use Rattle.tables.specs.Layout.{White, linesFrom}
-use Rattle.tables.specs.Promises.{Starts, Ends, Digits, Promises}
+use Rattle.tables.specs.Layout.{White, linesFrom, inQuotes}
+use Rattle.tables.specs.Facts.{Starts, Ends, Digits}
+use Rattle.tables.specs.Promises.{Promises}
 use Rattle.tables.proofs.BareLaws.{length-bare, bare-none, bare-ended, bare-left}
 use Rattle.tables.proofs.NameLaws.{length-cleared}
 use Rattle.tables.proofs.NamedLaws.{named-is, named-none, unnamed-stays, unnamed-byte, unnamed-rest, name-count, name-bytes, quotes-gone, names-taken, names-refused}
@@ -26,6 +27,7 @@ use Rattle.tables.proofs.SeekLaws.{Sought, start-is, start-sought, end-
 use Rattle.tables.proofs.NumberLaws.{digits-are, are-digits, number-hex, number-plain, number-some, hex-first}
 use Rattle.tables.proofs.LayoutLaws.{white-is, is-white}
 use Rattle.tables.proofs.PlainLaws.{digit-plain, entered-as, entered-most, spread, read-back}
+use Rattle.tables.proofs.WrittenLaws.{named-back}
 use Rattle.tables.proofs.RefusalLaws.{eleven, eleven-at, eight, read, only, refused-empty, read-values, rows, answer-read, answer-else, answer-most}
 use Rattle.tables.proofs.LimitLaws.{fourteen, figure}
 
@@ -170,15 +172,23 @@ upper-x ds =
 
 -- ---- the plain way
 
-plain-last : (t : Table) (i : ℕ) → linesFrom t 0 i ≡ decimal (t .forced) ++ (10 ∷ (decimal (t .mark) ++ (10 ∷ [])))
+plain-last : (t : Table) (behind : ℕ → List ℕ) (i : ℕ) → linesFrom t behind 0 i ≡ decimal (t .forced) ++ (10 ∷ (decimal (t .mark) ++ (10 ∷ [])))
 unfolding linesFrom
-plain-last t i = refl
+plain-last t behind i = refl
 
-plain-more : (t : Table) (k i : ℕ) → linesFrom t (suc k) i
+plain-more : (t : Table) (behind : ℕ → List ℕ) (k i : ℕ) → linesFrom t behind (suc k) i
     ≡ decimal (getD (t .priority) i 0)
-    ++ (32 ∷ (decimal (getD (t .kind) i 0) ++ (32 ∷ (decimal (getD (t .frame) i 0) ++ (10 ∷ linesFrom t k (i + 1))))))
+    ++ (32 ∷ (decimal (getD (t .kind) i 0) ++ (32 ∷ (decimal (getD (t .frame) i 0) ++ (behind i ++ (10 ∷ linesFrom t behind k (i + 1)))))))
 unfolding linesFrom
-plain-more t k i = refl
+plain-more t behind k i = refl
+
+quotes-none : inQuotes [] ≡ []
+unfolding inQuotes
+quotes-none = refl
+
+quotes-some : (b : ℕ) (bs : List ℕ) → inQuotes (b ∷ bs) ≡ 32 ∷ 34 ∷ (b ∷ (bs ++ (34 ∷ [])))
+unfolding inQuotes
+quotes-some b bs = refl
 
 pub kept : Promises
 unfolding taken
@@ -232,8 +242,11 @@ kept =
       refusedEmpty = refused-empty;
       spread = spread;
       readBack = read-back;
+      namedBack = named-back;
       plainLast = plain-last;
       plainMore = plain-more;
+      quotesNone = quotes-none;
+      quotesSome = quotes-some;
       answerRead = answer-read;
       answerRefused = answer-else;
       fourteen = fourteen;

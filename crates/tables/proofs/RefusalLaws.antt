@@ -24,7 +24,7 @@ use Rattle.tables.specs.Names.{cleared}
 use Rattle.tables.specs.Typed.{nthStart, nthTyped}
 use Rattle.tables.specs.Number.{isNumber, worth}
 use Rattle.tables.specs.Reading.{fitsAt, fits, listOf, everyThird, tableOf, taken, refusedAt, firstFault, readBare, readTable, refusedLine, answerTo}
-use Rattle.tables.specs.Promises.{Numbers, Slip, SlipAt, Whole, Rows}
+use Rattle.tables.specs.Facts.{Numbers, Slip, SlipAt, Whole, Rows}
 use Rattle.tables.proofs.NameLaws.{length-cleared}
 use Rattle.tables.proofs.FillLaws.{length-listOf, getD-listOf, listOf-same}
 use Rattle.tables.proofs.SeekLaws.{nth-within}

@@ -25,7 +25,7 @@ use Rattle.tables.specs.Typed.{nthStart, nthTyped}
 use Rattle.tables.specs.Number.{isNumber, worth}
 use Rattle.tables.specs.Names.{cleared}
 use Rattle.tables.specs.Reading.{firstFault, readTable, readBare, refusedAt, taken}
-use Rattle.tables.specs.Promises.{Whole, TooLarge, Numbers}
+use Rattle.tables.specs.Facts.{Whole, TooLarge, Numbers}
 use Rattle.tables.proofs.SeekLaws.{nth-within}
 use Rattle.tables.proofs.NameLaws.{length-cleared}
 use Rattle.tables.proofs.ReadLaws.{not-long}

@@ -48,14 +48,28 @@ pub record NameAt (s : List ℕ) (at n : ℕ) : Type 0 where
   pub closed : getD s (at + n + 1) 0 ≡ 34
   pub parted : Parted (drop (at + n + 2) s)
 
+-- a name: up to 24 such bytes, and none where a source has no name
+pub record Name (w : List ℕ) : Type 0 where
+  pub most : length w ≤ 24
+  pub each : (k : ℕ) → k < length w → NameByte (getD w k 0)
+
 -- ---- the plain way
 
--- a line for each of k sources from the ith on, with its three numbers in decimal, then a line for each of the last two numbers
-unfoldable pub linesFrom : Table → ℕ → ℕ → List ℕ
-linesFrom t zero i = decimal (t .forced) ++ (10 ∷ (decimal (t .mark) ++ (10 ∷ [])))
-linesFrom t (suc k) i =
+-- a line for each of k sources from the ith on, with its three numbers in decimal and what stands behind them, then a line for each of the last two numbers
+unfoldable pub linesFrom : Table → (ℕ → List ℕ) → ℕ → ℕ → List ℕ
+linesFrom t behind zero i = decimal (t .forced) ++ (10 ∷ (decimal (t .mark) ++ (10 ∷ [])))
+linesFrom t behind (suc k) i =
     decimal (getD (t .priority) i 0)
-    ++ (32 ∷ (decimal (getD (t .kind) i 0) ++ (32 ∷ (decimal (getD (t .frame) i 0) ++ (10 ∷ linesFrom t k (i + 1))))))
+    ++ (32 ∷ (decimal (getD (t .kind) i 0) ++ (32 ∷ (decimal (getD (t .frame) i 0) ++ (behind i ++ (10 ∷ linesFrom t behind k (i + 1)))))))
 
 abbrev pub plain : Table → List ℕ
-plain t = linesFrom t 32 0
+plain t = linesFrom t (λ i. []) 32 0
+
+-- a space, and the name in its quotes; nothing where there is no name
+unfoldable pub inQuotes : List ℕ → List ℕ
+inQuotes [] = []
+inQuotes (b ∷ bs) = 32 ∷ 34 ∷ (b ∷ (bs ++ (34 ∷ [])))
+
+-- with a name behind the numbers of each source that has one
+abbrev pub plainNamed : Table → (ℕ → List ℕ) → List ℕ
+plainNamed t name = linesFrom t (λ i. inQuotes (name i)) 32 0

@@ -1,4 +1,5 @@
 -- Typed tables: the text, its numbers, what is read of it, and what is promised of that.
+pub mod Facts
 pub mod Layout
 pub mod Named
 pub mod Names

@@ -12,7 +12,7 @@ use Rattle.tables.specs.Typed.{nthStart, nthTyped}
 use Rattle.tables.specs.Number.{isNumber, worth}
 use Rattle.tables.specs.Names.{cleared}
 use Rattle.tables.specs.Reading.{firstFault, readTable}
-use Rattle.tables.specs.Promises.{Whole, TooLarge}
+use Rattle.tables.specs.Facts.{Whole, TooLarge}
 use Rattle.tables.specs.Slips.{lineOf, told, limitOf, shortened, overWords, expectedWords, slipLine}
 
 -- the nth of the 98 numbers is over its limit; the word of forced sources has none

@@ -68,7 +68,7 @@ pub as-many : (xs : List Recorded) → length (stepsIn xs) ≡ length xs
 as-many [] = refl
 as-many (x ∷ xs) = ap suc (as-many xs)
 
-all-aic : (f : Figures) (m : Machine) (xs : List Recorded) → m .kind ≡ aicKind → followedAll f m xs ≡ figuresOver f (m .aic) (stepsIn xs)
+pub all-aic : (f : Figures) (m : Machine) (xs : List Recorded) → m .kind ≡ aicKind → followedAll f m xs ≡ figuresOver f (m .aic) (stepsIn xs)
 unfolding followedAll figuresOver
 all-aic f m [] z = refl
 all-aic f m (x ∷ xs) z =

@@ -1,11 +1,9 @@
 -- That `move_rows` of src/lib.rt keeps its contract.
 use Prim.Native.Nat.{ℕ, _-_, _^_, _<_}
-use mathlib.Core.Path.{_≡_, refl, sym, ap, subst, _∙_}
+use mathlib.Core.Path.{_≡_, sym, subst}
 use mathlib.Core.Bool.{true, false}
-use mathlib.Core.List.{List, []}
 use mir.Syntax.{w32}
 use mir.Val.{Fits}
-use lib.ListN.{getD}
 use Rattle.words.specs.Counting.{lowestBelow}
 use Rattle.words.specs.Word.{bit, without}
 use Rattle.words.proofs.HopLaws.{lowest-in, hop-less}
@@ -14,8 +12,7 @@ use Rattle.aic_record.specs.declared.Aic.{Aic}
 use Rattle.aic_record.specs.Sound.{sound}
 use Rattle.aic_room.specs.Room.{Laid}
 use Rattle.aic_figures.proofs.BookLaws.{within}
-use Rattle.aic_bounds.specs.declared.figures.Figures.{Figures}
-use Rattle.aic_wait_book.specs.Book.{rowAfter, wordIn, Kept, Rows}
+use Rattle.aic_wait_book.specs.Book.{rowAfter, rowAt, Columns, Rows}
 use Rattle.aic_wait_book.proofs.KeptLaws.{rows-none, rows-all, rows-more, still, row-same}
 use borrow.Author.Needs.{needs}
 use Rattle.aic_wait_book.proofs.move_rows.Statement.{statement}
@@ -24,14 +21,14 @@ use Rattle.aic_wait_book.proofs.move_rows.Tie as tie
 abbrev Inv-loop : tie.InvT-loop
 Inv-loop book₀ room some was is n m left₀ book left =
     (left < 2 ^ 32) × ((j : ℕ) → j < 32 → bit left j ≡ true → bit some j ≡ true)
-    × ((f : ℕ → Figures) (t : Aic) → sound t ≡ true → Laid t room → Kept f book₀ → was ≡ wordIn book₀ 1
-    → Rows (λ i. rowAfter i (bit was i) (bit is i) n m t (getD book₀ i [])) (without some left) book₀ book)
+    × ((t : Aic) → sound t ≡ true → Laid t room → Columns book₀
+    → Rows (λ i. rowAfter i (bit was i) (bit is i) n m t (rowAt book₀ i)) (without some left) book₀ book)
 
 abbrev μ-loop : tie.MeasureT-loop
 μ-loop book₀ room some was is n m left₀ book left = 32 - lowestBelow 32 (bit left)
 
 loop-holds : tie.Need-loop-holds Inv-loop μ-loop
-loop-holds c = let p : Fits w32 (c .args .some) = search needs in (p .fits, (λ j n b. b), λ f t ok h k w. rows-none _ _ _)
+loop-holds c = let p : Fits w32 (c .args .some) = search needs in (p .fits, (λ j n b. b), λ t ok h k. rows-none _ _ _ k)
 
 move-row-requires : tie.Need-move-row-requires Inv-loop μ-loop
 move-row-requires c κs =
@@ -53,18 +50,16 @@ loop-again c =
     let p = lowest-in (l .left) (i .result) (l .inv .0) (c .before .before .before .before .before .before .loop-test .taken) (i .ensures) in (
       subst (λ (x : ℕ). x < 2 ^ 32) (sym (c .with-bit .ensures)) (withBit-lt (l .left) (i .result) false),
       within (a .some) (l .left) _ (i .result) (c .with-bit .ensures) (l .inv .1),
-      λ f t ok h k w.
-          let d = l .inv .2 f t ok h k w in
-          let o = still _ (a .some) (l .left) (a .book .now) (l .book) (i .result) (p .0) (p .1) d in
-          let u = c .before .before .before .has .ensures in
-          let e = c .before .move-row .ensures (f (i .result)) t ok h (d .size ∙ k .size) (o ∙ k .rows (i .result) (p .0)) (k .small (i .result) (p .0))
-          (u ∙ ap (λ (x : ℕ). bit x (i .result)) w ∙ k .waits (i .result) (p .0)) in
-          rw e (rows-more _ (a .some) (l .left) (a .book .now) (l .book) (i .result) (p .0) (p .1) d _ _ (k .size) (l .inv .1 (i .result) (p .0) (p .1)) (c .with-bit .ensures)
-          (row-same (i .result) (a .n) (a .m) t u (c .before .before .has2 .ensures) o)),
+      λ t ok h k.
+          let d = l .inv .2 t ok h k in
+          rows-more _ (a .some) (l .left) (a .book .now) (l .book) (i .result) (p .0) (p .1) d _ _ _ (l .inv .1 (i .result) (p .0) (p .1)) (c .with-bit .ensures)
+          (row-same (i .result) (a .n) (a .m) t (c .before .before .before .has .ensures) (c .before .before .has2 .ensures)
+          (still _ (a .some) (l .left) (a .book .now) (l .book) (i .result) (p .0) (p .1) d))
+          (c .before .move-row .ensures t ok h (d .size)),
     )
 
 returns : tie.Need-returns Inv-loop μ-loop
-returns c = λ f t ok h k w. rows-all _ _ _ _ _ (c .loop-test .left) (c .before .loop .inv .2 f t ok h k w)
+returns c = λ t ok h k. rows-all _ _ _ _ _ (c .loop-test .left) (c .before .loop .inv .2 t ok h k)
 
 pub move-rows-spec : {M : Type 1} → statement M
 move-rows-spec = tie.close (tie.spec Inv-loop μ-loop loop-holds (λ c κs. search needs) (λ c κs. search needs) (λ c κs. search needs) move-row-requires (λ c κs. search needs) loop-less loop-again returns)

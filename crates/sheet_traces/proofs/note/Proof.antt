@@ -15,14 +15,14 @@ note-aic-requires c κs =
     (c .before .before .before .before .begin .ensures, h .0, h .1)
 
 returns : tie.Need-returns
-returns c = c .note-aic .ensures (c .before .before .before .before .before .before .figures .ensures)
+returns c = c .note-aic .ensures
 
 returns-2 : tie.Need-returns-2
 returns-2 c =
-    let i = c .before in
+    let i = c .before .before in
     let b = i .before .before .before .before in
-    c .note-other .ensures ∙ ap (λ (f : Tallied). noted f false unseen noWaits) (b .before .figures .ensures)
+    c .note-other .ensures ∙ ap (λ (f : Tallied). noted f false unseen noWaits) (c .before .figures .ensures)
     ∙ sym (of-other _ _ _ (sym (starts-is _ _ (b .begin .ensures)) ∙ i .if1 .left))
 
 pub note-spec : {M : Type 1} → statement M
-note-spec = tie.close (tie.spec (λ c κs. search needs) (λ c κs. search needs) note-aic-requires returns (λ c κs. search needs) returns-2)
+note-spec = tie.close (tie.spec (λ c κs. search needs) note-aic-requires returns (λ c κs. search needs) (λ c κs. search needs) returns-2)

@@ -1,7 +1,7 @@
 -- That `put_waits_head` of src/end.rt keeps its contract.
 use Rattle.text.specs.Phrases.{bytes}
 use Rattle.sheet.specs.End.{waitsHead}
-use Rattle.text.proofs.WriteLaws.{and-then, same-length as same-len}
+use Rattle.text.proofs.WriteLaws.{same-length as same-len}
 use borrow.Author.Needs.{needs}
 use Rattle.sheet.proofs.end.put_waits_head.Statement.{statement}
 use Rattle.sheet.proofs.end.put_waits_head.Tie as tie
@@ -9,11 +9,8 @@ use Rattle.sheet.proofs.end.put_waits_head.Tie as tie
 returns : tie.Need-returns
 unfolding waitsHead bytes
 returns c =
-    let c4 = c .before .before in
-    let c3 = c4 .before .before .before .before .before in
-    let c2 = c3 .before .before .before .before .before in
-    let c1 = c2 .before .before .before .before .before in
-    and-then _ _ _ (and-then _ _ _ (and-then _ _ _ (c1 .put-all .ensures) (c2 .put-all2 .ensures)) (c3 .put-all3 .ensures)) (c4 .put-all4 .ensures)
+    let c1 = c .before .before in
+    c1 .put-all .ensures
 
 same-length : tie.Need-same-length
 same-length c = same-len _ _ _ (returns c)
@@ -22,12 +19,6 @@ pub put-waits-head-spec : {M : Type 1} → statement M
 put-waits-head-spec =
     tie.close
     (tie.spec
-    (λ c. search needs)
-    (λ c κs. search needs)
-    (λ c. search needs)
-    (λ c κs. search needs)
-    (λ c. search needs)
-    (λ c κs. search needs)
     (λ c. search needs)
     (λ c κs. search needs)
     same-length
