@@ -13,7 +13,7 @@ use Rattle.aic_room.specs.Room.{Laid}
 use Rattle.aic_waits.specs.Following.{noFigures as noTotals}
 use Rattle.aic_figures.specs.Book.{Kept as Counted}
 use Rattle.aic_bounds.specs.Figures.{noFigures}
-use Rattle.aic_wait_book.specs.Book.{Kept}
+use Rattle.aic_figures.specs.WaitsBook.{Kept}
 use Rattle.sheet_traces.specs.Following.{watchedFirst}
 use Rattle.sheet_traces.proofs.LoopLaws.{Watching, begins, played-whole, small, some-left, stands, met, watches-on}
 use borrow.Author.Needs.{needs}
