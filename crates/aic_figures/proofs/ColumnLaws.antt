@@ -1,8 +1,8 @@
 -- The columns of the book: what one number put anew is of them, and what they are of rows.
-use Prim.Native.Nat.{ℕ, zero, suc, _+_, _≤_, _<_, _^_}
+use Prim.Native.Nat.{ℕ, _+_, _≤_, _<_, _^_}
 use mathlib.Core.Path.{_≡_, refl, sym, ap, ap₂, _∙_, subst}
-use mathlib.Core.Bool.{Bool, true, false, not, _&&_, _||_, and-true, and-false}
-use mathlib.Core.List.{List, [], _∷_}
+use mathlib.Core.Bool.{Bool, true, false, _&&_, _||_, and-true, and-false}
+use mathlib.Core.List.{List, []}
 use native.Mathlib.Omega.{arith}
 use native.Mathlib.Decide.{ℕ-discrete, decLt}
 use lib.Dec.{eqb, ltb}
@@ -14,12 +14,11 @@ use Rattle.words.specs.Counting.{one}
 use Rattle.words.specs.Word.{bit, without, withBit}
 use Rattle.words.proofs.ChoiceLaws.{pick-true, pick-false}
 use Rattle.words.proofs.WordLaws.{bit-alone}
-use Rattle.rooms.specs.Parts.{made}
 use Rattle.rooms.proofs.PartLaws.{made-length, made-get, made-same}
 use Rattle.aic_waits.specs.Following.{capped}
 use Rattle.aic_bounds.specs.Following.{plus}
 use Rattle.aic_figures.specs.WaitsBook.{cellIn, rowAt, Columns, Cells, Rows, Worded}
-use Rattle.aic_figures.proofs.RowLaws.{plus-bit, plus-first, plus-last}
+use Rattle.aic_figures.proofs.RowLaws.{plus-bit, plus-none-yet, plus-last}
 
 -- ---- one number
 
@@ -214,7 +213,7 @@ module _ (old : List (List ℕ)) (j w : ℕ) (lj : 1 < j) (mj : j < 18) where
   grow-none h s = record { size = h; each = λ a b la lb. go a b lb (ℕ-discrete a j) }
     where
       go : (a b : ℕ) → b < 32 → Dec (a ≡ j) → cellIn old a b ≡ pick (eqb a j) (plus (cellIn old j b) (cellIn old 1 b) (without w w)) (cellIn old a b)
-      go a b l (yes p) = rw p (plus-first (cellIn old j b) (cellIn old 1 b) w (s b l) ∙ pick-true (cellIn old j b) (eq-eqb j j refl))
+      go a b l (yes p) = rw p (plus-none-yet (cellIn old j b) (cellIn old 1 b) w (s b l) ∙ pick-true (cellIn old j b) (eq-eqb j j refl))
       go a b l (no p) = pick-false (plus (cellIn old j b) (cellIn old 1 b) (without w w)) (ne-eqb a j p)
 
   pub grow-more : (left next i : ℕ) (mid new : List (List ℕ)) → i < 32 → bit w i ≡ true → bit left i ≡ true → next ≡ withBit left i false → Grown j (without w left) old mid

@@ -431,8 +431,8 @@ plus-bit n on w left i {next} l y b e =
     there : (k : ℕ) → k < 32 → (k ≡ i → ⊥) → q k ≡ p k
     there k m d = at next k m ∙ ap (λ (x : Bool). bit on k && (bit w k && not x)) (ap (λ (v : ℕ). bit v k) e ∙ hop-other left i k m d) ∙ sym (at left k m)
 
-pub plus-first : (n on w : ℕ) → n ≤ 4294967295 → n ≡ plus n on (without w w)
-plus-first n on w l = sym (plus-none n on (without w w) l (shared-none on (without w w) (λ k m. ap (λ (x : Bool). bit on k && x) (bit-without w w k m ∙ off (bit w k)) ∙ and-false (bit on k))))
+pub plus-none-yet : (n on w : ℕ) → n ≤ 4294967295 → n ≡ plus n on (without w w)
+plus-none-yet n on w l = sym (plus-none n on (without w w) l (shared-none on (without w w) (λ k m. ap (λ (x : Bool). bit on k && x) (bit-without w w k m ∙ off (bit w k)) ∙ and-false (bit on k))))
   where
     off : (x : Bool) → (x && not x) ≡ false
     off true = refl
