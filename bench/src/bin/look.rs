@@ -74,12 +74,8 @@ fn means_the_same(path: &str) -> ExitCode {
         .map_err(|error| error.to_string())
         .and_then(|trace| waves::meaning(&dump, &waves::waves(&trace, PROGRAM_LIMIT)));
     match compared {
-        Ok(compared) => {
-            say!(
-                "{} ticks, {} values of signals",
-                compared.ticks,
-                compared.values
-            );
+        Ok(waves::Compared { ticks, values, .. }) => {
+            say!("{ticks} ticks, {values} values of signals");
             ExitCode::SUCCESS
         }
         Err(why) => {
@@ -130,8 +126,8 @@ fn asked(words: &[String]) -> Result<Asked, String> {
 struct Tally {
     compared: usize,
     reached: Reached,
-    waves: waves::Compared,
-    pictures: picture::Compared,
+    /// How much was compared.
+    amounts: [usize; 4],
     /// Windows of which there is no picture.
     none: usize,
     /// The numbers of those that differ, and how.
@@ -139,26 +135,9 @@ struct Tally {
 }
 
 impl Tally {
-    fn add(&mut self, other: &Tally) {
-        self.compared += other.compared;
-        self.none += other.none;
-        self.add_waves(&other.waves);
-        self.add_picture(&other.pictures);
-        self.reached.add(&other.reached);
-    }
-
-    fn add_waves(&mut self, more: &waves::Compared) {
-        self.waves.ticks += more.ticks;
-        self.waves.signals += more.signals;
-        self.waves.values += more.values;
-        self.waves.changes += more.changes;
-    }
-
-    fn add_picture(&mut self, more: &picture::Compared) {
-        self.pictures.columns += more.columns;
-        self.pictures.bars += more.bars;
-        self.pictures.boxes += more.boxes;
-        self.pictures.refused += more.refused;
+    fn add(&mut self, more: [usize; 4]) {
+        let amounts = self.amounts.iter_mut().zip(more);
+        amounts.for_each(|(amount, more)| *amount += more);
     }
 }
 
@@ -176,7 +155,12 @@ fn on_all_processors(
         differ,
         ..Tally::default()
     };
-    tallies.iter().for_each(|tally| all.add(tally));
+    for tally in &tallies {
+        all.compared += tally.compared;
+        all.none += tally.none;
+        all.add(tally.amounts);
+        all.reached.add(&tally.reached);
+    }
     all
 }
 
@@ -209,16 +193,16 @@ fn compare_waves(asked: &Asked, generator: &Generator) -> bool {
         tally.reached.see_waves(&expected);
         let (compared, bytes) = wave_differs(&asked.wave, &trace, &expected)?;
         tally.reached.see_dump(bytes);
-        tally.add_waves(&compared);
+        tally.add([
+            compared.signals,
+            compared.ticks,
+            compared.values,
+            compared.changes,
+        ]);
         Ok(())
     };
     let tally = on_all_processors(asked.traces, compare);
-    let waves::Compared {
-        ticks,
-        signals,
-        values,
-        changes,
-    } = tally.waves;
+    let [signals, ticks, values, changes] = tally.amounts;
     say!(
         "waves: {} traces, {signals} signals declared, {ticks} ticks, {values} values of signals, {changes} changes",
         tally.compared
@@ -273,12 +257,7 @@ fn compare_pictures(asked: &Asked, generator: &Generator) -> bool {
         })
     };
     let tally = on_all_processors(asked.windows, compare);
-    let picture::Compared {
-        columns,
-        bars,
-        boxes,
-        refused,
-    } = tally.pictures;
+    let [columns, bars, boxes, refused] = tally.amounts;
     say!(
         "pictures: {} windows, {} of them without a picture; {columns} columns, {bars} bars, {boxes} dark boxes, {refused} numbers of refusals",
         tally.compared,
@@ -315,6 +294,11 @@ fn compare_picture(program: &Program, window: &Window, tally: &mut Tally) -> Res
     tally.reached.see_picture(window, &nesting);
     tally.reached.see_size(printed.len());
     let compared = picture::compare(&printed, &nesting)?;
-    tally.add_picture(&compared);
+    tally.add([
+        compared.columns,
+        compared.bars,
+        compared.boxes,
+        compared.refused,
+    ]);
     Ok(())
 }
