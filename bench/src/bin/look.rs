@@ -1,7 +1,6 @@
 //! Runs the programs that print waves and pictures on generated traces and windows, reads what they print, and compares
 //! every value, bar, box and number with the model, and then every byte.
 
-use std::io::{self, Read};
 use std::path::PathBuf;
 use std::process::ExitCode;
 use std::time::Duration;
@@ -10,7 +9,7 @@ use bench::compare::{self, first_difference, Subject, MOST_FAILURES};
 use bench::generate::Case;
 use bench::look::reached::{listed_of_pictures, listed_of_waves, Reached};
 use bench::look::{Generator, Window, TRACES, WINDOWS};
-use bench::program::Program;
+use bench::program::{input, not_so, words, Program};
 use bench::trace::PROGRAM_LIMIT;
 use bench::{hex, picture, say, waves};
 
@@ -43,36 +42,25 @@ struct Asked {
 }
 
 fn main() -> ExitCode {
-    let words: Vec<String> = std::env::args().skip(1).collect();
-    if let [option, path] = words.as_slice() {
-        if option == "--meaning" {
-            return means_the_same(path);
-        }
+    let words = words();
+    if let ["--meaning", path] = words[..] {
+        return means_the_same(path);
     }
     let asked = match asked(&words) {
         Ok(asked) => asked,
-        Err(why) => {
-            eprint!("look: {why}\n\n{USAGE}");
-            return ExitCode::from(2);
-        }
+        Err(why) => return not_so(&format!("look: {why}\n\n{USAGE}")),
     };
     let generator = Generator::new(asked.seed);
     let waves = compare_waves(&asked, &generator);
     let pictures = compare_pictures(&asked, &generator);
-    match waves && pictures {
-        true => ExitCode::SUCCESS,
-        false => ExitCode::FAILURE,
-    }
+    ExitCode::from(u8::from(!(waves && pictures)))
 }
 
 /// Compares a dump that some program wrote, by what it means.
 fn means_the_same(path: &str) -> ExitCode {
-    let mut dump = Vec::new();
-    let read = io::stdin().read_to_end(&mut dump);
-    let trace = read.and_then(|_| std::fs::read(path));
-    let compared = trace
-        .map_err(|error| error.to_string())
-        .and_then(|trace| waves::meaning(&dump, &waves::waves(&trace, PROGRAM_LIMIT)));
+    let trace = std::fs::read(path).map_err(|error| error.to_string());
+    let compared =
+        trace.and_then(|trace| waves::meaning(&input(), &waves::waves(&trace, PROGRAM_LIMIT)));
     match compared {
         Ok(waves::Compared { ticks, values, .. }) => {
             say!("{ticks} ticks, {values} values of signals");
@@ -85,8 +73,8 @@ fn means_the_same(path: &str) -> ExitCode {
     }
 }
 
-fn asked(words: &[String]) -> Result<Asked, String> {
-    let mut words = words.iter().map(String::as_str);
+fn asked(words: &[&str]) -> Result<Asked, String> {
+    let mut words = words.iter().copied();
     let (mut wave, mut picture, mut by) = (None, None, Vec::new());
     let (mut traces, mut windows, mut seed) = (TRACES, WINDOWS, 1);
     while let Some(option) = words.next() {

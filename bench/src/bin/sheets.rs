@@ -7,7 +7,7 @@ use std::path::Path;
 use std::process::ExitCode;
 
 use bench::compare::{first_difference, MOST_FAILURES};
-use bench::program::Program;
+use bench::program::{input, words, Program};
 use bench::say;
 use bench::sheet::figures::{due, figures};
 use bench::sheet::generate::{sample, Generator};
@@ -29,9 +29,7 @@ sheets --tables COUNT PATH WORD..          the same with the typed tables of COU
 type Outcome = Result<bool, Box<dyn Error>>;
 
 fn main() -> ExitCode {
-    let words: Vec<String> = std::env::args().skip(1).collect();
-    let words: Vec<&str> = words.iter().map(String::as_str).collect();
-    match asked(&words) {
+    match asked(&words()) {
         Ok(good) => ExitCode::from(u8::from(!good)),
         Err(error) => {
             eprintln!("sheets: {error}");
@@ -65,9 +63,7 @@ fn print_page(table: &str) -> Outcome {
 }
 
 fn print_table() -> Outcome {
-    let mut trace = Vec::new();
-    io::Read::read_to_end(&mut io::stdin(), &mut trace)?;
-    match table(&trace) {
+    match table(&input()) {
         Ok(text) => print!("{text}"),
         Err(line) => eprint!("{line}"),
     }
