@@ -151,24 +151,12 @@ fn hosts(kind: &str, deed: &str) -> Option<String> {
     Some(format!("{kind}: {verb} {many}"))
 }
 
-/// How many numbers are told of a word.
-const MASK: [&str; 5] = [
-    "none",
-    "fewer than eight",
-    "eight",
-    "nine",
-    "more than nine",
-];
-
 /// All items, each once.
 fn listed() -> &'static BTreeSet<String> {
     static LISTED: OnceLock<BTreeSet<String>> = OnceLock::new();
     LISTED.get_or_init(|| {
-        let kinds = CONTROLLERS.map(|(name, _)| name);
-        let lists: [(&str, &[&str]); 2] = [("kind", &kinds), ("mask", &MASK)];
-        let items = patterns::items(include_str!("items.txt"), &lists);
+        let items = patterns::items(include_str!("items.txt")).into_iter();
         items
-            .into_iter()
             .chain(Kind::ALL.into_iter().flat_map(registers))
             .collect()
     })

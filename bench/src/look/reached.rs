@@ -179,10 +179,10 @@ fn open_before(window: &Window, first: u32) -> usize {
 
 /// All that waves should have reached.
 pub fn listed_of_waves() -> Vec<String> {
-    items(include_str!("waves.txt"), &[])
+    items(include_str!("waves.txt"))
 }
 
 /// All that pictures should have reached.
 pub fn listed_of_pictures() -> Vec<String> {
-    items(include_str!("pictures.txt"), &[])
+    items(include_str!("pictures.txt"))
 }

@@ -14,6 +14,7 @@ const ENTRIES: u32 = 8;
 const REMEMBERED: u32 = 1 << 16;
 
 /// The state, and below it what is worked out from it whenever it changes.
+#[derive(Hash)]
 pub struct Aic {
     external: u32,
     lines: u32,
@@ -300,25 +301,7 @@ impl Device for Aic {
     }
 
     fn digest(&self) -> u64 {
-        let words = [
-            self.external,
-            self.lines,
-            self.edge,
-            self.low,
-            self.memory,
-            self.enabled,
-            self.forced,
-            u32::from(self.masked),
-            u32::from(self.protected),
-            self.remembered,
-            self.spurious,
-            self.depth,
-            self.normal,
-            self.fast,
-        ];
-        let narrow = words.into_iter().chain(self.registers);
-        let narrow = narrow.chain(self.priorities).map(u64::from);
-        mixed(narrow.chain([self.sources, self.floors]))
+        mixed(self)
     }
 }
 

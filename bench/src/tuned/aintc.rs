@@ -81,6 +81,7 @@ fn refusal_at(offset: u32, else_for: Refusal) -> Refusal {
 }
 
 /// The whole controller.
+#[derive(Hash)]
 pub struct Aintc {
     registers: [u32; SLOTS],
     /// Bits 6 to 0 of the priorities, for inputs 0 to 63 and 64 to 127.
@@ -302,8 +303,7 @@ impl Device for Aintc {
     }
 
     fn digest(&self) -> u64 {
-        let registers = self.registers.into_iter().map(u64::from);
-        mixed(registers.chain(self.priorities.into_iter().flatten()))
+        mixed(self)
     }
 }
 
