@@ -238,6 +238,13 @@ fn nothing_at(offset: u32) -> Refusal {
     }
 }
 
+/// Puts the lowest bit of a word at a place of another, which is modulo 32.
+#[inline(always)]
+fn put_bit(word: &mut u32, place: u32, bit: u32) {
+    let place = place % 32;
+    *word = *word & !(1 << place) | (bit & 1) << place;
+}
+
 /// Words mixed into one that depends on each and on their order.
 struct Mixed(u64);
 

@@ -3,7 +3,7 @@
 
 use super::reader::{Fault, Reader};
 use super::text::{show_few, Line};
-use super::{mixed, nothing_at, Device, Done};
+use super::{mixed, nothing_at, put_bit, Device, Done};
 use crate::model::{Answer, Kind, Refusal};
 
 /// With so many entries open nothing more opens (02, 3/12).
@@ -303,10 +303,4 @@ impl Device for Aic {
     fn digest(&self) -> u64 {
         mixed(self)
     }
-}
-
-/// Puts the lowest bit of a word at the place of a source.
-#[inline(always)]
-fn put_bit(word: &mut u32, source: u32, bit: u32) {
-    *word = *word & !(1 << source) | (bit & 1) << source;
 }

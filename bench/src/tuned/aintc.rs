@@ -3,7 +3,7 @@
 //! the priorities and not over the inputs (000, chapter 4; 02, 2/12).
 
 use super::text::{show_input, Line};
-use super::{mixed, nothing_at, Device, Done};
+use super::{mixed, nothing_at, put_bit, Device, Done};
 use crate::model::aintc::{INPUTS, NO_THRESHOLD};
 use crate::model::{Access, Answer, Kind, Refusal, PRIVILEGED};
 
@@ -204,7 +204,7 @@ impl Aintc {
             *bits = *bits & !(1 << (input % 64)) | bit << (input % 64);
         }
         let bank = self.bank(input / 32);
-        put_bit(&mut bank[ROUTES], input, value);
+        put_bit(&mut bank[ROUTES], input as u32, value);
         renew(bank);
     }
 
@@ -281,7 +281,7 @@ impl Device for Aintc {
             return Err(Refusal::OutOfRange);
         }
         let bank = self.bank(input / 32);
-        put_bit(&mut bank[ITR], input, level);
+        put_bit(&mut bank[ITR], line, level);
         renew(bank);
         let side = (bank[ROUTES] >> (input % 32) & 1) as usize;
         let raised = bank[ITR] & !bank[MIR] & 1 << (input % 32) != 0;
@@ -323,11 +323,4 @@ fn first_of(priorities: &[u64; 7], mut among: u64) -> usize {
         among = if smaller != 0 { smaller } else { among };
     }
     63 - among.leading_zeros() as usize % 64
-}
-
-/// Puts the lowest bit of a word at the place of an input.
-#[inline(always)]
-fn put_bit(word: &mut u32, input: usize, bit: u32) {
-    let place = input % 32;
-    *word = *word & !(1 << place) | (bit & 1) << place;
 }
