@@ -17,7 +17,7 @@ pub trait Kept {
     fn new() -> Self;
 
     /// A system of a channel and of the host of that turned active, or is so no more.
-    fn turn(&mut self, channel: u8, host: u8, active: bool);
+    fn turn(&mut self, _channel: u8, _host: u8, _active: bool) {}
 
     /// A word of status or enables was written.
     fn change(&mut self, _word: usize) {}
@@ -26,10 +26,10 @@ pub trait Kept {
     fn remap(&mut self, _system: usize, _before: u8, _after: u8) {}
 
     /// A channel is led to another host than before.
-    fn lead(&mut self, channel: usize, before: u8, after: u8);
+    fn lead(&mut self, _channel: usize, _before: u8, _after: u8) {}
 
     /// After a change of the enables of hosts.
-    fn allow(&mut self, host_enable: &[u32; 8], all: bool);
+    fn allow(&mut self, _host_enable: &[u32; 8], _all: bool) {}
 
     /// How many hosts are asserted, and the lowest.
     fn shown(&self) -> (usize, usize);
@@ -39,12 +39,6 @@ impl Kept for () {
     const TURNS: bool = false;
 
     fn new() {}
-
-    fn turn(&mut self, _: u8, _: u8, _: bool) {}
-
-    fn lead(&mut self, _: usize, _: u8, _: u8) {}
-
-    fn allow(&mut self, _: &[u32; 8], _: bool) {}
 
     fn shown(&self) -> (usize, usize) {
         (0, NO_HOST)
