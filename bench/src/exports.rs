@@ -179,31 +179,16 @@ pub fn looked(question: &Question) -> Outcome {
 
 /// What the library writes the figures of a trace into: for each source the handlers started, the most of others started
 /// while it waited, and the most entries.
-#[derive(Clone, Copy, Debug, PartialEq, Eq)]
-pub struct Words {
-    pub started: OfSources,
-    pub waited: OfSources,
-    pub entries: OfSources,
-}
+pub type Words = [OfSources; 3];
 
-impl Words {
-    /// No figure has this value, so that a word that is not written differs.
-    pub const UNTOUCHED: Words = {
-        let words = [0xA5A5_A5A5; SOURCES];
-        Words {
-            started: words,
-            waited: words,
-            entries: words,
-        }
-    };
-}
+/// No figure has this value, so that a word that is not written differs.
+pub const UNTOUCHED: Words = [[0xA5A5_A5A5; SOURCES]; 3];
 
 /// Fills the words with the figures of a trace, and answers how many steps were refused.
-pub fn figures_into(trace: &[u8], limit: u32, words: &mut Words) -> u32 {
+pub fn figures_into(trace: &[u8], limit: u32, [started, waited, entries]: &mut Words) -> u32 {
     let (bytes, length) = (trace.as_ptr(), trace.len());
-    let (started, waited) = (&mut words.started, &mut words.waited);
     // The first pointer comes from a slice of the length that goes with it; the others lead to three arrays apart.
-    unsafe { wisteria_figures(bytes, length, limit, started, waited, &mut words.entries) }
+    unsafe { wisteria_figures(bytes, length, limit, started, waited, entries) }
 }
 
 /// The waits of a source over a trace: the counts, the terms of the largest bound, and this bound.
@@ -218,15 +203,16 @@ pub fn bounds_of(trace: &[u8], limit: u32, source: u32) -> ([u32; 4], [u32; 6], 
 
 /// The figures of a trace.
 pub fn figures_of(trace: &[u8], limit: u32) -> Figures {
-    let mut words = Words::UNTOUCHED;
+    let mut words = UNTOUCHED;
     let refused = figures_into(trace, limit, &mut words);
+    let [started, waited, entries] = words;
     Figures {
         steps: steps_of(trace, limit),
         refused,
         sources: std::array::from_fn(|source| Counts {
-            started: words.started[source],
-            waited: words.waited[source],
-            entries: words.entries[source],
+            started: started[source],
+            waited: waited[source],
+            entries: entries[source],
         }),
     }
 }

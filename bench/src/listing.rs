@@ -2,7 +2,7 @@
 
 use std::io::Write;
 
-use crate::model::{Answer, Machine, Recorded, Step};
+use crate::model::{Answer, Machine, Recorded};
 use crate::trace::{play, Observer, Report};
 
 /// The listing of a trace that is played up to a number of steps.
@@ -25,7 +25,7 @@ impl Observer for Text {
 
     fn after(&mut self, machine: &Machine, number: u32, recorded: Recorded, answer: Answer) {
         let (letter, value) = match answer {
-            Ok(value) => (letter(recorded.step), value),
+            Ok(value) => (recorded.step.letter(), value),
             Err(refusal) => ('X', refusal.number()),
         };
         let [first, second, third] = machine.shown();
@@ -45,15 +45,6 @@ impl Observer for Text {
 impl Text {
     fn line(&mut self, line: std::fmt::Arguments) {
         writeln!(self.bytes, "{line}").expect("a vector takes all bytes");
-    }
-}
-
-/// The letter of a step that is carried out.
-fn letter(step: Step) -> char {
-    match step {
-        Step::Read { .. } => 'R',
-        Step::Write { .. } => 'W',
-        Step::Line { .. } => 'L',
     }
 }
 

@@ -90,7 +90,8 @@ impl Generator {
         let steps = random_steps(random, (played + 1).saturating_sub(first));
         let (mut first, mut steps) = (first.to_string(), steps.to_string());
         if random.one_in(40) {
-            let word = random.pick(&NO_NUMBERS).to_string();
+            let words: Vec<&str> = NO_NUMBERS.split('|').collect();
+            let word = random.pick(&words).to_string();
             match random.one_in(2) {
                 true => first = word,
                 false => steps = word,
@@ -130,17 +131,8 @@ fn random_steps(random: &mut Random, rest: u32) -> u32 {
 }
 
 /// Words that are no numbers, or too large for any.
-const NO_NUMBERS: [&str; 9] = [
-    "x",
-    "",
-    "-1",
-    "1x",
-    "1 2",
-    "0x10",
-    "4294967297",
-    "18446744073709551617",
-    "99999999999999999999999999999999",
-];
+const NO_NUMBERS: &str =
+    "x||-1|1x|1 2|0x10|4294967297|18446744073709551617|99999999999999999999999999999999";
 
 /// A trace of an AIC, of at most about so many steps; one in eight is damaged.
 fn of_aic(random: &mut Random, most: u32) -> Case {

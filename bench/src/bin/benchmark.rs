@@ -19,13 +19,9 @@ use bench::exports as proved;
 /// Where the proved library is not linked in there is nothing to do.
 #[cfg(not(feature = "exports"))]
 mod proved {
-    pub struct Words;
+    pub const UNTOUCHED: () = ();
 
-    impl Words {
-        pub const UNTOUCHED: Words = Words;
-    }
-
-    pub fn figures_into(_: &[u8], _: u32, _: &mut Words) -> u32 {
+    pub fn figures_into(_: &[u8], _: u32, _: &mut ()) -> u32 {
         0
     }
 
@@ -312,7 +308,7 @@ fn figures_row(workload: &Workload, times: &Times, rounds: usize) -> String {
         proved::figures_of(trace, PROGRAM_LIMIT) == figures,
         "the figures differ"
     );
-    let mut words = proved::Words::UNTOUCHED;
+    let mut words = proved::UNTOUCHED;
     let sides: [Box<dyn FnMut()>; 2] = [
         Box::new(|| {
             black_box(proved::figures_into(

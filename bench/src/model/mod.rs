@@ -21,6 +21,17 @@ pub enum Step {
     Line { line: u32, level: u32 },
 }
 
+impl Step {
+    /// The letter that the listing gives a step that is carried out (01, house trace).
+    pub fn letter(self) -> char {
+        match self {
+            Step::Read { .. } => 'R',
+            Step::Write { .. } => 'W',
+            Step::Line { .. } => 'L',
+        }
+    }
+}
+
 /// The privilege of a step where the trace says none, or of an access that says it is privileged (02, 2/12).
 pub const PRIVILEGED: u32 = 1;
 

@@ -109,7 +109,6 @@ fn hold(
 fn declarations(dump: &Dump, kind: Option<Kind>) -> Result<(), String> {
     let signals = kind.map_or(Vec::new(), super::signals::signals);
     let codes: Vec<String> = (0..signals.len()).map(|n| code(n).to_string()).collect();
-    declared_once(dump)?;
     let mut expected = vec![
         Declared::Comment(TICKS.split(' ').collect()),
         Declared::Timescale("1ns".to_string()),
@@ -127,32 +126,13 @@ fn declarations(dump: &Dump, kind: Option<Kind>) -> Result<(), String> {
         }
         expected.push(Declared::Upscope);
     }
-    for (nth, expected) in expected.iter().enumerate() {
-        match dump.declared.get(nth) {
-            Some(declared) if declared == expected => {}
-            other => return Err(format!("declared {other:?}, expected {expected:?}")),
-        }
+    match dump.declared == expected {
+        true => Ok(()),
+        false => Err(format!(
+            "declared {:?}, expected {expected:?}",
+            dump.declared
+        )),
     }
-    match dump.declared.get(expected.len()) {
-        Some(more) => Err(format!("declared {more:?} beside all others")),
-        None => Ok(()),
-    }
-}
-
-/// No two variables have one code, and no two one name.
-fn declared_once(dump: &Dump) -> Result<(), String> {
-    let mut seen: Vec<&Variable> = Vec::new();
-    for declared in &dump.declared {
-        let Declared::Variable(variable) = declared else {
-            continue;
-        };
-        let same = |other: &&Variable| other.code == variable.code || other.name == variable.name;
-        if seen.iter().any(same) {
-            return Err(format!("{} is declared twice", variable.name));
-        }
-        seen.push(variable);
-    }
-    Ok(())
 }
 
 /// The ticks are all there, from 0 on; the values of the first one stand in `$dumpvars`, and behind it only changes, each

@@ -85,13 +85,9 @@ impl Waves {
     }
 }
 
-/// The letter that the listing gives a step that is carried out (01, house trace).
+/// The letter of a step as a number.
 pub fn letter(step: Step) -> u32 {
-    u32::from(match step {
-        Step::Read { .. } => b'R',
-        Step::Write { .. } => b'W',
-        Step::Line { .. } => b'L',
-    })
+    u32::from(step.letter())
 }
 
 /// What the signals of the controller itself are worth now.
