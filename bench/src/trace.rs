@@ -356,6 +356,7 @@ fn stopped(refusal: Refusal, offset: usize) -> Fault {
 #[cfg(test)]
 mod tests {
     use super::*;
+    use crate::listing::listing;
 
     /// Values at the ends of what one byte to five can say.
     const ENDS: [(u32, usize); 11] = [
@@ -447,9 +448,13 @@ mod tests {
             let played = play(&trace, limit as u32, &mut ()).steps;
             let (expected, end) = ((refusal as u32, offset), ending(&trace, limit as u32));
             assert_eq!((played as usize, end), (steps, expected), "{line}");
+            if let Some(lines) = cells.get(2) {
+                let expected = lines.trim().replace(" / ", "\n") + "\n";
+                assert_eq!(listing(&trace, limit as u32), expected.as_bytes(), "{line}");
+            }
             count += 1;
         }
-        assert_eq!(count, 71);
+        assert_eq!(count, 85);
     }
 
     #[test]
