@@ -137,11 +137,10 @@ fn print_tables<'a>(
 
 fn build() -> String {
     let architecture = std::env::consts::ARCH;
-    let exports = match cfg!(feature = "exports") {
+    let alone = "without the proved library (feature `exports`), so the Rust sides are timed alone";
+    let exports = match LINKED {
         true => "with the proved library linked in",
-        false => {
-            "without the proved library (feature `exports`), so the Rust sides are timed alone"
-        }
+        false => alone,
     };
     let debug = match cfg!(debug_assertions) {
         true => ", and NOT a release build",
@@ -234,10 +233,10 @@ fn measure(workload: &Workload, rounds: usize) -> Times {
         plays(play_model, trace),
         plays(play_tuned, trace),
     ];
-    let [a, b, c, d, std_text, play @ ..] = fastest(rounds, sides);
+    let [proved, plain, model, tuned, std_text, play @ ..] = fastest(rounds, sides);
     Times {
         listing_bytes: listing.len(),
-        listing: [a, b, c, d],
+        listing: [proved, plain, model, tuned],
         std_text,
         play,
     }

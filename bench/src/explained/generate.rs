@@ -13,9 +13,10 @@ use crate::typed::{encode, STEPS};
 
 impl Made for Asked {
     fn sweeps() -> Vec<Asked> {
-        let listed = Case::sweeps()
-            .into_iter()
-            .map(|case| Asked { case, window: None });
+        let of_listings = Case::sweeps().into_iter();
+        let mut sweeps: Vec<Asked> = of_listings
+            .map(|case| Asked { case, window: None })
+            .collect();
         let own = [
             starts_and_remembers(),
             accesses_by_privilege(),
@@ -23,10 +24,9 @@ impl Made for Asked {
             hosts(Kind::Indexed),
         ];
         let own = own.into_iter().map(|script| script.bytes).chain(typed());
-        listed
-            .chain(own.map(|trace| of(trace, None)))
-            .chain(windows())
-            .collect()
+        sweeps.extend(own.map(|trace| of(trace, None)));
+        sweeps.extend(windows());
+        sweeps
     }
 
     /// Any trace of the listings, and of some a part.

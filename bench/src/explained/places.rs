@@ -98,7 +98,7 @@ impl Register {
 }
 
 /// The CIC that a machine is or has.
-pub fn cic_of(machine: &Machine) -> Option<&Cic> {
+fn cic_of(machine: &Machine) -> Option<&Cic> {
     match machine {
         Machine::Cic(cic) => Some(cic),
         Machine::Indexed(indexed) => Some(indexed.cic()),
@@ -126,11 +126,13 @@ pub fn register(machine: &Machine, offset: u32) -> Option<Register> {
     groups(kind).iter().find_map(|group| {
         let beyond = offset.checked_sub(group.first)?;
         let number = beyond / group.apart;
+        if beyond % group.apart != 0 || number >= group.many {
+            return None;
+        }
         let register = Register { group, number };
         let about = register.about(machine);
         let there = about.is_none_or(|(_, first, count)| first < count);
-        let at = beyond % group.apart == 0 && number < group.many;
-        (at && (there || kind == Kind::Core)).then_some(register)
+        (there || kind == Kind::Core).then_some(register)
     })
 }
 
@@ -144,11 +146,8 @@ pub fn accessed(machine: &Machine, step: Step) -> Option<Register> {
 
 /// The register with its section, or the line by what the maker calls it; nothing where there is neither.
 pub fn place(told: &Told) -> String {
-    let (register, step) = (
-        accessed(told.before, told.recorded.step),
-        told.recorded.step,
-    );
-    match (register, step) {
+    let step = told.recorded.step;
+    match (accessed(told.before, step), step) {
         (_, Step::Line { line, .. }) => named_line(told.before, line),
         (Some(register), Step::Write { .. }) => at(&register, register.group.write),
         (Some(register), _) => at(&register, register.group.read),

@@ -155,10 +155,9 @@ fn hosts(kind: &str, deed: &str) -> Option<String> {
 fn listed() -> &'static BTreeSet<String> {
     static LISTED: OnceLock<BTreeSet<String>> = OnceLock::new();
     LISTED.get_or_init(|| {
-        let items = patterns::items(include_str!("items.txt")).into_iter();
-        items
-            .chain(Kind::ALL.into_iter().flat_map(registers))
-            .collect()
+        let mut items = patterns::items(include_str!("items.txt"));
+        items.extend(Kind::ALL.into_iter().flat_map(registers));
+        items.into_iter().collect()
     })
 }
 

@@ -58,13 +58,12 @@ pub fn meaning(text: &[u8], nesting: &Nesting) -> Result<Compared, String> {
         let (found, expected) = (facts.get(at), expected.get(at));
         return Err(format!("{found:?}, expected {expected:?}"));
     }
-    let outputs = columns.iter().flat_map(|column| [column.irq, column.fiq]);
-    let refused = columns.iter().filter_map(|column| column.refused);
+    let found = |what: &str| facts.iter().filter(|fact| fact.contains(what)).count();
     Ok(Compared {
         columns: columns.len(),
-        bars: nesting.bars.len(),
-        boxes: outputs.filter(|&active| active).count(),
-        refused: refused.count(),
+        bars: found("a bar of"),
+        boxes: found("a dark box"),
+        refused: found("refused by"),
     })
 }
 
