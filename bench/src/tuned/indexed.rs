@@ -58,20 +58,6 @@ impl Waiting {
         *channels = *channels & !(1 << (nth % 64)) | any << (nth % 64);
     }
 
-    /// A system that is sorted goes from one channel to another.
-    fn remap(&mut self, system: usize, before: u8, after: u8) {
-        if self.sorted[system / 32 % 32] >> (system % 32) & 1 == 1 {
-            self.flip(system, before);
-            self.flip(system, after);
-        }
-    }
-
-    fn lead(&mut self, channel: usize, before: u8, after: u8) {
-        let (word, bit) = (channel / 64 % 4, 1 << (channel % 64));
-        self.led[usize::from(before)][word] &= !bit;
-        self.led[usize::from(after)][word] |= bit;
-    }
-
     /// The word of an index over some channels: the lowest of them with an active system, and of it the lowest system.
     fn first(&self, over: &[u64; 4]) -> u32 {
         for (nth, &over) in over.iter().enumerate() {
@@ -110,13 +96,19 @@ impl<K: Kept> Kept for (K, Waiting) {
         self.1.written |= 1 << (word % 32);
     }
 
+    /// One that is sorted goes from one channel to another.
     fn remap(&mut self, system: usize, before: u8, after: u8) {
-        self.1.remap(system, before, after);
+        if self.1.sorted[system / 32 % 32] >> (system % 32) & 1 == 1 {
+            self.1.flip(system, before);
+            self.1.flip(system, after);
+        }
     }
 
     fn lead(&mut self, channel: usize, before: u8, after: u8) {
         self.0.lead(channel, before, after);
-        self.1.lead(channel, before, after);
+        let (word, bit) = (channel / 64 % 4, 1 << (channel % 64));
+        self.1.led[usize::from(before)][word] &= !bit;
+        self.1.led[usize::from(after)][word] |= bit;
     }
 
     fn allow(&mut self, host_enable: &[u32; 8], all: bool) {
