@@ -13,8 +13,6 @@ mod indexed;
 mod reader;
 mod text;
 
-use std::hash::{Hash, Hasher};
-
 use self::aic::Aic;
 use self::aintc::Aintc;
 use self::cic::{Cic, Kept};
@@ -238,33 +236,9 @@ fn nothing_at(offset: u32) -> Refusal {
     }
 }
 
-/// Puts the lowest bit of a word at a place of another, which is modulo 32.
-#[inline(always)]
-fn put_bit(word: &mut u32, place: u32, bit: u32) {
-    let place = place % 32;
-    *word = *word & !(1 << place) | (bit & 1) << place;
-}
-
-/// Words mixed into one that depends on each and on their order.
-struct Mixed(u64);
-
-impl Hasher for Mixed {
-    fn write(&mut self, bytes: &[u8]) {
-        for word in bytes.chunks(8) {
-            let word = word
-                .iter()
-                .fold(0, |word, &byte| word << 8 | u64::from(byte));
-            self.0 = (self.0.rotate_left(23) ^ word).wrapping_mul(0x9E37_79B9_7F4A_7C15);
-        }
-    }
-
-    fn finish(&self) -> u64 {
-        self.0
-    }
-}
-
-fn mixed(state: impl Hash) -> u64 {
-    let mut mixed = Mixed(0);
-    state.hash(&mut mixed);
-    mixed.finish()
+/// Mixes words into one that depends on each and on their order.
+fn mixed(words: impl IntoIterator<Item = u64>) -> u64 {
+    words.into_iter().fold(0, |mix: u64, word| {
+        (mix.rotate_left(23) ^ word).wrapping_mul(0x9E37_79B9_7F4A_7C15)
+    })
 }

@@ -3,7 +3,7 @@
 
 use super::reader::{Fault, Reader};
 use super::text::{show_few, Line};
-use super::{mixed, nothing_at, put_bit, Device, Done};
+use super::{mixed, nothing_at, Device, Done};
 use crate::model::{Answer, Kind, Refusal};
 
 /// With so many entries open nothing more opens (02, 3/12).
@@ -14,7 +14,6 @@ const ENTRIES: u32 = 8;
 const REMEMBERED: u32 = 1 << 16;
 
 /// The state, and below it what is worked out from it whenever it changes.
-#[derive(Default, Hash)]
 pub struct Aic {
     external: u32,
     lines: u32,
@@ -33,7 +32,7 @@ pub struct Aic {
     remembered: u32,
     spurious: u32,
     /// The 32 modes and behind them the 32 vectors, as they are read.
-    registers: [[u32; 32]; 2],
+    registers: [u32; 64],
     /// The open entries, a byte each, the last one lowest: the source, or 0 for a mark.
     sources: u64,
     /// Likewise the level of each, plus 1; 0 for none.
@@ -54,8 +53,22 @@ impl Aic {
         Ok(Aic {
             external,
             lines,
+            edge: 0,
             low: external,
-            ..Aic::default()
+            memory: 0,
+            enabled: 0,
+            forced: 0,
+            masked: false,
+            protected: false,
+            remembered: 0,
+            spurious: 0,
+            registers: [0; 64],
+            sources: 0,
+            floors: 0,
+            depth: 0,
+            priorities: [0; 3],
+            normal: 0,
+            fast: 0,
         })
     }
 
@@ -145,13 +158,13 @@ impl Aic {
             return self.spurious;
         }
         let source = self.first(candidates);
-        let floor = (self.registers[0][source as usize] & 7) + 1;
+        let floor = (self.registers[source as usize] & 7) + 1;
         if self.protected {
             self.remembered = REMEMBERED | floor << 8 | source;
         } else {
             self.start(source, floor);
         }
-        self.registers[1][source as usize]
+        self.registers[32 + source as usize]
     }
 
     #[inline(always)]
@@ -185,7 +198,7 @@ impl Aic {
         if self.forced == 0 {
             self.memory &= !1;
         }
-        self.registers[1][0]
+        self.registers[32]
     }
 
     /// A new type forgets the edge, a new priority alone does not.
@@ -193,7 +206,7 @@ impl Aic {
         let source = source % 32;
         let bit = 1 << source;
         let mode = value & 0x67;
-        let before = std::mem::replace(&mut self.registers[0][source as usize], mode);
+        let before = std::mem::replace(&mut self.registers[source as usize], mode);
         if (before ^ mode) & 0x60 != 0 {
             self.memory &= !bit;
         }
@@ -227,7 +240,7 @@ impl Device for Aic {
     #[inline(always)]
     fn read(&mut self, offset: u32, _: u32) -> Answer {
         if offset < 0x100 && offset.is_multiple_of(4) {
-            return Ok(self.registers.as_flattened()[offset as usize / 4]);
+            return Ok(self.registers[offset as usize / 4]);
         }
         Ok(match offset {
             0x100 => self.read_ivr(),
@@ -251,7 +264,7 @@ impl Device for Aic {
         match offset {
             0x000..=0x0FC if offset.is_multiple_of(4) => match offset / 4 {
                 source @ 0..32 => self.write_mode(source, value),
-                vector => self.registers[1][vector as usize % 32] = value,
+                vector => self.registers[vector as usize % 64] = value,
             },
             0x100 => self.write_ivr(),
             0x120 => self.command(|aic| aic.enabled |= value),
@@ -287,6 +300,30 @@ impl Device for Aic {
     }
 
     fn digest(&self) -> u64 {
-        mixed(self)
+        let words = [
+            self.external,
+            self.lines,
+            self.edge,
+            self.low,
+            self.memory,
+            self.enabled,
+            self.forced,
+            u32::from(self.masked),
+            u32::from(self.protected),
+            self.remembered,
+            self.spurious,
+            self.depth,
+            self.normal,
+            self.fast,
+        ];
+        let narrow = words.into_iter().chain(self.registers);
+        let narrow = narrow.chain(self.priorities).map(u64::from);
+        mixed(narrow.chain([self.sources, self.floors]))
     }
+}
+
+/// Puts the lowest bit of a word at the place of a source.
+#[inline(always)]
+fn put_bit(word: &mut u32, source: u32, bit: u32) {
+    *word = *word & !(1 << source) | (bit & 1) << source;
 }

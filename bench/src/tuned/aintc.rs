@@ -3,7 +3,7 @@
 //! the priorities and not over the inputs (000, chapter 4; 02, 2/12).
 
 use super::text::{show_input, Line};
-use super::{mixed, nothing_at, put_bit, Device, Done};
+use super::{mixed, nothing_at, Device, Done};
 use crate::model::aintc::{INPUTS, NO_THRESHOLD};
 use crate::model::{Access, Answer, Kind, Refusal, PRIVILEGED};
 
@@ -81,7 +81,6 @@ fn refusal_at(offset: u32, else_for: Refusal) -> Refusal {
 }
 
 /// The whole controller.
-#[derive(Hash)]
 pub struct Aintc {
     registers: [u32; SLOTS],
     /// Bits 6 to 0 of the priorities, for inputs 0 to 63 and 64 to 127.
@@ -204,7 +203,7 @@ impl Aintc {
             *bits = *bits & !(1 << (input % 64)) | bit << (input % 64);
         }
         let bank = self.bank(input / 32);
-        put_bit(&mut bank[ROUTES], input as u32, value);
+        put_bit(&mut bank[ROUTES], input, value);
         renew(bank);
     }
 
@@ -281,7 +280,7 @@ impl Device for Aintc {
             return Err(Refusal::OutOfRange);
         }
         let bank = self.bank(input / 32);
-        put_bit(&mut bank[ITR], line, level);
+        put_bit(&mut bank[ITR], input, level);
         renew(bank);
         let side = (bank[ROUTES] >> (input % 32) & 1) as usize;
         let raised = bank[ITR] & !bank[MIR] & 1 << (input % 32) != 0;
@@ -303,7 +302,8 @@ impl Device for Aintc {
     }
 
     fn digest(&self) -> u64 {
-        mixed(self)
+        let registers = self.registers.into_iter().map(u64::from);
+        mixed(registers.chain(self.priorities.into_iter().flatten()))
     }
 }
 
@@ -323,4 +323,11 @@ fn first_of(priorities: &[u64; 7], mut among: u64) -> usize {
         among = if smaller != 0 { smaller } else { among };
     }
     63 - among.leading_zeros() as usize % 64
+}
+
+/// Puts the lowest bit of a word at the place of an input.
+#[inline(always)]
+fn put_bit(word: &mut u32, input: usize, bit: u32) {
+    let place = input % 32;
+    *word = *word & !(1 << place) | (bit & 1) << place;
 }

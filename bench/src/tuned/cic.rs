@@ -17,7 +17,7 @@ pub trait Kept {
     fn new() -> Self;
 
     /// A system of a channel and of the host of that turned active, or is so no more.
-    fn turn(&mut self, _channel: u8, _host: u8, _active: bool) {}
+    fn turn(&mut self, channel: u8, host: u8, active: bool);
 
     /// A word of status or enables was written.
     fn change(&mut self, _word: usize) {}
@@ -26,10 +26,10 @@ pub trait Kept {
     fn remap(&mut self, _system: usize, _before: u8, _after: u8) {}
 
     /// A channel is led to another host than before.
-    fn lead(&mut self, _channel: usize, _before: u8, _after: u8) {}
+    fn lead(&mut self, channel: usize, before: u8, after: u8);
 
     /// After a change of the enables of hosts.
-    fn allow(&mut self, _host_enable: &[u32; 8], _all: bool) {}
+    fn allow(&mut self, host_enable: &[u32; 8], all: bool);
 
     /// How many hosts are asserted, and the lowest.
     fn shown(&self) -> (usize, usize);
@@ -39,6 +39,12 @@ impl Kept for () {
     const TURNS: bool = false;
 
     fn new() {}
+
+    fn turn(&mut self, _: u8, _: u8, _: bool) {}
+
+    fn lead(&mut self, _: usize, _: u8, _: u8) {}
+
+    fn allow(&mut self, _: &[u32; 8], _: bool) {}
 
     fn shown(&self) -> (usize, usize) {
         (0, NO_HOST)
@@ -74,6 +80,7 @@ pub struct Outputs {
 }
 
 impl Outputs {
+    #[inline(always)]
     fn add(&mut self, host: u8, systems: u16) {
         let before = self.of_host[usize::from(host)];
         self.of_host[usize::from(host)] = before.wrapping_add(systems);
@@ -82,6 +89,7 @@ impl Outputs {
         }
     }
 
+    #[inline(always)]
     fn take(&mut self, host: u8, systems: u16) {
         let after = self.of_host[usize::from(host)].wrapping_sub(systems);
         self.of_host[usize::from(host)] = after;
@@ -91,6 +99,7 @@ impl Outputs {
     }
 
     /// A host is reached now and was not, or the other way round.
+    #[inline(always)]
     fn flip(&mut self, host: u8) {
         let (word, bit) = (usize::from(host / 64), host % 64);
         self.reached[word] ^= 1 << bit;
@@ -101,6 +110,7 @@ impl Outputs {
         self.asserted = self.asserted.wrapping_add(allowed * change);
     }
 
+    #[inline(always)]
     fn lowest(&self) -> usize {
         for word in 0..4 {
             let asserted = self.reached[word] & self.allowed[word];
@@ -125,6 +135,7 @@ impl Kept for Outputs {
         }
     }
 
+    #[inline(always)]
     fn turn(&mut self, channel: u8, host: u8, active: bool) {
         let count = &mut self.of_channel[usize::from(channel)];
         if active {
@@ -137,6 +148,7 @@ impl Kept for Outputs {
     }
 
     /// The active systems of the channel go along.
+    #[inline(always)]
     fn lead(&mut self, channel: usize, before: u8, after: u8) {
         let systems = self.of_channel[channel % 256];
         if systems != 0 {
@@ -154,6 +166,7 @@ impl Kept for Outputs {
         }
     }
 
+    #[inline(always)]
     fn shown(&self) -> (usize, usize) {
         (self.asserted as usize, self.lowest())
     }
@@ -182,12 +195,14 @@ impl<K: Kept> Cic<K> {
     }
 
     /// Tells of a system of a channel that turned active, or of one that is so no more.
+    #[inline(always)]
     fn turn(&mut self, channel: u8, active: bool) {
         let host = self.host_of_channel[usize::from(channel)];
         self.kept.turn(channel, host, active);
     }
 
     /// Tells of the systems of a word that are turned by a change of its status or enables.
+    #[inline(always)]
     fn turn_all(&mut self, word: usize, before: u32) {
         self.kept.change(word);
         if !K::TURNS {
@@ -199,11 +214,13 @@ impl<K: Kept> Cic<K> {
         each_bit(before & !after, |bit| self.turn(channel(self, bit), false));
     }
 
+    #[inline(always)]
     fn active(&self, word: usize) -> u32 {
         self.status[word % 32] & self.enable[word % 32]
     }
 
     /// Puts the bit of a system in the words of status or enables; the other words say whether that turns it.
+    #[inline(always)]
     fn put(&mut self, which: Which, system: u32, value: bool) {
         let (word, bit) = (system as usize / 32 % 32, 1 << (system % 32));
         let (words, others) = match which {
@@ -220,6 +237,7 @@ impl<K: Kept> Cic<K> {
     }
 
     /// The same for the system that the whole value names, which must exist.
+    #[inline(always)]
     fn put_index(&mut self, which: Which, index: u32, value: bool) -> Done {
         if index >= self.systems {
             return Err(Refusal::OutOfRange);
@@ -289,6 +307,7 @@ impl<K: Kept> Cic<K> {
     }
 
     /// The registers below 0x80.
+    #[inline(always)]
     fn read_low(&self, offset: u32) -> Answer {
         match offset {
             0x000 => Ok(self.revision),
@@ -298,6 +317,7 @@ impl<K: Kept> Cic<K> {
         }
     }
 
+    #[inline(always)]
     fn write_low(&mut self, offset: u32, value: u32) -> Done {
         match offset {
             0x010 => {
@@ -318,6 +338,7 @@ impl<K: Kept> Cic<K> {
 
     /// The group of a register by its offset in pieces of 0x80, and its number in the group; a register exists if its
     /// first bit or byte is below the count it goes by.
+    #[inline(always)]
     fn group(&self, offset: u32) -> Option<(Group, usize)> {
         let (group, nth, count) = match offset >> 7 {
             at @ RAW_SET..=ENABLE_CLEAR => (Group::Words(at), 8 * (offset & 0x7F), self.systems),
@@ -356,6 +377,7 @@ const ENABLE_CLEAR: u32 = 7;
 impl<K: Kept> Device for Cic<K> {
     const KIND: Kind = Kind::Cic;
 
+    #[inline(always)]
     fn read(&mut self, offset: u32, _: u32) -> Answer {
         if offset < 0x80 {
             return self.read_low(offset);
@@ -373,6 +395,7 @@ impl<K: Kept> Device for Cic<K> {
         })
     }
 
+    #[inline(always)]
     fn write(&mut self, offset: u32, value: u32, _: u32) -> Done {
         if offset < 0x80 {
             return self.write_low(offset, value);
@@ -394,6 +417,7 @@ impl<K: Kept> Device for Cic<K> {
     }
 
     /// A rise sets the status whether enabled or not; a fall or a repeated level does nothing.
+    #[inline(always)]
     fn move_line(&mut self, line: u32, level: u32) -> Done {
         if line >= self.systems || level > 1 {
             return Err(Refusal::OutOfRange);
@@ -407,20 +431,31 @@ impl<K: Kept> Device for Cic<K> {
         Ok(())
     }
 
+    #[inline(always)]
     fn show(&self, line: &mut Line, at: usize) -> usize {
         let (asserted, lowest) = self.kept.shown();
         show_hosts(line, at, asserted, lowest)
     }
 
     fn digest(&self) -> u64 {
-        let numbers = [self.systems, self.channels, self.hosts, self.revision];
-        let words = (self.lines, self.status, self.enable, self.host_enable);
-        let maps = (self.channel_of_system, self.host_of_channel);
-        mixed((numbers, self.global_enable, words, maps))
+        let numbers = [
+            self.systems,
+            self.channels,
+            self.hosts,
+            self.revision,
+            u32::from(self.global_enable),
+        ];
+        let words = numbers.into_iter().chain(self.lines).chain(self.status);
+        let words = words.chain(self.enable).chain(self.host_enable);
+        let maps = self.channel_of_system.chunks_exact(4);
+        let maps = maps.chain(self.host_of_channel.chunks_exact(4));
+        let maps = maps.map(|entries| read_map(entries, 0));
+        mixed(words.chain(maps).map(u64::from))
     }
 }
 
 /// Does something with each set bit, the lowest first.
+#[inline(always)]
 pub fn each_bit(mut bits: u32, mut act: impl FnMut(usize)) {
     while bits != 0 {
         act(bits.trailing_zeros() as usize);
@@ -429,6 +464,7 @@ pub fn each_bit(mut bits: u32, mut act: impl FnMut(usize)) {
 }
 
 /// A 1 for each bit of a word that is below the count.
+#[inline(always)]
 pub fn existing(count: u32, word: usize) -> u32 {
     match count - 32 * word as u32 {
         32.. => u32::MAX,
@@ -437,6 +473,7 @@ pub fn existing(count: u32, word: usize) -> u32 {
 }
 
 /// Four entries of a map; those that do not exist are never written, and read 0.
+#[inline(always)]
 fn read_map(map: &[u8], first: usize) -> u32 {
     let entries = map[first..].first_chunk();
     entries.map_or(0, |&entries| u32::from_le_bytes(entries))
@@ -444,6 +481,7 @@ fn read_map(map: &[u8], first: usize) -> u32 {
 
 /// The entries that a write of a map brings, all below the limit. Those that do not exist are 0, as they stay, so that
 /// four can be written in any case.
+#[inline(always)]
 fn entries(value: u32, exist: u32, limit: u32) -> Result<[u8; 4], Refusal> {
     let existing = match exist {
         4.. => u32::MAX,

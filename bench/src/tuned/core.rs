@@ -10,7 +10,6 @@ use crate::model::{Answer, Kind, Refusal};
 const LINES: u32 = 40;
 
 /// No bit of a source that is not configured is ever stored.
-#[derive(Hash)]
 pub struct CoreInterrupt {
     configured: u64,
     inputs: u64,
@@ -34,15 +33,18 @@ impl CoreInterrupt {
         })
     }
 
+    #[inline(always)]
     fn raw(&self) -> u64 {
         self.inputs | self.soft
     }
 
+    #[inline(always)]
     fn status(&self) -> u64 {
         self.raw() & self.enable
     }
 
     /// With no sources a clear may be read, and reads 0.
+    #[inline(always)]
     fn read_clear(&self, side: u32) -> Answer {
         match (self.configured >> side) as u32 {
             0 => Ok(0),
@@ -51,6 +53,7 @@ impl CoreInterrupt {
     }
 
     /// The bits of a value that a side stores.
+    #[inline(always)]
     fn stored(&self, value: u32, side: u32) -> u64 {
         u64::from(value) << side & self.configured
     }
@@ -63,6 +66,7 @@ const FIQ: u32 = 32;
 impl Device for CoreInterrupt {
     const KIND: Kind = Kind::Core;
 
+    #[inline(always)]
     fn read(&mut self, offset: u32, _: u32) -> Answer {
         Ok(match offset {
             0x00 => (self.soft >> FIQ) as u32,
@@ -79,6 +83,7 @@ impl Device for CoreInterrupt {
         })
     }
 
+    #[inline(always)]
     fn write(&mut self, offset: u32, value: u32, _: u32) -> Done {
         match offset {
             0x00 => self.soft |= self.stored(value, FIQ),
@@ -96,6 +101,7 @@ impl Device for CoreInterrupt {
     }
 
     /// An input that is not configured may move, but is not stored.
+    #[inline(always)]
     fn move_line(&mut self, line: u32, level: u32) -> Done {
         if line >= LINES || level > 1 {
             return Err(Refusal::OutOfRange);
@@ -105,12 +111,14 @@ impl Device for CoreInterrupt {
         Ok(())
     }
 
+    #[inline(always)]
     fn show(&self, line: &mut Line, at: usize) -> usize {
         let status = self.status();
         show_few(line, at, status as u32 != 0, status >> FIQ != 0, 0)
     }
 
     fn digest(&self) -> u64 {
-        mixed(self)
+        let levels = u64::from(self.levels);
+        mixed([self.configured, self.inputs, self.soft, self.enable, levels])
     }
 }

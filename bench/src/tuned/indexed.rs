@@ -46,6 +46,7 @@ impl Waiting {
     }
 
     /// The bit of a system turns; what says that a word or a channel has any is made anew from what it is about.
+    #[inline(always)]
     fn flip(&mut self, system: usize, channel: u8) {
         let (word, nth) = (system / 32 % 32, usize::from(channel));
         let systems = &mut self.systems[nth][word];
@@ -58,7 +59,24 @@ impl Waiting {
         *channels = *channels & !(1 << (nth % 64)) | any << (nth % 64);
     }
 
+    /// A system that is sorted goes from one channel to another.
+    #[inline(always)]
+    fn remap(&mut self, system: usize, before: u8, after: u8) {
+        if self.sorted[system / 32 % 32] >> (system % 32) & 1 == 1 {
+            self.flip(system, before);
+            self.flip(system, after);
+        }
+    }
+
+    #[inline(always)]
+    fn lead(&mut self, channel: usize, before: u8, after: u8) {
+        let (word, bit) = (channel / 64 % 4, 1 << (channel % 64));
+        self.led[usize::from(before)][word] &= !bit;
+        self.led[usize::from(after)][word] |= bit;
+    }
+
     /// The word of an index over some channels: the lowest of them with an active system, and of it the lowest system.
+    #[inline(always)]
     fn first(&self, over: &[u64; 4]) -> u32 {
         for (nth, &over) in over.iter().enumerate() {
             let some = self.channels[nth] & over;
@@ -88,33 +106,32 @@ impl<K: Kept> Kept for (K, Waiting) {
         (K::new(), Waiting::new())
     }
 
+    #[inline(always)]
     fn turn(&mut self, channel: u8, host: u8, active: bool) {
         self.0.turn(channel, host, active);
     }
 
+    #[inline(always)]
     fn change(&mut self, word: usize) {
         self.1.written |= 1 << (word % 32);
     }
 
-    /// One that is sorted goes from one channel to another.
+    #[inline(always)]
     fn remap(&mut self, system: usize, before: u8, after: u8) {
-        if self.1.sorted[system / 32 % 32] >> (system % 32) & 1 == 1 {
-            self.1.flip(system, before);
-            self.1.flip(system, after);
-        }
+        self.1.remap(system, before, after);
     }
 
+    #[inline(always)]
     fn lead(&mut self, channel: usize, before: u8, after: u8) {
         self.0.lead(channel, before, after);
-        let (word, bit) = (channel / 64 % 4, 1 << (channel % 64));
-        self.1.led[usize::from(before)][word] &= !bit;
-        self.1.led[usize::from(after)][word] |= bit;
+        self.1.lead(channel, before, after);
     }
 
     fn allow(&mut self, host_enable: &[u32; 8], all: bool) {
         self.0.allow(host_enable, all);
     }
 
+    #[inline(always)]
     fn shown(&self) -> (usize, usize) {
         self.0.shown()
     }
@@ -122,6 +139,7 @@ impl<K: Kept> Kept for (K, Waiting) {
 
 impl<K: Kept> Cic<(K, Waiting)> {
     /// The active systems by channel, as they are now.
+    #[inline(always)]
     fn waiting(&mut self) -> &Waiting {
         let waiting = &mut self.kept.1;
         each_bit(std::mem::take(&mut waiting.written), |word| {
@@ -173,6 +191,7 @@ impl<K: Kept> Indexed<K> {
     }
 
     /// The register at an offset, if it is none of the CIC's.
+    #[inline(always)]
     fn own(&self, offset: u32) -> Option<Own> {
         let from = offset.wrapping_sub(0x900);
         match offset {
@@ -187,6 +206,7 @@ impl<K: Kept> Indexed<K> {
     }
 
     /// What is held, or else what is first now; in the mode it is held from here on.
+    #[inline(always)]
     fn read_global(&mut self) -> u32 {
         if self.global != FREE {
             return self.global;
@@ -198,6 +218,7 @@ impl<K: Kept> Indexed<K> {
         word
     }
 
+    #[inline(always)]
     fn read_host(&mut self, host: usize) -> u32 {
         let (nth, bit) = (host / 32 % 8, 1 << (host % 32));
         if self.held[nth] & bit != 0 {
@@ -212,6 +233,7 @@ impl<K: Kept> Indexed<K> {
         word
     }
 
+    #[inline(always)]
     fn write_own(&mut self, own: Own, value: u32) {
         match own {
             Own::Control => {
@@ -239,6 +261,7 @@ impl<K: Kept> Indexed<K> {
 impl<K: Kept> Device for Indexed<K> {
     const KIND: Kind = Kind::Indexed;
 
+    #[inline(always)]
     fn read(&mut self, offset: u32, privilege: u32) -> Answer {
         match self.own(offset) {
             None => self.cic.read(offset, privilege),
@@ -250,6 +273,7 @@ impl<K: Kept> Device for Indexed<K> {
 
     /// What a write to a register of the CIC ends, it ends once it is carried out; of a host enable register only the
     /// bits count that are written as 1.
+    #[inline(always)]
     fn write(&mut self, offset: u32, value: u32, privilege: u32) -> Done {
         if let Some(own) = self.own(offset) {
             self.write_own(own, value);
@@ -267,22 +291,20 @@ impl<K: Kept> Device for Indexed<K> {
         Ok(())
     }
 
+    #[inline(always)]
     fn move_line(&mut self, line: u32, level: u32) -> Done {
         self.cic.move_line(line, level)
     }
 
+    #[inline(always)]
     fn show(&self, line: &mut Line, at: usize) -> usize {
         self.cic.show(line, at)
     }
 
     fn digest(&self) -> u64 {
-        let own = (
-            self.prioritised,
-            self.hold,
-            self.global,
-            self.held,
-            self.words,
-        );
-        mixed((own, self.cic.digest()))
+        let flags = [self.prioritised, self.hold].map(u32::from);
+        let words = flags.into_iter().chain([self.global]);
+        let words = words.chain(self.held).chain(self.words);
+        mixed(words.map(u64::from).chain([self.cic.digest()]))
     }
 }
