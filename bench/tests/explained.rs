@@ -46,11 +46,6 @@ fn comments(text: &str) -> Vec<String> {
     comments.collect()
 }
 
-/// What is said of the last step of a text.
-fn last(text: &str) -> String {
-    comments(text).pop().expect("there is a step")
-}
-
 #[test]
 fn the_sweeps_alone_reach_every_item() {
     let generator = Numbered::<Asked>::new(1);
