@@ -1,7 +1,5 @@
 //! The comparison finds what differs: listings with one thing wrong, failures, and programs that are not ours.
 
-use std::process::Command;
-
 use bench::batch::Batch;
 use bench::compare::{compare, expected, Outcome, Subject, Summary, MOST_FAILURES};
 use bench::generate::{Case, Generator};
@@ -115,22 +113,4 @@ fn generated_traces_of_every_kind_go_through_the_program() {
     for kind in Kind::ALL {
         assert!(coverage.started(kind) >= 5, "{}", kind.told());
     }
-}
-
-/// The exit status of the differential test run against a program.
-fn status(program: &str, count: &str) -> Option<i32> {
-    let run = Command::new(env!("CARGO_BIN_EXE_differential"))
-        .args(["--program", program, "--count", count])
-        .output();
-    run.expect("the differential test runs").status.code()
-}
-
-#[test]
-fn the_exit_status_tells() {
-    let reference = env!("CARGO_BIN_EXE_reference");
-    let count = &THROUGH_THE_PROGRAM.to_string();
-    assert_eq!(status(reference, count), Some(0));
-    assert_eq!(status(reference, "3"), Some(1), "a gap in coverage");
-    assert_eq!(status(env!("CARGO_BIN_EXE_report"), count), Some(1));
-    assert_eq!(status(reference, "many"), Some(2));
 }

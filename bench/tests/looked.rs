@@ -1,8 +1,6 @@
 //! How far an index read looks (02, 10/12): the model against a count word by word and against wrong counts; and the
 //! comparison of questions itself.
 
-use std::process::Command;
-
 use bench::batch::Batch;
 use bench::compare::{compare, expected, Outcome, Subject, Summary, MOST_FAILURES};
 use bench::generate::cic::{ENABLE_SET as ENABLES, RAW_SET as STATUS};
@@ -231,25 +229,4 @@ fn a_batch_is_fed_and_heard_and_failures_are_found() {
         Ok(text[..text.len() - 1].to_vec())
     });
     assert_eq!(lost.differ, lost.compared);
-}
-
-/// The exit status of the comparison of questions with the given words.
-fn status(words: &[&str]) -> Option<i32> {
-    let run = Command::new(env!("CARGO_BIN_EXE_differential"))
-        .arg("--looked")
-        .args(words)
-        .output();
-    run.expect("the comparison runs").status.code()
-}
-
-#[test]
-fn the_exit_status_tells() {
-    let reference = env!("CARGO_BIN_EXE_reference");
-    let batch = |count, argument| status(&["--batch", reference, "--count", count, "--", argument]);
-    assert_eq!(batch("6000", "--batch"), Some(0));
-    assert_eq!(batch("3", "--batch"), Some(1), "a gap in coverage");
-    assert_eq!(batch("6000", "--nothing"), Some(1));
-    assert_eq!(status(&["--program", reference]), Some(2));
-    assert_eq!(status(&["--tuned"]), Some(2));
-    assert_eq!(status(&["--trace", "3"]), Some(0));
 }

@@ -8,8 +8,6 @@ mod points;
 #[path = "report/wrong.rs"]
 mod wrong;
 
-use std::process::Command;
-
 use bench::compare::{compare, expected};
 use bench::report::coverage::Coverage;
 use bench::report::generate::{Counted, Generator};
@@ -40,29 +38,6 @@ fn coverage(seed: u64, more: usize) -> Coverage {
 #[test]
 fn five_thousand_random_traces_reach_every_listed_item() {
     assert_eq!(coverage(1, 5_000).gaps(), []);
-}
-
-/// The exit status of the comparison of figures run against a program that serves many.
-fn status(words: &[&str]) -> Option<i32> {
-    let run = Command::new(env!("CARGO_BIN_EXE_differential"))
-        .arg("--figures")
-        .args(words)
-        .output();
-    run.expect("the comparison runs").status.code()
-}
-
-#[test]
-fn a_batch_is_heard_and_the_exit_status_tells() {
-    let reference = env!("CARGO_BIN_EXE_reference");
-    let batch = ["--batch", reference, "--count"];
-    let asked = |count, word| status(&[batch.as_slice(), &[count, "--", word]].concat());
-    assert_eq!(asked("5000", "--batch"), Some(0));
-    assert_eq!(asked("300", "--batch"), Some(1), "a gap in coverage");
-    assert_eq!(asked("5000", "--nothing"), Some(1), "no replies");
-    assert_eq!(asked("many", "--batch"), Some(2));
-    assert_eq!(status(&["--tuned"]), Some(2));
-    assert_eq!(status(&["--program", reference]), Some(2));
-    assert_eq!(status(&["--stack", "--batch", reference]), Some(2));
 }
 
 #[test]

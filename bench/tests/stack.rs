@@ -1,7 +1,5 @@
 //! The comparison of typed tables: its sweeps reach every listed item, and it finds lines with one thing wrong.
 
-use std::process::Command;
-
 use bench::batch::Batch;
 use bench::compare::{compare, expected, Outcome, Subject, Summary, MOST_FAILURES};
 use bench::program::Program;
@@ -132,34 +130,4 @@ fn a_program_and_a_batch_are_fed_and_heard() {
     let mut batch = Batch::new(Program::new(reference, &["--batch"]));
     let summary = compare_some(200, |typed| batch.ask(typed.request()));
     assert_eq!(summary.differ, 0);
-}
-
-/// The exit status of the comparison of tables run against a program with an argument.
-fn status(program: &str, argument: &str, count: &str) -> Option<i32> {
-    let run = Command::new(env!("CARGO_BIN_EXE_differential"))
-        .args([
-            "--stack",
-            "--program",
-            program,
-            "--count",
-            count,
-            "--",
-            argument,
-        ])
-        .output();
-    run.expect("the comparison runs").status.code()
-}
-
-#[test]
-fn the_exit_status_tells() {
-    let reference = env!("CARGO_BIN_EXE_reference");
-    let count = &THROUGH_THE_PROGRAM.to_string();
-    assert_eq!(status(reference, "--stacksize", count), Some(0));
-    assert_eq!(
-        status(reference, "--stacksize", "3"),
-        Some(1),
-        "a gap in coverage"
-    );
-    assert_eq!(status(reference, "--batch", count), Some(1));
-    assert_eq!(status(reference, "--stacksize", "many"), Some(2));
 }

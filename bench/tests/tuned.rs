@@ -1,7 +1,5 @@
 //! The tuned player against the model: every byte of a listing and all that a play comes to.
 
-use std::process::Command;
-
 use bench::compare::{compare, expected, first_difference, written, Subject};
 use bench::generate::{Case, Generator, Script};
 use bench::listing::listing;
@@ -164,16 +162,4 @@ fn what_is_held_is_in_the_figure() {
     states.sort_unstable();
     states.dedup();
     assert_eq!(states.len(), all);
-}
-
-#[test]
-fn the_differential_test_asks_it() {
-    let status = |words: &[&str]| {
-        let run = Command::new(env!("CARGO_BIN_EXE_differential"))
-            .args(words)
-            .output();
-        run.expect("the differential test runs").status.code()
-    };
-    assert_eq!(status(&["--tuned", "--count", "900"]), Some(0));
-    assert_eq!(status(&["--tuned", "--stack"]), Some(2));
 }
