@@ -1,14 +1,14 @@
-//! Carries out the lines of worked cases on the model.
+//! Carries out the lines of worked cases on the model. What a line comes to is told in words, and so is what is expected.
 
 use bench::bounds::waits::{Bound, Bounded, Terms};
 use bench::bounds::Records;
 use bench::listing::listing;
 use bench::model::aic::{Aic, Entry, Selection};
 use bench::model::indexed::{Index, Indexed};
-use bench::model::{Answer, Machine, Recorded, Step};
-use bench::report::history::End;
+use bench::model::{Machine, Recorded, Step};
+use bench::report::history::{End, Wait};
 use bench::trace::{encode, play, PROGRAM_LIMIT};
-use bench::typed::{AINTC, CONTROLLERS};
+use bench::typed::{CONTROLLERS, STEPS};
 
 use super::text::{normal, number_of, values, Line, Names, Text};
 
@@ -19,34 +19,28 @@ struct State {
     trace: Vec<u8>,
 }
 
-/// What a line comes to, before what is expected of it.
-enum Outcome {
-    Answer(Answer),
-    Told(String),
-    Done,
-}
-
-use Outcome::{Answer as Answered, Done, Told};
-
-/// A case that is carried out.
+/// A case that is carried out: the controller, what was kept of it, and what the last step answered.
 #[derive(Clone)]
 pub struct Run<'a> {
     text: &'a Text<'a>,
     now: Option<State>,
     kept: Option<State>,
-    last: u32,
+    last: String,
 }
 
 type Words<'w> = &'w [&'w str];
 type Carried<T> = Result<T, String>;
 
+const REFUSED: &str = "refused by ";
+
 impl<'a> Run<'a> {
     pub fn new(text: &'a Text<'a>) -> Run<'a> {
+        let (now, kept, last) = (None, None, String::new());
         Run {
             text,
-            now: None,
-            kept: None,
-            last: 0,
+            now,
+            kept,
+            last,
         }
     }
 
@@ -80,71 +74,41 @@ impl<'a> Run<'a> {
             }
             return Ok(());
         }
-        let mark = |word: &&str| ["=", "!", ":"].contains(word);
-        let asked = words
-            .iter()
-            .position(|word| mark(&word))
-            .unwrap_or(words.len());
-        let before = self.now.clone();
-        let outcome = self.act(&words[..asked], names)?;
-        let expected: Vec<Words> = expectations(&words[asked..]);
-        let refusals = expected
-            .iter()
-            .filter(|expected| expected[0] == "!")
-            .count();
-        match &outcome {
-            Answered(Err(refusal)) if refusals == 0 => {
-                return Err(format!("refused by {}", refusal.number()))
+        let marks = (0..words.len()).filter(|&at| ["=", "!", ":"].contains(&words[at]));
+        let marks: Vec<usize> = marks.chain([words.len()]).collect();
+        let before = self.now.as_ref().map(|state| state.machine.clone());
+        let found = self.act(&words[..marks[0]], names)?;
+        if found.starts_with(REFUSED) {
+            let same = before.as_ref() == Some(self.machine()?);
+            if !same || !words.contains(&"!") {
+                return Err(format!("{found}, nothing changed: {same}"));
             }
-            Told(told) if expected.is_empty() => return Err(format!("nothing expected: {told}")),
-            _ => {}
         }
-        for expected in expected {
-            self.judge(&outcome, expected, before.as_ref(), names)?;
+        for pair in marks.windows(2) {
+            let wanted = &words[pair[0] + 1..pair[1]];
+            self.judge(words[pair[0]], wanted, &found, names)?;
         }
         Ok(())
     }
 
-    /// What is expected behind one mark, and what was found.
-    fn judge(
-        &self,
-        outcome: &Outcome,
-        expected: Words,
-        before: Option<&State>,
-        names: &Names,
-    ) -> Carried<()> {
-        let all = |words: Words| -> String {
-            let normal: Vec<String> = words.iter().map(|word| normal(word, names)).collect();
-            normal.join(" ")
+    /// What is expected behind a mark, beside what was found.
+    fn judge(&self, mark: &str, wanted: Words, found: &str, names: &Names) -> Carried<()> {
+        let all = |words: Words| words.iter().map(|word| normal(word, names)).collect();
+        let wanted: Vec<String> = all(wanted);
+        let found: Vec<String> = match mark {
+            "=" => all(&found.split(' ').collect::<Vec<_>>()),
+            "!" => vec![found.strip_prefix(REFUSED).unwrap_or("taken").to_owned()],
+            _ => self
+                .machine()?
+                .shown()
+                .map(|number| number.to_string())
+                .into(),
         };
-        let wanted = all(&expected[1..]);
-        let found = match (expected[0], outcome) {
-            ("=", Told(told)) if told.ends_with('/') => {
-                let raw = expected[1..].join(" ");
-                return same(&raw, told);
-            }
-            ("=", Told(told)) => all(&told.split(' ').collect::<Vec<_>>()),
-            ("=", Answered(Err(refusal))) => format!("refused by {}", refusal.number()),
-            ("=", _) => self.last.to_string(),
-            ("!", Answered(Err(refusal))) => {
-                if before.map(|state| &state.machine) != Some(self.machine()?) {
-                    return Err("a refused step changed something".to_owned());
-                }
-                refusal.number().to_string()
-            }
-            ("!", _) => "accepted".to_owned(),
-            _ => {
-                let shown = self.machine()?.shown().map(|number| number.to_string());
-                let any = |(shown, wanted): (String, &str)| match wanted {
-                    "_" => "_".to_owned(),
-                    _ => shown,
-                };
-                let found: Vec<String> =
-                    shown.into_iter().zip(wanted.split(' ')).map(any).collect();
-                found.join(" ")
-            }
-        };
-        same(&wanted, &found)
+        let fits = |(found, wanted): (&String, &String)| found == wanted || wanted == "_";
+        match found.len() == wanted.len() && found.iter().zip(&wanted).all(fits) {
+            true => Ok(()),
+            false => Err(format!("found {}", found.join(" "))),
+        }
     }
 
     fn machine(&self) -> Carried<&Machine> {
@@ -152,268 +116,184 @@ impl<'a> Run<'a> {
         Ok(&state.machine)
     }
 
-    fn aic(&self) -> Carried<&Aic> {
-        match self.machine()? {
-            Machine::Aic(aic) => Ok(aic),
-            _ => Err("it is no AIC".to_owned()),
-        }
-    }
-
-    fn indexed(&self) -> Carried<&Indexed> {
-        match self.machine()? {
-            Machine::Indexed(indexed) => Ok(indexed),
-            _ => Err("it has no indices".to_owned()),
-        }
-    }
-
-    /// What a line asks for: a step, a word of the text, or something to be told.
-    fn act(&mut self, asked: Words, names: &Names) -> Carried<Outcome> {
+    /// What a line asks for: a controller, a step, a word of the text, or something to be told.
+    fn act(&mut self, asked: Words, names: &Names) -> Carried<String> {
         let Some((verb, rest)) = asked.split_first() else {
-            return Ok(Done);
+            return Ok(self.last.clone());
         };
         let verb = names.get(*verb).map_or(*verb, String::as_str);
-        let number = |nth: usize| {
-            let word = rest.get(nth).ok_or("a number is missing")?;
-            number_of(word, names)
-        };
-        if let Some(kind) = CONTROLLERS.iter().position(|(name, _)| *name == verb) {
-            return self.start(kind, CONTROLLERS[kind].1, number);
+        if let Some(word) = self.text.word(verb) {
+            let given: Vec<String> = rest.iter().map(|word| normal(word, names)).collect();
+            let named = word.head[2..].iter().copied();
+            let named = named.zip(given.iter().map(String::as_str));
+            self.lines(&word.lines, &with(names, named))?;
+            return Ok(self.last.clone());
         }
+        let is_step = STEPS.iter().any(|(name, ..)| *name == verb);
         match verb {
-            "read" | "write" | "line" => self.step(verb, rest, names),
+            _ if CONTROLLERS.iter().any(|(name, _)| *name == verb) => self.start(verb, rest, names),
+            _ if is_step => self.step(verb, rest, names),
             "keep" => {
                 self.kept = self.now.clone();
-                Ok(Done)
+                Ok(String::new())
             }
             "back" => {
                 self.now = self.kept.clone();
-                Ok(Done)
+                Ok(String::new())
             }
-            "same" => match self.kept.as_ref().map(|state| &state.machine) == Some(self.machine()?)
-            {
-                true => Ok(Done),
-                false => Err("it is not as it was kept".to_owned()),
-            },
-            "forget" => {
-                if let Some(Machine::Aic(aic)) = self.now.as_mut().map(|state| &mut state.machine) {
-                    aic.remember_instead(None);
-                }
-                Ok(Done)
-            }
-            "alike" => self.alike(number(0)?),
-            _ => match self.text.word(verb) {
-                Some(word) => {
-                    let values: Vec<String> = rest.iter().map(|word| normal(word, names)).collect();
-                    let named = word.head[2..].iter().copied();
-                    let named = named.zip(values.iter().map(String::as_str));
-                    self.lines(&word.lines, &with(names, named))?;
-                    Ok(Done)
-                }
-                None => self.told(verb, rest, number).map(Told),
-            },
+            "same" | "alike" | "forget" => self.beside(verb, rest, names),
+            "lists" => listed(rest),
+            _ => self.told(verb, &numbers(rest, names)?),
         }
     }
 
-    fn start(
-        &mut self,
-        kind: usize,
-        numbers: usize,
-        number: impl Fn(usize) -> Carried<u32>,
-    ) -> Carried<Outcome> {
+    fn start(&mut self, name: &str, words: Words, names: &Names) -> Carried<String> {
+        let kind = CONTROLLERS.iter().position(|(other, _)| *other == name);
         let mut trace = Vec::new();
-        encode(kind as u32, 1, &mut trace);
-        for nth in 0..numbers {
-            encode(number(nth)?, 1, &mut trace);
+        for number in [kind.map_or(0, |kind| kind as u32)]
+            .into_iter()
+            .chain(numbers(words, names)?)
+        {
+            encode(number, 1, &mut trace);
         }
         let machine = play(&trace, 0, &mut ()).machine;
         let machine = machine.ok_or("it cannot be configured so")?;
         self.now = Some(State { machine, trace });
-        Ok(Done)
+        Ok(String::new())
     }
 
-    /// A step by the privilege behind `by`, or privileged.
-    fn step(&mut self, verb: &str, words: Words, names: &Names) -> Carried<Outcome> {
-        let by = words.iter().position(|&word| word == "by");
-        let privilege = match by {
-            Some(at) => number_of(words.get(at + 1).copied().unwrap_or(""), names)?,
-            None => 1,
+    /// A step by the privilege behind `by`, or privileged; the value that was read, or the refusal.
+    fn step(&mut self, verb: &str, words: Words, names: &Names) -> Carried<String> {
+        let (words, by) = match words {
+            [words @ .., "by", by] => (words, *by),
+            words => (words, "1"),
         };
-        let numbers: Carried<Vec<u32>> = words[..by.unwrap_or(words.len())]
-            .iter()
-            .map(|word| number_of(word, names))
-            .collect();
-        let (kind, step) = match (verb, &numbers?[..]) {
-            ("read", &[offset]) => (1, Step::Read { offset }),
-            ("write", &[offset, value]) => (2, Step::Write { offset, value }),
-            ("line", &[line, level]) => (3, Step::Line { line, level }),
+        let privilege = number_of(by, names)?;
+        let state = self.now.as_mut().ok_or("no controller was started")?;
+        let told = state.machine.kind().tells_privilege().then_some(privilege);
+        let numbers = numbers(words, names)?;
+        let (step, told) = match (verb, &numbers[..]) {
+            ("read", &[offset]) => (Step::Read { offset }, [Some(1), Some(offset), told, None]),
+            ("write", &[offset, value]) => {
+                let told = [Some(2), Some(offset), told, Some(value)];
+                (Step::Write { offset, value }, told)
+            }
+            ("line", &[line, level]) => (
+                Step::Line { line, level },
+                [Some(3), Some(line), Some(level), None],
+            ),
             _ => return Err("a step has other numbers".to_owned()),
         };
-        let state = self.now.as_mut().ok_or("no controller was started")?;
-        let tells = state.machine.kind() as usize == AINTC;
-        let told = match step {
-            Step::Read { offset } if tells => vec![kind, offset, privilege],
-            Step::Write { offset, value } if tells => vec![kind, offset, privilege, value],
-            Step::Read { offset } => vec![kind, offset],
-            Step::Write { offset, value } => vec![kind, offset, value],
-            Step::Line { line, level } => vec![kind, line, level],
-        };
-        told.iter()
-            .for_each(|&number| encode(number, 1, &mut state.trace));
-        let answer = state.machine.step(Recorded { step, privilege });
-        match (kind, answer) {
-            (2 | 3, Ok(value)) if value != 0 => Err(format!("{value} is no answer of a write")),
-            _ => {
-                self.last = answer.unwrap_or(0);
-                Ok(Answered(answer))
+        for number in told.into_iter().flatten() {
+            encode(number, 1, &mut state.trace);
+        }
+        self.last.clear();
+        match state.machine.step(Recorded { step, privilege }) {
+            Ok(value) if verb != "read" && value != 0 => Err(format!("it answered {value}")),
+            Ok(value) => {
+                self.last = value.to_string();
+                Ok(value.to_string())
             }
+            Err(refusal) => Ok(format!("{REFUSED}{}", refusal.number())),
         }
     }
 
-    /// The same read now and from what was kept, which answer and show alike.
-    fn alike(&mut self, offset: u32) -> Carried<Outcome> {
-        let step = Step::Read { offset };
-        let read = |state: &mut Option<State>| {
-            let state = state.as_mut().ok_or("nothing was kept")?;
-            let answer = state.machine.step(Recorded { step, privilege: 1 });
-            Ok::<_, String>((answer, state.machine.shown()))
+    /// The controller beside what was kept of it: the same, or read alike; or one that forgets.
+    fn beside(&mut self, verb: &str, words: Words, names: &Names) -> Carried<String> {
+        let kept = self.kept.as_mut().ok_or("nothing was kept")?;
+        let now = self.now.as_mut().ok_or("no controller was started")?;
+        let [now, kept] = [now, kept].map(|state| &mut state.machine);
+        let same = match (verb, now) {
+            ("forget", Machine::Aic(aic)) => {
+                aic.remember_instead(None);
+                true
+            }
+            ("alike", now) => {
+                let offset = numbers(words, names)?[0];
+                let (step, privilege) = (Step::Read { offset }, 1);
+                let read = |machine: &mut Machine| machine.step(Recorded { step, privilege });
+                read(now) == read(kept) && now.shown() == kept.shown()
+            }
+            (_, now) => now == kept,
         };
-        let (now, kept) = (read(&mut self.now)?, read(&mut self.kept)?);
-        match now == kept {
-            true => Ok(Done),
-            false => Err(format!("{now:?} and of what was kept {kept:?}")),
+        match same {
+            true => Ok(String::new()),
+            false => Err("it is not as it was kept".to_owned()),
         }
     }
 
-    /// What a question is told.
-    fn told(
-        &self,
-        verb: &str,
-        rest: Words,
-        number: impl Fn(usize) -> Carried<u32>,
-    ) -> Carried<String> {
-        let all = |told: Vec<String>, none: &str| match told.is_empty() {
-            true => none.to_owned(),
-            false => told.join(" "),
+    /// What a question is told, by the controller or by the trace that led to it.
+    fn told(&self, verb: &str, numbers: &[u32]) -> Carried<String> {
+        let of_machine = match self.machine()? {
+            Machine::Aic(aic) => of_aic(aic, verb, numbers),
+            Machine::Indexed(indexed) => of_indexed(indexed, verb, numbers),
+            Machine::Core(core) if verb == "levels" => {
+                Some(bits([core.irq.output_level(), core.fiq.output_level()]))
+            }
+            _ => None,
         };
-        Ok(match verb {
-            "lists" => listed(rest)?,
-            "entries" => all(self.aic()?.entries().iter().map(entry).collect(), "none"),
-            "entry" => self
-                .aic()?
-                .entries()
-                .last()
-                .map_or("none".to_owned(), entry),
-            "mode" => [self.aic()?.protected(), self.aic()?.masked()]
-                .map(|bit| u32::from(bit).to_string())
-                .join(" "),
-            "remembers" => match self.aic()?.remembered() {
-                None => "nothing".to_owned(),
-                Some(Selection::Nobody) => "nobody".to_owned(),
-                Some(Selection::Source {
-                    number,
-                    vector,
-                    level,
-                }) => format!("{number}@{level}@{vector}"),
-            },
-            "memory" => {
-                let source = number(0)? as usize;
-                u32::from(self.aic()?.sources()[source].memory).to_string()
-            }
-            "levels" => match self.machine()? {
-                Machine::Core(core) => [core.irq.output_level(), core.fiq.output_level()]
-                    .map(|level| u32::from(level).to_string())
-                    .join(" "),
-                _ => return Err("it has no levels".to_owned()),
-            },
-            "held" => {
-                let held = |nth| Ok(self.indexed()?.held(index_at(number(nth)?)));
-                let told =
-                    |held: Option<u32>| held.map_or("nothing".to_owned(), |it| it.to_string());
-                let each: Carried<Vec<String>> =
-                    (0..rest.len()).map(|nth| held(nth).map(told)).collect();
-                each?.join(" ")
-            }
-            "hold" => u32::from(self.indexed()?.hold()).to_string(),
-            "looks" => self.indexed()?.looked(number(0)?).to_string(),
-            "counts" => {
-                let counts = self.records()?.history.counts(number(0)? as usize);
-                let [started, waited, entries] = [counts.started, counts.waited, counts.entries];
-                format!("started {started} waited {waited} entries {entries}")
-            }
-            "waits" => {
-                let waits = self.records()?.history.waits(number(0)? as usize);
-                let wait = waits.iter().map(|wait| {
-                    let end = match wait.end {
-                        End::Started => "started",
-                        End::Over => "over",
-                        End::Never => "never",
-                    };
-                    format!("from {} to {} {end}", wait.from, wait.to)
-                });
-                all(wait.collect(), "none")
-            }
-            "bounds" => {
-                let waits = self.records()?.waits(number(0)? as usize);
-                all(waits.iter().map(bounded).collect(), "none")
-            }
-            "summary" => {
-                let summary = self.records()?.summary(number(0)? as usize);
-                let first = summary
-                    .first_unbounded
-                    .map_or("none".to_owned(), |step| step.to_string());
-                format!(
-                    "waits {} unended {} unbounded {} first {first} seen {} most{}",
-                    summary.waits,
-                    summary.unended,
-                    summary.unbounded,
-                    summary.seen,
-                    summary.most.map_or(" none".to_owned(), terms),
-                )
-            }
-            _ => return Err(format!("{verb:?} is no word")),
-        })
-    }
-
-    fn records(&self) -> Carried<Records> {
         let state = self.now.as_ref().ok_or("no controller was started")?;
-        Ok(Records::of(&state.trace, PROGRAM_LIMIT))
+        let of_trace = || of_trace(&state.trace, verb, *numbers.first()? as usize);
+        let told = of_machine.or_else(of_trace);
+        told.ok_or_else(|| format!("{verb:?} is no word"))
     }
 }
 
-fn same(wanted: &str, found: &str) -> Carried<()> {
-    match wanted == found {
-        true => Ok(()),
-        false => Err(format!("found {found}")),
-    }
-}
-
-/// The marks with the words behind each.
-fn expectations<'w>(words: &'w [&'w str]) -> Vec<Words<'w>> {
-    let marks = (0..words.len()).filter(|&at| ["=", "!", ":"].contains(&words[at]));
-    let marks: Vec<usize> = marks.chain([words.len()]).collect();
-    marks
-        .windows(2)
-        .map(|pair| &words[pair[0]..pair[1]])
-        .collect()
+fn numbers(words: Words, names: &Names) -> Carried<Vec<u32>> {
+    words.iter().map(|word| number_of(word, names)).collect()
 }
 
 fn with<'w>(names: &Names, more: impl IntoIterator<Item = (&'w str, &'w str)>) -> Names {
-    let mut all = names.clone();
-    for (name, value) in more {
-        all.insert(name.to_owned(), normal(value, names));
-    }
-    all
+    let more = more.into_iter();
+    let more = more.map(|(name, value)| (name.to_owned(), normal(value, names)));
+    names.clone().into_iter().chain(more).collect()
 }
 
-/// The lines of the listing of a trace in hexadecimal bytes, with ` / ` behind each.
+fn bits(bits: [bool; 2]) -> String {
+    bits.map(|bit| u32::from(bit).to_string()).join(" ")
+}
+
+/// Words one behind the other, or a word for none.
+fn all(told: impl Iterator<Item = String>, none: &str) -> String {
+    match told.collect::<Vec<_>>() {
+        told if told.is_empty() => none.to_owned(),
+        told => told.join(" "),
+    }
+}
+
+fn or_none(number: Option<u32>) -> String {
+    number.map_or("none".to_owned(), |number| number.to_string())
+}
+
+/// The lines of the listing of a trace in hexadecimal bytes, with ` /` behind each.
 fn listed(bytes: Words) -> Carried<String> {
-    let bytes: Result<Vec<u8>, _> = bytes
-        .iter()
-        .map(|byte| u8::from_str_radix(byte, 16))
-        .collect();
+    let bytes = bytes.iter().map(|byte| u8::from_str_radix(byte, 16));
+    let bytes: Result<Vec<u8>, _> = bytes.collect();
     let bytes = bytes.map_err(|_| "a byte has two hexadecimal digits")?;
     let text = String::from_utf8(listing(&bytes, PROGRAM_LIMIT)).map_err(|why| why.to_string())?;
     Ok(text.replace('\n', " / ").trim_end().to_owned())
+}
+
+fn of_aic(aic: &Aic, verb: &str, numbers: &[u32]) -> Option<String> {
+    Some(match verb {
+        "entries" => all(aic.entries().iter().map(entry), "none"),
+        "entry" => aic.entries().last().map_or("none".to_owned(), entry),
+        "mode" => bits([aic.protected(), aic.masked()]),
+        "memory" => {
+            let source = *numbers.first()? as usize;
+            u32::from(aic.sources()[source].memory).to_string()
+        }
+        "remembers" => match aic.remembered() {
+            None => "nothing".to_owned(),
+            Some(Selection::Nobody) => "nobody".to_owned(),
+            Some(Selection::Source {
+                number,
+                vector,
+                level,
+            }) => format!("{number}@{level}@{vector}"),
+        },
+        _ => return None,
+    })
 }
 
 /// A handler as its source and level, a mark as `mark` with its level if it has one.
@@ -427,41 +307,68 @@ fn entry(entry: &Entry) -> String {
     source + &level
 }
 
-fn index_at(offset: u32) -> Index {
-    match offset {
+fn of_indexed(indexed: &Indexed, verb: &str, numbers: &[u32]) -> Option<String> {
+    let index = |offset: u32| match offset {
         0x80 => Index::Global,
         _ => Index::Host((offset - 0x900) as usize / 4),
-    }
+    };
+    let held = |&offset: &u32| {
+        let held = indexed.held(index(offset));
+        held.map_or("nothing".to_owned(), |word| word.to_string())
+    };
+    Some(match verb {
+        "held" => all(numbers.iter().map(held), "none"),
+        "hold" => u32::from(indexed.hold()).to_string(),
+        "looks" => indexed.looked(*numbers.first()?).to_string(),
+        _ => return None,
+    })
+}
+
+/// What is told of a source and the trace.
+fn of_trace(trace: &[u8], verb: &str, source: usize) -> Option<String> {
+    let records = Records::of(trace, PROGRAM_LIMIT);
+    Some(match verb {
+        "counts" => {
+            let counts = records.history.counts(source);
+            let [started, waited, entries] = [counts.started, counts.waited, counts.entries];
+            format!("started {started} waited {waited} entries {entries}")
+        }
+        "waits" => all(records.history.waits(source).iter().map(wait), "none"),
+        "bounds" => all(records.waits(source).iter().map(bounded), "none"),
+        "summary" => {
+            let it = records.summary(source);
+            let [waits, unended, unbounded] = [it.waits, it.unended, it.unbounded];
+            let (first, most) = (or_none(it.first_unbounded), it.most.map(terms));
+            let most = most.unwrap_or(" none".to_owned());
+            let waits = format!("waits {waits} unended {unended} unbounded {unbounded}");
+            format!("{waits} first {first} seen {} most{most}", it.seen)
+        }
+        _ => return None,
+    })
+}
+
+fn wait(wait: &Wait) -> String {
+    let end = match wait.end {
+        End::Started => "started",
+        End::Over => "over",
+        End::Never => "never",
+    };
+    format!("from {} to {} {end}", wait.from, wait.to)
 }
 
 /// A wait with its bound; terms that are 0 are not told.
 fn bounded(wait: &Bounded) -> String {
-    let ended = wait
-        .ended
-        .map_or("none".to_owned(), |step| step.to_string());
+    let (began, ended, started) = (wait.began, or_none(wait.ended), wait.started);
     let bound = match wait.bound {
         Bound::Terms(all) => terms(all),
         Bound::Rewritten(step) => format!(" rewritten {step}"),
     };
-    format!(
-        "from {} to {ended} started {}{bound}",
-        wait.began, wait.started
-    )
+    format!("from {began} to {ended} started {started}{bound}")
 }
 
 fn terms(terms: Terms) -> String {
-    let names = [
-        "pending",
-        "edges",
-        "commands",
-        "turns",
-        "closed-active",
-        "remembered",
-    ];
-    let each = names
-        .iter()
-        .zip(terms.each())
-        .filter(|(_, count)| *count > 0);
+    let names = "pending edges commands turns closed-active remembered".split(' ');
+    let each = names.zip(terms.each()).filter(|(_, count)| *count > 0);
     each.map(|(name, count)| format!(" {name} {count}"))
         .collect()
 }

@@ -77,7 +77,7 @@ const OPERATORS: [&[&str]; 6] = [
     &["*", "/", "%"],
 ];
 
-/// What a word without spaces comes to: a decimal or hexadecimal number, a name, or both with operators and brackets.
+/// What a word without spaces comes to: a decimal number with no zero in front, a hexadecimal one, a name, or both with operators and brackets.
 pub fn number_of(word: &str, names: &Names) -> Result<u32, String> {
     if let Some((before, rest)) = word.rsplit_once('(') {
         let (inner, behind) = rest.split_once(')').ok_or("a bracket is not closed")?;
@@ -109,12 +109,15 @@ pub fn number_of(word: &str, names: &Names) -> Result<u32, String> {
         return number_of(rest, names).map(|number| !number);
     }
     let read = match word.strip_prefix("0x") {
-        Some(digits) => u32::from_str_radix(digits, 16),
-        None => word.parse(),
+        Some(digits) => u32::from_str_radix(digits, 16).ok(),
+        None => word
+            .parse()
+            .ok()
+            .filter(|_| word == "0" || !word.starts_with('0')),
     };
     match (read, names.get(word)) {
-        (Ok(number), _) => Ok(number),
-        (Err(_), Some(meaning)) if meaning != word => number_of(meaning, names),
+        (Some(number), _) => Ok(number),
+        (None, Some(meaning)) if meaning != word => number_of(meaning, names),
         _ => Err(format!("{word:?} is no number")),
     }
 }
