@@ -23,7 +23,7 @@ use text::{Block, Text};
 const TEXTS: [(&str, &str, usize); 7] = [
     ("aic", include_str!("worked/aic.txt"), 56),
     ("aintc", include_str!("worked/aintc.txt"), 30),
-    ("bounds", include_str!("worked/bounds.txt"), 15),
+    ("bounds", include_str!("worked/bounds.txt"), 21),
     ("cic", include_str!("worked/cic.txt"), 39),
     ("core", include_str!("worked/core.txt"), 5),
     ("figures", include_str!("worked/figures.txt"), 13),

@@ -1,5 +1,6 @@
 //! Carries out the lines of worked cases on the model. What a line comes to is told in words, and so is what is expected.
 
+use bench::bounds::kept::Unkept;
 use bench::bounds::waits::{Bound, Bounded, Terms};
 use bench::bounds::Records;
 use bench::listing::listing;
@@ -7,6 +8,7 @@ use bench::model::aic::{Aic, Entry, Selection};
 use bench::model::indexed::{Index, Indexed};
 use bench::model::{Machine, Recorded, Step};
 use bench::report::history::{End, Wait};
+use bench::stack::{Row, Table};
 use bench::trace::{encode, play, PROGRAM_LIMIT};
 use bench::typed::{CONTROLLERS, STEPS};
 
@@ -19,13 +21,12 @@ struct State {
     trace: Vec<u8>,
 }
 
-/// A case that is carried out: the controller, what was kept of it, and what the last step answered.
+/// A case that is carried out: the controller, and what was kept of it.
 #[derive(Clone)]
 pub struct Run<'a> {
     text: &'a Text<'a>,
     now: Option<State>,
     kept: Option<State>,
-    last: String,
 }
 
 type Words<'w> = &'w [&'w str];
@@ -35,19 +36,14 @@ const REFUSED: &str = "refused by ";
 
 impl<'a> Run<'a> {
     pub fn new(text: &'a Text<'a>) -> Run<'a> {
-        let (now, kept, last) = (None, None, String::new());
-        Run {
-            text,
-            now,
-            kept,
-            last,
-        }
+        let (now, kept) = (None, None);
+        Run { text, now, kept }
     }
 
-    /// Lines in order; what stands below `for` is carried out for each of its values.
-    pub fn lines(&mut self, lines: &[Line], names: &Names) -> Carried<()> {
+    /// Lines in order, and what the last one comes to; what stands below `for` is carried out for each of its values.
+    pub fn lines(&mut self, lines: &[Line], names: &Names) -> Carried<String> {
         let Some((line, rest)) = lines.split_first() else {
-            return Ok(());
+            return Ok(String::new());
         };
         let told = |why| format!("line {}: {}: {why}", line.number, line.words.join(" "));
         match &line.words[..] {
@@ -56,23 +52,26 @@ impl<'a> Run<'a> {
                     let named = parameters.split(',').zip(value.split(','));
                     self.clone().lines(rest, &with(names, named))?;
                 }
-                Ok(())
+                Ok(String::new())
             }
             ["let", name, value] => self.lines(rest, &with(names, [(*name, *value)])),
             words => {
-                self.line(words, names).map_err(told)?;
-                self.lines(rest, names)
+                let found = self.line(words, names).map_err(told)?;
+                match rest.is_empty() {
+                    true => Ok(found),
+                    false => self.lines(rest, names),
+                }
             }
         }
     }
 
-    fn line(&mut self, words: Words, names: &Names) -> Carried<()> {
+    fn line(&mut self, words: Words, names: &Names) -> Carried<String> {
         if let ["each", name, all, rest @ ..] = words {
             let all: Vec<&str> = all.split(',').collect();
             for value in values(&all, names)? {
                 self.line(rest, &with(names, [(*name, value.as_str())]))?;
             }
-            return Ok(());
+            return Ok(String::new());
         }
         let marks = (0..words.len()).filter(|&at| ["=", "!", ":"].contains(&words[at]));
         let marks: Vec<usize> = marks.chain([words.len()]).collect();
@@ -88,7 +87,7 @@ impl<'a> Run<'a> {
             let wanted = &words[pair[0] + 1..pair[1]];
             self.judge(words[pair[0]], wanted, &found, names)?;
         }
-        Ok(())
+        Ok(found)
     }
 
     /// What is expected behind a mark, beside what was found.
@@ -119,15 +118,14 @@ impl<'a> Run<'a> {
     /// What a line asks for: a controller, a step, a word of the text, or something to be told.
     fn act(&mut self, asked: Words, names: &Names) -> Carried<String> {
         let Some((verb, rest)) = asked.split_first() else {
-            return Ok(self.last.clone());
+            return Ok(String::new());
         };
         let verb = names.get(*verb).map_or(*verb, String::as_str);
         if let Some(word) = self.text.word(verb) {
             let given: Vec<String> = rest.iter().map(|word| normal(word, names)).collect();
             let named = word.head[2..].iter().copied();
             let named = named.zip(given.iter().map(String::as_str));
-            self.lines(&word.lines, &with(names, named))?;
-            return Ok(self.last.clone());
+            return self.lines(&word.lines, &with(names, named));
         }
         let is_step = STEPS.iter().any(|(name, ..)| *name == verb);
         match verb {
@@ -187,13 +185,9 @@ impl<'a> Run<'a> {
         for number in told.into_iter().flatten() {
             encode(number, 1, &mut state.trace);
         }
-        self.last.clear();
         match state.machine.step(Recorded { step, privilege }) {
             Ok(value) if verb != "read" && value != 0 => Err(format!("it answered {value}")),
-            Ok(value) => {
-                self.last = value.to_string();
-                Ok(value.to_string())
-            }
+            Ok(value) => Ok(value.to_string()),
             Err(refusal) => Ok(format!("{REFUSED}{}", refusal.number())),
         }
     }
@@ -233,7 +227,7 @@ impl<'a> Run<'a> {
             _ => None,
         };
         let state = self.now.as_ref().ok_or("no controller was started")?;
-        let of_trace = || of_trace(&state.trace, verb, *numbers.first()? as usize);
+        let of_trace = || of_trace(&state.trace, verb, numbers);
         let told = of_machine.or_else(of_trace);
         told.ok_or_else(|| format!("{verb:?} is no word"))
     }
@@ -324,14 +318,32 @@ fn of_indexed(indexed: &Indexed, verb: &str, numbers: &[u32]) -> Option<String> 
     })
 }
 
-/// What is told of a source and the trace.
-fn of_trace(trace: &[u8], verb: &str, source: usize) -> Option<String> {
+/// What is told of a trace and of a source, or of a table: its forced sources, then number, priority and type of others.
+fn of_trace(trace: &[u8], verb: &str, numbers: &[u32]) -> Option<String> {
     let records = Records::of(trace, PROGRAM_LIMIT);
+    let (&first, more) = numbers.split_first()?;
+    let source = first as usize;
     Some(match verb {
         "counts" => {
             let counts = records.history.counts(source);
             let [started, waited, entries] = [counts.started, counts.waited, counts.entries];
             format!("started {started} waited {waited} entries {entries}")
+        }
+        "breaks" => {
+            let mut table = Table {
+                forced: first,
+                ..Table::default()
+            };
+            for row in more.chunks(3) {
+                let [priority, kind, frame] = [row[1], row[2], 0];
+                table.rows[row[0] as usize] = Row {
+                    priority,
+                    kind,
+                    frame,
+                };
+            }
+            let told = |it: Unkept| format!("by {} source {}", it.step, it.source);
+            records.unkept(&table).map_or("nowhere".to_owned(), told)
         }
         "waits" => all(records.history.waits(source).iter().map(wait), "none"),
         "bounds" => all(records.waits(source).iter().map(bounded), "none"),
