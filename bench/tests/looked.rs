@@ -1,20 +1,15 @@
-//! How far an index read looks (02, 10/12): the model against a count word by word and against wrong counts; and the
-//! comparison of questions itself.
+//! How far an index read looks (02, 10/12): the model against a count word by word and against wrong counts.
 
-use bench::batch::Batch;
-use bench::compare::{compare, expected, Outcome, Subject, Summary, MOST_FAILURES};
+use bench::compare::{compare, Outcome, Summary};
 use bench::generate::cic::{ENABLE_SET as ENABLES, RAW_SET as STATUS};
 use bench::generate::indexed::{CONTROL, GLOBAL_INDEX as GLOBAL, STATUS_SET};
 use bench::generate::Script;
 use bench::listed;
-use bench::looked::coverage::{Coverage, Item, Whose};
 use bench::looked::generate::Generator;
 use bench::looked::{looked, told, Question};
 use bench::model::cic::Cic;
 use bench::model::indexed::{Index, Indexed, Register, NONE};
 use bench::model::{Controller, Machine, Step};
-use bench::program::Program;
-use bench::tally::Listed;
 use bench::trace::{play, PROGRAM_LIMIT};
 
 /// The index of a host.
@@ -195,38 +190,4 @@ fn a_wrong_count_differs() {
         let summary = compare(generator.cases(random), with(slip));
         assert!(summary.differ > 0, "{slip:?} is not found at random");
     }
-}
-
-#[test]
-fn the_sweeps_reach_every_listed_item() {
-    let summary = compare_some(0, |question| Ok(expected(question)));
-    assert_eq!(summary.differ, 0);
-    assert_eq!(summary.coverage.gaps(), []);
-}
-
-#[test]
-fn what_is_counted_is_listed_and_listed_once() {
-    let coverage: Coverage = compare_some(6_000, |question| Ok(expected(question))).coverage;
-    assert_eq!(coverage.unlisted(), [], "counted and not listed");
-    assert_eq!(Coverage::listed_twice(), []);
-    let listed = Coverage::wanted();
-    assert!((1..=32).all(|words| listed.contains(&Item::Words(Whose::Host, words))));
-}
-
-#[test]
-fn a_batch_is_fed_and_heard_and_failures_are_found() {
-    let reference = env!("CARGO_BIN_EXE_reference");
-    let mut batch = Batch::new(Program::new(reference, &["--batch"]));
-    let summary = compare_some(300, |question| batch.ask(question.request()));
-    assert_eq!(summary.differ, 0);
-    let failing = compare_some(0, |_| Err("it fell over".to_string()));
-    assert_eq!(
-        (failing.differ, failing.compared),
-        (MOST_FAILURES, MOST_FAILURES)
-    );
-    let lost = compare_some(0, |question| {
-        let text = expected(question);
-        Ok(text[..text.len() - 1].to_vec())
-    });
-    assert_eq!(lost.differ, lost.compared);
 }
