@@ -1,11 +1,11 @@
 //! Wrong writers, each with one part otherwise: the comparison finds every one of them.
 
 use bench::compare::compare;
-use bench::explained::places::{accessed, register, Register};
+use bench::explained::places::{accessed, register};
 use bench::explained::{document, explain_by, Asked, Parts, Told};
 use bench::model::aic::Selection;
 use bench::model::aintc::Side;
-use bench::model::{Answer, Kind, Machine, Recorded, Refusal, Step};
+use bench::model::{Answer, Kind, Machine, Recorded, Step};
 use bench::numbered::Numbered;
 
 const RIGHT: Parts = Parts::RIGHT;
@@ -44,27 +44,6 @@ fn writing(told: &Told, names: &[&str], edit: fn(u32) -> u32) -> String {
     (RIGHT.fields)(&with(told, step, told.answer))
 }
 
-/// The place as that of the other sort of access.
-fn place_as_other(told: &Told, names: &[&str]) -> String {
-    let step = told.recorded.step;
-    let named = accessed(told.before, step).is_some_and(|it| names.contains(&it.group.name));
-    let other = match step {
-        Step::Read { offset } if named => Step::Write { offset, value: 0 },
-        Step::Write { offset, .. } if named => Step::Read { offset },
-        step => step,
-    };
-    (RIGHT.place)(&with(told, other, told.answer))
-}
-
-const INDICES: [&str; 6] = [
-    "STATUS_SET_INDEX",
-    "STATUS_CLR_INDEX",
-    "ENABLE_SET_INDEX",
-    "ENABLE_CLR_INDEX",
-    "HINT_ENABLE_SET_INDEX",
-    "HINT_ENABLE_CLR_INDEX",
-];
-
 /// The parts in the other order, each still led as it was.
 fn turned(text: &str) -> String {
     let parts = text.split("; ").skip(1).collect::<Vec<_>>().into_iter();
@@ -101,7 +80,7 @@ macro_rules! wrong {
 
 type Wrong = (&'static str, fn(&mut Parts));
 
-const FIRST_AND_STATEMENT: [Wrong; 8] = [
+const FIRST_AND_STATEMENT: [Wrong; 6] = [
     ("kind 4 has another document", |parts| {
         parts.first = |kind| match kind {
             Kind::Indexed => document(Kind::Aintc),
@@ -113,8 +92,6 @@ const FIRST_AND_STATEMENT: [Wrong; 8] = [
     }),
     wrong!(statement, "digits are small letters", |_, text| text
         .to_lowercase()),
-    wrong!(statement, "an offset has four digits", |_, text| text
-        .replacen(" 0x", " 0x0", 1)),
     wrong!(statement, "a value has no zeros before it", |told, text| {
         match told.recorded.step {
             Step::Write { offset, value } => format!("write 0x{offset:03X} 0x{value:X}"),
@@ -127,79 +104,17 @@ const FIRST_AND_STATEMENT: [Wrong; 8] = [
             _ => text,
         }
     }),
-    wrong!(statement, "a line is told in hexadecimal", |told, text| {
-        match told.recorded.step {
-            Step::Line { line, level } => format!("line 0x{line:X} {level}"),
-            _ => text,
-        }
-    }),
     wrong!(statement, "it is followed by two spaces", |_, text| {
         format!("{text:<29}")
     }),
 ];
 
-const PLACES: [Wrong; 14] = [
-    wrong!(place, "a write of IVR is of 27.8.5", |told, _| {
-        place_as_other(told, &["IVR"])
-    }),
-    wrong!(place, "a write of the host map is of 2.2.16", |told, _| {
-        place_as_other(told, &["HINT_MAP"])
-    }),
-    wrong!(place, "a read of an index register is of 001", |told, _| {
-        place_as_other(told, &INDICES)
-    }),
-    wrong!(place, "a write of the global index is of 2.2.10", |t, _| {
-        place_as_other(t, &["GLOBAL_PRI_INDEX"])
-    }),
-    wrong!(place, "a write of a host's index is of 2.2.17", |t, _| {
-        place_as_other(t, &["HINT_PRI_INDEX"])
-    }),
-    wrong!(place, "a write of MIRn is of 4.5.13", |told, _| {
-        place_as_other(told, &["MIR"])
-    }),
-    wrong!(place, "a refused step has no place", |told, text| {
-        told.answer.map_or(String::new(), |_| text)
-    }),
-    wrong!(place, "a refused line has no place", |told, text| {
-        match (told.recorded.step, told.answer) {
-            (Step::Line { .. }, Err(_)) => String::new(),
-            _ => text,
-        }
-    }),
-    wrong!(place, "a bad privilege has no place", |told, text| {
-        match told.recorded.privilege {
-            0 | 1 => text,
-            _ => String::new(),
-        }
-    }),
+const PLACES: [Wrong; 2] = [
     wrong!(place, "a misaligned offset has a name", |told, text| {
         match told.recorded.step {
             Step::Read { offset } => {
                 let offset = offset & !3;
                 (RIGHT.place)(&with(told, Step::Read { offset }, told.answer))
-            }
-            _ => text,
-        }
-    }),
-    wrong!(place, "FIQ inputs count on from 32", |told, text| {
-        match (told.before, told.recorded.step) {
-            (Machine::Core(_), Step::Line { line, .. }) if (32..40).contains(&line) => {
-                format!(" FIQ input {line}")
-            }
-            _ => text,
-        }
-    }),
-    wrong!(place, "what repeats has no number", |told, text| {
-        match accessed(told.before, told.recorded.step) {
-            Some(register) => text.replacen(&register.name(), register.group.name, 1),
-            None => text,
-        }
-    }),
-    wrong!(place, "a space is before the number", |told, text| {
-        match accessed(told.before, told.recorded.step) {
-            Some(Register { group, number }) if group.many > 1 => {
-                let (name, other) = (group.name, format!("{} {number}", group.name));
-                text.replacen(&format!("{name}{number}"), &other, 1)
             }
             _ => text,
         }
@@ -219,7 +134,7 @@ const PLACES: [Wrong; 14] = [
     }),
 ];
 
-const ANSWERS: [Wrong; 5] = [
+const ANSWERS: [Wrong; 3] = [
     wrong!(value, "a value has small letters", |_, text| text
         .to_lowercase()),
     wrong!(value, "a write has a value", |told, text| {
@@ -227,10 +142,6 @@ const ANSWERS: [Wrong; 5] = [
             (Step::Write { .. }, Ok(value)) => format!(" = 0x{value:08X}"),
             _ => text,
         }
-    }),
-    wrong!(refusal, "a refusal has no number", |_, text| {
-        let words = text.split_once(": ");
-        words.map_or(String::new(), |(_, words)| format!(" refused: {words}"))
     }),
     wrong!(refusal, "a line comes before its level", |told, text| {
         match told.recorded.step {
@@ -240,18 +151,9 @@ const ANSWERS: [Wrong; 5] = [
             _ => text,
         }
     }),
-    wrong!(refusal, "read and write are exchanged", |told, text| {
-        match told.answer {
-            Err(Refusal::ReadOnly) => {
-                let other = Err(Refusal::WriteOnly);
-                (RIGHT.refusal)(&with(told, told.recorded.step, other))
-            }
-            _ => text,
-        }
-    }),
 ];
 
-const FIELDS: [Wrong; 12] = [
+const FIELDS: [Wrong; 8] = [
     wrong!(fields, "a refused write has fields", |told, _| {
         (RIGHT.fields)(&with(told, told.recorded.step, Ok(0)))
     }),
@@ -264,18 +166,6 @@ const FIELDS: [Wrong; 12] = [
     wrong!(fields, "the type stands in bits 5:4", |told, _| {
         writing(told, &["SMR"], |value| value << 1 & 0x60 | value & 7)
     }),
-    wrong!(fields, "source 0 is told of FFER", |told, text| {
-        match written(told) {
-            Some(("FFER", 1)) => "; sources 0".to_owned(),
-            _ => text,
-        }
-    }),
-    wrong!(fields, "a word with no bit says nothing", |_, text| {
-        match text.ends_with(" none") {
-            true => String::new(),
-            false => text,
-        }
-    }),
     wrong!(fields, "a map is read from its highest byte", |told, _| {
         writing(told, &["CH_MAP", "HINT_MAP"], u32::swap_bytes)
     }),
@@ -285,20 +175,8 @@ const FIELDS: [Wrong; 12] = [
             false => text,
         }
     }),
-    wrong!(fields, "a route is the other way round", |told, _| {
-        writing(told, &["ILR"], |value| value ^ 1)
-    }),
     wrong!(fields, "an ILR's priority is its whole word", |told, _| {
         writing(told, &["ILR"], |value| value << 2 | value & 1)
-    }),
-    wrong!(fields, "the lower bit comes first", |_, text| {
-        match text.starts_with("; SOFTRESET") || text.starts_with("; TURBO") {
-            true => {
-                let (first, second) = text[2..].split_once(", ").unwrap_or_default();
-                format!("; {second}, {first}")
-            }
-            false => text,
-        }
     }),
     wrong!(fields, "a threshold is its whole word", |told, text| {
         match written(told) {
@@ -316,13 +194,7 @@ const FIELDS: [Wrong; 12] = [
     }),
 ];
 
-const DEEDS: [Wrong; 11] = [
-    wrong!(deeds, "a start is told without its level", |_, text| {
-        match text.split_once(" at level ") {
-            Some((start, rest)) => start.to_owned() + rest.get(1..).unwrap_or(""),
-            None => text,
-        }
-    }),
+const DEEDS: [Wrong; 6] = [
     wrong!(
         deeds,
         "what is closed is what is open then",
@@ -336,24 +208,6 @@ const DEEDS: [Wrong; 11] = [
             }
         }
     ),
-    wrong!(deeds, "a start forgets in silence", |_, text| {
-        match text.starts_with("; starts") {
-            true => text.replace("; forgets", ""),
-            false => text,
-        }
-    }),
-    wrong!(deeds, "what is forgotten comes first", |_, text| {
-        match text.ends_with("; forgets") {
-            true => turned(&text),
-            false => text,
-        }
-    }),
-    wrong!(deeds, "leaving the mode forgets in silence", |_, text| {
-        match text == "; forgets" {
-            true => String::new(),
-            false => text,
-        }
-    }),
     wrong!(deeds, "another vector alone is nothing", |told, text| {
         match remembered(told) {
             Some([(one, _, level), (other, _, now)]) if (one, level) == (other, now) => {
@@ -396,14 +250,9 @@ const DEEDS: [Wrong; 11] = [
             _ => text,
         }
     }),
-    wrong!(deeds, "FIQ comes first", |told, text| match told.after {
-        Machine::Aintc(_) => turned(&text),
-        _ => text,
-    }),
 ];
 
-const OUTPUTS: [Wrong; 5] = [
-    wrong!(outputs, "FIQ comes first", |_, text| turned(&text)),
+const OUTPUTS: [Wrong; 4] = [
     wrong!(
         outputs,
         "an output is told though it stays",
@@ -441,25 +290,8 @@ const OUTPUTS: [Wrong; 5] = [
     }),
 ];
 
-/// What is wrong, the words that are said, and those that a wrong writer says in their place, if any.
-const OTHER_WORDS: &str = "
-a bad level is no such line | a level is 0 or 1 | no such line
-a host is a system | no such host | no such system
-a channel is a host | names no channel | names no host
-a bad privilege is a bad number | a privilege is 0 or 1 | a number is beyond its limit
-an external level is taken as internal | ; low level | ; high level
-an external edge is taken as internal | ; falling edge | ; rising edge
-more is told by one too many | , 7 and 24 more | , 7 and 25 more
-nine are told | , 7 and 1 more | , 7, 8
-a bank begins at its number | ; inputs 32 | ; inputs 1
-an index is told by its low ten bits | ; host | ; system
-a mark is a start of source 0 | opens a mark | starts source 0 at level 0
-a closed mark is source 0 | closes a mark | closes source 0
-a close of nothing says nothing | ; nothing open
-hosts are counted with the one that is told | and 1 more | and 2 more
-the highest host is told | host 0 and 255 more | host 255 and 255 more
-an output that ends is not told | ; FIQ inactive
-";
+/// Wrong writers that say other words.
+const OTHER_WORDS: &str = include_str!("wrong.txt");
 
 /// Whether the comparison finds what is wrong: the sweeps from the back, where those of explanations are; one that
 /// differs is enough.
@@ -483,6 +315,8 @@ fn the_comparison_finds_every_wrong_writer() {
         &DEEDS,
         &OUTPUTS,
     ];
+    let rows = OTHER_WORDS.lines().filter(|row| row.contains(" | "));
+    assert_eq!(groups.concat().len() + rows.clone().count(), 74);
     let mut missed = Vec::new();
     for (name, edit) in groups.concat() {
         let mut parts = RIGHT;
@@ -491,7 +325,7 @@ fn the_comparison_finds_every_wrong_writer() {
             missed.push(name);
         }
     }
-    for row in OTHER_WORDS.trim().lines() {
+    for row in rows {
         let words: Vec<&str> = row.split(" | ").collect();
         let text = |asked: &Asked| String::from_utf8_lossy(&asked.text()).into_owned();
         let other = words.get(2).copied().unwrap_or("");
