@@ -35,14 +35,14 @@ fn answers_as_the_model_does<S: Subject + Made + Debug>(more: usize) {
     }
 }
 
+/// Listings, explanations, figures, stacks of tables and the words that a read looks at.
 #[test]
-fn the_library_lists_as_the_model_does() {
+fn the_library_answers_as_the_model_does() {
     answers_as_the_model_does::<Case>(500);
-}
-
-#[test]
-fn the_library_explains_as_the_model_does() {
     answers_as_the_model_does::<Asked>(500);
+    answers_as_the_model_does::<Counted>(2_000);
+    answers_as_the_model_does::<Typed>(2_000);
+    answers_as_the_model_does::<Question>(3_000);
 }
 
 /// A text is written as far as there is room, and the room behind it is left alone.
@@ -83,16 +83,6 @@ fn steps_and_endings_are_those_of_the_model() {
     }
 }
 
-#[test]
-fn the_library_counts_as_the_model_does() {
-    answers_as_the_model_does::<Counted>(2_000);
-}
-
-#[test]
-fn the_library_says_the_stack_of_a_table_as_the_model_does() {
-    answers_as_the_model_does::<Typed>(2_000);
-}
-
 /// The line of a text, into a room of so many bytes.
 fn stack_line(text: &[u8], room: usize) {
     fills(&line(text), room, |out| stack_into(text, out));
@@ -123,11 +113,6 @@ fn every_character_counts_as_in_the_model() {
                 .for_each(|text| stack_line(text, 40));
         }
     }
-}
-
-#[test]
-fn the_library_looks_at_as_many_words_as_the_model_does() {
-    answers_as_the_model_does::<Question>(3_000);
 }
 
 /// Every limit and every offset of a trace that holds, ends the hold and clears.

@@ -7,6 +7,12 @@
 //! accepted. `for a,b 1,2 3,4` carries out the rest of the case for each pair; `each n 0..8 STEP` one step for each
 //! number. `keep` keeps the controller, `same` wants it as it was kept, `back` goes back to it, `forget` lets an AIC
 //! forget, and `alike OFFSET` reads now and from what was kept and wants the same.
+//!
+//! What is not read is told: of an AIC its `entries` (a handler as 9@4, its source and level), the last `entry`, what it
+//! `remembers` (source, level and vector), its `mode` (protected, masked) and the `memory` of a source; of a CoreInterrupt
+//! the `levels` of IRQ and FIQ; of a CIC what is `held` at the offsets of indices, its `hold` mode and the words that a read
+//! `looks` at; of a trace up to here the `counts`, `waits`, `bounds` and the `summary` of a source, and where it `breaks` a
+//! table; and `lists` the listing of bytes, with a stroke behind each line.
 
 #[path = "worked/run.rs"]
 mod run;

@@ -93,17 +93,7 @@ pub fn number_of(word: &str, names: &Names) -> Result<u32, String> {
         };
         let one = number_of(&word[..at], names)?;
         let other = number_of(&word[at + sign.len()..], names)?;
-        return Ok(match *sign {
-            ">" => u32::from(one > other),
-            "|" => one | other,
-            "&" => one & other,
-            "<<" => one << other,
-            "+" => one.wrapping_add(other),
-            "-" => one.wrapping_sub(other),
-            "*" => one.wrapping_mul(other),
-            "/" => one / other,
-            _ => one % other,
-        });
+        return Ok(joined(one, sign, other));
     }
     if let Some(rest) = word.strip_prefix('!') {
         return number_of(rest, names).map(|number| !number);
@@ -119,6 +109,20 @@ pub fn number_of(word: &str, names: &Names) -> Result<u32, String> {
         (Some(number), _) => Ok(number),
         (None, Some(meaning)) if meaning != word => number_of(meaning, names),
         _ => Err(format!("{word:?} is no number")),
+    }
+}
+
+fn joined(one: u32, sign: &str, other: u32) -> u32 {
+    match sign {
+        ">" => u32::from(one > other),
+        "|" => one | other,
+        "&" => one & other,
+        "<<" => one << other,
+        "+" => one.wrapping_add(other),
+        "-" => one.wrapping_sub(other),
+        "*" => one.wrapping_mul(other),
+        "/" => one / other,
+        _ => one % other,
     }
 }
 
