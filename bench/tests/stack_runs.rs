@@ -207,14 +207,9 @@ fn with_something_remembered_at_the_start_more_is_open_than_the_figure() {
     let small = small(&[(4, 3, FRAMES[3])], 0, 1);
     let mut aic = set_up(&small.table, 0);
     let mode = 1 << 5;
-    for step in [
-        write(DCR, 1),
-        write(ENABLE, 1 << 4),
-        write(4 * 4, mode),
-        write(SET, 1 << 4),
-        IVR,
-        write(4 * 4, mode | 3),
-    ] {
+    let remembers = [write(DCR, 1), write(ENABLE, 1 << 4), write(4 * 4, mode)];
+    let asks = [write(SET, 1 << 4), IVR, write(4 * 4, mode | 3)];
+    for step in remembers.into_iter().chain(asks) {
         put(&mut aic, step);
     }
     assert!(aic.entries().is_empty() && aic.remembered().is_some());

@@ -80,7 +80,8 @@ macro_rules! wrong {
 
 type Wrong = (&'static str, fn(&mut Parts));
 
-const FIRST_AND_STATEMENT: [Wrong; 6] = [
+/// The first line and the statement, the place, the answer, the fields, what was done and the outputs, in this order.
+const WRONG: [Wrong; 29] = [
     ("kind 4 has another document", |parts| {
         parts.first = |kind| match kind {
             Kind::Indexed => document(Kind::Aintc),
@@ -107,9 +108,6 @@ const FIRST_AND_STATEMENT: [Wrong; 6] = [
     wrong!(statement, "it is followed by two spaces", |_, text| {
         format!("{text:<29}")
     }),
-];
-
-const PLACES: [Wrong; 2] = [
     wrong!(place, "a misaligned offset has a name", |told, text| {
         match told.recorded.step {
             Step::Read { offset } => {
@@ -132,9 +130,6 @@ const PLACES: [Wrong; 2] = [
             _ => text,
         }
     }),
-];
-
-const ANSWERS: [Wrong; 3] = [
     wrong!(value, "a value has small letters", |_, text| text
         .to_lowercase()),
     wrong!(value, "a write has a value", |told, text| {
@@ -151,9 +146,6 @@ const ANSWERS: [Wrong; 3] = [
             _ => text,
         }
     }),
-];
-
-const FIELDS: [Wrong; 8] = [
     wrong!(fields, "a refused write has fields", |told, _| {
         (RIGHT.fields)(&with(told, told.recorded.step, Ok(0)))
     }),
@@ -192,9 +184,6 @@ const FIELDS: [Wrong; 8] = [
             _ => text,
         }
     }),
-];
-
-const DEEDS: [Wrong; 6] = [
     wrong!(
         deeds,
         "what is closed is what is open then",
@@ -250,9 +239,6 @@ const DEEDS: [Wrong; 6] = [
             _ => text,
         }
     }),
-];
-
-const OUTPUTS: [Wrong; 4] = [
     wrong!(
         outputs,
         "an output is told though it stays",
@@ -307,18 +293,10 @@ fn is_found(wrong: impl Fn(&Asked) -> Vec<u8>) -> bool {
 
 #[test]
 fn the_comparison_finds_every_wrong_writer() {
-    let groups: [&[Wrong]; 6] = [
-        &FIRST_AND_STATEMENT,
-        &PLACES,
-        &ANSWERS,
-        &FIELDS,
-        &DEEDS,
-        &OUTPUTS,
-    ];
     let rows = OTHER_WORDS.lines().filter(|row| row.contains(" | "));
-    assert_eq!(groups.concat().len() + rows.clone().count(), 74);
+    assert_eq!(WRONG.len() + rows.clone().count(), 74);
     let mut missed = Vec::new();
-    for (name, edit) in groups.concat() {
+    for (name, edit) in WRONG {
         let mut parts = RIGHT;
         edit(&mut parts);
         if !is_found(|asked| explain_by(parts, &asked.case.trace, asked.case.limit)) {

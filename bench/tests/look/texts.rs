@@ -103,7 +103,8 @@ fn renumber(lines: &mut Lines, with: impl Fn(u32) -> u32) {
     }
 }
 
-const OF_VALUES: [(&str, Place, Spoil); 16] = [
+/// Of values, of ticks and of what is declared, in this order.
+const SPOILED: [(&str, Place, Spoil); 37] = [
     ("a change left out", is_change, remove),
     ("a value at the start left out", is_first, remove),
     ("a change twice", is_change, double),
@@ -171,9 +172,6 @@ const OF_VALUES: [(&str, Place, Spoil); 16] = [
         lines[at].replace_range(place..=place, "x");
     }),
     ("the last line cut off", is_last, remove),
-];
-
-const OF_TICKS: [(&str, Place, Spoil); 6] = [
     ("a tick left out", is_tick, remove),
     ("a tick twice", is_tick, double),
     ("two ticks exchanged", is_tick, |random, lines, at| {
@@ -192,9 +190,6 @@ const OF_TICKS: [(&str, Place, Spoil); 6] = [
             lines.insert(at + usize::from(!is_ending(lines, at)), line);
         }
     }),
-];
-
-const OF_DECLARATIONS: [(&str, Place, Spoil); 15] = [
     ("a signal not declared", is_variable, remove),
     ("a signal declared twice", is_variable, double),
     ("two signals of one code", is_later, |_, lines, at| {
@@ -248,14 +243,13 @@ const OF_DECLARATIONS: [(&str, Place, Spoil); 15] = [
 
 #[test]
 fn spoiled_dumps_are_found() {
-    let spoiled = [&OF_VALUES[..], &OF_TICKS, &OF_DECLARATIONS].concat();
-    let mut found: Vec<(&str, usize)> = spoiled.iter().map(|&(name, ..)| (name, 0)).collect();
+    let mut found: Vec<(&str, usize)> = SPOILED.iter().map(|&(name, ..)| (name, 0)).collect();
     for (number, trace) in traces().into_iter().enumerate() {
         let right = waves(&trace, PROGRAM_LIMIT);
         let text = String::from_utf8(write(&right)).expect("a dump is plain text");
         let lines: Lines = text.lines().map(str::to_string).collect();
         let random = &mut Random::for_item(3, number as u64);
-        for (&(name, place, spoil), (_, count)) in spoiled.iter().zip(&mut found) {
+        for (&(name, place, spoil), (_, count)) in SPOILED.iter().zip(&mut found) {
             let places = (0..lines.len()).filter(|&at| place(&lines, at));
             let places: Vec<usize> = places.collect();
             let mut other = lines.clone();
