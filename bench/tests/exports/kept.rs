@@ -1,13 +1,12 @@
 //! One controller that a caller keeps, many steps at once through `wisteria_step_words`, beside the model: 100,000 steps of each
-//! kind, or as many as KEPT_STEPS says. Only built where the proved library is linked in, with the feature `exports`.
-#![cfg(feature = "exports")]
+//! kind, or as many as KEPT_STEPS says.
 
-use bench::model::aic::Aic;
-use bench::model::cic::Cic;
-use bench::model::core::CoreInterrupt;
-use bench::model::indexed::Indexed;
-use bench::model::{Kind, Machine, Recorded, Refusal, Step};
+use bench::generate::Script;
+use bench::model::{Kind, Recorded};
 use bench::random::Random;
+use bench::trace::play;
+
+use super::told_to_model;
 
 const WORDS: usize = 2048;
 
@@ -25,8 +24,10 @@ extern "C" {
 }
 
 /// The words of a started controller.
-fn started(kind: Kind, numbers: [u32; 5]) -> Box<[u32; WORDS]> {
+fn started(kind: Kind, configured: &[u32]) -> Box<[u32; WORDS]> {
     let mut held = Box::new([0xA5A5_A5A5; WORDS]);
+    let mut numbers = [0; 5];
+    numbers[..configured.len()].copy_from_slice(configured);
     // Both pointers are those of arrays that nothing else uses, here and below.
     let refusal = unsafe { wisteria_start(&mut *held, kind as u32, &numbers) };
     assert_eq!(refusal, 0, "{kind:?} {numbers:?}");
@@ -54,35 +55,6 @@ fn taken(held: &mut [u32; WORDS], steps: &[[u32; 4]]) -> Vec<[u32; 2]> {
     };
     assert_eq!(refusal, 0);
     answers
-}
-
-/// The same controller in the model.
-fn modelled(kind: Kind, [a, b, c, d, e]: [u32; 5]) -> Machine {
-    let cic = || Cic::new(a as usize, b as usize, c as usize, d);
-    match kind {
-        Kind::Aic => Machine::Aic(Box::new(Aic::new(a, b))),
-        Kind::Core => Machine::Core(CoreInterrupt::new(a, b, c == 1, d == 1)),
-        Kind::Cic => Machine::Cic(Box::new(cic())),
-        Kind::Aintc => Machine::Aintc(Box::default()),
-        Kind::Indexed => Machine::Indexed(Box::new(Indexed::new(cic(), e == 1))),
-    }
-}
-
-/// What the model answers to one of them; a step of no kind is 9 and changes nothing.
-fn answered(machine: &mut Machine, [kind, x, y, privilege]: [u32; 4]) -> [u32; 2] {
-    let step = match kind {
-        1 => Step::Read { offset: x },
-        2 => Step::Write {
-            offset: x,
-            value: y,
-        },
-        3 => Step::Line { line: x, level: y },
-        _ => return [Refusal::UnknownKind.number(), 0],
-    };
-    match machine.step(Recorded { step, privilege }) {
-        Ok(value) => [0, value],
-        Err(refusal) => [refusal.number(), 0],
-    }
 }
 
 /// Mostly registers and lines that there are, and now and then anything.
@@ -113,32 +85,34 @@ fn by_chance(random: &mut Random, kind: Kind) -> [u32; 4] {
 fn many_steps_at_once_are_those_of_the_model() {
     let count =
         std::env::var("KEPT_STEPS").map_or(100_000, |count| count.parse().expect("a number"));
-    let configured = [
-        (Kind::Aic, [0xFFFF_0000, 0x30, 0, 0, 0]),
-        (Kind::Core, [3, 9, 1, 0, 0]),
-        (Kind::Cic, [40, 5, 3, 0x4E80_0200, 0]),
-        (Kind::Aintc, [0; 5]),
-        (Kind::Indexed, [40, 5, 3, 7, 1]),
+    let configured: [(Kind, &[u32]); 5] = [
+        (Kind::Aic, &[0xFFFF_0000, 0x30]),
+        (Kind::Core, &[3, 9, 1, 0]),
+        (Kind::Cic, &[40, 5, 3, 0x4E80_0200]),
+        (Kind::Aintc, &[]),
+        (Kind::Indexed, &[40, 5, 3, 7, 1]),
     ];
     let mut refusals = std::collections::BTreeMap::new();
     for (kind, numbers) in configured {
         let mut random = Random::for_item(46, kind as u64);
         let mut held = started(kind, numbers);
-        let mut machine = modelled(kind, numbers);
+        let begins = Script::new(kind as u32, numbers).bytes;
+        let machine = play(&begins, 0, &mut ()).machine;
+        let mut machine = machine.expect("the model is started");
         let mut done = 0;
         while done < count {
             let portion = random.within(1, 3_000).min(count - done) as usize;
             let steps: Vec<_> = (0..portion).map(|_| by_chance(&mut random, kind)).collect();
             let answers = taken(&mut held, &steps);
-            for (step, answer) in steps.iter().zip(answers) {
-                assert_eq!(answer, answered(&mut machine, *step), "{kind:?} {step:x?}");
+            for (&[step, x, y, privilege], answer) in steps.iter().zip(answers) {
+                let expected = told_to_model([step, x, y], |step| {
+                    machine.step(Recorded { step, privilege })
+                });
+                let expected = [expected.refusal, expected.value];
+                assert_eq!(answer, expected, "{kind:?} {step} {x:x} {y:x} {privilege}");
                 *refusals.entry(answer[0]).or_insert(0) += 1;
             }
-            assert_eq!(
-                shown(&held),
-                machine.shown(),
-                "{kind:?} after {done} and {portion}"
-            );
+            assert_eq!(shown(&held), machine.shown(), "{kind:?} after {done}");
             done += portion as u32;
         }
     }

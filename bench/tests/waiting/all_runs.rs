@@ -1,11 +1,11 @@
-//! Waiting behind level-sensitive sources (02, 12/12) over all runs of two and three sources, some with entries open
-//! from before: the right sides of levels.rs are met and never passed, and each part of them is needed.
+//! Waiting over all runs of two to four sources, some with entries open from before: the right sides are met and never
+//! passed, a source that is not ahead starts only if it was remembered, and each part of the right sides is needed.
 
 use std::collections::BTreeMap;
 
-use super::levels::{count, line, those, Happened, Modes, Seen};
-use super::*;
 use bench::model::aic::Source;
+
+use super::*;
 
 /// What an exhaustive search counts as owed at the outset and as gained by a step, and which closes it leaves out.
 #[derive(Clone, Copy)]
@@ -58,19 +58,19 @@ fn steps_on(levels: &[u32], edges: &[u32]) -> Vec<Step> {
 }
 
 /// A name for a record of a board, and the extra.
-fn name(aic: &Aic, extra: i32) -> String {
+fn name(aic: &Aic, extra: Option<usize>) -> String {
     let word = |property: fn(&Source) -> bool| those(|n| property(&aic.sources()[n]));
     let (lines, memories) = (word(|source| source.line), word(|source| source.memory));
     let (entries, remembered) = (aic.entries(), aic.remembered());
     let mode = aic.protected();
-    format!("{lines:x} {memories:x} {entries:?} {remembered:?} {mode} {extra}")
+    format!("{lines:x} {memories:x} {entries:?} {remembered:?} {mode} {extra:?}")
 }
 
 /// All records that the steps of a board lead to.
 fn records(board: &Board) -> BTreeMap<String, Aic> {
     let (mut records, mut open) = (BTreeMap::new(), board.first.clone());
     while let Some(aic) = open.pop() {
-        if aic.entries().len() > board.entries || records.contains_key(&name(&aic, 0)) {
+        if aic.entries().len() > board.entries || records.contains_key(&name(&aic, None)) {
             continue;
         }
         for &step in &board.steps {
@@ -78,7 +78,7 @@ fn records(board: &Board) -> BTreeMap<String, Aic> {
             put(&mut next, step);
             open.push(next);
         }
-        records.insert(name(&aic, 0), aic);
+        records.insert(name(&aic, None), aic);
     }
     records
 }
@@ -90,7 +90,7 @@ fn largest_excess(board: &Board, counted: Count) -> ([i32; 2], [usize; 3]) {
     let room = |aic: &Aic| aic.entries().len() <= board.entries;
     let records = records(board);
     let mut most: BTreeMap<String, i32> = BTreeMap::new();
-    let mut open: Vec<(Aic, i32, i32)> = Vec::new();
+    let mut open: Vec<(Aic, Option<usize>, i32)> = Vec::new();
     for aic in records.values().filter(|aic| waits(aic, 3)) {
         let (seen, modes) = (Seen::of(aic), Modes::of(aic));
         let owed = count((counted.owed)(&seen) & modes.ahead[3] & !modes.fast);
@@ -103,7 +103,8 @@ fn largest_excess(board: &Board, counted: Count) -> ([i32; 2], [usize; 3]) {
             continue;
         }
         *place = excess;
-        largest[extra as usize] = largest[extra as usize].max(excess);
+        let place = &mut largest[usize::from(extra.is_some())];
+        *place = excess.max(*place);
         if excess > 1 {
             break;
         }
@@ -117,8 +118,9 @@ fn largest_excess(board: &Board, counted: Count) -> ([i32; 2], [usize; 3]) {
                 continue;
             }
             let turned = if counted.turns { happened.turned } else { 0 };
-            let started = happened.started.is_some_and(|other| other != 3);
-            let change = i32::from(started) - count((happened.received | turned) & ahead);
+            let started = happened.started.filter(|&other| other != 3);
+            assert!(started.is_none_or(|other| has(ahead, other) || started == extra));
+            let change = i32::from(started.is_some()) - count((happened.received | turned) & ahead);
             open.push((next, extra, excess + change));
         }
     }
@@ -167,9 +169,21 @@ fn three_sources(modes: [(u32, u32); 3]) -> Board {
     }
 }
 
+/// Four sources by edge: 5 and 6 are ahead of 3, and 20 is behind.
+fn four_edges() -> Board {
+    let modes = [(3, 4), (5, 5), (6, 6), (20, 1)];
+    let modes = modes.map(|(source, priority)| (source, RISING_EDGE | priority));
+    Board {
+        first: after_each(&modes, &[&[write(DCR, 1)]]),
+        steps: steps_on(&[], &modes.map(|(source, _)| source)),
+        entries: 3,
+    }
+}
+
 fn boards() -> Vec<(&'static str, Board)> {
     let k = (3, RISING_EDGE | 4);
     vec![
+        ("edges alone", four_edges()),
         ("a level ahead", two_sources()),
         (
             "a level and an edge ahead",
@@ -191,7 +205,7 @@ fn boards() -> Vec<(&'static str, Board)> {
 }
 
 #[test]
-fn over_all_runs_of_two_and_three_sources_the_excess_is_the_extra() {
+fn over_all_runs_of_few_sources_the_excess_is_the_extra() {
     for (what, board) in boards() {
         for counted in [LEVELS, NORMAL] {
             let (largest, sizes) = largest_excess(&board, counted);
@@ -204,42 +218,19 @@ fn over_all_runs_of_two_and_three_sources_the_excess_is_the_extra() {
 /// Each right side less one of its parts is broken on the smallest board.
 #[test]
 fn over_all_runs_of_two_sources_each_part_is_needed() {
+    let [mut no_premise, mut no_turns] = [[NORMAL, LEVELS]; 2];
+    no_premise
+        .iter_mut()
+        .for_each(|count| count.premise = false);
+    no_turns.iter_mut().for_each(|count| count.turns = false);
+    let owed = |seen: &Seen| seen.due_by_any;
+    let by_any = Count { owed, ..NORMAL };
     let less = [
-        (
-            "the premise",
-            Count {
-                premise: false,
-                ..NORMAL
-            },
-        ),
-        (
-            "the premise of the first",
-            Count {
-                premise: false,
-                ..LEVELS
-            },
-        ),
-        (
-            "the turns",
-            Count {
-                turns: false,
-                ..NORMAL
-            },
-        ),
-        (
-            "the turns of the first",
-            Count {
-                turns: false,
-                ..LEVELS
-            },
-        ),
-        (
-            "the level of the handler",
-            Count {
-                owed: |seen| seen.due_by_any,
-                ..NORMAL
-            },
-        ),
+        ("the premise", no_premise[0]),
+        ("the premise of the first", no_premise[1]),
+        ("the turns", no_turns[0]),
+        ("the turns of the first", no_turns[1]),
+        ("the level of the handler", by_any),
     ];
     for (what, counted) in less {
         let (largest, sizes) = largest_excess(&two_sources(), counted);

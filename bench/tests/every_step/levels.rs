@@ -1,11 +1,13 @@
 //! The AIC's sources kept by level (02, 5/12), on the model: eight words and a byte say IRQ and the source that starts,
 //! and a step changes the words of few levels.
 
-use super::*;
-
+use bench::generate::aic::{DISABLE, ENABLE, FFER, HIGH_LEVEL, IVR};
 use bench::generate::Generator;
-use bench::model::aic::{Register, Selection, SOURCES};
+use bench::model::aic::{Aic, Register, Selection};
+use bench::model::{Controller, Machine, Step};
 use bench::trace::play;
+
+use super::{aic_of, each_step, sweeps, Turn};
 
 /// A word for each level, and a bit for each that is not 0.
 #[derive(Clone, Copy, Debug, PartialEq, Eq)]
@@ -54,10 +56,11 @@ struct Watch {
 
 impl Watch {
     /// The levels whose words a step may change; none is said for a command, which may change all.
-    fn touched(before: &Aic, after: &Aic, step: Step, answer: Answer) -> Option<Vec<u8>> {
+    fn touched(turn: &Turn<Aic>) -> Option<Vec<u8>> {
+        let (before, after) = (turn.before, turn.after);
         let now = |n: usize| after.sources()[n].priority;
-        Some(match step {
-            _ if answer.is_err() => vec![],
+        Some(match turn.step {
+            _ if turn.answer.is_err() => vec![],
             Step::Line { line, .. } => vec![now(line as usize)],
             Step::Read { offset: IVR } if !before.protected() => {
                 let edge = |&n: &usize| before.sources()[n].edge_triggered();
@@ -84,7 +87,8 @@ impl Watch {
         })
     }
 
-    fn look(&mut self, before: &Aic, after: &Aic, step: Step, answer: Answer) {
+    fn look(&mut self, turn: Turn<Aic>) {
+        let (before, after, step) = (turn.before, turn.after, turn.step);
         let (were, are) = (Levels::of(before), Levels::of(after));
         assert_eq!(are.first(after), after.best());
         assert_eq!(
@@ -93,7 +97,7 @@ impl Watch {
             "{are:?}"
         );
         if let (Step::Read { offset: IVR }, Some(source)) = (step, were.first(before)) {
-            assert_eq!(answer, Ok(before.sources()[source].vector));
+            assert_eq!(turn.answer, Ok(before.sources()[source].vector));
             let (number, level) = match after.remembered() {
                 Some(Selection::Source { number, level, .. }) => (Some(number), Some(level)),
                 _ => {
@@ -105,7 +109,7 @@ impl Watch {
             assert_eq!(level, Some(were.highest()));
             self.started += 1;
         }
-        if let Some(touched) = Watch::touched(before, after, step, answer) {
+        if let Some(touched) = Watch::touched(&turn) {
             for level in (0..8_u8).filter(|level| !touched.contains(level)) {
                 let at = usize::from(level);
                 assert_eq!(were.words[at], are.words[at], "level {level}, {step:?}");
@@ -117,42 +121,39 @@ impl Watch {
 
 #[test]
 fn levels_say_irq_and_the_start_after_every_step() {
-    let generator = Generator::new(5);
     let mut watch = Watch::default();
-    let none = Levels {
-        words: [0; 8],
-        any: 0,
-    };
-    for number in 0..generator.sweeps() + 2_000 {
-        let case = generator.case(number);
-        if let Some(Machine::Aic(aic)) = play(&case.trace, 0, &mut ()).machine {
-            assert_eq!(Levels::of(&aic), none);
-        }
-        let limit = case.limit.min(2_000);
-        each_step(&case.trace, limit, aic_of, |before, after, step, answer| {
-            watch.look(before, after, step, answer);
-        });
-    }
+    let numbers = 0..sweeps() + 2_000;
+    each_step((5, numbers.clone(), 2_000), aic_of, |turn| watch.look(turn));
     assert!(watch.moved > 10_000, "{} steps moved", watch.moved);
     assert!(watch.started > 2_000, "{} starts", watch.started);
+    let (words, any) = ([0; 8], 0);
+    let generator = Generator::new(5);
+    for case in numbers.map(|number| generator.case(number)) {
+        if let Some(Machine::Aic(aic)) = play(&case.trace, 0, &mut ()).machine {
+            assert_eq!(Levels::of(&aic), Levels { words, any });
+        }
+    }
 }
 
 /// Source 0 and forced sources are in no level, whatever their priority; nor is one that is disabled or idle.
 #[test]
 fn who_is_in_a_level() {
-    let mut aic = aic();
-    for source in 0..SOURCES as u32 {
-        raise(&mut aic, source, source % 8);
+    let mut aic = Aic::new(0, 0);
+    let mut put = |offset, value| assert_eq!(aic.step(Step::Write { offset, value }), Ok(0));
+    put(ENABLE, u32::MAX);
+    (0..32).for_each(|source| put(4 * source, HIGH_LEVEL | source % 8));
+    put(FFER, 1 << 9 | 1);
+    put(DISABLE, 1 << 17);
+    for line in (0..32).filter(|&line| line != 25) {
+        assert_eq!(aic.step(Step::Line { line, level: 1 }), Ok(0));
     }
-    put(&mut aic, FFER, 1 << 9 | 1);
-    put(&mut aic, DISABLE, 1 << 17);
-    set(&mut aic, 25, 0);
     let levels = Levels::of(&aic);
     assert_eq!(levels.words[0], 1 << 8 | 1 << 16 | 1 << 24);
     assert_eq!(levels.words[1], 1 << 1);
     assert_eq!(levels.words[2], 1 << 2 | 1 << 10 | 1 << 18 | 1 << 26);
     assert_eq!((levels.any, levels.highest()), (0xFF, 7));
-    put(&mut aic, DISABLE, u32::MAX);
+    let (offset, value) = (DISABLE, u32::MAX);
+    assert_eq!(aic.step(Step::Write { offset, value }), Ok(0));
     let levels = Levels::of(&aic);
     assert_eq!((levels.any, levels.highest()), (0, 255));
 }
