@@ -7,12 +7,12 @@ mod core;
 mod levels;
 mod protect;
 
+use crate::facts;
 use crate::model::aic::Register as AicRegister;
-use crate::model::aintc::{Aintc, Register as AintcRegister, Side as Request};
+use crate::model::aintc::{Register as AintcRegister, Side as Request};
 use crate::model::core::{Register as CoreRegister, Side};
-use crate::model::indexed::Indexed;
-use crate::model::{Answer, Kind, Machine, Recorded, Refusal, Step};
-use crate::tally::{Listed, Tally};
+use crate::model::{Access, Answer, Kind, Machine, Recorded, Refusal, Step};
+use crate::tally::{Fact, Listed, Tally};
 use crate::trace::{shortest, Defect, Field, Observer, Report};
 use crate::trace::{LONGEST, NUMBER_BYTES, PROGRAM_LIMIT};
 
@@ -166,21 +166,23 @@ pub enum Turn {
     Emptied,
 }
 
-/// What can put a source of the AIC into a level or take it out.
-#[derive(Clone, Copy, Debug, PartialEq, Eq, PartialOrd, Ord, Hash)]
-pub enum Cause {
-    Line,
-    Mode,
-    Enable,
-    Disable,
-    Set,
-    Clear,
-    Force,
-    Unforce,
-    /// A read of IVR outside protect mode.
-    Start,
-    /// A write of IVR in protect mode.
-    Handshake,
+listed! {
+    /// What can put a source of the AIC into a level or take it out.
+    #[derive(Clone, Copy, Debug, PartialEq, Eq, PartialOrd, Ord, Hash)]
+    pub enum Cause {
+        Line,
+        Mode,
+        Enable,
+        Disable,
+        Set,
+        Clear,
+        Force,
+        Unforce,
+        /// A read of IVR outside protect mode.
+        Start,
+        /// A write of IVR in protect mode.
+        Handshake,
+    }
 }
 
 /// What came of an access to a register.
@@ -263,14 +265,38 @@ impl Way {
             Step::Line { .. } => Way::Line,
         }
     }
+}
 
-    fn outcome(self, answer: Answer) -> Outcome {
-        match (self, answer) {
+impl Outcome {
+    fn of(step: Step, answer: Answer) -> Outcome {
+        match (Way::of(step), answer) {
             (_, Err(refusal)) => Outcome::Refused(refusal),
             (Way::Read, Ok(_)) => Outcome::Read,
             (_, Ok(_)) => Outcome::Written,
         }
     }
+
+    /// What a read and a write of a register come to, by the accesses that it allows.
+    fn both(access: Access) -> [Outcome; 2] {
+        match access {
+            Access::ReadWrite => [Outcome::Read, Outcome::Written],
+            Access::ReadOnly => [Outcome::Read, Outcome::Refused(Refusal::ReadOnly)],
+            Access::WriteOnly => [Outcome::Refused(Refusal::WriteOnly), Outcome::Written],
+        }
+    }
+}
+
+/// The offset that a step reads or writes.
+fn offset(step: Step) -> Option<u32> {
+    match step {
+        Step::Read { offset } | Step::Write { offset, .. } => Some(offset),
+        Step::Line { .. } => None,
+    }
+}
+
+/// The same, where it is that of a word.
+fn word_offset(step: Step) -> Option<u32> {
+    offset(step).filter(|offset| offset.is_multiple_of(4))
 }
 
 /// The counters, and what is known of a step before it is carried out.
@@ -280,13 +306,10 @@ pub struct Coverage {
     steps: u64,
     /// The forms of the numbers read since the start or the last step.
     forms: Vec<Item>,
-    /// The AIC, the AINTC or the CIC with indices before the present step; of a CIC only what its rules need.
-    aic_before: Option<aic::Before>,
+    /// The controller before the present step.
+    before: Option<Machine>,
     /// The last read of IVR in protect mode that no write has followed.
     looked: Option<protect::Looked>,
-    aintc_before: Option<Aintc>,
-    indexed_before: Option<Indexed>,
-    cic_before: Option<cic::Before>,
 }
 
 impl Coverage {
@@ -305,6 +328,11 @@ impl Coverage {
         self.tally.reach(item);
     }
 
+    /// Counts the situations that are there.
+    fn facts(&mut self, facts: impl IntoIterator<Item = Fact>) {
+        self.tally.facts(Item::Fact, facts);
+    }
+
     /// Counts the forms of the numbers of a configuration that was accepted, or of a step that was read whole.
     fn reach_forms(&mut self) {
         let mut forms = std::mem::take(&mut self.forms);
@@ -313,25 +341,26 @@ impl Coverage {
         }
         self.forms = forms;
     }
+}
 
-    /// Counts a situation if it is there.
-    fn fact_if(&mut self, there: bool, fact: &'static str) {
-        if there {
-            self.reach(Item::Fact(fact));
-        }
+facts! { FACTS;
+    fn offsets(offset: u32, answer: Answer) {
+        let past = |bytes| answer == Err(Refusal::Misaligned) && offset % 4 == bytes;
+        let alias = offset >= 0xFFFF_F000 && answer == Err(Refusal::NoRegister);
+        "an offset one past a word" if past(1);
+        "an offset two past a word" if past(2);
+        "an offset three past a word" if past(3);
+        "an offset that names a register modulo 4 KiB" if alias;
     }
 
-    fn misaligned(&mut self, step: Step, answer: Answer) {
-        let (Step::Read { offset } | Step::Write { offset, .. }) = step else {
-            return;
-        };
-        if answer == Err(Refusal::Misaligned) {
-            self.fact_if(offset % 4 == 1, "an offset one past a word");
-            self.fact_if(offset % 4 == 2, "an offset two past a word");
-            self.fact_if(offset % 4 == 3, "an offset three past a word");
-        }
-        let alias = offset >= 0xFFFF_F000 && answer == Err(Refusal::NoRegister);
-        self.fact_if(alias, "an offset that names a register modulo 4 KiB");
+    fn endings(report: &Report) {
+        let at_limit = report.steps == PROGRAM_LIMIT;
+        let early = |refusal| report.ending.is_err_and(|fault| fault.refusal == refusal);
+        "a trace played to its end" if report.ending.is_ok();
+        "as many steps as the program's limit" if report.ending.is_ok() && at_limit;
+        "the longest trace played to its end" if report.ending == Ok(LONGEST);
+        "ended by the program's step limit" if early(Refusal::StepLimit) && at_limit;
+        "ended by the length of the trace" if early(Refusal::TraceTooLong);
     }
 }
 
@@ -354,30 +383,32 @@ impl Observer for Coverage {
         }
     }
 
-    fn before(&mut self, machine: &Machine, recorded: Recorded) {
+    fn before(&mut self, machine: &Machine, _: Recorded) {
         self.reach_forms();
-        match machine {
-            Machine::Aic(aic) => self.aic_before = Some(aic::Before::new(aic)),
-            Machine::Core(_) => {}
-            Machine::Cic(cic) => self.cic_before = Some(cic::Before::new(cic, recorded.step)),
-            Machine::Aintc(aintc) => self.aintc_before = Some(Aintc::clone(aintc)),
-            Machine::Indexed(indexed) => self.indexed_before = Some(Indexed::clone(indexed)),
-        }
+        self.before = Some(machine.clone());
     }
 
     fn after(&mut self, machine: &Machine, _number: u32, recorded: Recorded, answer: Answer) {
         let step = recorded.step;
         self.steps += 1;
-        self.misaligned(step, answer);
+        if let Some(offset) = offset(step) {
+            self.facts(offsets(offset, answer));
+        }
         if let Err(refusal) = answer {
             self.reach(Item::Refused(machine.kind(), Way::of(step), refusal));
         }
-        match machine {
-            Machine::Aic(aic) => self.aic_step(aic, step, answer),
-            Machine::Core(core) => self.core_step(core, step, answer),
-            Machine::Cic(cic) => self.cic_step(cic, step, answer),
-            Machine::Aintc(aintc) => self.aintc_step(aintc, recorded, answer),
-            Machine::Indexed(indexed) => self.indexed_step(indexed, step, answer),
+        let before = self.before.take().expect("a step has a before");
+        match (&before, machine) {
+            (Machine::Aic(before), Machine::Aic(aic)) => self.aic_step(before, aic, step, answer),
+            (_, Machine::Core(core)) => self.core_step(core, step, answer),
+            (Machine::Cic(before), Machine::Cic(cic)) => self.cic_step(before, cic, step, answer),
+            (Machine::Aintc(before), Machine::Aintc(aintc)) => {
+                self.aintc_step(before, aintc, recorded, answer);
+            }
+            (Machine::Indexed(before), Machine::Indexed(indexed)) => {
+                self.indexed_step(before, indexed, step, answer);
+            }
+            _ => unreachable!("a step leaves the controller what it is"),
         }
     }
 
@@ -385,28 +416,17 @@ impl Observer for Coverage {
         if let Some(machine) = &report.machine {
             self.reach(Item::Started(machine.kind(), Size::of(report.steps)));
         }
-        let at_limit = report.steps == PROGRAM_LIMIT;
-        match report.ending {
-            Ok(length) => {
-                self.fact_if(true, "a trace played to its end");
-                self.fact_if(at_limit, "as many steps as the program's limit");
-                self.fact_if(length == LONGEST, "the longest trace played to its end");
-            }
-            Err(fault) => {
-                if let Some(field) = fault.field {
-                    self.reach(Item::Ended(fault.refusal, field));
-                    match (fault.defect, self.forms.last()) {
-                        (Some(defect), _) => self.reach(Item::Defect(field, defect)),
-                        (None, Some(Item::Padded(..))) => {
-                            self.reach(Item::EndedPadded(fault.refusal, field));
-                        }
-                        _ => {}
+        self.facts(endings(report));
+        if let Err((fault, field)) = report.ending.map_err(|fault| (fault, fault.field)) {
+            if let Some(field) = field {
+                self.reach(Item::Ended(fault.refusal, field));
+                match (fault.defect, self.forms.last()) {
+                    (Some(defect), _) => self.reach(Item::Defect(field, defect)),
+                    (None, Some(Item::Padded(..))) => {
+                        self.reach(Item::EndedPadded(fault.refusal, field));
                     }
+                    _ => {}
                 }
-                let stopped = fault.refusal == Refusal::StepLimit;
-                self.fact_if(stopped && at_limit, "ended by the program's step limit");
-                let too_long = fault.refusal == Refusal::TraceTooLong;
-                self.fact_if(too_long, "ended by the length of the trace");
             }
         }
         self.forms.clear();
@@ -452,20 +472,7 @@ fn traces() -> Vec<Item> {
             items.push(Item::EndedPadded(refusal, field));
         }
     }
-    items.extend(
-        [
-            "an offset one past a word",
-            "an offset two past a word",
-            "an offset three past a word",
-            "an offset that names a register modulo 4 KiB",
-            "a trace played to its end",
-            "as many steps as the program's limit",
-            "the longest trace played to its end",
-            "ended by the program's step limit",
-            "ended by the length of the trace",
-        ]
-        .map(Item::Fact),
-    );
+    items.extend(FACTS.iter().copied().map(Item::Fact));
     items
 }
 

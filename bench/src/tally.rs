@@ -17,9 +17,45 @@ impl<I> Default for Tally<I> {
     }
 }
 
+/// A situation in plain words, and whether it is there.
+pub type Fact = (bool, &'static str);
+
+/// Situations in plain words, each with what tells that it is there. A table becomes a function that judges all of its
+/// situations; the names of all tables are the list, so that none is counted that is not listed.
+#[macro_export]
+macro_rules! facts {
+    ($seen:vis $list:ident; $(
+        $(#[$about:meta])*
+        fn $table:ident($($given:ident: $of:ty),*) {
+            $(let $name:pat = $is:expr;)*
+            $($fact:literal if $there:expr;)*
+        }
+    )*) => {
+        $seen const $list: &[&str] = &[$($($fact),*),*];
+        $(
+            $(#[$about])*
+            fn $table($($given: $of),*) -> [$crate::tally::Fact; [$($fact),*].len()] {
+                $(let $name = $is;)*
+                [$(($there, $fact)),*]
+            }
+        )*
+    };
+}
+
 impl<I: Copy + Eq + Hash> Tally<I> {
     pub fn reach(&mut self, item: I) {
         *self.counts.entry(item).or_insert(0) += 1;
+    }
+
+    /// Counts the situations that are there, each as an item.
+    pub fn facts(
+        &mut self,
+        item: impl Fn(&'static str) -> I,
+        facts: impl IntoIterator<Item = Fact>,
+    ) {
+        for (_, fact) in facts.into_iter().filter(|&(there, _)| there) {
+            self.reach(item(fact));
+        }
     }
 
     pub fn count(&self, item: I) -> u64 {

@@ -7,9 +7,10 @@ mod situations;
 use std::collections::{BTreeMap, BTreeSet};
 
 use super::{Call, Reply, Sort};
+use crate::facts;
 use crate::model::board::{Board, Wire};
 use crate::model::core::{Register, Side, IRQ_INPUTS};
-use crate::tally::{Listed, Tally};
+use crate::tally::{Fact, Listed, Tally};
 
 use self::reasons::{beyond, configured_beyond};
 
@@ -129,6 +130,27 @@ pub enum Up {
     Higher,
 }
 
+facts! { FACTS;
+    /// What would have been refused too, but comes behind 6.
+    fn six(board: &Board, call: &Call) {
+        let leads_up = match *call {
+            Call::Connect { controller, wire: Wire::Output(_, other), .. } => {
+                other >= controller && (other as usize) < board.controllers()
+            }
+            _ => false,
+        };
+        let offset = match *call {
+            Call::Read { offset, .. } | Call::Write { offset, .. } => Some(offset),
+            _ => None,
+        };
+        let nowhere = |offset: u32| offset % 4 == 0 && Register::at(offset).is_none();
+        "6 of a ninth, whose configuration is bad" if !configured_beyond(call).is_empty();
+        "6 of an input, with a wire that leads up" if leads_up;
+        "6 of a controller, with a misaligned offset" if offset.is_some_and(|o| o % 4 != 0);
+        "6 of a controller, with no register at the offset" if offset.is_some_and(nowhere);
+    }
+}
+
 /// The counters.
 #[derive(Clone, Debug, Default)]
 pub struct Coverage {
@@ -227,11 +249,9 @@ impl Coverage {
         self.tally.reach(item);
     }
 
-    /// Counts a situation if it is there.
-    fn fact_if(&mut self, there: bool, fact: &'static str) {
-        if there {
-            self.reach(Item::Fact(fact));
-        }
+    /// Counts the situations that are there.
+    fn facts(&mut self, facts: impl IntoIterator<Item = Fact>) {
+        self.tally.facts(Item::Fact, facts);
     }
 
     /// What there is to a refusal: the number at fault, and what would have been refused too but comes later.
@@ -240,15 +260,12 @@ impl Coverage {
         if let ([(limit, far)], 6) = (faults.as_slice(), number) {
             self.reach(Item::Beyond(call.sort(), *limit, *far));
         }
-        let six = number == 6;
+        if number == 6 {
+            self.facts(six(board, call));
+        }
         match *call {
             Call::Add { .. } => {
-                let bad = configured_beyond(call);
-                self.fact_if(
-                    six && !bad.is_empty(),
-                    "6 of a ninth, whose configuration is bad",
-                );
-                if let ([nth], 10) = (bad.as_slice(), number) {
+                if let ([nth], 10) = (configured_beyond(call).as_slice(), number) {
                     self.reach(Item::Configuration(*nth));
                 }
             }
@@ -256,27 +273,12 @@ impl Coverage {
                 controller,
                 input,
                 wire: Wire::Output(side, other),
-            } if other >= controller => {
-                let there = (other as usize) < board.controllers();
-                self.fact_if(six && there, "6 of an input, with a wire that leads up");
-                if number == 15 {
-                    let spot = Spot::of(board, controller as usize, input as usize);
-                    let up = [Up::Higher, Up::Same][usize::from(other == controller)];
-                    self.reach(Item::NotLower(side, up, spot));
-                }
+            } if number == 15 => {
+                let spot = Spot::of(board, controller as usize, input as usize);
+                let up = [Up::Higher, Up::Same][usize::from(other == controller)];
+                self.reach(Item::NotLower(side, up, spot));
             }
-            Call::Read { offset, .. } | Call::Write { offset, .. } => {
-                self.fact_if(
-                    six && offset % 4 != 0,
-                    "6 of a controller, with a misaligned offset",
-                );
-                self.fact_if(
-                    six && offset % 4 == 0 && Register::at(offset).is_none(),
-                    "6 of a controller, with no register at the offset",
-                );
-                self.accessed(call, number);
-            }
-            _ => {}
+            _ => self.accessed(call, number),
         }
     }
 

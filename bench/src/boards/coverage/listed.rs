@@ -27,7 +27,8 @@ impl Listed for Coverage {
         items.extend(wires());
         items.extend(values());
         items.extend(registers());
-        items.extend(FACTS.iter().copied().map(Item::Fact));
+        let facts = [super::FACTS, super::situations::FACTS].concat();
+        items.extend(facts.into_iter().map(Item::Fact));
         items
     }
 }
@@ -148,24 +149,3 @@ fn registers() -> Vec<Item> {
     }
     items
 }
-
-const FACTS: &[&str] = &[
-    "6 of a ninth, whose configuration is bad",
-    "6 of an input, with a wire that leads up",
-    "6 of a controller, with a misaligned offset",
-    "6 of a controller, with no register at the offset",
-    "input 0 is wired",
-    "input 31 is wired",
-    "input 32 is wired",
-    "an input is wired to pin 0",
-    "a wire to the next lower number",
-    "a wire from controller 0 to controller 7",
-    "a second wire from one output to one controller",
-    "a clear of a side with no sources is read",
-    "a side is inactive though an unused input is high",
-    "a chain shorter than the controllers below",
-    "a chain longer than the controllers that are wired",
-    "a chain that does not go by the lowest number wired",
-    "a chain that does not go by the highest number wired",
-    "a chain by an unused input alone",
-];
