@@ -7,14 +7,14 @@ mod core;
 mod levels;
 mod protect;
 
-use crate::facts;
 use crate::model::aic::Register as AicRegister;
 use crate::model::aintc::{Register as AintcRegister, Side as Request};
 use crate::model::core::{Register as CoreRegister, Side};
 use crate::model::{Access, Answer, Kind, Machine, Recorded, Refusal, Step};
-use crate::tally::{Fact, Listed, Tally};
+use crate::tally::{each, Fact, Listed, Tally};
 use crate::trace::{shortest, Defect, Field, Observer, Report};
 use crate::trace::{LONGEST, NUMBER_BYTES, PROGRAM_LIMIT};
+use crate::{facts, sorts};
 
 /// Something that a comparison should have reached.
 #[derive(Clone, Copy, Debug, PartialEq, Eq, PartialOrd, Ord, Hash)]
@@ -101,37 +101,23 @@ pub enum Item {
     Fact(&'static str),
 }
 
-/// What an entry of the AIC is.
-#[derive(Clone, Copy, Debug, PartialEq, Eq, PartialOrd, Ord, Hash)]
-pub enum Entered {
-    Handler,
-    Mark,
-}
+sorts! {
+    /// What an entry of the AIC is.
+    Entered { Handler, Mark }
 
-/// What a read of IVR in protect mode found.
-#[derive(Clone, Copy, Debug, PartialEq, Eq, PartialOrd, Ord, Hash)]
-pub enum Seen {
-    Source,
-    Nobody,
-}
+    /// What a read of IVR in protect mode found.
+    Seen { Source, Nobody }
 
-listed! {
     /// What came between that read and a write of IVR. Of a selected source only what concerns it counts, where nobody was
     /// selected what concerns any source.
-    #[derive(Clone, Copy, Debug, PartialEq, Eq, PartialOrd, Ord, Hash)]
-    pub enum Since {
+    Since {
         Nothing,
         /// Its memory was cleared by command.
         Cleared,
-        Set,
-        Disabled,
-        Forced,
-        Retyped,
-        Reordered,
+        Set, Disabled, Forced, Retyped, Reordered,
         /// Its line took it away.
         Gone,
-        Vector,
-        Spurious,
+        Vector, Spurious,
         /// FVR was read.
         Fast,
         /// At the write another candidate is ahead of it.
@@ -151,33 +137,22 @@ listed! {
         /// The mode was left and entered again.
         Reentered,
     }
-}
 
-/// What became of a level of the AIC.
-#[derive(Clone, Copy, Debug, PartialEq, Eq, PartialOrd, Ord, Hash)]
-pub enum Turn {
-    /// It had no waiting source and has one.
-    Filled,
-    /// It had some and has more.
-    Joined,
-    /// It had more and has some.
-    Left,
-    /// It had some and has none.
-    Emptied,
-}
+    /// What became of a level of the AIC.
+    Turn {
+        /// It had no waiting source and has one.
+        Filled,
+        /// It had some and has more.
+        Joined,
+        /// It had more and has some.
+        Left,
+        /// It had some and has none.
+        Emptied,
+    }
 
-listed! {
     /// What can put a source of the AIC into a level or take it out.
-    #[derive(Clone, Copy, Debug, PartialEq, Eq, PartialOrd, Ord, Hash)]
-    pub enum Cause {
-        Line,
-        Mode,
-        Enable,
-        Disable,
-        Set,
-        Clear,
-        Force,
-        Unforce,
+    Cause {
+        Line, Mode, Enable, Disable, Set, Clear, Force, Unforce,
         /// A read of IVR outside protect mode.
         Start,
         /// A write of IVR in protect mode.
@@ -193,27 +168,18 @@ pub enum Outcome {
     Refused(Refusal),
 }
 
-/// Whose prioritised index it is.
-#[derive(Clone, Copy, Debug, PartialEq, Eq, PartialOrd, Ord, Hash)]
-pub enum Whose {
-    Global,
-    Host,
-}
+sorts! {
+    /// Nothing, or something.
+    Size { None, Some }
 
-/// Which sort of step it was.
-#[derive(Clone, Copy, Debug, PartialEq, Eq, PartialOrd, Ord, Hash)]
-pub enum Way {
-    Read,
-    Write,
-    Line,
-}
+    /// Whose prioritised index it is.
+    Whose { Global, Host }
 
-/// Who made an access, by its privilege number.
-#[derive(Clone, Copy, Debug, PartialEq, Eq, PartialOrd, Ord, Hash)]
-pub enum By {
-    Unprivileged,
-    Privileged,
-    TooLarge,
+    /// Which sort of step it was.
+    Way { Read, Write, Line }
+
+    /// Who made an access, by its privilege number.
+    By { Unprivileged, Privileged, TooLarge }
 }
 
 impl By {
@@ -226,13 +192,6 @@ impl By {
     }
 }
 
-/// Nothing, or something.
-#[derive(Clone, Copy, Debug, PartialEq, Eq, PartialOrd, Ord, Hash)]
-pub enum Size {
-    None,
-    Some,
-}
-
 impl Size {
     fn of(count: u32) -> Size {
         match count {
@@ -242,19 +201,20 @@ impl Size {
     }
 }
 
-/// The place of a register in its group, as far as it is configured.
-#[derive(Clone, Copy, Debug, PartialEq, Eq, PartialOrd, Ord, Hash)]
-pub enum Spot {
-    /// A register that is alone in its group.
-    Single,
-    First,
-    Middle,
-    /// The last one, all of whose bits or bytes are configured.
-    LastWhole,
-    /// The last one, some of whose bits or bytes are spare.
-    LastWithSpare,
-    /// One that would exist in a larger part.
-    Beyond,
+sorts! {
+    /// The place of a register in its group, as far as it is configured.
+    Spot {
+        /// A register that is alone in its group.
+        Single,
+        First,
+        Middle,
+        /// The last one, all of whose bits or bytes are configured.
+        LastWhole,
+        /// The last one, some of whose bits or bytes are spare.
+        LastWithSpare,
+        /// One that would exist in a larger part.
+        Beyond,
+    }
 }
 
 impl Way {
@@ -455,7 +415,7 @@ impl Listed for Coverage {
 fn traces() -> Vec<Item> {
     let mut items = Vec::new();
     for kind in Kind::ALL {
-        items.extend([Size::None, Size::Some].map(|size| Item::Started(kind, size)));
+        items.extend(each(|size| Item::Started(kind, size)));
         for way in [Way::Read, Way::Write] {
             items.push(Item::Refused(kind, way, Refusal::Misaligned));
             items.push(Item::Refused(kind, way, Refusal::NoRegister));

@@ -42,6 +42,55 @@ macro_rules! facts {
     };
 }
 
+/// What has few values, all of which are to be reached.
+pub trait Every: Copy {
+    fn every() -> Vec<Self>;
+}
+
+/// An item for each value, or for each two or three of them.
+pub fn each<T: Every, I>(item: impl Fn(T) -> I) -> impl Iterator<Item = I> {
+    T::every().into_iter().map(item)
+}
+
+impl Every for bool {
+    fn every() -> Vec<bool> {
+        vec![false, true]
+    }
+}
+
+impl<A: Every, B: Every> Every for (A, B) {
+    fn every() -> Vec<(A, B)> {
+        let with = |a: A| B::every().into_iter().map(move |b| (a, b));
+        A::every().into_iter().flat_map(with).collect()
+    }
+}
+
+impl<A: Every, B: Every, C: Every> Every for (A, B, C) {
+    fn every() -> Vec<(A, B, C)> {
+        each(|((a, b), c)| (a, b, c)).collect()
+    }
+}
+
+/// Sorts of things that items tell apart.
+#[macro_export]
+macro_rules! sorts {
+    ($($(#[$about:meta])* $name:ident { $($(#[$of:meta])* $value:ident),* $(,)? })*) => {
+        $(
+            $crate::listed! {
+                $(#[$about])*
+                #[derive(Clone, Copy, Debug, PartialEq, Eq, PartialOrd, Ord, Hash)]
+                pub enum $name { $($(#[$of])* $value),* }
+            }
+
+            impl $crate::tally::Every for $name {
+                fn every() -> Vec<$name> {
+                    $name::ALL.to_vec()
+                }
+            }
+        )*
+    };
+}
+
 impl<I: Copy + Eq + Hash> Tally<I> {
     pub fn reach(&mut self, item: I) {
         *self.counts.entry(item).or_insert(0) += 1;

@@ -7,10 +7,10 @@ mod situations;
 use std::collections::{BTreeMap, BTreeSet};
 
 use super::{Call, Reply, Sort};
-use crate::facts;
 use crate::model::board::{Board, Wire};
 use crate::model::core::{Register, Side, IRQ_INPUTS};
-use crate::tally::{Fact, Listed, Tally};
+use crate::tally::{each, Every, Fact, Listed, Tally};
+use crate::{facts, sorts};
 
 use self::reasons::{beyond, configured_beyond};
 
@@ -59,18 +59,12 @@ pub enum Item {
     Fact(&'static str),
 }
 
-/// What a wire leads to.
-#[derive(Clone, Copy, Debug, PartialEq, Eq, PartialOrd, Ord, Hash)]
-pub enum Lead {
-    Nothing,
-    Pin,
-    Irq,
-    Fiq,
+sorts! {
+    /// What a wire leads to.
+    Lead { Nothing, Pin, Irq, Fiq }
 }
 
 impl Lead {
-    pub const ALL: [Lead; 4] = [Lead::Nothing, Lead::Pin, Lead::Irq, Lead::Fiq];
-
     pub fn of(wire: Wire) -> Lead {
         match wire {
             Wire::Nothing => Lead::Nothing,
@@ -88,6 +82,18 @@ pub struct Spot {
     pub used: bool,
 }
 
+impl Every for Side {
+    fn every() -> Vec<Side> {
+        vec![Side::Irq, Side::Fiq]
+    }
+}
+
+impl Every for Spot {
+    fn every() -> Vec<Spot> {
+        each(|(side, used)| Spot { side, used }).collect()
+    }
+}
+
 impl Spot {
     /// The spot of an input of a controller, both of which are there.
     pub fn of(board: &Board, controller: usize, input: usize) -> Spot {
@@ -100,34 +106,30 @@ impl Spot {
     }
 }
 
-/// A limit of a call's numbers.
-#[derive(Clone, Copy, Debug, PartialEq, Eq, PartialOrd, Ord, Hash)]
-pub enum Limit {
-    /// The room of the board.
-    Room,
-    Controller,
-    Input,
-    Pin,
-    /// The controller that a wire comes from.
-    Other,
-    Level,
-}
+sorts! {
+    /// A limit of a call's numbers.
+    Limit {
+        /// The room of the board.
+        Room,
+        Controller,
+        Input,
+        Pin,
+        /// The controller that a wire comes from.
+        Other,
+        Level,
+    }
 
-/// How far beyond its limit a number is.
-#[derive(Clone, Copy, Debug, PartialEq, Eq, PartialOrd, Ord, Hash)]
-pub enum Far {
-    /// The first one beyond.
-    First,
-    /// Of controllers: not the first, but one that a full board has.
-    Absent,
-    Further,
-}
+    /// How far beyond its limit a number is.
+    Far {
+        /// The first one beyond.
+        First,
+        /// Of controllers: not the first, but one that a full board has.
+        Absent,
+        Further,
+    }
 
-/// Where a wire that is refused by 15 leads.
-#[derive(Clone, Copy, Debug, PartialEq, Eq, PartialOrd, Ord, Hash)]
-pub enum Up {
-    Same,
-    Higher,
+    /// Where a wire that is refused by 15 leads.
+    Up { Same, Higher }
 }
 
 facts! { FACTS;
@@ -218,11 +220,7 @@ impl Coverage {
                 _ => format!("{count} refused by {number}"),
             })
             .collect();
-        format!(
-            "{}: {}",
-            format!("{sort:?}").to_lowercase(),
-            words.join(", ")
-        )
+        format!("{}: {}", sort.word(), words.join(", "))
     }
 
     pub(super) fn board(&mut self) {

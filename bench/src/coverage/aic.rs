@@ -4,6 +4,7 @@ use super::{word_offset, Coverage, Entered, Item, Outcome};
 use crate::facts;
 use crate::model::aic::{Aic, Entry, Register, Source, ENTRIES, SOURCES};
 use crate::model::{Answer, Step};
+use crate::tally::each;
 
 /// Whether a normal source of a priority is pending and enabled.
 fn requests_at(aic: &Aic, priority: u8) -> bool {
@@ -379,11 +380,11 @@ pub(super) fn wanted() -> Vec<Item> {
     }
     items.push(Item::Closed(0, None));
     items.extend((0..=3).map(Item::Cisr));
-    for external in [false, true] {
-        for now in [false, true] {
-            items.extend((0..4).map(|kind| Item::Pending(kind, external, now)));
-            items.extend([1, 3].map(|kind| Item::Edge(kind, external, now)));
-        }
+    for kind in 0..4 {
+        items.extend(each(|(external, now)| Item::Pending(kind, external, now)));
+    }
+    for kind in [1, 3] {
+        items.extend(each(|(external, now)| Item::Edge(kind, external, now)));
     }
     items.extend(super::levels::wanted());
     items.extend(super::protect::wanted());

@@ -5,7 +5,7 @@ use super::{offset, By, Coverage, Item, Outcome, Way};
 use crate::facts;
 use crate::model::aintc::{has, ones, Aintc, Chosen, Register, Side, INPUTS};
 use crate::model::{Access, Answer, Kind, Recorded, Refusal, Step};
-use crate::tally::Fact;
+use crate::tally::{each, Fact};
 
 /// An accepted step, and the controller before and after it.
 struct Change<'a> {
@@ -415,12 +415,10 @@ fn registers() -> Vec<Item> {
     let registers = (0..0x300).step_by(4).filter_map(Register::at);
     for register in registers.filter(|&register| is_listed(register)) {
         for way in [Way::Read, Way::Write] {
-            for by in [By::Unprivileged, By::Privileged, By::TooLarge] {
-                for guarded in [false, true] {
-                    let outcome = outcome(register, way, by, guarded);
-                    items.push(Item::Aintc(register, way, by, guarded, outcome));
-                }
-            }
+            items.extend(each(|(by, guarded)| {
+                let outcome = outcome(register, way, by, guarded);
+                Item::Aintc(register, way, by, guarded, outcome)
+            }));
         }
     }
     for input in 0..INPUTS {

@@ -4,6 +4,7 @@ use super::{word_offset, Coverage, Item, Outcome, Size};
 use crate::facts;
 use crate::model::core::{CoreInterrupt, Group, Register, Role, Side, IRQ_INPUTS};
 use crate::model::{Access, Answer, Step};
+use crate::tally::each;
 
 facts! { FACTS;
     fn read(group: &Group, value: u32) {
@@ -79,7 +80,7 @@ impl Coverage {
 pub(super) fn wanted() -> Vec<Item> {
     let mut items = Vec::new();
     for register in (0..0x30).step_by(4).filter_map(Register::at) {
-        for size in [Size::None, Size::Some] {
+        for size in Size::ALL {
             let access = match (register.role, size) {
                 (Role::Raw | Role::Status, _) => Access::ReadOnly,
                 (Role::SoftClear | Role::EnableClear, Size::Some) => Access::WriteOnly,
@@ -91,9 +92,7 @@ pub(super) fn wanted() -> Vec<Item> {
     }
     items.extend([0, 1, 7, 8].map(|count| Item::Sources(Side::Fiq, count)));
     items.extend([0, 1, 31, 32].map(|count| Item::Sources(Side::Irq, count)));
-    for fiq in [false, true] {
-        items.extend([false, true].map(|irq| Item::Levels(fiq, irq)));
-    }
+    items.extend(each(|(fiq, irq)| Item::Levels(fiq, irq)));
     items.extend(FACTS.iter().copied().map(Item::Fact));
     items
 }

@@ -6,6 +6,7 @@ use super::{offset, Coverage, Entered, Item, Seen, Since};
 use crate::facts;
 use crate::model::aic::{Aic, Register, Selection, Source, ENTRIES, SOURCES};
 use crate::model::Step;
+use crate::tally::each;
 
 const LEVELS: u8 = 8;
 
@@ -290,15 +291,13 @@ pub(super) fn wanted() -> Vec<Item> {
     for was in 0..4 {
         items.extend((0..4).map(|is| Item::DebugTurns(was, is)));
     }
-    for seen in [Seen::Source, Seen::Nobody] {
-        let tops = [None, Some(Entered::Handler), Some(Entered::Mark)];
-        items.extend(tops.map(|top| Item::Look(seen, top)));
-        items.extend([Seen::Source, Seen::Nobody].map(|then| Item::Replaced(seen, then)));
-        // With eight open no source is selected, and nothing but the write opens an entry meanwhile.
-        let can_be = |since: &Since| (seen, *since) != (Seen::Source, Since::Full);
-        let since = Since::ALL.into_iter().filter(can_be);
-        items.extend(since.map(|since| Item::WrittenAfter(seen, since)));
-    }
+    items.extend(Seen::ALL.map(|seen| Item::Look(seen, None)));
+    items.extend(each(|(seen, top)| Item::Look(seen, Some(top))));
+    items.extend(each(|(seen, then)| Item::Replaced(seen, then)));
+    // With eight open no source is selected, and nothing but the write opens an entry meanwhile.
+    let cannot_be = Item::WrittenAfter(Seen::Source, Since::Full);
+    let written = each(|(seen, since)| Item::WrittenAfter(seen, since));
+    items.extend(written.filter(|&item| item != cannot_be));
     for level in 0..LEVELS {
         items.extend((0..LEVELS).map(|now| Item::LevelThen(level, now)));
     }

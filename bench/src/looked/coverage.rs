@@ -1,12 +1,12 @@
 //! What the questions have reached, counted from the model alone; a listed item not reached is a gap.
 
 use super::Question;
-use crate::facts;
 use crate::model::cic::Cic;
 use crate::model::indexed::{Index, Indexed, Register, NONE};
 use crate::model::{Access, Controller, Kind, Machine, Refusal};
-use crate::tally::{Fact, Listed, Tally};
+use crate::tally::{each, Fact, Listed, Tally};
 use crate::trace::Report;
+use crate::{facts, sorts};
 
 /// Something that a comparison should have reached. All but the last four are about an index that is not held.
 #[derive(Clone, Copy, Debug, PartialEq, Eq, PartialOrd, Ord, Hash)]
@@ -31,16 +31,12 @@ pub enum Item {
     Fact(&'static str),
 }
 
-/// Whose index is asked for.
-#[derive(Clone, Copy, Debug, PartialEq, Eq, PartialOrd, Ord, Hash)]
-pub enum Whose {
-    Global,
-    Host,
+sorts! {
+    /// Whose index is asked for.
+    Whose { Global, Host }
 }
 
 impl Whose {
-    const ALL: [Whose; 2] = [Whose::Global, Whose::Host];
-
     fn of(index: Index) -> Whose {
         match index {
             Index::Global => Whose::Global,
@@ -49,23 +45,18 @@ impl Whose {
     }
 }
 
-/// In which word of its channel one was found.
-#[derive(Clone, Copy, Debug, PartialEq, Eq, PartialOrd, Ord, Hash)]
-pub enum Place {
-    First,
-    Middle,
-    Last,
-    Nowhere,
-}
+sorts! {
+    /// In which word of its channel one was found.
+    Place { First, Middle, Last, Nowhere }
 
-/// How many channels were searched.
-#[derive(Clone, Copy, Debug, PartialEq, Eq, PartialOrd, Ord, Hash)]
-pub enum Channels {
-    None,
-    One,
-    Several,
-    /// All 256.
-    Most,
+    /// How many channels were searched.
+    Channels {
+        None,
+        One,
+        Several,
+        /// All 256.
+        Most,
+    }
 }
 
 /// The numbers of systems that are to be met: one word or two, just filled or just begun.
@@ -256,8 +247,7 @@ impl Listed for Coverage {
         let mut items = Vec::new();
         for whose in Whose::ALL {
             items.extend((1..=32).map(|words| Item::Words(whose, words)));
-            let places = [Place::First, Place::Middle, Place::Last, Place::Nowhere];
-            items.extend(places.map(|place| Item::Found(whose, place)));
+            items.extend(each(|place| Item::Found(whose, place)));
             let channels = [Channels::One, Channels::Several, Channels::Most];
             items.extend(channels.map(|channels| Item::Searched(whose, channels)));
             items.extend(SEARCHES.iter().map(|fact| Item::Search(whose, fact)));

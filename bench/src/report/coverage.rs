@@ -1,12 +1,12 @@
 //! What the compared figures have reached, found in the model's own history; a listed item not reached is a gap.
 
 use super::history::{End, History, Moment, Wait};
-use crate::facts;
 use crate::generate::aic::{CLEAR, DISABLE, ENABLE, FFDR, FFER, IVR, SET};
 use crate::model::aic::{ENTRIES, SOURCES};
 use crate::model::{Kind, Refusal, Step};
-use crate::tally::{Fact, Listed, Tally};
+use crate::tally::{each, Fact, Listed, Tally};
 use crate::trace::{Report, PROGRAM_LIMIT};
+use crate::{facts, sorts};
 
 /// Something that a comparison should have reached.
 #[derive(Clone, Copy, Debug, PartialEq, Eq, PartialOrd, Ord, Hash)]
@@ -33,10 +33,9 @@ pub enum Item {
     Fact(&'static str),
 }
 
-listed! {
+sorts! {
     /// What makes a source ask.
-    #[derive(Clone, Copy, Debug, PartialEq, Eq, PartialOrd, Ord, Hash)]
-    pub enum Cause {
+    Cause {
         /// The line of a level source.
         Level,
         /// An edge.
@@ -46,12 +45,9 @@ listed! {
         Unforce,
         Mode,
     }
-}
 
-listed! {
     /// What ends a wait, or that a source asks after its start.
-    #[derive(Clone, Copy, Debug, PartialEq, Eq, PartialOrd, Ord, Hash)]
-    pub enum How {
+    How {
         /// Its own start, by the read outside protect mode or by the write in it.
         Read,
         Write,
@@ -64,21 +60,10 @@ listed! {
         Whole,
         Early,
     }
-}
 
-#[derive(Clone, Copy, Debug, PartialEq, Eq, PartialOrd, Ord, Hash)]
-pub enum Many {
-    None,
-    One,
-    More,
-}
+    Many { None, One, More }
 
-#[derive(Clone, Copy, Debug, PartialEq, Eq, PartialOrd, Ord, Hash)]
-pub enum Figure {
-    Steps,
-    Refused,
-    Started,
-    Waited,
+    Figure { Steps, Refused, Started, Waited }
 }
 
 /// Numbers that fewer bits than 32 would not hold, or that only a limit of one's own reaches.
@@ -198,9 +183,7 @@ impl Listed for Coverage {
 
     fn wanted() -> Vec<Item> {
         let mut items: Vec<Item> = Cause::ALL.map(Item::Began).into();
-        for how in How::ALL {
-            items.extend([Many::None, Many::One, Many::More].map(|many| Item::Ended(how, many)));
-        }
+        items.extend(each(|(how, many)| Item::Ended(how, many)));
         // An edge source does not ask when it has been started, and a level source has nothing to clear.
         let served = |how: &How| !matches!(how, How::Read | How::Write | How::Clear);
         items.extend(How::ALL.into_iter().filter(served).map(Item::Served));
@@ -211,7 +194,7 @@ impl Listed for Coverage {
         }
         items.extend(ABOVE.map(|(figure, number)| Item::Above(figure, number)));
         for kind in Kind::ALL {
-            items.extend([false, true].map(|refused| Item::Played(kind, refused)));
+            items.extend(each(|refused| Item::Played(kind, refused)));
             let early = [Refusal::StepLimit, Refusal::BadNumber, Refusal::UnknownKind];
             items.extend(early.map(|refusal| Item::Early(Some(kind), refusal)));
         }

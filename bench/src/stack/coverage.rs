@@ -2,10 +2,10 @@
 
 use super::text::{self, words, Slip, Word, NUMBERS};
 use super::{Fault, Row, Table, LEVELS, MOST_FRAME, MOST_PRIORITY, MOST_TYPE};
-use crate::facts;
 use crate::model::aic::SOURCES;
-use crate::tally::{Fact, Listed, Tally};
+use crate::tally::{each, Fact, Listed, Tally};
 use crate::trace::LONGEST;
+use crate::{facts, sorts};
 
 /// Something that a comparison should have reached.
 #[derive(Clone, Copy, Debug, PartialEq, Eq, PartialOrd, Ord, Hash)]
@@ -30,27 +30,23 @@ pub enum Item {
     Fact(&'static str),
 }
 
-/// How the frame that counts for a level came about.
-#[derive(Clone, Copy, Debug, PartialEq, Eq, PartialOrd, Ord, Hash)]
-pub enum How {
-    /// The level has no normal source, so it is the mark's.
-    None,
-    /// The mark's is larger than those of all its sources.
-    Mark,
-    /// The mark's and a source's are the same.
-    MarkTies,
-    /// One source has a larger frame than the mark and the others.
-    One,
-    /// Several sources share it, above the mark's.
-    Tie,
-}
+sorts! {
+    /// How the frame that counts for a level came about.
+    How {
+        /// The level has no normal source, so it is the mark's.
+        None,
+        /// The mark's is larger than those of all its sources.
+        Mark,
+        /// The mark's and a source's are the same.
+        MarkTies,
+        /// One source has a larger frame than the mark and the others.
+        One,
+        /// Several sources share it, above the mark's.
+        Tie,
+    }
 
-/// Whether a source can open an entry, and why not.
-#[derive(Clone, Copy, Debug, PartialEq, Eq, PartialOrd, Ord, Hash)]
-pub enum Standing {
-    Nought,
-    Forced,
-    Normal,
+    /// Whether a source can open an entry, and why not.
+    Standing { Nought, Forced, Normal }
 }
 
 /// A number with a limit of its own.
@@ -62,23 +58,20 @@ pub enum Limited {
     Mark,
 }
 
-/// How far beyond its limit a number is.
-#[derive(Clone, Copy, Debug, PartialEq, Eq, PartialOrd, Ord, Hash)]
-pub enum Far {
-    ByOne,
-    ByMore,
-}
+sorts! {
+    /// How far beyond its limit a number is.
+    Far { ByOne, ByMore }
 
-/// A sort of number in the order of the text.
-#[derive(Clone, Copy, Debug, PartialEq, Eq, PartialOrd, Ord, Hash)]
-pub enum Field {
-    Priority,
-    Type,
-    Frame,
-    Forced,
-    Mark,
-    /// What stands behind the last number.
-    Behind,
+    /// A sort of number in the order of the text.
+    Field {
+        Priority,
+        Type,
+        Frame,
+        Forced,
+        Mark,
+        /// What stands behind the last number.
+        Behind,
+    }
 }
 
 impl Field {
@@ -107,10 +100,9 @@ impl Field {
     }
 }
 
-listed! {
+sorts! {
     /// How a number was typed.
-    #[derive(Clone, Copy, Debug, PartialEq, Eq, PartialOrd, Ord, Hash)]
-    pub enum Form {
+    Form {
         Decimal,
         /// With a zero before another digit.
         Zeros,
@@ -381,14 +373,13 @@ impl Listed for Coverage {
     fn wanted() -> Vec<Item> {
         let mut items: Vec<Item> = (1..=6).map(Item::Digits).collect();
         for level in 0..LEVELS {
-            let ways = [How::None, How::Mark, How::MarkTies, How::One, How::Tie];
-            items.extend(ways.map(|how| Item::Largest(level, how)));
+            items.extend(each(|how| Item::Largest(level, how)));
             let fast = [Standing::Nought, Standing::Forced];
             items.extend(fast.map(|standing| Item::PassedOver(level, standing)));
         }
         for number in limited() {
             items.push(Item::AtLimit(number));
-            items.extend([Far::ByOne, Far::ByMore].map(|far| Item::Beyond(number, far)));
+            items.extend(each(|far| Item::Beyond(number, far)));
         }
         let slips = [
             Slip::Missing,
@@ -415,7 +406,7 @@ impl Listed for Coverage {
 /// The numbers with limits, of sources of every standing.
 fn limited() -> Vec<Limited> {
     let mut all = vec![Limited::Mark];
-    for of in [Standing::Nought, Standing::Forced, Standing::Normal] {
+    for of in Standing::ALL {
         all.extend([Limited::Priority(of), Limited::Type(of), Limited::Frame(of)]);
     }
     all
