@@ -108,8 +108,8 @@ sorts! {
     /// What a read of IVR in protect mode found.
     Seen { Source, Nobody }
 
-    /// What came between that read and a write of IVR. Of a selected source only what concerns it counts, where nobody was
-    /// selected what concerns any source.
+    /// What came between that read and a write of IVR. Of a selected source only what concerns it counts, where nobody
+    /// was selected what concerns any source.
     Since {
         Nothing,
         /// Its memory was cleared by command.
@@ -259,6 +259,30 @@ fn word_offset(step: Step) -> Option<u32> {
     offset(step).filter(|offset| offset.is_multiple_of(4))
 }
 
+/// A step with its answer, and the controller before and after it.
+struct Change<'a, C> {
+    before: &'a C,
+    after: &'a C,
+    step: Step,
+    answer: Answer,
+}
+
+impl<'a, C> Change<'a, C> {
+    fn new(before: &'a C, after: &'a C, step: Step, answer: Answer) -> Change<'a, C> {
+        Change {
+            before,
+            after,
+            step,
+            answer,
+        }
+    }
+
+    /// What came of it, if it is an access.
+    fn outcome(&self) -> Outcome {
+        Outcome::of(self.step, self.answer)
+    }
+}
+
 /// The counters, and what is known of a step before it is carried out.
 #[derive(Default)]
 pub struct Coverage {
@@ -359,14 +383,20 @@ impl Observer for Coverage {
         }
         let before = self.before.take().expect("a step has a before");
         match (&before, machine) {
-            (Machine::Aic(before), Machine::Aic(aic)) => self.aic_step(before, aic, step, answer),
-            (_, Machine::Core(core)) => self.core_step(core, step, answer),
-            (Machine::Cic(before), Machine::Cic(cic)) => self.cic_step(before, cic, step, answer),
-            (Machine::Aintc(before), Machine::Aintc(aintc)) => {
-                self.aintc_step(before, aintc, recorded, answer);
+            (Machine::Aic(was), Machine::Aic(is)) => {
+                self.aic_step(&Change::new(&**was, is, step, answer))
             }
-            (Machine::Indexed(before), Machine::Indexed(indexed)) => {
-                self.indexed_step(before, indexed, step, answer);
+            (Machine::Core(was), Machine::Core(is)) => {
+                self.core_step(&Change::new(was, is, step, answer))
+            }
+            (Machine::Cic(was), Machine::Cic(is)) => {
+                self.cic_step(&Change::new(&**was, is, step, answer))
+            }
+            (Machine::Aintc(was), Machine::Aintc(is)) => {
+                self.aintc_step(&Change::new(&**was, is, step, answer), recorded.privilege);
+            }
+            (Machine::Indexed(was), Machine::Indexed(is)) => {
+                self.indexed_step(&Change::new(&**was, is, step, answer));
             }
             _ => unreachable!("a step leaves the controller what it is"),
         }

@@ -11,7 +11,8 @@ pub(crate) mod played;
 pub(crate) mod steps;
 mod sweeps;
 
-use crate::model::{Kind, PRIVILEGED};
+use self::played::weights;
+use crate::model::{Kind, Step, PRIVILEGED};
 use crate::numbered::{Made, Numbered};
 use crate::random::Random;
 use crate::trace::{decode, encode, NUMBER_BYTES, PROGRAM_LIMIT};
@@ -58,16 +59,11 @@ impl Made for Case {
 }
 
 /// What a random case is like, and how often it comes.
-const STYLES: [(u32, &str); 4] = [
-    (1_400, "tour"),
-    (500, "damaged"),
-    (100, "noise"),
-    (2, "long"),
-];
+const STYLES: &str = "1400 tour, 500 damaged, 100 noise, 2 long";
 
 /// A case that depends on nothing but the numbers that are drawn.
 pub(crate) fn random_case(random: &mut Random) -> Case {
-    let style = random.weighted(&STYLES);
+    let style = random.weighted(&weights(STYLES));
     let trace = match style {
         "noise" => damage::noise(random),
         "long" => long::long(random),
@@ -204,6 +200,14 @@ impl Script {
     fn value(&self, nth: usize) -> u32 {
         let number = decode(&self.bytes[self.numbers[nth]..]);
         number.expect("a script writes good numbers").0
+    }
+
+    pub(crate) fn put(&mut self, step: Step) {
+        match step {
+            Step::Read { offset } => self.read(offset),
+            Step::Write { offset, value } => self.write(offset, value),
+            Step::Line { line, level } => self.line(line, level),
+        }
     }
 
     /// A read, privileged where the trace says it.

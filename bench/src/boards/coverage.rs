@@ -1,4 +1,5 @@
-//! What the calls of a transcript have reached, counted from the model's own boards; a listed item not reached is a gap.
+//! What the calls of a transcript have reached, counted from the model's own boards; a listed item not reached is a
+//! gap.
 
 mod listed;
 mod reasons;

@@ -7,7 +7,7 @@ use crate::random::Random;
 
 /// Puts calls behind those of a script, given as by `format!`.
 macro_rules! calls {
-    ($script:expr, $($text:tt)*) => { $script.calls(&format!($($text)*)) };
+    ($($script:ident).+: $($text:tt)*) => { $($script).+.calls(&format!($($text)*)) };
 }
 
 /// The enable registers, FIQ first, and the distance from a FIQ register to its like of the IRQ side.
@@ -38,7 +38,7 @@ impl Script {
     /// Asks the outputs and the chain of every controller from 0 on.
     fn ask_all(&mut self, controllers: u32) {
         for controller in 0..controllers {
-            calls!(self, "outputs {controller}; chain {controller}");
+            calls!(self: "outputs {controller}; chain {controller}");
         }
     }
 
@@ -78,14 +78,11 @@ pub fn script(seed: u64, number: u64) -> Script {
 fn bare() -> Script {
     let mut script = Script::new("no controller");
     for n in [0, 1, 7, 8, u32::MAX] {
-        calls!(
-            script,
-            "connect {n} 0 nothing; connect {n} 40 irq {n}; write {n} 0 1; read {n} 1"
-        );
-        calls!(script, "read {n} 48; input {n} 0; outputs {n}; chain {n}");
+        calls!(script: "connect {n} 0 nothing; connect {n} 40 irq {n}; write {n} 0 1; read {n} 1");
+        calls!(script: "read {n} 48; input {n} 0; outputs {n}; chain {n}");
     }
     for pin in [0, 319, 320, 321] {
-        calls!(script, "pin {pin} 1; pin {pin} 2");
+        calls!(script: "pin {pin} 1; pin {pin} 2");
     }
     script.calls("add 9 32 1 1; add 8 33 1 1; add 8 32 2 1; add 8 32 1 2");
     script
@@ -99,29 +96,20 @@ fn tower(title: &str, side: &str) -> Script {
         _ => (0, ENABLES[1]),
     };
     for n in 0..8 {
-        calls!(
-            script,
-            "add 1 1 {} {}; write {n} {enable} 1",
-            n % 2,
-            n / 2 % 2
-        );
+        calls!(script: "add 1 1 {} {}; write {n} {enable} 1", n % 2, n / 2 % 2);
         script.ask_all(n + 1);
     }
-    calls!(script, "add 1 1 0 0; add 9 1 0 0; connect 0 {input} pin 0");
+    calls!(script: "add 1 1 0 0; add 9 1 0 0; connect 0 {input} pin 0");
     for n in 1..8 {
-        calls!(script, "connect {n} {input} {side} {}", n - 1);
+        calls!(script: "connect {n} {input} {side} {}", n - 1);
     }
     for level in [1, 0, 1] {
-        calls!(script, "pin 0 {level}");
+        calls!(script: "pin 0 {level}");
         script.ask_all(9);
     }
-    calls!(script, "write 3 {} 1", enable + 4);
+    calls!(script: "write 3 {} 1", enable + 4);
     script.ask_all(8);
-    calls!(
-        script,
-        "connect 7 {input} {side} 0; connect 7 {} {side} 0",
-        input + 1
-    );
+    calls!(script: "connect 7 {input} {side} 0; connect 7 {} {side} 0", input + 1);
     script.ask_all(8);
     script
 }
@@ -132,24 +120,24 @@ fn fan() -> Script {
     script
         .calls("add 1 1 0 1; add 5 17 1 0; add 0 0 1 0; connect 0 0 pin 318; connect 0 32 pin 319");
     for offset in ENABLES {
-        calls!(script, "write 0 {offset} {}; write 1 {offset} 0", u32::MAX);
+        calls!(script: "write 0 {offset} {}; write 1 {offset} 0", u32::MAX);
     }
     for (irq, fiq) in [(0, 0), (0, 1), (1, 0), (1, 1)] {
-        calls!(script, "pin 318 {irq}; pin 319 {fiq}");
+        calls!(script: "pin 318 {irq}; pin 319 {fiq}");
         for side in ["irq", "fiq"] {
             for input in 0..=INPUTS {
                 for n in 1..3 {
-                    calls!(script, "connect {n} {input} {side} 0; input {n} {input}");
-                    calls!(script, "connect {n} {input} {side} {n}");
+                    calls!(script: "connect {n} {input} {side} 0; input {n} {input}");
+                    calls!(script: "connect {n} {input} {side} {n}");
                 }
             }
             script.ask_all(3);
-            (0..0x34).for_each(|offset| calls!(script, "read 1 {offset}"));
+            (0..0x34).for_each(|offset| calls!(script: "read 1 {offset}"));
             (0..0x34)
                 .step_by(4)
-                .for_each(|offset| calls!(script, "read 2 {offset}"));
+                .for_each(|offset| calls!(script: "read 2 {offset}"));
             for offset in ENABLES {
-                calls!(script, "write 1 {offset} {}", 1 << irq | 1 << 16);
+                calls!(script: "write 1 {offset} {}", 1 << irq | 1 << 16);
             }
         }
     }
@@ -171,17 +159,17 @@ fn tour(random: &mut Random, number: u64) -> Script {
             0..=29 => {
                 let (n, input) = (near(random, there), input(random));
                 let wire = wire(random, there, n);
-                calls!(script, "connect {n} {input} {wire}; input {n} {input}");
+                calls!(script: "connect {n} {input} {wire}; input {n} {input}");
             }
             30..=44 => {
                 let level = random.pick(&[0, 0, 0, 0, 1, 1, 1, 1, 1, 1, 2, 3]);
-                calls!(script, "pin {} {level}", pin(random));
+                calls!(script: "pin {} {level}", pin(random));
             }
             45..=61 => write(random, &mut script, there),
-            62..=71 => calls!(script, "read {} {}", near(random, there), offset(random)),
-            72..=79 => calls!(script, "input {} {}", near(random, there), input(random)),
-            80..=90 => calls!(script, "outputs {}", near(random, there)),
-            91..=97 => calls!(script, "chain {}", near(random, there)),
+            62..=71 => calls!(script: "read {} {}", near(random, there), offset(random)),
+            72..=79 => calls!(script: "input {} {}", near(random, there), input(random)),
+            80..=90 => calls!(script: "outputs {}", near(random, there)),
+            91..=97 => calls!(script: "chain {}", near(random, there)),
             _ => grow(random, &mut script, &mut there),
         }
     }
@@ -201,14 +189,14 @@ fn grow(random: &mut Random, script: &mut Script, there: &mut u32) {
         numbers[nth] = random.pick(&[limits[nth] + 1, limits[nth] + 1, u32::MAX]);
     }
     let [fiqs, irqs, fiq_level, irq_level] = numbers;
-    calls!(script, "add {fiqs} {irqs} {fiq_level} {irq_level}");
+    calls!(script: "add {fiqs} {irqs} {fiq_level} {irq_level}");
     if bad || *there == CONTROLLERS as u32 {
         return;
     }
     for enable in ENABLES {
         if !random.one_in(4) {
             let value = random.pick(&[1, 3, u32::MAX, u32::MAX]);
-            calls!(script, "write {there} {enable} {value}");
+            calls!(script: "write {there} {enable} {value}");
         }
     }
     *there += 1;
@@ -219,7 +207,7 @@ fn link(random: &mut Random, script: &mut Script, there: u32) {
     for n in 1..there {
         let side = random.pick(&["irq", "irq", "irq", "fiq"]);
         let input = random.pick(&[0, 0, 0, 0, 0, 0, 1, 32, 39]);
-        calls!(script, "connect {n} {input} {side} {}", n - 1);
+        calls!(script: "connect {n} {input} {side} {}", n - 1);
     }
     script.calls("connect 0 0 pin 0; connect 0 32 pin 0; pin 0 1");
     script.ask_all(there);
@@ -288,5 +276,5 @@ fn write(random: &mut Random, script: &mut Script, there: u32) {
     } else {
         random.below(16)
     };
-    calls!(script, "write {controller} {offset} {value}");
+    calls!(script: "write {controller} {offset} {value}");
 }

@@ -1,9 +1,9 @@
 //! What is to be reached on the AIC: every register in every permitted and refused way, and what its rules tell apart.
 
-use super::{word_offset, Coverage, Entered, Item, Outcome};
+use super::{word_offset, Change, Coverage, Entered, Item, Outcome};
 use crate::facts;
 use crate::model::aic::{Aic, Entry, Register, Source, ENTRIES, SOURCES};
-use crate::model::{Answer, Step};
+use crate::model::Step;
 use crate::tally::each;
 
 /// Whether a normal source of a priority is pending and enabled.
@@ -272,11 +272,12 @@ fn rising(source: &Source) -> bool {
 
 impl Coverage {
     /// Counts what a step on the AIC shows.
-    pub(super) fn aic_step(&mut self, before: &Aic, aic: &Aic, step: Step, answer: Answer) {
+    pub(super) fn aic_step(&mut self, change: &Change<Aic>) {
+        let (before, aic, step) = (change.before, change.after, change.step);
         if let Some(register) = word_offset(step).and_then(Register::at) {
-            self.reach(Item::Aic(register, Outcome::of(step, answer)));
+            self.reach(Item::Aic(register, change.outcome()));
         }
-        let Ok(read) = answer else {
+        let Ok(read) = change.answer else {
             if let Step::Line { line, level } = step {
                 self.facts(refused_line(line, level));
             }

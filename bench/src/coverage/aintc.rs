@@ -1,20 +1,13 @@
 //! What is to be reached on the AINTC: every register by every privilege, and each way to be chosen, held and released
 //! on both sides.
 
-use super::{offset, By, Coverage, Item, Outcome, Way};
+use super::{offset, By, Change, Coverage, Item, Outcome, Way};
 use crate::facts;
 use crate::model::aintc::{has, ones, Aintc, Chosen, Register, Side, INPUTS};
-use crate::model::{Access, Answer, Kind, Recorded, Refusal, Step};
+use crate::model::{Access, Kind, Refusal, Step};
 use crate::tally::{each, Fact};
 
-/// An accepted step, and the controller before and after it.
-struct Change<'a> {
-    before: &'a Aintc,
-    after: &'a Aintc,
-    step: Step,
-}
-
-impl Change<'_> {
+impl Change<'_, Aintc> {
     /// The register that was written and the value.
     fn written(&self) -> Option<(Register, u32)> {
         match self.step {
@@ -116,7 +109,7 @@ facts! { FACTS;
     }
 
     /// Bits that are dropped, masks both ways at once, both agreements, and what the soft reset finds.
-    fn write(change: &Change, register: Register, value: u32) {
+    fn write(change: &Change<Aintc>, register: Register, value: u32) {
         let (before, after) = (change.before, change.after);
         let drops = |name, kept: u32| register == name && value & !kept != 0;
         let freed = before.masks() & !after.masks() != 0;
@@ -188,7 +181,7 @@ facts! { SIDE_FACTS;
         "chosen while the other side is busy" if after.chosen(side.other()).is_some();
     }
 
-    fn chosen_by(change: &Change, side: Side, number: usize) {
+    fn chosen_by(change: &Change<Aintc>, side: Side, number: usize) {
         let line = Step::Line { line: number as u32, level: 1 };
         let ilr = change.value_for(Register::Ilr(number as u8)).is_some();
         let routed = change.before.route(number) != side;
@@ -205,7 +198,7 @@ facts! { SIDE_FACTS;
     /// The side keeps its chosen one over a step that might have moved it: another is better; its line, its soft bit or
     /// its mask goes, and with it what was pending; its ILR or the threshold is another, so that it would not be chosen
     /// now, or not so soon.
-    fn held(change: &Change, side: Side, chosen: Chosen) {
+    fn held(change: &Change<Aintc>, side: Side, chosen: Chosen) {
         let (before, after, number) = (change.before, change.after, usize::from(chosen.number));
         let came = |&other: &usize| !before.eligible(side).any(|there| there == other);
         let newcomers = || after.eligible(side).filter(came);
@@ -242,13 +235,13 @@ facts! { SIDE_FACTS;
         "held while the other side chooses the same input" if twice(after) && !twice(before);
     }
 
-    fn kept(change: &Change, side: Side, answer: Answer) {
-        let refused = answer == Err(Refusal::Unprivileged);
+    fn kept(change: &Change<Aintc>, side: Side) {
+        let refused = change.answer == Err(Refusal::Unprivileged);
         "held against an agreement that is refused"
             if refused && change.releases(side) && change.before.chosen(side).is_some();
     }
 
-    fn released(change: &Change, side: Side) {
+    fn released(change: &Change<Aintc>, side: Side) {
         let number = |aintc: &Aintc| aintc.chosen(side).map(|chosen| chosen.number);
         let (was, is) = (number(change.before), number(change.after));
         let (some, none) = (was.is_some(), is.is_none());
@@ -270,26 +263,15 @@ facts! { SIDE_FACTS;
 
 impl Coverage {
     /// Counts what a step on the AINTC shows.
-    pub(super) fn aintc_step(
-        &mut self,
-        before: &Aintc,
-        after: &Aintc,
-        recorded: Recorded,
-        answer: Answer,
-    ) {
-        let step = recorded.step;
-        self.aintc_access(before, recorded, answer);
-        let change = Change {
-            before,
-            after,
-            step,
-        };
-        let Ok(read) = answer else {
+    pub(super) fn aintc_step(&mut self, change: &Change<Aintc>, privilege: u32) {
+        let (before, after, step) = (change.before, change.after, change.step);
+        self.aintc_access(change, privilege);
+        let Ok(read) = change.answer else {
             if let Step::Line { line, level } = step {
                 self.facts(refused_line(line, level));
             }
             for side in Side::BOTH {
-                self.side(side, kept(&change, side, answer));
+                self.side(side, kept(change, side));
             }
             return;
         };
@@ -297,35 +279,34 @@ impl Coverage {
             Step::Read { offset } => self.aintc_read(after, offset, read),
             Step::Write { value, .. } => {
                 if let Some((register, _)) = change.written() {
-                    self.facts(write(&change, register, value));
+                    self.facts(write(change, register, value));
                 }
             }
             Step::Line { line: n, .. } => self.facts(line(before, n)),
         }
         for side in Side::BOTH {
-            self.aintc_side(&change, side);
+            self.aintc_side(change, side);
         }
         self.facts(shown(after));
     }
 
     /// The access as it was asked for.
-    fn aintc_access(&mut self, before: &Aintc, recorded: Recorded, answer: Answer) {
-        let Some(offset) = offset(recorded.step) else {
+    fn aintc_access(&mut self, change: &Change<Aintc>, privilege: u32) {
+        let Some(offset) = offset(change.step) else {
             return;
         };
-        let (way, by) = (Way::of(recorded.step), By::of(recorded.privilege));
-        let guarded = before.protected();
+        let (way, by) = (Way::of(change.step), By::of(privilege));
+        let guarded = change.before.protected();
         let register = Register::at(offset).filter(|_| offset.is_multiple_of(4));
         if let Some(register) = register.filter(|&register| is_listed(register)) {
-            let outcome = Outcome::of(recorded.step, answer);
-            self.reach(Item::Aintc(register, way, by, guarded, outcome));
+            self.reach(Item::Aintc(register, way, by, guarded, change.outcome()));
         }
-        match (register, answer) {
+        match (register, change.answer) {
             (Some(Register::Ilr(input)), Ok(_)) => self.reach(Item::Ilr(input, way)),
             (_, Err(_)) => self.facts(gaps(offset)),
             _ => {}
         }
-        self.facts(access(offset, recorded.privilege, guarded));
+        self.facts(access(offset, privilege, guarded));
     }
 
     fn aintc_read(&mut self, after: &Aintc, offset: u32, value: u32) {
@@ -342,7 +323,7 @@ impl Coverage {
     }
 
     /// What an accepted step does to a side.
-    fn aintc_side(&mut self, change: &Change, side: Side) {
+    fn aintc_side(&mut self, change: &Change<Aintc>, side: Side) {
         let (before, after) = (change.before, change.after);
         if change.sorts(side) {
             self.judged(after, side);
@@ -446,18 +427,18 @@ pub(super) fn wanted() -> Vec<Item> {
 
 /// Thresholds and priorities at whose meeting the rule turns, and at the ends of both.
 const JUDGED: [(u8, u8); 14] = [
-    (0x00, 0x00),
-    (0x00, 0x01),
-    (0x00, 0x7F),
-    (0x01, 0x00),
-    (0x01, 0x01),
-    (0x02, 0x01),
-    (0x02, 0x02),
-    (0x7F, 0x7E),
-    (0x7F, 0x7F),
-    (0x80, 0x7F),
-    (0xFE, 0x7F),
-    (0xFF, 0x00),
-    (0xFF, 0x7E),
-    (0xFF, 0x7F),
+    (0, 0),
+    (0, 1),
+    (0, 127),
+    (1, 0),
+    (1, 1),
+    (2, 1),
+    (2, 2),
+    (127, 126),
+    (127, 127),
+    (128, 127),
+    (254, 127),
+    (255, 0),
+    (255, 126),
+    (255, 127),
 ];

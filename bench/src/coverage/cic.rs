@@ -2,7 +2,7 @@
 
 pub(super) mod indexed;
 
-use super::{offset, word_offset, Coverage, Item, Outcome, Spot};
+use super::{offset, word_offset, Change, Coverage, Item, Outcome, Spot};
 use crate::facts;
 use crate::model::cic::{Cic, Register};
 use crate::model::{Access, Answer, Controller, Refusal, Step};
@@ -83,11 +83,12 @@ impl Coverage {
     }
 
     /// Counts what a step on the CIC shows.
-    pub(super) fn cic_step(&mut self, before: &Cic, cic: &Cic, step: Step, answer: Answer) {
+    pub(super) fn cic_step(&mut self, change: &Change<Cic>) {
+        let (before, cic, step, answer) = (change.before, change.after, change.step, change.answer);
         if let Some(register) = word_offset(step).and_then(Register::at) {
             let (group, place, size) = place(cic, register);
             for spot in spots(place, size) {
-                self.reach(Item::Cic(group, spot, Outcome::of(step, answer)));
+                self.reach(Item::Cic(group, spot, change.outcome()));
             }
         }
         match (step, offset(step)) {

@@ -1,9 +1,9 @@
 //! What is to be reached on CoreInterrupt: every register of groups with and without sources, inputs, sizes and levels.
 
-use super::{word_offset, Coverage, Item, Outcome, Size};
+use super::{word_offset, Change, Coverage, Item, Outcome, Size};
 use crate::facts;
 use crate::model::core::{CoreInterrupt, Group, Register, Role, Side, IRQ_INPUTS};
-use crate::model::{Access, Answer, Step};
+use crate::model::{Access, Step};
 use crate::tally::each;
 
 facts! { FACTS;
@@ -59,11 +59,15 @@ impl Coverage {
     }
 
     /// Counts what a step on CoreInterrupt shows.
-    pub(super) fn core_step(&mut self, core: &CoreInterrupt, step: Step, answer: Answer) {
+    pub(super) fn core_step(&mut self, change: &Change<CoreInterrupt>) {
+        let (core, step, answer) = (change.after, change.step, change.answer);
         if let Some(register) = word_offset(step).and_then(Register::at) {
             let group = core.group(register.side);
-            let outcome = Outcome::of(step, answer);
-            self.reach(Item::Core(register, Size::of(group.count), outcome));
+            self.reach(Item::Core(
+                register,
+                Size::of(group.count),
+                change.outcome(),
+            ));
             match (step, answer) {
                 (Step::Read { .. }, Ok(value)) => self.facts(read(group, value)),
                 (Step::Write { value, .. }, Ok(_)) => self.facts(write(register, group, value)),

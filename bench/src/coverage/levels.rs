@@ -1,5 +1,5 @@
-//! What is to be reached of the AIC's sources by level (02, 5/12): what fills and empties each, what a mode write moves,
-//! and what a vector read finds.
+//! What is to be reached of the AIC's sources by level (02, 5/12): what fills and empties each, what a mode write
+//! moves, and what a vector read finds.
 
 use super::aic::marks;
 use super::{Cause, Coverage, Item, Turn};

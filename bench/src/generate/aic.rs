@@ -4,6 +4,7 @@
 //! entries open too. That of protect mode plays along on the model, to meddle with the very source that is remembered.
 
 use super::played::{weights, Played};
+use super::steps::steps;
 use super::Script;
 use crate::model::aic::{Aic, Selection};
 use crate::random::Random;
@@ -52,14 +53,8 @@ const PROTECTED: &str = "10 line, 4 mode, 3 enable, 1 disable, 4 set, 1 force, 3
     3 protect";
 
 /// What a tour is mostly about.
-const MOODS: [(u32, &str); 7] = [
-    (1, MIXED),
-    (1, NESTING),
-    (1, MARKS),
-    (1, FAST),
-    (1, EDGES),
-    (1, LEVELS),
-    (2, PROTECTED),
+const MOODS: [&str; 8] = [
+    MIXED, NESTING, MARKS, FAST, EDGES, LEVELS, PROTECTED, PROTECTED,
 ];
 
 /// A tour as it goes on, with the sources it likes and the next level to nest.
@@ -71,7 +66,7 @@ struct Tour<'a> {
 
 /// A sound AIC trace of about so many steps.
 pub fn tour(random: &mut Random, steps: u32) -> Script {
-    let mood = random.weighted(&MOODS);
+    let mood = random.pick(&MOODS);
     // Marks alone stand only where nothing has been pending.
     let (external, levels) = match mood {
         MARKS if random.one_in(2) => (0, 0),
@@ -228,10 +223,8 @@ impl Tour<'_> {
     /// Makes some source a normal one of a priority that is pending and enabled.
     fn raise(&mut self, priority: u32) {
         let source = 1 + self.at.random.below(31);
-        self.at.write(4 * source, HIGH_LEVEL | priority);
-        self.at.write(FFDR, 1 << source);
-        self.at.write(ENABLE, 1 << source);
-        self.at.line(source, 1);
+        let (mode, bit) = (HIGH_LEVEL | priority, 1_u32 << source);
+        steps!(self.at: "MODE{source}={mode:x} FFDR={bit:x} ENABLE={bit:x} {source}+");
     }
 
     /// Some entries one above the other, few or many of them marks, at times with priority 7 waiting above them; most
@@ -322,10 +315,8 @@ impl Tour<'_> {
         }
         let source = self.source();
         let priority = self.at.random.below(8);
-        self.at.write(4 * source, RISING_EDGE | priority);
-        for offset in [FFDR, ENABLE, SET] {
-            self.at.write(offset, 1 << source);
-        }
+        let (mode, bit) = (RISING_EDGE | priority, 1_u32 << source);
+        steps!(self.at: "MODE{source}={mode:x} FFDR={bit:x} ENABLE={bit:x} SET={bit:x}");
     }
 
     /// Does something to the source that is remembered, or else to any; to what is open, or to the mode.
@@ -334,7 +325,7 @@ impl Tour<'_> {
             Some(Selection::Source { number, .. }) => u32::from(number),
             _ => self.source(),
         };
-        let (mode, bit) = (4 * source, 1 << source);
+        let (mode, bit) = (4 * source, 1_u32 << source);
         let now = self.at.model.sources()[source as usize];
         let (kind, priority) = (u32::from(now.kind), u32::from(now.priority));
         match self.at.random.below(20) {
@@ -347,10 +338,7 @@ impl Tour<'_> {
                 self.at.write(mode, kind << 5 | priority);
             }
             6 => self.at.write(mode, (kind ^ 1) << 5 | priority),
-            7 => {
-                self.at.write(mode, RISING_EDGE | priority);
-                self.at.write(SET, bit);
-            }
+            7 => steps!(self.at: "MODE{source}={:x} SET={bit:x}", RISING_EDGE | priority),
             8 | 9 => self.raise(7),
             10 | 11 => self.close(1),
             12 => self.at.read(IVR),
@@ -375,12 +363,7 @@ impl Tour<'_> {
 
     /// Marks up to eight entries or nearly so, whatever was remembered.
     fn fill(&mut self) {
-        self.at.write(DISABLE, u32::MAX);
-        for _ in 0..self.at.random.within(6, 9) {
-            self.at.read(IVR);
-            self.at.write(IVR, 0);
-        }
-        self.at.read(IVR);
-        self.at.write(ENABLE, u32::MAX);
+        let marks = "IVR IVR=0 ".repeat(self.at.random.within(6, 9) as usize);
+        steps!(self.at: "DISABLE=FFFFFFFF {marks} IVR ENABLE=FFFFFFFF");
     }
 }

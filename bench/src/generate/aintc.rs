@@ -35,9 +35,9 @@ const ENDS: [u32; 8] = [0, 31, 32, 63, 64, 95, 96, 127];
 /// The highest priorities, the lowest, and two in the middle.
 const PRIORITIES: [u32; 8] = [0, 1, 2, 3, 0x3F, 0x40, 0x7E, 0x7F];
 
-/// How often each act comes: in a mixed tour; where many inputs become ready in one step, so that a side has something to
-/// choose from; where the chosen one is left alone by nobody; and where protection goes on and off, and many accesses are
-/// unprivileged.
+/// How often each act comes: in a mixed tour; where many inputs become ready in one step, so that a side has something
+/// to choose from; where the chosen one is left alone by nobody; and where protection goes on and off, and many
+/// accesses are unprivileged.
 const MIXED: &str = "20 line, 4 set, 3 clear, 4 unmask, 2 mask, 2 masks, 6 ILR, 5 threshold, \
     8 agree, 4 serve, 3 preempt, 3 better, 4 unsettle, 8 read status, 1 protect, 1 reset, \
     2 single, 2 any register, 2 odd access, 1 bad line";

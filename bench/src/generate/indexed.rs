@@ -8,6 +8,7 @@ pub use situations::situations;
 
 use super::cic::{self, end_or_any, CHANNEL_MAP, END, GLOBAL, HOST_ENABLE, HOST_MAP};
 use super::played::weights;
+use super::steps::steps;
 use super::{Script, INDEXED};
 use crate::model::indexed::{Index, Indexed, NONE};
 use crate::random::Random;
@@ -27,8 +28,8 @@ pub const ENABLE_CLEAR: u32 = 0x02C;
 pub const HOST_SET: u32 = 0x034;
 pub const HOST_CLEAR: u32 = 0x038;
 
-/// How often each act comes: in a mixed tour; in one that polls, where hold is off nearly all the time; and in one without
-/// prioritisation, where what it has not is asked for all the same.
+/// How often each act comes: in a mixed tour; in one that polls, where hold is off nearly all the time; and in one
+/// without prioritisation, where what it has not is asked for all the same.
 const MIXED: &str = "24 CIC, 14 poll, 10 raise, 5 lower, 5 earlier, 4 serve, 8 end, 8 almost end, \
     6 unsettle, 4 control, 3 map, 5 own";
 const POLLING: &str = "16 poll, 10 raise, 10 lower, 5 earlier, 4 map, 4 unsettle, 6 CIC";
@@ -152,12 +153,8 @@ impl Tour<'_> {
     /// An index that is held if there is one at hand, and the word.
     fn held(&mut self) -> Option<(Index, u32)> {
         let index = self.index();
-        let liked = self
-            .hosts
-            .iter()
-            .map(|&host| Index::Host(host as usize))
-            .chain([Index::Global]);
-        let mut all = [index].into_iter().chain(liked);
+        let liked = self.hosts.iter().map(|&host| Index::Host(host as usize));
+        let mut all = [index].into_iter().chain(liked).chain([Index::Global]);
         all.find_map(|index| Some((index, self.model().held(index)?)))
     }
 
@@ -174,10 +171,7 @@ impl Tour<'_> {
         let system = self.cic.system();
         match self.random().below(3) {
             0 => self.write(STATUS_SET, system),
-            _ => {
-                self.cic.at.line(system, 0);
-                self.cic.at.line(system, 1);
-            }
+            _ => steps!(self.cic.at: "{system}- {system}+"),
         }
         if self.random().one_in(3) {
             self.write(ENABLE_SET, system);
@@ -214,8 +208,7 @@ impl Tour<'_> {
             return self.raise();
         }
         let system = self.random().pick(&earlier);
-        self.write(ENABLE_SET, system);
-        self.write(STATUS_SET, system);
+        steps!(self.cic.at: "IENABLE={system:x} ISET={system:x}");
         self.read(register(index));
     }
 

@@ -1,6 +1,6 @@
 //! What all tours share: they write steps down and play along on the model, to know what has become of the controller.
 
-use super::steps::decimal;
+use super::steps::{decimal, parsed};
 use super::Script;
 use crate::model::{Controller, Step};
 use crate::random::Random;
@@ -13,7 +13,7 @@ pub struct Played<'a, M> {
     pub model: M,
 }
 
-/// How often each act of a tour comes, as in `24 line, 12 mode`.
+/// How often each thing comes, as in `24 line, 12 mode`.
 pub fn weights(acts: &str) -> Vec<(u32, &str)> {
     let split = acts
         .split(',')
@@ -33,13 +33,16 @@ impl<'a, M: Controller> Played<'a, M> {
 
     /// Writes a step down and plays it. Refused or not, the model is where the trace is.
     pub fn put(&mut self, step: Step) {
-        match step {
-            Step::Read { offset } => self.script.read(offset),
-            Step::Write { offset, value } => self.script.write(offset, value),
-            Step::Line { line, level } => self.script.line(line, level),
-        }
+        self.script.put(step);
         let _ = self.model.step(step);
         self.steps += 1;
+    }
+
+    /// The same of the steps of a text.
+    pub fn steps(&mut self, text: &str) {
+        for step in parsed(self.script.kind, text) {
+            self.put(step);
+        }
     }
 
     pub fn read(&mut self, offset: u32) {

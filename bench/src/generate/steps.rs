@@ -1,16 +1,17 @@
-//! Steps as text, in which sweeps are written. A word is a register that is read (`IVR`), a register and what is written
-//! there (`SET=200`), or a line that goes up or down (`9+`, `9-`); on the AIC also the type and priority of a source, with
-//! a vector that tells it apart (`9:R4`). Values are hexadecimal, and so is an offset without a name (`@14C`); the numbers
-//! of lines, sources and registers of an array (`VECTOR9`) are decimal.
+//! Steps as text, in which sweeps are written. A word is a register that is read (`IVR`), a register and what is
+//! written there (`SET=200`), or a line that goes up or down (`9+`, `9-`); on the AIC also the type and priority of a
+//! source, with a vector that tells it apart (`9:R4`). Values are hexadecimal, and so is an offset without a name
+//! (`@14C`); the numbers of lines, sources and registers of an array (`VECTOR9`) are decimal.
 
 use std::collections::HashMap;
 use std::sync::LazyLock;
 
 use super::Script;
+use crate::model::Step;
 
-/// The registers of each kind, by its number, with their offsets; of an array with the distance from one to the next. Of
-/// CoreInterrupt they are of the FIQ group (0) and the IRQ group (1); of a CIC those with an I in front take the number of
-/// a system or of a host; of the AINTC there are two sides, IRQ (0) and FIQ (1), four banks, and inputs.
+/// The registers of each kind, by its number, with their offsets; of an array with the distance from one to the next.
+/// Of CoreInterrupt they are of the FIQ group (0) and the IRQ group (1); of a CIC those with an I in front take the
+/// number of a system or of a host; of the AINTC there are two sides, IRQ (0) and FIQ (1), four banks, and inputs.
 const REGISTERS: [&str; 5] = [
     "MODE 000+4, VECTOR 080+4, IVR 100, FVR 104, ISR 108, IPR 10C, CISR 114, ENABLE 120, \
     DISABLE 124, CLEAR 128, SET 12C, EOICR 130, SPU 134, DCR 138, FFER 140, FFDR 144, FFSR 148",
@@ -47,9 +48,48 @@ pub fn hexadecimal(word: &str) -> u32 {
 
 /// Writes steps down, given as by `format!`.
 macro_rules! steps {
-    ($script:expr, $($text:tt)*) => { $script.steps(&format!($($text)*)) };
+    ($($script:ident).+: $($text:tt)*) => { $($script).+.steps(&format!($($text)*)) };
 }
 pub(crate) use steps;
+
+/// The steps of a text on a controller of a kind.
+pub(super) fn parsed(kind: u32, text: &str) -> Vec<Step> {
+    text.split_whitespace()
+        .flat_map(|word| step(kind, word))
+        .collect()
+}
+
+fn step(kind: u32, word: &str) -> Vec<Step> {
+    let write = |offset, value| Step::Write { offset, value };
+    if let Some(line) = word.strip_suffix(['+', '-']) {
+        let (line, level) = (decimal(line), u32::from(word.ends_with('+')));
+        vec![Step::Line { line, level }]
+    } else if let Some((source, mode)) = word.split_once(':') {
+        let (source, (of, priority)) = (decimal(source), mode.split_at(1));
+        let of = "LFHR".find(of).expect("a type") as u32;
+        let mode = write(4 * source, of << 5 | decimal(priority));
+        vec![mode, write(0x80 + 4 * source, 0xB000 + source)]
+    } else if let Some((name, value)) = word.split_once('=') {
+        vec![write(register(kind, name), hexadecimal(value))]
+    } else {
+        let offset = register(kind, word);
+        vec![Step::Read { offset }]
+    }
+}
+
+fn register(kind: u32, word: &str) -> u32 {
+    if let Some(offset) = word.strip_prefix('@') {
+        return hexadecimal(offset);
+    }
+    let name = word.trim_end_matches(|digit: char| digit.is_ascii_digit());
+    let names = NAMES.get(kind as usize);
+    let found = names.and_then(|names| names.get(name));
+    let &(first, apart) = found.unwrap_or_else(|| panic!("{word:?} is no register"));
+    match &word[name.len()..] {
+        "" => first,
+        number => first + apart * decimal(number),
+    }
+}
 
 impl Script {
     /// A trace of a kind and its configuration with these steps.
@@ -61,42 +101,8 @@ impl Script {
 
     /// Writes the steps of a text down.
     pub(crate) fn steps(&mut self, text: &str) {
-        for word in text.split_whitespace() {
-            self.step(word);
-        }
-    }
-
-    /// Writes one of them down.
-    pub(crate) fn step(&mut self, word: &str) {
-        if let Some(line) = word.strip_suffix(['+', '-']) {
-            self.line(decimal(line), u32::from(word.ends_with('+')));
-        } else if let Some((source, mode)) = word.split_once(':') {
-            self.source(decimal(source), mode);
-        } else if let Some((register, value)) = word.split_once('=') {
-            self.write(self.register(register), hexadecimal(value));
-        } else {
-            self.read(self.register(word));
-        }
-    }
-
-    fn source(&mut self, source: u32, mode: &str) {
-        let (kind, priority) = mode.split_at(1);
-        let kind = "LFHR".find(kind).expect("a type") as u32;
-        self.write(4 * source, kind << 5 | decimal(priority));
-        self.write(0x80 + 4 * source, 0xB000 + source);
-    }
-
-    fn register(&self, word: &str) -> u32 {
-        if let Some(offset) = word.strip_prefix('@') {
-            return hexadecimal(offset);
-        }
-        let name = word.trim_end_matches(|digit: char| digit.is_ascii_digit());
-        let names = NAMES.get(self.kind as usize);
-        let found = names.and_then(|names| names.get(name));
-        let &(first, apart) = found.unwrap_or_else(|| panic!("{word:?} is no register"));
-        match &word[name.len()..] {
-            "" => first,
-            number => first + apart * decimal(number),
+        for step in parsed(self.kind, text) {
+            self.put(step);
         }
     }
 }

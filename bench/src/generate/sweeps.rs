@@ -134,7 +134,7 @@ fn nesting_to_eight() -> Script {
     let mut script = Script::with(0, &[0, 0], "SPU=5555AAAA ENABLE=FFFFFFFF");
     for level in 0..8 {
         let source = 20 - level;
-        steps!(script, "{source}:H{level} {source}+ IVR ISR");
+        steps!(script: "{source}:H{level} {source}+ IVR ISR");
     }
     script.steps("MODE30=47 30+ IVR");
     script.steps(&"EOICR=FFFFFFFF ISR ".repeat(9));
@@ -153,12 +153,7 @@ fn fast_side() -> Script {
 /// Four sources by edge with their priorities, each with a vector of its own.
 fn edge_sources(script: &mut Script, sources: [(u32, u32); 4]) {
     for (source, priority) in sources {
-        steps!(
-            script,
-            "MODE{source}={:x} VECTOR{source}={:x}",
-            0x60 | priority,
-            0xC000 + source
-        );
+        steps!(script: "MODE{source}={:x} VECTOR{source}={:x}", 0x60 | priority, 0xC000 + source);
     }
 }
 
@@ -190,19 +185,16 @@ fn all_types(external: u32, levels: u32) -> Script {
     for kind in 0..4_u32 {
         let source = 10 + kind;
         let (bit, mode) = (1 << source, kind << 5);
-        steps!(script, "MODE{source}={:x}", mode | kind);
+        steps!(script: "MODE{source}={:x}", mode | kind);
         for level in [one, one, other, other, one] {
-            steps!(script, "{source}{level} IPR");
+            steps!(script: "{source}{level} IPR");
         }
-        steps!(
-            script,
-            "CLEAR={bit:x} IPR {source}{one} IPR SET={bit:x} FFER={bit:x}"
-        );
+        steps!(script: "CLEAR={bit:x} IPR {source}{one} IPR SET={bit:x} FFER={bit:x}");
         for mode in [mode | 7, 0xFFFF_FF98 | mode | 7] {
-            steps!(script, "MODE{source}={mode:x} IPR");
+            steps!(script: "MODE{source}={mode:x} IPR");
         }
         for mode in [0x20, 0x60, 0x20, 0] {
-            steps!(script, "SET={bit:x} MODE{source}={mode:x} IPR");
+            steps!(script: "SET={bit:x} MODE{source}={mode:x} IPR");
         }
     }
     script
@@ -238,21 +230,15 @@ fn core_situations() -> Vec<Script> {
 fn both_groups(mut script: Script) -> Script {
     for of in 0..2 {
         for enable in [0, u32::MAX] {
-            steps!(
-                script,
-                "ENABLE{of}={enable:x} SOFT{of}=FFFFFFFF RAW{of} STATUS{of}"
-            );
-            steps!(script, "SOFT_CLEAR{of}=FFFFFFFF");
+            steps!(script: "ENABLE{of}={enable:x} SOFT{of}=FFFFFFFF RAW{of} STATUS{of}");
+            steps!(script: "SOFT_CLEAR{of}=FFFFFFFF");
             for line in 0..40 {
-                steps!(script, "{line}+ RAW{of} STATUS{of}");
+                steps!(script: "{line}+ RAW{of} STATUS{of}");
             }
-            steps!(script, "SOFT{of}=1 SOFT_CLEAR{of}=1 RAW{of}");
+            steps!(script: "SOFT{of}=1 SOFT_CLEAR{of}=1 RAW{of}");
             (0..40).for_each(|line| script.line(line, 0));
         }
-        steps!(
-            script,
-            "ENABLE_CLEAR{of}=55555555 ENABLE{of} SOFT_CLEAR{of} ENABLE_CLEAR{of}"
-        );
+        steps!(script: "ENABLE_CLEAR{of}=55555555 ENABLE{of} SOFT_CLEAR{of} ENABLE_CLEAR{of}");
     }
     script
 }
@@ -333,32 +319,25 @@ fn one_host_each(kind: u32, configuration: &[u32]) -> Script {
                 _ => 255,
             };
             let word = (0..4).fold(0, |word, place| word | entry(place) << (8 * place));
-            steps!(script, "{map}{register}={word:x}");
+            steps!(script: "{map}{register}={word:x}");
         }
     }
     for word in 0..systems.div_ceil(32) {
-        steps!(script, "ENABLE{word}=FFFFFFFF");
+        steps!(script: "ENABLE{word}=FFFFFFFF");
     }
     for word in 0..hosts.div_ceil(32) {
-        steps!(script, "HOST_ENABLE{word}=FFFFFFFF");
+        steps!(script: "HOST_ENABLE{word}=FFFFFFFF");
     }
     script.steps("0+ GLOBAL=FFFFFFFF");
     (0..systems).for_each(|system| script.line(system, 1));
     script.steps("0+ 0-");
     for word in 0..systems.div_ceil(32) {
-        steps!(script, "CLEAR{word}=FFFFFFFF SET{word}");
+        steps!(script: "CLEAR{word}=FFFFFFFF SET{word}");
     }
     let (last, host) = (systems - 1, systems.min(hosts) - 1);
-    steps!(
-        script,
-        "{last}- {last}+ CLEAR{} IHOST_OFF={host:x}",
-        last / 32
-    );
-    steps!(
-        script,
-        "IHOST_ON={host:x} IDISABLE={last:x} {last}- ICLEAR={last:x} {last}+"
-    );
-    steps!(script, "IENABLE={last:x} GLOBAL=2 GLOBAL");
+    steps!(script: "{last}- {last}+ CLEAR{} IHOST_OFF={host:x}", last / 32);
+    steps!(script: "IHOST_ON={host:x} IDISABLE={last:x} {last}- ICLEAR={last:x} {last}+");
+    steps!(script: "IENABLE={last:x} GLOBAL=2 GLOBAL");
     script
 }
 

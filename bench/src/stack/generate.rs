@@ -12,6 +12,7 @@ use super::text::NUMBERS;
 use super::{line, needed, Row, Table, MOST_FRAME, MOST_PRIORITY, MOST_TYPE};
 use crate::batch::Request;
 use crate::compare::Subject;
+use crate::generate::played::weights;
 use crate::model::aic::SOURCES;
 use crate::numbered::{Made, Numbered};
 use crate::random::Random;
@@ -95,17 +96,10 @@ impl Made for Typed {
 }
 
 /// What a random table is like, and how often it comes.
-const STYLES: [(u32, &str); 6] = [
-    (300, "plain"),
-    (300, "adorned"),
-    (150, "limits"),
-    (150, "spoiled"),
-    (100, "harmed"),
-    (2, "long"),
-];
+const STYLES: &str = "300 plain, 300 adorned, 150 limits, 150 spoiled, 100 harmed, 2 long";
 
 fn random_typed(random: &mut Random) -> Typed {
-    let style = random.weighted(&STYLES);
+    let style = random.weighted(&weights(STYLES));
     let table = match style {
         "limits" => at_limits(random),
         _ => any_table(random),

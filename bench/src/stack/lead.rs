@@ -1,4 +1,5 @@
-//! The line that leads to the slip of a refused table: in which line of the text it stands, and what was expected there.
+//! The line that leads to the slip of a refused table: in which line of the text it stands, and what was expected
+//! there.
 
 use super::text::{self, Misread, Slip, Word, NUMBERS};
 use super::{needed, Fault, MOST_FRAME, MOST_PRIORITY, MOST_TYPE};

@@ -1,4 +1,5 @@
-//! A priority table as people type it, read into its 98 numbers: words between white space, comments and names left out.
+//! A priority table as people type it, read into its 98 numbers: words between white space, comments and names left
+//! out.
 
 use super::{Fault, Row, Table};
 use crate::model::aic::SOURCES;
@@ -68,7 +69,8 @@ pub fn made_of(numbers: &[u32]) -> Table {
     }
 }
 
-/// The 98 numbers of a text, which has nothing else; none for one that is worth 2^32 or more, which is beyond any limit.
+/// The 98 numbers of a text, which has nothing else; none for one that is worth 2^32 or more, which is beyond any
+/// limit.
 pub fn numbers(text: &[u8]) -> Result<Vec<Option<u32>>, Misread> {
     let words = words(text);
     let mut numbers = Vec::with_capacity(NUMBERS);
@@ -256,8 +258,8 @@ mod tests {
         [a, b, c, format!("1{zeros}"), format!("0x1{zeros}")]
     }
 
-    /// 14 for a number that is too large for its limit, however many digits it has; the forced word has no limit but its
-    /// 32 bits, and beyond them it is no word: 8, at its first character.
+    /// 14 for a number that is too large for its limit, however many digits it has; the forced word has no limit but
+    /// its 32 bits, and beyond them it is no word: 8, at its first character.
     #[test]
     fn however_many_digits() {
         for text in over_32_bits() {
@@ -329,8 +331,8 @@ mod tests {
         assert_eq!(printed(&glued), "E 8 4\n");
     }
 
-    /// A comment ends with its line feed; a missing number is told at the end of the text, one too many at its own; of two
-    /// slips the first is told, and a slip of the typing before 14. A number stands for so many zeros.
+    /// A comment ends with its line feed; a missing number is told at the end of the text, one too many at its own; of
+    /// two slips the first is told, and a slip of the typing before 14. A number stands for so many zeros.
     #[test]
     fn where_a_slip_is_told() {
         let beyond = "8 4 65536";

@@ -2,22 +2,14 @@
 //! over, how a hold begins, each way in which it ends and each in which it must not.
 
 use super::{place, registers, spots};
-use crate::coverage::{offset, word_offset, Coverage, Item, Outcome, Spot, Way, Whose};
+use crate::coverage::{offset, word_offset, Change, Coverage, Item, Outcome, Spot, Way, Whose};
 use crate::facts;
 use crate::model::cic::{Cic, Register as CicRegister};
 use crate::model::indexed::{Index, Indexed, Register, NONE};
-use crate::model::{Answer, Controller, Refusal, Step};
+use crate::model::{Controller, Refusal, Step};
 use crate::tally::Fact;
 
-/// A step with its answer, and the controller before and after it.
-struct Change<'a> {
-    before: &'a Indexed,
-    after: &'a Indexed,
-    step: Step,
-    answer: Answer,
-}
-
-impl Change<'_> {
+impl Change<'_, Indexed> {
     /// The register that the step is aimed at.
     fn register(&self) -> Option<Register> {
         Some(self.before.register(word_offset(self.step)?)?.0)
@@ -60,7 +52,7 @@ facts! { FACTS;
         "indices of the largest part" if size == (1_024, 256, 256);
     }
 
-    fn without_choice(change: &Change) {
+    fn without_choice(change: &Change<Indexed>) {
         let (way, accepted) = (Way::of(change.step), change.answer.is_ok());
         let absent = change.answer == Err(Refusal::NoRegister);
         let no = |own, by| absent && offset(change.step) == Some(own) && way == by;
@@ -82,7 +74,7 @@ facts! { FACTS;
             if !offset.is_multiple_of(4) && (0x900..0xD00).contains(&offset);
     }
 
-    fn control(change: &Change, value: u32) {
+    fn control(change: &Change<Indexed>, value: u32) {
         let (was, is) = (change.before.hold(), change.after.hold());
         let held = change.held().count();
         "control with bits that are dropped" if value & !0x10 != 0;
@@ -94,7 +86,7 @@ facts! { FACTS;
 }
 
 facts! { BOTH;
-    fn polled(change: &Change, index: Index, word: u32) {
+    fn polled(change: &Change<Indexed>, index: Index, word: u32) {
         let (mode, again) = (change.before.hold(), change.before.held(index).is_some());
         let begins = mode && !again;
         "a hold begun by a number" if begins && word != NONE;
@@ -170,30 +162,28 @@ facts! { BOTH;
     }
 
     /// An index is held after the step as before it.
-    fn stayed(change: &Change, index: Index) {
+    fn stayed(change: &Change<Indexed>, index: Index) {
         let (way, register) = (Way::of(change.step), change.register());
         let (read, write) = (way == Way::Read, way == Way::Write);
         let refused = change.answer.is_err();
         let another = |of: &Register| matches!(of, Register::Index(other) if *other != index);
         let host = matches!(register, Some(Register::Index(Index::Host(_))));
-        let cic = match register {
-            Some(Register::Cic(register)) => Some(register),
-            _ => None,
-        };
-        let past = |wanted| write && cic == Some(wanted);
-        let wrote = |wanted: fn(CicRegister) -> bool| write && cic.is_some_and(wanted);
+        let group = group(change.before.cic(), register);
+        let past = |groups: &[&str]| write && groups.contains(&group);
         "kept past a line step" if way == Way::Line;
         "kept past a read of another index" if read && register.as_ref().is_some_and(another);
-        "kept past a read of the CIC" if read && cic.is_some();
+        "kept past a read of the CIC" if read && !group.is_empty();
         "kept past control with the mode on" if write && register == Some(Register::Control);
         "kept past a write of a host's index" if write && host;
-        "kept past host index set, refused" if past(CicRegister::HostEnableSetIndex) && refused;
-        "kept past host index clear, refused" if past(CicRegister::HostEnableClearIndex) && refused;
-        "kept past global enable" if past(CicRegister::GlobalEnable);
-        "kept past a status write" if wrote(of_status);
-        "kept past an enable write" if wrote(of_enables);
-        "kept past a channel map write" if wrote(|of| matches!(of, CicRegister::ChannelMap(_)));
-        "kept past a host map write" if wrote(|of| matches!(of, CicRegister::HostMap(_)));
+        "kept past host index set, refused" if refused && past(&["host enable set index"]);
+        "kept past host index clear, refused" if refused && past(&["host enable clear index"]);
+        "kept past global enable" if past(&["global enable"]);
+        "kept past a status write"
+            if past(&["status set index", "status clear index", "raw/set", "enabled/clear"]);
+        "kept past an enable write"
+            if past(&["enable set index", "enable clear index", "enable set", "enable clear"]);
+        "kept past a channel map write" if past(&["channel map"]);
+        "kept past a host map write" if past(&["host map"]);
     }
 
     /// What a write does to the very system that is held.
@@ -271,33 +261,12 @@ fn leads(cic: &Cic, index: Index, system: usize) -> bool {
     }
 }
 
-fn of_hosts(register: CicRegister) -> bool {
-    matches!(
-        register,
-        CicRegister::HostEnableSetIndex
-            | CicRegister::HostEnableClearIndex
-            | CicRegister::HostEnable(_)
-    )
-}
-
-fn of_status(register: CicRegister) -> bool {
-    matches!(
-        register,
-        CicRegister::StatusSetIndex
-            | CicRegister::StatusClearIndex
-            | CicRegister::RawSet(_)
-            | CicRegister::EnabledClear(_)
-    )
-}
-
-fn of_enables(register: CicRegister) -> bool {
-    matches!(
-        register,
-        CicRegister::EnableSetIndex
-            | CicRegister::EnableClearIndex
-            | CicRegister::EnableSet(_)
-            | CicRegister::EnableClear(_)
-    )
+/// The name of the group of a register of the CIC itself.
+fn group(cic: &Cic, register: Option<Register>) -> &'static str {
+    match register {
+        Some(Register::Cic(register)) => place(cic, register).0,
+        _ => "",
+    }
 }
 
 impl Coverage {
@@ -306,29 +275,18 @@ impl Coverage {
     }
 
     /// Counts what a step on a CIC with prioritised indices shows.
-    pub(in crate::coverage) fn indexed_step(
-        &mut self,
-        before: &Indexed,
-        after: &Indexed,
-        step: Step,
-        answer: Answer,
-    ) {
-        let change = Change {
-            before,
-            after,
-            step,
-            answer,
-        };
+    pub(in crate::coverage) fn indexed_step(&mut self, change: &Change<Indexed>) {
+        let (before, after, step) = (change.before, change.after, change.step);
         if !before.prioritised() {
-            return self.facts(without_choice(&change));
+            return self.facts(without_choice(change));
         }
-        self.indexed_register(&change);
-        match (step, change.register(), answer) {
+        self.indexed_register(change);
+        match (step, change.register(), change.answer) {
             (Step::Read { .. }, Some(Register::Index(index)), Ok(word)) => {
-                self.index_read(&change, index, word);
+                self.index_read(change, index, word);
             }
             (Step::Write { value, .. }, Some(Register::Control), _) => {
-                self.facts(control(&change, value));
+                self.facts(control(change, value));
             }
             (Step::Write { .. }, Some(Register::Index(index)), _) => {
                 self.index(index, index_written(before, index));
@@ -337,8 +295,8 @@ impl Coverage {
         }
         for (index, word) in change.held() {
             match after.held(index) {
-                Some(_) => self.hold_stayed(&change, index, word),
-                None => self.hold_ended(&change, index),
+                Some(_) => self.hold_stayed(change, index, word),
+                None => self.hold_ended(change, index),
             }
         }
     }
@@ -349,7 +307,7 @@ impl Coverage {
         self.tally.facts(item, facts);
     }
 
-    fn indexed_register(&mut self, change: &Change) {
+    fn indexed_register(&mut self, change: &Change<Indexed>) {
         let Some(offset) = offset(change.step) else {
             return;
         };
@@ -368,14 +326,13 @@ impl Coverage {
                 None => return,
             },
         };
-        let outcome = Outcome::of(change.step, change.answer);
         for spot in spots(place, size) {
-            self.reach(Item::Indexed(group, spot, outcome));
+            self.reach(Item::Indexed(group, spot, change.outcome()));
         }
     }
 
     /// A read of an index that was carried out: it is held already, or names a system, or none.
-    fn index_read(&mut self, change: &Change, index: Index, word: u32) {
+    fn index_read(&mut self, change: &Change<Indexed>, index: Index, word: u32) {
         let before = change.before;
         let held = before.held(index).filter(|_| before.hold());
         let system = word as usize;
@@ -398,13 +355,14 @@ impl Coverage {
     }
 
     /// The hold of an index has ended.
-    fn hold_ended(&mut self, change: &Change, index: Index) {
+    fn hold_ended(&mut self, change: &Change<Indexed>, index: Index) {
         let Some((register, value)) = change.written() else {
             return self.index(index, [(true, "ended by no write")]);
         };
         let enables = change.before.cic().host_enable();
         let already = matches!(index, Index::Host(host) if enables.get(host));
-        let other = matches!(register, Register::Cic(register) if !of_hosts(register));
+        let group = group(change.before.cic(), Some(register));
+        let other = !group.is_empty() && !group.starts_with("host enable");
         self.index(index, ended(register, already));
         self.index(index, [(other, "ended by something else")]);
         match index {
@@ -414,7 +372,7 @@ impl Coverage {
     }
 
     /// An index is held after the step as before it.
-    fn hold_stayed(&mut self, change: &Change, index: Index, word: u32) {
+    fn hold_stayed(&mut self, change: &Change<Indexed>, index: Index, word: u32) {
         let (before, after) = (change.before.cic(), change.after.cic());
         self.index(index, stayed(change, index));
         let Some((register, value)) = change.written() else {

@@ -17,12 +17,12 @@ pub fn situations() -> Vec<Script> {
 fn opening(systems: u32, channels: u32, hosts: u32, text: &str) -> Script {
     let mut script = Script::new(INDEXED, &[systems, channels, hosts, 0x4E82_0000, 1]);
     for word in 0..systems.div_ceil(32) {
-        steps!(script, "ENABLE{word}=FFFFFFFF");
+        steps!(script: "ENABLE{word}=FFFFFFFF");
     }
     for word in 0..hosts.div_ceil(32) {
-        steps!(script, "HOST_ENABLE{word}=FFFFFFFF");
+        steps!(script: "HOST_ENABLE{word}=FFFFFFFF");
     }
-    steps!(script, "GLOBAL=1 {text}");
+    steps!(script: "GLOBAL=1 {text}");
     script
 }
 
@@ -41,16 +41,11 @@ const MAPS: [(u32, u32); 6] = [
 /// hosts, and all of them, are disabled too.
 fn every_set((channels, hosts): (u32, u32)) -> Script {
     let mut script = Script::with(INDEXED, &[4, 4, 2, 0, 1], "CONTROL=0");
-    steps!(script, "CHANNELS0={channels:x} HOSTS0={hosts:x}");
+    steps!(script: "CHANNELS0={channels:x} HOSTS0={hosts:x}");
     for enables in 0..16 {
-        steps!(script, "DISABLE0=F ENABLE0={enables:x}");
+        steps!(script: "DISABLE0=F ENABLE0={enables:x}");
         for set in 0..16 {
-            steps!(
-                script,
-                "CLEAR0=F SET0={set:x} HOST_ENABLE0={} GLOBAL={}",
-                set % 4,
-                set % 3
-            );
+            steps!(script: "CLEAR0=F SET0={set:x} HOST_ENABLE0={} GLOBAL={}", set % 4, set % 3);
             script.steps("INDEX HOST_INDEX0 HOST_INDEX1 HOST_INDEX2");
         }
     }
@@ -60,28 +55,10 @@ fn every_set((channels, hosts): (u32, u32)) -> Script {
 /// The first and the last system, channel and host of the largest part.
 fn ends() -> Script {
     let mut script = opening(1_024, 256, 256, "CONTROL=0");
-    for change in [
-        "",
-        "1023+",
-        "CHANNELS255=FF000000",
-        "HOSTS63=FF000000",
-        "0+",
-        "CHANNELS0=FF",
-        "HOSTS63=0",
-        "ICLEAR=0",
-        "ICLEAR=3FF",
-        "ISET=1F",
-        "ISET=20",
-        "ISET=FF",
-        "ISET=100",
-        "ISET=1FF",
-        "ISET=200",
-        "ISET=3E0",
-    ] {
-        steps!(
-            script,
-            "{change} INDEX HOST_INDEX0 HOST_INDEX255 HOST_INDEX256"
-        );
+    let changes = "; 1023+; CHANNELS255=FF000000; HOSTS63=FF000000; 0+; CHANNELS0=FF; HOSTS63=0
+        ; ICLEAR=0; ICLEAR=3FF; ISET=1F; ISET=20; ISET=FF; ISET=100; ISET=1FF; ISET=200; ISET=3E0";
+    for change in changes.split(';') {
+        steps!(script: "{change} INDEX HOST_INDEX0 HOST_INDEX255 HOST_INDEX256");
     }
     script
 }
@@ -91,23 +68,15 @@ fn every_host() -> Script {
     let hosts: String = (0..256).map(|host| format!("HOST_INDEX{host} ")).collect();
     let read_all = format!("{hosts} INDEX");
     let mut script = opening(64, 256, 256, "HOSTS0=FF01 40+");
-    steps!(script, "{read_all} ICLEAR=28 3+ {read_all}");
+    steps!(script: "{read_all} ICLEAR=28 3+ {read_all}");
     for word in 0..8 {
-        steps!(
-            script,
-            "HOST_ENABLE{word}={:x}",
-            0x8000_0001_u32 | 1 << word
-        );
+        steps!(script: "HOST_ENABLE{word}={:x}", 0x8000_0001_u32 | 1 << word);
     }
     script.steps(&read_all);
     for host in [0, 1, 127, 128, 254, 255] {
-        steps!(
-            script,
-            "HOST_INDEX{host}=FFFFFFFF IHOST_OFF={:x}",
-            255 - host
-        );
+        steps!(script: "HOST_INDEX{host}=FFFFFFFF IHOST_OFF={:x}", 255 - host);
     }
-    steps!(script, "{read_all} CONTROL=FFFFFFEF CONTROL=10 {read_all}");
+    steps!(script: "{read_all} CONTROL=FFFFFFEF CONTROL=10 {read_all}");
     script
 }
 
@@ -118,15 +87,9 @@ fn served() -> Script {
     for index in ["HOST_INDEX1", "INDEX"] {
         script.steps("0+ 0- 3+ 3- 2+ 2-");
         for served in [2, 3, 0] {
-            steps!(
-                script,
-                "IHOST_OFF=1 {index} ICLEAR={served} {index} IHOST_ON=1"
-            );
+            steps!(script: "IHOST_OFF=1 {index} ICLEAR={served} {index} IHOST_ON=1");
         }
-        steps!(
-            script,
-            "{index} 1+ {index} CONTROL=0 {index} ICLEAR=1 1- {index} CONTROL=10"
-        );
+        steps!(script: "{index} 1+ {index} CONTROL=0 {index} ICLEAR=1 1- {index} CONTROL=10");
     }
     script
 }
@@ -135,8 +98,8 @@ fn served() -> Script {
 fn smallest() -> Script {
     let mut script = opening(1, 1, 1, "");
     for index in ["INDEX", "HOST_INDEX0", "HOST_INDEX1"] {
-        steps!(script, "{index} ISET=0 {index} {index}=0 {index}");
-        steps!(script, "ICLEAR=0 {index} IHOST_ON=0 {index}");
+        steps!(script: "{index} ISET=0 {index} {index}=0 {index}");
+        steps!(script: "ICLEAR=0 {index} IHOST_ON=0 {index}");
     }
     script
 }
@@ -146,18 +109,15 @@ fn modes() -> Script {
     let mut script = opening(8, 2, 2, "ISET=5");
     let values = (0..32).flat_map(|bit| [1 << bit, !(1 << bit)]);
     for value in values.chain([0, 0, u32::MAX, u32::MAX]) {
-        steps!(
-            script,
-            "INDEX HOST_INDEX0 CONTROL={value:x} CONTROL ISET=3 INDEX HOST_INDEX1"
-        );
-        steps!(script, "INDEX={value:x} HOST_INDEX1={value:x} ICLEAR=3");
+        steps!(script: "INDEX HOST_INDEX0 CONTROL={value:x} CONTROL ISET=3 INDEX HOST_INDEX1");
+        steps!(script: "INDEX={value:x} HOST_INDEX1={value:x} ICLEAR=3");
     }
     script
 }
 
-/// Each thing that ends a hold of some index, and each that does not. System 20 is the one that may be held. `own` is the
-/// index, of a host `n` (`h` in hexadecimal), whose bit is in a word of host enables; `next` is another host, `far` another
-/// word.
+/// Each thing that ends a hold of some index, and each that does not. System 20 is the one that may be held. `own` is
+/// the index, of a host `n` (`h` in hexadecimal), whose bit is in a word of host enables; `next` is another host, `far`
+/// another word.
 const WAYS: &str =
     "{own}=0; {own}=FFFFFFFF; {beside}=0; INDEX=0; HOST_INDEX{n}=5; HOST_INDEX{next}=5
     ; HOST_INDEX40=5; IHOST_ON={h}; IHOST_OFF={h}; IHOST_ON={other}; IHOST_OFF={other}
@@ -205,18 +165,9 @@ fn holds(index: Index) -> Script {
     for begun in ["", "20+"] {
         for enabled in [0, u32::MAX] {
             for way in ways(index).split(';') {
-                steps!(
-                    script,
-                    "CHANNELS0=0 CHANNELS5=1 HOSTS0={hosts:x} ENABLE0=FFFFFFFF"
-                );
-                steps!(
-                    script,
-                    "HOST_ENABLE{word}={enabled:x} {begun} {own} {own} 2+ {another}"
-                );
-                steps!(
-                    script,
-                    "{way} {own} CONTROL CONTROL=0 20- 2- CLEAR0=FFFFFFFF CONTROL=10"
-                );
+                steps!(script: "CHANNELS0=0 CHANNELS5=1 HOSTS0={hosts:x} ENABLE0=FFFFFFFF");
+                steps!(script: "HOST_ENABLE{word}={enabled:x} {begun} {own} {own} 2+ {another}");
+                steps!(script: "{way} {own} CONTROL CONTROL=0 20- 2- CLEAR0=FFFFFFFF CONTROL=10");
             }
         }
     }

@@ -1,8 +1,8 @@
 //! The sweeps of the AINTC: every register by every privilege, and each way to be chosen, held and released, on both
 //! sides alike. Those of one side have words of their own for an input: `40:5` gives it a priority and leads it to the
-//! side, `40~5` to the other side; `40u` unmasks and `40m` masks it, `40s` sets its soft bit and `40c` clears it. `A` is
-//! the side's agreement and `B` that of the other; `?40` asks for all that tells of the side and of the input's bank, and
-//! `!40` the same of the other side.
+//! side, `40~5` to the other side; `40u` unmasks and `40m` masks it, `40s` sets its soft bit and `40c` clears it. `A`
+//! is the side's agreement and `B` that of the other; `?40` asks for all that tells of the side and of the input's
+//! bank, and `!40` the same of the other side.
 
 use crate::generate::aintc::{bit, CONTROL, END, PROTECTION, SIR, SYSCONFIG, THRESHOLD};
 use crate::generate::steps::{decimal, steps};
@@ -145,12 +145,10 @@ fn holding(side: Side) -> Script {
     told.steps("40:5 B !40 THRESHOLD=6 ?40 THRESHOLD=5 ?40 THRESHOLD=0 ?40 THRESHOLD=FF ?40");
     // Agreement bits that are not its own, and its own by who may not.
     let sir = format!("SIR{}", side as usize);
-    told.steps(&format!(
-        "CONTROL=0 {sir} CONTROL=FFFFFFFC {sir} B {sir} PROTECTION=1"
-    ));
+    steps!(told: "CONTROL=0 {sir} CONTROL=FFFFFFFC {sir} B {sir} PROTECTION=1");
     told.script.write_by(0, CONTROL, 3);
     told.script.write_by(2, CONTROL, 3);
-    told.steps(&format!("{sir} 41- 41+ PROTECTION=FFFFFFFE A ?40"));
+    steps!(told: "{sir} 41- 41+ PROTECTION=FFFFFFFE A ?40");
     told.script
 }
 
@@ -159,9 +157,7 @@ fn holding(side: Side) -> Script {
 fn releasing(side: Side) -> Script {
     let of = side as usize;
     let mut told = Told::new(side, &format!("A SIR{of} 70:7 70u 70+ 71:8 71u 71+"));
-    told.steps(&format!(
-        "A 70- A 71- A A 70+ PRIORITY{of} THRESHOLD=7 A ?70"
-    ));
+    steps!(told: "A 70- A 71- A A 70+ PRIORITY{of} THRESHOLD=7 A ?70");
     told.steps("71:6 71+ ?71 71- A THRESHOLD=FF 71~6 71+ 70m");
     for side in 0..2 {
         told.script.steps(&status(side, 70));
@@ -174,13 +170,13 @@ fn releasing(side: Side) -> Script {
 fn thresholds(side: Side) -> Script {
     let mut told = Told::new(side, "9u");
     for threshold in [0, 1, 2, 3, 0x7E, 0x7F, 0x80, 0xFE, 0xFF, 0x100] {
-        told.steps(&format!("THRESHOLD={threshold:x} THRESHOLD"));
+        steps!(told: "THRESHOLD={threshold:x} THRESHOLD");
         for priority in [0, 1, 2, 3, 0x7E, 0x7F] {
-            told.steps(&format!("9:{priority} 9+ ?9 9- A"));
+            steps!(told: "9:{priority} 9+ ?9 9- A");
         }
     }
     for (threshold, [low, high]) in [(2, [3, 1]), (0, [1, 0]), (0x7F, [0x7F, 0x7E])] {
-        told.steps(&format!("9m THRESHOLD={threshold:x} 9:{low} 10:{high}"));
+        steps!(told: "9m THRESHOLD={threshold:x} 9:{low} 10:{high}");
         told.steps("ISR_SET0=600 MIR_CLEAR0=600 ?9 ISR_CLEAR0=400 A ISR_CLEAR0=200");
         told.steps("THRESHOLD=FF A");
     }
@@ -193,12 +189,10 @@ fn every_input(side: Side) -> Script {
     let other = ["PENDING_FIQ", "PENDING_IRQ"][side as usize];
     for n in 0..INPUTS as u32 {
         let bank = n / 32;
-        told.steps(&format!(
-            "{n}:{n} {n}u {n}+ ?{n} {other}{bank} MIR{bank} ILR{n}"
-        ));
-        told.steps(&format!("{n}- A {n}s ?{n} {n}c A"));
+        steps!(told: "{n}:{n} {n}u {n}+ ?{n} {other}{bank} MIR{bank} ILR{n}");
+        steps!(told: "{n}- A {n}s ?{n} {n}c A");
         if n % 2 == 0 {
-            told.steps(&format!("{n}m"));
+            steps!(told: "{n}m");
         }
     }
     told.script
@@ -219,18 +213,14 @@ fn resets() -> Script {
     for (privilege, value, guarded) in by {
         for (input, side) in [(0, 0), (31, 1), (64, 1), (127, 0)] {
             let (bank, ilr) = (input / 32, (1 + input / 2) << 2 | side);
-            steps!(
-                script,
-                "ILR{input}={ilr:x} MIR_CLEAR{bank}={:x} {input}+",
-                bit(input)
-            );
+            steps!(script: "ILR{input}={ilr:x} MIR_CLEAR{bank}={:x} {input}+", bit(input));
         }
         script.steps("ISR_SET0=2 @0=FFFFFF76 @50=FFFFFF76 THRESHOLD=FFFFFF76 SYSCONFIG=1");
         script.write(PROTECTION, guarded);
         script.write_by(privilege, SYSCONFIG, value);
         (0..END).step_by(4).for_each(|offset| script.read(offset));
         for bank in 0..4 {
-            steps!(script, "MIR_CLEAR{bank}=FFFFFFFF");
+            steps!(script: "MIR_CLEAR{bank}=FFFFFFFF");
         }
         script.steps("SIR0 PROTECTION=0 CONTROL=3");
     }

@@ -19,11 +19,12 @@ const START: &str = "CISR IVR EOICR=0";
 /// Each of some steps, and a start behind it.
 fn each_started(script: &mut Script, text: &str) {
     for step in text.split_whitespace() {
-        steps!(script, "{step} {START}");
+        steps!(script: "{step} {START}");
     }
 }
 
-/// Each byte: a source for each level, the higher the level the lower the number in one half and the higher in the other.
+/// Each byte: a source for each level, the higher the level the lower the number in one half and the higher in the
+/// other.
 fn bytes() -> Script {
     let number = |level: u32| match level % 2 {
         0 => 20 - level,
@@ -31,12 +32,12 @@ fn bytes() -> Script {
     };
     let mut script = opening("");
     for level in 0..8 {
-        steps!(script, "{}:R{level}", number(level));
+        steps!(script: "{}:R{level}", number(level));
     }
     for byte in 0..256_u32 {
         let waiting = (0..8).filter(|level| byte >> level & 1 == 1);
         let word = waiting.fold(0, |word, level| word | 1 << number(level));
-        steps!(script, "SET={word:x} {START} CLEAR={word:x}");
+        steps!(script: "SET={word:x} {START} CLEAR={word:x}");
     }
     script
 }
@@ -48,12 +49,12 @@ fn against() -> Script {
     for last in levels() {
         for highest in levels() {
             if let Some(level) = last {
-                steps!(script, "2:R{level} SET=4 IVR");
+                steps!(script: "2:R{level} SET=4 IVR");
             }
             if let Some(level) = highest {
-                steps!(script, "9:R{level} SET=200");
+                steps!(script: "9:R{level} SET=200");
             }
-            steps!(script, "{START} CLEAR=FFFFFFFF EOICR=0");
+            steps!(script: "{START} CLEAR=FFFFFFFF EOICR=0");
         }
     }
     script
@@ -63,11 +64,11 @@ fn against() -> Script {
 fn numbers(level: u32) -> Script {
     let mut script = opening("");
     for number in 0..32 {
-        steps!(script, "{number}:R{level}");
+        steps!(script: "{number}:R{level}");
     }
     for number in 1..31 {
         let both = 1_u32 << number | 1 << 31;
-        steps!(script, "SET={both:x} {START} CLEAR=FFFFFFFF");
+        steps!(script: "SET={both:x} {START} CLEAR=FFFFFFFF");
     }
     script.steps("SET=FFFFFFFE");
     for _ in 0..32 {
@@ -80,7 +81,7 @@ fn numbers(level: u32) -> Script {
 fn turns(level: u32) -> Script {
     let mut script = opening(&format!("5:R{level} 6:R{level}"));
     script.steps("SET=20 CISR SET=40 CISR CLEAR=20 CISR CLEAR=40 CISR SET=60");
-    steps!(script, "{START} {START} 5:H{level} 6:H{level}");
+    steps!(script: "{START} {START} 5:H{level} 6:H{level}");
     each_started(&mut script, "5+ 6+ 5- 6- 5+ 6+");
     each_started(&mut script, "DISABLE=20 DISABLE=40 ENABLE=20 ENABLE=40");
     each_started(&mut script, "FFER=20 FFER=40 FFDR=20 FFDR=40");
@@ -109,7 +110,7 @@ fn modes() -> Script {
     each_started(&mut script, "5:R6 5:H6 5:L6 5:F6 5:L5");
     for (out, back) in [("DISABLE", "ENABLE"), ("FFER", "FFDR")] {
         for level in [1, 7] {
-            steps!(script, "{out}=20 5:H{level} {START} {back}=20 {START}");
+            steps!(script: "{out}=20 5:H{level} {START} {back}=20 {START}");
         }
     }
     script
@@ -119,7 +120,7 @@ fn modes() -> Script {
 fn several() -> Script {
     let mut script = opening("1:R0 2:R1 3:R2 4:R3 5:R4 6:R5 7:R6 8:R7");
     for command in ["SET", "DISABLE", "ENABLE", "FFER", "FFDR", "CLEAR"] {
-        steps!(script, "{command}=1FE CISR {command}=155 {START}");
+        steps!(script: "{command}=1FE CISR {command}=155 {START}");
     }
     script
 }
@@ -128,7 +129,7 @@ fn several() -> Script {
 fn masked() -> Script {
     let mut script = opening("5:H2 9:H4");
     for debug in [2, 0, 2] {
-        steps!(script, "DCR={debug}");
+        steps!(script: "DCR={debug}");
         each_started(&mut script, "5+ 9+ 9- 9+");
         script.steps("9- 5-");
     }
@@ -142,25 +143,19 @@ fn beneath_eight(marks: bool) -> Script {
     for level in 0..8 {
         if !marks {
             let source = 16 + level;
-            steps!(script, "{source}:R{level} SET={:x}", 1 << source);
+            steps!(script: "{source}:R{level} SET={:x}", 1 << source);
         }
         script.steps("IVR");
     }
     script.steps("5:H7 6:R7 5+ IVR 5- IVR 5+ IVR");
-    for change in [
-        "DISABLE=20",
-        "ENABLE=20",
-        "FFER=20",
-        "FFDR=20",
-        "SET=40",
-        "CLEAR=40",
-        "MODE5=41",
-        "MODE5=46",
-    ] {
-        steps!(script, "{change} CISR IVR");
+    for change in "DISABLE ENABLE FFER FFDR".split(' ') {
+        steps!(script: "{change}=20 CISR IVR");
+    }
+    for change in "SET=40 CLEAR=40 MODE5=41 MODE5=46".split(' ') {
+        steps!(script: "{change} CISR IVR");
     }
     for _ in 0..9 {
-        steps!(script, "EOICR=0 CISR {START}");
+        steps!(script: "EOICR=0 CISR {START}");
     }
     script
 }

@@ -46,9 +46,9 @@ fn tower(script: &mut Script, marks: u32, open: &str) {
         if is_handler(at) {
             script.line(1 + at, 1);
         }
-        steps!(script, "{open} ISR");
+        steps!(script: "{open} ISR");
     }
-    steps!(script, "30+ {open} CISR");
+    steps!(script: "30+ {open} CISR");
     for at in (0..8).rev() {
         script.steps(CLOSE);
         if at == 7 {
@@ -65,18 +65,18 @@ fn tower(script: &mut Script, marks: u32, open: &str) {
 const TWO_MARKS: &str = "IVR ISR IVR ISR EOICR=0 ISR EOICR=0 ISR";
 
 /// Each thing that keeps a source from being a candidate, alone, with the mask or without: marks open all the same,
-/// first with nothing below them and then on a handler. Source 0 is fast, 6 forced, 7 disabled, 8 of an equal priority and
-/// 9 of a lower one.
+/// first with nothing below them and then on a handler. Source 0 is fast, 6 forced, 7 disabled, 8 of an equal priority
+/// and 9 of a lower one.
 fn each_hindrance(debug: u32) -> Script {
     let mut script = opening(&format!("DCR={debug}"));
     script.steps("3:R3 0:H7 6:H7 7:H7 8:H3 9:H2 FFER=40 DISABLE=80");
     script.steps(TWO_MARKS);
     for number in [0, 6, 7] {
-        steps!(script, "{number}+ {TWO_MARKS} {number}-");
+        steps!(script: "{number}+ {TWO_MARKS} {number}-");
     }
-    steps!(script, "SET=8 IVR {TWO_MARKS}");
+    steps!(script: "SET=8 IVR {TWO_MARKS}");
     for number in [0, 6, 7, 8, 9] {
-        steps!(script, "{number}+ {TWO_MARKS} {number}-");
+        steps!(script: "{number}+ {TWO_MARKS} {number}-");
     }
     script.steps(CLOSE);
     script
@@ -89,10 +89,10 @@ fn above_a_mark() -> Script {
     for below in [None].into_iter().chain(levels) {
         for priority in 0..8 {
             if let Some(level) = below {
-                steps!(script, "2:H{level} 2+ IVR 2-");
+                steps!(script: "2:H{level} 2+ IVR 2-");
             }
-            steps!(script, "IVR 9:H{priority} 9+ CISR IVR ISR 9-");
-            steps!(script, "{CLOSE} {CLOSE} {CLOSE}");
+            steps!(script: "IVR 9:H{priority} 9+ CISR IVR ISR 9-");
+            steps!(script: "{CLOSE} {CLOSE} {CLOSE}");
         }
     }
     script
@@ -105,9 +105,9 @@ fn eight_marks() -> Script {
     script.steps(&"IVR ISR ".repeat(9));
     script.steps("30+");
     for debug in [0, 2, 0] {
-        steps!(script, "DCR={debug} CISR IVR FVR IVR=0");
+        steps!(script: "DCR={debug} CISR IVR FVR IVR=0");
     }
-    steps!(script, "{CLOSE} CISR IVR ISR IVR 30-");
+    steps!(script: "{CLOSE} CISR IVR ISR IVR 30-");
     for _ in 0..9 {
         script.steps(CLOSE);
     }
@@ -118,8 +118,8 @@ fn eight_marks() -> Script {
 fn modes_below() -> Script {
     let mut script = opening("4:R5 SET=10 IVR IVR");
     for (below, zero, priority) in [(1, 0, 3), (7, 7, 5), (7, 7, 6), (0, 7, 7)] {
-        steps!(script, "4:R{below} 0:H{zero} 6:H{priority}");
-        steps!(script, "6+ CISR IVR ISR 6- {CLOSE}");
+        steps!(script: "4:R{below} 0:H{zero} 6:H{priority}");
+        steps!(script: "6+ CISR IVR ISR 6- {CLOSE}");
     }
     script
 }

@@ -36,12 +36,8 @@ fn debug_values() -> Script {
     for dropped in [0_u32, 0xFFFF_FFFC, 4] {
         for was in 0..4 {
             for is in 0..4 {
-                steps!(
-                    script,
-                    "DCR={was} DCR SET=200 IVR DCR={:x} DCR CISR",
-                    is | dropped
-                );
-                steps!(script, "{WRITE} DCR=1 {WRITE} DCR=0 {CLOSE}");
+                steps!(script: "DCR={was} DCR SET=200 IVR DCR={:x} DCR CISR", is | dropped);
+                steps!(script: "{WRITE} DCR=1 {WRITE} DCR=0 {CLOSE}");
             }
         }
     }
@@ -54,19 +50,19 @@ fn looks() -> Script {
     let look = format!("IVR {STATUS} IVR {STATUS}");
     let mut script = opening("2:R1 8:H4 9:R4 12:H6");
     for debug in [1, 3] {
-        steps!(script, "DCR={debug}");
+        steps!(script: "DCR={debug}");
         for below in 0..3 {
             if below > 0 {
-                steps!(script, "SET=4 {HANDSHAKE}");
+                steps!(script: "SET=4 {HANDSHAKE}");
             }
             if below > 1 {
                 script.steps(HANDSHAKE);
             }
             script.steps(&look);
             for changed in ["SET=200", "8+", "12+", "12-", "8- CLEAR=200"] {
-                steps!(script, "{changed} {look}");
+                steps!(script: "{changed} {look}");
             }
-            steps!(script, "{CLOSE} {CLOSE}");
+            steps!(script: "{CLOSE} {CLOSE}");
         }
     }
     script
@@ -85,15 +81,12 @@ const BETWEEN: &str = "
 /// said; then some steps, and what follows them: the write, a second one, a handshake, and all of it outside the mode.
 fn case(script: &mut Script, kind: &str, debug: u32, level: u32, between: &str) {
     script.steps("DCR=0 EOICR=0 EOICR=0 EOICR=0 EOICR=0 EOICR=0 EOICR=0 9- SPU=5050");
-    steps!(script, "FFDR=FFFFFFFF 1:R0 2:R{level} 3:R4 5:R6 9:{kind}4");
-    steps!(script, "CLEAR=FFFFFFFF ENABLE=FFFFFFFF DCR={debug}");
-    steps!(script, "SET=2 {HANDSHAKE} SET=4 {HANDSHAKE}");
+    steps!(script: "FFDR=FFFFFFFF 1:R0 2:R{level} 3:R4 5:R6 9:{kind}4");
+    steps!(script: "CLEAR=FFFFFFFF ENABLE=FFFFFFFF DCR={debug}");
+    steps!(script: "SET=2 {HANDSHAKE} SET=4 {HANDSHAKE}");
     script.steps(between);
-    steps!(script, "{STATUS} {WRITE} {WRITE} {HANDSHAKE} {STATUS}");
-    steps!(
-        script,
-        "DCR=1 {WRITE} DCR=0 {WRITE} {CLOSE} {CLOSE} {CLOSE} {CLOSE}"
-    );
+    steps!(script: "{STATUS} {WRITE} {WRITE} {HANDSHAKE} {STATUS}");
+    steps!(script: "DCR=1 {WRITE} DCR=0 {WRITE} {CLOSE} {CLOSE} {CLOSE} {CLOSE}");
 }
 
 /// Source 9 is remembered, with handlers of levels 0 and 1 open.
@@ -143,15 +136,9 @@ fn last_room() -> Script {
         for _ in 0..7 {
             script.steps(HANDSHAKE);
         }
-        steps!(
-            script,
-            "{last} {HANDSHAKE} {STATUS} SET=40000000 {HANDSHAKE} {WRITE}"
-        );
-        steps!(script, "{CLOSE} {WRITE} CLEAR=40000000 {HANDSHAKE} IVR");
-        steps!(
-            script,
-            "{CLOSE} {WRITE} {WRITE} IVR DCR=0 {WRITE} DCR=1 {WRITE}"
-        );
+        steps!(script: "{last} {HANDSHAKE} {STATUS} SET=40000000 {HANDSHAKE} {WRITE}");
+        steps!(script: "{CLOSE} {WRITE} CLEAR=40000000 {HANDSHAKE} IVR");
+        steps!(script: "{CLOSE} {WRITE} {WRITE} IVR DCR=0 {WRITE} DCR=1 {WRITE}");
         for _ in 0..9 {
             script.steps(CLOSE);
         }
@@ -165,9 +152,9 @@ fn levels() -> Script {
     let mut script = opening("DCR=1");
     for level in 0..8 {
         for now in 0..8 {
-            steps!(script, "9:R{level} SET=200 IVR 9:R{now} {WRITE}");
+            steps!(script: "9:R{level} SET=200 IVR 9:R{now} {WRITE}");
             for priority in level..(level + 2).min(8) {
-                steps!(script, "4:R{priority} SET=10 CISR CLEAR=10");
+                steps!(script: "4:R{priority} SET=10 CISR CLEAR=10");
             }
             script.steps(CLOSE);
         }
@@ -179,9 +166,9 @@ fn levels() -> Script {
 fn turns() -> Script {
     let mut script = opening("DCR=1");
     for level in 0..8 {
-        steps!(script, "5:R{level} 6:R{level} SET=60");
+        steps!(script: "5:R{level} 6:R{level} SET=60");
         for _ in 0..3 {
-            steps!(script, "{HANDSHAKE} {STATUS} {CLOSE}");
+            steps!(script: "{HANDSHAKE} {STATUS} {CLOSE}");
         }
     }
     script
@@ -191,12 +178,12 @@ fn turns() -> Script {
 fn both_modes() -> Script {
     let mut script = opening("4:R2 6:R5 7:R7");
     for debug in [1, 0, 3, 2] {
-        steps!(script, "DCR={debug}");
+        steps!(script: "DCR={debug}");
         for word in [0x10, 0x40, 0x80, 0x10] {
-            steps!(script, "SET={word:x} {HANDSHAKE} {STATUS}");
+            steps!(script: "SET={word:x} {HANDSHAKE} {STATUS}");
         }
         for _ in 0..5 {
-            steps!(script, "{CLOSE} {HANDSHAKE} {STATUS} {CLOSE}");
+            steps!(script: "{CLOSE} {HANDSHAKE} {STATUS} {CLOSE}");
         }
     }
     script

@@ -38,7 +38,7 @@ fn at(script: &Script, offsets: &[u32]) -> Vec<Question> {
 fn part(systems: u32, channels: u32, hosts: u32, text: &str) -> Script {
     let mut script = Script::new(INDEXED, &[systems, channels, hosts, 0, 1]);
     for word in 0..systems.div_ceil(32) {
-        steps!(script, "ENABLE{word}=FFFFFFFF");
+        steps!(script: "ENABLE{word}=FFFFFFFF");
     }
     script.steps(text);
     script
@@ -57,7 +57,7 @@ fn each_word(systems: u32) -> Vec<Question> {
             for channel in [0, 1] {
                 let map = channel << (8 * (system % 4));
                 let mut script = opened();
-                steps!(script, "CHANNELS{}={map:x} ISET={system:x}", system / 4);
+                steps!(script: "CHANNELS{}={map:x} ISET={system:x}", system / 4);
                 questions.extend(at(&script, &indices));
                 before(&mut script, word);
                 questions.extend(at(&script, &indices));
@@ -65,7 +65,7 @@ fn each_word(systems: u32) -> Vec<Question> {
         }
         let mut script = opened();
         for later in word..words {
-            steps!(script, "SET{later}=FFFFFFFF");
+            steps!(script: "SET{later}=FFFFFFFF");
         }
         questions.extend(at(&script, &indices));
     }
@@ -77,8 +77,8 @@ fn before(script: &mut Script, word: u32) {
     for earlier in 0..word {
         let system = 32 * earlier + 7;
         match earlier % 3 {
-            0 => steps!(script, "IDISABLE={system:x} ISET={system:x}"),
-            1 => steps!(script, "CHANNELS{}=02000000 ISET={system:x}", system / 4),
+            0 => steps!(script: "IDISABLE={system:x} ISET={system:x}"),
+            1 => steps!(script: "CHANNELS{}=02000000 ISET={system:x}", system / 4),
             _ => {}
         }
     }
@@ -105,7 +105,7 @@ fn channels() -> Vec<Question> {
             let mut alone = opened(on);
             let system = if channel % 2 == 1 { 36 } else { 4 * channel };
             for (script, system) in [(&mut alone, system), (&mut all, 36 - 4 * channel)] {
-                steps!(script, "CHANNELS{}={channel} ISET={system:x}", system / 4);
+                steps!(script: "CHANNELS{}={channel} ISET={system:x}", system / 4);
                 questions.extend(at(script, &indices));
             }
         }
@@ -123,18 +123,14 @@ fn most() -> Vec<Question> {
     for own in [false, true] {
         let mut script = part(1_024, 256, 256, "CONTROL=0");
         for register in (0..64).filter(|_| own) {
-            steps!(script, "HOSTS{register}={:x}", four(register));
+            steps!(script: "HOSTS{register}={:x}", four(register));
         }
         questions.extend(at(&script, &indices));
         script.steps("CHANNELS255=FF000000 ISET=3FF");
         questions.extend(at(&script, &indices));
         for register in 0..64 {
             let word = four(register);
-            steps!(
-                script,
-                "CHANNELS{}={word:x} SET{register}=FFFFFFFF",
-                8 * register
-            );
+            steps!(script: "CHANNELS{}={word:x} SET{register}=FFFFFFFF", 8 * register);
         }
         questions.extend(at(&script, &indices));
     }
@@ -156,7 +152,7 @@ fn holds() -> Vec<Question> {
             let mut off = script.clone();
             off.steps("CONTROL=0");
             questions.extend(at(&off, &indices));
-            steps!(script, "{held}=0");
+            steps!(script: "{held}=0");
             questions.extend(at(&script, &indices));
         }
     }

@@ -33,7 +33,7 @@ fn tower(first: u32, entries: u32) -> Script {
     for level in 0..entries {
         let source = (first - 1 + level) % 31 + 1;
         let (mode, bit) = (0x60 | level, 1_u32 << source);
-        steps!(script, "MODE{source}={mode:x} ENABLE={bit:x} {source}+ IVR");
+        steps!(script: "MODE{source}={mode:x} ENABLE={bit:x} {source}+ IVR");
     }
     script
 }
@@ -44,14 +44,11 @@ fn kept_waiting(source: u32, times: u32) -> Script {
     let (bit, both) = (1_u32 << other, 1 << source | 1 << other);
     let again = format!("SET={bit:x} IVR EOICR=0");
     let mut script = plain();
-    steps!(
-        script,
-        "MODE{source}=40 MODE{other}=67 ENABLE={both:x} {source}+"
-    );
+    steps!(script: "MODE{source}=40 MODE{other}=67 ENABLE={both:x} {source}+");
     for _ in 0..times {
         script.steps(&again);
     }
-    steps!(script, "IVR {again}");
+    steps!(script: "IVR {again}");
     script
 }
 
@@ -114,11 +111,7 @@ fn large() -> Vec<Case> {
     }
     for kind in [2, 3] {
         let mut script = plain();
-        steps!(
-            script,
-            "MODE3={:x} MODE2=41 ENABLE=C DCR=1 3+ 2+",
-            kind << 5
-        );
+        steps!(script: "MODE3={:x} MODE2=41 ENABLE=C DCR=1 3+ 2+", kind << 5);
         script.steps(&"IVR IVR=0 EOICR=0 ".repeat(4_500));
         script.steps("FFER=4 IVR IVR=0");
         cases.push(case(script.bytes, PROGRAM_LIMIT));
