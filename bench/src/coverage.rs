@@ -12,7 +12,7 @@ use crate::model::aintc::{Register as AintcRegister, Side as Request};
 use crate::model::core::{Register as CoreRegister, Side};
 use crate::model::{Access, Answer, Kind, Machine, Recorded, Refusal, Step};
 use crate::tally::{each, Fact, Listed, Tally};
-use crate::trace::{shortest, Defect, Field, Observer, Report};
+use crate::trace::{shortest, Defect, Fault, Field, Observer, Report};
 use crate::trace::{LONGEST, NUMBER_BYTES, PROGRAM_LIMIT};
 use crate::{facts, sorts};
 
@@ -407,16 +407,15 @@ impl Observer for Coverage {
             self.reach(Item::Started(machine.kind(), Size::of(report.steps)));
         }
         self.facts(endings(report));
-        if let Err((fault, field)) = report.ending.map_err(|fault| (fault, fault.field)) {
-            if let Some(field) = field {
-                self.reach(Item::Ended(fault.refusal, field));
-                match (fault.defect, self.forms.last()) {
-                    (Some(defect), _) => self.reach(Item::Defect(field, defect)),
-                    (None, Some(Item::Padded(..))) => {
-                        self.reach(Item::EndedPadded(fault.refusal, field));
-                    }
-                    _ => {}
+        let number = |fault: Fault| Some((fault, fault.field?));
+        if let Some((fault, field)) = report.ending.err().and_then(number) {
+            self.reach(Item::Ended(fault.refusal, field));
+            match (fault.defect, self.forms.last()) {
+                (Some(defect), _) => self.reach(Item::Defect(field, defect)),
+                (None, Some(Item::Padded(..))) => {
+                    self.reach(Item::EndedPadded(fault.refusal, field));
                 }
+                _ => {}
             }
         }
         self.forms.clear();

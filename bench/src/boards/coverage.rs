@@ -146,10 +146,12 @@ facts! { FACTS;
             Call::Read { offset, .. } | Call::Write { offset, .. } => Some(offset),
             _ => None,
         };
-        let nowhere = |offset: u32| offset % 4 == 0 && Register::at(offset).is_none();
+        let aligned = |offset: u32| offset.is_multiple_of(4);
+        let nowhere = |offset: u32| aligned(offset) && Register::at(offset).is_none();
         "6 of a ninth, whose configuration is bad" if !configured_beyond(call).is_empty();
         "6 of an input, with a wire that leads up" if leads_up;
-        "6 of a controller, with a misaligned offset" if offset.is_some_and(|o| o % 4 != 0);
+        "6 of a controller, with a misaligned offset"
+            if offset.is_some_and(|offset| !aligned(offset));
         "6 of a controller, with no register at the offset" if offset.is_some_and(nowhere);
     }
 }

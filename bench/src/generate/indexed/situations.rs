@@ -145,7 +145,7 @@ fn ways(index: Index) -> String {
         ("{next}", next.to_string()),
         ("{other}", format!("{next:x}")),
         ("{word}", (host / 32).to_string()),
-        ("{far}", (host / 32 ^ 1).to_string()),
+        ("{far}", ((host / 32) ^ 1).to_string()),
         ("{bit}", format!("{bit:x}")),
         ("{not}", format!("{:x}", !bit)),
     ];
