@@ -240,9 +240,9 @@ fn play_steps(trace: &[u8], limit: u32, start: usize, first: Aic, table: Table) 
         let idle = is_idle(carried, t.kind, t.x, before);
         n = n + 1;
         refused = refused + words::one_if(!carried);
-        aic_figures::follow(&mut counts, &room, before);
         aic_figures::waits::follow(&mut book, &room, before, n, m);
         w = watched_after(w, &room, table, before, enabled, idle, m.rewrote, n);
+        aic_figures::follow(&mut counts, &room, before);
         at = t.next;
         left = left - 1;
     }
