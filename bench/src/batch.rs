@@ -16,21 +16,23 @@ use crate::program::{Program, PATIENCE};
 use crate::report::{Counts, Ending, Figures};
 use crate::stack::generate::Typed;
 
-/// What is printed for the bytes of a request.
-#[derive(Clone, Copy, Debug, PartialEq, Eq)]
-pub enum Asked {
-    /// The listing of a trace.
-    Listing = 0,
-    /// The line of a typed table.
-    Stack = 1,
-    /// The status words that a read looks at after a trace.
-    Looked = 2,
-    /// The figures of a trace, as numbers.
-    Figures = 3,
-    /// The explanation of a trace.
-    Explanation = 4,
-    /// That of some of its steps: two numbers before the trace are the first step, and how many.
-    Part = 5,
+listed! {
+    /// What is printed for the bytes of a request; the numbers count from 0.
+    #[derive(Clone, Copy, Debug, PartialEq, Eq)]
+    pub enum Asked {
+        /// The listing of a trace.
+        Listing,
+        /// The line of a typed table.
+        Stack,
+        /// The status words that a read looks at after a trace.
+        Looked,
+        /// The figures of a trace, as numbers.
+        Figures,
+        /// The explanation of a trace.
+        Explanation,
+        /// That of some of its steps: two numbers before the trace are the first step, and how many.
+        Part,
+    }
 }
 
 /// What is asked for, the step limit (0 for a table), the room or, for words looked at, the offset that is read, and the
@@ -43,77 +45,55 @@ pub struct Request {
 }
 
 impl Request {
-    pub fn listing(case: &Case) -> Request {
+    fn new(asked: Asked, limit: u32, room: usize, input: &[u8]) -> Request {
         Request {
-            asked: Asked::Listing,
-            limit: case.limit,
-            room: case.ample_room(),
-            input: case.trace.clone(),
+            asked,
+            limit,
+            room,
+            input: input.to_vec(),
         }
+    }
+
+    pub fn listing(case: &Case) -> Request {
+        Request::new(Asked::Listing, case.limit, case.ample_room(), &case.trace)
     }
 
     pub fn figures(case: &Case) -> Request {
-        Request {
-            asked: Asked::Figures,
-            limit: case.limit,
-            room: FIGURES,
-            input: case.trace.clone(),
-        }
+        Request::new(Asked::Figures, case.limit, FIGURES, &case.trace)
     }
 
     pub fn explanation(explained: &Explained) -> Request {
-        let (asked, mut input) = match explained.window {
+        let (asked, window) = match explained.window {
             None => (Asked::Explanation, Vec::new()),
             Some((first, steps)) => (Asked::Part, [first, steps].map(u32::to_le_bytes).concat()),
         };
-        input.extend(&explained.case.trace);
-        Request {
-            asked,
-            limit: explained.case.limit,
-            room: explained.ample_room(),
-            input,
-        }
+        let input = [&window, &explained.case.trace[..]].concat();
+        Request::new(asked, explained.case.limit, explained.ample_room(), &input)
     }
 
     pub fn stack(typed: &Typed) -> Request {
-        Request {
-            asked: Asked::Stack,
-            limit: 0,
-            room: typed.ample_room(),
-            input: typed.text.clone(),
-        }
+        Request::new(Asked::Stack, 0, typed.ample_room(), &typed.text)
     }
 
     pub fn looked(question: &Question) -> Request {
-        Request {
-            asked: Asked::Looked,
-            limit: question.limit,
-            room: question.offset as usize,
-            input: question.trace.clone(),
-        }
+        let offset = question.offset as usize;
+        Request::new(Asked::Looked, question.limit, offset, &question.trace)
     }
 
     fn write(&self, to: &mut impl Write) -> io::Result<()> {
-        write_number(to, self.asked as u32)?;
-        write_number(to, self.input.len() as u32)?;
-        write_number(to, self.limit)?;
-        write_number(to, self.room as u32)?;
-        to.write_all(&self.input)?;
-        to.flush()
+        let length = self.input.len() as u32;
+        let head = [self.asked as u32, length, self.limit, self.room as u32];
+        write_message(to, &head, &self.input)
     }
 
     /// The next request, or nothing at the end of the input.
     fn read(from: &mut impl Read) -> io::Result<Option<Request>> {
-        let asked = match read_first_number(from)? {
-            None => return Ok(None),
-            Some(0) => Asked::Listing,
-            Some(1) => Asked::Stack,
-            Some(2) => Asked::Looked,
-            Some(3) => Asked::Figures,
-            Some(4) => Asked::Explanation,
-            Some(5) => Asked::Part,
-            Some(_) => return Err(io::ErrorKind::InvalidData.into()),
+        let asked = match read_number(from) {
+            Ok(asked) => Asked::ALL.get(asked as usize),
+            Err(error) if error.kind() == io::ErrorKind::UnexpectedEof => return Ok(None),
+            Err(error) => return Err(error),
         };
+        let asked = *asked.ok_or(io::ErrorKind::InvalidData)?;
         let mut input = vec![0; read_number(from)? as usize];
         let limit = read_number(from)?;
         let room = read_number(from)? as usize;
@@ -135,10 +115,7 @@ pub struct Reply {
 
 impl Reply {
     fn write(&self, to: &mut impl Write) -> io::Result<()> {
-        write_number(to, self.text.len() as u32)?;
-        write_number(to, self.changed)?;
-        to.write_all(&self.text)?;
-        to.flush()
+        write_message(to, &[self.text.len() as u32, self.changed], &self.text)
     }
 
     fn read(from: &mut impl Read) -> io::Result<Reply> {
@@ -167,21 +144,21 @@ pub fn figures_from_bytes(bytes: &[u8]) -> Option<(Figures, Ending)> {
     if bytes.len() != FIGURES {
         return None;
     }
-    let number = |nth: usize| {
-        let bytes = &bytes[4 * nth..4 * nth + 4];
-        u32::from_le_bytes([bytes[0], bytes[1], bytes[2], bytes[3]])
-    };
-    let counts = |source| Counts {
-        started: number(4 + source),
-        waited: number(4 + SOURCES + source),
-        entries: number(4 + 2 * SOURCES + source),
-    };
+    let mut rest = bytes;
+    let mut next = || read_number(&mut rest).expect("there are as many as that takes");
+    let [steps, refused, refusal, offset] = [(); 4].map(|()| next());
+    let [started, waited, entries] = [(); 3].map(|()| [(); SOURCES].map(|()| next()));
+    let sources = std::array::from_fn(|source| Counts {
+        started: started[source],
+        waited: waited[source],
+        entries: entries[source],
+    });
     let figures = Figures {
-        steps: number(0),
-        refused: number(1),
-        sources: std::array::from_fn(counts),
+        steps,
+        refused,
+        sources,
     };
-    Some((figures, (number(2), number(3) as usize)))
+    Some((figures, (refusal, offset as usize)))
 }
 
 /// Answers requests until there are no more.
@@ -279,21 +256,16 @@ impl Drop for Batch {
     }
 }
 
-fn write_number(to: &mut impl Write, number: u32) -> io::Result<()> {
-    to.write_all(&number.to_le_bytes())
+fn write_message(to: &mut impl Write, head: &[u32], bytes: &[u8]) -> io::Result<()> {
+    for number in head {
+        to.write_all(&number.to_le_bytes())?;
+    }
+    to.write_all(bytes)?;
+    to.flush()
 }
 
 fn read_number(from: &mut impl Read) -> io::Result<u32> {
     let mut bytes = [0; 4];
     from.read_exact(&mut bytes)?;
     Ok(u32::from_le_bytes(bytes))
-}
-
-/// A number, or nothing if the input ends before it.
-fn read_first_number(from: &mut impl Read) -> io::Result<Option<u32>> {
-    match read_number(from) {
-        Ok(number) => Ok(Some(number)),
-        Err(error) if error.kind() == io::ErrorKind::UnexpectedEof => Ok(None),
-        Err(error) => Err(error),
-    }
 }

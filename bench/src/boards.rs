@@ -8,56 +8,68 @@ use crate::model::board::{Board, Outputs, Wire};
 use crate::model::Refusal;
 
 use self::coverage::Coverage;
-use self::text::{lines, Line};
+use self::text::{lines, Line, Told};
 
 /// The number by which a record that breaks a rule is refused (01, numbers).
 const BREAKS_A_RULE: u32 = 12;
 
-/// A call on a board.
-#[derive(Clone, Copy, Debug, PartialEq, Eq)]
-pub enum Call {
-    Add {
-        fiqs: u32,
-        irqs: u32,
-        fiq_level: u32,
-        irq_level: u32,
-    },
-    Connect {
-        controller: u32,
-        input: u32,
-        wire: Wire,
-    },
-    Pin {
-        pin: u32,
-        level: u32,
-    },
-    Write {
-        controller: u32,
-        offset: u32,
-        value: u32,
-    },
-    Read {
-        controller: u32,
-        offset: u32,
-    },
-    Outputs {
-        controller: u32,
-    },
-    Input {
-        controller: u32,
-        input: u32,
-    },
-    Chain {
-        controller: u32,
-    },
+/// The calls, each with its word and its numbers in the order of its line.
+macro_rules! calls {
+    ($($word:literal $sort:ident { $($number:ident: $of:ty),* })*) => {
+        /// A call on a board.
+        #[derive(Clone, Copy, Debug, PartialEq, Eq)]
+        pub enum Call {
+            $($sort { $($number: $of),* }),*
+        }
+
+        listed! {
+            /// The sorts of calls.
+            #[derive(Clone, Copy, Debug, PartialEq, Eq, PartialOrd, Ord, Hash)]
+            pub enum Sort { $($sort),* }
+        }
+
+        impl Sort {
+            /// The first word of its lines.
+            pub fn word(self) -> &'static str {
+                match self {
+                    $(Sort::$sort => $word),*
+                }
+            }
+        }
+
+        impl Call {
+            pub fn sort(&self) -> Sort {
+                match self {
+                    $(Call::$sort { .. } => Sort::$sort),*
+                }
+            }
+
+            /// The call of a sort that has these numbers.
+            fn made(sort: Sort, words: &mut &[&str]) -> Option<Call> {
+                Some(match sort {
+                    $(Sort::$sort => Call::$sort { $($number: <$of>::taken(words)?),* }),*
+                })
+            }
+
+            /// Its numbers as they stand in its line.
+            fn told(&self) -> Vec<String> {
+                match self {
+                    $(Call::$sort { $($number),* } => vec![$($number.told()),*]),*
+                }
+            }
+        }
+    };
 }
 
-listed! {
-    /// The sorts of calls, which are the first words of their lines.
-    #[derive(Clone, Copy, Debug, PartialEq, Eq, PartialOrd, Ord, Hash)]
-    pub enum Sort {
-        Add, Connect, Pin, Write, Read, Outputs, Input, Chain
-    }
+calls! {
+    "add" Add { fiqs: u32, irqs: u32, fiq_level: u32, irq_level: u32 }
+    "connect" Connect { controller: u32, input: u32, wire: Wire }
+    "pin" Pin { pin: u32, level: u32 }
+    "write" Write { controller: u32, offset: u32, value: u32 }
+    "read" Read { controller: u32, offset: u32 }
+    "outputs" Outputs { controller: u32 }
+    "input" Input { controller: u32, input: u32 }
+    "chain" Chain { controller: u32 }
 }
 
 impl Sort {
@@ -72,19 +84,6 @@ impl Sort {
 }
 
 impl Call {
-    pub fn sort(&self) -> Sort {
-        match self {
-            Call::Add { .. } => Sort::Add,
-            Call::Connect { .. } => Sort::Connect,
-            Call::Pin { .. } => Sort::Pin,
-            Call::Write { .. } => Sort::Write,
-            Call::Read { .. } => Sort::Read,
-            Call::Outputs { .. } => Sort::Outputs,
-            Call::Input { .. } => Sort::Input,
-            Call::Chain { .. } => Sort::Chain,
-        }
-    }
-
     /// The controller that the call is about, if it names one.
     pub fn controller(&self) -> Option<u32> {
         match *self {

@@ -178,19 +178,6 @@ pub struct Summary<S: Subject = Case> {
     pub coverage: S::Coverage,
 }
 
-impl<S: Subject> Default for Summary<S> {
-    fn default() -> Summary<S> {
-        Summary {
-            compared: 0,
-            bytes: 0,
-            differ: 0,
-            failed: 0,
-            first: None,
-            coverage: S::Coverage::default(),
-        }
-    }
-}
-
 /// A comparison with so many failures is not worth the wait for more.
 pub const MOST_FAILURES: usize = 10;
 
@@ -199,7 +186,14 @@ pub fn compare<S: Subject>(
     cases: impl IntoIterator<Item = (usize, S)>,
     mut other: impl FnMut(&S) -> Outcome,
 ) -> Summary<S> {
-    let mut summary = Summary::default();
+    let mut summary = Summary {
+        compared: 0,
+        bytes: 0,
+        differ: 0,
+        failed: 0,
+        first: None,
+        coverage: S::Coverage::default(),
+    };
     for (number, case) in cases {
         let expected = within_room(&case, &mut summary.coverage);
         summary.compared += 1;

@@ -8,13 +8,13 @@ mod levels;
 mod protect;
 
 use crate::model::aic::Register as AicRegister;
-use crate::model::aintc::{Aintc, Register as AintcRegister, Side as Request};
+use crate::model::aintc::{Register as AintcRegister, Side as Request};
 use crate::model::core::{Register as CoreRegister, Side};
-use crate::model::indexed::Indexed;
-use crate::model::{Answer, Kind, Machine, Recorded, Refusal, Step};
-use crate::tally::{Listed, Tally};
-use crate::trace::{shortest, Defect, Field, Observer, Report};
+use crate::model::{Access, Answer, Kind, Machine, Recorded, Refusal, Step};
+use crate::tally::{each, Fact, Listed, Tally};
+use crate::trace::{shortest, Defect, Fault, Field, Observer, Report};
 use crate::trace::{LONGEST, NUMBER_BYTES, PROGRAM_LIMIT};
+use crate::{facts, sorts};
 
 /// Something that a comparison should have reached.
 #[derive(Clone, Copy, Debug, PartialEq, Eq, PartialOrd, Ord, Hash)]
@@ -101,37 +101,23 @@ pub enum Item {
     Fact(&'static str),
 }
 
-/// What an entry of the AIC is.
-#[derive(Clone, Copy, Debug, PartialEq, Eq, PartialOrd, Ord, Hash)]
-pub enum Entered {
-    Handler,
-    Mark,
-}
+sorts! {
+    /// What an entry of the AIC is.
+    Entered { Handler, Mark }
 
-/// What a read of IVR in protect mode found.
-#[derive(Clone, Copy, Debug, PartialEq, Eq, PartialOrd, Ord, Hash)]
-pub enum Seen {
-    Source,
-    Nobody,
-}
+    /// What a read of IVR in protect mode found.
+    Seen { Source, Nobody }
 
-listed! {
-    /// What came between that read and a write of IVR. Of a selected source only what concerns it counts, where nobody was
-    /// selected what concerns any source.
-    #[derive(Clone, Copy, Debug, PartialEq, Eq, PartialOrd, Ord, Hash)]
-    pub enum Since {
+    /// What came between that read and a write of IVR. Of a selected source only what concerns it counts, where nobody
+    /// was selected what concerns any source.
+    Since {
         Nothing,
         /// Its memory was cleared by command.
         Cleared,
-        Set,
-        Disabled,
-        Forced,
-        Retyped,
-        Reordered,
+        Set, Disabled, Forced, Retyped, Reordered,
         /// Its line took it away.
         Gone,
-        Vector,
-        Spurious,
+        Vector, Spurious,
         /// FVR was read.
         Fast,
         /// At the write another candidate is ahead of it.
@@ -151,36 +137,27 @@ listed! {
         /// The mode was left and entered again.
         Reentered,
     }
-}
 
-/// What became of a level of the AIC.
-#[derive(Clone, Copy, Debug, PartialEq, Eq, PartialOrd, Ord, Hash)]
-pub enum Turn {
-    /// It had no waiting source and has one.
-    Filled,
-    /// It had some and has more.
-    Joined,
-    /// It had more and has some.
-    Left,
-    /// It had some and has none.
-    Emptied,
-}
+    /// What became of a level of the AIC.
+    Turn {
+        /// It had no waiting source and has one.
+        Filled,
+        /// It had some and has more.
+        Joined,
+        /// It had more and has some.
+        Left,
+        /// It had some and has none.
+        Emptied,
+    }
 
-/// What can put a source of the AIC into a level or take it out.
-#[derive(Clone, Copy, Debug, PartialEq, Eq, PartialOrd, Ord, Hash)]
-pub enum Cause {
-    Line,
-    Mode,
-    Enable,
-    Disable,
-    Set,
-    Clear,
-    Force,
-    Unforce,
-    /// A read of IVR outside protect mode.
-    Start,
-    /// A write of IVR in protect mode.
-    Handshake,
+    /// What can put a source of the AIC into a level or take it out.
+    Cause {
+        Line, Mode, Enable, Disable, Set, Clear, Force, Unforce,
+        /// A read of IVR outside protect mode.
+        Start,
+        /// A write of IVR in protect mode.
+        Handshake,
+    }
 }
 
 /// What came of an access to a register.
@@ -191,27 +168,18 @@ pub enum Outcome {
     Refused(Refusal),
 }
 
-/// Whose prioritised index it is.
-#[derive(Clone, Copy, Debug, PartialEq, Eq, PartialOrd, Ord, Hash)]
-pub enum Whose {
-    Global,
-    Host,
-}
+sorts! {
+    /// Nothing, or something.
+    Size { None, Some }
 
-/// Which sort of step it was.
-#[derive(Clone, Copy, Debug, PartialEq, Eq, PartialOrd, Ord, Hash)]
-pub enum Way {
-    Read,
-    Write,
-    Line,
-}
+    /// Whose prioritised index it is.
+    Whose { Global, Host }
 
-/// Who made an access, by its privilege number.
-#[derive(Clone, Copy, Debug, PartialEq, Eq, PartialOrd, Ord, Hash)]
-pub enum By {
-    Unprivileged,
-    Privileged,
-    TooLarge,
+    /// Which sort of step it was.
+    Way { Read, Write, Line }
+
+    /// Who made an access, by its privilege number.
+    By { Unprivileged, Privileged, TooLarge }
 }
 
 impl By {
@@ -224,13 +192,6 @@ impl By {
     }
 }
 
-/// Nothing, or something.
-#[derive(Clone, Copy, Debug, PartialEq, Eq, PartialOrd, Ord, Hash)]
-pub enum Size {
-    None,
-    Some,
-}
-
 impl Size {
     fn of(count: u32) -> Size {
         match count {
@@ -240,19 +201,20 @@ impl Size {
     }
 }
 
-/// The place of a register in its group, as far as it is configured.
-#[derive(Clone, Copy, Debug, PartialEq, Eq, PartialOrd, Ord, Hash)]
-pub enum Spot {
-    /// A register that is alone in its group.
-    Single,
-    First,
-    Middle,
-    /// The last one, all of whose bits or bytes are configured.
-    LastWhole,
-    /// The last one, some of whose bits or bytes are spare.
-    LastWithSpare,
-    /// One that would exist in a larger part.
-    Beyond,
+sorts! {
+    /// The place of a register in its group, as far as it is configured.
+    Spot {
+        /// A register that is alone in its group.
+        Single,
+        First,
+        Middle,
+        /// The last one, all of whose bits or bytes are configured.
+        LastWhole,
+        /// The last one, some of whose bits or bytes are spare.
+        LastWithSpare,
+        /// One that would exist in a larger part.
+        Beyond,
+    }
 }
 
 impl Way {
@@ -263,13 +225,61 @@ impl Way {
             Step::Line { .. } => Way::Line,
         }
     }
+}
 
-    fn outcome(self, answer: Answer) -> Outcome {
-        match (self, answer) {
+impl Outcome {
+    fn of(step: Step, answer: Answer) -> Outcome {
+        match (Way::of(step), answer) {
             (_, Err(refusal)) => Outcome::Refused(refusal),
             (Way::Read, Ok(_)) => Outcome::Read,
             (_, Ok(_)) => Outcome::Written,
         }
+    }
+
+    /// What a read and a write of a register come to, by the accesses that it allows.
+    fn both(access: Access) -> [Outcome; 2] {
+        match access {
+            Access::ReadWrite => [Outcome::Read, Outcome::Written],
+            Access::ReadOnly => [Outcome::Read, Outcome::Refused(Refusal::ReadOnly)],
+            Access::WriteOnly => [Outcome::Refused(Refusal::WriteOnly), Outcome::Written],
+        }
+    }
+}
+
+/// The offset that a step reads or writes.
+fn offset(step: Step) -> Option<u32> {
+    match step {
+        Step::Read { offset } | Step::Write { offset, .. } => Some(offset),
+        Step::Line { .. } => None,
+    }
+}
+
+/// The same, where it is that of a word.
+fn word_offset(step: Step) -> Option<u32> {
+    offset(step).filter(|offset| offset.is_multiple_of(4))
+}
+
+/// A step with its answer, and the controller before and after it.
+struct Change<'a, C> {
+    before: &'a C,
+    after: &'a C,
+    step: Step,
+    answer: Answer,
+}
+
+impl<'a, C> Change<'a, C> {
+    fn new(before: &'a C, after: &'a C, step: Step, answer: Answer) -> Change<'a, C> {
+        Change {
+            before,
+            after,
+            step,
+            answer,
+        }
+    }
+
+    /// What came of it, if it is an access.
+    fn outcome(&self) -> Outcome {
+        Outcome::of(self.step, self.answer)
     }
 }
 
@@ -280,13 +290,10 @@ pub struct Coverage {
     steps: u64,
     /// The forms of the numbers read since the start or the last step.
     forms: Vec<Item>,
-    /// The AIC, the AINTC or the CIC with indices before the present step; of a CIC only what its rules need.
-    aic_before: Option<aic::Before>,
+    /// The controller before the present step.
+    before: Option<Machine>,
     /// The last read of IVR in protect mode that no write has followed.
     looked: Option<protect::Looked>,
-    aintc_before: Option<Aintc>,
-    indexed_before: Option<Indexed>,
-    cic_before: Option<cic::Before>,
 }
 
 impl Coverage {
@@ -305,6 +312,11 @@ impl Coverage {
         self.tally.reach(item);
     }
 
+    /// Counts the situations that are there.
+    fn facts(&mut self, facts: impl IntoIterator<Item = Fact>) {
+        self.tally.facts(Item::Fact, facts);
+    }
+
     /// Counts the forms of the numbers of a configuration that was accepted, or of a step that was read whole.
     fn reach_forms(&mut self) {
         let mut forms = std::mem::take(&mut self.forms);
@@ -313,25 +325,26 @@ impl Coverage {
         }
         self.forms = forms;
     }
+}
 
-    /// Counts a situation if it is there.
-    fn fact_if(&mut self, there: bool, fact: &'static str) {
-        if there {
-            self.reach(Item::Fact(fact));
-        }
+facts! { FACTS;
+    fn offsets(offset: u32, answer: Answer) {
+        let past = |bytes| answer == Err(Refusal::Misaligned) && offset % 4 == bytes;
+        let alias = offset >= 0xFFFF_F000 && answer == Err(Refusal::NoRegister);
+        "an offset one past a word" if past(1);
+        "an offset two past a word" if past(2);
+        "an offset three past a word" if past(3);
+        "an offset that names a register modulo 4 KiB" if alias;
     }
 
-    fn misaligned(&mut self, step: Step, answer: Answer) {
-        let (Step::Read { offset } | Step::Write { offset, .. }) = step else {
-            return;
-        };
-        if answer == Err(Refusal::Misaligned) {
-            self.fact_if(offset % 4 == 1, "an offset one past a word");
-            self.fact_if(offset % 4 == 2, "an offset two past a word");
-            self.fact_if(offset % 4 == 3, "an offset three past a word");
-        }
-        let alias = offset >= 0xFFFF_F000 && answer == Err(Refusal::NoRegister);
-        self.fact_if(alias, "an offset that names a register modulo 4 KiB");
+    fn endings(report: &Report) {
+        let at_limit = report.steps == PROGRAM_LIMIT;
+        let early = |refusal| report.ending.is_err_and(|fault| fault.refusal == refusal);
+        "a trace played to its end" if report.ending.is_ok();
+        "as many steps as the program's limit" if report.ending.is_ok() && at_limit;
+        "the longest trace played to its end" if report.ending == Ok(LONGEST);
+        "ended by the program's step limit" if early(Refusal::StepLimit) && at_limit;
+        "ended by the length of the trace" if early(Refusal::TraceTooLong);
     }
 }
 
@@ -354,30 +367,38 @@ impl Observer for Coverage {
         }
     }
 
-    fn before(&mut self, machine: &Machine, recorded: Recorded) {
+    fn before(&mut self, machine: &Machine, _: Recorded) {
         self.reach_forms();
-        match machine {
-            Machine::Aic(aic) => self.aic_before = Some(aic::Before::new(aic)),
-            Machine::Core(_) => {}
-            Machine::Cic(cic) => self.cic_before = Some(cic::Before::new(cic, recorded.step)),
-            Machine::Aintc(aintc) => self.aintc_before = Some(Aintc::clone(aintc)),
-            Machine::Indexed(indexed) => self.indexed_before = Some(Indexed::clone(indexed)),
-        }
+        self.before = Some(machine.clone());
     }
 
     fn after(&mut self, machine: &Machine, _number: u32, recorded: Recorded, answer: Answer) {
         let step = recorded.step;
         self.steps += 1;
-        self.misaligned(step, answer);
+        if let Some(offset) = offset(step) {
+            self.facts(offsets(offset, answer));
+        }
         if let Err(refusal) = answer {
             self.reach(Item::Refused(machine.kind(), Way::of(step), refusal));
         }
-        match machine {
-            Machine::Aic(aic) => self.aic_step(aic, step, answer),
-            Machine::Core(core) => self.core_step(core, step, answer),
-            Machine::Cic(cic) => self.cic_step(cic, step, answer),
-            Machine::Aintc(aintc) => self.aintc_step(aintc, recorded, answer),
-            Machine::Indexed(indexed) => self.indexed_step(indexed, step, answer),
+        let before = self.before.take().expect("a step has a before");
+        match (&before, machine) {
+            (Machine::Aic(was), Machine::Aic(is)) => {
+                self.aic_step(&Change::new(&**was, is, step, answer))
+            }
+            (Machine::Core(was), Machine::Core(is)) => {
+                self.core_step(&Change::new(was, is, step, answer))
+            }
+            (Machine::Cic(was), Machine::Cic(is)) => {
+                self.cic_step(&Change::new(&**was, is, step, answer))
+            }
+            (Machine::Aintc(was), Machine::Aintc(is)) => {
+                self.aintc_step(&Change::new(&**was, is, step, answer), recorded.privilege);
+            }
+            (Machine::Indexed(was), Machine::Indexed(is)) => {
+                self.indexed_step(&Change::new(&**was, is, step, answer));
+            }
+            _ => unreachable!("a step leaves the controller what it is"),
         }
     }
 
@@ -385,28 +406,16 @@ impl Observer for Coverage {
         if let Some(machine) = &report.machine {
             self.reach(Item::Started(machine.kind(), Size::of(report.steps)));
         }
-        let at_limit = report.steps == PROGRAM_LIMIT;
-        match report.ending {
-            Ok(length) => {
-                self.fact_if(true, "a trace played to its end");
-                self.fact_if(at_limit, "as many steps as the program's limit");
-                self.fact_if(length == LONGEST, "the longest trace played to its end");
-            }
-            Err(fault) => {
-                if let Some(field) = fault.field {
-                    self.reach(Item::Ended(fault.refusal, field));
-                    match (fault.defect, self.forms.last()) {
-                        (Some(defect), _) => self.reach(Item::Defect(field, defect)),
-                        (None, Some(Item::Padded(..))) => {
-                            self.reach(Item::EndedPadded(fault.refusal, field));
-                        }
-                        _ => {}
-                    }
+        self.facts(endings(report));
+        let number = |fault: Fault| Some((fault, fault.field?));
+        if let Some((fault, field)) = report.ending.err().and_then(number) {
+            self.reach(Item::Ended(fault.refusal, field));
+            match (fault.defect, self.forms.last()) {
+                (Some(defect), _) => self.reach(Item::Defect(field, defect)),
+                (None, Some(Item::Padded(..))) => {
+                    self.reach(Item::EndedPadded(fault.refusal, field));
                 }
-                let stopped = fault.refusal == Refusal::StepLimit;
-                self.fact_if(stopped && at_limit, "ended by the program's step limit");
-                let too_long = fault.refusal == Refusal::TraceTooLong;
-                self.fact_if(too_long, "ended by the length of the trace");
+                _ => {}
             }
         }
         self.forms.clear();
@@ -435,7 +444,7 @@ impl Listed for Coverage {
 fn traces() -> Vec<Item> {
     let mut items = Vec::new();
     for kind in Kind::ALL {
-        items.extend([Size::None, Size::Some].map(|size| Item::Started(kind, size)));
+        items.extend(each(|size| Item::Started(kind, size)));
         for way in [Way::Read, Way::Write] {
             items.push(Item::Refused(kind, way, Refusal::Misaligned));
             items.push(Item::Refused(kind, way, Refusal::NoRegister));
@@ -452,20 +461,7 @@ fn traces() -> Vec<Item> {
             items.push(Item::EndedPadded(refusal, field));
         }
     }
-    items.extend(
-        [
-            "an offset one past a word",
-            "an offset two past a word",
-            "an offset three past a word",
-            "an offset that names a register modulo 4 KiB",
-            "a trace played to its end",
-            "as many steps as the program's limit",
-            "the longest trace played to its end",
-            "ended by the program's step limit",
-            "ended by the length of the trace",
-        ]
-        .map(Item::Fact),
-    );
+    items.extend(FACTS.iter().copied().map(Item::Fact));
     items
 }
 

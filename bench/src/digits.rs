@@ -1,6 +1,6 @@
 //! The listing once more, with its digits made by hand: for the clock only, where standard formatting weighs most.
 
-use crate::model::{Answer, Machine, Recorded, Step};
+use crate::model::{Answer, Machine, Recorded};
 use crate::trace::{Observer, Report};
 
 /// The text of a listing as far as it has come.
@@ -17,11 +17,9 @@ impl Observer for Digits {
     }
 
     fn after(&mut self, machine: &Machine, number: u32, recorded: Recorded, answer: Answer) {
-        let (letter, value) = match (answer, recorded.step) {
-            (Err(refusal), _) => (b'X', refusal.number()),
-            (Ok(value), Step::Read { .. }) => (b'R', value),
-            (Ok(value), Step::Write { .. }) => (b'W', value),
-            (Ok(value), Step::Line { .. }) => (b'L', value),
+        let (letter, value) = match answer {
+            Err(refusal) => (b'X', refusal.number()),
+            Ok(value) => (recorded.step.letter() as u8, value),
         };
         self.decimal(number);
         self.bytes.extend_from_slice(&[b' ', letter, b' ']);

@@ -32,15 +32,22 @@ pub fn explain(trace: &[u8], limit: u32) -> Vec<u8> {
 
 /// The lines of so many steps from a first one on, as far as they are played.
 pub fn window(trace: &[u8], limit: u32, first: u32, steps: u32) -> Vec<u8> {
-    let mut writer = Writer::new(Parts::RIGHT);
-    writer.window = Some((first, steps));
-    play(trace, limit, &mut writer);
-    writer.text.into_bytes()
+    written(Parts::RIGHT, Some((first, steps)), trace, limit)
 }
 
 /// An explanation whose lines are put together of these parts.
 pub fn explain_by(parts: Parts, trace: &[u8], limit: u32) -> Vec<u8> {
-    let mut writer = Writer::new(parts);
+    written(parts, None, trace, limit)
+}
+
+fn written(parts: Parts, window: Option<(u32, u32)>, trace: &[u8], limit: u32) -> Vec<u8> {
+    let mut writer = Writer {
+        parts,
+        window,
+        configuration: Vec::new(),
+        before: None,
+        text: String::new(),
+    };
     play(trace, limit, &mut writer);
     writer.text.into_bytes()
 }
@@ -120,43 +127,25 @@ pub fn value(told: &Told) -> String {
 }
 
 /// An explanation as far as it has come.
-pub struct Writer {
+struct Writer {
     parts: Parts,
     /// The first step and how many, where only a part is wanted.
     window: Option<(u32, u32)>,
     configuration: Vec<u32>,
     before: Option<Machine>,
-    pub text: String,
+    text: String,
 }
 
 impl Writer {
-    pub fn new(parts: Parts) -> Writer {
-        Writer {
-            parts,
-            window: None,
-            configuration: Vec::new(),
-            before: None,
-            text: String::new(),
-        }
-    }
-
     /// A statement with its comment, which begins at its column or one space behind the statement.
     fn line(&mut self, statement: &str, comment: &str) {
-        let statement = format!("{statement:<COLUMN$}");
-        let gap = if statement.len() > COLUMN || !statement.ends_with(' ') {
-            " "
-        } else {
-            ""
-        };
-        self.text += &format!("{statement}{gap}# {comment}\n");
+        let width = COLUMN.max(statement.len() + 1);
+        self.text += &format!("{statement:<width$}# {comment}\n");
     }
 
     fn is_wanted(&self, number: u32) -> bool {
-        self.window.is_none_or(|(first, steps)| {
-            number
-                .checked_sub(first)
-                .is_some_and(|beyond| beyond < steps)
-        })
+        let within = |(first, steps)| number >= first && number - first < steps;
+        self.window.is_none_or(within)
     }
 }
 
@@ -191,20 +180,14 @@ impl Observer for Writer {
             answer,
             after: machine,
         };
-        let Parts {
-            place,
-            value,
-            refusal,
-            fields,
-            deeds,
-            outputs,
-            ..
-        } = self.parts;
+        let it = self.parts;
         let mut comment = number.to_string();
-        for part in [place, value, refusal, fields, deeds, outputs] {
+        for part in [
+            it.place, it.value, it.refusal, it.fields, it.deeds, it.outputs,
+        ] {
             comment += &part(told);
         }
-        self.line(&(self.parts.statement)(told), &comment);
+        self.line(&(it.statement)(told), &comment);
     }
 
     fn ended(&mut self, report: &Report) {

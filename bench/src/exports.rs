@@ -11,90 +11,54 @@ use crate::report::generate::told;
 use crate::report::{Counts, Figures};
 use crate::stack::generate::Typed;
 
-extern "C" {
-    /// Writes the listing of the lent trace into the lent buffer and answers the bytes written; what finds no room is
-    /// dropped. The declaration is checked by nothing: it has to be the one of the library.
-    fn wisteria_list(
-        trace: *const u8,
-        trace_len: usize,
-        limit: u32,
-        out: *mut u8,
-        out_len: usize,
-    ) -> usize;
+/// Declares functions of the library that get the lent trace, its length and a limit of steps first. The declarations are
+/// checked by nothing: they have to be those of the library.
+macro_rules! of_a_trace {
+    ($($(#[$about:meta])* fn $name:ident($($more:ident: $sort:ty),*) -> $answer:ty;)*) => {
+        extern "C" {
+            $(
+                $(#[$about])*
+                fn $name(trace: *const u8, length: usize, limit: u32, $($more: $sort),*) -> $answer;
+            )*
+        }
+    };
+}
 
+of_a_trace! {
+    /// Writes the listing into the lent buffer and answers the bytes written; what finds no room is dropped.
+    fn wisteria_list(out: *mut u8, room: usize) -> usize;
     /// The steps played, refused ones among them; the number of the refusal that ended the play, 0 where it went to the
     /// end; the offset of that refusal, or the length of the trace, in bytes.
-    fn wisteria_steps(trace: *const u8, trace_len: usize, limit: u32) -> u32;
-    fn wisteria_refusal(trace: *const u8, trace_len: usize, limit: u32) -> u32;
-    fn wisteria_offset(trace: *const u8, trace_len: usize, limit: u32) -> usize;
-
+    fn wisteria_steps() -> u32;
+    fn wisteria_refusal() -> u32;
+    fn wisteria_offset() -> usize;
     /// The listing and the steps by the loops over a controller of any kind, as above.
-    fn wisteria_list_plain(
-        trace: *const u8,
-        trace_len: usize,
-        limit: u32,
-        out: *mut u8,
-        out_len: usize,
-    ) -> usize;
-    fn wisteria_play_plain(trace: *const u8, trace_len: usize, limit: u32) -> u32;
-
+    fn wisteria_list_plain(out: *mut u8, room: usize) -> usize;
+    fn wisteria_play_plain() -> u32;
     /// Writes the figures of each source into the lent words, 32 of each: the handlers started, the most handlers started
     /// while it waited, and the most entries open while it was open. Answers the number of steps refused.
-    fn wisteria_figures(
-        trace: *const u8,
-        trace_len: usize,
-        limit: u32,
-        started: *mut [u32; SOURCES],
-        waited: *mut [u32; SOURCES],
-        entries: *mut [u32; SOURCES],
-    ) -> u32;
-
+    fn wisteria_figures(started: *mut OfSources, waited: *mut OfSources, entries: *mut OfSources) -> u32;
     /// Writes the figures of all waits of a source into the lent words, how many began, of these did not end and have no
     /// bound, the first step by which one has none, and the terms of the largest bound; answers this bound: handlers.
-    fn wisteria_bounds(
-        trace: *const u8,
-        trace_len: usize,
-        limit: u32,
-        source: u32,
-        waits: *mut [u32; 4],
-        terms: *mut [u32; 6],
-    ) -> u64;
-
-    /// Writes the line of the lent text of a table into the lent buffer and answers the bytes written, as above.
-    fn wisteria_stack(text: *const u8, text_len: usize, out: *mut u8, out_len: usize) -> usize;
-
-    /// Writes the explanation of the lent trace into the lent buffer and answers the bytes written, as above; the second
-    /// that of so many steps from a first one on.
-    fn wisteria_explain(
-        trace: *const u8,
-        trace_len: usize,
-        limit: u32,
-        out: *mut u8,
-        out_len: usize,
-    ) -> usize;
-    fn wisteria_explain_window(
-        trace: *const u8,
-        trace_len: usize,
-        limit: u32,
-        first: u32,
-        steps: u32,
-        out: *mut u8,
-        out_len: usize,
-    ) -> usize;
-
+    fn wisteria_bounds(source: u32, waits: *mut [u32; 4], terms: *mut [u32; 6]) -> u64;
+    /// Writes the explanation into the lent buffer, as the listing; the second that of so many steps from a first one on.
+    fn wisteria_explain(out: *mut u8, room: usize) -> usize;
+    fn wisteria_explain_window(first: u32, steps: u32, out: *mut u8, room: usize) -> usize;
     /// The status words that a read of the register at the offset would look at after the play.
-    fn wisteria_looked(trace: *const u8, trace_len: usize, limit: u32, offset: u32) -> u32;
+    fn wisteria_looked(offset: u32) -> u32;
+}
+
+extern "C" {
+    /// Writes the line of the lent text of a table into the lent buffer and answers the bytes written, as above.
+    fn wisteria_stack(text: *const u8, length: usize, out: *mut u8, room: usize) -> usize;
 
     /// A start of the lent CoreInterrupt, and a step on it told by its kind and two numbers; the record is updated.
-    fn wisteria_core_start(
-        core: *mut LentCore,
-        fiqs: u32,
-        irqs: u32,
-        fiq_level: u32,
-        irq_level: u32,
-    ) -> Reply;
+    fn wisteria_core_start(core: *mut LentCore, fiqs: u32, irqs: u32, fiq: u32, irq: u32) -> Reply;
     fn wisteria_core_step(core: *mut LentCore, kind: u32, first: u32, second: u32) -> Reply;
 }
+
+/// A figure of each source.
+type OfSources = [u32; SOURCES];
 
 /// How a listing is asked for.
 type Lister = unsafe extern "C" fn(*const u8, usize, u32, *mut u8, usize) -> usize;
@@ -215,69 +179,40 @@ pub fn looked(question: &Question) -> Outcome {
 
 /// What the library writes the figures of a trace into: for each source the handlers started, the most of others started
 /// while it waited, and the most entries.
-#[derive(Clone, Copy, Debug, PartialEq, Eq)]
-pub struct Words {
-    pub started: [u32; SOURCES],
-    pub waited: [u32; SOURCES],
-    pub entries: [u32; SOURCES],
-}
+pub type Words = [OfSources; 3];
 
-impl Words {
-    /// No figure has this value, so that a word that is not written differs.
-    pub const UNTOUCHED: Words = {
-        let words = [0xA5A5_A5A5; SOURCES];
-        Words {
-            started: words,
-            waited: words,
-            entries: words,
-        }
-    };
-}
+/// No figure has this value, so that a word that is not written differs.
+pub const UNTOUCHED: Words = [[0xA5A5_A5A5; SOURCES]; 3];
 
 /// Fills the words with the figures of a trace, and answers how many steps were refused.
-pub fn figures_into(trace: &[u8], limit: u32, words: &mut Words) -> u32 {
+pub fn figures_into(trace: &[u8], limit: u32, [started, waited, entries]: &mut Words) -> u32 {
+    let (bytes, length) = (trace.as_ptr(), trace.len());
     // The first pointer comes from a slice of the length that goes with it; the others lead to three arrays apart.
-    unsafe {
-        wisteria_figures(
-            trace.as_ptr(),
-            trace.len(),
-            limit,
-            &mut words.started,
-            &mut words.waited,
-            &mut words.entries,
-        )
-    }
+    unsafe { wisteria_figures(bytes, length, limit, started, waited, entries) }
 }
 
 /// The waits of a source over a trace: the counts, the terms of the largest bound, and this bound.
 pub fn bounds_of(trace: &[u8], limit: u32, source: u32) -> ([u32; 4], [u32; 6], u64) {
     // No figure has this value, so that a word that is not written differs.
     let (mut waits, mut terms) = ([0xA5A5_A5A5; 4], [0xA5A5_A5A5; 6]);
+    let (bytes, length) = (trace.as_ptr(), trace.len());
     // The first pointer comes from a slice of the length that goes with it; the others lead to two arrays apart.
-    let most = unsafe {
-        wisteria_bounds(
-            trace.as_ptr(),
-            trace.len(),
-            limit,
-            source,
-            &mut waits,
-            &mut terms,
-        )
-    };
+    let most = unsafe { wisteria_bounds(bytes, length, limit, source, &mut waits, &mut terms) };
     (waits, terms, most)
 }
 
 /// The figures of a trace.
 pub fn figures_of(trace: &[u8], limit: u32) -> Figures {
-    let mut words = Words::UNTOUCHED;
+    let mut words = UNTOUCHED;
     let refused = figures_into(trace, limit, &mut words);
+    let [started, waited, entries] = words;
     Figures {
         steps: steps_of(trace, limit),
         refused,
         sources: std::array::from_fn(|source| Counts {
-            started: words.started[source],
-            waited: words.waited[source],
-            entries: words.entries[source],
+            started: started[source],
+            waited: waited[source],
+            entries: entries[source],
         }),
     }
 }

@@ -7,8 +7,11 @@ mod core;
 pub(crate) mod damage;
 pub mod indexed;
 mod long;
+pub(crate) mod played;
+pub(crate) mod steps;
 mod sweeps;
 
+use self::played::weights;
 use crate::model::{Kind, Step, PRIVILEGED};
 use crate::numbered::{Made, Numbered};
 use crate::random::Random;
@@ -24,6 +27,16 @@ pub struct Case {
 }
 
 impl Case {
+    /// A case with ample room.
+    pub(crate) fn new(name: &'static str, trace: Vec<u8>, limit: u32) -> Case {
+        Case {
+            name,
+            trace,
+            limit,
+            room: None,
+        }
+    }
+
     /// The room that the listing gets. Where none is said it is enough for any: a step has two bytes or more and makes
     /// a line of at most 35 bytes.
     pub fn ample_room(&self) -> usize {
@@ -36,12 +49,7 @@ pub type Generator = Numbered<Case>;
 
 impl Made for Case {
     fn sweeps() -> Vec<Case> {
-        let case = |script: Script| Case {
-            name: "sweep",
-            trace: script.bytes,
-            limit: PROGRAM_LIMIT,
-            room: None,
-        };
+        let case = |script: Script| Case::new("sweep", script.bytes, PROGRAM_LIMIT);
         sweeps::all().into_iter().map(case).collect()
     }
 
@@ -50,50 +58,34 @@ impl Made for Case {
     }
 }
 
-/// What a random case is like.
-#[derive(Clone, Copy)]
-enum Style {
-    Tour,
-    Damaged,
-    Noise,
-    Long,
-}
-
-const STYLES: [(u32, Style); 4] = [
-    (1_400, Style::Tour),
-    (500, Style::Damaged),
-    (100, Style::Noise),
-    (2, Style::Long),
-];
+/// What a random case is like, and how often it comes.
+const STYLES: &str = "1400 tour, 500 damaged, 100 noise, 2 long";
 
 /// A case that depends on nothing but the numbers that are drawn.
 pub(crate) fn random_case(random: &mut Random) -> Case {
-    let style = random.weighted(&STYLES);
-    let (name, trace) = match style {
-        Style::Tour => {
-            let script = tour(random);
-            ("tour", in_any_form(random, script).bytes)
-        }
-        Style::Damaged => {
+    let style = random.weighted(&weights(STYLES));
+    let trace = match style {
+        "noise" => damage::noise(random),
+        "long" => long::long(random),
+        _ => {
             let script = tour(random);
             let script = in_any_form(random, script);
-            ("damaged", damage::damaged(random, script))
+            match style {
+                "tour" => script.bytes,
+                _ => damage::damaged(random, script),
+            }
         }
-        Style::Noise => ("noise", damage::noise(random)),
-        Style::Long => ("long", long::long(random)),
     };
     let limit = match (style, random.below(10)) {
-        (Style::Long, _) => PROGRAM_LIMIT,
+        ("long", _) => PROGRAM_LIMIT,
         (_, 0) => random.below(4),
         (_, 1) => random.below(40),
         _ => PROGRAM_LIMIT,
     };
     let room = random.one_in(10).then(|| random.below(2_000) as usize);
     Case {
-        name,
-        trace,
-        limit,
         room,
+        ..Case::new(style, trace, limit)
     }
 }
 
@@ -152,22 +144,21 @@ fn width(random: &mut Random) -> usize {
 /// The number that names the AINTC in a trace (02, 2/12).
 const AINTC: u32 = 3;
 /// The number that names the CIC with prioritised indices (02, 6/12).
-const INDEXED: u32 = 4;
+pub(crate) const INDEXED: u32 = 4;
 
 /// A trace as it is written down, with the places where its numbers begin.
 #[derive(Clone, Debug, Default)]
 pub struct Script {
     pub bytes: Vec<u8>,
     pub numbers: Vec<usize>,
-    /// Whether a privilege number is written behind each offset.
-    tells_privilege: bool,
+    kind: u32,
 }
 
 impl Script {
     /// A trace that begins with a kind and its configuration numbers.
     pub fn new(kind: u32, configuration: &[u32]) -> Script {
         let mut script = Script {
-            tells_privilege: kind == AINTC,
+            kind,
             ..Script::default()
         };
         script.number(kind);
@@ -175,6 +166,11 @@ impl Script {
             script.number(number);
         }
         script
+    }
+
+    /// Whether a privilege number is written behind each offset.
+    fn tells_privilege(&self) -> bool {
+        self.kind == AINTC
     }
 
     /// Writes a number in its shortest form.
@@ -191,7 +187,7 @@ impl Script {
     /// The same numbers, each in as many bytes as is said for it, or in as many as it needs.
     fn rewritten(&self, mut width: impl FnMut() -> usize) -> Script {
         let mut script = Script {
-            tells_privilege: self.tells_privilege,
+            kind: self.kind,
             ..Script::default()
         };
         for nth in 0..self.numbers.len() {
@@ -206,25 +202,12 @@ impl Script {
         number.expect("a script writes good numbers").0
     }
 
-    /// The steps that are written from the nth number on, where no privilege is told.
-    fn steps_from(&self, nth: usize) -> Vec<Step> {
-        let mut values = (nth..self.numbers.len()).map(|nth| self.value(nth));
-        let mut next = || values.next();
-        let step = || {
-            let (kind, first) = (next()?, next()?);
-            Some(match kind {
-                1 => Step::Read { offset: first },
-                2 => Step::Write {
-                    offset: first,
-                    value: next()?,
-                },
-                _ => Step::Line {
-                    line: first,
-                    level: next()?,
-                },
-            })
-        };
-        std::iter::from_fn(step).collect()
+    pub(crate) fn put(&mut self, step: Step) {
+        match step {
+            Step::Read { offset } => self.read(offset),
+            Step::Write { offset, value } => self.write(offset, value),
+            Step::Line { line, level } => self.line(line, level),
+        }
     }
 
     /// A read, privileged where the trace says it.
@@ -250,7 +233,7 @@ impl Script {
 
     fn offset(&mut self, offset: u32, privilege: u32) {
         self.number(offset);
-        if self.tells_privilege {
+        if self.tells_privilege() {
             self.number(privilege);
         }
     }
@@ -259,42 +242,6 @@ impl Script {
         self.number(3);
         self.number(line);
         self.number(level);
-    }
-}
-
-/// An offset that is likely to be refused: a misaligned one, one just beside the map, or any at all.
-fn odd_offset(random: &mut Random, end_of_map: u32) -> u32 {
-    match random.below(6) {
-        0 | 1 => random.below(end_of_map),
-        2 => random.below(end_of_map + 64) / 4 * 4,
-        3 => end_of_map + 4 * random.below(4),
-        4 => 0xFFFF_F000 | (4 * random.below(end_of_map / 4)),
-        _ => random.word(),
-    }
-}
-
-/// A read or a write of such an offset.
-fn odd_access(random: &mut Random, script: &mut Script, end_of_map: u32) {
-    let offset = odd_offset(random, end_of_map);
-    if random.one_in(2) {
-        script.read(offset);
-    } else {
-        script.write(offset, random.word());
-    }
-}
-
-/// A line step that is refused: the number is beyond the inputs, or the level over 1, or both.
-fn bad_line(random: &mut Random, script: &mut Script, lines: u32) {
-    let beyond = match random.below(3) {
-        0 => lines,
-        1 => lines + random.below(2_000),
-        _ => random.word().max(lines),
-    };
-    let level = random.word().max(2);
-    match random.below(3) {
-        0 => script.line(beyond, random.below(2)),
-        1 => script.line(random.below(lines), level),
-        _ => script.line(beyond, level),
     }
 }
 

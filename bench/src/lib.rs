@@ -41,6 +41,7 @@ pub mod look;
 pub mod looked;
 pub mod model;
 pub mod numbered;
+pub mod patterns;
 pub mod picture;
 pub mod program;
 pub mod random;

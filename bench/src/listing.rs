@@ -2,7 +2,7 @@
 
 use std::io::Write;
 
-use crate::model::{Answer, Machine, Recorded, Step};
+use crate::model::{Answer, Machine, Recorded};
 use crate::trace::{play, Observer, Report};
 
 /// The listing of a trace that is played up to a number of steps.
@@ -25,7 +25,7 @@ impl Observer for Text {
 
     fn after(&mut self, machine: &Machine, number: u32, recorded: Recorded, answer: Answer) {
         let (letter, value) = match answer {
-            Ok(value) => (letter(recorded.step), value),
+            Ok(value) => (recorded.step.letter(), value),
             Err(refusal) => ('X', refusal.number()),
         };
         let [first, second, third] = machine.shown();
@@ -48,15 +48,6 @@ impl Text {
     }
 }
 
-/// The letter of a step that is carried out.
-fn letter(step: Step) -> char {
-    match step {
-        Step::Read { .. } => 'R',
-        Step::Write { .. } => 'W',
-        Step::Line { .. } => 'L',
-    }
-}
-
 #[cfg(test)]
 mod tests {
     use super::*;
@@ -64,44 +55,6 @@ mod tests {
 
     fn text(trace: &[u8], limit: u32) -> String {
         String::from_utf8(listing(trace, limit)).expect("a listing is plain text")
-    }
-
-    #[test]
-    fn the_papers_example() {
-        let trace = [
-            0x00, 0x00, 0x00, 0x02, 0x14, 0x23, 0x02, 0x94, 0x01, 0xA0, 0x01, 0x02, 0xA0, 0x02,
-            0x20, 0x03, 0x05, 0x01, 0x01, 0x80, 0x02, 0x01, 0x02, 0x02, 0xB0, 0x02, 0x00,
-        ];
-        let expected = "AIC\n\
-            1 W 00000000 0 0 0\n\
-            2 W 00000000 0 0 0\n\
-            3 W 00000000 0 0 0\n\
-            4 L 00000000 1 0 0\n\
-            5 R 000000A0 0 0 1\n\
-            6 X 00000001 0 0 1\n\
-            7 W 00000000 0 0 0\n";
-        assert_eq!(text(&trace, PROGRAM_LIMIT), expected);
-    }
-
-    #[test]
-    fn empty_input() {
-        assert_eq!(text(&[], PROGRAM_LIMIT), "E 8 0\n");
-    }
-
-    #[test]
-    fn the_name_comes_with_the_configuration() {
-        assert_eq!(text(&[0, 0, 0], 9), "AIC\n");
-        assert_eq!(text(&[1, 8, 32, 1, 1], 9), "COREINTERRUPT\n");
-        assert_eq!(text(&[2, 1, 1, 1, 0], 9), "CIC\n");
-        assert_eq!(text(&[2, 1, 1, 1, 0, 0], 9), "CIC\nE 9 5\n");
-        assert_eq!(text(&[2, 1, 1, 1, 0x80], 9), "E 8 4\n");
-        assert_eq!(text(&[3], 9), "AINTC\n");
-        assert_eq!(text(&[3, 1, 0], 9), "AINTC\nE 8 3\n");
-        assert_eq!(text(&[4, 1, 1, 1, 0, 0], 9), "CIC\n");
-        assert_eq!(text(&[4, 1, 1, 1, 0, 1], 9), "CIC\n");
-        assert_eq!(text(&[4, 1, 1, 1, 0, 2], 9), "E 10 5\n");
-        assert_eq!(text(&[4, 1, 1, 1, 0], 9), "E 8 5\n");
-        assert_eq!(text(&[5], 9), "E 9 0\n");
     }
 
     #[test]

@@ -4,7 +4,7 @@ mod heavy;
 pub mod reached;
 
 use crate::generate::damage::damaged;
-use crate::generate::{in_any_form, random_case, tour_of, Case, Generator as Listed, Script};
+use crate::generate::{in_any_form, random_case, tour_of, Case, Generator as Listed};
 use crate::model::Kind;
 use crate::picture::MOST_STEPS;
 use crate::random::Random;
@@ -29,8 +29,8 @@ pub struct Generator {
     /// The numbers of those sweeps that are of an AIC and play some steps.
     of_aic: Vec<usize>,
     /// Traces of which the dumps are long, and such of which the pictures are large.
-    long: Vec<Script>,
-    large: Vec<Script>,
+    long: Vec<Vec<u8>>,
+    large: Vec<Vec<u8>>,
 }
 
 impl Generator {
@@ -56,7 +56,7 @@ impl Generator {
         let random = &mut Random::for_item(self.seed, number as u64);
         let case = match number.checked_sub(self.listed.sweeps()) {
             None => self.listed.case(number),
-            Some(nth) if nth < self.long.len() => whole("long", self.long[nth].bytes.clone()),
+            Some(nth) if nth < self.long.len() => whole("long", self.long[nth].clone()),
             Some(_) if random.one_in(2) => of_aic(random, 200),
             Some(_) => random_case(random),
         };
@@ -72,7 +72,7 @@ impl Generator {
     /// picture.
     pub fn window(&self, number: usize) -> Window {
         match self.large.get(number) {
-            Some(script) => heavy::window(script),
+            Some(trace) => heavy::window(trace),
             None => self.random_window(number),
         }
     }
@@ -90,7 +90,8 @@ impl Generator {
         let steps = random_steps(random, (played + 1).saturating_sub(first));
         let (mut first, mut steps) = (first.to_string(), steps.to_string());
         if random.one_in(40) {
-            let word = random.pick(&NO_NUMBERS).to_string();
+            let words: Vec<&str> = NO_NUMBERS.split('|').collect();
+            let word = random.pick(&words).to_string();
             match random.one_in(2) {
                 true => first = word,
                 false => steps = word,
@@ -130,17 +131,8 @@ fn random_steps(random: &mut Random, rest: u32) -> u32 {
 }
 
 /// Words that are no numbers, or too large for any.
-const NO_NUMBERS: [&str; 9] = [
-    "x",
-    "",
-    "-1",
-    "1x",
-    "1 2",
-    "0x10",
-    "4294967297",
-    "18446744073709551617",
-    "99999999999999999999999999999999",
-];
+const NO_NUMBERS: &str =
+    "x||-1|1x|1 2|0x10|4294967297|18446744073709551617|99999999999999999999999999999999";
 
 /// A trace of an AIC, of at most about so many steps; one in eight is damaged.
 fn of_aic(random: &mut Random, most: u32) -> Case {

@@ -2,7 +2,7 @@
 
 use std::io::{Read, Write};
 use std::path::PathBuf;
-use std::process::{Child, Command, Stdio};
+use std::process::{Child, Command, ExitCode, Stdio};
 use std::sync::mpsc;
 use std::thread;
 use std::time::Duration;
@@ -78,6 +78,25 @@ impl Program {
             }
         }
     }
+}
+
+/// What this program was called with. It is kept for as long as the program runs.
+pub fn words() -> Vec<&'static str> {
+    let words = std::env::args().skip(1);
+    words.map(|word| &*word.leak()).collect()
+}
+
+/// Says how a program is asked, and answers the exit status of one that was not asked so.
+pub fn not_so(usage: &str) -> ExitCode {
+    eprint!("{usage}");
+    ExitCode::from(2)
+}
+
+/// All of standard input. What cannot be read ends where it cannot be read.
+pub fn input() -> Vec<u8> {
+    let mut input = Vec::new();
+    let _ = std::io::stdin().read_to_end(&mut input);
+    input
 }
 
 /// Writes the input from a thread of its own. A program may stop reading once it knows that it is too long.

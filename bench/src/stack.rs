@@ -173,7 +173,6 @@ mod tests {
     fn each_level_counts_once() {
         assert_eq!(Table::default().bytes(), Ok(0));
         assert_eq!(marks_alone(10).bytes(), Ok(80));
-        assert_eq!(one_source().bytes(), Ok(170));
         for level in 0..LEVELS {
             let moved = with(&one_source(), |table| table.rows[4].priority = level);
             assert_eq!(moved.bytes(), Ok(170));
@@ -182,22 +181,20 @@ mod tests {
 
     #[test]
     fn of_a_level_the_largest_counts() {
-        let second = |priority, frame| {
-            with(&one_source(), |table| {
+        for (priority, frame, bytes) in [
+            (2, 99, 170),
+            (2, 100, 170),
+            (2, 101, 171),
+            (3, 99, 259),
+            (3, 10, 170),
+            (3, 9, 170),
+        ] {
+            let second = with(&one_source(), |table| {
                 table.forced &= !(1 << 7);
-                table.rows[7] = Row {
-                    priority,
-                    frame,
-                    ..Row::default()
-                };
-            })
-        };
-        assert_eq!(second(2, 99).bytes(), Ok(170));
-        assert_eq!(second(2, 100).bytes(), Ok(170));
-        assert_eq!(second(2, 101).bytes(), Ok(171));
-        assert_eq!(second(3, 99).bytes(), Ok(259));
-        assert_eq!(second(3, 10).bytes(), Ok(170));
-        assert_eq!(second(3, 9).bytes(), Ok(170));
+                (table.rows[7].priority, table.rows[7].frame) = (priority, frame);
+            });
+            assert_eq!(second.bytes(), Ok(bytes), "{priority} {frame}");
+        }
     }
 
     #[test]
@@ -210,24 +207,20 @@ mod tests {
 
     #[test]
     fn fast_sources_do_not_count() {
-        let nought = with(&one_source(), |table| table.rows[0].frame = 9_000);
-        assert_eq!(nought.bytes(), Ok(170));
-        let forced = with(&one_source(), |table| table.rows[5].frame = 9_000);
+        let larger = |source: usize| move |table: &mut Table| table.rows[source].frame = 9_000;
+        assert_eq!(with(&one_source(), larger(0)).bytes(), Ok(170));
+        let forced = with(&one_source(), larger(5));
         assert_eq!(forced.bytes(), Ok(170));
         let freed = with(&forced, |table| table.forced &= !(1 << 5));
         assert_eq!(freed.bytes(), Ok(9_160));
     }
 
     #[test]
-    fn bit_0_of_the_forced_word_says_nothing() {
+    fn bit_0_of_the_forced_word_and_types_say_nothing() {
         for table in [one_source(), marks_alone(3), Table::default()] {
             let other = with(&table, |table| table.forced ^= 1);
             assert_eq!(other.bytes(), table.bytes());
         }
-    }
-
-    #[test]
-    fn types_do_not_count() {
         for kind in 0..=MOST_TYPE {
             let table = with(&one_source(), |table| table.rows[4].kind = kind);
             assert_eq!(table.bytes(), Ok(170));
@@ -249,20 +242,14 @@ mod tests {
     #[test]
     fn every_number_is_tested_for_14() {
         for source in [0, 4, 5, 31] {
-            let tries: [(Place, u32); 3] = [
-                (|row| &mut row.priority, 7),
-                (|row| &mut row.kind, 3),
-                (|row| &mut row.frame, 65_535),
-            ];
-            for (number, limit) in tries {
+            for ((number, _), limit) in Row::LIMITS.into_iter().zip([7, 3, 65_535]) {
                 let put = |value| {
-                    with(&one_source(), |table| {
-                        *number(&mut table.rows[source]) = value;
-                    })
+                    let put = |table: &mut Table| *number(&mut table.rows[source]) = value;
+                    with(&one_source(), put).bytes()
                 };
-                assert!(put(limit).bytes().is_ok());
-                assert_eq!(put(limit + 1).bytes(), Err(Fault::Beyond));
-                assert_eq!(put(u32::MAX).bytes(), Err(Fault::Beyond));
+                assert!(put(limit).is_ok());
+                assert_eq!(put(limit + 1), Err(Fault::Beyond));
+                assert_eq!(put(u32::MAX), Err(Fault::Beyond));
             }
         }
         assert!(marks_alone(65_535).bytes().is_ok());

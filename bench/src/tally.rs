@@ -17,9 +17,94 @@ impl<I> Default for Tally<I> {
     }
 }
 
+/// A situation in plain words, and whether it is there.
+pub type Fact = (bool, &'static str);
+
+/// Situations in plain words, each with what tells that it is there. A table becomes a function that judges all of its
+/// situations; the names of all tables are the list, so that none is counted that is not listed.
+#[macro_export]
+macro_rules! facts {
+    ($seen:vis $list:ident; $(
+        $(#[$about:meta])*
+        fn $table:ident($($given:ident: $of:ty),*) {
+            $(let $name:pat = $is:expr;)*
+            $($fact:literal if $there:expr;)*
+        }
+    )*) => {
+        $seen const $list: &[&str] = &[$($($fact),*),*];
+        $(
+            $(#[$about])*
+            fn $table($($given: $of),*) -> [$crate::tally::Fact; [$($fact),*].len()] {
+                $(let $name = $is;)*
+                [$(($there, $fact)),*]
+            }
+        )*
+    };
+}
+
+/// What has few values, all of which are to be reached.
+pub trait Every: Copy {
+    fn every() -> Vec<Self>;
+}
+
+/// An item for each value, or for each two or three of them.
+pub fn each<T: Every, I>(item: impl Fn(T) -> I) -> impl Iterator<Item = I> {
+    T::every().into_iter().map(item)
+}
+
+impl Every for bool {
+    fn every() -> Vec<bool> {
+        vec![false, true]
+    }
+}
+
+impl<A: Every, B: Every> Every for (A, B) {
+    fn every() -> Vec<(A, B)> {
+        let with = |a: A| B::every().into_iter().map(move |b| (a, b));
+        A::every().into_iter().flat_map(with).collect()
+    }
+}
+
+impl<A: Every, B: Every, C: Every> Every for (A, B, C) {
+    fn every() -> Vec<(A, B, C)> {
+        each(|((a, b), c)| (a, b, c)).collect()
+    }
+}
+
+/// Sorts of things that items tell apart.
+#[macro_export]
+macro_rules! sorts {
+    ($($(#[$about:meta])* $name:ident { $($(#[$of:meta])* $value:ident),* $(,)? })*) => {
+        $(
+            $crate::listed! {
+                $(#[$about])*
+                #[derive(Clone, Copy, Debug, PartialEq, Eq, PartialOrd, Ord, Hash)]
+                pub enum $name { $($(#[$of])* $value),* }
+            }
+
+            impl $crate::tally::Every for $name {
+                fn every() -> Vec<$name> {
+                    $name::ALL.to_vec()
+                }
+            }
+        )*
+    };
+}
+
 impl<I: Copy + Eq + Hash> Tally<I> {
     pub fn reach(&mut self, item: I) {
         *self.counts.entry(item).or_insert(0) += 1;
+    }
+
+    /// Counts the situations that are there, each as an item.
+    pub fn facts(
+        &mut self,
+        item: impl Fn(&'static str) -> I,
+        facts: impl IntoIterator<Item = Fact>,
+    ) {
+        for (_, fact) in facts.into_iter().filter(|&(there, _)| there) {
+            self.reach(item(fact));
+        }
     }
 
     pub fn count(&self, item: I) -> u64 {

@@ -55,6 +55,22 @@ pub struct Fault {
     pub defect: Option<Defect>,
 }
 
+/// The least and the most that a number may be.
+type Limits = (u32, u32);
+
+const ANY: Limits = (0, u32::MAX);
+
+/// The limits of the numbers that configure a kind, in their order (01, house trace; 02, 2/12 and 6/12).
+fn limits(kind: Kind) -> &'static [Limits] {
+    match kind {
+        Kind::Aic => &[ANY, ANY],
+        Kind::Core => &[(0, 8), (0, 32), (0, 1), (0, 1)],
+        Kind::Cic => &[(1, 1_024), (1, 256), (1, 256), ANY],
+        Kind::Aintc => &[],
+        Kind::Indexed => &[(1, 1_024), (1, 256), (1, 256), ANY, (0, 1)],
+    }
+}
+
 /// The bytes of a trace, the place of the next one to read, and who watches.
 pub struct Reader<'a, O: Observer> {
     trace: &'a [u8],
@@ -87,14 +103,11 @@ impl<'a, O: Observer> Reader<'a, O> {
     }
 
     /// The next number if it is within its limits, else refusal 10; 8 comes before that.
-    fn limited(&mut self, field: Field, least: u32, most: u32) -> Result<u32, Fault> {
+    fn limited(&mut self, field: Field, (least, most): Limits) -> Result<u32, Fault> {
         let fault = self.fault(Refusal::BadConfiguration, field);
         let value = self.number(field)?;
-        if (least..=most).contains(&value) {
-            Ok(value)
-        } else {
-            Err(fault)
-        }
+        let within = (least..=most).contains(&value);
+        within.then_some(value).ok_or(fault)
     }
 
     /// The fault of a number that begins at the present place.
@@ -110,74 +123,48 @@ impl<'a, O: Observer> Reader<'a, O> {
     /// The controller that the trace asks for. Each number is judged as soon as it is read.
     fn machine(&mut self) -> Result<Machine, Fault> {
         let unknown = self.fault(Refusal::UnknownKind, Field::Kind);
-        match self.number(Field::Kind)? {
-            0 => self.aic(),
-            1 => self.core(),
-            2 => Ok(Machine::Cic(Box::new(self.cic(Kind::Cic)?))),
-            3 => Ok(Machine::Aintc(Box::default())),
-            4 => self.indexed(),
-            _ => Err(unknown),
+        let kind = self.number(Field::Kind)?;
+        let kind = *Kind::ALL.get(kind as usize).ok_or(unknown)?;
+        let mut numbers = [0; 5];
+        for (place, &limits) in (0..).zip(limits(kind)) {
+            let field = Field::Configuration(kind, place);
+            numbers[usize::from(place)] = self.limited(field, limits)?;
         }
-    }
-
-    fn aic(&mut self) -> Result<Machine, Fault> {
-        let field = |place| Field::Configuration(Kind::Aic, place);
-        let external = self.number(field(0))?;
-        let levels = self.number(field(1))?;
-        Ok(Machine::Aic(Box::new(Aic::new(external, levels))))
-    }
-
-    fn core(&mut self) -> Result<Machine, Fault> {
-        let field = |place| Field::Configuration(Kind::Core, place);
-        let fiqs = self.limited(field(0), 0, 8)?;
-        let irqs = self.limited(field(1), 0, 32)?;
-        let fiq_level = self.limited(field(2), 0, 1)? == 1;
-        let irq_level = self.limited(field(3), 0, 1)? == 1;
-        let core = CoreInterrupt::new(fiqs, irqs, fiq_level, irq_level);
-        Ok(Machine::Core(core))
-    }
-
-    /// The four numbers of a CIC, at the beginning of a configuration of either kind.
-    fn cic(&mut self, kind: Kind) -> Result<Cic, Fault> {
-        let field = |place| Field::Configuration(kind, place);
-        let systems = self.limited(field(0), 1, 1_024)? as usize;
-        let channels = self.limited(field(1), 1, 256)? as usize;
-        let hosts = self.limited(field(2), 1, 256)? as usize;
-        let revision = self.number(field(3))?;
-        Ok(Cic::new(systems, channels, hosts, revision))
-    }
-
-    /// A CIC, and behind its revision whether it is prioritised (02, 6/12).
-    fn indexed(&mut self) -> Result<Machine, Fault> {
-        let cic = self.cic(Kind::Indexed)?;
-        let prioritised = self.limited(Field::Configuration(Kind::Indexed, 4), 0, 1)? == 1;
-        let indexed = Indexed::new(cic, prioritised);
-        Ok(Machine::Indexed(Box::new(indexed)))
+        let [first, second, third, fourth, fifth] = numbers;
+        let cic = || Cic::new(first as usize, second as usize, third as usize, fourth);
+        Ok(match kind {
+            Kind::Aic => Machine::Aic(Box::new(Aic::new(first, second))),
+            Kind::Core => Machine::Core(CoreInterrupt::new(first, second, third == 1, fourth == 1)),
+            Kind::Cic => Machine::Cic(Box::new(cic())),
+            Kind::Aintc => Machine::Aintc(Box::default()),
+            Kind::Indexed => Machine::Indexed(Box::new(Indexed::new(cic(), fifth == 1))),
+        })
     }
 
     /// The next step of a controller; an unknown step kind is refused before anything after it is read.
     fn step(&mut self, kind: Kind) -> Result<Recorded, Fault> {
         let unknown = self.fault(Refusal::UnknownKind, Field::StepKind);
-        match self.number(Field::StepKind)? {
+        let mut privilege = PRIVILEGED;
+        let step = match self.number(Field::StepKind)? {
             1 => {
-                let (offset, privilege) = self.offset(kind)?;
-                let step = Step::Read { offset };
-                Ok(Recorded { step, privilege })
+                let offset;
+                (offset, privilege) = self.offset(kind)?;
+                Step::Read { offset }
             }
             2 => {
-                let (offset, privilege) = self.offset(kind)?;
+                let offset;
+                (offset, privilege) = self.offset(kind)?;
                 let value = self.number(Field::Value)?;
-                let step = Step::Write { offset, value };
-                Ok(Recorded { step, privilege })
+                Step::Write { offset, value }
             }
             3 => {
                 let line = self.number(Field::Line)?;
                 let level = self.number(Field::Level)?;
-                let (step, privilege) = (Step::Line { line, level }, PRIVILEGED);
-                Ok(Recorded { step, privilege })
+                Step::Line { line, level }
             }
-            _ => Err(unknown),
-        }
+            _ => return Err(unknown),
+        };
+        Ok(Recorded { step, privilege })
     }
 
     /// An offset, and behind it the privilege number where the kind of controller has one (02, 2/12).
@@ -369,57 +356,40 @@ fn stopped(refusal: Refusal, offset: usize) -> Fault {
 #[cfg(test)]
 mod tests {
     use super::*;
+    use crate::listing::listing;
+
+    /// Values at the ends of what one byte to five can say.
+    const ENDS: [(u32, usize); 11] = [
+        (0, 1),
+        (1, 1),
+        (0x7F, 1),
+        (0x80, 2),
+        (0x3FFF, 2),
+        (0x4000, 3),
+        (0x1F_FFFF, 3),
+        (0x20_0000, 4),
+        (0x0FFF_FFFF, 4),
+        (0x1000_0000, 5),
+        (u32::MAX, 5),
+    ];
 
     #[test]
     fn a_number_is_read_as_it_is_written() {
-        let edges = [
-            0,
-            1,
-            0x7F,
-            0x80,
-            0x3FFF,
-            0x4000,
-            0x1F_FFFF,
-            0x20_0000,
-            0x0FFF_FFFF,
-            0x1000_0000,
-            u32::MAX,
-        ];
-        for value in edges {
-            for width in 1..=NUMBER_BYTES {
+        for (value, needs) in ENDS {
+            assert_eq!(shortest(value), needs, "{value:#x}");
+            for width in 1..=12 {
                 let mut bytes = Vec::new();
                 encode(value, width, &mut bytes);
-                assert_eq!(bytes.len(), width.max(shortest(value)));
-                assert_eq!(decode(&bytes), Ok((value, bytes.len())));
-                bytes.push(0x55);
-                assert_eq!(decode(&bytes), Ok((value, bytes.len() - 1)));
+                assert_eq!(bytes.len(), width.max(needs));
+                if width > NUMBER_BYTES {
+                    assert_eq!(decode(&bytes), Err(Defect::TooManyBytes));
+                    assert_eq!(decode(&bytes[..width - 1]), Err(Defect::Cut));
+                } else {
+                    assert_eq!(decode(&bytes), Ok((value, bytes.len())));
+                    bytes.push(0x55);
+                    assert_eq!(decode(&bytes), Ok((value, bytes.len() - 1)));
+                }
             }
-            for width in NUMBER_BYTES + 1..=12 {
-                let mut bytes = Vec::new();
-                encode(value, width, &mut bytes);
-                assert_eq!(bytes.len(), width);
-                assert_eq!(decode(&bytes), Err(Defect::TooManyBytes));
-                assert_eq!(decode(&bytes[..width - 1]), Err(Defect::Cut));
-            }
-        }
-    }
-
-    #[test]
-    fn the_shortest_form_is_where_a_byte_less_says_another_value() {
-        let needs = [
-            (0, 1),
-            (0x7F, 1),
-            (0x80, 2),
-            (0x3FFF, 2),
-            (0x4000, 3),
-            (0x1F_FFFF, 3),
-            (0x20_0000, 4),
-            (0x0FFF_FFFF, 4),
-            (0x1000_0000, 5),
-            (u32::MAX, 5),
-        ];
-        for (value, bytes) in needs {
-            assert_eq!(shortest(value), bytes, "{value:#x}");
         }
     }
 
@@ -464,96 +434,27 @@ mod tests {
     }
 
     #[test]
-    fn at_one_number_8_comes_before_9_and_10() {
-        let kinds: [(&[u8], u8, (u32, usize)); 5] = [
-            (&[], 0x05, (9, 0)),
-            (&[0x00, 0x00, 0x00], 0x04, (9, 3)),
-            (&[0x03], 0x04, (9, 1)),
-            (&[0x01], 0x09, (10, 1)),
-            (&[0x04, 0x01, 0x01, 0x01, 0x00], 0x02, (10, 5)),
-        ];
-        for (before, value, judged) in kinds {
-            for width in 1..=NUMBER_BYTES + 1 {
-                let mut trace = before.to_vec();
-                encode(value.into(), width, &mut trace);
-                let expected = match width > NUMBER_BYTES {
-                    true => (8, judged.1),
-                    false => judged,
-                };
-                assert_eq!(ending(&trace, 9), expected, "{trace:X?}");
+    fn traces_end_as_is_listed() {
+        let cases = include_str!("trace/endings.txt").lines();
+        let cases = cases.filter(|line| !line.is_empty() && !line.starts_with('#'));
+        let mut count = 0;
+        for line in cases {
+            let cells: Vec<&str> = line.split('|').collect();
+            let numbers: Vec<usize> = cells[0].split_whitespace().flat_map(str::parse).collect();
+            let [limit, steps, refusal, offset] = numbers[..] else {
+                panic!("{line}: four numbers and a trace");
+            };
+            let trace = crate::hex::parse(cells[1]).expect("a trace is in hex");
+            let played = play(&trace, limit as u32, &mut ()).steps;
+            let (expected, end) = ((refusal as u32, offset), ending(&trace, limit as u32));
+            assert_eq!((played as usize, end), (steps, expected), "{line}");
+            if let Some(lines) = cells.get(2) {
+                let expected = lines.trim().replace(" / ", "\n") + "\n";
+                assert_eq!(listing(&trace, limit as u32), expected.as_bytes(), "{line}");
             }
+            count += 1;
         }
-        assert_eq!(ending(&[0x83, 0x01], 9), (9, 0));
-        assert_eq!(ending(&[0x83], 9), (8, 0));
-    }
-
-    #[test]
-    fn the_first_number_at_fault_is_reported() {
-        assert_eq!(ending(&[0x01, 0x09, 0x80], 9), (10, 1));
-        assert_eq!(ending(&[0x01, 0x08, 0x21, 0x02, 0x02], 9), (10, 2));
-        assert_eq!(ending(&[0x01, 0x08, 0x20, 0x01, 0x02], 9), (10, 4));
-        assert_eq!(ending(&[0x02, 0x00], 9), (10, 1));
-        assert_eq!(ending(&[0x02, 0x81, 0x08], 9), (10, 1));
-        assert_eq!(ending(&[0x02, 0x80, 0x08, 0x81, 0x02], 9), (10, 3));
-        assert_eq!(ending(&[0x02, 0x01, 0x01, 0x00], 9), (10, 3));
-        assert_eq!(ending(&[0x02, 0x01, 0x01, 0x01], 9), (8, 4));
-        assert_eq!(ending(&[0x04, 0x00], 9), (10, 1));
-        assert_eq!(ending(&[0x04, 0x80, 0x08, 0x81, 0x02], 9), (10, 3));
-        assert_eq!(ending(&[0x04, 0x01, 0x01, 0x00], 9), (10, 3));
-        assert_eq!(ending(&[0x04, 0x01, 0x01, 0x01], 9), (8, 4));
-        assert_eq!(ending(&[0x04, 0x01, 0x01, 0x01, 0x00], 9), (8, 5));
-        assert_eq!(ending(&[0x04, 0x01, 0x01, 0x01, 0x00, 0x02], 9), (10, 5));
-        assert_eq!(ending(&[0x04, 0x01, 0x01, 0x01, 0x00, 0x82], 9), (8, 5));
-        for choice in [0x00, 0x01] {
-            assert_eq!(ending(&[0x04, 0x01, 0x01, 0x01, 0x00, choice], 9), (0, 6));
-        }
-    }
-
-    #[test]
-    fn a_step_cut_short_is_not_played() {
-        let trace = [0x00, 0x00, 0x00, 0x01, 0x00, 0x02, 0x00, 0x80];
-        let report = play(&trace, 9, &mut ());
-        assert_eq!(report.steps, 1);
-        assert_eq!(ending(&trace, 9), (8, 7));
-        assert_eq!(ending(&trace[..7], 9), (8, 7));
-        assert_eq!(ending(&trace[..6], 9), (8, 6));
-        assert_eq!(ending(&trace[..5], 9), (0, 5));
-    }
-
-    #[test]
-    fn a_privilege_number_has_its_place() {
-        let trace = [
-            0x03, 0x01, 0x00, 0x01, 0x02, 0x00, 0x00, 0x05, 0x03, 0x7F, 0x01,
-        ];
-        let ends = [
-            (0, 1),
-            (8, 2),
-            (8, 3),
-            (0, 4),
-            (8, 5),
-            (8, 6),
-            (8, 7),
-            (0, 8),
-            (8, 9),
-            (8, 10),
-            (0, 11),
-        ];
-        for (length, end) in (1..).zip(ends) {
-            assert_eq!(ending(&trace[..length], 9), end, "{length} bytes");
-        }
-        assert_eq!(play(&trace, 9, &mut ()).steps, 3);
-    }
-
-    #[test]
-    fn the_limit_counts_only_if_bytes_remain() {
-        let trace = [0x00, 0x00, 0x00, 0x01, 0x00, 0x01, 0x01];
-        assert_eq!(ending(&trace, 2), (0, 7));
-        assert_eq!(ending(&trace, 1), (7, 5));
-        assert_eq!(ending(&trace, 0), (7, 3));
-        assert_eq!(ending(&trace[..3], 0), (0, 3));
-        assert_eq!(ending(&trace[..2], 0), (8, 2));
-        assert_eq!(ending(&[0x00, 0x00, 0x00, 0x80], 0), (7, 3));
-        assert_eq!(ending(&[0x00, 0x00, 0x00, 0x09], 0), (7, 3));
+        assert_eq!(count, 85);
     }
 
     #[test]

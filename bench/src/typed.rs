@@ -127,11 +127,6 @@ mod tests {
 
     #[test]
     fn statements_are_their_numbers() {
-        let text = "# a question\naic 0 0x80\r\n\n\twrite 0X0 1 # no\n";
-        assert_eq!(
-            refused(text),
-            "line 4: a number of at most 32 bits was expected as word 2\n"
-        );
         let text = "aic 0 0x80\r\n\n\twrite 0x120 32#1\nread 4294967295\nline 007 1";
         let bytes = encode(text.as_bytes()).expect("it is of the form");
         assert_eq!(
@@ -146,24 +141,26 @@ mod tests {
 
     #[test]
     fn refusals_tell_line_and_word() {
-        assert_eq!(refused(""), format!("line 1: {}\n", no_controller()));
-        assert_eq!(
-            refused("# nothing\n\n"),
-            format!("line 3: {}\n", no_controller())
-        );
-        assert_eq!(refused("read 0"), format!("line 1: {}\n", no_controller()));
-        assert_eq!(
-            refused("aintc\naintc"),
-            "line 2: a step was expected: read, write or line\n"
-        );
-        assert_eq!(
-            refused("aic 0 0\nread 4294967296"),
-            "line 2: a number of at most 32 bits was expected as word 2\n"
-        );
-        assert_eq!(
-            refused("aic 0 0 0"),
-            "line 1: the end of the line was expected before word 4\n"
-        );
+        let number = "a number of at most 32 bits was expected as word 2";
+        let step = "a step was expected: read, write or line";
+        let end = "the end of the line was expected before word 4";
+        let controller = no_controller();
+        let cases = [
+            (
+                "# a question\naic 0 0x80\r\n\n\twrite 0X0 1 # no\n",
+                4,
+                number,
+            ),
+            ("", 1, &controller),
+            ("# nothing\n\n", 3, &controller),
+            ("read 0", 1, &controller),
+            ("aintc\naintc", 2, step),
+            ("aic 0 0\nread 4294967296", 2, number),
+            ("aic 0 0 0", 1, end),
+        ];
+        for (text, line, why) in cases {
+            assert_eq!(refused(text), format!("line {line}: {why}\n"));
+        }
     }
 
     #[test]
@@ -171,19 +168,13 @@ mod tests {
         let steps = |count| {
             "aintc\n".to_owned() + &"read 0 0\n".repeat(count) + "line 4294967295 4294967295\n"
         };
-        assert_eq!(
-            encode(steps(21_841).as_bytes()).map(|bytes| bytes.len()),
-            Ok(65_535)
-        );
-        assert_eq!(
-            refused(&steps(21_842)),
-            "line 21844: the trace is longer than 65536 bytes\n"
-        );
+        let most = encode(steps(21_841).as_bytes()).expect("it has room");
+        assert_eq!(most.len(), 65_535);
+        let longer = "line 21844: the trace is longer than 65536 bytes\n";
+        assert_eq!(refused(&steps(21_842)), longer);
         let padded = |count| "aintc\n".to_owned() + &" ".repeat(count);
         assert_eq!(encode(padded(LONGEST_TEXT - 6).as_bytes()), Ok(vec![3]));
-        assert_eq!(
-            refused(&padded(LONGEST_TEXT - 5)),
-            "line 2: the text is longer than 5242880 bytes\n"
-        );
+        let longer = "line 2: the text is longer than 5242880 bytes\n";
+        assert_eq!(refused(&padded(LONGEST_TEXT - 5)), longer);
     }
 }

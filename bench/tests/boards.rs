@@ -1,4 +1,4 @@
-//! Boards: the model against 02, 8/12 and the decided points, one test for each; against a second evaluation on
+//! Boards: the model against 02, 8/12 and the decided points, worked by hand; against a second evaluation on
 //! generated boards; and that the reader of transcripts finds wrong models, spoiled lines and gaps.
 
 #[path = "boards/second.rs"]
@@ -10,10 +10,10 @@ use std::process::{Command, Output, Stdio};
 
 use bench::boards::coverage::{Coverage, Item};
 use bench::boards::generate::{script, unsound, Script};
+use bench::boards::text::{lines, Line};
 use bench::boards::{ask, replay};
-use bench::model::board::{Board, Outputs, Wire};
+use bench::model::board::{Board, Wire};
 use bench::model::core::Side;
-use bench::model::Refusal::{self, *};
 use bench::tally::Listed;
 
 use second::{Second, Slip};
@@ -21,278 +21,26 @@ use second::{Second, Slip};
 /// As many boards as reach every listed item, and as are asked of the second evaluation.
 const BOARDS: u64 = 400;
 
-const SOFT: u32 = 0x18;
-const ENABLE: u32 = 0x20;
-const RAW: u32 = 0x28;
-const STATUS: u32 = 0x2C;
-const FIQ_ENABLE: u32 = 0x08;
-const FIQ_STATUS: u32 = 0x14;
+/// The decided points worked by hand, as a transcript with a board for each: what is asked, and behind the colon the
+/// refusal, 0 where there is none, and the values.
+const POINTS: &str = include_str!("boards/points.txt");
 
-const fn irq(other: u32) -> Wire {
-    Wire::Output(Side::Irq, other)
-}
-
-const fn fiq(other: u32) -> Wire {
-    Wire::Output(Side::Fiq, other)
-}
-
-/// A board of so many controllers with all sources, whose outputs are active low, all sources enabled.
-fn board_of(controllers: u32) -> Board {
-    let mut board = Board::new();
-    for controller in 0..controllers {
-        assert_eq!(board.add(8, 32, 0, 0), Ok(controller));
-        for offset in [FIQ_ENABLE, ENABLE] {
-            assert_eq!(board.write(controller, offset, u32::MAX), Ok(0));
+/// A refused call changes nothing, and the second evaluation answers alike.
+#[test]
+fn the_decided_points_are_as_they_were_worked() {
+    let (mut board, mut second, mut boards) = (Board::new(), Second::new(None), 0);
+    for line in lines(POINTS) {
+        match line.expect("the line can be read") {
+            Line::Call(call, reply) => {
+                let before = board.clone();
+                assert_eq!(ask(&mut board, &call), reply, "{call:?}");
+                assert_eq!(second.ask(&call), reply, "{call:?}");
+                assert!(reply.refusal == 0 || board == before, "{call:?}");
+            }
+            _ => (board, second, boards) = (Board::new(), Second::new(None), boards + 1),
         }
     }
-    board
-}
-
-/// Wires that must be taken.
-fn wired(board: &mut Board, wires: &[(u32, u32, Wire)]) {
-    for &(controller, input, wire) in wires {
-        assert_eq!(board.connect(controller, input, wire), Ok(0));
-    }
-}
-
-/// Whether IRQ and FIQ of a controller are active.
-fn active(board: &Board, controller: u32) -> (bool, bool) {
-    let outputs = board.outputs(controller).expect("the controller is there");
-    (outputs.irq_active, outputs.fiq_active)
-}
-
-/// A call that is refused and leaves the board as it was.
-fn refused<T: std::fmt::Debug + PartialEq>(
-    board: &mut Board,
-    call: impl FnOnce(&mut Board) -> Result<T, Refusal>,
-    refusal: Refusal,
-) {
-    let before = board.clone();
-    assert_eq!(call(board), Err(refusal));
-    assert_eq!(*board, before);
-}
-
-mod points {
-    use super::*;
-
-    #[test]
-    fn the_numbers_of_controllers_are_those_that_are_there() {
-        let mut board = board_of(3);
-        refused(&mut board, |board| board.connect(1, 0, irq(3)), OutOfRange);
-        refused(&mut board, |board| board.connect(1, 0, irq(2)), NotLower);
-        refused(&mut board, |board| board.connect(3, 0, irq(0)), OutOfRange);
-        refused(
-            &mut board,
-            |board| board.connect(7, 0, Wire::Nothing),
-            OutOfRange,
-        );
-        assert_eq!(board.connect(2, 0, irq(1)), Ok(0));
-        refused(&mut board, |board| board.chain(3), OutOfRange);
-        refused(&mut board, |board| board.outputs(3), OutOfRange);
-        refused(&mut board, |board| board.input(3, 0), OutOfRange);
-        refused(&mut board, |board| board.read(3, RAW), OutOfRange);
-        refused(&mut board, |board| board.write(3, SOFT, 1), OutOfRange);
-    }
-
-    #[test]
-    fn inputs_end_at_39_and_pins_at_319_whatever_the_counts() {
-        let mut board = Board::new();
-        assert_eq!(board.add(0, 0, 1, 1), Ok(0));
-        for (input, pin) in [(0, 0), (31, 1), (32, 318), (39, 319)] {
-            wired(&mut board, &[(0, input, Wire::Pin(pin))]);
-            assert_eq!(board.put_pin(pin, 1), Ok(0));
-            assert_eq!(board.input(0, input), Ok(true));
-        }
-        refused(
-            &mut board,
-            |board| board.connect(0, 40, Wire::Pin(0)),
-            OutOfRange,
-        );
-        refused(
-            &mut board,
-            |board| board.connect(0, 39, Wire::Pin(320)),
-            OutOfRange,
-        );
-        refused(&mut board, |board| board.input(0, 40), OutOfRange);
-        refused(&mut board, |board| board.put_pin(320, 0), OutOfRange);
-        refused(&mut board, |board| board.put_pin(319, 2), OutOfRange);
-    }
-
-    #[test]
-    fn six_comes_before_fifteen_and_before_the_controllers_own() {
-        let mut board = board_of(2);
-        refused(&mut board, |board| board.connect(1, 40, irq(1)), OutOfRange);
-        refused(&mut board, |board| board.connect(2, 0, irq(2)), OutOfRange);
-        refused(&mut board, |board| board.connect(0, 0, fiq(2)), OutOfRange);
-        refused(&mut board, |board| board.connect(0, 39, fiq(0)), NotLower);
-        refused(&mut board, |board| board.connect(0, 0, fiq(1)), NotLower);
-        for (offset, refusal) in [(1, Misaligned), (0x30, NoRegister), (0x1C, WriteOnly)] {
-            refused(&mut board, |board| board.read(1, offset), refusal);
-            refused(&mut board, |board| board.read(2, offset), OutOfRange);
-        }
-        for (offset, refusal) in [(2, Misaligned), (0x34, NoRegister), (STATUS, ReadOnly)] {
-            refused(&mut board, |board| board.write(1, offset, 1), refusal);
-            refused(&mut board, |board| board.write(2, offset, 1), OutOfRange);
-        }
-    }
-
-    #[test]
-    fn fifteen_is_given_on_an_unused_input_too() {
-        let mut board = Board::new();
-        assert_eq!(board.add(0, 1, 0, 0), Ok(0));
-        assert_eq!(board.add(0, 1, 0, 0), Ok(1));
-        refused(&mut board, |board| board.connect(0, 1, irq(0)), NotLower);
-        refused(&mut board, |board| board.connect(0, 39, fiq(1)), NotLower);
-    }
-
-    #[test]
-    fn a_ninth_is_refused_before_its_configuration() {
-        let mut board = Board::new();
-        for bad in [[9, 0, 0, 0], [0, 33, 0, 0], [0, 0, 2, 0], [0, 0, 0, 2]] {
-            let add = |board: &mut Board| board.add(bad[0], bad[1], bad[2], bad[3]);
-            refused(&mut board, add, BadConfiguration);
-        }
-        for number in 0..8 {
-            assert_eq!(board.add(8, 32, 1, 1), Ok(number));
-        }
-        refused(&mut board, |board| board.add(8, 32, 1, 1), OutOfRange);
-        refused(&mut board, |board| board.add(9, 32, 1, 1), OutOfRange);
-    }
-
-    #[test]
-    fn a_new_controller_hears_nothing_and_wiring_anew_replaces() {
-        let mut board = board_of(2);
-        assert_eq!(board.put_pin(0, 1), Ok(0));
-        assert_eq!(active(&board, 1), (false, false));
-        wired(&mut board, &[(1, 0, Wire::Pin(0))]);
-        assert_eq!(active(&board, 1), (true, false));
-        wired(&mut board, &[(1, 0, Wire::Pin(1))]);
-        assert_eq!(active(&board, 1), (false, false));
-        wired(&mut board, &[(1, 0, Wire::Pin(0)), (1, 0, Wire::Nothing)]);
-        assert_eq!(active(&board, 1), (false, false));
-    }
-
-    #[test]
-    fn a_wire_carries_the_activity_and_not_the_level() {
-        for level in [0, 1] {
-            let mut board = Board::new();
-            assert_eq!(board.add(1, 1, level, level), Ok(0));
-            assert_eq!(board.add(0, 2, level, level), Ok(1));
-            wired(
-                &mut board,
-                &[(1, 0, irq(0)), (1, 1, fiq(0)), (0, 0, Wire::Pin(7))],
-            );
-            assert_eq!(board.write(0, ENABLE, 1), Ok(0));
-            assert_eq!(board.read(1, RAW), Ok(0));
-            let idle = Outputs {
-                irq_active: false,
-                fiq_active: false,
-                irq_level: level == 0,
-                fiq_level: level == 0,
-            };
-            assert_eq!(board.outputs(0), Ok(idle));
-            assert_eq!(board.put_pin(7, 1), Ok(0));
-            assert_eq!(board.read(1, RAW), Ok(1));
-            let busy = Outputs {
-                irq_active: true,
-                irq_level: level == 1,
-                ..idle
-            };
-            assert_eq!(board.outputs(0), Ok(busy));
-            assert_eq!(board.input(1, 0), Ok(true));
-            assert_eq!(board.input(1, 1), Ok(false));
-        }
-    }
-
-    #[test]
-    fn an_unused_input_has_a_value_and_a_chain_and_no_effect() {
-        let mut board = Board::new();
-        assert_eq!(board.add(1, 1, 1, 1), Ok(0));
-        assert_eq!(board.add(1, 1, 1, 1), Ok(1));
-        assert_eq!(board.write(0, SOFT, 1), Ok(0));
-        for (controller, offset) in [(0, ENABLE), (1, ENABLE), (1, FIQ_ENABLE)] {
-            assert_eq!(board.write(controller, offset, u32::MAX), Ok(0));
-        }
-        wired(&mut board, &[(1, 1, irq(0)), (1, 33, irq(0))]);
-        assert_eq!(board.input(1, 1), Ok(true));
-        assert_eq!(board.input(1, 33), Ok(true));
-        assert_eq!(board.read(1, RAW), Ok(0));
-        assert_eq!(active(&board, 1), (false, false));
-        assert_eq!(board.chain(1), Ok(1));
-    }
-
-    #[test]
-    fn reads_are_those_of_the_controller_with_the_wired_values_as_its_lines() {
-        let mut board = board_of(2);
-        let wires = [
-            (1, 3, irq(0)),
-            (1, 31, fiq(0)),
-            (1, 34, fiq(0)),
-            (0, 39, Wire::Pin(5)),
-        ];
-        wired(&mut board, &wires);
-        assert_eq!(board.put_pin(5, 1), Ok(0));
-        assert_eq!(board.read(0, FIQ_STATUS), Ok(0x80));
-        assert_eq!(board.read(1, RAW), Ok(0x8000_0000));
-        assert_eq!(board.read(1, FIQ_STATUS), Ok(4));
-        assert_eq!(board.write(0, SOFT, 0x100), Ok(0));
-        assert_eq!(board.read(1, STATUS), Ok(0x8000_0008));
-        assert_eq!(board.write(1, ENABLE + 4, 8), Ok(0));
-        assert_eq!(board.read(1, STATUS), Ok(0x8000_0000));
-        assert_eq!(board.read(1, RAW), Ok(0x8000_0008));
-        assert_eq!(board.read(1, SOFT), Ok(0));
-        assert_eq!(board.put_pin(5, 0), Ok(0));
-        assert_eq!(board.read(1, RAW), Ok(8));
-    }
-
-    #[test]
-    fn a_pin_goes_all_the_way_up() {
-        let mut board = board_of(8);
-        wired(&mut board, &[(0, 0, Wire::Pin(319))]);
-        for controller in 1..8 {
-            let wire = if controller % 2 == 1 {
-                irq(controller - 1)
-            } else {
-                fiq(controller - 1)
-            };
-            let input = if controller % 2 == 1 { 32 } else { 0 };
-            wired(&mut board, &[(controller, input, wire)]);
-        }
-        let all = |board: &Board| {
-            (0..8)
-                .map(|number| active(board, number))
-                .collect::<Vec<_>>()
-        };
-        assert_eq!(all(&board), [(false, false); 8]);
-        assert_eq!(board.put_pin(319, 1), Ok(0));
-        assert_eq!(all(&board), [[(true, false), (false, true)]; 4].concat());
-        assert_eq!(board.write(4, ENABLE + 4, 1), Ok(0));
-        let half = [[(true, false), (false, true)]; 2].concat();
-        assert_eq!(all(&board), [half, [(false, false); 4].to_vec()].concat());
-    }
-
-    #[test]
-    fn a_chain_counts_the_longest_way_and_not_itself() {
-        let mut board = board_of(8);
-        let chains = |board: &Board| (0..8).map(|number| board.chain(number)).collect::<Vec<_>>();
-        assert_eq!(chains(&board), [Ok(0); 8]);
-        let wires = [
-            (3, 0, irq(0)),
-            (3, 1, irq(1)),
-            (3, 2, irq(2)),
-            (4, 39, fiq(3)),
-            (4, 38, fiq(3)),
-            (4, 37, irq(0)),
-            (7, 5, fiq(4)),
-            (7, 6, fiq(6)),
-            (7, 7, Wire::Pin(0)),
-        ];
-        wired(&mut board, &wires);
-        let told = [0, 0, 0, 1, 2, 0, 0, 3].map(Ok);
-        assert_eq!(chains(&board), told);
-        wired(&mut board, &[(4, 38, Wire::Nothing), (4, 39, Wire::Pin(1))]);
-        assert_eq!(board.chain(7), Ok(2));
-    }
+    assert_eq!(boards, 12);
 }
 
 /// How many activities the pair of `board_wires` asks for, to tell that of a controller, itself among them: each lower
@@ -311,18 +59,19 @@ fn asked(board: &Board, controller: usize) -> u32 {
 
 #[test]
 fn the_highest_of_eight_asks_for_at_most_128_activities() {
-    let mut board = board_of(8);
-    for controller in 1..8 {
-        wired(&mut board, &[(controller, 0, irq(controller - 1))]);
-    }
-    assert_eq!(asked(&board, 7), 8, "a chain");
+    let mut board = Board::new();
+    (0..8).for_each(|number| assert_eq!(board.add(8, 32, 0, 0), Ok(number)));
+    let mut connect = |controller, input, side, other| {
+        let wire = Wire::Output(side, other);
+        assert_eq!(board.connect(controller, input, wire), Ok(0));
+        asked(&board, 7)
+    };
+    let chain = (1..8).map(|controller| connect(controller, 0, Side::Irq, controller - 1));
+    assert_eq!(chain.last(), Some(8));
     for (controller, other) in (1..8).flat_map(|upper| (0..upper).map(move |lower| (upper, lower)))
     {
-        let twice = [
-            (controller, other, irq(other)),
-            (controller, 32 + other, fiq(other)),
-        ];
-        wired(&mut board, &twice);
+        connect(controller, other, Side::Irq, other);
+        connect(controller, 32 + other, Side::Fiq, other);
     }
     let all: Vec<u32> = (0..8).map(|number| asked(&board, number)).collect();
     assert_eq!(all, [1, 2, 4, 8, 16, 32, 64, 128]);
@@ -332,10 +81,7 @@ fn the_highest_of_eight_asks_for_at_most_128_activities() {
 fn no_generated_board_asks_for_more() {
     let mut most = 0;
     for script in scripts() {
-        let mut board = Board::new();
-        for call in &script.calls {
-            ask(&mut board, call);
-        }
+        let board = played(&script);
         for number in 0..board.controllers() {
             assert!(asked(&board, number) <= 1 << number, "{}", script.title);
             most = most.max(asked(&board, number));
@@ -347,6 +93,15 @@ fn no_generated_board_asks_for_more() {
 /// The boards that are asked.
 fn scripts() -> impl Iterator<Item = Script> {
     (0..BOARDS).map(|number| script(1, number))
+}
+
+/// The model's board after a script.
+fn played(script: &Script) -> Board {
+    let mut board = Board::new();
+    for call in &script.calls {
+        ask(&mut board, call);
+    }
+    board
 }
 
 /// What a second board answers to a script.
@@ -383,10 +138,7 @@ fn bettered(board: &Board, guess: &[[bool; 2]]) -> Vec<[bool; 2]> {
 #[test]
 fn only_one_set_of_activities_agrees_with_the_wires() {
     for script in scripts() {
-        let mut board = Board::new();
-        for call in &script.calls {
-            ask(&mut board, call);
-        }
+        let board = played(&script);
         let settled = board.settled();
         let found = settled
             .iter()
@@ -485,27 +237,21 @@ fn read(transcript: &str, words: &[&str]) -> Output {
 fn the_exit_status_of_the_reader_tells() {
     let status = |transcript: &str, words: &[&str]| read(transcript, words).status.code();
     let whole: String = scripts().map(|script| script.right()).collect::<String>() + &unsound();
-    assert_eq!(status(&whole, &[]), Some(0));
-    assert_eq!(status(&whole, &["400"]), Some(0));
-    assert_eq!(
-        status(&whole, &["401"]),
-        Some(1),
-        "fewer boards than wanted"
-    );
-    assert_eq!(status(&whole, &["many"]), Some(2));
-    assert_eq!(status("", &[]), Some(1), "an empty transcript");
-    assert_eq!(
-        status(&script(1, 9).right(), &[]),
-        Some(1),
-        "a gap in coverage"
-    );
-    assert_eq!(
-        status(&whole[..whole.len() - 1], &[]),
-        Some(1),
-        "a cut line"
-    );
-    let wrong = whole.replacen(" controllers\n", " controller\n", 1);
-    assert_eq!(status(&wrong, &[]), Some(1), "a line that cannot be read");
+    let unreadable = whole.replacen(" controllers\n", " controller\n", 1);
+    let gaps = script(1, 9).right();
+    let cut = &whole[..whole.len() - 1];
+    for (what, transcript, words, code) in [
+        ("all is right", whole.as_str(), &[][..], 0),
+        ("as many boards as wanted", &whole, &["400"], 0),
+        ("fewer boards than wanted", &whole, &["401"], 1),
+        ("no number", &whole, &["many"], 2),
+        ("an empty transcript", "", &[], 1),
+        ("a gap in coverage", &gaps, &[], 1),
+        ("a cut line", cut, &[], 1),
+        ("a line that cannot be read", &unreadable, &[], 1),
+    ] {
+        assert_eq!(status(transcript, words), Some(code), "{what}");
+    }
 }
 
 #[test]

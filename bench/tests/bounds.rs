@@ -1,8 +1,6 @@
-//! The bounds of waits and the keeping of tables: worked by hand, a second count step by step with wrong ways beside it,
-//! and on generated traces what is promised of both.
+//! The bounds of waits and the keeping of tables: tables worked by hand, a second count step by step with wrong ways
+//! beside it, and on generated traces what is promised of both.
 
-#[path = "bounds/points.rs"]
-mod points;
 #[path = "bounds/tables.rs"]
 mod tables;
 #[path = "bounds/wrong.rs"]

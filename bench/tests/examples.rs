@@ -27,16 +27,22 @@ const AS_BYTES: [&str; 6] = [
 
 /// The traces.
 fn examples() -> Examples {
-    let mut examples = all();
-    examples.retain(|_, files| !files.contains_key("table"));
-    examples
+    let all = all().into_iter();
+    all.filter(|(_, files)| !files.contains_key("table"))
+        .collect()
 }
 
 /// The typed tables.
 fn tables() -> Examples {
-    let mut examples = all();
-    examples.retain(|_, files| files.contains_key("table"));
-    examples
+    let all = all().into_iter();
+    all.filter(|(_, files)| files.contains_key("table"))
+        .collect()
+}
+
+/// Bytes that differ are told as text.
+fn same(there: &[u8], expected: &[u8], name: &str) {
+    let [there, expected] = [there, expected].map(|bytes| bytes.escape_ascii().to_string());
+    assert_eq!(there, expected, "{name}");
 }
 
 fn all() -> Examples {
@@ -82,15 +88,13 @@ fn waves_and_pictures_are_what_the_model_says() {
         let trace = &files["trace"];
         if let Some(dump) = files.get("vcd") {
             let expected = waves::write(&waves::waves(trace, PROGRAM_LIMIT));
-            let (there, expected) = (dump.escape_ascii(), expected.escape_ascii());
-            assert_eq!(there.to_string(), expected.to_string(), "{name}");
+            same(dump, &expected, &name);
             dumps += 1;
         }
         if let Some(drawn) = files.get("svg") {
             let nesting = picture::nesting(trace, PROGRAM_LIMIT, 1, picture::MOST_STEPS);
             let expected = picture::write(&nesting.expect("it is of an AIC"));
-            let (there, expected) = (drawn.escape_ascii(), expected.escape_ascii());
-            assert_eq!(there.to_string(), expected.to_string(), "{name}");
+            same(drawn, &expected, &name);
             pictures += 1;
         }
     }
@@ -112,11 +116,7 @@ fn each_trace_is_what_its_text_says() {
 fn each_listing_is_what_the_model_says() {
     for (name, files) in examples() {
         let expected = listing(&files["trace"], PROGRAM_LIMIT);
-        let (expected, there) = (
-            String::from_utf8_lossy(&expected),
-            String::from_utf8_lossy(&files["listing"]),
-        );
-        assert_eq!(there, expected, "{name}");
+        same(&files["listing"], &expected, &name);
     }
 }
 
@@ -185,11 +185,7 @@ fn each_table_has_its_line() {
             }
         }
         assert!(name.starts_with("stack-"), "{name}");
-        let (there, expected) = (&files["line"], line(&files["table"]));
-        assert_eq!(
-            there.escape_ascii().to_string(),
-            expected.escape_ascii().to_string()
-        );
+        same(&files["line"], &line(&files["table"]), &name);
     }
 }
 

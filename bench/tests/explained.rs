@@ -7,11 +7,8 @@ mod registers;
 #[path = "explained/wrong.rs"]
 mod wrong;
 
-use bench::compare::Subject;
-use bench::explained::reached::Coverage;
 use bench::explained::{explain, Asked};
 use bench::numbered::Numbered;
-use bench::tally::Listed;
 use bench::trace::PROGRAM_LIMIT;
 use bench::typed::encode;
 
@@ -44,20 +41,4 @@ fn comments(text: &str) -> Vec<String> {
         rest.strip_prefix("; ").unwrap_or(rest).trim().to_owned()
     });
     comments.collect()
-}
-
-/// What is said of the last step of a text.
-fn last(text: &str) -> String {
-    comments(text).pop().expect("there is a step")
-}
-
-#[test]
-fn the_sweeps_alone_reach_every_item() {
-    let generator = Numbered::<Asked>::new(1);
-    let mut coverage = Coverage::default();
-    for (_, asked) in generator.cases(0..generator.sweeps()) {
-        asked.by_model(&mut coverage);
-    }
-    assert_eq!(coverage.gaps(), []);
-    assert_eq!(Coverage::listed_twice(), []);
 }

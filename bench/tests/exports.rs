@@ -1,6 +1,9 @@
 //! The proved library through its C functions: only built where it is linked in, with the feature `exports`.
 #![cfg(feature = "exports")]
 
+#[path = "exports/kept.rs"]
+mod kept;
+
 use std::collections::BTreeMap;
 use std::fmt::Debug;
 use std::mem::{align_of, offset_of, size_of};
@@ -13,7 +16,7 @@ use bench::generate::{Case, Generator, Script};
 use bench::listing::listing;
 use bench::looked::{looked, Question};
 use bench::model::core::CoreInterrupt;
-use bench::model::{Controller, Refusal, Step};
+use bench::model::{Answer, Controller, Refusal, Step};
 use bench::numbered::{Made, Numbered};
 use bench::random::Random;
 use bench::report::ending;
@@ -32,25 +35,28 @@ fn answers_as_the_model_does<S: Subject + Made + Debug>(more: usize) {
     }
 }
 
+/// Listings, explanations, figures, stacks of tables and the words that a read looks at.
 #[test]
-fn the_library_lists_as_the_model_does() {
+fn the_library_answers_as_the_model_does() {
     answers_as_the_model_does::<Case>(500);
-}
-
-#[test]
-fn the_library_explains_as_the_model_does() {
     answers_as_the_model_does::<Asked>(500);
+    answers_as_the_model_does::<Counted>(2_000);
+    answers_as_the_model_does::<Typed>(2_000);
+    answers_as_the_model_does::<Question>(3_000);
 }
 
-/// A text is written as far as there is room, into rooms of every size.
+/// A text is written as far as there is room, and the room behind it is left alone.
+fn fills(whole: &[u8], room: usize, write: impl Fn(&mut [u8]) -> usize) {
+    let mut buffer = vec![0xA5; room];
+    let written = write(&mut buffer);
+    assert_eq!(written, room.min(whole.len()));
+    assert_eq!(buffer[..written], whole[..written]);
+    assert!(buffer[written..].iter().all(|&byte| byte == 0xA5));
+}
+
+/// The same into rooms of every size.
 fn fills_any_room(whole: &[u8], write: impl Fn(&mut [u8]) -> usize) {
-    for room in 0..whole.len() + 3 {
-        let mut buffer = vec![0xA5; room];
-        let written = write(&mut buffer);
-        assert_eq!(written, room.min(whole.len()));
-        assert_eq!(buffer[..written], whole[..written]);
-        assert!(buffer[written..].iter().all(|&byte| byte == 0xA5));
-    }
+    (0..whole.len() + 3).for_each(|room| fills(whole, room, &write));
 }
 
 #[test]
@@ -71,38 +77,15 @@ fn steps_and_endings_are_those_of_the_model() {
     for number in 0..generator.sweeps() + 500 {
         let case = generator.case(number);
         let report = play(&case.trace, case.limit, &mut ());
-        assert_eq!(
-            steps_of(&case.trace, case.limit),
-            report.steps,
-            "case {number}"
-        );
-        assert_eq!(
-            ending_of(&case.trace, case.limit),
-            ending(&report),
-            "case {number}"
-        );
+        let steps = steps_of(&case.trace, case.limit);
+        let end = ending_of(&case.trace, case.limit);
+        assert_eq!((steps, end), (report.steps, ending(&report)), "{number}");
     }
 }
 
-#[test]
-fn the_library_counts_as_the_model_does() {
-    answers_as_the_model_does::<Counted>(2_000);
-}
-
-#[test]
-fn the_library_says_the_stack_of_a_table_as_the_model_does() {
-    answers_as_the_model_does::<Typed>(2_000);
-}
-
-/// The line of a text, into a room of so many bytes: its first bytes, and the room behind them untouched.
+/// The line of a text, into a room of so many bytes.
 fn stack_line(text: &[u8], room: usize) {
-    let whole = line(text);
-    let mut buffer = vec![0xA5; room];
-    let written = stack_into(text, &mut buffer);
-    let said = text.escape_ascii();
-    assert_eq!(written, room.min(whole.len()), "{said}");
-    assert_eq!(buffer[..written], whole[..written], "{said}");
-    assert!(buffer[written..].iter().all(|&byte| byte == 0xA5), "{said}");
+    fills(&line(text), room, |out| stack_into(text, out));
 }
 
 #[test]
@@ -110,13 +93,7 @@ fn a_line_is_written_as_far_as_there_is_room() {
     let largest = format!("{}65535", "7 3 65535 ".repeat(32) + "0 ");
     let beyond = "8 ".repeat(98);
     let long = " ".repeat(65_537);
-    for text in [
-        largest.as_str(),
-        beyond.as_str(),
-        long.as_str(),
-        &long[1..],
-        "",
-    ] {
+    for text in [largest.as_str(), &beyond, &long, &long[1..], ""] {
         (0..20).for_each(|room| stack_line(text.as_bytes(), room));
     }
 }
@@ -125,15 +102,9 @@ fn a_line_is_written_as_far_as_there_is_room() {
 #[test]
 fn every_character_counts_as_in_the_model() {
     for byte in 0..=u8::MAX {
-        for around in [
-            ("", ""),
-            ("1", ""),
-            ("", "1"),
-            ("0", "1"),
-            ("0x", "1"),
-            ("0x1", " "),
-        ] {
-            let word = [around.0.as_bytes(), &[byte], around.1.as_bytes()].concat();
+        for around in ["|", "1|", "|1", "0|1", "0x|1", "0x1| "] {
+            let (before, after) = around.split_once('|').expect("a byte stands between");
+            let word = [before.as_bytes(), &[byte], after.as_bytes()].concat();
             let first = [&word, b" ".as_slice(), "0 ".repeat(97).as_bytes()].concat();
             let last = ["0 ".repeat(97).as_bytes(), &word].concat();
             let behind = ["0 ".repeat(98).as_bytes(), &word].concat();
@@ -142,11 +113,6 @@ fn every_character_counts_as_in_the_model() {
                 .for_each(|text| stack_line(text, 40));
         }
     }
-}
-
-#[test]
-fn the_library_looks_at_as_many_words_as_the_model_does() {
-    answers_as_the_model_does::<Question>(3_000);
 }
 
 /// Every limit and every offset of a trace that holds, ends the hold and clears.
@@ -206,10 +172,8 @@ fn the_words_of_a_lent_record_lie_as_the_header_says() {
     assert_eq!((size_of::<Reply>(), offset_of!(Reply, value)), (8, 4));
     // The library has them there too: each word is given a value of its own, by the start or by a step.
     let mut core = core_of([u32::MAX; 10]);
-    let taken = Reply {
-        refusal: 0,
-        value: 0,
-    };
+    let (refusal, value) = (0, 0);
+    let taken = Reply { refusal, value };
     assert_eq!(core_start(&mut core, [7, 31, 1, 0]), taken);
     assert_eq!(core, core_of([7, 1, 0, 0, 0, 31, 0, 0, 0, 0]));
     for step in [
@@ -240,18 +204,14 @@ fn any_told(random: &mut Random) -> [u32; 3] {
     }
 }
 
-/// The model's answer, its own state moved; 9 for what is no step.
-fn told_to_model(core: &mut CoreInterrupt, [kind, first, second]: [u32; 3]) -> Reply {
+/// The model's answer to a step told by numbers, a refusal and a value; 9 for what is no step.
+fn told_to_model([kind, x, y]: [u32; 3], take: impl FnOnce(Step) -> Answer) -> Reply {
+    let [offset, line] = [x; 2];
+    let [value, level] = [y; 2];
     let answer = match kind {
-        1 => core.step(Step::Read { offset: first }),
-        2 => core.step(Step::Write {
-            offset: first,
-            value: second,
-        }),
-        3 => core.step(Step::Line {
-            line: first,
-            level: second,
-        }),
+        1 => take(Step::Read { offset }),
+        2 => take(Step::Write { offset, value }),
+        3 => take(Step::Line { line, level }),
         _ => Err(Refusal::UnknownKind),
     };
     Reply {
@@ -279,11 +239,8 @@ fn a_lent_record_steps_as_the_model_does() {
             let told = any_told(random);
             let before = lent;
             let reply = core_step(&mut lent, told);
-            assert_eq!(
-                reply,
-                told_to_model(&mut model, told),
-                "{before:?}, {told:?}"
-            );
+            let expected = told_to_model(told, |step| model.step(step));
+            assert_eq!(reply, expected, "{before:?}, {told:?}");
             assert_eq!(lent, LentCore::from(&model), "{before:?}, {told:?}");
             if reply.refusal != 0 {
                 assert_eq!((lent, reply.value), (before, 0), "{told:?}");

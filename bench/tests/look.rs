@@ -9,6 +9,8 @@ mod readings;
 #[path = "look/texts.rs"]
 mod texts;
 
+use std::fmt::Display;
+
 use bench::look::Generator;
 
 /// How many traces are tried, of which the first are the sweeps.
@@ -31,14 +33,9 @@ fn begins(trace: &[u8]) -> String {
 }
 
 /// Tells how often each was found, and wants each to be found at all.
-fn all_found(what: &str, found: &[(&str, usize)]) {
+fn all_found(what: &str, found: &[(impl Display, usize)]) {
     for (name, count) in found {
         println!("{what}: {name}: found {count} times");
+        assert!(*count > 0, "{what}: never found: {name}");
     }
-    let missed: Vec<&str> = found
-        .iter()
-        .filter(|(_, count)| *count == 0)
-        .map(|(name, _)| *name)
-        .collect();
-    assert!(missed.is_empty(), "{what}: never found: {missed:?}");
 }

@@ -4,6 +4,7 @@
 
 use bench::generate::aic::{CLEAR, DCR, EOICR, IVR, SET};
 use bench::generate::Generator;
+use bench::listed;
 use bench::model::aic::{Aic, Selection};
 use bench::model::{Answer, Controller, Machine, Recorded, Refusal, Step};
 use bench::trace::{play, Observer};
@@ -67,12 +68,103 @@ impl Wrong {
         self.aic.remember_instead(None);
         self.right(step)
     }
+}
 
-    /// The write of IVR, which spends the edge of a source that it starts unless that is to be kept.
-    fn keeping_the_edge(&mut self, step: Step, keep: impl Fn(&Wrong, usize) -> bool) -> Answer {
-        let kept = self.starts(step).filter(|&number| {
-            let number = usize::from(number);
-            self.aic.sources()[number].memory && keep(self, number)
+listed! {
+    /// One way to go wrong.
+    #[derive(Clone, Copy, Debug, PartialEq, Eq)]
+    enum Slip {
+        WriteStartsTheBestOfNow, LevelIsThatOfNow, LookClearsTheMemory, LookOpens, SecondReadDoesNotReplace,
+        SecondReadAnswersWhatIsRemembered, LeavingKeeps, StayingForgets, TurningTheMaskForgets, NoneIsNotForgotten,
+        NoneIsNotForgottenWithEightOpen, SourceIsNotForgotten, NoneOpensNothing, NoneStartsWhatCameSince,
+        WriteOutsideTheModeStarts, WriteWithNothingStarts, WriteWithNothingOpensAMark, ClearedByTheTypeAtTheRead,
+        WriteKeepsTheMemory, WriteKeepsTheMemoryOfAForced, WhatHasGoneIsNotStarted, ClearForgets, EoicrForgets,
+        ModeDropsTheMask, Bit0OfDcrIsDropped, MarkHasTheLevelOfTheRead, Bit0OfDcrIsRefusedBy5
+    }
+}
+
+use Slip::*;
+
+/// What a step writes to DCR.
+fn debugged(step: Step) -> Option<u32> {
+    match step {
+        Step::Write { offset: DCR, value } => Some(value),
+        _ => None,
+    }
+}
+
+impl Wrong {
+    /// A step as it is carried out with a slip.
+    fn slipping(&mut self, slip: Slip, step: Step) -> Answer {
+        match slip {
+            _ if self.keeps(slip, step) => self.remembering(step),
+            _ if self.loses(slip, step) => self.forgetting(step),
+            _ if self.looks_again(slip, step) => {
+                self.right(LOOK)?;
+                self.right(step)
+            }
+            ClearedByTheTypeAtTheRead | WriteKeepsTheMemory | WriteKeepsTheMemoryOfAForced => {
+                self.keeping_the_edge(slip, step)
+            }
+            _ => self.otherwise(slip, step),
+        }
+    }
+
+    /// Whether the same is remembered after the step as before.
+    fn keeps(&self, slip: Slip, step: Step) -> bool {
+        match slip {
+            SecondReadDoesNotReplace => self.looks(step) && self.seen().is_some(),
+            LeavingKeeps => debugged(step).is_some_and(|value| value & 1 == 0),
+            NoneIsNotForgotten => self.marks(step),
+            NoneIsNotForgottenWithEightOpen => self.marks(step) && self.aic.is_full(),
+            SourceIsNotForgotten => self.starts(step).is_some(),
+            _ => false,
+        }
+    }
+
+    /// Whether all is forgotten before the step.
+    fn loses(&self, slip: Slip, step: Step) -> bool {
+        let started = self.starts(step).map(usize::from);
+        let masked = self.aic.masked();
+        match (slip, step) {
+            (StayingForgets, _) => debugged(step).is_some_and(|value| value & 1 == 1),
+            (TurningTheMaskForgets, _) => {
+                debugged(step).is_some_and(|value| (value & 2 == 2) != masked)
+            }
+            (NoneOpensNothing, _) => self.marks(step),
+            (WhatHasGoneIsNotStarted, _) => started.is_some_and(|n| !self.aic.candidate(n)),
+            (EoicrForgets, Step::Write { offset, .. }) => offset == EOICR,
+            (ClearForgets, Step::Write { offset, value }) if offset == CLEAR => match self.seen() {
+                Some(Selection::Source { number, .. }) => value >> number & 1 == 1,
+                _ => false,
+            },
+            _ => false,
+        }
+    }
+
+    /// Whether IVR is looked at once more before the step.
+    fn looks_again(&self, slip: Slip, step: Step) -> bool {
+        match slip {
+            WriteStartsTheBestOfNow => self.writes(step) && self.seen().is_some(),
+            NoneStartsWhatCameSince => self.marks(step),
+            WriteWithNothingStarts => self.writes(step) && self.seen().is_none(),
+            _ => false,
+        }
+    }
+
+    /// The write of IVR, which spends the edge of a source that it starts unless a slip keeps that.
+    fn keeping_the_edge(&mut self, slip: Slip, step: Step) -> Answer {
+        if self.looks(step) {
+            let best = self.aic.best();
+            self.edge_then = best.is_some_and(|n| self.aic.sources()[n].edge_triggered());
+        }
+        let kept = self.starts(step).map(usize::from).filter(|&number| {
+            let keeps = match slip {
+                ClearedByTheTypeAtTheRead => !self.edge_then,
+                WriteKeepsTheMemoryOfAForced => self.aic.fast(number),
+                _ => true,
+            };
+            self.aic.sources()[number].memory && keeps
         });
         let answer = self.right(step);
         if let Some(number) = kept {
@@ -80,219 +172,89 @@ impl Wrong {
         }
         answer
     }
-}
 
-type Slip = fn(&mut Wrong, Step) -> Answer;
-
-const SLIPS: [(&str, Slip); 27] = [
-    (
-        "the write starts the best candidate of now",
-        |wrong, step| {
-            if wrong.writes(step) && wrong.seen().is_some() {
-                wrong.right(LOOK)?;
+    /// What each of the rest does.
+    fn otherwise(&mut self, slip: Slip, step: Step) -> Answer {
+        let writes_ivr = matches!(step, Step::Write { offset: IVR, .. });
+        match (slip, debugged(step), self.seen()) {
+            (LevelIsThatOfNow, _, Some(Selection::Source { number, vector, .. }))
+                if self.writes(step) =>
+            {
+                let level = self.aic.sources()[usize::from(number)].priority;
+                self.starting(number, vector, level, step)
             }
-            wrong.right(step)
-        },
-    ),
-    ("the level is that of now", |wrong, step| {
-        let seen = wrong.seen().map(|seen| match seen {
-            Selection::Source { number, vector, .. } => Selection::Source {
-                number,
-                vector,
-                level: wrong.aic.sources()[usize::from(number)].priority,
-            },
-            Selection::Nobody => Selection::Nobody,
-        });
-        if wrong.writes(step) {
-            wrong.aic.remember_instead(seen);
+            (LookClearsTheMemory, ..) if self.looks(step) => self.clearing(step),
+            (LookOpens, ..) if self.looks(step) => self.opening(step),
+            (SecondReadAnswersWhatIsRemembered, _, Some(Selection::Source { vector, .. }))
+                if self.looks(step) =>
+            {
+                Ok(vector)
+            }
+            (WriteOutsideTheModeStarts, ..) if writes_ivr && !self.aic.protected() => {
+                self.right(LOOK).map(|_| 0)
+            }
+            (WriteWithNothingOpensAMark, _, None) if self.writes(step) => {
+                self.aic.remember_instead(Some(Selection::Nobody));
+                self.right(step)
+            }
+            (ModeDropsTheMask, Some(value), _) if value & 1 == 1 => self.right(write(DCR, 1)),
+            (Bit0OfDcrIsDropped, Some(value), _) => self.right(write(DCR, value & !1)),
+            // What was there before 02, 9/12: a write of IVR does nothing.
+            (Bit0OfDcrIsRefusedBy5, Some(value), _) if value & 1 == 1 => Err(Refusal::ProtectMode),
+            (Bit0OfDcrIsRefusedBy5, ..) if writes_ivr => Ok(0),
+            (MarkHasTheLevelOfTheRead, ..) => self.marking(step),
+            _ => self.right(step),
         }
-        wrong.right(step)
-    }),
-    ("a look clears the memory", |wrong, step| {
-        let looks = wrong.looks(step);
-        let answer = wrong.right(step);
-        if let (true, Some(Selection::Source { number, .. })) = (looks, wrong.seen()) {
-            wrong.right(write(CLEAR, 1 << number))?;
+    }
+
+    /// The step, before which another level is remembered.
+    fn starting(&mut self, number: u8, vector: u32, level: u8, step: Step) -> Answer {
+        self.aic.remember_instead(Some(Selection::Source {
+            number,
+            vector,
+            level,
+        }));
+        self.right(step)
+    }
+
+    /// A look, after which the memory of what it found is cleared.
+    fn clearing(&mut self, step: Step) -> Answer {
+        let answer = self.right(step);
+        if let Some(Selection::Source { number, .. }) = self.seen() {
+            self.right(write(CLEAR, 1 << number))?;
         }
         answer
-    }),
-    ("a look opens", |wrong, step| {
-        if !wrong.looks(step) {
-            return wrong.right(step);
-        }
-        let mask = u32::from(wrong.aic.masked()) << 1;
-        wrong.right(write(DCR, mask))?;
-        let answer = wrong.right(step);
-        wrong.right(write(DCR, mask | 1))?;
+    }
+
+    /// A look as outside the mode.
+    fn opening(&mut self, step: Step) -> Answer {
+        let mask = u32::from(self.aic.masked()) << 1;
+        self.right(write(DCR, mask))?;
+        let answer = self.right(step);
+        self.right(write(DCR, mask | 1))?;
         answer
-    }),
-    ("a second read does not replace", |wrong, step| {
-        match wrong.looks(step) && wrong.seen().is_some() {
-            true => wrong.remembering(step),
-            false => wrong.right(step),
+    }
+
+    /// A mark at the level of the read: an entry of source 0 reads as a mark does, and can be put at any level.
+    fn marking(&mut self, step: Step) -> Answer {
+        let zero = self.aic.sources()[0].memory;
+        if self.looks(step) {
+            self.last_then = self.aic.last_level();
         }
-    }),
-    (
-        "a second read answers what is remembered",
-        |wrong, step| match wrong.seen() {
-            Some(Selection::Source { vector, .. }) if wrong.looks(step) => Ok(vector),
-            _ => wrong.right(step),
-        },
-    ),
-    ("leaving keeps", |wrong, step| match step {
-        Step::Write { offset: DCR, value } if value & 1 == 0 => wrong.remembering(step),
-        _ => wrong.right(step),
-    }),
-    ("staying forgets", |wrong, step| match step {
-        Step::Write { offset: DCR, value } if value & 1 == 1 => wrong.forgetting(step),
-        _ => wrong.right(step),
-    }),
-    ("turning the mask in the mode forgets", |wrong, step| {
-        let masked = wrong.aic.masked();
-        match step {
-            Step::Write { offset: DCR, value } if (value & 2 == 2) != masked => {
-                wrong.forgetting(step)
-            }
-            _ => wrong.right(step),
-        }
-    }),
-    ("none is not forgotten", |wrong, step| {
-        match wrong.marks(step) {
-            true => wrong.remembering(step),
-            false => wrong.right(step),
-        }
-    }),
-    (
-        "none is not forgotten with eight open",
-        |wrong, step| match wrong.marks(step) && wrong.aic.is_full() {
-            true => wrong.remembering(step),
-            false => wrong.right(step),
-        },
-    ),
-    ("a source is not forgotten", |wrong, step| {
-        match wrong.starts(step) {
-            Some(_) => wrong.remembering(step),
-            None => wrong.right(step),
-        }
-    }),
-    ("none opens nothing", |wrong, step| {
-        match wrong.marks(step) {
-            true => wrong.forgetting(step),
-            false => wrong.right(step),
-        }
-    }),
-    ("none starts a candidate that came since", |wrong, step| {
-        if wrong.marks(step) {
-            wrong.right(LOOK)?;
-        }
-        wrong.right(step)
-    }),
-    (
-        "a write outside the mode starts",
-        |wrong, step| match step {
-            Step::Write { offset: IVR, .. } if !wrong.aic.protected() => {
-                wrong.right(LOOK)?;
-                Ok(0)
-            }
-            _ => wrong.right(step),
-        },
-    ),
-    ("a write with nothing remembered starts", |wrong, step| {
-        if wrong.writes(step) && wrong.seen().is_none() {
-            wrong.right(LOOK)?;
-        }
-        wrong.right(step)
-    }),
-    (
-        "a write with nothing remembered opens a mark",
-        |wrong, step| {
-            if wrong.writes(step) && wrong.seen().is_none() {
-                wrong.aic.remember_instead(Some(Selection::Nobody));
-            }
-            wrong.right(step)
-        },
-    ),
-    (
-        "the memory is cleared by the type at the read",
-        |wrong, step| {
-            if wrong.looks(step) {
-                let best = wrong.aic.best();
-                wrong.edge_then = best.is_some_and(|n| wrong.aic.sources()[n].edge_triggered());
-            }
-            wrong.keeping_the_edge(step, |wrong, _| !wrong.edge_then)
-        },
-    ),
-    ("the write keeps the memory", |wrong, step| {
-        wrong.keeping_the_edge(step, |_, _| true)
-    }),
-    (
-        "the write keeps the memory of a forced source",
-        |wrong, step| wrong.keeping_the_edge(step, |wrong, number| wrong.aic.fast(number)),
-    ),
-    (
-        "what has gone away is not started",
-        |wrong, step| match wrong.starts(step) {
-            Some(number) if !wrong.aic.candidate(usize::from(number)) => wrong.forgetting(step),
-            _ => wrong.right(step),
-        },
-    ),
-    ("a clear command forgets", |wrong, step| {
-        match (wrong.seen(), step) {
-            (
-                Some(Selection::Source { number, .. }),
-                Step::Write {
-                    offset: CLEAR,
-                    value,
-                },
-            ) if value >> number & 1 == 1 => wrong.forgetting(step),
-            _ => wrong.right(step),
-        }
-    }),
-    ("EOICR forgets", |wrong, step| match step {
-        Step::Write { offset: EOICR, .. } => wrong.forgetting(step),
-        _ => wrong.right(step),
-    }),
-    ("the mode drops the mask", |wrong, step| match step {
-        Step::Write { offset: DCR, value } if value & 1 == 1 => wrong.right(write(DCR, 1)),
-        _ => wrong.right(step),
-    }),
-    ("bit 0 of DCR is dropped", |wrong, step| match step {
-        Step::Write { offset: DCR, value } => wrong.right(write(DCR, value & !1)),
-        _ => wrong.right(step),
-    }),
-    // An entry of source 0 reads as a mark does, and can be put at any level.
-    ("a mark has the level of the read", |wrong, step| {
-        let zero = wrong.aic.sources()[0].memory;
-        if wrong.looks(step) {
-            wrong.last_then = wrong.aic.last_level();
-        }
-        match wrong.last_then {
-            Some(level) if wrong.marks(step) && !wrong.aic.is_full() => {
-                wrong.aic.remember_instead(Some(Selection::Source {
-                    number: 0,
-                    vector: 0,
-                    level,
-                }));
-                let answer = wrong.right(step);
-                wrong.right(write(SET, u32::from(zero)))?;
+        match self.last_then {
+            Some(level) if self.marks(step) && !self.aic.is_full() => {
+                let answer = self.starting(0, 0, level, step);
+                self.right(write(SET, u32::from(zero)))?;
                 answer
             }
-            _ => wrong.right(step),
+            _ => self.right(step),
         }
-    }),
-    BEFORE,
-];
-
-/// What was there before 02, 9/12: bit 0 of DCR is refused, and a write of IVR does nothing.
-const BEFORE: (&str, Slip) = ("bit 0 of DCR is refused by 5", |wrong, step| match step {
-    Step::Write { offset: DCR, value } if value & 1 == 1 => Err(Refusal::ProtectMode),
-    Step::Write { offset: IVR, .. } => Ok(0),
-    _ => wrong.right(step),
-});
+    }
+}
 
 /// Plays wrong controllers beside the right one; each until its first step that answers or shows otherwise.
 struct Beside {
-    slips: Vec<(&'static str, Slip)>,
+    slips: Vec<Slip>,
     wrong: Vec<Option<Wrong>>,
     /// For each the traces on which it differs.
     found: Vec<usize>,
@@ -303,7 +265,7 @@ struct Beside {
 }
 
 impl Beside {
-    fn new(slips: &[(&'static str, Slip)]) -> Beside {
+    fn new(slips: &[Slip]) -> Beside {
         Beside {
             slips: slips.to_vec(),
             wrong: Vec::new(),
@@ -355,7 +317,7 @@ impl Observer for Beside {
             let Some(wrong) = place else {
                 continue;
             };
-            let told = self.slips[at].1(wrong, recorded.step);
+            let told = wrong.slipping(self.slips[at], recorded.step);
             if (told, wrong.aic.shown()) != (answer, shown) {
                 *place = None;
                 self.found[at] += 1;
@@ -366,11 +328,9 @@ impl Observer for Beside {
 }
 
 fn all_found(beside: &Beside) {
-    for (&(name, _), found) in beside.slips.iter().zip(&beside.found) {
-        println!("{found:5} of {} traces: {name}", beside.traces);
-    }
-    for (&(name, _), &found) in beside.slips.iter().zip(&beside.found) {
-        assert!(found > 0, "{name} was not found");
+    for (slip, &found) in beside.slips.iter().zip(&beside.found) {
+        println!("{found:5} of {} traces: {slip:?}", beside.traces);
+        assert!(found > 0, "{slip:?} was not found");
     }
 }
 
@@ -380,14 +340,14 @@ fn sweeps() -> usize {
 
 #[test]
 fn the_sweeps_find_each() {
-    let mut beside = Beside::new(&SLIPS);
+    let mut beside = Beside::new(&Slip::ALL);
     beside.play(0..sweeps(), 1, |_| ());
     all_found(&beside);
 }
 
 #[test]
 fn random_traces_find_each() {
-    let mut beside = Beside::new(&SLIPS);
+    let mut beside = Beside::new(&Slip::ALL);
     beside.play(sweeps()..sweeps() + 4_000, 1, |_| ());
     all_found(&beside);
 }
@@ -397,7 +357,7 @@ fn random_traces_find_each() {
 #[test]
 fn without_the_mode_everything_is_as_before() {
     let (mut same, mut other) = (0, 0);
-    let mut beside = Beside::new(&[BEFORE]);
+    let mut beside = Beside::new(&[Bit0OfDcrIsRefusedBy5]);
     beside.play(0..sweeps() + 6_000, 7, |beside| {
         assert_eq!(beside.differs[0], beside.enters);
         match beside.enters {

@@ -100,6 +100,13 @@ impl Small {
         key << 8 | remembered << 2 | u128::from(aic.masked()) << 1 | u128::from(aic.protected())
     }
 
+    /// How many records all runs reach, with some values of DCR written: the largest sum of open frames is the figure.
+    fn is_met(&self, debug: &[u32]) -> usize {
+        let (most, records) = self.search(&self.steps(debug));
+        assert_eq!(most, self.figure(), "{:?} of {:?}", self.moved, self.table);
+        records
+    }
+
     /// The largest sum of open frames over all records that the steps reach, and how many records there are.
     fn search(&self, steps: &[Step]) -> (u32, usize) {
         let first = set_up(&self.table, self.external);
@@ -168,12 +175,9 @@ fn over_all_runs_of_two_sources_the_largest_sum_is_the_figure() {
                 (17, priorities / 8, FRAMES[other]),
             ];
             variant += 37;
-            let small = small(&sources, FRAMES[mark], variant);
             let debug: &[u32] = if tables % 8 == 0 { &[0, 2] } else { &[] };
-            let (most, seen) = small.search(&small.steps(debug));
-            assert_eq!(most, small.figure(), "{sources:?}, mark {}", FRAMES[mark]);
+            records += small(&sources, FRAMES[mark], variant).is_met(debug);
             tables += 1;
-            records += seen;
         }
     }
     assert_eq!(tables, 384);
@@ -191,10 +195,7 @@ fn over_all_runs_with_protect_mode_the_largest_sum_is_the_figure() {
             (3, priorities[0], FRAMES[one]),
             (17, priorities[1], FRAMES[other]),
         ];
-        let small = small(&sources, FRAMES[mark], 29 * number as u32);
-        let (most, seen) = small.search(&small.steps(&[0, 1]));
-        assert_eq!(most, small.figure(), "{sources:?}, mark {}", FRAMES[mark]);
-        records += seen;
+        records += small(&sources, FRAMES[mark], 29 * number as u32).is_met(&[0, 1]);
     }
     println!("{records} records");
     assert!(records > 500_000, "{records} records");
@@ -206,14 +207,9 @@ fn with_something_remembered_at_the_start_more_is_open_than_the_figure() {
     let small = small(&[(4, 3, FRAMES[3])], 0, 1);
     let mut aic = set_up(&small.table, 0);
     let mode = 1 << 5;
-    for step in [
-        write(DCR, 1),
-        write(ENABLE, 1 << 4),
-        write(4 * 4, mode),
-        write(SET, 1 << 4),
-        IVR,
-        write(4 * 4, mode | 3),
-    ] {
+    let remembers = [write(DCR, 1), write(ENABLE, 1 << 4), write(4 * 4, mode)];
+    let asks = [write(SET, 1 << 4), IVR, write(4 * 4, mode | 3)];
+    for step in remembers.into_iter().chain(asks) {
         put(&mut aic, step);
     }
     assert!(aic.entries().is_empty() && aic.remembered().is_some());
@@ -235,9 +231,7 @@ fn over_all_runs_of_three_sources_the_largest_sum_is_the_figure() {
         };
         let source = |place: usize| ([1, 2, 31][place], levels[place], frame(place));
         let sources = [0, 1, 2].map(source);
-        let small = small(&sources, frame(3), 0x5B * number as u32);
-        let (most, _) = small.search(&small.steps(&[]));
-        assert_eq!(most, small.figure(), "{sources:?}, mark {}", frame(3));
+        small(&sources, frame(3), 0x5B * number as u32).is_met(&[]);
     }
 }
 
@@ -247,9 +241,7 @@ fn ties_and_noughts() {
     for mark in [0, 5, 6] {
         for frames in [[0, 0, 0], [5, 5, 0], [5, 0, 5], [6, 5, 5]] {
             let sources = [(1, 5, frames[0]), (2, 5, frames[1]), (31, 0, frames[2])];
-            let small = small(&sources, mark, 0);
-            let (most, _) = small.search(&small.steps(&[]));
-            assert_eq!(most, small.figure(), "{frames:?}, mark {mark}");
+            small(&sources, mark, 0).is_met(&[]);
         }
     }
 }
@@ -261,9 +253,8 @@ fn fast_sources_never_count() {
         let sources = [(0, 7, 50_000), (9, 6, 40_000), (12, 2, FRAMES[1])];
         let mut small = small(&sources, mark, 0x3F);
         small.table.forced |= 1 << 9;
-        let (most, _) = small.search(&small.steps(&[]));
-        assert_eq!(most, small.figure());
-        assert!(most < 40_000);
+        small.is_met(&[]);
+        assert!(small.figure() < 40_000);
     }
 }
 

@@ -1,12 +1,11 @@
 //! The tuned player against the model: every byte of a listing and all that a play comes to.
 
-use std::process::Command;
-
 use bench::compare::{compare, expected, first_difference, written, Subject};
-use bench::generate::{Case, Generator, Script};
+use bench::generate::{Case, Generator};
 use bench::listing::listing;
 use bench::trace::{LONGEST, PROGRAM_LIMIT};
 use bench::tuned::{list, play};
+use bench::typed::encode;
 use bench::workload::{busy, polls, workloads};
 
 /// A case with ample room.
@@ -44,28 +43,36 @@ fn it_does_so_on_what_is_timed() {
     }
 }
 
-/// A short trace of each kind: a step of each sort, and then one that is refused.
-fn short_traces() -> [Script; 5] {
-    let mut traces = [
-        Script::new(0, &[1, 2]),
-        Script::new(1, &[8, 32, 0, 1]),
-        Script::new(2, &[1_024, 256, 256, 7]),
-        Script::new(3, &[]),
-        Script::new(4, &[1_024, 256, 256, 7, 1]),
-    ];
-    for script in &mut traces {
-        script.read(0);
-        script.line(3, 1);
-        script.write(0x10, u32::MAX);
-        script.read(2);
+/// The beginning of a trace of each kind.
+const KINDS: [&str; 5] = [
+    "aic 1 2",
+    "coreinterrupt 8 32 0 1",
+    "cic 1024 256 256 7",
+    "aintc",
+    "indexed 1024 256 256 7 1",
+];
+
+/// The trace of a kind: a step of each sort, one that is refused, and then some more, told by offset and value; without a
+/// value it is a read.
+fn trace_of(kind: usize, more: &[(u32, Option<u32>)]) -> Vec<u8> {
+    let by = if KINDS[kind] == "aintc" { " 1" } else { "" };
+    let mut text = format!(
+        "{}\nread 0{by}\nline 3 1\nwrite 16{by} 4294967295\nread 2{by}\n",
+        KINDS[kind]
+    );
+    for (offset, value) in more {
+        text += &match value {
+            Some(value) => format!("write {offset}{by} {value}\n"),
+            None => format!("read {offset}{by}\n"),
+        };
     }
-    traces
+    encode(text.as_bytes()).expect("the text has the form")
 }
 
 #[test]
 fn what_finds_no_room_is_dropped() {
-    for script in short_traces() {
-        let mut trace = script.bytes;
+    for kind in 0..KINDS.len() {
+        let mut trace = trace_of(kind, &[]);
         trace.push(9);
         let whole = listing(&trace, 9);
         for room in 0..whole.len() + 60 {
@@ -86,94 +93,56 @@ fn every_number_of_a_step_is_counted() {
     is_the_models(&case(trace, u32::MAX));
 }
 
+/// The figures made from all state after some traces of a kind are all different.
+fn tells_apart(kind: usize, traces: &[&[(u32, Option<u32>)]]) {
+    let states = traces
+        .iter()
+        .map(|more| play(&trace_of(kind, more), 99).state);
+    let mut states: Vec<_> = states.collect();
+    states.sort_unstable();
+    states.dedup();
+    assert_eq!(states.len(), traces.len(), "{}", KINDS[kind]);
+}
+
 /// The figure that is made from all state tells states apart, so that no part of a play can be left out.
 #[test]
 fn the_state_is_in_the_figure() {
-    let changes: [&[(u32, u32)]; 5] = [
-        &[
-            (0x04, 0x63),
-            (0x84, 1),
-            (0x120, 2),
-            (0x134, 5),
-            (0x138, 1),
-            (0x138, 2),
-            (0x138, 3),
-            (0x140, 4),
-        ],
-        &[(0x00, 1), (0x08, 2), (0x18, 4), (0x20, 8)],
-        &[
-            (0x200, 1),
-            (0x300, 2),
-            (0x400, 3),
-            (0x800, 4),
-            (0x1500, 5),
-            (0x034, 9),
-        ],
-        &[
-            (0x00, 1),
-            (0x4C, 1),
-            (0x50, 2),
-            (0x68, 3),
-            (0x84, 4),
-            (0x90, 5),
-            (0x100, 4),
-        ],
-        &[(0x004, 0), (0x200, 1), (0x300, 2), (0x400, 3), (0x800, 4)],
+    let changes = [
+        "4=99 132=1 288=2 308=5 312=1 312=2 312=3 320=4",
+        "0=1 8=2 24=4 32=8",
+        "512=1 768=2 1024=3 2048=4 5376=5 52=9",
+        "0=1 76=1 80=2 104=3 132=4 144=5 256=4",
+        "4=0 512=1 768=2 1024=3 2048=4",
     ];
-    for (script, changes) in short_traces().into_iter().zip(changes) {
-        let mut states = vec![play(&script.bytes, 99).state];
-        for &(offset, value) in changes {
-            let mut changed = script.clone();
-            changed.write(offset, value);
-            states.push(play(&changed.bytes, 99).state);
-        }
-        let all = states.len();
-        states.sort_unstable();
-        states.dedup();
-        assert_eq!(states.len(), all);
+    for (kind, changes) in changes.iter().enumerate() {
+        let number = |word: &str| word.parse().expect("it is a number");
+        let writes = changes
+            .split(' ')
+            .filter_map(|change| change.split_once('='));
+        let writes = writes.map(|(offset, value)| [(number(offset), Some(number(value)))]);
+        let writes: Vec<_> = writes.collect();
+        let mut traces: Vec<&[_]> = vec![&[]];
+        traces.extend(writes.iter().map(|write| &write[..]));
+        tells_apart(kind, &traces);
     }
 }
 
-/// What an index holds is told apart by which index it is and by its word.
+/// What an index holds is told apart by which index it is and by its word; once system 3 is disabled nothing else tells of
+/// it.
 #[test]
 fn what_is_held_is_in_the_figure() {
-    let [.., mut script] = short_traces();
-    script.write(0x028, 3);
-    let state = |writes: &[(u32, u32)], reads: &[u32]| {
-        let mut changed = script.clone();
-        for &(offset, value) in writes {
-            changed.write(offset, value);
-        }
-        for &offset in reads {
-            changed.read(offset);
-        }
-        // Once it is cleared nothing but what is held tells of system 3.
-        changed.write(0x02C, 3);
-        play(&changed.bytes, 99).state
-    };
-    let mut states = vec![
-        state(&[], &[]),
-        state(&[], &[0x080]),
-        state(&[], &[0x900]),
-        state(&[], &[0x904]),
-        state(&[], &[0x080, 0x900]),
-        state(&[(0x02C, 3)], &[0x080]),
-        state(&[(0x02C, 3)], &[0x900]),
-    ];
-    let all = states.len();
-    states.sort_unstable();
-    states.dedup();
-    assert_eq!(states.len(), all);
-}
-
-#[test]
-fn the_differential_test_asks_it() {
-    let status = |words: &[&str]| {
-        let run = Command::new(env!("CARGO_BIN_EXE_differential"))
-            .args(words)
-            .output();
-        run.expect("the differential test runs").status.code()
-    };
-    assert_eq!(status(&["--tuned", "--count", "900"]), Some(0));
-    assert_eq!(status(&["--tuned", "--stack"]), Some(2));
+    let (enable, disable) = ((0x028, Some(3)), (0x02C, Some(3)));
+    let [global, zero, one] = [0x080, 0x900, 0x904].map(|index| (index, None));
+    tells_apart(
+        4,
+        &[
+            &[enable, disable],
+            &[enable, global, disable],
+            &[enable, zero, disable],
+            &[enable, one, disable],
+            &[enable, global, zero, disable],
+            &[enable, disable, global, disable],
+            &[enable, disable, zero, disable],
+        ],
+    );
 }

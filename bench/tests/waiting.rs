@@ -1,18 +1,24 @@
-//! How long a source of the AIC waits (demand 3, second and third sentence; 02, 9/12), on the model.
+//! How long a source of the AIC waits (02, demand 3; 02, 12/12, its fourth sentence): the three right sides beside the
+//! starts, in every window of random runs, and in windows that are worked by hand; over all runs of few sources they are in
+//! all_runs.rs.
 //!
-//! A source other than 0 waits while it is pending, enabled and unforced, and nobody rewrites a mode or the forcing. Of
-//! the handlers of other sources that start meanwhile all but at most one belong to sources ahead of it, and that one
-//! is of the source that was remembered at the outset. If all those ahead are edge-triggered, there are at most as many
-//! as were pending at the outset, and edges and set commands that they received, and one more if a source other than
-//! the waiting one was remembered at the outset. A start is a read of IVR outside protect mode and a write in it. Where
-//! some ahead are level-sensitive (02, 12/12) it is in waiting/levels.rs and waiting/levels_all_runs.rs.
+//! A window is an outset and a source k that waits from it on, up to where the wait ends; each of its beginnings is
+//! looked at. What a source gains: an edge-triggered one its edges and set commands, a level-sensitive one the turns of
+//! its line from inactive to active. A close is hot if it closes a handler of a level-sensitive source whose line is
+//! active. With no hot close of a source ahead, the starts of other sources are at most
+//!
+//! - the sources ahead pending at the outset, what they gain, and one if another source was remembered (`levels`);
+//! - the same of those that are not fast alone, of which a level-sensitive one counts as pending only if no handler of
+//!   it is open at its priority or above (`normal`); only their closes must not be hot.
+//!
+//! And a source that is not fast, with no hot close of its own, starts no more than it is due at the outset and gains,
+//! and one more if it was the one remembered (`alone`), be somebody waiting or not.
+//!
+//! Behind edge-triggered sources alone no close is hot, and what is gained is what is received. Whatever is ahead, a source
+//! that is not starts in a wait only if it was remembered at the outset.
 
-#[path = "waiting/levels.rs"]
-mod levels;
-#[path = "waiting/levels_all_runs.rs"]
-mod levels_all_runs;
-
-use std::collections::{HashMap, HashSet};
+#[path = "waiting/all_runs.rs"]
+mod all_runs;
 
 use bench::generate::aic::{CLEAR, DCR, DISABLE, ENABLE, FFDR, FFER, HIGH_LEVEL, RISING_EDGE, SET};
 use bench::model::aic::{Aic, Selection, Trigger, SOURCES};
@@ -36,18 +42,6 @@ fn waits(aic: &Aic, source: usize) -> bool {
     source != 0 && aic.normal_request(source)
 }
 
-/// The normal sources ahead of one, as a word: of higher priority, or of the same with a lower number.
-fn ahead(aic: &Aic, source: usize) -> u32 {
-    let priority = |n: usize| aic.sources()[n].priority;
-    let is_ahead = |&n: &usize| {
-        !aic.fast(n)
-            && (priority(n) > priority(source) || priority(n) == priority(source) && n < source)
-    };
-    (1..SOURCES)
-        .filter(is_ahead)
-        .fold(0, |word, n| word | 1 << n)
-}
-
 fn has(word: u32, source: usize) -> bool {
     word >> source & 1 == 1
 }
@@ -66,23 +60,30 @@ fn started(before: &Aic, after: &Aic) -> Option<usize> {
     opened.source.map(usize::from)
 }
 
-/// How many edges and set commands the sources of a word receive by a step.
-fn received(before: &Aic, step: Step, word: u32) -> i32 {
-    let edge = |n: usize| has(word, n) && before.sources()[n].edge_triggered();
+/// Whether a source receives an edge or a set command by a step.
+fn receives(before: &Aic, step: Step, n: usize) -> bool {
+    let source = &before.sources()[n];
     match step {
-        Step::Write { offset: SET, value } => {
-            (0..SOURCES).filter(|&n| has(value, n) && edge(n)).count() as i32
-        }
-        Step::Line { line, level } if line < 32 => {
-            let source = &before.sources()[line as usize];
-            let counts = match source.trigger() {
-                Trigger::RisingEdge => !source.line && level == 1,
-                Trigger::FallingEdge => source.line && level == 0,
-                _ => false,
-            };
-            i32::from(counts && edge(line as usize))
-        }
-        _ => 0,
+        Step::Write { offset: SET, value } => has(value, n) && source.edge_triggered(),
+        Step::Line { line, level } if line as usize == n => match source.trigger() {
+            Trigger::RisingEdge => !source.line && level == 1,
+            Trigger::FallingEdge => source.line && level == 0,
+            _ => false,
+        },
+        _ => false,
+    }
+}
+
+/// Whether its line turns active by a step, of a level-sensitive source.
+fn turns(before: &Aic, step: Step, n: usize) -> bool {
+    let source = &before.sources()[n];
+    match step {
+        Step::Line { line, level } if line as usize == n => match source.trigger() {
+            Trigger::HighLevel => !source.line && level == 1,
+            Trigger::LowLevel => source.line && level == 0,
+            _ => false,
+        },
+        _ => false,
     }
 }
 
@@ -97,361 +98,582 @@ fn rewrites(step: Step) -> bool {
     )
 }
 
-/// A source that waits, since some record of a run.
-struct Wait {
-    source: usize,
-    ahead: u32,
-    /// All those ahead are edge-triggered.
-    bounded: bool,
-    /// The source that was remembered at the outset, if it is another one.
-    extra: Option<usize>,
-    /// Handlers of other sources started, and of these such that are not of a source ahead.
+/// A type of the mode: level-sensitive, high for an internal source and low for an external one.
+const LEVEL: u32 = 0;
+/// An edge, rising for an internal source and falling for an external one.
+const EDGE: u32 = 1 << 5;
+
+fn line(line: u32, level: u32) -> Step {
+    Step::Line { line, level }
+}
+
+fn bits(word: u32) -> impl Iterator<Item = usize> {
+    (0..SOURCES).filter(move |&n| has(word, n))
+}
+
+fn count(word: u32) -> i32 {
+    word.count_ones() as i32
+}
+
+/// The sources that have a property, as a word.
+fn those(property: impl Fn(usize) -> bool) -> u32 {
+    let found = (0..SOURCES).filter(|&n| property(n));
+    found.fold(0, |word, n| word | 1 << n)
+}
+
+/// A level-sensitive source whose line is active.
+fn active_level(aic: &Aic, n: usize) -> bool {
+    let source = &aic.sources()[n];
+    !source.edge_triggered() && source.pending()
+}
+
+/// What no step of a run moves that rewrites no mode and no forcing.
+struct Modes {
+    edge: u32,
+    fast: u32,
+    /// For each source those ahead of it, fast or not.
+    ahead: [u32; SOURCES],
+}
+
+impl Modes {
+    fn of(aic: &Aic) -> Modes {
+        let place = |n: usize| (7 - aic.sources()[n].priority, n);
+        Modes {
+            edge: those(|n| aic.sources()[n].edge_triggered()),
+            fast: those(|n| aic.fast(n)),
+            ahead: std::array::from_fn(|k| those(|n| place(n) < place(k))),
+        }
+    }
+}
+
+/// What a record shows.
+#[derive(Clone, Copy)]
+struct Seen {
+    waiting: u32,
+    pending: u32,
+    /// Edge-triggered and remembered, or level-sensitive and active with no handler open at its priority or above.
+    due: u32,
+    /// The same with any handler of it taken for one at its priority or above.
+    due_by_any: u32,
+    remembered: Option<usize>,
+}
+
+impl Seen {
+    fn of(aic: &Aic) -> Seen {
+        let open = |n: usize, least: u8| {
+            let entries = aic.entries().iter();
+            let mut own = entries.filter(|entry| entry.source.map(usize::from) == Some(n));
+            own.any(|entry| entry.level >= Some(least))
+        };
+        let due = |n: usize, least: u8| {
+            let source = &aic.sources()[n];
+            source.pending() && (source.edge_triggered() || !open(n, least))
+        };
+        Seen {
+            waiting: those(|n| waits(aic, n)),
+            pending: those(|n| aic.sources()[n].pending()),
+            due: those(|n| due(n, aic.sources()[n].priority)),
+            due_by_any: those(|n| due(n, 0)),
+            remembered: remembered(aic),
+        }
+    }
+
+    /// The source that is remembered, if it is another one than the waiting one.
+    fn extra(&self, waiting: usize) -> Option<usize> {
+        self.remembered.filter(|&other| other != waiting)
+    }
+}
+
+/// What a step did.
+#[derive(Clone, Copy)]
+struct Happened {
+    started: Option<usize>,
+    /// The sources that received an edge or a set command.
+    received: u32,
+    /// The level-sensitive sources whose line turned active.
+    turned: u32,
+    /// The level-sensitive source of which a handler was closed while its line was active.
+    hot: u32,
+}
+
+impl Happened {
+    fn of(before: &Aic, after: &Aic, step: Step) -> Happened {
+        let closed = match before.entries().last() {
+            Some(entry) if step == EOICR => entry.source.map(usize::from),
+            _ => None,
+        };
+        let hot = closed.filter(|&n| active_level(before, n));
+        Happened {
+            started: started(before, after),
+            received: those(|n| receives(before, step, n)),
+            turned: those(|n| turns(before, step, n)),
+            hot: hot.map_or(0, |n| 1 << n),
+        }
+    }
+
+    fn gained(&self, word: u32) -> i32 {
+        count(self.received & word) + count(self.turned & word)
+    }
+}
+
+/// A run that rewrites nothing, with what each record of it shows and each step did.
+struct Watched {
+    modes: Modes,
+    seen: Vec<Seen>,
+    happened: Vec<Happened>,
+}
+
+impl Watched {
+    /// From a record on, by the steps that are chosen from record to record.
+    fn run(aic: &mut Aic, steps: usize, mut next: impl FnMut(&Aic) -> Step) -> Watched {
+        let mut watched = Watched {
+            modes: Modes::of(aic),
+            seen: vec![Seen::of(aic)],
+            happened: Vec::new(),
+        };
+        for _ in 0..steps {
+            let step = next(aic);
+            assert!(!rewrites(step));
+            let before = aic.clone();
+            put(aic, step);
+            watched.happened.push(Happened::of(&before, aic, step));
+            watched.seen.push(Seen::of(aic));
+        }
+        watched
+    }
+
+    fn by(aic: &mut Aic, steps: &[Step]) -> Watched {
+        let mut steps = steps.iter();
+        Watched::run(aic, steps.len(), |_| *steps.next().expect("a step is left"))
+    }
+}
+
+/// The starts of other sources in a window so far, and the parts of the right sides.
+#[derive(Clone, Copy, Debug, Default, PartialEq, Eq)]
+struct Sides {
     starts: i32,
-    strangers: Vec<usize>,
-    /// What was pending at the outset and received since, by the sources ahead.
-    owed: i32,
+    /// Of these such of level-sensitive sources, and of sources that are not ahead.
+    by_level: i32,
+    strangers: i32,
+    /// The sources ahead that were pending at the outset, and what they gained.
+    pending: i32,
+    gained: i32,
+    /// The same of those that are not fast, by what is due, with any handler of a source taken for one at its priority
+    /// or above, and the turns among what they gained.
+    due: i32,
+    due_by_any: i32,
+    gained_normal: i32,
+    turned_normal: i32,
+    extra: i32,
+    /// A source ahead, and one that is not fast, was closed hot.
+    hot: bool,
+    hot_normal: bool,
+    /// Those ahead that are not fast are edge-triggered.
+    edges_alone: bool,
 }
 
-impl Wait {
-    /// The wait of a source from this record on.
-    fn from(aic: &Aic, source: usize) -> Wait {
-        let ahead = ahead(aic, source);
-        let those = || (1..SOURCES).filter(|&n| has(ahead, n));
-        Wait {
-            source,
-            ahead,
-            bounded: those().all(|n| aic.sources()[n].edge_triggered()),
-            extra: remembered(aic).filter(|&other| other != source),
-            starts: 0,
-            strangers: Vec::new(),
-            owed: those().filter(|&n| aic.sources()[n].pending()).count() as i32,
+impl Sides {
+    fn levels(&self) -> i32 {
+        self.pending + self.gained + self.extra
+    }
+
+    fn normal(&self) -> i32 {
+        self.due + self.gained_normal + self.extra
+    }
+}
+
+/// What a window comes to: its beginnings one by one, each longer by a step.
+fn window(watched: &Watched, outset: usize, k: usize, mut each: impl FnMut(&Sides)) {
+    let (modes, seen) = (&watched.modes, watched.seen[outset]);
+    let (all, normal) = (modes.ahead[k], modes.ahead[k] & !modes.fast);
+    let mut sides = Sides {
+        pending: count(seen.pending & all),
+        due: count(seen.due & normal),
+        due_by_any: count(seen.due_by_any & normal),
+        extra: i32::from(seen.extra(k).is_some()),
+        edges_alone: normal & !modes.edge == 0,
+        ..Sides::default()
+    };
+    for (before, happened) in watched.seen.iter().zip(&watched.happened).skip(outset) {
+        if !has(before.waiting, k) {
+            return;
+        }
+        if let Some(other) = happened.started.filter(|&other| other != k) {
+            sides.starts += 1;
+            sides.by_level += i32::from(!has(modes.edge, other));
+            sides.strangers += i32::from(!has(normal, other));
+            assert!(has(normal, other) || seen.remembered == Some(other));
+        }
+        sides.gained += happened.gained(all);
+        sides.gained_normal += happened.gained(normal);
+        sides.turned_normal += count(happened.turned & normal);
+        sides.hot |= happened.hot & all != 0;
+        sides.hot_normal |= happened.hot & normal != 0;
+        each(&sides);
+    }
+}
+
+/// What a beginning of a window can show, with how many windows have to show it at least.
+const OF_WINDOWS: [(&str, usize, fn(&Sides) -> bool); 15] = [
+    // The starts are the right side, one of a level-sensitive source among them, with the premise.
+    ("tight", 1_000, |s| {
+        !s.hot && s.by_level > 0 && s.starts == s.levels()
+    }),
+    ("tight, normal", 1_000, |s| {
+        !s.hot_normal && s.by_level > 0 && s.starts == s.normal()
+    }),
+    // The second right side is less than the first, and both premises hold.
+    ("sharper", 1_000, |s| !s.hot && s.normal() < s.levels()),
+    // The starts are more than the right side less a part of it, or with `due_by_any` for what is due.
+    ("extra needed", 100, |s| {
+        !s.hot && s.starts > s.levels() - s.extra
+    }),
+    ("extra needed, normal", 100, |s| {
+        !s.hot_normal && s.starts > s.normal() - s.extra
+    }),
+    ("turns needed", 1_000, |s| {
+        !s.hot_normal && s.starts > s.normal() - s.turned_normal
+    }),
+    ("level of the handler needed", 100, |s| {
+        !s.hot_normal && s.starts > s.normal() - s.due + s.due_by_any
+    }),
+    // A hot close, and then more starts than the right side.
+    ("premise fails", 1_000, |s| s.hot),
+    ("broken", 100, |s| s.hot && s.starts > s.levels()),
+    ("premise fails, normal", 1_000, |s| s.hot_normal),
+    ("broken, normal", 100, |s| {
+        s.hot_normal && s.starts > s.normal()
+    }),
+    // Only a fast source ahead was closed hot: the second right side holds all the same.
+    ("fast closed hot", 10, |s| s.hot && !s.hot_normal),
+    ("a source not ahead started", 500, |s| s.strangers > 0),
+    ("tight behind edges", 2_000, |s| {
+        s.edges_alone && s.starts > 0 && s.starts == s.normal()
+    }),
+    ("extra needed behind edges", 400, |s| {
+        s.edges_alone && s.starts > s.normal() - s.extra
+    }),
+];
+
+/// A source followed from an outset on: its starts, what it was due then and gained since, one if it was remembered,
+/// whether it was closed hot and whether it is level-sensitive.
+struct Follow {
+    starts: i32,
+    due: i32,
+    gained: i32,
+    extra: i32,
+    hot: bool,
+    level: bool,
+}
+
+impl Follow {
+    fn right(&self) -> i32 {
+        self.due + self.gained + self.extra
+    }
+
+    fn tight(&self) -> bool {
+        !self.hot && self.starts > 0 && self.starts == self.right()
+    }
+}
+
+/// What a source that is followed can show, with how many have to show it at least.
+const OF_SOURCES: [(&str, usize, fn(&Follow) -> bool); 6] = [
+    ("tight", 1_000, Follow::tight),
+    ("tight of a level", 1_000, |f| f.tight() && f.level),
+    ("extra needed", 100, |f| {
+        !f.hot && f.starts > f.due + f.gained
+    }),
+    // Twice started though it was due but once and gained nothing.
+    ("twice", 10, |f| {
+        !f.hot && f.starts == 2 && f.due == 1 && f.gained == 0
+    }),
+    ("premise fails", 1_000, |f| f.hot),
+    ("broken", 100, |f| f.hot && f.starts > f.right()),
+];
+
+/// How many windows, or sources that were followed, have shown each thing of a table; one counts once for each.
+struct Tally<T: 'static> {
+    table: &'static [(&'static str, usize, fn(&T) -> bool)],
+    looked: usize,
+    counts: Vec<usize>,
+}
+
+impl<T> Tally<T> {
+    fn new(table: &'static [(&'static str, usize, fn(&T) -> bool)]) -> Tally<T> {
+        let counts = vec![0; table.len()];
+        Tally {
+            table,
+            looked: 0,
+            counts,
         }
     }
 
-    fn step(&mut self, before: &Aic, after: &Aic, step: Step) {
-        self.owed += received(before, step, self.ahead);
-        if let Some(other) = started(before, after).filter(|&other| other != self.source) {
-            self.starts += 1;
-            if !has(self.ahead, other) {
-                self.strangers.push(other);
+    /// Counts one: what it came to is seen bit by bit.
+    fn count(&mut self, shown: u32) {
+        self.looked += 1;
+        for (place, count) in self.counts.iter_mut().enumerate() {
+            *count += usize::from(has(shown, place));
+        }
+    }
+
+    fn shown(&self, now: &T) -> u32 {
+        let rows = self.table.iter().enumerate();
+        rows.fold(0, |shown, (place, row)| {
+            shown | u32::from(row.2(now)) << place
+        })
+    }
+
+    /// Each thing was shown often enough.
+    fn suffices(&self) {
+        for ((what, least, _), count) in self.table.iter().zip(&self.counts) {
+            println!("{what}: {count} of {}", self.looked);
+            assert!(count > least, "{what}: {count} of at least {least}");
+        }
+    }
+}
+
+/// Looks at the window of a source from an outset on; what must hold is asserted.
+fn look(tally: &mut Tally<Sides>, watched: &Watched, outset: usize, k: usize) -> Sides {
+    let normal = watched.modes.ahead[k] & !watched.modes.fast;
+    let mut owed = count(watched.seen[outset].pending & normal);
+    let mut steps = watched.happened[outset..].iter();
+    let (mut shown, mut last) = (0, Sides::default());
+    window(watched, outset, k, |sides| {
+        let happened = steps.next().expect("a step for each beginning");
+        owed += count(happened.received & normal);
+        assert!(sides.strangers <= sides.extra, "{sides:?}");
+        assert!(sides.hot || sides.starts <= sides.levels(), "{sides:?}");
+        assert!(
+            sides.hot_normal || sides.starts <= sides.normal(),
+            "{sides:?}"
+        );
+        if sides.edges_alone {
+            assert_eq!(sides.due + sides.gained_normal, owed);
+            assert!(happened.turned & normal == 0 && !sides.hot_normal);
+        }
+        shown |= tally.shown(sides);
+        last = *sides;
+    });
+    tally.count(shown);
+    last
+}
+
+/// Follows a source that is not fast from an outset to the end of the run. What is due at the end is promised besides: it
+/// counts with the starts.
+fn follow(tally: &mut Tally<Follow>, watched: &Watched, outset: usize, source: usize) {
+    let first = watched.seen[outset];
+    let mut follow = Follow {
+        starts: 0,
+        due: i32::from(has(first.due, source)),
+        gained: 0,
+        extra: i32::from(first.remembered == Some(source)),
+        hot: false,
+        level: !has(watched.modes.edge, source),
+    };
+    let mut shown = 0;
+    let after = watched.seen.iter().skip(outset + 1);
+    for (happened, after) in watched.happened.iter().skip(outset).zip(after) {
+        follow.starts += i32::from(happened.started == Some(source));
+        follow.gained += happened.gained(1 << source);
+        follow.hot |= has(happened.hot, source);
+        let left = follow.starts + i32::from(has(after.due, source));
+        assert!(follow.hot || left <= follow.right(), "{left}");
+        shown |= tally.shown(&follow);
+    }
+    tally.count(shown);
+}
+
+/// A level step, an access or a command on few sources. Before a close the line of its source is quieted, more often or
+/// less.
+struct Driver {
+    sources: Vec<u32>,
+    /// The types that sources are given.
+    types: [u32; 5],
+    /// In so many of ten times a handler of a level-sensitive source is closed only when its line is inactive.
+    careful: u32,
+}
+
+impl Driver {
+    fn next(&self, random: &mut Random, aic: &Aic) -> Step {
+        let source = random.pick(&self.sources);
+        match random.below(30) {
+            0..=5 => IVR,
+            6..=9 => WRITE_IVR,
+            10..=14 => self.close(random, aic),
+            15..=17 => write(SET, 1 << source),
+            18..=25 => line(source, random.below(2)),
+            26 => write(CLEAR, 1 << source),
+            27 => write(ENABLE, 1 << source | 1 << random.pick(&self.sources)),
+            28 => write(DISABLE, 1 << source),
+            _ => write(DCR, random.below(2) | random.below(2) << 1),
+        }
+    }
+
+    fn close(&self, random: &mut Random, aic: &Aic) -> Step {
+        let last = aic.entries().last().and_then(|entry| entry.source);
+        let active = last.filter(|&n| active_level(aic, usize::from(n)));
+        match active {
+            Some(n) if random.below(10) < self.careful => {
+                let level = !aic.sources()[usize::from(n)].line;
+                line(u32::from(n), u32::from(level))
             }
+            _ => EOICR,
         }
     }
 
-    /// How many more have started than those that wait ahead account for.
-    fn excess(&self) -> i32 {
-        self.starts - self.owed
-    }
-
-    /// The two sentences, as they hold now.
-    fn holds(&self) {
-        assert!(self.strangers.len() <= 1, "{:?}", self.strangers);
-        assert!(self
-            .strangers
-            .iter()
-            .all(|&other| Some(other) == self.extra));
-        if self.bounded {
-            assert!(self.excess() <= i32::from(self.extra.is_some()));
+    /// Any step, rewrites of modes and forcing among them: of any source, of the one remembered, of the last entry's.
+    fn any(&self, random: &mut Random, aic: &Aic) -> Step {
+        if random.below(10) > 0 {
+            return self.next(random, aic);
         }
-    }
-}
-
-/// Any step that a debugger, a handler or a peripheral makes, on few sources.
-fn any_step(random: &mut Random, sources: &[u32], mode: bool) -> Step {
-    let source = random.pick(sources);
-    match random.below(30) {
-        0..=4 => IVR,
-        5..=8 => WRITE_IVR,
-        9..=14 => EOICR,
-        15..=18 => write(SET, 1 << source),
-        19..=23 => Step::Line {
-            line: source,
-            level: random.below(2),
-        },
-        24 => write(CLEAR, 1 << source),
-        25 => write(ENABLE, 1 << source | 1 << random.pick(sources)),
-        26 => write(DISABLE, 1 << source),
-        27 => write(DCR, u32::from(!random.one_in(4)) | random.below(2) << 1),
-        _ if mode => match random.below(6) {
+        let last = aic.entries().last().and_then(|entry| entry.source);
+        let concerned = remembered(aic).or(last.map(usize::from));
+        let source = match concerned {
+            Some(source) if random.one_in(2) => source as u32,
+            _ => random.pick(&self.sources),
+        };
+        let kept = u32::from(aic.sources()[source as usize].kind) << 5;
+        match random.below(8) {
             0 => write(FFER, 1 << source),
             1 => write(FFDR, 1 << source),
-            // Mostly edges: a bound is promised for them alone.
-            kind => write(
-                4 * source,
-                if kind == 2 { HIGH_LEVEL } else { RISING_EDGE } | random.below(8),
-            ),
-        },
-        _ => Step::Read { offset: 0x10C },
+            2 => write(FFDR, u32::MAX),
+            3 | 4 => write(4 * source, kept | random.below(8)),
+            _ => write(4 * source, random.pick(&self.types) | random.below(8)),
+        }
     }
 }
 
-/// A run: any steps, and from some record on only such that rewrite nothing.
-struct Run<'a> {
-    random: &'a mut Random,
-    aic: Aic,
-    sources: Vec<u32>,
-}
+const MIXED: [u32; 5] = [RISING_EDGE, EDGE, LEVEL, HIGH_LEVEL, HIGH_LEVEL];
+const MOSTLY_EDGES: [u32; 5] = [RISING_EDGE, RISING_EDGE, EDGE, EDGE, HIGH_LEVEL];
 
-impl Run<'_> {
-    fn begin(random: &mut Random) -> Run<'_> {
-        let (external, count) = (random.word(), random.within(2, 6));
-        let sources: Vec<u32> = (0..count).map(|_| 1 + random.below(31)).collect();
-        let mut aic = Aic::new(external, random.word());
-        for source in 1..SOURCES as u32 {
-            put(&mut aic, write(4 * source, RISING_EDGE));
-        }
-        for &source in &sources {
-            let kind = random.pick(&[RISING_EDGE, RISING_EDGE, 1 << 5, HIGH_LEVEL]);
-            put(&mut aic, write(4 * source, kind | random.below(8)));
-        }
-        put(&mut aic, write(ENABLE, u32::MAX));
-        put(&mut aic, write(DCR, u32::from(!random.one_in(4))));
-        let mut run = Run {
-            random,
-            aic,
-            sources,
-        };
-        for _ in 0..run.random.below(60) {
-            let step = any_step(run.random, &run.sources, true);
-            put(&mut run.aic, step);
-        }
-        run
+/// A record after any steps, with entries open, sources remembered and modes rewritten since, and the driver that goes
+/// on from there.
+fn outset(random: &mut Random, types: [u32; 5]) -> (Aic, Driver) {
+    let count = random.within(2, 5);
+    let driver = Driver {
+        types,
+        sources: (0..count).map(|_| 1 + random.below(31)).collect(),
+        careful: random.pick(&[0, 8, 10, 10]),
+    };
+    let mut aic = Aic::new(random.word(), random.word());
+    for source in 1..SOURCES as u32 {
+        put(&mut aic, write(4 * source, RISING_EDGE));
     }
-
-    /// The waits that begin now, each as it ends.
-    fn waits(mut self) -> Vec<Wait> {
-        let sources = (1..SOURCES).filter(|&n| waits(&self.aic, n));
-        let mut open: Vec<Wait> = sources.map(|n| Wait::from(&self.aic, n)).collect();
-        let mut over = Vec::new();
-        for _ in 0..60 {
-            let step = any_step(self.random, &self.sources, false);
-            assert!(!rewrites(step));
-            let before = self.aic.clone();
-            put(&mut self.aic, step);
-            for wait in &mut open {
-                wait.step(&before, &self.aic, step);
-                wait.holds();
-            }
-            let (still, ended) = open
-                .into_iter()
-                .partition(|wait| waits(&self.aic, wait.source));
-            open = still;
-            over.extend::<Vec<Wait>>(ended);
-        }
-        over.extend(open);
-        over
-    }
-}
-
-#[test]
-fn on_random_runs_the_order_and_the_bound_hold() {
-    let random = &mut Random::new(31);
-    let (mut all, mut bounded, mut tight, mut with_extra, mut needed) = (0, 0, 0, 0, 0);
-    let (mut strangers, mut largest) = (0, i32::MIN);
-    for _ in 0..100_000 {
-        for wait in Run::begin(random).waits() {
-            all += 1;
-            strangers += wait.strangers.len();
-            if !wait.bounded {
-                continue;
-            }
-            bounded += 1;
-            let extra = i32::from(wait.extra.is_some());
-            with_extra += extra;
-            largest = largest.max(wait.excess());
-            tight += i32::from(wait.starts > 0 && wait.excess() == extra);
-            needed += i32::from(wait.excess() == 1);
-        }
-    }
-    println!(
-        "{all} waits, {strangers} handlers of a source not ahead; {bounded} with edges ahead, \
-         {with_extra} of them with another source remembered; largest excess {largest}, \
-         {tight} tight with a start, the extra needed in {needed}"
-    );
-    assert!(all > 100_000 && bounded > 50_000 && strangers > 500);
-    assert!(largest == 1 && tight > 2_000 && needed > 400);
-}
-
-/// Priorities: 3 waits, 5 and 6 are ahead, 20 is not. All by edge, enabled; in protect mode.
-fn four() -> Aic {
-    let mut aic = Aic::new(0, 0);
-    for (source, priority) in [(3, 4), (5, 5), (6, 6), (20, 1)] {
-        put(&mut aic, write(4 * source, RISING_EDGE | priority));
+    for &source in &driver.sources {
+        let mode = random.pick(&types) | random.below(8);
+        put(&mut aic, write(4 * source, mode));
     }
     put(&mut aic, write(ENABLE, u32::MAX));
-    put(&mut aic, write(DCR, 1));
-    aic
-}
-
-/// What is counted of a source's wait over some steps.
-fn over(aic: &mut Aic, source: usize, steps: &[Step]) -> Wait {
-    assert!(waits(aic, source));
-    let mut wait = Wait::from(aic, source);
-    for &step in steps {
-        let before = aic.clone();
-        put(aic, step);
-        wait.step(&before, aic, step);
-        wait.holds();
-    }
-    wait
-}
-
-/// A source that is not ahead, remembered before the wait begins, starts in it: no sources ahead account for that.
-#[test]
-fn the_extra_is_needed_for_a_source_not_ahead() {
-    let mut aic = four();
-    for step in [write(SET, 1 << 20), IVR, write(SET, 1 << 3)] {
+    put(&mut aic, write(DCR, random.below(2)));
+    for _ in 0..random.below(40) {
+        let step = driver.any(random, &aic);
         put(&mut aic, step);
     }
-    let wait = over(&mut aic, 3, &[WRITE_IVR]);
-    assert_eq!((wait.starts, wait.owed, wait.excess()), (1, 0, 1));
-    assert_eq!((wait.strangers, wait.extra), (vec![20], Some(20)));
+    if let (Some(source), true) = (remembered(&aic), random.one_in(2)) {
+        let kept = u32::from(aic.sources()[source].kind) << 5;
+        put(&mut aic, write(4 * source as u32, kept | random.below(8)));
+    }
+    (aic, driver)
 }
 
-/// And so does a source ahead that has gone before the wait began: nothing is owed to it.
-#[test]
-fn the_extra_is_needed_for_a_source_ahead_that_has_gone() {
-    let mut aic = four();
-    for step in [
-        write(SET, 1 << 6),
-        IVR,
-        write(CLEAR, 1 << 6),
-        write(SET, 1 << 3),
-    ] {
-        put(&mut aic, step);
-    }
-    let wait = over(&mut aic, 3, &[WRITE_IVR]);
-    assert_eq!((wait.starts, wait.owed, wait.excess()), (1, 0, 1));
-    assert!(wait.strangers.is_empty());
-}
+const RUNS: usize = 40_000;
+const STEPS: usize = 30;
 
-/// With the extra the bound is met exactly: two that were pending, an edge, a set command, and the one remembered.
 #[test]
-fn the_bound_is_met_with_every_part() {
-    let mut aic = four();
-    for step in [
-        write(SET, 1 << 20),
-        IVR,
-        write(SET, 1 << 3 | 1 << 5 | 1 << 6),
-    ] {
-        put(&mut aic, step);
-    }
-    let edge = [0, 1].map(|level| Step::Line { line: 5, level });
-    let steps = [
-        WRITE_IVR,
-        EOICR,
-        IVR,
-        WRITE_IVR,
-        EOICR,
-        IVR,
-        WRITE_IVR,
-        EOICR,
-        write(SET, 1 << 6),
-        IVR,
-        WRITE_IVR,
-        EOICR,
-        edge[0],
-        edge[1],
-        IVR,
-        WRITE_IVR,
-        EOICR,
-    ];
-    let wait = over(&mut aic, 3, &steps);
-    assert_eq!((wait.starts, wait.owed, wait.excess()), (5, 4, 1));
-    put(&mut aic, IVR);
-    assert_eq!(remembered(&aic), Some(3));
-}
-
-/// Nobody, or the waiting source itself, adds nothing.
-#[test]
-fn nobody_and_the_waiting_source_are_no_extra() {
-    let mut aic = four();
-    for step in [IVR, write(SET, 1 << 3)] {
-        put(&mut aic, step);
-    }
-    let wait = over(&mut aic, 3, &[WRITE_IVR, EOICR]);
-    assert_eq!((wait.extra, wait.starts), (None, 0));
-    put(&mut aic, IVR);
-    let wait = over(&mut aic, 3, &[write(SET, 1 << 6), IVR, WRITE_IVR]);
-    assert_eq!((wait.extra, wait.starts, wait.owed), (None, 1, 1));
-}
-
-/// A record of the search, and the source that was remembered at the outset, if it is another one than 3.
-type Node = (Aic, Option<usize>);
-
-/// Over all runs of four sources, up to three entries: the most that starts exceed what accounts for them. Each record
-/// that a run reaches is an outset, and from it on each step is tried; of a node only the largest excess is kept.
-#[test]
-fn over_all_runs_of_four_sources_the_excess_is_the_extra() {
-    let mut steps = vec![IVR, WRITE_IVR, EOICR, write(DCR, 0), write(DCR, 1)];
-    for source in [3, 5, 6, 20] {
-        steps.extend([SET, CLEAR].map(|offset| write(offset, 1 << source)));
-    }
-    let room = |aic: &Aic| aic.entries().len() < 4;
-    let records = reach(four(), |aic| {
-        let next = steps.iter().map(|&step| {
-            let mut next = aic.clone();
-            put(&mut next, step);
-            next
-        });
-        next.filter(room).collect()
-    });
-    let outsets = records.iter().filter(|aic| waits(aic, 3));
-    let mut most: HashMap<String, i32> = HashMap::new();
-    let mut open: Vec<(Node, i32)> = Vec::new();
-    for aic in outsets {
-        let wait = Wait::from(aic, 3);
-        open.push(((aic.clone(), wait.extra), wait.excess()));
-    }
-    let (outsets, mut largest) = (open.len(), [i32::MIN; 2]);
-    while let Some(((aic, extra), excess)) = open.pop() {
-        let place = most.entry(key(&aic, extra)).or_insert(i32::MIN);
-        if excess <= *place {
-            continue;
-        }
-        *place = excess;
-        let has_extra = usize::from(extra.is_some());
-        largest[has_extra] = largest[has_extra].max(excess);
-        assert!(excess <= has_extra as i32);
-        for &step in &steps {
-            let mut wait = Wait::from(&aic, 3);
-            let mut next = aic.clone();
-            put(&mut next, step);
-            (wait.owed, wait.starts) = (0, 0);
-            wait.step(&aic, &next, step);
-            assert!(wait.strangers.iter().all(|&other| Some(other) == extra));
-            if room(&next) && waits(&next, 3) {
-                open.push(((next, extra), excess + wait.excess()));
+fn on_random_runs_the_three_right_sides_hold() {
+    let random = &mut Random::new(12);
+    let (mut windows, mut sources) = (Tally::new(&OF_WINDOWS), Tally::new(&OF_SOURCES));
+    let (mut behind_edges, mut starts) = (0, 0);
+    for run in 0..RUNS {
+        let types = if run % 2 == 0 { MIXED } else { MOSTLY_EDGES };
+        let (mut aic, driver) = outset(random, types);
+        let watched = Watched::run(&mut aic, STEPS, |aic| driver.next(random, aic));
+        for (outset, seen) in watched.seen.iter().enumerate() {
+            for k in bits(seen.waiting) {
+                let last = look(&mut windows, &watched, outset, k);
+                behind_edges += usize::from(last.edges_alone);
+                starts += last.starts;
             }
         }
-    }
-    println!(
-        "{} records, {outsets} outsets, {} nodes, largest excess {largest:?}",
-        records.len(),
-        most.len()
-    );
-    assert_eq!(largest, [0, 1]);
-}
-
-/// A name for a record and an extra.
-fn key(aic: &Aic, extra: Option<usize>) -> String {
-    let memories = [3, 5, 6, 20].map(|n| aic.sources()[n].memory);
-    let (entries, remembered) = (aic.entries(), aic.remembered());
-    format!(
-        "{memories:?} {entries:?} {remembered:?} {} {extra:?}",
-        aic.protected()
-    )
-}
-
-/// All records that are reached from one.
-fn reach(first: Aic, next: impl Fn(&Aic) -> Vec<Aic>) -> Vec<Aic> {
-    let mut seen = HashSet::new();
-    let (mut open, mut all) = (vec![first], Vec::new());
-    while let Some(aic) = open.pop() {
-        if seen.insert(key(&aic, None)) {
-            open.extend(next(&aic));
-            all.push(aic);
+        let moved = driver.sources.iter().fold(0, |word, n| word | 1 << n);
+        for source in bits(moved & !watched.modes.fast) {
+            (0..STEPS).for_each(|outset| follow(&mut sources, &watched, outset, source));
         }
     }
-    all
+    println!("{RUNS} runs, {behind_edges} windows behind edges alone, {starts} starts");
+    assert!(behind_edges > 50_000 && windows.looked - behind_edges > 50_000);
+    assert!(starts > 50_000);
+    windows.suffices();
+    sources.suffices();
+}
+
+/// Windows of source 3 worked by hand.
+const WORKED: &str = include_str!("waiting/worked.txt");
+
+/// A step as it is typed: `look` and `take` read and write IVR, `end` writes EOICR, `up` and `down` are of a line.
+fn typed(step: &str) -> Step {
+    let words: Vec<&str> = step.split(' ').collect();
+    let number = |nth: usize| words[nth].parse::<u32>().expect("it is a number");
+    match words[0] {
+        "look" => IVR,
+        "take" => WRITE_IVR,
+        "end" => EOICR,
+        "protect" => write(DCR, 1),
+        "set" => write(SET, 1 << number(1)),
+        "clear" => write(CLEAR, 1 << number(1)),
+        "disable" => write(DISABLE, 1 << number(1)),
+        "up" => line(number(1), 1),
+        "down" => line(number(1), 0),
+        "high" => write(4 * number(1), HIGH_LEVEL | number(2)),
+        "edge" => write(4 * number(1), RISING_EDGE | number(2)),
+        _ => panic!("{step:?} is no step"),
+    }
+}
+
+fn steps(text: &str) -> Vec<Step> {
+    text.trim().split(", ").map(typed).collect()
+}
+
+/// What is told of the last beginning of a window, by its name.
+fn figure(sides: &Sides, name: &str) -> i32 {
+    match name {
+        "starts" => sides.starts,
+        "strangers" => sides.strangers,
+        "pending" => sides.pending,
+        "due" => sides.due,
+        "due-by-any" => sides.due_by_any,
+        "gained" => sides.gained,
+        "extra" => sides.extra,
+        "levels" => sides.levels(),
+        "normal" => sides.normal(),
+        "hot" => i32::from(sides.hot),
+        _ => panic!("{name:?} is no figure"),
+    }
+}
+
+#[test]
+fn windows_are_as_they_were_worked() {
+    let mut windows = 0;
+    for worked in WORKED.split("\n\n").filter(|text| !text.starts_with('#')) {
+        let part = |name: &str| {
+            let line = worked.lines().find_map(|line| line.strip_prefix(name));
+            line.unwrap_or_else(|| panic!("{worked}: no {name}"))
+        };
+        let mut aic = Aic::new(0, 0);
+        put(&mut aic, write(ENABLE, u32::MAX));
+        for step in steps(part("before:")) {
+            put(&mut aic, step);
+        }
+        let watched = Watched::by(&mut aic, &steps(part("window:")));
+        let (mut last, mut seen) = (Sides::default(), 0);
+        window(&watched, 0, 3, |sides| (last, seen) = (*sides, seen + 1));
+        assert_eq!(seen, watched.happened.len(), "{worked}: source 3 waits");
+        for told in part("told:").trim().split(", ") {
+            let (name, number) = told.split_once(' ').expect("a figure has a number");
+            let found = figure(&last, name).to_string();
+            assert_eq!(found, number, "{worked}: {name}");
+        }
+        windows += 1;
+    }
+    assert_eq!(windows, 11);
 }

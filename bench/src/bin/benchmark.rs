@@ -6,14 +6,46 @@ use std::hint::black_box;
 use std::time::Instant;
 
 use bench::digits::Digits;
-#[cfg(feature = "exports")]
-use bench::exports::{figures_into, figures_of, Words};
 use bench::listing::Text;
 use bench::looked::looked;
 use bench::report;
-use bench::trace::{play, PROGRAM_LIMIT};
+use bench::trace::{play, Observer, PROGRAM_LIMIT};
 use bench::tuned;
 use bench::workload::{busy, looks, polls, workloads, Look, Workload};
+
+#[cfg(feature = "exports")]
+use bench::exports as proved;
+
+/// Where the proved library is not linked in there is nothing to do.
+#[cfg(not(feature = "exports"))]
+mod proved {
+    pub const UNTOUCHED: () = ();
+
+    pub fn figures_into(_: &[u8], _: u32, _: &mut ()) -> u32 {
+        0
+    }
+
+    pub fn figures_of(trace: &[u8], limit: u32) -> bench::report::Figures {
+        bench::report::figures(trace, limit).0
+    }
+
+    pub fn list_into(_: &[u8], _: u32, _: &mut [u8]) -> usize {
+        0
+    }
+
+    pub fn steps_of(_: &[u8], _: u32) -> u32 {
+        0
+    }
+
+    pub fn words_looked_at(_: &[u8], _: u32, _: u32) -> u32 {
+        0
+    }
+
+    pub use {list_into as list_plain_into, steps_of as steps_plain_of};
+}
+
+/// Whether it is linked in.
+const LINKED: bool = cfg!(feature = "exports");
 
 const NOTES: &str = "\
 Nanoseconds per step in the fastest of several rounds; a round is one play of the whole trace by each side in turn.
@@ -105,11 +137,10 @@ fn print_tables<'a>(
 
 fn build() -> String {
     let architecture = std::env::consts::ARCH;
-    let exports = match cfg!(feature = "exports") {
+    let alone = "without the proved library (feature `exports`), so the Rust sides are timed alone";
+    let exports = match LINKED {
         true => "with the proved library linked in",
-        false => {
-            "without the proved library (feature `exports`), so the Rust sides are timed alone"
-        }
+        false => alone,
     };
     let debug = match cfg!(debug_assertions) {
         true => ", and NOT a release build",
@@ -126,73 +157,119 @@ struct Times {
     play: Sides,
 }
 
-/// The same work by all sides; what is not linked in takes no time, and is not shown.
-struct Sides {
-    proved: u128,
-    plain: u128,
-    model: u128,
-    tuned: u128,
+/// The same work by all sides: proved, plain, by the model and tuned.
+type Sides = [u128; 4];
+
+/// A side that writes listings, or one that plays.
+type Lister = fn(&[u8], u32, &mut [u8]) -> usize;
+type Player = fn(&[u8], u32) -> u32;
+
+/// The fastest of so many rounds for each of several, which take turns.
+fn fastest<const N: usize>(rounds: usize, mut sides: [Box<dyn FnMut() + '_>; N]) -> [u128; N] {
+    let mut fastest = [u128::MAX; N];
+    for _ in 0..rounds {
+        for (fastest, side) in fastest.iter_mut().zip(&mut sides) {
+            let begin = Instant::now();
+            side();
+            *fastest = begin.elapsed().as_nanos().min(*fastest);
+        }
+    }
+    fastest
+}
+
+/// Lists a trace again and again into one buffer; the first listing has to be the given one.
+fn lists<'a>(by: Lister, trace: &'a [u8], listing: &[u8]) -> Box<dyn FnMut() + 'a> {
+    let mut buffer = vec![0; AMPLE];
+    let written = by(trace, PROGRAM_LIMIT, &mut buffer);
+    assert!(buffer[..written] == *listing, "the listings differ");
+    Box::new(move || {
+        black_box(by(black_box(trace), PROGRAM_LIMIT, &mut buffer));
+        black_box(&buffer);
+    })
+}
+
+/// The same by the model.
+fn lists_by_model<'a, O: Observer + 'a>(
+    trace: &'a [u8],
+    mut text: O,
+    bytes: fn(&mut O) -> &mut Vec<u8>,
+    listing: &[u8],
+) -> Box<dyn FnMut() + 'a> {
+    play(trace, PROGRAM_LIMIT, &mut text);
+    assert!(bytes(&mut text) == listing, "the model's listings differ");
+    Box::new(move || {
+        bytes(&mut text).clear();
+        play(black_box(trace), PROGRAM_LIMIT, &mut text);
+        black_box(bytes(&mut text));
+    })
+}
+
+fn plays<'a>(by: Player, trace: &'a [u8]) -> Box<dyn FnMut() + 'a> {
+    Box::new(move || {
+        black_box(by(black_box(trace), PROGRAM_LIMIT));
+    })
+}
+
+fn play_model(trace: &[u8], limit: u32) -> u32 {
+    black_box(play(trace, limit, &mut ())).steps
+}
+
+fn play_tuned(trace: &[u8], limit: u32) -> u32 {
+    black_box(tuned::play(trace, limit)).steps
 }
 
 fn measure(workload: &Workload, rounds: usize) -> Times {
-    let (mut digits, mut text) = (Digits::default(), Text::default());
-    let mut proved = Proved::new(workload);
-    let mut buffer = vec![0; AMPLE];
-    list_by_hand(workload, &mut digits);
-    list_with_std(workload, &mut text);
-    assert!(digits.bytes == text.bytes, "the model's listings differ");
-    let written = list_tuned(workload, &mut buffer);
-    assert!(buffer[..written] == text.bytes, "the tuned listing differs");
-    proved.check(&text.bytes);
-    let mut samples = [const { Vec::new() }; 9];
-    for _ in 0..rounds {
-        samples[0].push(nanoseconds(|| proved.list()));
-        samples[1].push(nanoseconds(|| proved.list_plain()));
-        samples[2].push(nanoseconds(|| list_by_hand(workload, &mut digits)));
-        samples[3].push(nanoseconds(|| list_tuned(workload, &mut buffer)));
-        samples[4].push(nanoseconds(|| list_with_std(workload, &mut text)));
-        samples[5].push(nanoseconds(|| proved.play()));
-        samples[6].push(nanoseconds(|| proved.play_plain()));
-        samples[7].push(nanoseconds(|| play_model(workload)));
-        samples[8].push(nanoseconds(|| play_tuned(workload)));
-    }
-    let samples = samples.map(fastest);
-    let sides = |[proved, plain, model, tuned]: [u128; 4]| Sides {
-        proved,
-        plain,
-        model,
-        tuned,
-    };
+    let trace = workload.trace.as_slice();
+    let listing = bench::listing::listing(trace, PROGRAM_LIMIT);
+    let theirs: &[u8] = if LINKED { &listing } else { b"" };
+    let sides = [
+        lists(proved::list_into, trace, theirs),
+        lists(proved::list_plain_into, trace, theirs),
+        lists_by_model(trace, Digits::default(), |it| &mut it.bytes, &listing),
+        lists(tuned::list, trace, &listing),
+        lists_by_model(trace, Text::default(), |it| &mut it.bytes, &listing),
+        plays(proved::steps_of, trace),
+        plays(proved::steps_plain_of, trace),
+        plays(play_model, trace),
+        plays(play_tuned, trace),
+    ];
+    let [proved, plain, model, tuned, std_text, play @ ..] = fastest(rounds, sides);
     Times {
-        listing_bytes: text.bytes.len(),
-        listing: sides([samples[0], samples[1], samples[2], samples[3]]),
-        std_text: samples[4],
-        play: sides([samples[5], samples[6], samples[7], samples[8]]),
+        listing_bytes: listing.len(),
+        listing: [proved, plain, model, tuned],
+        std_text,
+        play,
     }
 }
 
 /// The words and the times of one look.
 fn look_row(look: &Look, rounds: usize) -> String {
-    let proved = Proved::new(&look.reads);
-    proved.check_words(look);
-    let (opening, offset) = (look.opening.as_slice(), look.offset);
-    let calls = |run: &dyn Fn()| nanoseconds(|| (0..CALLS).for_each(|_| run()));
-    let mut samples = [const { Vec::new() }; 7];
-    for _ in 0..rounds {
-        samples[0].push(nanoseconds(|| proved.play()));
-        samples[1].push(nanoseconds(|| play_model(&look.reads)));
-        samples[2].push(calls(&|| proved.look(opening, offset)));
-        samples[3].push(calls(&|| proved.steps(opening)));
-        samples[4].push(calls(&|| {
-            black_box(looked(black_box(opening), PROGRAM_LIMIT, offset));
-        }));
-        samples[5].push(calls(&|| {
-            black_box(play(black_box(opening), PROGRAM_LIMIT, &mut ()));
-        }));
-        samples[6].push(nanoseconds(|| play_tuned(&look.reads)));
+    let (reads, opening) = (look.reads.trace.as_slice(), look.opening.as_slice());
+    for trace in [opening, reads] {
+        let words = proved::words_looked_at(trace, PROGRAM_LIMIT, look.offset);
+        assert!(words == look.words || !LINKED, "the words looked at differ");
     }
-    let [read, read_model, asked, played, asked_model, played_model, read_tuned] =
-        samples.map(fastest);
+    let offset = look.offset;
+    let calls = |run: Box<dyn Fn(&[u8]) -> u32>| -> Box<dyn FnMut()> {
+        Box::new(move || {
+            for _ in 0..CALLS {
+                black_box(run(black_box(opening)));
+            }
+        })
+    };
+    let sides = [
+        plays(proved::steps_of, reads),
+        plays(play_model, reads),
+        plays(play_tuned, reads),
+        calls(Box::new(move |it| {
+            proved::words_looked_at(it, PROGRAM_LIMIT, offset)
+        })),
+        calls(Box::new(|it| proved::steps_of(it, PROGRAM_LIMIT))),
+        calls(Box::new(move |it| looked(it, PROGRAM_LIMIT, offset))),
+        calls(Box::new(|it| play_model(it, PROGRAM_LIMIT))),
+    ];
+    let [read, read_model, read_tuned, asked, played, asked_model, played_model] =
+        fastest(rounds, sides);
     let question = |asked: u128, played: u128| {
         format!("{:.0}", (asked as f64 - played as f64) / f64::from(CALLS))
     };
@@ -212,161 +289,10 @@ fn look_row(look: &Look, rounds: usize) -> String {
 
 /// What is told of the proved side, where it is linked in.
 fn linked(cell: String) -> String {
-    match cfg!(feature = "exports") {
+    match LINKED {
         true => cell,
         false => "-".to_string(),
     }
-}
-
-fn list_by_hand(workload: &Workload, digits: &mut Digits) {
-    digits.bytes.clear();
-    play(black_box(&workload.trace), PROGRAM_LIMIT, digits);
-    black_box(&digits.bytes);
-}
-
-fn list_with_std(workload: &Workload, text: &mut Text) {
-    text.bytes.clear();
-    play(black_box(&workload.trace), PROGRAM_LIMIT, text);
-    black_box(&text.bytes);
-}
-
-fn list_tuned(workload: &Workload, buffer: &mut [u8]) -> usize {
-    let written = tuned::list(black_box(&workload.trace), PROGRAM_LIMIT, buffer);
-    black_box(&buffer);
-    written
-}
-
-fn play_model(workload: &Workload) {
-    black_box(play(black_box(&workload.trace), PROGRAM_LIMIT, &mut ()));
-}
-
-fn play_tuned(workload: &Workload) {
-    black_box(tuned::play(black_box(&workload.trace), PROGRAM_LIMIT));
-}
-
-fn nanoseconds<T>(run: impl FnOnce() -> T) -> u128 {
-    let begin = Instant::now();
-    run();
-    begin.elapsed().as_nanos()
-}
-
-fn fastest(samples: Vec<u128>) -> u128 {
-    samples
-        .into_iter()
-        .min()
-        .expect("there is at least one round")
-}
-
-/// The proved side with the trace that it lists and its buffer.
-#[cfg(feature = "exports")]
-struct Proved<'a> {
-    trace: &'a [u8],
-    buffer: Vec<u8>,
-    written: usize,
-    words: Words,
-}
-
-#[cfg(feature = "exports")]
-impl<'a> Proved<'a> {
-    fn new(workload: &'a Workload) -> Proved<'a> {
-        Proved {
-            trace: &workload.trace,
-            buffer: vec![0; AMPLE],
-            written: 0,
-            words: Words::UNTOUCHED,
-        }
-    }
-
-    fn list(&mut self) {
-        let trace = black_box(self.trace);
-        self.written = bench::exports::list_into(trace, PROGRAM_LIMIT, &mut self.buffer);
-        black_box(&self.buffer);
-    }
-
-    fn play(&self) {
-        self.steps(self.trace);
-    }
-
-    fn steps(&self, trace: &[u8]) {
-        black_box(bench::exports::steps_of(black_box(trace), PROGRAM_LIMIT));
-    }
-
-    fn look(&self, trace: &[u8], offset: u32) {
-        let trace = black_box(trace);
-        let words = bench::exports::words_looked_at(trace, PROGRAM_LIMIT, offset);
-        black_box(words);
-    }
-
-    /// What is told beside the times must be what is looked at.
-    fn check_words(&self, look: &Look) {
-        for trace in [look.opening.as_slice(), self.trace] {
-            let words = bench::exports::words_looked_at(trace, PROGRAM_LIMIT, look.offset);
-            assert_eq!(words, look.words, "the words looked at differ");
-        }
-    }
-
-    fn list_plain(&mut self) {
-        let trace = black_box(self.trace);
-        self.written = bench::exports::list_plain_into(trace, PROGRAM_LIMIT, &mut self.buffer);
-        black_box(&self.buffer);
-    }
-
-    fn play_plain(&mut self) {
-        let trace = black_box(self.trace);
-        black_box(bench::exports::steps_plain_of(trace, PROGRAM_LIMIT));
-    }
-
-    fn figures(&mut self) {
-        let trace = black_box(self.trace);
-        black_box(figures_into(trace, PROGRAM_LIMIT, &mut self.words));
-        black_box(&self.words);
-    }
-
-    fn check_figures(&self) {
-        let same =
-            figures_of(self.trace, PROGRAM_LIMIT) == report::figures(self.trace, PROGRAM_LIMIT).0;
-        assert!(same, "the figures differ");
-    }
-
-    /// What is timed must be the same work.
-    fn check(&mut self, listing: &[u8]) {
-        for list in [Proved::list, Proved::list_plain] {
-            list(self);
-            let same = self.buffer[..self.written] == *listing;
-            assert!(same, "the listings differ");
-        }
-    }
-}
-
-/// Nothing is linked in, so there is nothing to do.
-#[cfg(not(feature = "exports"))]
-struct Proved;
-
-#[cfg(not(feature = "exports"))]
-impl Proved {
-    fn new(_: &Workload) -> Proved {
-        Proved
-    }
-
-    fn list(&mut self) {}
-
-    fn list_plain(&mut self) {}
-
-    fn play(&self) {}
-
-    fn steps(&self, _: &[u8]) {}
-
-    fn look(&self, _: &[u8], _: u32) {}
-
-    fn check_words(&self, _: &Look) {}
-
-    fn play_plain(&mut self) {}
-
-    fn figures(&mut self) {}
-
-    fn check_figures(&self) {}
-
-    fn check(&mut self, _: &[u8]) {}
 }
 
 const FIGURES_HEAD: &str = "\
@@ -375,23 +301,30 @@ const FIGURES_HEAD: &str = "\
 
 /// The figures of a workload, timed by both sides in turn, beside what was timed before.
 fn figures_row(workload: &Workload, times: &Times, rounds: usize) -> String {
-    let mut proved = Proved::new(workload);
-    proved.check_figures();
-    let mut samples = [const { Vec::new() }; 2];
-    for _ in 0..rounds {
-        samples[0].push(nanoseconds(|| proved.figures()));
-        samples[1].push(nanoseconds(|| {
-            black_box(report::figures(black_box(&workload.trace), PROGRAM_LIMIT))
-        }));
-    }
-    let [figures, model] = samples.map(fastest);
-    let linked = |cell: String| match cfg!(feature = "exports") {
-        true => cell,
-        false => "-".to_string(),
-    };
-    let cells = [figures, times.play.proved, times.listing.proved];
+    let trace = workload.trace.as_slice();
+    let figures = report::figures(trace, PROGRAM_LIMIT).0;
+    assert!(
+        proved::figures_of(trace, PROGRAM_LIMIT) == figures,
+        "the figures differ"
+    );
+    let mut words = proved::UNTOUCHED;
+    let sides: [Box<dyn FnMut()>; 2] = [
+        Box::new(|| {
+            black_box(proved::figures_into(
+                black_box(trace),
+                PROGRAM_LIMIT,
+                &mut words,
+            ));
+            black_box(&words);
+        }),
+        Box::new(|| {
+            black_box(report::figures(black_box(trace), PROGRAM_LIMIT));
+        }),
+    ];
+    let [figures, model] = fastest(rounds, sides);
+    let cells = [figures, times.play[0], times.listing[0]];
     let cells = cells.map(|whole| linked(per_step(workload, whole)));
-    let ratio = figures as f64 / times.play.proved as f64;
+    let ratio = figures as f64 / times.play[0] as f64;
     format!(
         "{} | {} | {} | {} |",
         beginning(workload),
@@ -416,13 +349,13 @@ fn listing_row(workload: &Workload, times: &Times) -> String {
         "{} | {} | {} | {} |",
         beginning(workload),
         times.listing_bytes,
-        side_by_side(workload, &times.listing),
+        side_by_side(workload, times.listing),
         per_step(workload, times.std_text),
     )
 }
 
 fn play_row(workload: &Workload, times: &Times) -> String {
-    let sides = side_by_side(workload, &times.play);
+    let sides = side_by_side(workload, times.play);
     format!("{} | {sides} |", beginning(workload))
 }
 
@@ -434,12 +367,9 @@ fn beginning(workload: &Workload) -> String {
 }
 
 /// The times of all sides, and the ratios of the proved one to the model and to the tuned player.
-fn side_by_side(workload: &Workload, sides: &Sides) -> String {
-    let (model, tuned) = (sides.model, sides.tuned);
-    let ratio = |other: u128| linked(format!("{:.2}", sides.proved as f64 / other as f64));
-    let mut cells: Vec<String> = [sides.proved, sides.plain]
-        .map(|whole| linked(per_step(workload, whole)))
-        .into();
+fn side_by_side(workload: &Workload, [proved, plain, model, tuned]: Sides) -> String {
+    let ratio = |other: u128| linked(format!("{:.2}", proved as f64 / other as f64));
+    let mut cells = Vec::from([proved, plain].map(|whole| linked(per_step(workload, whole))));
     cells.extend([model, tuned].map(|whole| per_step(workload, whole)));
     cells.extend([model, tuned].map(ratio));
     cells.join(" | ")

@@ -5,6 +5,7 @@ use std::process::ExitCode;
 
 use bench::boards::coverage::Coverage;
 use bench::boards::replay;
+use bench::program::{not_so, words};
 use bench::say;
 use bench::tally::Listed;
 
@@ -20,14 +21,11 @@ with 2 if it was not asked properly.
 
 fn main() -> ExitCode {
     let (mut least, mut table) = (1, false);
-    for word in std::env::args().skip(1) {
-        match (word.as_str(), word.parse()) {
+    for word in words() {
+        match (word, word.parse()) {
             ("--table", _) => table = true,
             (_, Ok(number)) => least = number,
-            _ => {
-                eprint!("boards: {word:?} is not understood\n\n{USAGE}");
-                return ExitCode::from(2);
-            }
+            _ => return not_so(&format!("boards: {word:?} is not understood\n\n{USAGE}")),
         }
     }
     match compared(least, table) {

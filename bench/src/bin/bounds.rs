@@ -4,13 +4,15 @@
 use std::process::ExitCode;
 
 use bench::bounds::text::told;
-use bench::bounds::waits::{Bound, Bounded, Summary};
+use bench::bounds::waits::{summary, Bound, Bounded, Summary, Terms};
 use bench::bounds::Records;
 use bench::compare::MOST_FAILURES;
+use bench::generate::Case;
 use bench::model::aic::SOURCES;
-use bench::program::Program;
+use bench::program::{not_so, words, Program};
 use bench::report::generate::Generator;
 use bench::say;
+use bench::trace::PROGRAM_LIMIT;
 
 const USAGE: &str = "\
 bounds --exports COUNT
@@ -26,61 +28,60 @@ reached; else with 1, and with 2 if it was not asked properly.
 /// Numbers that are those of no source that waits, besides those of sources that do not.
 const NONE: [u32; 4] = [0, 32, 41, u32::MAX];
 
-/// How often each part of a bound was reached, in waits.
+/// What is reached by a wait.
+const ITEMS: [(&str, fn(&Bounded) -> bool); 11] = [
+    ("waits that ended", |wait| wait.ended.is_some()),
+    ("waits that did not end", |wait| wait.ended.is_none()),
+    ("waits without a bound, by a rewrite", |wait| {
+        terms(wait).is_none()
+    }),
+    ("waits that met their bound, over 0", |wait| {
+        wait.started > 0 && terms(wait).is_some_and(|terms| terms.sum() == wait.started)
+    }),
+    ("waits with three terms or more", |wait| {
+        (0..6).filter(|&nth| has(wait, nth)).count() > 2
+    }),
+    ("waits with the term pending", |wait| has(wait, 0)),
+    ("waits with the term edges", |wait| has(wait, 1)),
+    ("waits with the term commands", |wait| has(wait, 2)),
+    ("waits with the term turns", |wait| has(wait, 3)),
+    ("waits with the term closed while active", |wait| {
+        has(wait, 4)
+    }),
+    ("waits with the term remembered", |wait| has(wait, 5)),
+];
+
+fn terms(wait: &Bounded) -> Option<Terms> {
+    match wait.bound {
+        Bound::Terms(terms) => Some(terms),
+        Bound::Rewritten(_) => None,
+    }
+}
+
+fn has(wait: &Bounded, nth: usize) -> bool {
+    terms(wait).is_some_and(|terms| terms.each()[nth] > 0)
+}
+
+/// How much was asked, and how often each item was reached.
 #[derive(Default)]
 struct Coverage {
     traces: u64,
     asked: u64,
-    waits: u64,
-    ended: u64,
-    unended: u64,
-    rewritten: u64,
-    met: u64,
-    several: u64,
-    terms: [u64; 6],
+    waits: usize,
+    reached: [usize; ITEMS.len()],
 }
 
 impl Coverage {
     fn see(&mut self, waits: &[Bounded]) -> Result<(), String> {
-        for wait in waits {
-            self.waits += 1;
-            self.ended += u64::from(wait.ended.is_some());
-            self.unended += u64::from(wait.ended.is_none());
-            match wait.bound {
-                Bound::Rewritten(_) => self.rewritten += 1,
-                Bound::Terms(terms) => {
-                    if wait.started > terms.sum() {
-                        return Err(format!("more is started than its bound: {wait:?}"));
-                    }
-                    self.met += u64::from(wait.started > 0 && wait.started == terms.sum());
-                    let each = terms.each();
-                    let some = each.iter().filter(|&&term| term > 0).count();
-                    self.several += u64::from(some > 2);
-                    for (count, term) in self.terms.iter_mut().zip(each) {
-                        *count += u64::from(term > 0);
-                    }
-                }
-            }
+        let is_beyond = |wait: &&Bounded| terms(wait).is_some_and(|it| wait.started > it.sum());
+        if let Some(wait) = waits.iter().find(is_beyond) {
+            return Err(format!("more is started than its bound: {wait:?}"));
+        }
+        self.waits += waits.len();
+        for (count, (_, reaches)) in self.reached.iter_mut().zip(ITEMS) {
+            *count += waits.iter().filter(|wait| reaches(wait)).count();
         }
         Ok(())
-    }
-
-    /// Each item with how often it was reached.
-    fn items(&self) -> Vec<(&'static str, u64)> {
-        let [pending, edges, commands, turns, closed, remembered] = self.terms;
-        vec![
-            ("waits that ended", self.ended),
-            ("waits that did not end", self.unended),
-            ("waits without a bound, by a rewrite", self.rewritten),
-            ("waits that met their bound, over 0", self.met),
-            ("waits with three terms or more", self.several),
-            ("waits with the term pending", pending),
-            ("waits with the term edges", edges),
-            ("waits with the term commands", commands),
-            ("waits with the term turns", turns),
-            ("waits with the term closed while active", closed),
-            ("waits with the term remembered", remembered),
-        ]
     }
 }
 
@@ -120,10 +121,15 @@ fn asked(records: &Records, number: usize) -> Vec<u32> {
     waiting.chain(others).collect()
 }
 
-/// One trace through the library.
-fn compared(generator: &Generator, number: usize, coverage: &mut Coverage) -> Result<(), String> {
-    let case = generator.case(number).case;
-    let records = Records::of(&case.trace, case.limit);
+/// One trace through the library or, with a word that names a source or none, through a program.
+fn compared(
+    case: &Case,
+    number: usize,
+    program: Option<&Program>,
+    coverage: &mut Coverage,
+) -> Result<(), String> {
+    let limit = program.map_or(case.limit, |_| PROGRAM_LIMIT);
+    let records = Records::of(&case.trace, limit);
     coverage.traces += 1;
     for source in asked(&records, number) {
         let known = (1..SOURCES as u32).contains(&source) && !records.aics.is_empty();
@@ -133,75 +139,45 @@ fn compared(generator: &Generator, number: usize, coverage: &mut Coverage) -> Re
         };
         coverage.asked += 1;
         coverage.see(&waits)?;
-        let (here, there) = (
-            expected(&bench::bounds::waits::summary(&waits)),
-            by_library(&case.trace, case.limit, source),
-        );
-        if here != there {
-            return Err(format!(
-                "source {source}: {there:?}, by brute force {here:?}"
-            ));
-        }
-    }
-    Ok(())
-}
-
-/// One trace through the program, with a word that names a source or none.
-fn printed(
-    generator: &Generator,
-    number: usize,
-    program: &Program,
-    coverage: &mut Coverage,
-) -> Result<(), String> {
-    let case = generator.case(number).case;
-    let records = Records::of(&case.trace, bench::trace::PROGRAM_LIMIT);
-    coverage.traces += 1;
-    for source in asked(&records, number) {
-        let word = source.to_string();
-        coverage.asked += 1;
-        if (1..SOURCES as u32).contains(&source) && !records.aics.is_empty() {
-            coverage.see(&records.waits(source as usize))?;
-        }
-        let (text, line) = program.run(&[&word], &case.trace)?;
-        let here = match told(&case.trace, &word) {
-            Ok(text) => (text.into_bytes(), Vec::new()),
-            Err(line) => (Vec::new(), line.into_bytes()),
-        };
-        if (text, line) != here {
-            return Err(format!("source {word}: another text than by brute force"));
+        match program {
+            None => {
+                let here = expected(&summary(&waits));
+                let there = by_library(&case.trace, limit, source);
+                if here != there {
+                    return Err(format!(
+                        "source {source}: {there:?}, by brute force {here:?}"
+                    ));
+                }
+            }
+            Some(program) => {
+                let here = match told(&case.trace, &source.to_string()) {
+                    Ok(text) => (text.into_bytes(), Vec::new()),
+                    Err(line) => (Vec::new(), line.into_bytes()),
+                };
+                if program.run(&[&source.to_string()], &case.trace)? != here {
+                    return Err(format!("source {source}: another text than by brute force"));
+                }
+            }
         }
     }
     Ok(())
 }
 
 fn main() -> ExitCode {
-    let words: Vec<String> = std::env::args().skip(1).collect();
-    let words: Vec<&str> = words.iter().map(String::as_str).collect();
-    let (count, program) = match words[..] {
+    let (count, program) = match words()[..] {
         ["--exports", count] if cfg!(feature = "exports") => (count, None),
         ["--program", count, path, ref more @ ..] => (count, Some(Program::new(path, more))),
-        _ => {
-            eprint!("{USAGE}");
-            return ExitCode::from(2);
-        }
+        _ => return not_so(USAGE),
     };
     let Ok(count) = count.parse::<usize>() else {
-        eprint!("{USAGE}");
-        return ExitCode::from(2);
+        return not_so(USAGE);
     };
     let generator = Generator::new(1);
     // Through a program, which is slow to start, the traces that are the same for every seed are left to the library.
-    let first = if program.is_some() {
-        generator.sweeps()
-    } else {
-        0
-    };
+    let first = program.as_ref().map_or(0, |_| generator.sweeps());
     let (mut coverage, mut wrong) = (Coverage::default(), 0);
-    for number in first..first + count {
-        let outcome = match &program {
-            None => compared(&generator, number, &mut coverage),
-            Some(program) => printed(&generator, number, program, &mut coverage),
-        };
+    for (number, counted) in generator.cases(first..first + count) {
+        let outcome = compared(&counted.case, number, program.as_ref(), &mut coverage);
         if let Err(why) = outcome {
             say!("trace {number}: {why}");
             wrong += 1;
@@ -210,16 +186,10 @@ fn main() -> ExitCode {
             }
         }
     }
-    say!(
-        "{} traces, {} questions, {} waits, {wrong} differ",
-        coverage.traces,
-        coverage.asked,
-        coverage.waits
-    );
-    let items = coverage.items();
-    for (what, reached) in &items {
+    let (traces, asked, waits) = (coverage.traces, coverage.asked, coverage.waits);
+    say!("{traces} traces, {asked} questions, {waits} waits, {wrong} differ");
+    for ((what, _), reached) in ITEMS.iter().zip(coverage.reached) {
         say!("{reached:>9} {what}");
     }
-    let missed = items.iter().filter(|(_, reached)| *reached == 0).count();
-    ExitCode::from(u8::from(wrong > 0 || missed > 0))
+    ExitCode::from(u8::from(wrong > 0 || coverage.reached.contains(&0)))
 }

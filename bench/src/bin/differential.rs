@@ -51,40 +51,15 @@ Ends with 0 if nothing differs and all listed items were reached, else with 1, a
 /// How long a smaller case is looked for when a case differs.
 const SHRINK_TIME: Duration = Duration::from_secs(10);
 
-/// How to reach the other side.
-#[derive(Clone, Copy, PartialEq, Eq)]
-enum Way {
-    Program,
-    Batch,
-    Exports,
-    Tuned,
-}
-
-impl Way {
-    fn adapt<S: Subject>(self, case: S) -> S {
-        match self {
-            Way::Program => case.for_program(),
-            Way::Batch | Way::Exports | Way::Tuned => case,
-        }
-    }
-
-    fn usual_count(self) -> usize {
-        match self {
-            Way::Program => 900,
-            Way::Batch | Way::Exports | Way::Tuned => 100_000,
-        }
-    }
-}
-
 /// What was asked for.
+#[derive(Default)]
 struct Options {
-    way: Option<Way>,
+    /// The word for how to reach the other side, and the program that is it.
+    way: String,
     path: String,
     arguments: Vec<String>,
-    stack: bool,
-    looked: bool,
-    figures: bool,
-    explained: bool,
+    /// The words for what is compared; none: listings.
+    sorts: Vec<String>,
     trace: Option<usize>,
     seed: u64,
     count: Option<usize>,
@@ -97,53 +72,33 @@ fn main() -> ExitCode {
         Ok(options) => options,
         Err(error) => return wrong(&error),
     };
-    let Options {
-        stack,
-        figures,
-        looked,
-        explained,
-        ..
-    } = options;
-    let sorts = [stack, figures, looked, explained].into_iter();
-    if sorts.filter(|&asked| asked).count() > 1 {
-        return wrong("--stack, --figures, --looked and --explained are not asked together");
-    }
-    if options.looked {
-        asked::<Question>(&options)
-    } else if options.stack {
-        asked::<Typed>(&options)
-    } else if options.figures {
-        asked::<Counted>(&options)
-    } else if options.explained {
-        asked::<Explanation>(&options)
-    } else {
-        asked::<Case>(&options)
+    let sorts: Vec<&str> = options.sorts.iter().map(String::as_str).collect();
+    match sorts[..] {
+        [] => asked::<Case>(&options),
+        ["--stack"] => asked::<Typed>(&options),
+        ["--figures"] => asked::<Counted>(&options),
+        ["--looked"] => asked::<Question>(&options),
+        ["--explained"] => asked::<Explanation>(&options),
+        _ => wrong("--stack, --figures, --looked and --explained are not asked together"),
     }
 }
 
 /// Does what is asked with the numbered cases.
 fn asked<S: Reported>(options: &Options) -> ExitCode {
     let generator = Numbered::<S>::new(options.seed);
-    match (options.trace, options.way) {
-        (Some(number), _) => {
-            // A reader that has gone away wants no more.
-            let _ = io::stdout().write_all(generator.case(number).input());
-            ExitCode::SUCCESS
-        }
-        (None, None) => wrong("none of --program, --batch, --exports and --tuned is given"),
-        (None, Some(Way::Exports)) if cfg!(not(feature = "exports")) => {
+    let way = options.way.as_str();
+    if let Some(number) = options.trace {
+        // A reader that has gone away wants no more.
+        let _ = io::stdout().write_all(generator.case(number).input());
+        return ExitCode::SUCCESS;
+    }
+    match way {
+        "" => wrong("none of --program, --batch, --exports and --tuned is given"),
+        "--exports" if cfg!(not(feature = "exports")) => {
             wrong("--exports wants a build with the feature `exports`")
         }
-        (None, Some(Way::Tuned)) if options.stack || options.looked || options.explained => {
-            wrong("--tuned is about the listings of traces alone")
-        }
-        (None, Some(Way::Program)) if options.looked => {
-            wrong("no program answers --looked; --exports and --batch do")
-        }
-        (None, Some(Way::Program | Way::Tuned)) if options.figures => {
-            wrong("--figures are asked with --exports or --batch")
-        }
-        (None, Some(way)) => differential(&generator, way, options),
+        _ if S::NOT_BY.contains(&way) => wrong(&format!("{} are not asked by {way}", S::MANY)),
+        _ => differential(&generator, Other::new(options), options),
     }
 }
 
@@ -154,30 +109,15 @@ fn wrong(error: &str) -> ExitCode {
 
 fn options(mut words: impl Iterator<Item = String>) -> Result<Options, String> {
     let mut options = Options {
-        way: None,
-        path: String::new(),
-        arguments: Vec::new(),
-        stack: false,
-        looked: false,
-        figures: false,
-        explained: false,
-        trace: None,
         seed: 1,
-        count: None,
-        first: 0,
-        table: false,
+        ..Options::default()
     };
     while let Some(word) = words.next() {
         let mut value = || words.next().ok_or(format!("{word} wants a value"));
         match word.as_str() {
-            "--program" => (options.way, options.path) = (Some(Way::Program), value()?),
-            "--batch" => (options.way, options.path) = (Some(Way::Batch), value()?),
-            "--exports" => options.way = Some(Way::Exports),
-            "--tuned" => options.way = Some(Way::Tuned),
-            "--stack" => options.stack = true,
-            "--looked" => options.looked = true,
-            "--figures" => options.figures = true,
-            "--explained" => options.explained = true,
+            "--program" | "--batch" => (options.path, options.way) = (value()?, word),
+            "--exports" | "--tuned" => options.way = word,
+            "--stack" | "--looked" | "--figures" | "--explained" => options.sorts.push(word),
             "--trace" => options.trace = Some(number(&value()?)?),
             "--seed" => options.seed = number(&value()?)?,
             "--count" => options.count = Some(number(&value()?)?),
@@ -203,14 +143,14 @@ enum Other {
 }
 
 impl Other {
-    fn new(way: Way, options: &Options) -> Other {
+    fn new(options: &Options) -> Other {
         let arguments: Vec<&str> = options.arguments.iter().map(String::as_str).collect();
         let program = Program::new(&options.path, &arguments);
-        match way {
-            Way::Program => Other::Program(program),
-            Way::Batch => Other::Batch(Batch::new(program)),
-            Way::Exports => Other::Exports,
-            Way::Tuned => Other::Tuned,
+        match options.way.as_str() {
+            "--program" => Other::Program(program),
+            "--batch" => Other::Batch(Batch::new(program)),
+            "--exports" => Other::Exports,
+            _ => Other::Tuned,
         }
     }
 
@@ -243,6 +183,9 @@ trait Reported: Subject + Made {
     /// What they are.
     const MANY: &'static str;
 
+    /// The ways by which nobody answers them.
+    const NOT_BY: &'static [&'static str];
+
     /// How much was compared, and of what.
     fn amount(summary: &Summary<Self>) -> String;
 
@@ -252,15 +195,12 @@ trait Reported: Subject + Made {
 
 impl Reported for Case {
     const MANY: &'static str = "traces";
+    const NOT_BY: &'static [&'static str] = &[];
 
     fn amount(summary: &Summary) -> String {
-        let steps = summary.coverage.steps();
-        let started = |kind: Kind| format!("{} {}", kind.told(), summary.coverage.started(kind));
-        let started = Kind::ALL.map(started).join(", ");
-        format!(
-            "{steps} steps, {} bytes of listing, started: {started}",
-            summary.bytes
-        )
+        let (steps, bytes) = (summary.coverage.steps(), summary.bytes);
+        let started = by_kind(|kind| summary.coverage.started(kind));
+        format!("{steps} steps, {bytes} bytes of listing, started: {started}")
     }
 
     fn told(&self) -> String {
@@ -271,6 +211,7 @@ impl Reported for Case {
 
 impl Reported for Typed {
     const MANY: &'static str = "tables";
+    const NOT_BY: &'static [&'static str] = &["--tuned"];
 
     fn amount(summary: &Summary<Typed>) -> String {
         format!("{} bytes of lines", summary.bytes)
@@ -283,6 +224,7 @@ impl Reported for Typed {
 
 impl Reported for Question {
     const MANY: &'static str = "questions";
+    const NOT_BY: &'static [&'static str] = &["--program", "--tuned"];
 
     fn amount(summary: &Summary<Question>) -> String {
         format!("{} words looked at", summary.coverage.words)
@@ -297,6 +239,7 @@ impl Reported for Question {
 
 impl Reported for Explanation {
     const MANY: &'static str = "explanations";
+    const NOT_BY: &'static [&'static str] = &["--tuned"];
 
     fn amount(summary: &Summary<Explanation>) -> String {
         let Coverage { steps, longest, .. } = summary.coverage;
@@ -311,11 +254,11 @@ impl Reported for Explanation {
 
 impl Reported for Counted {
     const MANY: &'static str = "traces";
+    const NOT_BY: &'static [&'static str] = &["--program", "--tuned"];
 
     fn amount(summary: &Summary<Counted>) -> String {
         let [steps, handlers, waits] = summary.coverage.amounts();
-        let started = |kind: Kind| format!("{} {}", kind.told(), summary.coverage.started(kind));
-        let started = Kind::ALL.map(started).join(", ");
+        let started = by_kind(|kind| summary.coverage.started(kind));
         format!("{steps} steps, {handlers} handlers started, {waits} waits, started: {started}")
     }
 
@@ -324,19 +267,34 @@ impl Reported for Counted {
     }
 }
 
+/// A number of each kind.
+fn by_kind(count: impl Fn(Kind) -> u64) -> String {
+    Kind::ALL
+        .map(|kind| format!("{} {}", kind.told(), count(kind)))
+        .join(", ")
+}
+
 /// As much of a case as is shown; `--trace N` writes all.
 fn start(bytes: &[u8]) -> &[u8] {
     &bytes[..bytes.len().min(1_000)]
 }
 
 /// Compares, reports, and answers the exit status.
-fn differential<S: Reported>(generator: &Numbered<S>, way: Way, options: &Options) -> ExitCode {
+fn differential<S: Reported>(
+    generator: &Numbered<S>,
+    mut other: Other,
+    options: &Options,
+) -> ExitCode {
     let begin = Instant::now();
-    let mut other = Other::new(way, options);
-    let count = options.count.unwrap_or(way.usual_count());
-    let numbers = options.first..options.first + count;
-    let cases = generator.cases(numbers);
-    let cases = cases.map(|(number, case)| (number, way.adapt(case)));
+    let program = matches!(other, Other::Program(_));
+    let usual = if program { 900 } else { 100_000 };
+    let numbers = options.first..options.first + options.count.unwrap_or(usual);
+    let cases = generator
+        .cases(numbers)
+        .map(|(number, case)| match program {
+            true => (number, case.for_program()),
+            false => (number, case),
+        });
     let summary = compare(cases, |case| other.ask(case));
     say!(
         "seed {}: {} {} compared, {} differ; {:.1} s; {}",

@@ -1,7 +1,6 @@
 //! Runs the programs that print waves and pictures on generated traces and windows, reads what they print, and compares
 //! every value, bar, box and number with the model, and then every byte.
 
-use std::io::{self, Read};
 use std::path::PathBuf;
 use std::process::ExitCode;
 use std::time::Duration;
@@ -10,7 +9,7 @@ use bench::compare::{self, first_difference, Subject, MOST_FAILURES};
 use bench::generate::Case;
 use bench::look::reached::{listed_of_pictures, listed_of_waves, Reached};
 use bench::look::{Generator, Window, TRACES, WINDOWS};
-use bench::program::Program;
+use bench::program::{input, not_so, words, Program};
 use bench::trace::PROGRAM_LIMIT;
 use bench::{hex, picture, say, waves};
 
@@ -43,43 +42,28 @@ struct Asked {
 }
 
 fn main() -> ExitCode {
-    let words: Vec<String> = std::env::args().skip(1).collect();
-    if let [option, path] = words.as_slice() {
-        if option == "--meaning" {
-            return means_the_same(path);
-        }
+    let words = words();
+    if let ["--meaning", path] = words[..] {
+        return means_the_same(path);
     }
     let asked = match asked(&words) {
         Ok(asked) => asked,
-        Err(why) => {
-            eprint!("look: {why}\n\n{USAGE}");
-            return ExitCode::from(2);
-        }
+        Err(why) => return not_so(&format!("look: {why}\n\n{USAGE}")),
     };
     let generator = Generator::new(asked.seed);
     let waves = compare_waves(&asked, &generator);
     let pictures = compare_pictures(&asked, &generator);
-    match waves && pictures {
-        true => ExitCode::SUCCESS,
-        false => ExitCode::FAILURE,
-    }
+    ExitCode::from(u8::from(!(waves && pictures)))
 }
 
 /// Compares a dump that some program wrote, by what it means.
 fn means_the_same(path: &str) -> ExitCode {
-    let mut dump = Vec::new();
-    let read = io::stdin().read_to_end(&mut dump);
-    let trace = read.and_then(|_| std::fs::read(path));
-    let compared = trace
-        .map_err(|error| error.to_string())
-        .and_then(|trace| waves::meaning(&dump, &waves::waves(&trace, PROGRAM_LIMIT)));
+    let trace = std::fs::read(path).map_err(|error| error.to_string());
+    let compared =
+        trace.and_then(|trace| waves::meaning(&input(), &waves::waves(&trace, PROGRAM_LIMIT)));
     match compared {
-        Ok(compared) => {
-            say!(
-                "{} ticks, {} values of signals",
-                compared.ticks,
-                compared.values
-            );
+        Ok(waves::Compared { ticks, values, .. }) => {
+            say!("{ticks} ticks, {values} values of signals");
             ExitCode::SUCCESS
         }
         Err(why) => {
@@ -89,8 +73,8 @@ fn means_the_same(path: &str) -> ExitCode {
     }
 }
 
-fn asked(words: &[String]) -> Result<Asked, String> {
-    let mut words = words.iter().map(String::as_str);
+fn asked(words: &[&str]) -> Result<Asked, String> {
+    let mut words = words.iter().copied();
     let (mut wave, mut picture, mut by) = (None, None, Vec::new());
     let (mut traces, mut windows, mut seed) = (TRACES, WINDOWS, 1);
     while let Some(option) = words.next() {
@@ -130,8 +114,8 @@ fn asked(words: &[String]) -> Result<Asked, String> {
 struct Tally {
     compared: usize,
     reached: Reached,
-    waves: waves::Compared,
-    pictures: picture::Compared,
+    /// How much was compared.
+    amounts: [usize; 4],
     /// Windows of which there is no picture.
     none: usize,
     /// The numbers of those that differ, and how.
@@ -139,26 +123,9 @@ struct Tally {
 }
 
 impl Tally {
-    fn add(&mut self, other: &Tally) {
-        self.compared += other.compared;
-        self.none += other.none;
-        self.add_waves(&other.waves);
-        self.add_picture(&other.pictures);
-        self.reached.add(&other.reached);
-    }
-
-    fn add_waves(&mut self, more: &waves::Compared) {
-        self.waves.ticks += more.ticks;
-        self.waves.signals += more.signals;
-        self.waves.values += more.values;
-        self.waves.changes += more.changes;
-    }
-
-    fn add_picture(&mut self, more: &picture::Compared) {
-        self.pictures.columns += more.columns;
-        self.pictures.bars += more.bars;
-        self.pictures.boxes += more.boxes;
-        self.pictures.refused += more.refused;
+    fn add(&mut self, more: [usize; 4]) {
+        let amounts = self.amounts.iter_mut().zip(more);
+        amounts.for_each(|(amount, more)| *amount += more);
     }
 }
 
@@ -176,7 +143,12 @@ fn on_all_processors(
         differ,
         ..Tally::default()
     };
-    tallies.iter().for_each(|tally| all.add(tally));
+    for tally in &tallies {
+        all.compared += tally.compared;
+        all.none += tally.none;
+        all.add(tally.amounts);
+        all.reached.add(&tally.reached);
+    }
     all
 }
 
@@ -209,16 +181,16 @@ fn compare_waves(asked: &Asked, generator: &Generator) -> bool {
         tally.reached.see_waves(&expected);
         let (compared, bytes) = wave_differs(&asked.wave, &trace, &expected)?;
         tally.reached.see_dump(bytes);
-        tally.add_waves(&compared);
+        tally.add([
+            compared.signals,
+            compared.ticks,
+            compared.values,
+            compared.changes,
+        ]);
         Ok(())
     };
     let tally = on_all_processors(asked.traces, compare);
-    let waves::Compared {
-        ticks,
-        signals,
-        values,
-        changes,
-    } = tally.waves;
+    let [signals, ticks, values, changes] = tally.amounts;
     say!(
         "waves: {} traces, {signals} signals declared, {ticks} ticks, {values} values of signals, {changes} changes",
         tally.compared
@@ -273,12 +245,7 @@ fn compare_pictures(asked: &Asked, generator: &Generator) -> bool {
         })
     };
     let tally = on_all_processors(asked.windows, compare);
-    let picture::Compared {
-        columns,
-        bars,
-        boxes,
-        refused,
-    } = tally.pictures;
+    let [columns, bars, boxes, refused] = tally.amounts;
     say!(
         "pictures: {} windows, {} of them without a picture; {columns} columns, {bars} bars, {boxes} dark boxes, {refused} numbers of refusals",
         tally.compared,
@@ -315,6 +282,11 @@ fn compare_picture(program: &Program, window: &Window, tally: &mut Tally) -> Res
     tally.reached.see_picture(window, &nesting);
     tally.reached.see_size(printed.len());
     let compared = picture::compare(&printed, &nesting)?;
-    tally.add_picture(&compared);
+    tally.add([
+        compared.columns,
+        compared.bars,
+        compared.boxes,
+        compared.refused,
+    ]);
     Ok(())
 }

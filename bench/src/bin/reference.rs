@@ -3,7 +3,7 @@
 //! with `--wave` the waves of a trace, with `--picture` the picture of some of its steps, and with `--explain` all or some
 //! of it as text, explained.
 
-use std::io::{self, BufReader, BufWriter, Read, Write};
+use std::io::{self, BufReader, BufWriter, Write};
 use std::process::ExitCode;
 
 use bench::batch::{figures_to_bytes, serve, Asked, Reply, Request};
@@ -12,6 +12,7 @@ use bench::explained::{explain, window};
 use bench::listing::listing;
 use bench::looked::{looked, told};
 use bench::picture;
+use bench::program::{input, not_so, words};
 use bench::report;
 use bench::stack;
 use bench::trace::PROGRAM_LIMIT;
@@ -24,45 +25,30 @@ number there says, or the waves of the trace, or the picture of some of its step
 ";
 
 fn main() -> ExitCode {
-    let words: Vec<String> = std::env::args().skip(1).collect();
-    match words.as_slice() {
+    match words()[..] {
         [] => print_one(|trace| listing(trace, PROGRAM_LIMIT)),
-        [word] if word == "--stack" => print_one(stack::line),
-        [word] if word == "--slip" => {
-            print_one(|text| stack::lead::lead(text).unwrap_or_default().into_bytes());
-        }
-        [word] if word == "--stacksize" => print_one(|text| {
+        ["--stack"] => print_one(stack::line),
+        ["--slip"] => print_one(|text| stack::lead::lead(text).unwrap_or_default().into_bytes()),
+        ["--stacksize"] => print_one(|text| {
             if let Some(line) = stack::lead::lead(text) {
                 eprint!("stacksize: {line}");
             }
             stack::line(text)
         }),
-        [word] if word == "--batch" => print_many(),
-        [word] if word == "--boards" => print_one(boards),
-        [word] if word == "--wave" => {
-            print_one(|trace| waves::write(&waves::waves(trace, PROGRAM_LIMIT)));
-        }
-        [word] if word == "--explain" => print_one(|trace| explain(trace, PROGRAM_LIMIT)),
-        [word, first, steps] if word == "--explain" => {
-            print_one(|trace| part(trace, first, steps));
-        }
-        [word, first, steps] if word == "--picture" => {
-            print_one(|trace| picture(trace, first, steps));
-        }
-        _ => {
-            eprint!("{USAGE}");
-            return ExitCode::from(2);
-        }
+        ["--batch"] => print_many(),
+        ["--boards"] => print_one(boards),
+        ["--wave"] => print_one(|trace| waves::write(&waves::waves(trace, PROGRAM_LIMIT))),
+        ["--explain"] => print_one(|trace| explain(trace, PROGRAM_LIMIT)),
+        ["--explain", first, steps] => print_one(|trace| part(trace, first, steps)),
+        ["--picture", first, steps] => print_one(|trace| picture(trace, first, steps)),
+        _ => return not_so(USAGE),
     }
     ExitCode::SUCCESS
 }
 
 fn print_one(text: impl Fn(&[u8]) -> Vec<u8>) {
-    let mut input = Vec::new();
-    // Input that cannot be read ends where it cannot be read.
-    let _ = io::stdin().read_to_end(&mut input);
     // A reader that has gone away wants no more.
-    let _ = io::stdout().write_all(&text(&input));
+    let _ = io::stdout().write_all(&text(&input()));
 }
 
 /// The calls on so many generated boards, each with the model's answer. What is no number asks for none.

@@ -5,6 +5,7 @@ use std::io::{self, BufReader, BufWriter, Write};
 use std::path::Path;
 use std::process::ExitCode;
 
+use bench::program::{not_so, words};
 use bench::report::folder::{make, make_year, NAMES};
 use bench::report::names::report;
 
@@ -15,9 +16,7 @@ report --year PATH [COUNT]   makes a folder of so many traces (3000) of 20,000 s
 ";
 
 fn main() -> ExitCode {
-    let words: Vec<String> = std::env::args().skip(1).collect();
-    let words: Vec<&str> = words.iter().map(String::as_str).collect();
-    let made = match words.as_slice() {
+    let made = match words()[..] {
         [] => {
             let mut names = BufReader::new(io::stdin().lock());
             let mut to = BufWriter::new(io::stdout().lock());
@@ -30,10 +29,7 @@ fn main() -> ExitCode {
         ["--year", path, count] if count.parse::<usize>().is_ok() => {
             make_year(Path::new(path), count.parse().unwrap_or(NAMES))
         }
-        _ => {
-            eprint!("{USAGE}");
-            return ExitCode::from(2);
-        }
+        _ => return not_so(USAGE),
     };
     match made {
         Ok(()) => ExitCode::SUCCESS,

@@ -8,7 +8,7 @@ use std::path::Path;
 use std::process::ExitCode;
 
 use bench::compare::{first_difference, MOST_FAILURES};
-use bench::program::Program;
+use bench::program::{input, words, Program};
 use bench::say;
 use bench::sheet::figures::{due, figures};
 use bench::sheet::generate::{sample, Generator};
@@ -47,9 +47,7 @@ const LEADS: [&str; 9] = [
 type Outcome = Result<bool, Box<dyn Error>>;
 
 fn main() -> ExitCode {
-    let words: Vec<String> = std::env::args().skip(1).collect();
-    let words: Vec<&str> = words.iter().map(String::as_str).collect();
-    match asked(&words) {
+    match asked(&words()) {
         Ok(good) => ExitCode::from(u8::from(!good)),
         Err(error) => {
             eprintln!("sheets: {error}");
@@ -89,9 +87,7 @@ fn told_of(table: &[u8]) -> String {
 }
 
 fn print_table() -> Outcome {
-    let mut trace = Vec::new();
-    io::Read::read_to_end(&mut io::stdin(), &mut trace)?;
-    match table(&trace) {
+    match table(&input()) {
         Ok(text) => print!("{text}"),
         Err(line) => eprint!("{line}"),
     }

@@ -9,7 +9,7 @@ use bench::compare::{on_all_processors, Outcome};
 use bench::explained::LONGEST_LINE;
 use bench::explained::{explain, Asked};
 use bench::numbered::Numbered;
-use bench::program::Program;
+use bench::program::{not_so, words, Program};
 use bench::say;
 use bench::trace::PROGRAM_LIMIT;
 use bench::typed::{encode, generate};
@@ -82,20 +82,17 @@ fn explained_again(trace: &[u8]) -> Outcome {
 }
 
 fn main() -> ExitCode {
-    let mut words: Vec<String> = std::env::args().skip(1).collect();
-    let texts = match words.first().is_some_and(|word| word == "--explained") {
-        true => {
-            words.remove(0);
-            Texts::Explained(Numbered::new(1))
+    let (texts, count, program) = match words()[..] {
+        ["--explained", count, path, ref more @ ..] => {
+            let texts = Texts::Explained(Numbered::new(1));
+            (texts, count, Program::new(path, more))
         }
-        false => Texts::Typed,
+        [count, path, ref more @ ..] => (Texts::Typed, count, Program::new(path, more)),
+        _ => return not_so(USAGE),
     };
-    let Some((count, path, more)) = asked(&words) else {
-        eprint!("{USAGE}");
-        return ExitCode::from(2);
+    let Ok(count) = count.parse::<usize>() else {
+        return not_so(USAGE);
     };
-    let more: Vec<&str> = more.iter().map(String::as_str).collect();
-    let program = Program::new(path, &more);
     let compare = |item: usize, refused: &mut usize| {
         *refused += usize::from(texts.compared(&program, item)?);
         Ok(())
@@ -109,13 +106,6 @@ fn main() -> ExitCode {
     let (texts, refused, wrong) = (2 * count, refused.iter().sum::<usize>(), wrong.len());
     say!("{texts} texts, {refused} of them refused, {wrong} differ");
     ExitCode::from(u8::from(wrong > 0))
-}
-
-fn asked(words: &[String]) -> Option<(usize, &str, &[String])> {
-    let [count, path, more @ ..] = words else {
-        return None;
-    };
-    Some((count.parse().ok()?, path, more))
 }
 
 /// Whether the program does with a text what the model does.

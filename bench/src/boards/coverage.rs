@@ -1,4 +1,5 @@
-//! What the calls of a transcript have reached, counted from the model's own boards; a listed item not reached is a gap.
+//! What the calls of a transcript have reached, counted from the model's own boards; a listed item not reached is a
+//! gap.
 
 mod listed;
 mod reasons;
@@ -9,7 +10,8 @@ use std::collections::{BTreeMap, BTreeSet};
 use super::{Call, Reply, Sort};
 use crate::model::board::{Board, Wire};
 use crate::model::core::{Register, Side, IRQ_INPUTS};
-use crate::tally::{Listed, Tally};
+use crate::tally::{each, Every, Fact, Listed, Tally};
+use crate::{facts, sorts};
 
 use self::reasons::{beyond, configured_beyond};
 
@@ -58,18 +60,12 @@ pub enum Item {
     Fact(&'static str),
 }
 
-/// What a wire leads to.
-#[derive(Clone, Copy, Debug, PartialEq, Eq, PartialOrd, Ord, Hash)]
-pub enum Lead {
-    Nothing,
-    Pin,
-    Irq,
-    Fiq,
+sorts! {
+    /// What a wire leads to.
+    Lead { Nothing, Pin, Irq, Fiq }
 }
 
 impl Lead {
-    pub const ALL: [Lead; 4] = [Lead::Nothing, Lead::Pin, Lead::Irq, Lead::Fiq];
-
     pub fn of(wire: Wire) -> Lead {
         match wire {
             Wire::Nothing => Lead::Nothing,
@@ -87,6 +83,18 @@ pub struct Spot {
     pub used: bool,
 }
 
+impl Every for Side {
+    fn every() -> Vec<Side> {
+        vec![Side::Irq, Side::Fiq]
+    }
+}
+
+impl Every for Spot {
+    fn every() -> Vec<Spot> {
+        each(|(side, used)| Spot { side, used }).collect()
+    }
+}
+
 impl Spot {
     /// The spot of an input of a controller, both of which are there.
     pub fn of(board: &Board, controller: usize, input: usize) -> Spot {
@@ -99,34 +107,53 @@ impl Spot {
     }
 }
 
-/// A limit of a call's numbers.
-#[derive(Clone, Copy, Debug, PartialEq, Eq, PartialOrd, Ord, Hash)]
-pub enum Limit {
-    /// The room of the board.
-    Room,
-    Controller,
-    Input,
-    Pin,
-    /// The controller that a wire comes from.
-    Other,
-    Level,
+sorts! {
+    /// A limit of a call's numbers.
+    Limit {
+        /// The room of the board.
+        Room,
+        Controller,
+        Input,
+        Pin,
+        /// The controller that a wire comes from.
+        Other,
+        Level,
+    }
+
+    /// How far beyond its limit a number is.
+    Far {
+        /// The first one beyond.
+        First,
+        /// Of controllers: not the first, but one that a full board has.
+        Absent,
+        Further,
+    }
+
+    /// Where a wire that is refused by 15 leads.
+    Up { Same, Higher }
 }
 
-/// How far beyond its limit a number is.
-#[derive(Clone, Copy, Debug, PartialEq, Eq, PartialOrd, Ord, Hash)]
-pub enum Far {
-    /// The first one beyond.
-    First,
-    /// Of controllers: not the first, but one that a full board has.
-    Absent,
-    Further,
-}
-
-/// Where a wire that is refused by 15 leads.
-#[derive(Clone, Copy, Debug, PartialEq, Eq, PartialOrd, Ord, Hash)]
-pub enum Up {
-    Same,
-    Higher,
+facts! { FACTS;
+    /// What would have been refused too, but comes behind 6.
+    fn six(board: &Board, call: &Call) {
+        let leads_up = match *call {
+            Call::Connect { controller, wire: Wire::Output(_, other), .. } => {
+                other >= controller && (other as usize) < board.controllers()
+            }
+            _ => false,
+        };
+        let offset = match *call {
+            Call::Read { offset, .. } | Call::Write { offset, .. } => Some(offset),
+            _ => None,
+        };
+        let aligned = |offset: u32| offset.is_multiple_of(4);
+        let nowhere = |offset: u32| aligned(offset) && Register::at(offset).is_none();
+        "6 of a ninth, whose configuration is bad" if !configured_beyond(call).is_empty();
+        "6 of an input, with a wire that leads up" if leads_up;
+        "6 of a controller, with a misaligned offset"
+            if offset.is_some_and(|offset| !aligned(offset));
+        "6 of a controller, with no register at the offset" if offset.is_some_and(nowhere);
+    }
 }
 
 /// The counters.
@@ -196,11 +223,7 @@ impl Coverage {
                 _ => format!("{count} refused by {number}"),
             })
             .collect();
-        format!(
-            "{}: {}",
-            format!("{sort:?}").to_lowercase(),
-            words.join(", ")
-        )
+        format!("{}: {}", sort.word(), words.join(", "))
     }
 
     pub(super) fn board(&mut self) {
@@ -227,11 +250,9 @@ impl Coverage {
         self.tally.reach(item);
     }
 
-    /// Counts a situation if it is there.
-    fn fact_if(&mut self, there: bool, fact: &'static str) {
-        if there {
-            self.reach(Item::Fact(fact));
-        }
+    /// Counts the situations that are there.
+    fn facts(&mut self, facts: impl IntoIterator<Item = Fact>) {
+        self.tally.facts(Item::Fact, facts);
     }
 
     /// What there is to a refusal: the number at fault, and what would have been refused too but comes later.
@@ -240,15 +261,12 @@ impl Coverage {
         if let ([(limit, far)], 6) = (faults.as_slice(), number) {
             self.reach(Item::Beyond(call.sort(), *limit, *far));
         }
-        let six = number == 6;
+        if number == 6 {
+            self.facts(six(board, call));
+        }
         match *call {
             Call::Add { .. } => {
-                let bad = configured_beyond(call);
-                self.fact_if(
-                    six && !bad.is_empty(),
-                    "6 of a ninth, whose configuration is bad",
-                );
-                if let ([nth], 10) = (bad.as_slice(), number) {
+                if let ([nth], 10) = (configured_beyond(call).as_slice(), number) {
                     self.reach(Item::Configuration(*nth));
                 }
             }
@@ -256,27 +274,12 @@ impl Coverage {
                 controller,
                 input,
                 wire: Wire::Output(side, other),
-            } if other >= controller => {
-                let there = (other as usize) < board.controllers();
-                self.fact_if(six && there, "6 of an input, with a wire that leads up");
-                if number == 15 {
-                    let spot = Spot::of(board, controller as usize, input as usize);
-                    let up = [Up::Higher, Up::Same][usize::from(other == controller)];
-                    self.reach(Item::NotLower(side, up, spot));
-                }
+            } if number == 15 => {
+                let spot = Spot::of(board, controller as usize, input as usize);
+                let up = [Up::Higher, Up::Same][usize::from(other == controller)];
+                self.reach(Item::NotLower(side, up, spot));
             }
-            Call::Read { offset, .. } | Call::Write { offset, .. } => {
-                self.fact_if(
-                    six && offset % 4 != 0,
-                    "6 of a controller, with a misaligned offset",
-                );
-                self.fact_if(
-                    six && offset % 4 == 0 && Register::at(offset).is_none(),
-                    "6 of a controller, with no register at the offset",
-                );
-                self.accessed(call, number);
-            }
-            _ => {}
+            _ => self.accessed(call, number),
         }
     }
 

@@ -1,10 +1,14 @@
 //! Numbered boards with calls on them: a few that are worked out, then random ones.
 
-use super::text::{line, UNSOUND_ANSWERS};
+use super::text::{call, line, UNSOUND_ANSWERS};
 use super::{ask, Call, Reply};
-use crate::model::board::{Board, Wire, CONTROLLERS, INPUTS, PINS};
-use crate::model::core::Side;
+use crate::model::board::{Board, CONTROLLERS, INPUTS, PINS};
 use crate::random::Random;
+
+/// Puts calls behind those of a script, given as by `format!`.
+macro_rules! calls {
+    ($($script:ident).+: $($text:tt)*) => { $($script).+.calls(&format!($($text)*)) };
+}
 
 /// The enable registers, FIQ first, and the distance from a FIQ register to its like of the IRQ side.
 const ENABLES: [u32; 2] = [0x08, 0x20];
@@ -25,48 +29,16 @@ impl Script {
         }
     }
 
-    fn add(&mut self, [fiqs, irqs, fiq_level, irq_level]: [u32; 4]) {
-        self.calls.push(Call::Add {
-            fiqs,
-            irqs,
-            fiq_level,
-            irq_level,
-        });
-    }
-
-    fn connect(&mut self, controller: u32, input: u32, wire: Wire) {
-        self.calls.push(Call::Connect {
-            controller,
-            input,
-            wire,
-        });
-    }
-
-    fn pin(&mut self, pin: u32, level: u32) {
-        self.calls.push(Call::Pin { pin, level });
-    }
-
-    fn write(&mut self, controller: u32, offset: u32, value: u32) {
-        self.calls.push(Call::Write {
-            controller,
-            offset,
-            value,
-        });
-    }
-
-    fn read(&mut self, controller: u32, offset: u32) {
-        self.calls.push(Call::Read { controller, offset });
-    }
-
-    fn input(&mut self, controller: u32, input: u32) {
-        self.calls.push(Call::Input { controller, input });
+    /// Makes calls as they stand in a transcript.
+    fn calls(&mut self, text: &str) {
+        let call = |text: &str| call(text.trim()).unwrap_or_else(|| panic!("{text:?} is no call"));
+        self.calls.extend(text.split(';').map(call));
     }
 
     /// Asks the outputs and the chain of every controller from 0 on.
     fn ask_all(&mut self, controllers: u32) {
         for controller in 0..controllers {
-            self.calls.push(Call::Outputs { controller });
-            self.calls.push(Call::Chain { controller });
+            calls!(self: "outputs {controller}; chain {controller}");
         }
     }
 
@@ -95,8 +67,8 @@ pub fn unsound() -> String {
 pub fn script(seed: u64, number: u64) -> Script {
     match number {
         0 => bare(),
-        1 => tower("a tower by IRQ", Side::Irq),
-        2 => tower("a tower by FIQ", Side::Fiq),
+        1 => tower("a tower by IRQ", "irq"),
+        2 => tower("a tower by FIQ", "fiq"),
         3 => fan(),
         _ => tour(&mut Random::for_item(seed, number), number),
     }
@@ -105,53 +77,39 @@ pub fn script(seed: u64, number: u64) -> Script {
 /// A board with no controller, on which nothing can be asked.
 fn bare() -> Script {
     let mut script = Script::new("no controller");
-    for number in [0, 1, 7, 8, u32::MAX] {
-        script.connect(number, 0, Wire::Nothing);
-        script.connect(number, 40, Wire::Output(Side::Irq, number));
-        script.write(number, 0, 1);
-        script.read(number, 1);
-        script.read(number, 0x30);
-        script.input(number, 0);
-        script.calls.push(Call::Outputs { controller: number });
-        script.calls.push(Call::Chain { controller: number });
+    for n in [0, 1, 7, 8, u32::MAX] {
+        calls!(script: "connect {n} 0 nothing; connect {n} 40 irq {n}; write {n} 0 1; read {n} 1");
+        calls!(script: "read {n} 48; input {n} 0; outputs {n}; chain {n}");
     }
     for pin in [0, 319, 320, 321] {
-        script.pin(pin, 1);
-        script.pin(pin, 2);
+        calls!(script: "pin {pin} 1; pin {pin} 2");
     }
-    for bad in [[9, 32, 1, 1], [8, 33, 1, 1], [8, 32, 2, 1], [8, 32, 1, 2]] {
-        script.add(bad);
-    }
+    script.calls("add 9 32 1 1; add 8 33 1 1; add 8 32 2 1; add 8 32 1 2");
     script
 }
 
 /// Eight controllers, each of which hears the one below it by one output; a pin raises the lowest.
-fn tower(title: &str, side: Side) -> Script {
+fn tower(title: &str, side: &str) -> Script {
     let mut script = Script::new(title);
     let (input, enable) = match side {
-        Side::Fiq => (32, ENABLES[0]),
-        Side::Irq => (0, ENABLES[1]),
+        "fiq" => (32, ENABLES[0]),
+        _ => (0, ENABLES[1]),
     };
-    for controller in 0..8 {
-        script.add([1, 1, controller % 2, controller / 2 % 2]);
-        script.write(controller, enable, 1);
-        script.ask_all(controller + 1);
+    for n in 0..8 {
+        calls!(script: "add 1 1 {} {}; write {n} {enable} 1", n % 2, n / 2 % 2);
+        script.ask_all(n + 1);
     }
-    for bad in [[1, 1, 0, 0], [9, 1, 0, 0]] {
-        script.add(bad);
-    }
-    script.connect(0, input, Wire::Pin(0));
-    for controller in 1..8 {
-        script.connect(controller, input, Wire::Output(side, controller - 1));
+    calls!(script: "add 1 1 0 0; add 9 1 0 0; connect 0 {input} pin 0");
+    for n in 1..8 {
+        calls!(script: "connect {n} {input} {side} {}", n - 1);
     }
     for level in [1, 0, 1] {
-        script.pin(0, level);
+        calls!(script: "pin 0 {level}");
         script.ask_all(9);
     }
-    script.write(3, enable + 4, 1);
+    calls!(script: "write 3 {} 1", enable + 4);
     script.ask_all(8);
-    script.connect(7, input, Wire::Output(side, 0));
-    script.connect(7, input + 1, Wire::Output(side, 0));
+    calls!(script: "connect 7 {input} {side} 0; connect 7 {} {side} 0", input + 1);
     script.ask_all(8);
     script
 }
@@ -159,33 +117,27 @@ fn tower(title: &str, side: Side) -> Script {
 /// Both outputs of one controller lead to every input of another, used or not.
 fn fan() -> Script {
     let mut script = Script::new("both outputs to every input");
-    script.add([1, 1, 0, 1]);
-    script.add([5, 17, 1, 0]);
-    script.add([0, 0, 1, 0]);
-    script.connect(0, 0, Wire::Pin(318));
-    script.connect(0, 32, Wire::Pin(319));
+    script
+        .calls("add 1 1 0 1; add 5 17 1 0; add 0 0 1 0; connect 0 0 pin 318; connect 0 32 pin 319");
     for offset in ENABLES {
-        script.write(0, offset, u32::MAX);
-        script.write(1, offset, 0);
+        calls!(script: "write 0 {offset} {}; write 1 {offset} 0", u32::MAX);
     }
     for (irq, fiq) in [(0, 0), (0, 1), (1, 0), (1, 1)] {
-        script.pin(318, irq);
-        script.pin(319, fiq);
-        for side in [Side::Irq, Side::Fiq] {
-            for input in 0..INPUTS as u32 + 1 {
-                for controller in 1..3 {
-                    script.connect(controller, input, Wire::Output(side, 0));
-                    script.input(controller, input);
-                    script.connect(controller, input, Wire::Output(side, controller));
+        calls!(script: "pin 318 {irq}; pin 319 {fiq}");
+        for side in ["irq", "fiq"] {
+            for input in 0..=INPUTS {
+                for n in 1..3 {
+                    calls!(script: "connect {n} {input} {side} 0; input {n} {input}");
+                    calls!(script: "connect {n} {input} {side} {n}");
                 }
             }
             script.ask_all(3);
-            (0..0x34).for_each(|offset| script.read(1, offset));
+            (0..0x34).for_each(|offset| calls!(script: "read 1 {offset}"));
             (0..0x34)
                 .step_by(4)
-                .for_each(|offset| script.read(2, offset));
+                .for_each(|offset| calls!(script: "read 2 {offset}"));
             for offset in ENABLES {
-                script.write(1, offset, 1 << irq | 1 << 16);
+                calls!(script: "write 1 {offset} {}", 1 << irq | 1 << 16);
             }
         }
     }
@@ -205,33 +157,19 @@ fn tour(random: &mut Random, number: u64) -> Script {
     for _ in 0..random.within(10, 120) {
         match random.below(100) {
             0..=29 => {
-                let (controller, input) = (near(random, there), input(random));
-                let wire = wire(random, there, controller);
-                script.connect(controller, input, wire);
-                script.input(controller, input);
+                let (n, input) = (near(random, there), input(random));
+                let wire = wire(random, there, n);
+                calls!(script: "connect {n} {input} {wire}; input {n} {input}");
             }
             30..=44 => {
                 let level = random.pick(&[0, 0, 0, 0, 1, 1, 1, 1, 1, 1, 2, 3]);
-                let pin = pin(random);
-                script.pin(pin, level);
+                calls!(script: "pin {} {level}", pin(random));
             }
             45..=61 => write(random, &mut script, there),
-            62..=71 => {
-                let (controller, offset) = (near(random, there), offset(random));
-                script.read(controller, offset);
-            }
-            72..=79 => {
-                let (controller, input) = (near(random, there), input(random));
-                script.input(controller, input);
-            }
-            80..=90 => {
-                let controller = near(random, there);
-                script.calls.push(Call::Outputs { controller });
-            }
-            91..=97 => {
-                let controller = near(random, there);
-                script.calls.push(Call::Chain { controller });
-            }
+            62..=71 => calls!(script: "read {} {}", near(random, there), offset(random)),
+            72..=79 => calls!(script: "input {} {}", near(random, there), input(random)),
+            80..=90 => calls!(script: "outputs {}", near(random, there)),
+            91..=97 => calls!(script: "chain {}", near(random, there)),
             _ => grow(random, &mut script, &mut there),
         }
     }
@@ -250,13 +188,15 @@ fn grow(random: &mut Random, script: &mut Script, there: &mut u32) {
         let nth = random.below(4) as usize;
         numbers[nth] = random.pick(&[limits[nth] + 1, limits[nth] + 1, u32::MAX]);
     }
-    script.add(numbers);
+    let [fiqs, irqs, fiq_level, irq_level] = numbers;
+    calls!(script: "add {fiqs} {irqs} {fiq_level} {irq_level}");
     if bad || *there == CONTROLLERS as u32 {
         return;
     }
     for enable in ENABLES {
         if !random.one_in(4) {
-            script.write(*there, enable, random.pick(&[1, 3, u32::MAX, u32::MAX]));
+            let value = random.pick(&[1, 3, u32::MAX, u32::MAX]);
+            calls!(script: "write {there} {enable} {value}");
         }
     }
     *there += 1;
@@ -264,14 +204,12 @@ fn grow(random: &mut Random, script: &mut Script, there: &mut u32) {
 
 /// Wires each controller to the one below it, used inputs or not, and raises the lowest by a pin.
 fn link(random: &mut Random, script: &mut Script, there: u32) {
-    for controller in 1..there {
-        let side = random.pick(&[Side::Irq, Side::Irq, Side::Irq, Side::Fiq]);
+    for n in 1..there {
+        let side = random.pick(&["irq", "irq", "irq", "fiq"]);
         let input = random.pick(&[0, 0, 0, 0, 0, 0, 1, 32, 39]);
-        script.connect(controller, input, Wire::Output(side, controller - 1));
+        calls!(script: "connect {n} {input} {side} {}", n - 1);
     }
-    script.connect(0, 0, Wire::Pin(0));
-    script.connect(0, 32, Wire::Pin(0));
-    script.pin(0, 1);
+    script.calls("connect 0 0 pin 0; connect 0 32 pin 0; pin 0 1");
     script.ask_all(there);
 }
 
@@ -305,14 +243,14 @@ fn pin(random: &mut Random) -> u32 {
 }
 
 /// Mostly a wire that leads to a lower number than the controller's.
-fn wire(random: &mut Random, there: u32, controller: u32) -> Wire {
-    let side = random.pick(&[Side::Irq, Side::Fiq]);
+fn wire(random: &mut Random, there: u32, controller: u32) -> String {
+    let side = random.pick(&["irq", "fiq"]);
     match random.below(20) {
-        0..=1 => Wire::Nothing,
-        2..=6 => Wire::Pin(pin(random)),
-        7..=9 => Wire::Output(side, near(random, there)),
-        10 => Wire::Output(side, controller),
-        _ => Wire::Output(side, random.below(controller.clamp(1, 8))),
+        0..=1 => "nothing".to_owned(),
+        2..=6 => format!("pin {}", pin(random)),
+        7..=9 => format!("{side} {}", near(random, there)),
+        10 => format!("{side} {controller}"),
+        _ => format!("{side} {}", random.below(controller.clamp(1, 8))),
     }
 }
 
@@ -338,5 +276,5 @@ fn write(random: &mut Random, script: &mut Script, there: u32) {
     } else {
         random.below(16)
     };
-    script.write(controller, offset, value);
+    calls!(script: "write {controller} {offset} {value}");
 }

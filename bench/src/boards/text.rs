@@ -40,7 +40,7 @@ pub fn read(line: &str) -> Option<Line<'_>> {
         return (!title.is_empty()).then_some(Line::Unsound(title, answers));
     }
     let (asked, answered) = line.split_once(": ")?;
-    let call = call(&words(asked))?;
+    let call = call(asked)?;
     let reply = reply(call.sort(), &words(answered))?;
     Some(Line::Call(call, reply))
 }
@@ -61,45 +61,55 @@ fn numbers<const COUNT: usize>(words: &[&str]) -> Option<[u32; COUNT]> {
     read?.try_into().ok()
 }
 
-fn call(words: &[&str]) -> Option<Call> {
-    let (&sort, rest) = words.split_first()?;
-    match sort {
-        "add" => numbers(rest).map(|[fiqs, irqs, fiq_level, irq_level]| Call::Add {
-            fiqs,
-            irqs,
-            fiq_level,
-            irq_level,
-        }),
-        "connect" => {
-            let (place, wire) = rest.split_at_checked(2)?;
-            let [controller, input] = numbers(place)?;
-            wire_of(wire).map(|wire| Call::Connect {
-                controller,
-                input,
-                wire,
-            })
-        }
-        "pin" => numbers(rest).map(|[pin, level]| Call::Pin { pin, level }),
-        "write" => numbers(rest).map(|[controller, offset, value]| Call::Write {
-            controller,
-            offset,
-            value,
-        }),
-        "read" => numbers(rest).map(|[controller, offset]| Call::Read { controller, offset }),
-        "outputs" => numbers(rest).map(|[controller]| Call::Outputs { controller }),
-        "input" => numbers(rest).map(|[controller, input]| Call::Input { controller, input }),
-        "chain" => numbers(rest).map(|[controller]| Call::Chain { controller }),
-        _ => None,
+/// A call as it stands in a transcript.
+pub fn call(text: &str) -> Option<Call> {
+    let words = words(text);
+    let (word, mut rest) = words.split_first()?;
+    let sort = Sort::ALL.into_iter().find(|sort| sort.word() == *word)?;
+    let call = Call::made(sort, &mut rest)?;
+    rest.is_empty().then_some(call)
+}
+
+/// What a call is told by: a number, or a wire.
+pub(super) trait Told: Sized {
+    /// Takes it from the words that are left.
+    fn taken(words: &mut &[&str]) -> Option<Self>;
+
+    fn told(&self) -> String;
+}
+
+impl Told for u32 {
+    fn taken(words: &mut &[&str]) -> Option<u32> {
+        let (word, rest) = words.split_first()?;
+        *words = rest;
+        number(word)
+    }
+
+    fn told(&self) -> String {
+        self.to_string()
     }
 }
 
-fn wire_of(words: &[&str]) -> Option<Wire> {
-    match *words {
-        ["nothing"] => Some(Wire::Nothing),
-        ["pin", pin] => number(pin).map(Wire::Pin),
-        ["irq", other] => number(other).map(|other| Wire::Output(Side::Irq, other)),
-        ["fiq", other] => number(other).map(|other| Wire::Output(Side::Fiq, other)),
-        _ => None,
+impl Told for Wire {
+    fn taken(words: &mut &[&str]) -> Option<Wire> {
+        let (&word, rest) = words.split_first()?;
+        *words = rest;
+        match word {
+            "nothing" => Some(Wire::Nothing),
+            "pin" => u32::taken(words).map(Wire::Pin),
+            "irq" => u32::taken(words).map(|other| Wire::Output(Side::Irq, other)),
+            "fiq" => u32::taken(words).map(|other| Wire::Output(Side::Fiq, other)),
+            _ => None,
+        }
+    }
+
+    fn told(&self) -> String {
+        match self {
+            Wire::Nothing => "nothing".to_owned(),
+            Wire::Pin(pin) => format!("pin {pin}"),
+            Wire::Output(Side::Irq, other) => format!("irq {other}"),
+            Wire::Output(Side::Fiq, other) => format!("fiq {other}"),
+        }
     }
 }
 
@@ -117,41 +127,9 @@ fn reply(sort: Sort, words: &[&str]) -> Option<Reply> {
     })
 }
 
-/// A call as it stands in a transcript.
 impl fmt::Display for Call {
     fn fmt(&self, to: &mut fmt::Formatter<'_>) -> fmt::Result {
-        match self {
-            Call::Add {
-                fiqs,
-                irqs,
-                fiq_level,
-                irq_level,
-            } => write!(to, "add {fiqs} {irqs} {fiq_level} {irq_level}"),
-            Call::Connect {
-                controller,
-                input,
-                wire,
-            } => match wire {
-                Wire::Nothing => write!(to, "connect {controller} {input} nothing"),
-                Wire::Pin(pin) => write!(to, "connect {controller} {input} pin {pin}"),
-                Wire::Output(Side::Irq, other) => {
-                    write!(to, "connect {controller} {input} irq {other}")
-                }
-                Wire::Output(Side::Fiq, other) => {
-                    write!(to, "connect {controller} {input} fiq {other}")
-                }
-            },
-            Call::Pin { pin, level } => write!(to, "pin {pin} {level}"),
-            Call::Write {
-                controller,
-                offset,
-                value,
-            } => write!(to, "write {controller} {offset} {value}"),
-            Call::Read { controller, offset } => write!(to, "read {controller} {offset}"),
-            Call::Outputs { controller } => write!(to, "outputs {controller}"),
-            Call::Input { controller, input } => write!(to, "input {controller} {input}"),
-            Call::Chain { controller } => write!(to, "chain {controller}"),
-        }
+        write!(to, "{} {}", self.sort().word(), self.told().join(" "))
     }
 }
 

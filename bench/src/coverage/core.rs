@@ -1,8 +1,55 @@
 //! What is to be reached on CoreInterrupt: every register of groups with and without sources, inputs, sizes and levels.
 
-use super::{Coverage, Item, Outcome, Size, Way};
+use super::{word_offset, Change, Coverage, Item, Outcome, Size};
+use crate::facts;
 use crate::model::core::{CoreInterrupt, Group, Register, Role, Side, IRQ_INPUTS};
-use crate::model::{Answer, Refusal, Step};
+use crate::model::{Access, Step};
+use crate::tally::each;
+
+facts! { FACTS;
+    fn read(group: &Group, value: u32) {
+        let top = 1 << group.count.saturating_sub(1);
+        "the top bit of a group is read as 1" if value & top != 0;
+    }
+
+    fn write(register: Register, group: &Group, value: u32) {
+        let dropped = |side| register.side == side && value & !group.configured() != 0;
+        let clear = register.role == Role::SoftClear;
+        "FIQ bits beyond the count are dropped" if dropped(Side::Fiq);
+        "IRQ bits beyond the count are dropped" if dropped(Side::Irq);
+        "a soft clear leaves an input that is high" if clear && value & group.inputs != 0;
+    }
+
+    fn line(core: &CoreInterrupt, line: u32, level: u32, moved: bool) {
+        let irq = (line as usize) < IRQ_INPUTS;
+        let spare = match irq {
+            true => line >= core.irq.count,
+            false => line < 40 && line - IRQ_INPUTS as u32 >= core.fiq.count,
+        };
+        "a spare IRQ input moves" if moved && spare && irq;
+        "a spare FIQ input moves" if moved && spare && !irq;
+        "an IRQ input moves" if moved && !spare && irq;
+        "a FIQ input moves" if moved && !spare && !irq;
+        "level 2 on a spare input" if spare && level > 1;
+        "level 2 on an input" if line < 40 && !spare && level > 1;
+        "CoreInterrupt line 39" if line == 39 && moved;
+        "CoreInterrupt line 40" if line == 40 && level < 2;
+    }
+
+    fn outputs(fiq: &Group, irq: &Group) {
+        let by = |bits: u32, group: &Group| bits & group.enable != 0;
+        let masked = |group: &Group| group.raw() != 0 && group.status() == 0;
+        "IRQ active by an input" if by(irq.inputs & !irq.soft, irq);
+        "IRQ active by software" if by(irq.soft & !irq.inputs, irq);
+        "FIQ active by an input" if by(fiq.inputs & !fiq.soft, fiq);
+        "FIQ active by software" if by(fiq.soft & !fiq.inputs, fiq);
+        "both outputs active" if irq.active() && fiq.active();
+        "IRQ alone active" if irq.active() && !fiq.active();
+        "FIQ alone active" if !irq.active() && fiq.active();
+        "IRQ sources all masked" if masked(irq);
+        "FIQ sources all masked" if masked(fiq);
+    }
+}
 
 impl Coverage {
     pub(super) fn core_started(&mut self, core: &CoreInterrupt) {
@@ -12,129 +59,44 @@ impl Coverage {
     }
 
     /// Counts what a step on CoreInterrupt shows.
-    pub(super) fn core_step(&mut self, core: &CoreInterrupt, step: Step, answer: Answer) {
-        match step {
-            Step::Read { offset } => self.core_register(core, offset, step, answer),
-            Step::Write { offset, value } => {
-                self.core_register(core, offset, step, answer);
-                self.core_write(core, offset, value, answer);
+    pub(super) fn core_step(&mut self, change: &Change<CoreInterrupt>) {
+        let (core, step, answer) = (change.after, change.step, change.answer);
+        if let Some(register) = word_offset(step).and_then(Register::at) {
+            let group = core.group(register.side);
+            self.reach(Item::Core(
+                register,
+                Size::of(group.count),
+                change.outcome(),
+            ));
+            match (step, answer) {
+                (Step::Read { .. }, Ok(value)) => self.facts(read(group, value)),
+                (Step::Write { value, .. }, Ok(_)) => self.facts(write(register, group, value)),
+                _ => {}
             }
-            Step::Line { line, level } => self.core_line(core, line, level, answer),
         }
-        self.core_outputs(core);
-    }
-
-    fn core_register(&mut self, core: &CoreInterrupt, offset: u32, step: Step, answer: Answer) {
-        if let Some(register) = Register::at(offset).filter(|_| offset.is_multiple_of(4)) {
-            let size = Size::of(core.group(register.side).count);
-            let outcome = Way::of(step).outcome(answer);
-            self.reach(Item::Core(register, size, outcome));
-            let value = answer.unwrap_or(0);
-            let top = 1 << core.group(register.side).count.saturating_sub(1);
-            let top_read = step == (Step::Read { offset }) && value & top != 0;
-            self.fact_if(top_read, "the top bit of a group is read as 1");
+        if let Step::Line { line: n, level } = step {
+            self.facts(line(core, n, level, answer.is_ok()));
         }
+        self.facts(outputs(&core.fiq, &core.irq));
     }
-
-    fn core_write(&mut self, core: &CoreInterrupt, offset: u32, value: u32, answer: Answer) {
-        let Some(register) = Register::at(offset).filter(|_| answer.is_ok()) else {
-            return;
-        };
-        let group = core.group(register.side);
-        let dropped = value & !group.configured() != 0;
-        let (fiq, irq) = (register.side == Side::Fiq, register.side == Side::Irq);
-        self.fact_if(dropped && fiq, "FIQ bits beyond the count are dropped");
-        self.fact_if(dropped && irq, "IRQ bits beyond the count are dropped");
-        let stays = register.role == Role::SoftClear && value & group.inputs != 0;
-        self.fact_if(stays, "a soft clear leaves an input that is high");
-    }
-
-    fn core_line(&mut self, core: &CoreInterrupt, line: u32, level: u32, answer: Answer) {
-        let (group, input) = match (line as usize).checked_sub(IRQ_INPUTS) {
-            None => (&core.irq, line),
-            Some(input) => (&core.fiq, input as u32),
-        };
-        let spare = line < 40 && input >= group.count;
-        let irq = (line as usize) < IRQ_INPUTS;
-        let moved = answer.is_ok();
-        self.fact_if(moved && spare && irq, "a spare IRQ input moves");
-        self.fact_if(moved && spare && !irq, "a spare FIQ input moves");
-        self.fact_if(moved && !spare && irq, "an IRQ input moves");
-        self.fact_if(moved && !spare && !irq, "a FIQ input moves");
-        self.fact_if(spare && level > 1, "level 2 on a spare input");
-        self.fact_if(line == 39 && moved, "CoreInterrupt line 39");
-        self.fact_if(line == 40 && level < 2, "CoreInterrupt line 40");
-        self.fact_if(line < 40 && !spare && level > 1, "level 2 on an input");
-    }
-
-    fn core_outputs(&mut self, core: &CoreInterrupt) {
-        let by = |bits: u32, group: &Group| bits & group.enable != 0;
-        let (fiq, irq) = (&core.fiq, &core.irq);
-        self.fact_if(by(irq.inputs & !irq.soft, irq), "IRQ active by an input");
-        self.fact_if(by(irq.soft & !irq.inputs, irq), "IRQ active by software");
-        self.fact_if(by(fiq.inputs & !fiq.soft, fiq), "FIQ active by an input");
-        self.fact_if(by(fiq.soft & !fiq.inputs, fiq), "FIQ active by software");
-        self.fact_if(irq.active() && fiq.active(), "both outputs active");
-        self.fact_if(irq.active() && !fiq.active(), "IRQ alone active");
-        self.fact_if(!irq.active() && fiq.active(), "FIQ alone active");
-        let masked = |group: &Group| group.raw() != 0 && group.status() == 0;
-        self.fact_if(masked(irq), "IRQ sources all masked");
-        self.fact_if(masked(fiq), "FIQ sources all masked");
-    }
-}
-
-/// The registers with all that can come of an access to each.
-fn registers() -> Vec<Item> {
-    let mut items = Vec::new();
-    for register in (0..0x30).step_by(4).filter_map(Register::at) {
-        for size in [Size::None, Size::Some] {
-            let (first, second) = match (register.role, size) {
-                (Role::Raw | Role::Status, _) => {
-                    (Outcome::Read, Outcome::Refused(Refusal::ReadOnly))
-                }
-                (Role::SoftClear | Role::EnableClear, Size::Some) => {
-                    (Outcome::Refused(Refusal::WriteOnly), Outcome::Written)
-                }
-                _ => (Outcome::Read, Outcome::Written),
-            };
-            items.push(Item::Core(register, size, first));
-            items.push(Item::Core(register, size, second));
-        }
-    }
-    items
 }
 
 pub(super) fn wanted() -> Vec<Item> {
-    let mut items = registers();
+    let mut items = Vec::new();
+    for register in (0..0x30).step_by(4).filter_map(Register::at) {
+        for size in Size::ALL {
+            let access = match (register.role, size) {
+                (Role::Raw | Role::Status, _) => Access::ReadOnly,
+                (Role::SoftClear | Role::EnableClear, Size::Some) => Access::WriteOnly,
+                _ => Access::ReadWrite,
+            };
+            let outcomes = Outcome::both(access);
+            items.extend(outcomes.map(|outcome| Item::Core(register, size, outcome)));
+        }
+    }
     items.extend([0, 1, 7, 8].map(|count| Item::Sources(Side::Fiq, count)));
     items.extend([0, 1, 31, 32].map(|count| Item::Sources(Side::Irq, count)));
-    for fiq in [false, true] {
-        items.extend([false, true].map(|irq| Item::Levels(fiq, irq)));
-    }
+    items.extend(each(|(fiq, irq)| Item::Levels(fiq, irq)));
     items.extend(FACTS.iter().copied().map(Item::Fact));
     items
 }
-
-const FACTS: &[&str] = &[
-    "the top bit of a group is read as 1",
-    "FIQ bits beyond the count are dropped",
-    "IRQ bits beyond the count are dropped",
-    "a soft clear leaves an input that is high",
-    "a spare IRQ input moves",
-    "a spare FIQ input moves",
-    "an IRQ input moves",
-    "a FIQ input moves",
-    "level 2 on a spare input",
-    "level 2 on an input",
-    "CoreInterrupt line 39",
-    "CoreInterrupt line 40",
-    "IRQ active by an input",
-    "IRQ active by software",
-    "FIQ active by an input",
-    "FIQ active by software",
-    "both outputs active",
-    "IRQ alone active",
-    "FIQ alone active",
-    "IRQ sources all masked",
-    "FIQ sources all masked",
-];

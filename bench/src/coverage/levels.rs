@@ -1,8 +1,9 @@
-//! What is to be reached of the AIC's sources by level (02, 5/12): what fills and empties each, what a mode write moves,
-//! and what a vector read finds.
+//! What is to be reached of the AIC's sources by level (02, 5/12): what fills and empties each, what a mode write
+//! moves, and what a vector read finds.
 
 use super::aic::marks;
 use super::{Cause, Coverage, Item, Turn};
+use crate::facts;
 use crate::model::aic::{Aic, Register, ENTRIES, SOURCES};
 use crate::model::Step;
 
@@ -50,6 +51,46 @@ fn turn(was: u32, is: u32) -> Option<Turn> {
     }
 }
 
+/// What a cause can make of a level.
+fn turns(cause: Cause) -> &'static [Turn] {
+    match cause {
+        Cause::Line | Cause::Mode => &[Turn::Filled, Turn::Joined, Turn::Left, Turn::Emptied],
+        Cause::Enable | Cause::Set | Cause::Unforce => &[Turn::Filled, Turn::Joined],
+        _ => &[Turn::Left, Turn::Emptied],
+    }
+}
+
+facts! { FACTS;
+    /// Levels that fill or empty several at a time, unseen under the mask, or beneath eight entries.
+    fn turned(before: &Aic, turns: &[(u8, Turn)]) {
+        let count = |wanted| turns.iter().filter(|(_, turn)| *turn == wanted).count();
+        let (filled, emptied) = (count(Turn::Filled), count(Turn::Emptied));
+        let eight = before.entries().len() == ENTRIES;
+        let handlers = eight && marks(before.entries()) == 0;
+        let marks = eight && marks(before.entries()) == u8::MAX;
+        "one command fills several levels" if filled > 1;
+        "one command empties several levels" if emptied > 1;
+        "a level fills while masked" if before.masked() && filled > 0;
+        "a level empties while masked" if before.masked() && emptied > 0;
+        "a level fills over eight handlers" if handlers && filled > 0;
+        "a level empties over eight handlers" if handlers && emptied > 0;
+        "a level fills over eight marks" if marks && filled > 0;
+        "a level empties over eight marks" if marks && emptied > 0;
+    }
+
+    fn mode(before: &Aic, after: &Aic, n: usize) {
+        let (was, is) = (&before.sources()[n], &after.sources()[n]);
+        let (waited, waits) = (before.normal_request(n), after.normal_request(n));
+        let reordered = was.priority != is.priority;
+        let aside = !waited && !waits && reordered && was.pending() && is.pending();
+        "a mode write leaves a waiting source in its level" if waited && waits && !reordered;
+        "a mode write takes a waiting source out of all levels" if waited && !waits;
+        "a mode write puts a source into a level" if !waited && waits;
+        "a mode write on a disabled pending source" if aside && !was.enabled && !before.fast(n);
+        "a mode write on a fast pending source" if aside && before.fast(n);
+    }
+}
+
 impl Coverage {
     /// Counts what a step on the AIC does to its levels, and what a vector read finds in them.
     pub(super) fn aic_levels(&mut self, before: &Aic, after: &Aic, step: Step) {
@@ -66,7 +107,7 @@ impl Coverage {
         for &(level, turn) in &turns {
             self.reach(Item::Level(level, turn, cause));
         }
-        self.turned(before, &turns);
+        self.facts(turned(before, &turns));
         match step {
             Step::Write { offset, .. } if cause == Cause::Mode => {
                 self.mode_moves(before, after, (offset / 4) as usize);
@@ -76,58 +117,13 @@ impl Coverage {
         }
     }
 
-    /// Levels that fill or empty several at a time, unseen under the mask, or beneath eight entries.
-    fn turned(&mut self, before: &Aic, turns: &[(u8, Turn)]) {
-        let count = |wanted| turns.iter().filter(|(_, turn)| *turn == wanted).count();
-        let (filled, emptied) = (count(Turn::Filled), count(Turn::Emptied));
-        self.fact_if(filled > 1, "one command fills several levels");
-        self.fact_if(emptied > 1, "one command empties several levels");
-        self.fact_if(before.masked() && filled > 0, "a level fills while masked");
-        self.fact_if(
-            before.masked() && emptied > 0,
-            "a level empties while masked",
-        );
-        if before.entries().len() < ENTRIES {
-            return;
-        }
-        let (handlers, marked) = match marks(before.entries()) {
-            0 => (true, false),
-            u8::MAX => (false, true),
-            _ => (false, false),
-        };
-        self.fact_if(handlers && filled > 0, "a level fills over eight handlers");
-        self.fact_if(
-            handlers && emptied > 0,
-            "a level empties over eight handlers",
-        );
-        self.fact_if(marked && filled > 0, "a level fills over eight marks");
-        self.fact_if(marked && emptied > 0, "a level empties over eight marks");
-    }
-
     /// What a mode write does to a source that is pending before or after it.
     fn mode_moves(&mut self, before: &Aic, after: &Aic, n: usize) {
-        let (was, is) = (before.sources()[n], after.sources()[n]);
-        let reordered = was.priority != is.priority;
-        match (before.normal_request(n), after.normal_request(n)) {
-            (true, true) if reordered => self.reach(Item::Moved(was.priority, is.priority)),
-            (true, true) => self.fact_if(true, "a mode write leaves a waiting source in its level"),
-            (true, false) => self.fact_if(
-                true,
-                "a mode write takes a waiting source out of all levels",
-            ),
-            (false, true) => self.fact_if(true, "a mode write puts a source into a level"),
-            (false, false) => {
-                let pending = was.pending() && is.pending() && reordered;
-                self.fact_if(
-                    pending && !was.enabled && !before.fast(n),
-                    "a mode write on a disabled pending source",
-                );
-                self.fact_if(
-                    pending && before.fast(n),
-                    "a mode write on a fast pending source",
-                );
-            }
+        let (was, is) = (before.sources()[n].priority, after.sources()[n].priority);
+        if before.normal_request(n) && after.normal_request(n) && was != is {
+            self.reach(Item::Moved(was, is));
         }
+        self.facts(mode(before, after, n));
     }
 
     /// What a vector read finds: the levels that have any, the highest against the last entry, the number it starts.
@@ -155,27 +151,12 @@ impl Coverage {
 pub(super) fn wanted() -> Vec<Item> {
     let mut items = Vec::new();
     for level in 0..LEVELS {
-        let coming = [
-            Cause::Line,
-            Cause::Mode,
-            Cause::Enable,
-            Cause::Set,
-            Cause::Unforce,
-        ];
-        for cause in coming {
-            items.extend([Turn::Filled, Turn::Joined].map(|turn| Item::Level(level, turn, cause)));
-        }
-        let going = [
-            Cause::Line,
-            Cause::Mode,
-            Cause::Disable,
-            Cause::Clear,
-            Cause::Force,
-            Cause::Start,
-            Cause::Handshake,
-        ];
-        for cause in going {
-            items.extend([Turn::Left, Turn::Emptied].map(|turn| Item::Level(level, turn, cause)));
+        for cause in Cause::ALL {
+            items.extend(
+                turns(cause)
+                    .iter()
+                    .map(|&turn| Item::Level(level, turn, cause)),
+            );
         }
         let other = (0..LEVELS).filter(|&other| other != level);
         items.extend(other.map(|other| Item::Moved(level, other)));
@@ -190,19 +171,3 @@ pub(super) fn wanted() -> Vec<Item> {
     items.extend(FACTS.iter().copied().map(Item::Fact));
     items
 }
-
-const FACTS: &[&str] = &[
-    "one command fills several levels",
-    "one command empties several levels",
-    "a level fills while masked",
-    "a level empties while masked",
-    "a level fills over eight handlers",
-    "a level empties over eight handlers",
-    "a level fills over eight marks",
-    "a level empties over eight marks",
-    "a mode write leaves a waiting source in its level",
-    "a mode write takes a waiting source out of all levels",
-    "a mode write puts a source into a level",
-    "a mode write on a disabled pending source",
-    "a mode write on a fast pending source",
-];

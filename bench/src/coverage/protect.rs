@@ -2,9 +2,11 @@
 //! the write, and what the write then opens.
 
 use super::aic::{marks, top};
-use super::{Coverage, Entered, Item, Seen, Since};
-use crate::model::aic::{Aic, Register, Selection, ENTRIES, SOURCES};
+use super::{offset, Coverage, Entered, Item, Seen, Since};
+use crate::facts;
+use crate::model::aic::{Aic, Register, Selection, Source, ENTRIES, SOURCES};
 use crate::model::Step;
+use crate::tally::each;
 
 const LEVELS: u8 = 8;
 
@@ -72,13 +74,74 @@ fn overtaken(aic: &Aic, selection: Selection) -> bool {
     (1..SOURCES).any(|n| n != number && aic.candidate(n) && ahead(n))
 }
 
+facts! { FACTS;
+    fn debug_written(after: &Aic, value: u32) {
+        "DCR written with protect mode and bits that are dropped"
+            if after.protected() && value & !3 != 0;
+    }
+
+    fn look(before: &Aic) {
+        let best = number(before.selection());
+        let edge = best.map(|best| before.sources()[best].edge_triggered());
+        let priority = |n: usize| before.sources()[n].priority;
+        let ties = |best: usize, n: usize| {
+            n != best && before.candidate(n) && priority(n) == priority(best)
+        };
+        let other = before.remembered().and_then(number);
+        "a look while masked" if before.masked();
+        "a look with eight entries open" if before.is_full();
+        "a look at an edge source" if edge == Some(true);
+        "a look at a level source" if edge == Some(false);
+        "a look breaks a tie by the number"
+            if best.is_some_and(|best| (1..SOURCES).any(|n| ties(best, n)));
+        "a second look at another source" if best.is_some() && other.is_some() && other != best;
+    }
+
+    fn outside(waiting: bool) {
+        "IVR written outside the mode while a candidate waits" if waiting;
+        "IVR written outside the mode with no candidate" if !waiting;
+    }
+
+    fn nothing_remembered(waiting: bool) {
+        "IVR written with nothing remembered while a candidate waits" if waiting;
+        "IVR written with nothing remembered and no candidate" if !waiting;
+    }
+
+    fn source_written(before: &Aic, now: &Source, looked: &Looked) {
+        let (edge, memory) = (now.edge_triggered(), now.memory);
+        let lower = top(before).0.is_some() && before.last_level() != looked.last;
+        "IVR write spends an edge" if edge && memory;
+        "IVR write starts an edge source that is idle" if edge && !memory;
+        "IVR write starts a level source" if !edge && now.pending();
+        "IVR write starts a level source that is idle" if !edge && !now.pending();
+        "IVR write spends an edge of a source that went by level at the read"
+            if memory && !looked.edge;
+        "IVR write starts a level source that went by edge at the read" if !edge && looked.edge;
+        "IVR write spends an edge of a source that is forced now" if memory && now.forced;
+        "IVR write spends an edge of a source that is disabled now" if memory && !now.enabled;
+        "IVR write starts while masked" if before.masked();
+        "IVR write starts over a lower entry than at the read" if lower;
+    }
+
+    fn nobody_written(before: &Aic, looked: &Looked) {
+        let (last, level) = (top(before).0, before.last_level());
+        let (opens, over_a_mark) = (!before.is_full(), last == Some(Entered::Mark));
+        "IVR write opens no mark with eight entries" if !opens;
+        "IVR write opens a mark with nothing open" if opens && last.is_none();
+        "IVR write opens a mark on a handler" if opens && last == Some(Entered::Handler);
+        "IVR write opens a mark on a mark with a level" if opens && over_a_mark && level.is_some();
+        "IVR write opens a mark on a mark without a level"
+            if opens && over_a_mark && level.is_none();
+        "IVR write opens a mark while masked" if opens && before.masked();
+        "IVR write opens a mark at another level than that of the read"
+            if opens && level != looked.last;
+    }
+}
+
 impl Coverage {
     /// Counts what an accepted step on the AIC shows of protect mode.
     pub(super) fn aic_protect(&mut self, before: &Aic, after: &Aic, step: Step) {
-        let register = match step {
-            Step::Read { offset } | Step::Write { offset, .. } => Register::at(offset),
-            Step::Line { .. } => None,
-        };
+        let register = offset(step).and_then(Register::at);
         match (step, register) {
             (Step::Read { .. }, Some(Register::Ivr)) if before.protected() => self.look(before),
             (Step::Read { .. }, Some(Register::Ivr)) => self.looked = None,
@@ -86,10 +149,7 @@ impl Coverage {
             (Step::Write { .. }, Some(Register::Ivr)) => self.ivr_written(before, after),
             (Step::Write { value, .. }, Some(Register::Dcr)) => {
                 self.reach(Item::DebugTurns(debug(before), debug(after)));
-                self.fact_if(
-                    after.protected() && value & !3 != 0,
-                    "DCR written with protect mode and bits that are dropped",
-                );
+                self.facts(debug_written(after, value));
                 self.debug_since(before, after);
             }
             _ => self.since(before, after, step, register),
@@ -102,21 +162,7 @@ impl Coverage {
         let seen = Seen::of(selection);
         let replaced = before.remembered().map(Seen::of);
         self.reach(Item::Look(seen, top(before).0));
-        self.fact_if(before.masked(), "a look while masked");
-        self.fact_if(before.is_full(), "a look with eight entries open");
-        if let Some(best) = number(selection) {
-            let source = &before.sources()[best];
-            let others = |n| n != best && before.candidate(n);
-            let ties = |n: usize| others(n) && before.sources()[n].priority == source.priority;
-            self.fact_if(source.edge_triggered(), "a look at an edge source");
-            self.fact_if(!source.edge_triggered(), "a look at a level source");
-            self.fact_if((1..SOURCES).any(ties), "a look breaks a tie by the number");
-            let other = before.remembered().and_then(number);
-            self.fact_if(
-                other.is_some_and(|other| other != best),
-                "a second look at another source",
-            );
-        }
+        self.facts(look(before));
         self.looked = Some(Looked {
             selection,
             edge: number(selection).is_some_and(|n| before.sources()[n].edge_triggered()),
@@ -182,39 +228,31 @@ impl Coverage {
     /// A write of IVR, in the mode or outside it.
     fn ivr_written(&mut self, before: &Aic, after: &Aic) {
         let waiting = before.best().is_some();
+        let seen = |looked: &Looked| Seen::of(looked.selection);
         if !before.protected() {
-            self.fact_if(
-                waiting,
-                "IVR written outside the mode while a candidate waits",
-            );
-            self.fact_if(!waiting, "IVR written outside the mode with no candidate");
-            if let Some(looked) = &self.looked {
-                let seen = Seen::of(looked.selection);
+            self.facts(outside(waiting));
+            if let Some(seen) = self.looked.as_ref().map(seen) {
                 self.reach(Item::WrittenAfter(seen, Since::Left));
             }
             return;
         }
         let looked = self.looked.take();
         let Some(selection) = before.remembered() else {
-            self.fact_if(
-                waiting,
-                "IVR written with nothing remembered while a candidate waits",
-            );
-            self.fact_if(
-                !waiting,
-                "IVR written with nothing remembered and no candidate",
-            );
+            self.facts(nothing_remembered(waiting));
             if let Some(looked) = looked.filter(|looked| looked.place == Place::Reentered) {
-                let seen = Seen::of(looked.selection);
-                self.reach(Item::WrittenAfter(seen, Since::Reentered));
+                self.reach(Item::WrittenAfter(seen(&looked), Since::Reentered));
             }
             return;
         };
         let looked = looked.expect("what is remembered was looked at");
         self.written_after(before, &looked);
-        match number(selection) {
-            Some(source) => self.written_source(before, source, &looked),
-            None => self.written_nobody(before, &looked),
+        match selection {
+            Selection::Source { number, level, .. } => {
+                let now = &before.sources()[usize::from(number)];
+                self.reach(Item::LevelThen(level, now.priority));
+                self.facts(source_written(before, now, &looked));
+            }
+            Selection::Nobody => self.facts(nobody_written(before, &looked)),
         }
         if after.entries().len() > before.entries().len() {
             let entries = after.entries();
@@ -246,66 +284,6 @@ impl Coverage {
             self.reach(Item::Replaced(replaced, seen));
         }
     }
-
-    fn written_source(&mut self, before: &Aic, source: usize, looked: &Looked) {
-        let now = &before.sources()[source];
-        let Selection::Source { level, .. } = looked.selection else {
-            return;
-        };
-        self.reach(Item::LevelThen(level, now.priority));
-        let edge = now.edge_triggered();
-        self.fact_if(edge && now.memory, "IVR write spends an edge");
-        self.fact_if(
-            edge && !now.memory,
-            "IVR write starts an edge source that is idle",
-        );
-        self.fact_if(!edge && now.pending(), "IVR write starts a level source");
-        self.fact_if(
-            !edge && !now.pending(),
-            "IVR write starts a level source that is idle",
-        );
-        self.fact_if(
-            now.memory && !looked.edge,
-            "IVR write spends an edge of a source that went by level at the read",
-        );
-        self.fact_if(
-            !edge && looked.edge,
-            "IVR write starts a level source that went by edge at the read",
-        );
-        self.fact_if(
-            now.memory && now.forced,
-            "IVR write spends an edge of a source that is forced now",
-        );
-        self.fact_if(
-            now.memory && !now.enabled,
-            "IVR write spends an edge of a source that is disabled now",
-        );
-        self.fact_if(before.masked(), "IVR write starts while masked");
-        let lower = top(before).0.is_some() && before.last_level() != looked.last;
-        self.fact_if(
-            lower,
-            "IVR write starts over a lower entry than at the read",
-        );
-    }
-
-    fn written_nobody(&mut self, before: &Aic, looked: &Looked) {
-        if before.is_full() {
-            self.fact_if(true, "IVR write opens no mark with eight entries");
-            return;
-        }
-        let fact = match (top(before).0, before.last_level()) {
-            (None, _) => "IVR write opens a mark with nothing open",
-            (Some(Entered::Handler), _) => "IVR write opens a mark on a handler",
-            (Some(Entered::Mark), Some(_)) => "IVR write opens a mark on a mark with a level",
-            (Some(Entered::Mark), None) => "IVR write opens a mark on a mark without a level",
-        };
-        self.fact_if(true, fact);
-        self.fact_if(before.masked(), "IVR write opens a mark while masked");
-        self.fact_if(
-            before.last_level() != looked.last,
-            "IVR write opens a mark at another level than that of the read",
-        );
-    }
 }
 
 pub(super) fn wanted() -> Vec<Item> {
@@ -313,15 +291,13 @@ pub(super) fn wanted() -> Vec<Item> {
     for was in 0..4 {
         items.extend((0..4).map(|is| Item::DebugTurns(was, is)));
     }
-    for seen in [Seen::Source, Seen::Nobody] {
-        let tops = [None, Some(Entered::Handler), Some(Entered::Mark)];
-        items.extend(tops.map(|top| Item::Look(seen, top)));
-        items.extend([Seen::Source, Seen::Nobody].map(|then| Item::Replaced(seen, then)));
-        // With eight open no source is selected, and nothing but the write opens an entry meanwhile.
-        let can_be = |since: &Since| (seen, *since) != (Seen::Source, Since::Full);
-        let since = Since::ALL.into_iter().filter(can_be);
-        items.extend(since.map(|since| Item::WrittenAfter(seen, since)));
-    }
+    items.extend(Seen::ALL.map(|seen| Item::Look(seen, None)));
+    items.extend(each(|(seen, top)| Item::Look(seen, Some(top))));
+    items.extend(each(|(seen, then)| Item::Replaced(seen, then)));
+    // With eight open no source is selected, and nothing but the write opens an entry meanwhile.
+    let cannot_be = Item::WrittenAfter(Seen::Source, Since::Full);
+    let written = each(|(seen, since)| Item::WrittenAfter(seen, since));
+    items.extend(written.filter(|&item| item != cannot_be));
     for level in 0..LEVELS {
         items.extend((0..LEVELS).map(|now| Item::LevelThen(level, now)));
     }
@@ -332,34 +308,3 @@ pub(super) fn wanted() -> Vec<Item> {
     items.extend(FACTS.iter().copied().map(Item::Fact));
     items
 }
-
-const FACTS: &[&str] = &[
-    "DCR written with protect mode and bits that are dropped",
-    "a look while masked",
-    "a look with eight entries open",
-    "a look at an edge source",
-    "a look at a level source",
-    "a look breaks a tie by the number",
-    "a second look at another source",
-    "IVR written outside the mode while a candidate waits",
-    "IVR written outside the mode with no candidate",
-    "IVR written with nothing remembered while a candidate waits",
-    "IVR written with nothing remembered and no candidate",
-    "IVR write spends an edge",
-    "IVR write starts an edge source that is idle",
-    "IVR write starts a level source",
-    "IVR write starts a level source that is idle",
-    "IVR write spends an edge of a source that went by level at the read",
-    "IVR write starts a level source that went by edge at the read",
-    "IVR write spends an edge of a source that is forced now",
-    "IVR write spends an edge of a source that is disabled now",
-    "IVR write starts while masked",
-    "IVR write starts over a lower entry than at the read",
-    "IVR write opens no mark with eight entries",
-    "IVR write opens a mark with nothing open",
-    "IVR write opens a mark on a handler",
-    "IVR write opens a mark on a mark with a level",
-    "IVR write opens a mark on a mark without a level",
-    "IVR write opens a mark while masked",
-    "IVR write opens a mark at another level than that of the read",
-];

@@ -28,18 +28,9 @@ pub struct Line {
     pub outputs: Vec<String>,
 }
 
-const DEEDS: [&str; 10] = [
-    "starts source ",
-    "opens a mark",
-    "closes ",
-    "nothing open",
-    "remembers ",
-    "forgets",
-    "asserts host ",
-    "ends host ",
-    "chooses input ",
-    "frees ",
-];
+/// How deeds begin.
+const DEEDS: &str = "starts source |opens a mark|closes |nothing open|remembers |forgets|\
+    asserts host |ends host |chooses input |frees ";
 const OUTPUTS: [&str; 4] = ["IRQ active", "IRQ inactive", "FIQ active", "FIQ inactive"];
 
 /// The explanation that a text is, or the first line that is none of one.
@@ -84,11 +75,8 @@ fn parted(line: &str) -> Option<(Vec<String>, usize, &str)> {
 fn ended(end: &str) -> Option<(u32, u32, String)> {
     let (numbers, words) = end.split_once(": ")?;
     let (refusal, offset) = numbers.split_once(' ')?;
-    Some((
-        refusal.parse().ok()?,
-        offset.parse().ok()?,
-        words.to_owned(),
-    ))
+    let (refusal, offset) = (refusal.parse().ok()?, offset.parse().ok()?);
+    Some((refusal, offset, words.to_owned()))
 }
 
 fn step(words: Vec<String>, width: usize, comment: &str) -> Option<Line> {
@@ -124,7 +112,7 @@ fn step(words: Vec<String>, width: usize, comment: &str) -> Option<Line> {
         let nothing_before = line.deeds.is_empty() && line.outputs.is_empty();
         if OUTPUTS.contains(&part) {
             line.outputs.push(part.to_owned());
-        } else if DEEDS.iter().any(|deed| part.starts_with(deed)) && line.outputs.is_empty() {
+        } else if DEEDS.split('|').any(|deed| part.starts_with(deed)) && line.outputs.is_empty() {
             line.deeds.push(part.to_owned());
         } else if line.fields.is_none() && nothing_before {
             line.fields = Some(part.to_owned());
@@ -150,10 +138,9 @@ impl Shown {
     fn see(&mut self, line: &Line) -> Option<()> {
         for output in &line.outputs {
             let (side, active) = output.split_once(' ')?;
-            let shown = if side == "IRQ" {
-                &mut self.irq
-            } else {
-                &mut self.fiq
+            let shown = match side {
+                "IRQ" => &mut self.irq,
+                _ => &mut self.fiq,
             };
             let active = u32::from(active == "active");
             if *shown == active {
@@ -204,16 +191,11 @@ pub fn listing(explained: &Explained) -> Result<Vec<String>, String> {
         };
         let refusal = line.refusal.as_ref().map(|(number, _)| *number);
         let value = refusal.or(line.value).unwrap_or(0);
-        let Shown {
-            irq,
-            fiq,
-            count,
-            input,
-        } = shown;
+        let outputs = format!("{} {}", shown.irq, shown.fiq);
         let columns = match name {
-            Some("cic" | "indexed") => format!("{count} ? 0"),
-            Some("aintc") => format!("{irq} {fiq} {input}"),
-            _ => format!("{irq} {fiq} {count}"),
+            Some("cic" | "indexed") => format!("{} ? 0", shown.count),
+            Some("aintc") => format!("{outputs} {}", shown.input),
+            _ => format!("{outputs} {}", shown.count),
         };
         lines.push(format!("{} {letter} {value:08X} {columns}", line.number));
     }

@@ -12,39 +12,31 @@ pub fn refusal(told: &Told) -> String {
     }
 }
 
-fn words(told: &Told, refusal: Refusal) -> &'static str {
-    match refusal {
+fn words(told: &Told, refusal: Refusal) -> String {
+    let words = match refusal {
         Refusal::Misaligned => "the offset is no multiple of 4",
         Refusal::NoRegister => "no register at this offset",
         Refusal::WriteOnly => "this register can only be written",
         Refusal::ReadOnly => "this register can only be read",
         Refusal::Unprivileged => "only a privileged access may do this",
-        Refusal::OutOfRange => beyond(told),
+        Refusal::OutOfRange => return beyond(told),
         _ => "a step that no rule takes",
-    }
+    };
+    words.to_owned()
 }
 
 /// Which number of a step is beyond its limit.
-fn beyond(told: &Told) -> &'static str {
+fn beyond(told: &Told) -> String {
     let step = told.recorded.step;
-    if let Step::Line { level, .. } = step {
-        return match level {
-            0 | 1 => "no such line",
-            _ => "a level is 0 or 1",
-        };
-    }
-    if told.recorded.privilege > 1 {
-        return "a privilege is 0 or 1";
-    }
-    let name = accessed(told.before, step).map_or("", |register| register.group.name);
-    match name {
-        "STATUS_SET_INDEX" | "STATUS_CLR_INDEX" | "ENABLE_SET_INDEX" | "ENABLE_CLR_INDEX" => {
-            "no such system"
-        }
-        "HINT_ENABLE_SET_INDEX" | "HINT_ENABLE_CLR_INDEX" => "no such host",
-        "CH_MAP" => "a byte names no channel",
-        "HINT_MAP" => "a byte names no host",
-        _ => "a number is beyond its limit",
+    let register = accessed(told.before, step);
+    let field: Vec<&str> = register.map_or(vec![], |it| it.group.told.split(' ').collect());
+    match (step, &field[..]) {
+        (Step::Line { level: 0 | 1, .. }, _) => "no such line".to_owned(),
+        (Step::Line { .. }, _) => "a level is 0 or 1".to_owned(),
+        _ if told.recorded.privilege > 1 => "a privilege is 0 or 1".to_owned(),
+        (_, ["number", noun]) => format!("no such {noun}"),
+        (_, ["map", .., to]) => format!("a byte names no {to}"),
+        _ => "a number is beyond its limit".to_owned(),
     }
 }
 

@@ -1,6 +1,8 @@
 //! Tours of a CoreInterrupt of any size.
 
-use super::{bad_line, odd_access, Script};
+use super::played::Played;
+use super::Script;
+use crate::model::core::CoreInterrupt;
 use crate::random::Random;
 
 const END: u32 = 0x30;
@@ -11,25 +13,34 @@ pub fn tour(random: &mut Random, steps: u32) -> Script {
     let fiqs = random.pick(&[0, 0, 1, 1, 3, 7, 8, 8]);
     let irqs = random.pick(&[0, 0, 1, 2, 16, 31, 32, 32]);
     let levels = [random.below(2), random.below(2)];
-    let mut script = Script::new(1, &[fiqs, irqs, levels[0], levels[1]]);
+    let script = Script::new(1, &[fiqs, irqs, levels[0], levels[1]]);
+    let core = CoreInterrupt::new(fiqs, irqs, levels[0] == 1, levels[1] == 1);
+    let mut at = Played::new(random, script, core);
     for _ in 0..steps {
-        match random.below(20) {
+        match at.random.below(20) {
             0..=7 => {
-                let line = line(random, fiqs, irqs);
-                script.line(line, random.below(2));
+                let line = line(at.random, fiqs, irqs);
+                let level = at.random.below(2);
+                at.line(line, level);
             }
-            8..=12 => script.read(4 * random.below(END / 4)),
+            8..=12 => {
+                let register = at.random.below(END / 4);
+                at.read(4 * register);
+            }
             13..=17 => {
-                let offset = random.pick(&[0x00, 0x04, 0x08, 0x08, 0x0C]);
-                let value = value(random);
-                script.write(offset + 0x18 * random.below(2), value);
+                let offset = at.random.pick(&[0x00, 0x04, 0x08, 0x08, 0x0C]);
+                let (value, group) = (value(at.random), at.random.below(2));
+                at.write(offset + 0x18 * group, value);
             }
-            18 => odd_access(random, &mut script, END),
-            _ if random.one_in(3) => bad_line(random, &mut script, LINES),
-            _ => script.write(4 * random.below(END / 4), random.word()),
+            18 => at.odd_access(END),
+            _ if at.random.one_in(3) => at.bad_line(LINES),
+            _ => {
+                let register = at.random.below(END / 4);
+                at.write_word(4 * register);
+            }
         }
     }
-    script
+    at.script
 }
 
 /// Mostly an input that is configured, at times one that is not.

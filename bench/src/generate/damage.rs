@@ -56,8 +56,8 @@ fn spoil_a_number(random: &mut Random, script: &mut Script) {
 }
 
 /// Gives the number of a place in the script a defect. A missing or cut number takes all that follows with it. What is
-/// there keeps the low bits of its value, so that whoever overlooks the defect plays on; where a number is cut, and which
-/// bit is beyond 32, goes by its place.
+/// there keeps the low bits of its value, so that whoever overlooks the defect plays on; where a number is cut, and
+/// which bit is beyond 32, goes by its place.
 pub fn spoil(script: &mut Script, place: usize, defect: Defect) {
     let at = script.numbers[place];
     match defect {

@@ -7,10 +7,10 @@ mod situations;
 pub use situations::situations;
 
 use super::cic::{self, end_or_any, CHANNEL_MAP, END, GLOBAL, HOST_ENABLE, HOST_MAP};
+use super::played::weights;
+use super::steps::steps;
 use super::{Script, INDEXED};
-use crate::model::cic::Cic;
 use crate::model::indexed::{Index, Indexed, NONE};
-use crate::model::Controller;
 use crate::random::Random;
 
 // Offsets of the map. The model takes nothing from here, so that tests can hold them against it.
@@ -28,62 +28,16 @@ pub const ENABLE_CLEAR: u32 = 0x02C;
 pub const HOST_SET: u32 = 0x034;
 pub const HOST_CLEAR: u32 = 0x038;
 
-/// What a tour does next.
-#[derive(Clone, Copy)]
-enum Act {
-    Cic,
-    Poll,
-    Raise,
-    Lower,
-    Earlier,
-    Serve,
-    End,
-    AlmostEnd,
-    Unsettle,
-    Control,
-    Map,
-    Own,
-}
+/// How often each act comes: in a mixed tour; in one that polls, where hold is off nearly all the time; and in one
+/// without prioritisation, where what it has not is asked for all the same.
+const MIXED: &str = "24 CIC, 14 poll, 10 raise, 5 lower, 5 earlier, 4 serve, 8 end, 8 almost end, \
+    6 unsettle, 4 control, 3 map, 5 own";
+const POLLING: &str = "16 poll, 10 raise, 10 lower, 5 earlier, 4 map, 4 unsettle, 6 CIC";
+const WITHOUT: &str = "24 CIC, 8 raise, 6 own, 2 poll";
 
-const MIXED: [(u32, Act); 12] = [
-    (24, Act::Cic),
-    (14, Act::Poll),
-    (10, Act::Raise),
-    (5, Act::Lower),
-    (5, Act::Earlier),
-    (4, Act::Serve),
-    (8, Act::End),
-    (8, Act::AlmostEnd),
-    (6, Act::Unsettle),
-    (4, Act::Control),
-    (3, Act::Map),
-    (5, Act::Own),
-];
-
-/// One that polls: hold is off nearly all the time.
-const POLLING: [(u32, Act); 7] = [
-    (16, Act::Poll),
-    (10, Act::Raise),
-    (10, Act::Lower),
-    (5, Act::Earlier),
-    (4, Act::Map),
-    (4, Act::Unsettle),
-    (6, Act::Cic),
-];
-
-/// One without prioritisation: what it has not is asked for all the same.
-const WITHOUT: [(u32, Act); 4] = [
-    (24, Act::Cic),
-    (8, Act::Raise),
-    (6, Act::Own),
-    (2, Act::Poll),
-];
-
-/// A tour as it goes on: that of the CIC, how many of its numbers the model has played, and liked channels and hosts.
+/// A tour as it goes on: that of the CIC, and liked channels and hosts.
 struct Tour<'a> {
-    cic: cic::Tour<'a>,
-    model: Indexed,
-    played: usize,
+    cic: cic::Tour<'a, Indexed>,
     channels: Vec<u32>,
     hosts: Vec<u32>,
 }
@@ -91,30 +45,27 @@ struct Tour<'a> {
 /// A sound trace of a CIC with prioritised indices, or with that choice off, of about so many steps.
 pub fn tour(random: &mut Random, steps: u32) -> Script {
     let choice = !random.one_in(8);
-    let acts: &[(u32, Act)] = match random.below(4) {
-        _ if !choice => &WITHOUT,
-        0 => &POLLING,
-        _ => &MIXED,
+    let mood = match random.below(4) {
+        _ if !choice => WITHOUT,
+        0 => POLLING,
+        _ => MIXED,
     };
-    let cic = cic::Tour::new(random, INDEXED, &[u32::from(choice)]);
-    let size = |count: u32| count as usize;
-    let plain = Cic::new(size(cic.systems), size(cic.channels), size(cic.hosts), 0);
+    let of = |cic| Indexed::new(cic, choice);
+    let cic = cic::Tour::new(random, INDEXED, &[u32::from(choice)], of);
     let mut tour = Tour {
-        model: Indexed::new(plain, choice),
-        played: cic.script.numbers.len(),
-        channels: favourites(cic.random, cic.channels, 4),
-        hosts: favourites(cic.random, cic.hosts, 3),
+        channels: favourites(cic.at.random, cic.sizes.channels, 4),
+        hosts: favourites(cic.at.random, cic.sizes.hosts, 3),
         cic,
     };
     if steps > 8 {
-        tour.prepare(acts.len() == POLLING.len());
+        tour.prepare(mood == POLLING);
     }
+    let acts = weights(mood);
     for _ in 0..steps {
-        let act = tour.cic.random.weighted(acts);
+        let act = tour.cic.at.random.weighted(&acts);
         tour.act(act);
-        tour.catch_up();
     }
-    tour.cic.script
+    tour.cic.at.script
 }
 
 /// A few numbers below a count.
@@ -142,60 +93,59 @@ impl Tour<'_> {
         for nth in 0..self.cic.favourites.len() {
             self.map_system(self.cic.favourites[nth]);
         }
-        self.catch_up();
-    }
-
-    /// Has the model play what was written since.
-    fn catch_up(&mut self) {
-        for step in self.cic.script.steps_from(self.played) {
-            // A refused step is a good one here, and changes nothing.
-            let _ = self.model.step(step);
-        }
-        self.played = self.cic.script.numbers.len();
     }
 
     fn read(&mut self, offset: u32) {
-        self.cic.script.read(offset);
+        self.cic.at.read(offset);
     }
 
     fn write(&mut self, offset: u32, value: u32) {
-        self.cic.script.write(offset, value);
+        self.cic.at.write(offset, value);
     }
 
-    fn act(&mut self, act: Act) {
+    fn act(&mut self, act: &str) {
         match act {
-            Act::Cic => self.cic.act(),
-            Act::Poll => {
+            "CIC" => self.cic.act(),
+            "poll" => {
                 let index = self.index();
                 self.read(register(index));
             }
-            Act::Raise => self.raise(),
-            Act::Lower => self.lower(),
-            Act::Earlier => self.earlier(),
-            Act::Serve => self.serve(),
-            Act::End => self.end(),
-            Act::AlmostEnd => self.almost_end(),
-            Act::Unsettle => self.unsettle(),
-            Act::Control => {
-                let value = match self.cic.random.below(8) {
+            "raise" => self.raise(),
+            "lower" => self.lower(),
+            "earlier" => self.earlier(),
+            "serve" => self.serve(),
+            "end" => self.end(),
+            "almost end" => self.almost_end(),
+            "unsettle" => self.unsettle(),
+            "control" => {
+                let value = match self.random().below(8) {
                     0..=2 => 0,
                     3..=5 => HOLD,
                     6 => !HOLD,
-                    _ => self.cic.random.word(),
+                    _ => self.random().word(),
                 };
                 self.write(CONTROL, value);
                 self.read(CONTROL);
             }
-            Act::Map => self.map_channels(),
-            Act::Own => self.own(),
+            "map" => self.map_channels(),
+            "own" => self.own(),
+            _ => unreachable!("{act} is no act"),
         }
+    }
+
+    fn random(&mut self) -> &mut Random {
+        self.cic.at.random
+    }
+
+    fn model(&self) -> &Indexed {
+        &self.cic.at.model
     }
 
     /// The global index, or that of a liked host, seldom of any.
     fn index(&mut self) -> Index {
-        match self.cic.random.below(8) {
+        match self.random().below(8) {
             0..=2 => Index::Global,
-            3 => Index::Host(self.cic.random.below(self.cic.hosts) as usize),
+            3 => Index::Host(self.any_host() as usize),
             _ => Index::Host(self.host() as usize),
         }
     }
@@ -203,30 +153,27 @@ impl Tour<'_> {
     /// An index that is held if there is one at hand, and the word.
     fn held(&mut self) -> Option<(Index, u32)> {
         let index = self.index();
-        let liked = self
-            .hosts
-            .iter()
-            .map(|&host| Index::Host(host as usize))
-            .chain([Index::Global]);
-        let mut all = [index].into_iter().chain(liked);
-        all.find_map(|index| Some((index, self.model.held(index)?)))
+        let liked = self.hosts.iter().map(|&host| Index::Host(host as usize));
+        let mut all = [index].into_iter().chain(liked).chain([Index::Global]);
+        all.find_map(|index| Some((index, self.model().held(index)?)))
+    }
+
+    fn any_host(&mut self) -> u32 {
+        self.cic.at.random.below(self.cic.sizes.hosts)
     }
 
     fn host(&mut self) -> u32 {
-        self.cic.random.pick(&self.hosts)
+        self.cic.at.random.pick(&self.hosts)
     }
 
     /// A system becomes pending: by its line, or by software.
     fn raise(&mut self) {
         let system = self.cic.system();
-        match self.cic.random.below(3) {
+        match self.random().below(3) {
             0 => self.write(STATUS_SET, system),
-            _ => {
-                self.cic.script.line(system, 0);
-                self.cic.script.line(system, 1);
-            }
+            _ => steps!(self.cic.at: "{system}- {system}+"),
         }
-        if self.cic.random.one_in(3) {
+        if self.random().one_in(3) {
             self.write(ENABLE_SET, system);
         }
     }
@@ -234,13 +181,12 @@ impl Tour<'_> {
     /// A system that an index names now, or any, is cleared or disabled.
     fn lower(&mut self) {
         let index = self.index();
-        let system = match self.model.first(index) {
+        let system = match self.model().first(index) {
             Some(system) => system as u32,
             None => self.cic.system(),
         };
         let offset = self
-            .cic
-            .random
+            .random()
             .pick(&[STATUS_CLEAR, STATUS_CLEAR, ENABLE_CLEAR]);
         self.write(offset, system);
     }
@@ -249,10 +195,10 @@ impl Tour<'_> {
     /// channel.
     fn earlier(&mut self) {
         let index = self.index();
-        let Some(first) = self.model.first(index) else {
+        let Some(first) = self.model().first(index) else {
             return self.raise();
         };
-        let cic = self.model.cic();
+        let cic = self.model().cic();
         let channel = cic.channel_of(first);
         let earlier: Vec<u32> = (0..cic.systems())
             .filter(|&system| (cic.channel_of(system), system) < (channel, first))
@@ -261,28 +207,26 @@ impl Tour<'_> {
         if earlier.is_empty() {
             return self.raise();
         }
-        let system = self.cic.random.pick(&earlier);
-        self.write(ENABLE_SET, system);
-        self.write(STATUS_SET, system);
+        let system = self.random().pick(&earlier);
+        steps!(self.cic.at: "IENABLE={system:x} ISET={system:x}");
         self.read(register(index));
     }
 
     /// The maker's service sequence: the host off, the index read, what it names cleared, the host on (001, table 1-2).
     fn serve(&mut self) {
         let host = self.host();
-        let index = match self.cic.random.below(3) {
+        let index = match self.random().below(3) {
             0 => Index::Global,
             _ => Index::Host(host as usize),
         };
         self.write(HOST_CLEAR, host);
         self.read(register(index));
-        self.catch_up();
-        let named = self.model.held(index).filter(|&word| word != NONE);
-        let now = self.model.first(index).map(|system| system as u32);
+        let named = self.model().held(index).filter(|&word| word != NONE);
+        let now = self.model().first(index).map(|system| system as u32);
         if let Some(system) = named.or(now) {
             self.write(STATUS_CLEAR, system);
         }
-        if self.cic.random.one_in(3) {
+        if self.random().one_in(3) {
             self.read(register(index));
         }
         self.write(HOST_SET, host);
@@ -292,9 +236,9 @@ impl Tour<'_> {
     /// A word of host enables with or without the bit of a host.
     fn enables(&mut self, host: u32, with: bool) {
         let bit = 1 << (host % 32);
-        let others = match self.cic.random.below(3) {
+        let others = match self.random().below(3) {
             0 => 0,
-            _ => self.cic.random.word(),
+            _ => self.random().word(),
         };
         let value = if with { others | bit } else { others & !bit };
         self.write(HOST_ENABLE + 4 * (host / 32), value);
@@ -307,9 +251,9 @@ impl Tour<'_> {
             Index::Host(host) => host as u32,
             Index::Global => self.host(),
         };
-        match self.cic.random.below(6) {
+        match self.random().below(6) {
             0 | 1 => {
-                let value = self.cic.random.pick(&[0, NONE, 0x3FF, u32::MAX]);
+                let value = self.random().pick(&[0, NONE, 0x3FF, u32::MAX]);
                 self.write(register(index), value);
             }
             2 => self.write(HOST_SET, host),
@@ -317,7 +261,7 @@ impl Tour<'_> {
             4 => self.enables(host, true),
             _ => {
                 self.write(CONTROL, 0);
-                if !self.cic.random.one_in(4) {
+                if !self.random().one_in(4) {
                     self.write(CONTROL, HOLD);
                 }
             }
@@ -329,22 +273,22 @@ impl Tour<'_> {
     fn almost_end(&mut self) {
         let index = self.held().map_or(Index::Global, |(index, _)| index);
         let (host, other) = match index {
-            Index::Host(host) => (host as u32, self.cic.random.below(self.cic.hosts)),
+            Index::Host(host) => (host as u32, self.any_host()),
             Index::Global => (self.host(), self.host()),
         };
-        match self.cic.random.below(8) {
+        match self.random().below(8) {
             0 => self.enables(host, false),
             1 => self.write(HOST_ENABLE + 4 * (host / 32), 0),
             2 => self.write(HOST_SET, other),
             3 => self.write(HOST_CLEAR, other),
             4 => {
-                let offset = self.cic.random.pick(&[HOST_SET, HOST_CLEAR]);
-                self.write(offset, self.cic.hosts);
+                let offset = self.random().pick(&[HOST_SET, HOST_CLEAR]);
+                self.write(offset, self.cic.sizes.hosts);
             }
             5 => self.write(register(Index::Host(other as usize)), 0),
             6 => self.write(CONTROL, HOLD),
             _ => {
-                let value = self.cic.random.below(2);
+                let value = self.random().below(2);
                 self.write(GLOBAL, value);
             }
         }
@@ -356,7 +300,7 @@ impl Tour<'_> {
         let Some((index, word)) = self.held().filter(|&(_, word)| word != NONE) else {
             return self.raise();
         };
-        match self.cic.random.below(4) {
+        match self.random().below(4) {
             0 => self.write(STATUS_CLEAR, word),
             1 => self.write(ENABLE_CLEAR, word),
             2 => self.map_system(word),
@@ -367,40 +311,35 @@ impl Tour<'_> {
 
     /// Liked channels for a system and its three neighbours.
     fn map_system(&mut self, system: u32) {
-        let word = four(self.cic.random, &self.channels);
+        let word = four(self.cic.at.random, &self.channels);
         self.write(CHANNEL_MAP + 4 * (system / 4), word);
     }
 
     /// Liked hosts for all liked channels and their neighbours.
     fn map_channels(&mut self) {
         for nth in 0..self.channels.len() {
-            let word = four(self.cic.random, &self.hosts);
+            let word = four(self.cic.at.random, &self.hosts);
             self.write(HOST_MAP + 4 * (self.channels[nth] / 4), word);
         }
     }
 
     /// One of the registers that prioritisation brings, or the first that it does not, or one beside it.
     fn own(&mut self) {
-        let hosts = self.cic.hosts;
-        let host = match self.cic.random.below(5) {
+        let hosts = self.cic.sizes.hosts;
+        let host = match self.random().below(5) {
             0 => hosts,
             1 => hosts - 1,
             2 => 255,
             _ => self.host(),
         };
-        let offset = match self.cic.random.below(8) {
+        let offset = match self.random().below(8) {
             0 | 1 => CONTROL,
             2 | 3 => GLOBAL_INDEX,
-            4 => self.cic.random.pick(&[0x005, 0x006, 0x07C, 0x083, 0x084]),
-            5 => HOST_INDEX + 4 * host + self.cic.random.below(4),
+            4 => self.random().pick(&[0x005, 0x006, 0x07C, 0x083, 0x084]),
+            5 => HOST_INDEX + 4 * host + self.random().below(4),
             _ => HOST_INDEX + 4 * host,
         };
-        if self.cic.random.one_in(2) {
-            self.read(offset.min(END));
-        } else {
-            let value = self.cic.random.word();
-            self.write(offset.min(END), value);
-        }
+        self.cic.at.access(offset.min(END));
     }
 }
 

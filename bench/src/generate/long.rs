@@ -82,7 +82,7 @@ pub fn padded(random: &mut Random, kind: Kind) -> Vec<u8> {
 
 /// Ends on the length exactly, by reads of two or three bytes, and of up to five where they tell a privilege.
 fn finish(mut script: Script, length: usize) -> Vec<u8> {
-    let least = match script.tells_privilege {
+    let least = match script.tells_privilege() {
         true => 3,
         false => 2,
     };
@@ -98,7 +98,7 @@ fn finish(mut script: Script, length: usize) -> Vec<u8> {
 }
 
 fn short_step(random: &mut Random, script: &mut Script) {
-    if script.tells_privilege {
+    if script.tells_privilege() {
         aintc::short_step(random, script);
         return;
     }

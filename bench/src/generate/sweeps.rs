@@ -5,8 +5,9 @@ mod levels;
 mod marks;
 mod protect;
 
-use super::aic::{HIGH_LEVEL, RISING_EDGE};
+use self::marks::opening;
 use super::damage::spoil;
+use super::steps::steps;
 use super::{indexed, long, Script, AINTC, INDEXED};
 use crate::model::Kind;
 use crate::random::Random;
@@ -34,15 +35,8 @@ pub fn all() -> Vec<Script> {
 
 /// The example that 01 prints.
 fn papers_example() -> Script {
-    let mut script = Script::new(0, &[0, 0]);
-    script.write(0x14, 0x23);
-    script.write(0x94, 0xA0);
-    script.write(0x120, 0x20);
-    script.line(5, 1);
-    script.read(0x100);
-    script.read(0x02);
-    script.write(0x130, 0);
-    script
+    let steps = "MODE5=23 VECTOR5=A0 ENABLE=20 5+ IVR @2 EOICR=0";
+    Script::with(0, &[0, 0], steps)
 }
 
 /// Every offset of the maps and some beyond, misaligned ones too: written, read, written with other values, read.
@@ -137,156 +131,70 @@ fn aic_situations() -> Vec<Script> {
 
 /// Eight handlers one above the other, priority 7 waiting on top, then one close more than there are entries.
 fn nesting_to_eight() -> Script {
-    let mut script = Script::new(0, &[0, 0]);
-    script.write(0x134, 0x5555_AAAA);
-    script.write(0x120, u32::MAX);
+    let mut script = Script::with(0, &[0, 0], "SPU=5555AAAA ENABLE=FFFFFFFF");
     for level in 0..8 {
         let source = 20 - level;
-        marks::source(&mut script, source, HIGH_LEVEL, level);
-        script.line(source, 1);
-        script.read(0x100);
-        script.read(0x108);
+        steps!(script: "{source}:H{level} {source}+ IVR ISR");
     }
-    script.write(4 * 30, 0x47);
-    script.line(30, 1);
-    script.read(0x100);
-    for _ in 0..9 {
-        script.write(0x130, 0xFFFF_FFFF);
-        script.read(0x108);
-    }
+    script.steps("MODE30=47 30+ IVR");
+    script.steps(&"EOICR=FFFFFFFF ISR ".repeat(9));
     script
 }
 
 /// Source 0 by edge and by level, forced sources that are idle, waiting, disabled and unforced again.
 fn fast_side() -> Script {
-    let mut script = Script::new(0, &[0, 0]);
-    script.write(0x80, 0xF0F0);
-    script.write(0x134, 0x5050);
-    script.write(0x000, 0x60);
-    script.write(0x024, 0x63);
-    script.line(0, 1);
-    script.read(0x104);
-    script.write(0x120, 0x201);
-    script.read(0x104);
-    script.read(0x104);
-    script.write(0x140, 0x201);
-    script.read(0x148);
-    script.write(0x12C, 0x001);
-    script.read(0x104);
-    script.read(0x10C);
-    script.line(9, 1);
-    script.read(0x104);
-    script.read(0x10C);
-    script.write(0x128, 0x001);
-    script.read(0x104);
-    script.write(0x138, 2);
-    script.read(0x114);
-    script.read(0x104);
-    script.write(0x138, 0);
-    script.read(0x114);
-    script.write(0x144, 0x200);
-    script.read(0x114);
-    script.read(0x100);
-    script.write(0x140, 0x200);
-    script.write(0x000, 0x40);
-    script.read(0x104);
-    script.write(0x130, 0);
-    script.write(0x144, 0x200);
-    script.read(0x104);
+    let mut script = Script::with(0, &[0, 0], "VECTOR0=F0F0 SPU=5050 MODE0=60 MODE9=63");
+    script.steps("0+ FVR ENABLE=201 FVR FVR FFER=201 FFSR SET=1 FVR IPR 9+ FVR IPR");
+    script.steps("CLEAR=1 FVR DCR=2 CISR FVR DCR=0 CISR FFDR=200 CISR IVR FFER=200");
+    script.steps("MODE0=40 FVR EOICR=0 FFDR=200 FVR");
     script
 }
 
 /// Four sources by edge with their priorities, each with a vector of its own.
 fn edge_sources(script: &mut Script, sources: [(u32, u32); 4]) {
     for (source, priority) in sources {
-        script.write(4 * source, RISING_EDGE | priority);
-        script.write(0x80 + 4 * source, 0xC000 + source);
-    }
-}
-
-/// The last entry is closed and IVR read, so often.
-fn close_and_read(script: &mut Script, times: u32) {
-    for _ in 0..times {
-        script.write(0x130, 0);
-        script.read(0x100);
+        steps!(script: "MODE{source}={:x} VECTOR{source}={:x}", 0x60 | priority, 0xC000 + source);
     }
 }
 
 /// Forced and normal sources side by side: each side passes over the other's, whatever the priorities.
 fn both_sides() -> Script {
-    let mut script = Script::new(0, &[0, 0]);
-    script.write(0x080, 0xF0F0);
-    script.write(0x134, 0x5050);
+    let mut script = Script::with(0, &[0, 0], "VECTOR0=F0F0 SPU=5050");
     edge_sources(&mut script, [(3, 1), (8, 6), (20, 2), (21, 0)]);
-    script.write(0x140, 0x100);
-    script.write(0x12C, 0x10_0108);
-    script.read(0x104);
-    script.write(0x120, u32::MAX);
-    script.read(0x114);
-    script.read(0x100);
-    script.read(0x104);
-    script.write(0x140, 0x10_0000);
-    script.read(0x108);
-    script.write(0x128, 0x100);
-    script.read(0x104);
-    script.read(0x100);
-    close_and_read(&mut script, 2);
-    script.write(0x12C, 0x20_0000);
-    script.read(0x100);
-    script.write(0x12C, 0x20_0000);
-    script.read(0x100);
-    script.read(0x10C);
+    script.steps("FFER=100 SET=100108 FVR ENABLE=FFFFFFFF CISR IVR FVR FFER=100000 ISR");
+    script.steps("CLEAR=100 FVR IVR EOICR=0 IVR EOICR=0 IVR SET=200000 IVR SET=200000 IVR IPR");
     script
 }
 
 /// Lower and equal priorities wait, a changed mode does not lift an open handler, ties go to the lower number.
 fn waiting() -> Script {
-    let mut script = marks::opening();
+    let mut script = opening("");
     edge_sources(&mut script, [(4, 4), (5, 4), (6, 3), (7, 5)]);
-    for source in [5, 4, 6] {
-        script.line(source, 1);
-    }
-    script.read(0x100);
-    script.write(4 * 4, 0x62);
-    script.read(0x100);
-    script.read(0x100);
-    script.line(7, 1);
-    script.write(0x138, 2);
-    script.read(0x114);
-    script.write(0x100, 9);
-    script.read(0x100);
-    script.write(0x124, 0x80);
-    script.read(0x108);
-    close_and_read(&mut script, 4);
+    script.steps("5+ 4+ 6+ IVR MODE4=62 IVR IVR 7+ DCR=2 CISR IVR=9 IVR DISABLE=80 ISR");
+    script.steps(&"EOICR=0 IVR ".repeat(4));
     script
 }
 
 /// Each type: its level or edge and the other one, set and clear, repeated levels, and changes of type and priority.
 fn all_types(external: u32, levels: u32) -> Script {
-    let mut script = Script::new(0, &[external, levels]);
-    let (one, other) = (!levels & 1, levels & 1);
-    script.read(0x10C);
-    for kind in 0..4 {
+    let mut script = Script::with(0, &[external, levels], "IPR");
+    let (one, other) = match levels & 1 {
+        0 => ('+', '-'),
+        _ => ('-', '+'),
+    };
+    for kind in 0..4_u32 {
         let source = 10 + kind;
-        script.write(4 * source, kind << 5 | kind);
+        let (bit, mode) = (1 << source, kind << 5);
+        steps!(script: "MODE{source}={:x}", mode | kind);
         for level in [one, one, other, other, one] {
-            script.line(source, level);
-            script.read(0x10C);
+            steps!(script: "{source}{level} IPR");
         }
-        script.write(0x128, 1 << source);
-        script.read(0x10C);
-        script.line(source, one);
-        script.read(0x10C);
-        script.write(0x12C, 1 << source);
-        script.write(0x140, 1 << source);
-        script.write(4 * source, kind << 5 | 7);
-        script.read(0x10C);
-        script.write(4 * source, 0xFFFF_FF98 | kind << 5 | 7);
-        script.read(0x10C);
-        for other_kind in [1, 3, 1, 0] {
-            script.write(0x12C, 1 << source);
-            script.write(4 * source, other_kind << 5);
-            script.read(0x10C);
+        steps!(script: "CLEAR={bit:x} IPR {source}{one} IPR SET={bit:x} FFER={bit:x}");
+        for mode in [mode | 7, 0xFFFF_FF98 | mode | 7] {
+            steps!(script: "MODE{source}={mode:x} IPR");
+        }
+        for mode in [0x20, 0x60, 0x20, 0] {
+            steps!(script: "SET={bit:x} MODE{source}={mode:x} IPR");
         }
     }
     script
@@ -320,29 +228,17 @@ fn core_situations() -> Vec<Script> {
 
 /// Every input up and down and every software bit set and cleared, first masked and then enabled.
 fn both_groups(mut script: Script) -> Script {
-    for group in [0x00, 0x18] {
+    for of in 0..2 {
         for enable in [0, u32::MAX] {
-            script.write(group + 0x08, enable);
-            script.write(group, u32::MAX);
-            script.read(group + 0x10);
-            script.read(group + 0x14);
-            script.write(group + 0x04, u32::MAX);
+            steps!(script: "ENABLE{of}={enable:x} SOFT{of}=FFFFFFFF RAW{of} STATUS{of}");
+            steps!(script: "SOFT_CLEAR{of}=FFFFFFFF");
             for line in 0..40 {
-                script.line(line, 1);
-                script.read(group + 0x10);
-                script.read(group + 0x14);
+                steps!(script: "{line}+ RAW{of} STATUS{of}");
             }
-            script.write(group, 1);
-            script.write(group + 0x04, 1);
-            script.read(group + 0x10);
-            for line in 0..40 {
-                script.line(line, 0);
-            }
+            steps!(script: "SOFT{of}=1 SOFT_CLEAR{of}=1 RAW{of}");
+            (0..40).for_each(|line| script.line(line, 0));
         }
-        script.write(group + 0x0C, 0x5555_5555);
-        script.read(group + 0x08);
-        script.read(group + 0x04);
-        script.read(group + 0x0C);
+        steps!(script: "ENABLE_CLEAR{of}=55555555 ENABLE{of} SOFT_CLEAR{of} ENABLE_CLEAR{of}");
     }
     script
 }
@@ -416,70 +312,46 @@ fn map_limits(kind: u32, configuration: &[u32]) -> Script {
 fn one_host_each(kind: u32, configuration: &[u32]) -> Script {
     let (systems, channels, hosts) = (configuration[0], configuration[1], configuration[2]);
     let mut script = Script::new(kind, configuration);
-    let entries = |count: u32, limit: u32, register: u32| {
-        let byte = |place| {
-            let entry = 4 * register + place;
-            if entry < count {
-                entry % limit
-            } else {
-                255
-            }
-        };
-        byte(0) | byte(1) << 8 | byte(2) << 16 | byte(3) << 24
-    };
-    for register in 0..systems.div_ceil(4) {
-        script.write(0x400 + 4 * register, entries(systems, channels, register));
-    }
-    for register in 0..channels.div_ceil(4) {
-        script.write(0x800 + 4 * register, entries(channels, hosts, register));
+    for (map, count, limit) in [("CHANNELS", systems, channels), ("HOSTS", channels, hosts)] {
+        for register in 0..count.div_ceil(4) {
+            let entry = |place| match 4 * register + place {
+                entry if entry < count => entry % limit,
+                _ => 255,
+            };
+            let word = (0..4).fold(0, |word, place| word | entry(place) << (8 * place));
+            steps!(script: "{map}{register}={word:x}");
+        }
     }
     for word in 0..systems.div_ceil(32) {
-        script.write(0x300 + 4 * word, u32::MAX);
+        steps!(script: "ENABLE{word}=FFFFFFFF");
     }
     for word in 0..hosts.div_ceil(32) {
-        script.write(0x1500 + 4 * word, u32::MAX);
+        steps!(script: "HOST_ENABLE{word}=FFFFFFFF");
     }
-    script.line(0, 1);
-    script.write(0x010, 0xFFFF_FFFF);
-    for system in 0..systems {
-        script.line(system, 1);
-    }
-    script.line(0, 1);
-    script.line(0, 0);
+    script.steps("0+ GLOBAL=FFFFFFFF");
+    (0..systems).for_each(|system| script.line(system, 1));
+    script.steps("0+ 0-");
     for word in 0..systems.div_ceil(32) {
-        script.write(0x280 + 4 * word, 0xFFFF_FFFF);
-        script.read(0x200 + 4 * word);
+        steps!(script: "CLEAR{word}=FFFFFFFF SET{word}");
     }
-    script.line(systems - 1, 0);
-    script.line(systems - 1, 1);
-    script.read(0x280 + 4 * ((systems - 1) / 32));
-    script.write(0x038, systems.min(hosts) - 1);
-    script.write(0x034, systems.min(hosts) - 1);
-    script.write(0x02C, systems - 1);
-    script.line(systems - 1, 0);
-    script.write(0x024, systems - 1);
-    script.line(systems - 1, 1);
-    script.write(0x028, systems - 1);
-    script.write(0x010, 2);
-    script.read(0x010);
+    let (last, host) = (systems - 1, systems.min(hosts) - 1);
+    steps!(script: "{last}- {last}+ CLEAR{} IHOST_OFF={host:x}", last / 32);
+    steps!(script: "IHOST_ON={host:x} IDISABLE={last:x} {last}- ICLEAR={last:x} {last}+");
+    steps!(script: "IENABLE={last:x} GLOBAL=2 GLOBAL");
     script
 }
 
 /// Short sound traces, one of each kind and one of each sort of step, behind which any number can be spoiled.
 fn short_traces() -> Vec<Script> {
-    let mut scripts = vec![
-        Script::new(0, &[0x8000_0001, 0x4000_0002]),
-        Script::new(1, &[8, 32, 1, 0]),
-        Script::new(2, &[33, 2, 2, 0x4E82_0000]),
-        Script::new(AINTC, &[]),
-        Script::new(INDEXED, &[33, 2, 2, 0x4E82_0000, 1]),
+    let kinds: [(u32, &[u32]); 5] = [
+        (0, &[0x8000_0001, 0x4000_0002]),
+        (1, &[8, 32, 1, 0]),
+        (2, &[33, 2, 2, 0x4E82_0000]),
+        (AINTC, &[]),
+        (INDEXED, &[33, 2, 2, 0x4E82_0000, 1]),
     ];
-    for script in &mut scripts {
-        script.read(0x10);
-        script.write(0x20, 1);
-        script.line(0, 1);
-    }
-    scripts
+    let short = |(kind, configuration)| Script::with(kind, configuration, "@10 @20=1 0+");
+    kinds.map(short).into()
 }
 
 /// The least and the largest value that needs one byte, two bytes, up to five.

@@ -5,6 +5,7 @@ use std::collections::{BTreeMap, BTreeSet};
 
 use super::Window;
 use crate::model::{Kind, Machine};
+use crate::patterns::items;
 use crate::picture::{nesting, Bar, Nesting, MOST_STEPS};
 use crate::trace::{play, PROGRAM_LIMIT};
 use crate::waves::signals::{signals, NO_LEVEL};
@@ -45,7 +46,8 @@ impl Reached {
     /// What the waves of a trace reach: which signals change, and how the trace ends.
     pub fn see_waves(&mut self, waves: &Waves) {
         if let Some((refusal, _)) = waves.ending {
-            self.see(ends(waves.kind, refusal));
+            let told = waves.kind.map_or("no controller", Kind::told);
+            self.see(format!("{told}: ends by {refusal}"));
         }
         let Some(kind) = waves.kind else {
             return;
@@ -58,7 +60,11 @@ impl Reached {
             changed.extend(changes);
         }
         for nth in changed {
-            self.see(changes_of(kind, signals(kind)[nth].name));
+            self.see(format!(
+                "{}: {} changes",
+                kind.told(),
+                signals(kind)[nth].name
+            ));
         }
         let items = [
             (idle, "a tick at which nothing changes"),
@@ -73,27 +79,20 @@ impl Reached {
 
     /// The last entry of an AIC: the columns are those behind the three of the step.
     fn see_last_entry(&mut self, waves: &Waves) {
-        let shown = |tick: &Vec<u32>| (tick[5], tick[6], tick[7]);
-        let any = |holds: fn((u32, u32, u32)) -> bool| waves.ticks.iter().map(shown).any(holds);
-        let items = [
-            (
-                any(|(entries, source, level)| entries > 0 && source == 0 && level == NO_LEVEL),
-                "a mark with no level last",
-            ),
-            (
-                any(|(entries, source, level)| entries > 0 && source == 0 && level < 8),
-                "a mark with a level last",
-            ),
-            (
-                any(|(entries, source, _)| entries == 8 && source == 0),
-                "eight entries, a mark last",
-            ),
-            (
-                any(|(entries, source, _)| entries == 8 && source > 0),
-                "eight entries, a handler last",
-            ),
-        ];
-        self.see_all(&items);
+        let any = |holds: fn([u32; 3]) -> bool| {
+            let mut ticks = waves.ticks.iter();
+            ticks.any(|tick| holds([tick[5], tick[6], tick[7]]))
+        };
+        let bare = any(|[entries, source, level]| entries > 0 && source == 0 && level == NO_LEVEL);
+        let level = any(|[entries, source, level]| entries > 0 && source == 0 && level < 8);
+        let mark = any(|[entries, source, _]| entries == 8 && source == 0);
+        let handler = any(|[entries, source, _]| entries == 8 && source > 0);
+        self.see_all(&[
+            (bare, "a mark with no level last"),
+            (level, "a mark with a level last"),
+            (mark, "eight entries, a mark last"),
+            (handler, "eight entries, a handler last"),
+        ]);
     }
 
     fn see_all(&mut self, items: &[(bool, &str)]) {
@@ -105,7 +104,7 @@ impl Reached {
     pub fn see_picture(&mut self, window: &Window, nesting: &Nesting) {
         let columns = &nesting.columns;
         for number in columns.iter().filter_map(|column| column.refused) {
-            self.see(refused_by(number));
+            self.see(format!("a step refused by {number}"));
         }
         self.see_bars(nesting);
         let wanted: usize = window.steps.parse().unwrap_or(0);
@@ -178,77 +177,12 @@ fn open_before(window: &Window, first: u32) -> usize {
     before.map_or(0, |nesting| nesting.bars.len())
 }
 
-fn ends(kind: Option<Kind>, refusal: u32) -> String {
-    let told = kind.map_or("no controller", Kind::told);
-    format!("{told}: ends by {refusal}")
-}
-
-fn changes_of(kind: Kind, name: &str) -> String {
-    format!("{}: {name} changes", kind.told())
-}
-
-fn refused_by(number: u32) -> String {
-    format!("a step refused by {number}")
-}
-
 /// All that waves should have reached.
 pub fn listed_of_waves() -> Vec<String> {
-    let mut listed = Vec::new();
-    for kind in Kind::ALL {
-        let names = signals(kind).into_iter().map(|signal| signal.name);
-        listed.extend(names.map(|name| changes_of(kind, name)));
-        listed.extend([7, 8, 9].map(|refusal| ends(Some(kind), refusal)));
-    }
-    listed.extend([8, 9, 10, 11].map(|refusal| ends(None, refusal)));
-    let facts = [
-        "a tick at which nothing changes",
-        "a start and no step",
-        "20,000 steps",
-        "a dump of more than 1,600,000 bytes",
-        "a mark with no level last",
-        "a mark with a level last",
-        "eight entries, a mark last",
-        "eight entries, a handler last",
-    ];
-    listed.extend(facts.map(str::to_string));
-    listed
+    items(include_str!("waves.txt"))
 }
 
 /// All that pictures should have reached.
 pub fn listed_of_pictures() -> Vec<String> {
-    let facts = [
-        "a bar of a mark",
-        "a bar of a handler",
-        "a bar of one column",
-        "a bar opened at the end",
-        "a bar as long as the window",
-        "a bar closed in the window",
-        "entries open before the window",
-        "an entry closed by the first step",
-        "an entry opened by the first step",
-        "two bars of one place",
-        "no bar",
-        "eight bars over one another",
-        "IRQ active",
-        "FIQ active",
-        "one column",
-        "500 columns",
-        "a picture of more than 100,000 bytes",
-        "a trace that ends before the window",
-        "a first step above 1,000",
-        "no picture: the first step is no number",
-        "no picture: the steps are no number",
-        "no picture: a first step 0",
-        "no picture: no steps",
-        "no picture: more than 500 steps",
-        "no picture: nothing started",
-        "no picture: a first step beyond the trace",
-        "no picture: another controller",
-    ];
-    let refused = [1, 2, 3, 4, 6].map(refused_by);
-    facts
-        .map(str::to_string)
-        .into_iter()
-        .chain(refused)
-        .collect()
+    items(include_str!("pictures.txt"))
 }

@@ -1,10 +1,12 @@
 //! What the questions have reached, counted from the model alone; a listed item not reached is a gap.
 
 use super::Question;
+use crate::model::cic::Cic;
 use crate::model::indexed::{Index, Indexed, Register, NONE};
 use crate::model::{Access, Controller, Kind, Machine, Refusal};
-use crate::tally::{Listed, Tally};
+use crate::tally::{each, Fact, Listed, Tally};
 use crate::trace::Report;
+use crate::{facts, sorts};
 
 /// Something that a comparison should have reached. All but the last four are about an index that is not held.
 #[derive(Clone, Copy, Debug, PartialEq, Eq, PartialOrd, Ord, Hash)]
@@ -29,16 +31,12 @@ pub enum Item {
     Fact(&'static str),
 }
 
-/// Whose index is asked for.
-#[derive(Clone, Copy, Debug, PartialEq, Eq, PartialOrd, Ord, Hash)]
-pub enum Whose {
-    Global,
-    Host,
+sorts! {
+    /// Whose index is asked for.
+    Whose { Global, Host }
 }
 
 impl Whose {
-    const ALL: [Whose; 2] = [Whose::Global, Whose::Host];
-
     fn of(index: Index) -> Whose {
         match index {
             Index::Global => Whose::Global,
@@ -47,27 +45,101 @@ impl Whose {
     }
 }
 
-/// In which word of its channel one was found.
-#[derive(Clone, Copy, Debug, PartialEq, Eq, PartialOrd, Ord, Hash)]
-pub enum Place {
-    First,
-    Middle,
-    Last,
-    Nowhere,
-}
+sorts! {
+    /// In which word of its channel one was found.
+    Place { First, Middle, Last, Nowhere }
 
-/// How many channels were searched.
-#[derive(Clone, Copy, Debug, PartialEq, Eq, PartialOrd, Ord, Hash)]
-pub enum Channels {
-    None,
-    One,
-    Several,
-    /// All 256.
-    Most,
+    /// How many channels were searched.
+    Channels {
+        None,
+        One,
+        Several,
+        /// All 256.
+        Most,
+    }
 }
 
 /// The numbers of systems that are to be met: one word or two, just filled or just begun.
 const SIZES: [usize; 4] = [1, 32, 33, 1_024];
+
+facts! { FACTS;
+    fn ending(report: &Report) {
+        let ended = report.ending.map_err(|fault| fault.refusal);
+        let limit = ended == Err(Refusal::StepLimit);
+        let started = report.machine.is_some();
+        let indexed = matches!(report.machine, Some(Machine::Indexed(_)));
+        "no controller was started" if !started;
+        "after the whole trace" if indexed && ended.is_ok();
+        "before the first step" if indexed && limit && report.steps == 0;
+        "amid the trace, at the step limit" if indexed && limit && report.steps > 0;
+        "where a fault ended the trace" if indexed && ended.is_err() && !limit;
+    }
+
+    fn registers(indexed: &Indexed, offset: u32) {
+        let found = indexed.found(offset);
+        let (register, access) = (found.map(|found| found.0), found.map(|found| found.1));
+        let cic = matches!(register, Ok(Register::Cic(_)));
+        "choice off: a register of its own"
+            if !indexed.prioritised() && [0x004, 0x080, 0x900].contains(&offset);
+        "the control register" if register == Ok(Register::Control);
+        "a register of the CIC" if cic && access != Ok(Access::WriteOnly);
+    }
+}
+
+facts! { HOLDS;
+    fn held(word: u32, first: Option<usize>) {
+        "a number" if word != NONE;
+        "none" if word == NONE;
+        "a search would find another" if word != first.map_or(NONE, |system| system as u32);
+    }
+}
+
+facts! { SEARCHES;
+    /// What stands in a word before the one in which a channel has one.
+    fn passed(cic: &Cic, channel: usize, word: usize) {
+        let (set, enabled) = (cic.status().word(word), cic.enable().word(word));
+        let of_channel = |bit: &usize| cic.channel_of(32 * word + bit) == channel;
+        let own = (0..32).filter(of_channel).fold(0, |own, bit| own | 1 << bit);
+        "a word of zeros before it" if set == 0;
+        "one of another channel before it" if set & enabled & !own != 0;
+        "a disabled one before it" if set & !enabled & own != 0;
+        "one that is not set before it" if !set & enabled & own != 0;
+    }
+
+    fn found(indexed: &Indexed, index: Index, system: usize) {
+        let (cic, own) = (indexed.cic(), indexed.cic().channel_of(system));
+        let active = cic.status().word(system / 32) & cic.enable().word(system / 32);
+        let leads = |channel: usize| indexed.leads(index, channel);
+        "several in its word" if active.count_ones() > 1;
+        "a channel behind it not searched" if (own + 1..cic.channels()).any(leads);
+    }
+
+    /// What a search does not ask for.
+    fn mode(indexed: &Indexed) {
+        let cic = indexed.cic();
+        let mut indices = (0..cic.hosts()).map(Index::Host).chain([Index::Global]);
+        "the hold mode on" if indexed.hold();
+        "the hold mode off" if !indexed.hold();
+        "another index held" if indices.any(|other| indexed.held(other).is_some());
+        "global enable 0" if !cic.global_enable();
+        "the largest part" if cic.systems() == 1_024 && cic.channels() == 256;
+    }
+}
+
+facts! { OF_A_HOST;
+    /// The channels before the one that has one.
+    fn skipped(indexed: &Indexed, index: Index, own: usize) {
+        let cic = indexed.cic();
+        let skipped = || (0..own).filter(|&channel| !indexed.leads(index, channel));
+        let has = |channel| cic.active().any(|system| cic.channel_of(system) == channel);
+        "a channel of another host skipped" if skipped().count() > 0;
+        "one that has one skipped" if skipped().any(has);
+    }
+
+    fn masked(cic: &Cic, index: Index) {
+        "its host disabled" if matches!(index, Index::Host(host) if !cic.host_enable().get(host));
+    }
+}
 
 /// The counters.
 #[derive(Default)]
@@ -82,62 +154,69 @@ impl Coverage {
         self.tally.reach(item);
     }
 
-    fn reach_if(&mut self, there: bool, item: Item) {
-        if there {
-            self.reach(item);
-        }
-    }
-
     /// Counts what a question shows, of which the trace was played so.
     pub fn see(&mut self, question: &Question, report: &Report) {
-        let indexed = match &report.machine {
-            None => return self.reach(Item::Fact("no controller was started")),
-            Some(Machine::Indexed(indexed)) => indexed,
-            Some(other) => return self.reach(Item::Other(other.kind())),
-        };
-        let ending = match report.ending.map_err(|fault| fault.refusal) {
-            Ok(_) => "after the whole trace",
-            Err(Refusal::StepLimit) if report.steps == 0 => "before the first step",
-            Err(Refusal::StepLimit) => "amid the trace, at the step limit",
-            Err(_) => "where a fault ended the trace",
-        };
-        self.reach(Item::Fact(ending));
-        self.words += u64::from(indexed.looked(question.offset));
-        self.asked(indexed, question.offset);
+        self.tally.facts(Item::Fact, ending(report));
+        match &report.machine {
+            None => {}
+            Some(Machine::Indexed(indexed)) => {
+                self.words += u64::from(indexed.looked(question.offset));
+                self.asked(indexed, question.offset);
+            }
+            Some(other) => self.reach(Item::Other(other.kind())),
+        }
     }
 
     fn asked(&mut self, indexed: &Indexed, offset: u32) {
-        let absent = !indexed.prioritised() && [0x004, 0x080, 0x900].contains(&offset);
-        self.reach_if(absent, Item::Fact("choice off: a register of its own"));
+        self.tally.facts(Item::Fact, registers(indexed, offset));
         match indexed.found(offset) {
             Err(refusal) => self.reach(Item::Refused(refusal)),
             Ok((_, Access::WriteOnly)) => self.reach(Item::Refused(Refusal::WriteOnly)),
-            Ok((Register::Control, _)) => self.reach(Item::Fact("the control register")),
-            Ok((Register::Cic(_), _)) => self.reach(Item::Fact("a register of the CIC")),
             Ok((Register::Index(index), _)) => match indexed.held(index) {
-                Some(word) => self.held(indexed, index, word),
+                Some(word) => {
+                    let item = |fact| Item::Held(Whose::of(index), fact);
+                    self.tally.facts(item, held(word, indexed.first(index)));
+                }
                 None => self.search(indexed, index),
             },
+            Ok(_) => {}
         }
     }
 
-    /// The index is held, so nothing is searched.
-    fn held(&mut self, indexed: &Indexed, index: Index, word: u32) {
-        let whose = Whose::of(index);
-        let first = indexed.first(index);
-        let now = first.map_or(NONE, |system| system as u32);
-        self.reach_if(word != NONE, Item::Held(whose, "a number"));
-        self.reach_if(word == NONE, Item::Held(whose, "none"));
-        self.reach_if(
-            word != now,
-            Item::Held(whose, "a search would find another"),
-        );
+    /// Counts the situations of a search that are there.
+    fn searches(&mut self, whose: Whose, facts: impl IntoIterator<Item = Fact>) {
+        self.tally.facts(|fact| Item::Search(whose, fact), facts);
     }
 
     /// The index is not held, so its channels are searched.
     fn search(&mut self, indexed: &Indexed, index: Index) {
         let (whose, cic) = (Whose::of(index), indexed.cic());
         let first = indexed.first(index);
+        if let Some(system) = first {
+            self.reach(Item::Words(whose, system as u32 / 32 + 1));
+            let own = cic.channel_of(system);
+            for word in 0..system / 32 {
+                self.searches(whose, passed(cic, own, word));
+            }
+            self.searches(whose, found(indexed, index, system));
+            self.searches(whose, skipped(indexed, index, own));
+        }
+        self.place(cic, whose, first);
+        let end = first.map_or(cic.channels(), |system| cic.channel_of(system) + 1);
+        let searched = (0..end).filter(|&channel| indexed.leads(index, channel));
+        let channels = match searched.count() {
+            0 => Channels::None,
+            1 => Channels::One,
+            256 => Channels::Most,
+            _ => Channels::Several,
+        };
+        self.reach(Item::Searched(whose, channels));
+        self.searches(whose, mode(indexed));
+        self.searches(whose, masked(cic, index));
+    }
+
+    /// In which word one was found, where that tells something.
+    fn place(&mut self, cic: &Cic, whose: Whose, first: Option<usize>) {
         let words = cic.systems().div_ceil(32);
         let place = match first.map(|system| system / 32) {
             None => Place::Nowhere,
@@ -145,100 +224,15 @@ impl Coverage {
             Some(word) if word + 1 < words => Place::Middle,
             Some(_) => Place::Last,
         };
-        if let Some(system) = first {
-            self.reach(Item::Words(whose, system as u32 / 32 + 1));
-            let own = cic.channel_of(system);
-            self.passed(indexed, whose, own, system / 32);
-            self.channels(indexed, index, own);
+        if words >= 3 {
+            self.reach(Item::Found(whose, place));
         }
-        self.reach_if(words >= 3, Item::Found(whose, place));
         if SIZES.contains(&cic.systems()) {
             self.reach(Item::Systems(cic.systems(), place));
-            let last = place == Place::First && words == 1;
-            self.reach_if(last, Item::Systems(cic.systems(), Place::Last));
-        }
-        let end = first.map_or(cic.channels(), |system| cic.channel_of(system) + 1);
-        let searched = (0..end).filter(|&channel| indexed.leads(index, channel));
-        self.reach(Item::Searched(
-            whose,
-            match searched.count() {
-                0 => Channels::None,
-                1 => Channels::One,
-                256 => Channels::Most,
-                _ => Channels::Several,
-            },
-        ));
-        self.mode(indexed, index);
-    }
-
-    /// What stands in the words before the one in which a channel has one.
-    fn passed(&mut self, indexed: &Indexed, whose: Whose, channel: usize, found: usize) {
-        let cic = indexed.cic();
-        for word in 0..found {
-            let (set, enabled) = (cic.status().word(word), cic.enable().word(word));
-            let own = (0..32).fold(0, |own, bit| {
-                own | u32::from(cic.channel_of(32 * word + bit) == channel) << bit
-            });
-            for (there, situation) in [
-                (set == 0, "a word of zeros before it"),
-                (
-                    set & enabled & !own != 0,
-                    "one of another channel before it",
-                ),
-                (set & !enabled & own != 0, "a disabled one before it"),
-                (!set & enabled & own != 0, "one that is not set before it"),
-            ] {
-                self.reach_if(there, Item::Search(whose, situation));
+            if place == Place::First && words == 1 {
+                self.reach(Item::Systems(cic.systems(), Place::Last));
             }
         }
-        let set = cic.status().word(found) & cic.enable().word(found);
-        let more = set.count_ones() > 1;
-        self.reach_if(more, Item::Search(whose, "several in its word"));
-    }
-
-    /// Which channels come before and behind the one that has one.
-    fn channels(&mut self, indexed: &Indexed, index: Index, own: usize) {
-        let (whose, cic) = (Whose::of(index), indexed.cic());
-        let leads = |channel: usize| indexed.leads(index, channel);
-        let has = |channel: usize| cic.active().any(|system| cic.channel_of(system) == channel);
-        let mut earlier = 0..own;
-        let skipped = earlier.clone().any(|channel| !leads(channel));
-        let skipped_has = earlier.any(|channel| !leads(channel) && has(channel));
-        let later = (own + 1..cic.channels()).any(leads);
-        if whose == Whose::Host {
-            self.reach_if(
-                skipped,
-                Item::Search(whose, "a channel of another host skipped"),
-            );
-            self.reach_if(skipped_has, Item::Search(whose, "one that has one skipped"));
-        }
-        self.reach_if(
-            later,
-            Item::Search(whose, "a channel behind it not searched"),
-        );
-    }
-
-    /// What a search does not ask for.
-    fn mode(&mut self, indexed: &Indexed, index: Index) {
-        let (whose, cic) = (Whose::of(index), indexed.cic());
-        let masked = match index {
-            Index::Global => false,
-            Index::Host(host) => !cic.host_enable().get(host),
-        };
-        let mode = match indexed.hold() {
-            true => "the hold mode on",
-            false => "the hold mode off",
-        };
-        let hosts = (0..cic.hosts()).map(Index::Host);
-        let mut indices = hosts.chain([Index::Global]);
-        let beside = indices.any(|other| indexed.held(other).is_some());
-        self.reach(Item::Search(whose, mode));
-        self.reach_if(beside, Item::Search(whose, "another index held"));
-        self.reach_if(masked, Item::Search(whose, "its host disabled"));
-        let off = !cic.global_enable();
-        self.reach_if(off, Item::Search(whose, "global enable 0"));
-        let most = cic.systems() == 1_024 && cic.channels() == 256;
-        self.reach_if(most, Item::Search(whose, "the largest part"));
     }
 }
 
@@ -253,14 +247,13 @@ impl Listed for Coverage {
         let mut items = Vec::new();
         for whose in Whose::ALL {
             items.extend((1..=32).map(|words| Item::Words(whose, words)));
-            let places = [Place::First, Place::Middle, Place::Last, Place::Nowhere];
-            items.extend(places.map(|place| Item::Found(whose, place)));
+            items.extend(each(|place| Item::Found(whose, place)));
             let channels = [Channels::One, Channels::Several, Channels::Most];
             items.extend(channels.map(|channels| Item::Searched(whose, channels)));
-            items.extend(SEARCHES.map(|situation| Item::Search(whose, situation)));
-            items.extend(HOLDS.map(|situation| Item::Held(whose, situation)));
+            items.extend(SEARCHES.iter().map(|fact| Item::Search(whose, fact)));
+            items.extend(HOLDS.iter().map(|fact| Item::Held(whose, fact)));
         }
-        items.extend(OF_A_HOST.map(|situation| Item::Search(Whose::Host, situation)));
+        items.extend(OF_A_HOST.iter().map(|fact| Item::Search(Whose::Host, fact)));
         items.push(Item::Searched(Whose::Host, Channels::None));
         for systems in SIZES {
             let places = [Place::First, Place::Last, Place::Nowhere];
@@ -271,40 +264,7 @@ impl Listed for Coverage {
         items.extend(refusals.map(Item::Refused));
         let others = Kind::ALL.into_iter().filter(|&kind| kind != Kind::Indexed);
         items.extend(others.map(Item::Other));
-        items.extend(FACTS.map(Item::Fact));
+        items.extend(FACTS.iter().copied().map(Item::Fact));
         items
     }
 }
-
-const SEARCHES: [&str; 11] = [
-    "a word of zeros before it",
-    "one of another channel before it",
-    "a disabled one before it",
-    "one that is not set before it",
-    "several in its word",
-    "a channel behind it not searched",
-    "the hold mode on",
-    "the hold mode off",
-    "another index held",
-    "global enable 0",
-    "the largest part",
-];
-
-const OF_A_HOST: [&str; 3] = [
-    "a channel of another host skipped",
-    "one that has one skipped",
-    "its host disabled",
-];
-
-const HOLDS: [&str; 3] = ["a number", "none", "a search would find another"];
-
-const FACTS: [&str; 8] = [
-    "no controller was started",
-    "after the whole trace",
-    "before the first step",
-    "amid the trace, at the step limit",
-    "where a fault ended the trace",
-    "choice off: a register of its own",
-    "the control register",
-    "a register of the CIC",
-];

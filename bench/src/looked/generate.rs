@@ -1,15 +1,12 @@
-//! Questions made from a seed: sweeps that visit everything once, then tours, scattered systems, and traces of any kind.
+//! Questions made from a seed: sweeps that visit everything once, then tours, scattered systems, and traces of any
+//! kind.
 
 mod sweeps;
 
 use super::Question;
-use crate::generate::cic::{
-    CHANNEL_MAP, ENABLE_SET as ENABLE, GLOBAL as GLOBAL_ENABLE, HOST_MAP, RAW_SET as STATUS,
-};
-use crate::generate::indexed::{
-    CONTROL, ENABLE_CLEAR, GLOBAL_INDEX, HOST_INDEX, HOST_SET, STATUS_CLEAR, STATUS_SET,
-};
-use crate::generate::{in_any_form, random_case, tour_of, Script};
+use crate::generate::indexed::{CONTROL, GLOBAL_INDEX, HOST_INDEX};
+use crate::generate::steps::steps;
+use crate::generate::{in_any_form, random_case, tour_of, Script, INDEXED};
 use crate::model::Kind;
 use crate::numbered::{Made, Numbered};
 use crate::random::Random;
@@ -60,15 +57,7 @@ fn offset(random: &mut Random) -> u32 {
         0..=6 => GLOBAL_INDEX,
         7..=16 => HOST_INDEX + 4 * host,
         17 => HOST_INDEX + random.below(1_040),
-        18 => random.pick(&[
-            CONTROL,
-            STATUS_SET,
-            STATUS,
-            ENABLE,
-            CHANNEL_MAP,
-            0x081,
-            0x084,
-        ]),
+        18 => random.pick(&[CONTROL, 0x020, 0x200, 0x300, 0x400, 0x081, 0x084]),
         _ => random.word(),
     }
 }
@@ -85,40 +74,38 @@ fn scattered(random: &mut Random) -> Script {
     let channels = random.pick(&[1, 2, 3, 4, 5, 8, 256]);
     let hosts = random.pick(&[1, 2, 3, 4, 256]);
     let choice = u32::from(!random.one_in(16));
-    let mut script = Script::new(4, &[systems, channels, hosts, 0, choice]);
+    let mut script = Script::new(INDEXED, &[systems, channels, hosts, 0, choice]);
     if random.one_in(2) {
-        script.write(CONTROL, 0);
+        script.steps("CONTROL=0");
     }
-    script.write(GLOBAL_ENABLE, random.below(2));
+    steps!(script: "GLOBAL={}", random.below(2));
     for word in 0..systems.div_ceil(32) {
-        script.write(ENABLE + 4 * word, u32::MAX);
+        steps!(script: "ENABLE{word}=FFFFFFFF");
     }
     for register in 0..channels.min(12).div_ceil(4) {
-        script.write(HOST_MAP + 4 * register, few(random, hosts));
+        steps!(script: "HOSTS{register}={:x}", few(random, hosts));
     }
-    let pending: Vec<u32> = (0..random.below(7))
-        .map(|_| random.below(systems))
-        .collect();
-    for &system in &pending {
+    let count = random.below(7);
+    let pending: Vec<u32> = (0..count).map(|_| random.below(systems)).collect();
+    for system in &pending {
         let word = few(random, channels);
-        script.write(CHANNEL_MAP + 4 * (system / 4), word);
-        script.write(STATUS_SET, system);
+        steps!(script: "CHANNELS{}={word:x} ISET={system:x}", system / 4);
         if random.one_in(4) {
-            script.write(ENABLE_CLEAR, system);
+            steps!(script: "IDISABLE={system:x}");
         }
     }
     for _ in 0..random.below(3) {
         script.read(offset(random));
     }
-    if let (Some(&system), true) = (pending.first(), random.one_in(3)) {
-        script.write(STATUS_CLEAR, system);
+    if let (Some(system), true) = (pending.first(), random.one_in(3)) {
+        steps!(script: "ICLEAR={system:x}");
     }
     if random.one_in(4) {
-        script.write(HOST_SET, random.below(hosts));
+        steps!(script: "IHOST_ON={:x}", random.below(hosts));
     }
     if random.one_in(20) {
         script.number(4 + random.below(9));
-        script.write(STATUS_SET, 0);
+        script.steps("ISET=0");
     }
     script
 }

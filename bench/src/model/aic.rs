@@ -35,26 +35,27 @@ pub enum Register {
 impl Register {
     /// The register at an aligned offset (01, AIC, map).
     pub fn at(offset: u32) -> Option<Register> {
+        use Register::*;
         let place = (offset / 4 % 32) as u8;
         Some(match offset {
-            0x000..=0x07C => Register::Mode(place),
-            0x080..=0x0FC => Register::Vector(place),
-            0x100 => Register::Ivr,
-            0x104 => Register::Fvr,
-            0x108 => Register::Isr,
-            0x10C => Register::Ipr,
-            0x110 => Register::Imr,
-            0x114 => Register::Cisr,
-            0x120 => Register::Enable,
-            0x124 => Register::Disable,
-            0x128 => Register::Clear,
-            0x12C => Register::Set,
-            0x130 => Register::Eoicr,
-            0x134 => Register::Spu,
-            0x138 => Register::Dcr,
-            0x140 => Register::Ffer,
-            0x144 => Register::Ffdr,
-            0x148 => Register::Ffsr,
+            0x000..=0x07C => Mode(place),
+            0x080..=0x0FC => Vector(place),
+            0x100 => Ivr,
+            0x104 => Fvr,
+            0x108 => Isr,
+            0x10C => Ipr,
+            0x110 => Imr,
+            0x114 => Cisr,
+            0x120 => Enable,
+            0x124 => Disable,
+            0x128 => Clear,
+            0x12C => Set,
+            0x130 => Eoicr,
+            0x134 => Spu,
+            0x138 => Dcr,
+            0x140 => Ffer,
+            0x144 => Ffdr,
+            0x148 => Ffsr,
             _ => return None,
         })
     }
@@ -62,25 +63,11 @@ impl Register {
     /// Who may do what. IVR counts as writable, though outside protect mode a write does nothing (01, AIC, map; 003,
     /// 27.7.5).
     pub fn access(self) -> Access {
+        use Register::*;
         match self {
-            Register::Mode(_)
-            | Register::Vector(_)
-            | Register::Ivr
-            | Register::Spu
-            | Register::Dcr => Access::ReadWrite,
-            Register::Fvr
-            | Register::Isr
-            | Register::Ipr
-            | Register::Imr
-            | Register::Cisr
-            | Register::Ffsr => Access::ReadOnly,
-            Register::Enable
-            | Register::Disable
-            | Register::Clear
-            | Register::Set
-            | Register::Eoicr
-            | Register::Ffer
-            | Register::Ffdr => Access::WriteOnly,
+            Mode(_) | Vector(_) | Ivr | Spu | Dcr => Access::ReadWrite,
+            Fvr | Isr | Ipr | Imr | Cisr | Ffsr => Access::ReadOnly,
+            Enable | Disable | Clear | Set | Eoicr | Ffer | Ffdr => Access::WriteOnly,
         }
     }
 }
@@ -446,50 +433,43 @@ impl Controller for Aic {
     }
 
     fn read(&mut self, register: Register) -> u32 {
+        use Register::*;
         match register {
-            Register::Mode(n) => self.sources[usize::from(n)].mode(),
-            Register::Vector(n) => self.sources[usize::from(n)].vector,
-            Register::Ivr => self.read_ivr(),
-            Register::Fvr => self.read_fvr(),
-            Register::Isr => self.read_isr(),
-            Register::Ipr => self.word(Source::pending),
-            Register::Imr => self.word(|source| source.enabled),
-            Register::Cisr => u32::from(self.irq()) << 1 | u32::from(self.fiq()),
-            Register::Spu => self.spurious,
-            Register::Dcr => u32::from(self.masked) << 1 | u32::from(self.protected),
-            Register::Ffsr => self.word(|source| source.forced),
-            Register::Enable
-            | Register::Disable
-            | Register::Clear
-            | Register::Set
-            | Register::Eoicr
-            | Register::Ffer
-            | Register::Ffdr => unreachable!("{register:?} is write-only"),
+            Mode(n) => self.sources[usize::from(n)].mode(),
+            Vector(n) => self.sources[usize::from(n)].vector,
+            Ivr => self.read_ivr(),
+            Fvr => self.read_fvr(),
+            Isr => self.read_isr(),
+            Ipr => self.word(Source::pending),
+            Imr => self.word(|source| source.enabled),
+            Cisr => u32::from(self.irq()) << 1 | u32::from(self.fiq()),
+            Spu => self.spurious,
+            Dcr => u32::from(self.masked) << 1 | u32::from(self.protected),
+            Ffsr => self.word(|source| source.forced),
+            Enable | Disable | Clear | Set | Eoicr | Ffer | Ffdr => {
+                unreachable!("{register:?} is write-only")
+            }
         }
     }
 
     fn write(&mut self, register: Register, value: u32) -> Result<(), Refusal> {
+        use Register::*;
         match register {
-            Register::Mode(n) => self.sources[usize::from(n)].set_mode(value),
-            Register::Vector(n) => self.sources[usize::from(n)].vector = value,
-            Register::Ivr => self.write_ivr(),
-            Register::Enable => self.command(value, |source| source.enabled = true),
-            Register::Disable => self.command(value, |source| source.enabled = false),
-            Register::Clear => self.command(value, Source::forget),
-            Register::Set => self.command(value, Source::remember),
+            Mode(n) => self.sources[usize::from(n)].set_mode(value),
+            Vector(n) => self.sources[usize::from(n)].vector = value,
+            Ivr => self.write_ivr(),
+            Enable => self.command(value, |source| source.enabled = true),
+            Disable => self.command(value, |source| source.enabled = false),
+            Clear => self.command(value, Source::forget),
+            Set => self.command(value, Source::remember),
             // One write closes the last entry whatever its value, and none is fine too (02, 3/12; 003, 27.8.15).
-            Register::Eoicr => drop(self.entries.pop()),
-            Register::Spu => self.spurious = value,
-            Register::Dcr => self.write_dcr(value),
+            Eoicr => drop(self.entries.pop()),
+            Spu => self.spurious = value,
+            Dcr => self.write_dcr(value),
             // Source 0 cannot be forced: its bit is dropped (01, AIC, fast side).
-            Register::Ffer => self.command(value & !1, |source| source.forced = true),
-            Register::Ffdr => self.command(value, |source| source.forced = false),
-            Register::Fvr
-            | Register::Isr
-            | Register::Ipr
-            | Register::Imr
-            | Register::Cisr
-            | Register::Ffsr => unreachable!("{register:?} is read-only"),
+            Ffer => self.command(value & !1, |source| source.forced = true),
+            Ffdr => self.command(value, |source| source.forced = false),
+            Fvr | Isr | Ipr | Imr | Cisr | Ffsr => unreachable!("{register:?} is read-only"),
         }
         Ok(())
     }

@@ -66,60 +66,51 @@ pub enum Register {
 impl Register {
     /// The register at an aligned offset (000, table 4-3).
     pub fn at(offset: u32) -> Option<Register> {
+        use Register::*;
         Some(match offset {
-            0x000 => Register::Revision,
-            0x010 => Register::SysConfig,
-            0x014 => Register::SysStatus,
-            0x040 => Register::Sir(Side::Irq),
-            0x044 => Register::Sir(Side::Fiq),
-            0x048 => Register::Control,
-            0x04C => Register::Protection,
-            0x050 => Register::Idle,
-            0x060 => Register::Priority(Side::Irq),
-            0x064 => Register::Priority(Side::Fiq),
-            0x068 => Register::Threshold,
+            0x000 => Revision,
+            0x010 => SysConfig,
+            0x014 => SysStatus,
+            0x040 => Sir(Side::Irq),
+            0x044 => Sir(Side::Fiq),
+            0x048 => Control,
+            0x04C => Protection,
+            0x050 => Idle,
+            0x060 => Priority(Side::Irq),
+            0x064 => Priority(Side::Fiq),
+            0x068 => Threshold,
             0x080..=0x0FC => Register::in_bank(offset - 0x080),
-            0x100..=0x2FC => Register::Ilr(((offset - 0x100) / 4) as u8),
+            0x100..=0x2FC => Ilr(((offset - 0x100) / 4) as u8),
             _ => return None,
         })
     }
 
     /// Eight registers in each bank of 0x20 bytes.
     fn in_bank(offset: u32) -> Register {
+        use Register::*;
         let bank = (offset / 0x20) as u8;
         match offset % 0x20 / 4 {
-            0 => Register::Itr(bank),
-            1 => Register::Mir(bank),
-            2 => Register::MirClear(bank),
-            3 => Register::MirSet(bank),
-            4 => Register::IsrSet(bank),
-            5 => Register::IsrClear(bank),
-            6 => Register::Pending(Side::Irq, bank),
-            _ => Register::Pending(Side::Fiq, bank),
+            0 => Itr(bank),
+            1 => Mir(bank),
+            2 => MirClear(bank),
+            3 => MirSet(bank),
+            4 => IsrSet(bank),
+            5 => IsrClear(bank),
+            6 => Pending(Side::Irq, bank),
+            _ => Pending(Side::Fiq, bank),
         }
     }
 
     /// Who may do what, by the letters of figures 4-6 to 4-25. MIRn can be written, though its figure has no W: the
     /// text says so (000, 4.4.1).
     pub fn access(self) -> Access {
+        use Register::*;
         match self {
-            Register::Revision
-            | Register::SysConfig
-            | Register::Protection
-            | Register::Idle
-            | Register::Threshold
-            | Register::Mir(_)
-            | Register::IsrSet(_)
-            | Register::Ilr(_) => Access::ReadWrite,
-            Register::SysStatus
-            | Register::Sir(_)
-            | Register::Priority(_)
-            | Register::Itr(_)
-            | Register::Pending(..) => Access::ReadOnly,
-            Register::Control
-            | Register::MirClear(_)
-            | Register::MirSet(_)
-            | Register::IsrClear(_) => Access::WriteOnly,
+            Revision | SysConfig | Protection | Idle | Threshold | Mir(_) | IsrSet(_) | Ilr(_) => {
+                Access::ReadWrite
+            }
+            SysStatus | Sir(_) | Priority(_) | Itr(_) | Pending(..) => Access::ReadOnly,
+            Control | MirClear(_) | MirSet(_) | IsrClear(_) => Access::WriteOnly,
         }
     }
 }
@@ -335,54 +326,53 @@ impl Controller for Aintc {
     }
 
     fn read(&mut self, register: Register) -> u32 {
+        use Register::*;
         match register {
-            Register::Revision => u32::from(self.revision),
-            Register::SysConfig => u32::from(self.auto_idle),
+            Revision => u32::from(self.revision),
+            SysConfig => u32::from(self.auto_idle),
             // Steps take no time, so no reset is ever going on (000, table 4-6).
-            Register::SysStatus => 1,
-            Register::Sir(side) => match self.chosen(side) {
+            SysStatus => 1,
+            Sir(side) => match self.chosen(side) {
                 Some(chosen) => u32::from(chosen.number),
                 None => SPURIOUS,
             },
-            Register::Protection => u32::from(self.protected),
-            Register::Idle => u32::from(self.idle),
-            Register::Priority(side) => match self.chosen(side) {
+            Protection => u32::from(self.protected),
+            Idle => u32::from(self.idle),
+            Priority(side) => match self.chosen(side) {
                 Some(chosen) => u32::from(chosen.priority),
                 None => SPURIOUS,
             },
-            Register::Threshold => u32::from(self.threshold),
-            Register::Itr(n) => bank(self.lines, n),
-            Register::Mir(n) => bank(self.masks, n),
-            Register::IsrSet(n) => bank(self.soft, n),
-            Register::Pending(side, n) => bank(self.pending(side), n),
-            Register::Ilr(m) => self.read_ilr(usize::from(m)),
-            Register::Control
-            | Register::MirClear(_)
-            | Register::MirSet(_)
-            | Register::IsrClear(_) => unreachable!("{register:?} is write-only"),
+            Threshold => u32::from(self.threshold),
+            Itr(n) => bank(self.lines, n),
+            Mir(n) => bank(self.masks, n),
+            IsrSet(n) => bank(self.soft, n),
+            Pending(side, n) => bank(self.pending(side), n),
+            Ilr(m) => self.read_ilr(usize::from(m)),
+            Control | MirClear(_) | MirSet(_) | IsrClear(_) => {
+                unreachable!("{register:?} is write-only")
+            }
         }
     }
 
     /// No value is refused; the sides that are free then choose.
     fn write(&mut self, register: Register, value: u32) -> Result<(), Refusal> {
+        use Register::*;
         match register {
-            Register::Revision => self.revision = value as u8,
-            Register::SysConfig => self.write_sysconfig(value),
-            Register::Control => self.write_control(value),
-            Register::Protection => self.protected = value & 1 == 1,
-            Register::Idle => self.idle = value as u8 & 3,
-            Register::Threshold => self.threshold = value as u8,
-            Register::Mir(n) => self.masks = self.masks & !spread(u32::MAX, n) | spread(value, n),
-            Register::MirClear(n) => self.masks &= !spread(value, n),
-            Register::MirSet(n) => self.masks |= spread(value, n),
-            Register::IsrSet(n) => self.soft |= spread(value, n),
-            Register::IsrClear(n) => self.soft &= !spread(value, n),
-            Register::Ilr(m) => self.write_ilr(usize::from(m), value),
-            Register::SysStatus
-            | Register::Sir(_)
-            | Register::Priority(_)
-            | Register::Itr(_)
-            | Register::Pending(..) => unreachable!("{register:?} is read-only"),
+            Revision => self.revision = value as u8,
+            SysConfig => self.write_sysconfig(value),
+            Control => self.write_control(value),
+            Protection => self.protected = value & 1 == 1,
+            Idle => self.idle = value as u8 & 3,
+            Threshold => self.threshold = value as u8,
+            Mir(n) => self.masks = self.masks & !spread(u32::MAX, n) | spread(value, n),
+            MirClear(n) => self.masks &= !spread(value, n),
+            MirSet(n) => self.masks |= spread(value, n),
+            IsrSet(n) => self.soft |= spread(value, n),
+            IsrClear(n) => self.soft &= !spread(value, n),
+            Ilr(m) => self.write_ilr(usize::from(m), value),
+            SysStatus | Sir(_) | Priority(_) | Itr(_) | Pending(..) => {
+                unreachable!("{register:?} is read-only")
+            }
         }
         self.choose();
         Ok(())

@@ -45,19 +45,13 @@ pub struct Board {
     pins: [bool; PINS],
 }
 
-impl Default for Board {
-    fn default() -> Board {
+impl Board {
+    /// A board with no controller, its pins low.
+    pub fn new() -> Board {
         Board {
             places: Vec::new(),
             pins: [false; PINS],
         }
-    }
-}
-
-impl Board {
-    /// A board with no controller, its pins low.
-    pub fn new() -> Board {
-        Board::default()
     }
 
     /// How many controllers there are.

@@ -25,37 +25,35 @@ pub enum Register {
 impl Register {
     /// The register at an aligned offset in a part of full size.
     pub fn at(offset: u32) -> Option<Register> {
+        use Register::*;
         let from = |base: u32| ((offset - base) / 4) as usize;
         Some(match offset {
-            0x000 => Register::Revision,
-            0x010 => Register::GlobalEnable,
-            0x020 => Register::StatusSetIndex,
-            0x024 => Register::StatusClearIndex,
-            0x028 => Register::EnableSetIndex,
-            0x02C => Register::EnableClearIndex,
-            0x034 => Register::HostEnableSetIndex,
-            0x038 => Register::HostEnableClearIndex,
-            0x200..=0x27C => Register::RawSet(from(0x200)),
-            0x280..=0x2FC => Register::EnabledClear(from(0x280)),
-            0x300..=0x37C => Register::EnableSet(from(0x300)),
-            0x380..=0x3FC => Register::EnableClear(from(0x380)),
-            0x400..=0x7FC => Register::ChannelMap(from(0x400)),
-            0x800..=0x8FC => Register::HostMap(from(0x800)),
-            0x1500..=0x151C => Register::HostEnable(from(0x1500)),
+            0x000 => Revision,
+            0x010 => GlobalEnable,
+            0x020 => StatusSetIndex,
+            0x024 => StatusClearIndex,
+            0x028 => EnableSetIndex,
+            0x02C => EnableClearIndex,
+            0x034 => HostEnableSetIndex,
+            0x038 => HostEnableClearIndex,
+            0x200..=0x27C => RawSet(from(0x200)),
+            0x280..=0x2FC => EnabledClear(from(0x280)),
+            0x300..=0x37C => EnableSet(from(0x300)),
+            0x380..=0x3FC => EnableClear(from(0x380)),
+            0x400..=0x7FC => ChannelMap(from(0x400)),
+            0x800..=0x8FC => HostMap(from(0x800)),
+            0x1500..=0x151C => HostEnable(from(0x1500)),
             _ => return None,
         })
     }
 
     /// Who may do what. The index registers cannot be read here, unlike in 001 (01, CIC).
     pub fn access(self) -> Access {
+        use Register::*;
         match self {
-            Register::Revision => Access::ReadOnly,
-            Register::StatusSetIndex
-            | Register::StatusClearIndex
-            | Register::EnableSetIndex
-            | Register::EnableClearIndex
-            | Register::HostEnableSetIndex
-            | Register::HostEnableClearIndex => Access::WriteOnly,
+            Revision => Access::ReadOnly,
+            StatusSetIndex | StatusClearIndex | EnableSetIndex | EnableClearIndex
+            | HostEnableSetIndex | HostEnableClearIndex => Access::WriteOnly,
             _ => Access::ReadWrite,
         }
     }
@@ -231,14 +229,12 @@ impl Cic {
     /// A register exists if its first bit or byte is below the count it goes by: systems for status, enables and the
     /// channel map, channels for the host map, hosts for the host enables (01, CIC; 001, 2.2.15 and 2.2.16).
     fn exists(&self, register: Register) -> bool {
+        use Register::*;
         match register {
-            Register::RawSet(k)
-            | Register::EnabledClear(k)
-            | Register::EnableSet(k)
-            | Register::EnableClear(k) => 32 * k < self.systems(),
-            Register::ChannelMap(k) => 4 * k < self.systems(),
-            Register::HostMap(k) => 4 * k < self.channels(),
-            Register::HostEnable(k) => 32 * k < self.hosts(),
+            RawSet(k) | EnabledClear(k) | EnableSet(k) | EnableClear(k) => 32 * k < self.systems(),
+            ChannelMap(k) => 4 * k < self.systems(),
+            HostMap(k) => 4 * k < self.channels(),
+            HostEnable(k) => 32 * k < self.hosts(),
             _ => true,
         }
     }
@@ -258,43 +254,43 @@ impl Controller for Cic {
     }
 
     fn read(&mut self, register: Register) -> u32 {
+        use Register::*;
         match register {
-            Register::Revision => self.revision,
-            Register::GlobalEnable => u32::from(self.global_enable),
-            Register::RawSet(k) => self.status.word(k),
-            Register::EnabledClear(k) => self.status.word(k) & self.enable.word(k),
-            Register::EnableSet(k) | Register::EnableClear(k) => self.enable.word(k),
-            Register::ChannelMap(k) => read_map(&self.channel_of_system, k),
-            Register::HostMap(k) => read_map(&self.host_of_channel, k),
-            Register::HostEnable(k) => self.host_enable.word(k),
-            Register::StatusSetIndex
-            | Register::StatusClearIndex
-            | Register::EnableSetIndex
-            | Register::EnableClearIndex
-            | Register::HostEnableSetIndex
-            | Register::HostEnableClearIndex => unreachable!("{register:?} is write-only"),
+            Revision => self.revision,
+            GlobalEnable => u32::from(self.global_enable),
+            RawSet(k) => self.status.word(k),
+            EnabledClear(k) => self.status.word(k) & self.enable.word(k),
+            EnableSet(k) | EnableClear(k) => self.enable.word(k),
+            ChannelMap(k) => read_map(&self.channel_of_system, k),
+            HostMap(k) => read_map(&self.host_of_channel, k),
+            HostEnable(k) => self.host_enable.word(k),
+            StatusSetIndex | StatusClearIndex | EnableSetIndex | EnableClearIndex
+            | HostEnableSetIndex | HostEnableClearIndex => {
+                unreachable!("{register:?} is write-only")
+            }
         }
     }
 
     fn write(&mut self, register: Register, value: u32) -> Result<(), Refusal> {
+        use Register::*;
         let (channels, hosts) = (self.channels(), self.hosts());
         match register {
-            Register::GlobalEnable => self.global_enable = value & 1 == 1,
-            Register::StatusSetIndex => put_index(&mut self.status, value, true)?,
-            Register::StatusClearIndex => put_index(&mut self.status, value, false)?,
-            Register::EnableSetIndex => put_index(&mut self.enable, value, true)?,
-            Register::EnableClearIndex => put_index(&mut self.enable, value, false)?,
-            Register::HostEnableSetIndex => put_index(&mut self.host_enable, value, true)?,
-            Register::HostEnableClearIndex => put_index(&mut self.host_enable, value, false)?,
-            Register::RawSet(k) => self.status.set_ones(k, value),
+            GlobalEnable => self.global_enable = value & 1 == 1,
+            StatusSetIndex => put_index(&mut self.status, value, true)?,
+            StatusClearIndex => put_index(&mut self.status, value, false)?,
+            EnableSetIndex => put_index(&mut self.enable, value, true)?,
+            EnableClearIndex => put_index(&mut self.enable, value, false)?,
+            HostEnableSetIndex => put_index(&mut self.host_enable, value, true)?,
+            HostEnableClearIndex => put_index(&mut self.host_enable, value, false)?,
+            RawSet(k) => self.status.set_ones(k, value),
             // The status goes, enabled or not (001, 2.2.12).
-            Register::EnabledClear(k) => self.status.clear_ones(k, value),
-            Register::EnableSet(k) => self.enable.set_ones(k, value),
-            Register::EnableClear(k) => self.enable.clear_ones(k, value),
-            Register::ChannelMap(k) => write_map(&mut self.channel_of_system, k, value, channels)?,
-            Register::HostMap(k) => write_map(&mut self.host_of_channel, k, value, hosts)?,
-            Register::HostEnable(k) => self.host_enable.put_word(k, value),
-            Register::Revision => unreachable!("the revision is read-only"),
+            EnabledClear(k) => self.status.clear_ones(k, value),
+            EnableSet(k) => self.enable.set_ones(k, value),
+            EnableClear(k) => self.enable.clear_ones(k, value),
+            ChannelMap(k) => write_map(&mut self.channel_of_system, k, value, channels)?,
+            HostMap(k) => write_map(&mut self.host_of_channel, k, value, hosts)?,
+            HostEnable(k) => self.host_enable.put_word(k, value),
+            Revision => unreachable!("the revision is read-only"),
         }
         Ok(())
     }

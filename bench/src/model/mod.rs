@@ -21,6 +21,17 @@ pub enum Step {
     Line { line: u32, level: u32 },
 }
 
+impl Step {
+    /// The letter that the listing gives a step that is carried out (01, house trace).
+    pub fn letter(self) -> char {
+        match self {
+            Step::Read { .. } => 'R',
+            Step::Write { .. } => 'W',
+            Step::Line { .. } => 'L',
+        }
+    }
+}
+
 /// The privilege of a step where the trace says none, or of an access that says it is privileged (02, 2/12).
 pub const PRIVILEGED: u32 = 1;
 
@@ -176,6 +187,19 @@ pub enum Machine {
     Indexed(Box<Indexed>),
 }
 
+/// Asks the controller of a machine, of whatever kind it is.
+macro_rules! asked {
+    ($machine:expr, $controller:ident => $answer:expr) => {
+        match $machine {
+            Machine::Aic($controller) => $answer,
+            Machine::Core($controller) => $answer,
+            Machine::Cic($controller) => $answer,
+            Machine::Aintc($controller) => $answer,
+            Machine::Indexed($controller) => $answer,
+        }
+    };
+}
+
 impl Machine {
     pub fn kind(&self) -> Kind {
         match self {
@@ -189,21 +213,27 @@ impl Machine {
 
     pub fn step(&mut self, recorded: Recorded) -> Answer {
         match self {
-            Machine::Aic(aic) => aic.step(recorded.step),
-            Machine::Core(core) => core.step(recorded.step),
-            Machine::Cic(cic) => cic.step(recorded.step),
             Machine::Aintc(aintc) => aintc.recorded(recorded),
-            Machine::Indexed(indexed) => indexed.step(recorded.step),
+            other => asked!(other, controller => controller.step(recorded.step)),
         }
     }
 
     pub fn shown(&self) -> [u32; 3] {
+        asked!(self, controller => controller.shown())
+    }
+
+    pub fn lines(&self) -> u32 {
         match self {
-            Machine::Aic(aic) => aic.shown(),
-            Machine::Core(core) => core.shown(),
-            Machine::Cic(cic) => cic.shown(),
-            Machine::Aintc(aintc) => aintc.shown(),
-            Machine::Indexed(indexed) => indexed.shown(),
+            Machine::Aic(aic) => aic.lines(),
+            Machine::Core(core) => core.lines(),
+            Machine::Cic(cic) => cic.systems() as u32,
+            Machine::Aintc(aintc) => aintc.lines(),
+            Machine::Indexed(indexed) => indexed.lines(),
         }
+    }
+
+    /// Which accesses the register at an aligned offset allows, if there is one.
+    pub fn access(&self, offset: u32) -> Option<Access> {
+        asked!(self, controller => controller.register(offset).map(|(_, access)| access))
     }
 }

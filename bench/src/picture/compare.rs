@@ -2,10 +2,10 @@
 //! every byte, those of the words too, is that of the model's own writer.
 
 use super::xml::{read, Element, Node};
-use super::{left, middle, top, write, Bar, Nesting};
+use super::{left, middle, top, write, Nesting};
 use super::{BAND, FIQ_TOP, HEIGHT, IRQ_TOP, NUMBERED, REFUSALS, STEPS, WIDTH};
 use crate::compare::first_difference;
-use crate::model::aic::{Entry, ENTRIES};
+use crate::model::aic::ENTRIES;
 
 /// How much was compared.
 #[derive(Clone, Copy, Debug, Default, PartialEq, Eq)]
@@ -23,29 +23,8 @@ const SCALE: usize = 52;
 /// Where the words begin, of which all but the title are the same in every picture.
 const WORDS: &str = "8";
 
-/// What is found in a picture, each by its column and with its number.
-#[derive(Clone, Debug, Default, PartialEq, Eq)]
-struct Found {
-    irq: Vec<usize>,
-    fiq: Vec<usize>,
-    refused: Vec<(usize, u32)>,
-    numbered: Vec<(usize, u32)>,
-    bars: Vec<Drawn>,
-    /// The places on the scale.
-    scale: Vec<(usize, u32)>,
-    /// How many axes there are.
-    axes: usize,
-}
-
-/// A bar with its labels.
-#[derive(Clone, Debug, PartialEq, Eq, PartialOrd, Ord)]
-struct Drawn {
-    place: usize,
-    from: usize,
-    to: usize,
-    mark: bool,
-    labels: Vec<String>,
-}
+/// What a picture says, a line for each shape or number in it.
+type Facts = Vec<String>;
 
 /// Compares a picture with the window of the model, what it means first, then every byte; or says the first thing that
 /// differs.
@@ -61,89 +40,74 @@ pub fn compare(text: &[u8], nesting: &Nesting) -> Result<Compared, String> {
 /// here, but for those of boxes and bars.
 pub fn meaning(text: &[u8], nesting: &Nesting) -> Result<Compared, String> {
     let svg = read(text)?;
-    let columns = nesting.columns.len();
+    let columns = &nesting.columns;
     frame(&svg, nesting)?;
     let elements: Vec<&Element> = svg.elements().collect();
-    let mut found = Found::default();
+    let mut facts = Facts::new();
     let mut rest = elements.get(1..).unwrap_or_default();
     while let Some((element, behind)) = rest.split_first() {
-        let used = found.take(element, behind, left(columns + 1))?;
+        let used = take(&mut facts, element, behind, left(columns.len() + 1))?;
         rest = &behind[used..];
     }
-    found.bars.sort();
-    let expected = expected(nesting);
-    same("dark boxes of IRQ", &found.irq, &expected.irq)?;
-    same("dark boxes of FIQ", &found.fiq, &expected.fiq)?;
-    same("refused steps", &found.refused, &expected.refused)?;
-    same("numbers of steps", &found.numbered, &expected.numbered)?;
-    same("bars", &found.bars, &expected.bars)?;
-    same("places on the scale", &found.scale, &expected.scale)?;
-    same("axes", &[found.axes], &[expected.axes])?;
+    let mut expected = expected(nesting);
+    facts.sort();
+    expected.sort();
+    if facts != expected {
+        let same = facts.iter().zip(&expected).take_while(|(a, b)| a == b);
+        let at = same.count();
+        let (found, expected) = (facts.get(at), expected.get(at));
+        return Err(format!("{found:?}, expected {expected:?}"));
+    }
+    let found = |what: &str| facts.iter().filter(|fact| fact.contains(what)).count();
     Ok(Compared {
-        columns,
-        bars: found.bars.len(),
-        boxes: found.irq.len() + found.fiq.len(),
-        refused: found.refused.len(),
+        columns: columns.len(),
+        bars: found("a bar of"),
+        boxes: found("a dark box"),
+        refused: found("refused by"),
     })
 }
 
-/// The first of two rows that differ, and what each has there.
-fn same<T: PartialEq + std::fmt::Debug>(
-    what: &str,
-    found: &[T],
-    expected: &[T],
-) -> Result<(), String> {
-    if found == expected {
-        return Ok(());
-    }
-    let at = (found.iter().zip(expected))
-        .take_while(|(a, b)| a == b)
-        .count();
-    let (found, expected) = (found.get(at), expected.get(at));
-    Err(format!("{what}: {found:?}, expected {expected:?}"))
+fn dark(output: &str, column: usize) -> String {
+    format!("a dark box of {output} in column {column}")
 }
 
-/// The window as it has to be found.
-fn expected(nesting: &Nesting) -> Found {
-    let mut found = Found {
-        scale: (0..ENTRIES)
-            .map(|place| (place, place as u32 + 1))
-            .collect(),
-        axes: 1,
-        ..Found::default()
-    };
-    for (step, (nth, column)) in (nesting.first..).zip(nesting.columns.iter().enumerate()) {
-        let nth = nth + 1;
-        found.irq.extend(column.irq.then_some(nth));
-        found.fiq.extend(column.fiq.then_some(nth));
-        found
-            .refused
-            .extend(column.refused.map(|number| (nth, number)));
-        let numbered = step.is_multiple_of(NUMBERED);
-        found.numbered.extend(numbered.then_some((nth, step)));
-    }
-    found.bars = nesting.bars.iter().map(Drawn::of).collect();
-    found.bars.sort();
-    found
+fn refusal(column: usize, number: u32) -> String {
+    format!("column {column} refused by {number}")
 }
 
-impl Drawn {
-    fn of(bar: &Bar) -> Drawn {
-        let labels = match bar.entry {
-            Entry {
-                source: Some(source),
-                level: Some(level),
-            } => vec![format!("S{source}"), format!("L{level}")],
+fn step(column: usize, number: u32) -> String {
+    format!("column {column} is step {number}")
+}
+
+fn scale(place: usize, number: u32) -> String {
+    format!("place {place} has number {number}")
+}
+
+fn bar(place: usize, from: usize, to: usize, mark: bool, labels: &[String]) -> String {
+    let sort = if mark { "mark" } else { "handler" };
+    format!("a bar of a {sort} at place {place} from column {from} up to {to}: {labels:?}")
+}
+
+const AXES: &str = "the axes";
+
+/// What the window says.
+fn expected(nesting: &Nesting) -> Facts {
+    let mut facts = vec![AXES.to_string()];
+    facts.extend((0..ENTRIES).map(|place| scale(place, place as u32 + 1)));
+    for (number, (nth, column)) in (nesting.first..).zip((1..).zip(&nesting.columns)) {
+        facts.extend(column.irq.then(|| dark("IRQ", nth)));
+        facts.extend(column.fiq.then(|| dark("FIQ", nth)));
+        facts.extend(column.refused.map(|number| refusal(nth, number)));
+        facts.extend((number % NUMBERED == 0).then(|| step(nth, number)));
+    }
+    facts.extend(nesting.bars.iter().map(|it| {
+        let labels = match (it.entry.source, it.entry.level) {
+            (Some(source), Some(level)) => vec![format!("S{source}"), format!("L{level}")],
             _ => vec!["mark".to_string()],
         };
-        Drawn {
-            place: bar.place,
-            from: bar.from,
-            to: bar.to,
-            mark: bar.entry.is_mark(),
-            labels,
-        }
-    }
+        bar(it.place, it.from, it.to, it.entry.is_mark(), &labels)
+    }));
+    facts
 }
 
 /// The picture as a whole: its sort, its size, its ground, its title, and nothing but elements inside.
@@ -211,105 +175,89 @@ fn is_centred(element: &Element) -> bool {
     element.name == "text" && element.attribute("text-anchor") == Some("middle")
 }
 
-impl Found {
-    /// Takes an element, and of those behind it the ones that belong to it; answers how many these are.
-    fn take(
-        &mut self,
-        element: &Element,
-        behind: &[&Element],
-        end: usize,
-    ) -> Result<usize, String> {
-        match element.name.as_str() {
-            "rect" if number(element, "height")? == BAND => self.dark(element).map(|()| 0),
-            "rect" => self.bar(element, behind),
-            "path" if element.attribute("d") == Some(&format!("M64 92V316H{end}")) => {
-                self.axes += 1;
-                Ok(0)
-            }
-            "path" => self.refused(element, behind).map(|()| 1),
-            "text" if is_centred(element) => self.centred(element).map(|()| 0),
-            "text" if element.attribute("x") == Some(WORDS) => Ok(0),
-            "text" if element.attribute("transform").is_some() => Ok(0),
-            _ => Err(format!("{element:?} is not asked for")),
+/// Takes an element, and of those behind it the ones that belong to it; answers how many these are.
+fn take(
+    facts: &mut Facts,
+    element: &Element,
+    behind: &[&Element],
+    end: usize,
+) -> Result<usize, String> {
+    let (fact, used) = match element.name.as_str() {
+        "rect" if number(element, "height")? == BAND => (taken_box(element)?, 0),
+        "rect" => taken_bar(element, behind)?,
+        "path" if element.attribute("d") == Some(&format!("M64 92V316H{end}")) => {
+            (AXES.to_string(), 0)
         }
-    }
+        "path" => (taken_refusal(element, behind)?, 1),
+        "text" if is_centred(element) => (taken_number(element)?, 0),
+        "text" if element.attribute("x") == Some(WORDS) => return Ok(0),
+        "text" if element.attribute("transform").is_some() => return Ok(0),
+        _ => return Err(format!("{element:?} is not asked for")),
+    };
+    facts.push(fact);
+    Ok(used)
+}
 
-    /// A dark box of an output.
-    fn dark(&mut self, element: &Element) -> Result<(), String> {
-        let nth = column(number(element, "x")?, left)?;
-        let wide = number(element, "width")? == WIDTH;
-        let dark = element.attribute("fill") == Some("#333");
-        match number(element, "y")? {
-            IRQ_TOP if wide && dark => self.irq.push(nth),
-            FIQ_TOP if wide && dark => self.fiq.push(nth),
-            _ => return Err(format!("{element:?} is no dark box")),
-        }
-        Ok(())
+/// A dark box of an output.
+fn taken_box(element: &Element) -> Result<String, String> {
+    let nth = column(number(element, "x")?, left)?;
+    let wide = number(element, "width")? == WIDTH;
+    match number(element, "y")? {
+        _ if !wide || element.attribute("fill") != Some("#333") => {}
+        IRQ_TOP => return Ok(dark("IRQ", nth)),
+        FIQ_TOP => return Ok(dark("FIQ", nth)),
+        _ => {}
     }
+    Err(format!("{element:?} is no dark box"))
+}
 
-    /// A tick with the number of the refusal behind it.
-    fn refused(&mut self, element: &Element, behind: &[&Element]) -> Result<(), String> {
-        let label = behind.first().filter(|label| is_centred(label));
-        let label = label.ok_or_else(|| format!("{element:?} has no number"))?;
-        let (x, y) = (number(label, "x")?, number(label, "y")?);
-        let drawn = element.attribute("d").unwrap_or_default();
-        if y != REFUSALS || !drawn.starts_with(&format!("M{x} ")) {
-            return Err(format!("{element:?} belongs to no refused step"));
-        }
-        self.refused.push((column(x, middle)?, told(label)?));
-        Ok(())
+/// A tick with the number of the refusal behind it.
+fn taken_refusal(element: &Element, behind: &[&Element]) -> Result<String, String> {
+    let label = behind.first().filter(|label| is_centred(label));
+    let label = label.ok_or_else(|| format!("{element:?} has no number"))?;
+    let (x, y) = (number(label, "x")?, number(label, "y")?);
+    let drawn = element.attribute("d").unwrap_or_default();
+    match y == REFUSALS && drawn.starts_with(&format!("M{x} ")) {
+        true => Ok(refusal(column(x, middle)?, told(label)?)),
+        false => Err(format!("{element:?} belongs to no refused step")),
     }
+}
 
-    /// The number of a step or of a place.
-    fn centred(&mut self, element: &Element) -> Result<(), String> {
-        let (x, y) = (number(element, "x")?, number(element, "y")?);
-        if x == SCALE {
-            let place = self.scale.len();
-            if y <= top(place) || y >= top(place) + HEIGHT {
-                return Err(format!("{element:?} is not at its place"));
-            }
-            self.scale.push((place, told(element)?));
-        } else if y == STEPS {
-            self.numbered.push((column(x, middle)?, told(element)?));
-        } else {
-            return Err(format!("{element:?} belongs to no column"));
-        }
-        Ok(())
+/// The number of a step or of a place.
+fn taken_number(element: &Element) -> Result<String, String> {
+    let (x, y) = (number(element, "x")?, number(element, "y")?);
+    let place = (0..ENTRIES).find(|&place| top(place) < y && y < top(place) + HEIGHT);
+    match (place, y) {
+        (Some(place), _) if x == SCALE => Ok(scale(place, told(element)?)),
+        (_, STEPS) => Ok(step(column(x, middle)?, told(element)?)),
+        _ => Err(format!("{element:?} belongs to no column")),
     }
+}
 
-    /// A bar, with the labels in it behind it.
-    fn bar(&mut self, element: &Element, behind: &[&Element]) -> Result<usize, String> {
-        let (x, y) = (number(element, "x")?, number(element, "y")?);
-        let width = number(element, "width")?;
-        let place = (0..ENTRIES).find(|&place| top(place) == y);
-        let place = place.ok_or_else(|| format!("{y} is the edge of no place"))?;
-        let from = column(x, left)?;
-        if number(element, "height")? != HEIGHT || width == 0 || width % WIDTH != 0 {
-            return Err(format!("{element:?} is no bar"));
-        }
-        let dashed = element.attribute("stroke-dasharray").is_some();
-        let mark = match (element.attribute("fill"), dashed) {
-            (Some("#ddd"), true) => true,
-            (Some("white"), false) => false,
-            _ => return Err(format!("{element:?} is neither a handler nor a mark")),
-        };
-        let inside = |label: &Element| {
-            let label_x = number(label, "x").ok()?;
-            let label_y = number(label, "y").ok()?;
-            let here = (x..x + WIDTH).contains(&label_x) && (y..y + HEIGHT).contains(&label_y);
-            let plain = label.name == "text" && !is_centred(label);
-            (here && plain).then(|| label.text().unwrap_or_default().to_string())
-        };
-        let labels = behind.iter().map_while(|label| inside(label)).collect();
-        let drawn = Drawn {
-            place,
-            from,
-            to: from + width / WIDTH,
-            mark,
-            labels,
-        };
-        let used = drawn.labels.len();
-        self.bars.push(drawn);
-        Ok(used)
+/// A bar, and how many labels in it stand behind it.
+fn taken_bar(element: &Element, behind: &[&Element]) -> Result<(String, usize), String> {
+    let (x, y) = (number(element, "x")?, number(element, "y")?);
+    let width = number(element, "width")?;
+    let place = (0..ENTRIES).find(|&place| top(place) == y);
+    let place = place.ok_or_else(|| format!("{y} is the edge of no place"))?;
+    let from = column(x, left)?;
+    if number(element, "height")? != HEIGHT || width == 0 || width % WIDTH != 0 {
+        return Err(format!("{element:?} is no bar"));
     }
+    let dashed = element.attribute("stroke-dasharray").is_some();
+    let mark = match (element.attribute("fill"), dashed) {
+        (Some("#ddd"), true) => true,
+        (Some("white"), false) => false,
+        _ => return Err(format!("{element:?} is neither a handler nor a mark")),
+    };
+    let inside = |label: &Element| {
+        let label_x = number(label, "x").ok()?;
+        let label_y = number(label, "y").ok()?;
+        let here = (x..x + WIDTH).contains(&label_x) && (y..y + HEIGHT).contains(&label_y);
+        let plain = label.name == "text" && !is_centred(label);
+        (here && plain).then(|| label.text().unwrap_or_default().to_string())
+    };
+    let labels: Vec<String> = behind.iter().map_while(|label| inside(label)).collect();
+    let fact = bar(place, from, from + width / WIDTH, mark, &labels);
+    Ok((fact, labels.len()))
 }

@@ -106,15 +106,8 @@ impl Made for Counted {
     }
 }
 
-/// What a random trace is like.
-#[derive(Clone, Copy)]
-enum Style {
-    Waits,
-    Tour,
-    Any,
-}
-
-const STYLES: [(u32, Style); 3] = [(12, Style::Waits), (4, Style::Tour), (4, Style::Any)];
+/// What a random trace is like, and how often it comes.
+const STYLES: [(u32, &str); 3] = [(12, "waits"), (4, "tour"), (4, "any")];
 
 fn random_trace(random: &mut Random) -> Case {
     let steps = match random.below(10) {
@@ -122,10 +115,11 @@ fn random_trace(random: &mut Random) -> Case {
         3..=7 => random.within(20, 80),
         _ => random.within(80, 300),
     };
-    let (name, script) = match random.weighted(&STYLES) {
-        Style::Any => return random_case(random),
-        Style::Waits => ("waits", waits::tour(random, steps)),
-        Style::Tour => ("tour", tour_of(random, Kind::Aic, steps)),
+    let name = random.weighted(&STYLES);
+    let script = match name {
+        "any" => return random_case(random),
+        "waits" => waits::tour(random, steps),
+        _ => tour_of(random, Kind::Aic, steps),
     };
     let script = in_any_form(random, script);
     let (name, trace) = match random.below(8) {
@@ -134,12 +128,7 @@ fn random_trace(random: &mut Random) -> Case {
         _ => (name, script.bytes),
     };
     let limit = limit(random, &trace);
-    Case {
-        name,
-        trace,
-        limit,
-        room: None,
-    }
+    Case::new(name, trace, limit)
 }
 
 /// The trace up to any byte.

@@ -14,8 +14,8 @@ use crate::trace::{LONGEST, PROGRAM_LIMIT};
 /// A name of so many bytes or more names no file, and only so many of it are printed.
 pub const LONGEST_NAME: usize = 4_096;
 
-/// Reads names, one to a line, and writes a line for each and then those of all sources. Each line of a trace is written
-/// before the next name is read.
+/// Reads names, one to a line, and writes a line for each and then those of all sources. Each line of a trace is
+/// written before the next name is read.
 pub fn report(names: &mut impl BufRead, to: &mut impl Write) -> io::Result<()> {
     let mut totals = Totals::default();
     while let Some(name) = next_name(names)? {

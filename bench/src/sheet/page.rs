@@ -51,8 +51,8 @@ tr{break-inside:avoid}
 const MEANING: &str = r#"<section id="meaning">
 <h2>What each figure counts</h2>
 <dl>
-<dt>stack</dt><dd>bytes of handler and mark frames open at once. Proved of every trace counted, from reset on: neverMoreKept of stack_kept.</dd>
-<dt>table kept</dt><dd>every source that is enabled has the table's priority, type and forcing, at the start and after every step; a trace that breaks this is left out by 18: keepsIs of stack_kept.</dd>
+<dt>stack</dt><dd>bytes of handler and mark frames open at once. Proved of every trace counted, from reset on: neverMoreKept of stack.</dd>
+<dt>table kept</dt><dd>every source that is enabled has the table's priority, type and forcing, at the start and after every step; a trace that breaks this is left out by 18: keepsIs of stack.</dd>
 <dt>started</dt><dd>handlers of the source that were started, added up over the traces: startedOf of aic_waits.</dd>
 <dt>most seen</dt><dd>handlers of other sources started during one wait of the source, the most of any wait: waitedOf of aic_waits.</dd>
 <dt>at most</dt><dd>handlers of other sources that can be started during one wait, the largest bound of the waits that have one: the sum of pending, edges, commands, turns, closed while active and remembered. No such wait saw more: everyMoment of aic_bounds.</dd>

@@ -3,8 +3,9 @@
 use super::text::{self, words, Slip, Word, NUMBERS};
 use super::{Fault, Row, Table, LEVELS, MOST_FRAME, MOST_PRIORITY, MOST_TYPE};
 use crate::model::aic::SOURCES;
-use crate::tally::{Listed, Tally};
+use crate::tally::{each, Fact, Listed, Tally};
 use crate::trace::LONGEST;
+use crate::{facts, sorts};
 
 /// Something that a comparison should have reached.
 #[derive(Clone, Copy, Debug, PartialEq, Eq, PartialOrd, Ord, Hash)]
@@ -29,27 +30,23 @@ pub enum Item {
     Fact(&'static str),
 }
 
-/// How the frame that counts for a level came about.
-#[derive(Clone, Copy, Debug, PartialEq, Eq, PartialOrd, Ord, Hash)]
-pub enum How {
-    /// The level has no normal source, so it is the mark's.
-    None,
-    /// The mark's is larger than those of all its sources.
-    Mark,
-    /// The mark's and a source's are the same.
-    MarkTies,
-    /// One source has a larger frame than the mark and the others.
-    One,
-    /// Several sources share it, above the mark's.
-    Tie,
-}
+sorts! {
+    /// How the frame that counts for a level came about.
+    How {
+        /// The level has no normal source, so it is the mark's.
+        None,
+        /// The mark's is larger than those of all its sources.
+        Mark,
+        /// The mark's and a source's are the same.
+        MarkTies,
+        /// One source has a larger frame than the mark and the others.
+        One,
+        /// Several sources share it, above the mark's.
+        Tie,
+    }
 
-/// Whether a source can open an entry, and why not.
-#[derive(Clone, Copy, Debug, PartialEq, Eq, PartialOrd, Ord, Hash)]
-pub enum Standing {
-    Nought,
-    Forced,
-    Normal,
+    /// Whether a source can open an entry, and why not.
+    Standing { Nought, Forced, Normal }
 }
 
 /// A number with a limit of its own.
@@ -61,23 +58,20 @@ pub enum Limited {
     Mark,
 }
 
-/// How far beyond its limit a number is.
-#[derive(Clone, Copy, Debug, PartialEq, Eq, PartialOrd, Ord, Hash)]
-pub enum Far {
-    ByOne,
-    ByMore,
-}
+sorts! {
+    /// How far beyond its limit a number is.
+    Far { ByOne, ByMore }
 
-/// A sort of number in the order of the text.
-#[derive(Clone, Copy, Debug, PartialEq, Eq, PartialOrd, Ord, Hash)]
-pub enum Field {
-    Priority,
-    Type,
-    Frame,
-    Forced,
-    Mark,
-    /// What stands behind the last number.
-    Behind,
+    /// A sort of number in the order of the text.
+    Field {
+        Priority,
+        Type,
+        Frame,
+        Forced,
+        Mark,
+        /// What stands behind the last number.
+        Behind,
+    }
 }
 
 impl Field {
@@ -106,10 +100,9 @@ impl Field {
     }
 }
 
-listed! {
+sorts! {
     /// How a number was typed.
-    #[derive(Clone, Copy, Debug, PartialEq, Eq, PartialOrd, Ord, Hash)]
-    pub enum Form {
+    Form {
         Decimal,
         /// With a zero before another digit.
         Zeros,
@@ -141,6 +134,90 @@ impl Form {
     }
 }
 
+facts! { FACTS;
+    fn too_long(text: &[u8]) {
+        "one byte too many" if text.len() == LONGEST + 1;
+        "many bytes too many" if text.len() > LONGEST + 1;
+    }
+
+    fn figure(table: &Table, bytes: u32) {
+        "the figure 0" if bytes == 0;
+        "the figure 524,280" if bytes == 524_280;
+        "bit 0 of the forced word" if table.forced & 1 == 1;
+        "every source forced" if table.forced == u32::MAX;
+        "no source forced" if table.forced == 0;
+    }
+
+    /// A word that passes 32 bits, and no other number is beyond its limit.
+    fn over(word: &[u8]) {
+        "33 bits beyond a limit, in decimal" if word == b"4294967296";
+        "33 bits beyond a limit, in hexadecimal" if word == b"0x100000000";
+        "more than 64 bits beyond a limit" if word.len() > 20;
+    }
+
+    fn forced(word: &[u8]) {
+        "32 bits in decimal" if word == b"4294967295";
+        "32 bits in hexadecimal" if word == b"0xffffffff";
+    }
+
+    /// What stands before and behind the numbers of a table with a figure.
+    fn around(text: &[u8], first: usize, last: usize) {
+        let lines = text[first..last].split(|&byte| byte == b'\n').count();
+        let end = text[last..].rsplit(|&byte| byte == b'\n').next();
+        "something before the first number" if first > 0;
+        "nothing behind the last number" if last == text.len();
+        "all numbers on one line" if lines == 1;
+        "a comment at the end without a line feed" if end.is_some_and(|line| line.contains(&b'#'));
+        "65,536 bytes with a figure" if text.len() == LONGEST;
+    }
+
+    fn between(gap: &[u8]) {
+        let white = |byte: u8| !gap.is_empty() && gap.iter().all(|&other| other == byte);
+        "only spaces between numbers" if white(b' ');
+        "only tabs between numbers" if white(b'\t');
+        "only carriage returns between numbers" if white(b'\r');
+        "only line feeds between numbers" if white(b'\n');
+        "a DOS line end between numbers" if gap == b"\r\n";
+        "a comment behind a number" if gap.first() == Some(&b'#');
+    }
+
+    fn commented(gap: &[u8], at: usize) {
+        let comment = gap[at + 1..].split(|&byte| byte == b'\n').next().unwrap_or_default();
+        let has = |found: fn(&u8) -> bool| comment.iter().any(found);
+        "a comment behind white space" if at > 0;
+        "digits in a comment" if has(u8::is_ascii_digit);
+        "a # in a comment" if has(|&byte| byte == b'#');
+        "a CR in a comment" if has(|&byte| byte == b'\r');
+        "other bytes in a comment" if has(|byte| !byte.is_ascii());
+    }
+
+    fn named(names: &[&[u8]; SOURCES]) {
+        let some = |fits: &dyn Fn(&[u8]) -> bool| names.iter().any(|name| fits(name));
+        "a name of 1 byte" if some(&|name| name.len() == 1);
+        "a name of 24 bytes" if some(&|name| name.len() == 24);
+        "a space in a name" if some(&|name| name.contains(&b' '));
+        "a # in a name" if some(&|name| name.contains(&b'#'));
+        "a name of the first source" if !names[0].is_empty();
+        "a name of the last source" if !names[SOURCES - 1].is_empty();
+        "a name of every source" if !some(&|name| name.is_empty());
+    }
+
+    /// The nth number is no number, or none is there.
+    fn misread(text: &[u8], words: &[&[u8]], nth: usize) {
+        let word = words.get(nth).copied().unwrap_or_default();
+        let mut later = words.iter().take(NUMBERS).skip(nth + 1);
+        "an empty text" if text.is_empty();
+        "no word at all" if words.is_empty() && !text.is_empty();
+        "65,536 bytes with a slip" if text.len() == LONGEST;
+        "the prefix 0X" if word.starts_with(b"0X");
+        "a forced word of 33 bits in decimal" if word == b"4294967296";
+        "a forced word of 33 bits in hexadecimal" if word == b"0x100000000";
+        "a sign" if word.starts_with(b"-");
+        "a second slip behind the first" if later.any(|word| *word == b"0x");
+        "a slip behind a number beyond its limit" if nth > 0 && words[0] == b"8";
+    }
+}
+
 /// The counters.
 #[derive(Default)]
 pub struct Coverage {
@@ -152,11 +229,9 @@ impl Coverage {
         self.tally.reach(item);
     }
 
-    /// Counts a situation if it is there.
-    fn fact_if(&mut self, there: bool, fact: &'static str) {
-        if there {
-            self.reach(Item::Fact(fact));
-        }
+    /// Counts the situations that are there.
+    fn facts(&mut self, facts: impl IntoIterator<Item = Fact>) {
+        self.tally.facts(Item::Fact, facts);
     }
 
     /// Counts what a typed table and its outcome show.
@@ -164,18 +239,15 @@ impl Coverage {
         match (needed, text::table(text)) {
             (Ok(bytes), Ok(table)) => {
                 self.figure(&table, bytes);
-                self.typed(text);
                 self.layout(text);
-                self.named(text);
+                self.facts(named(&text::names(text)));
             }
-            (Err(Fault::Misread(misread)), _) => {
-                self.reach(Item::Misread(Field::of(misread.nth), misread.slip));
-                self.misread(text, misread.nth);
+            (Err(Fault::Misread(slip)), _) => {
+                self.reach(Item::Misread(Field::of(slip.nth), slip.slip));
+                let words: Vec<_> = words(text).iter().map(|word| word.characters).collect();
+                self.facts(misread(text, &words, slip.nth));
             }
-            (Err(Fault::TooLong), _) => {
-                self.fact_if(text.len() == LONGEST + 1, "one byte too many");
-                self.fact_if(text.len() > LONGEST + 1, "many bytes too many");
-            }
+            (Err(Fault::TooLong), _) => self.facts(too_long(text)),
             (_, Ok(table)) => self.beyond(&table),
             (_, Err(_)) => self.over(text),
         }
@@ -183,11 +255,7 @@ impl Coverage {
 
     fn figure(&mut self, table: &Table, bytes: u32) {
         self.reach(Item::Digits(bytes.to_string().len()));
-        self.fact_if(bytes == 0, "the figure 0");
-        self.fact_if(bytes == 524_280, "the figure 524,280");
-        self.fact_if(table.forced & 1 == 1, "bit 0 of the forced word");
-        self.fact_if(table.forced == u32::MAX, "every source forced");
-        self.fact_if(table.forced == 0, "no source forced");
+        self.facts(figure(table, bytes));
         for level in 0..LEVELS {
             let frames = table.frames_at(level);
             self.reach(Item::Largest(level, how(&frames, table.mark)));
@@ -228,106 +296,29 @@ impl Coverage {
     fn over(&mut self, text: &[u8]) {
         let numbers = text::numbers(text).unwrap_or_default();
         let passes = |nth: &usize| numbers[*nth].is_none();
-        let over: Vec<usize> = (0..numbers.len()).filter(passes).collect();
+        let passing: Vec<usize> = (0..numbers.len()).filter(passes).collect();
         let rest: Vec<u32> = numbers.iter().map(|n| n.unwrap_or(0)).collect();
-        if let ([nth], true) = (&over[..], text::made_of(&rest).within_limits()) {
-            let nth = *nth;
-            self.reach(Item::Over(Field::of(nth)));
-            let word = words(text)[nth].characters;
-            self.fact_if(word == b"4294967296", "33 bits beyond a limit, in decimal");
-            self.fact_if(
-                word == b"0x100000000",
-                "33 bits beyond a limit, in hexadecimal",
-            );
-            self.fact_if(word.len() > 20, "more than 64 bits beyond a limit");
+        if let ([nth], true) = (&passing[..], text::made_of(&rest).within_limits()) {
+            self.reach(Item::Over(Field::of(*nth)));
+            self.facts(over(words(text)[*nth].characters));
         }
     }
 
-    fn typed(&mut self, text: &[u8]) {
-        for (nth, word) in words(text).iter().enumerate() {
-            self.reach(Item::Typed(Field::of(nth), Form::of(word.characters)));
-        }
-        let forced = words(text)[NUMBERS - 2].characters;
-        self.fact_if(forced == b"4294967295", "32 bits in decimal");
-        self.fact_if(forced == b"0xffffffff", "32 bits in hexadecimal");
-    }
-
-    /// What stands before, between and behind the numbers of a table with a figure.
+    /// The numbers of a table with a figure, and what stands before, between and behind them.
     fn layout(&mut self, text: &[u8]) {
         let words = words(text);
+        for (nth, word) in words.iter().enumerate() {
+            self.reach(Item::Typed(Field::of(nth), Form::of(word.characters)));
+        }
+        self.facts(forced(words[NUMBERS - 2].characters));
         for pair in words.windows(2) {
             let gap = &text[end(&pair[0])..pair[1].offset];
-            self.between(gap);
+            self.facts(between(gap));
+            if let Some(at) = gap.iter().position(|&byte| byte == b'#') {
+                self.facts(commented(gap, at));
+            }
         }
-        let (first, last) = (words[0].offset, end(&words[NUMBERS - 1]));
-        let lines = text[first..last].split(|&byte| byte == b'\n').count();
-        self.fact_if(first > 0, "something before the first number");
-        self.fact_if(last == text.len(), "nothing behind the last number");
-        self.fact_if(lines == 1, "all numbers on one line");
-        let behind = &text[last..];
-        let opened = behind.rsplit(|&byte| byte == b'\n').next();
-        let open = opened.is_some_and(|line| line.contains(&b'#'));
-        self.fact_if(open, "a comment at the end without a line feed");
-        self.fact_if(text.len() == LONGEST, "65,536 bytes with a figure");
-    }
-
-    fn between(&mut self, gap: &[u8]) {
-        let white = |byte: u8| !gap.is_empty() && gap.iter().all(|&other| other == byte);
-        self.fact_if(white(b' '), "only spaces between numbers");
-        self.fact_if(white(b'\t'), "only tabs between numbers");
-        self.fact_if(white(b'\r'), "only carriage returns between numbers");
-        self.fact_if(white(b'\n'), "only line feeds between numbers");
-        self.fact_if(gap == b"\r\n", "a DOS line end between numbers");
-        self.fact_if(gap.first() == Some(&b'#'), "a comment behind a number");
-        let Some(at) = gap.iter().position(|&byte| byte == b'#') else {
-            return;
-        };
-        self.fact_if(at > 0, "a comment behind white space");
-        let comment = gap[at + 1..].split(|&byte| byte == b'\n').next();
-        let comment = comment.unwrap_or_default();
-        let has = |found: fn(&u8) -> bool| comment.iter().any(found);
-        self.fact_if(has(u8::is_ascii_digit), "digits in a comment");
-        self.fact_if(has(|&byte| byte == b'#'), "a # in a comment");
-        self.fact_if(has(|&byte| byte == b'\r'), "a CR in a comment");
-        self.fact_if(has(|byte| !byte.is_ascii()), "other bytes in a comment");
-    }
-
-    /// Of a table with a figure.
-    fn named(&mut self, text: &[u8]) {
-        let names = text::names(text);
-        let some = |fits: &dyn Fn(&[u8]) -> bool| names.iter().any(|name| fits(name));
-        self.fact_if(some(&|name| name.len() == 1), "a name of 1 byte");
-        self.fact_if(some(&|name| name.len() == 24), "a name of 24 bytes");
-        self.fact_if(some(&|name| name.contains(&b' ')), "a space in a name");
-        self.fact_if(some(&|name| name.contains(&b'#')), "a # in a name");
-        self.fact_if(!names[0].is_empty(), "a name of the first source");
-        self.fact_if(!names[SOURCES - 1].is_empty(), "a name of the last source");
-        self.fact_if(!some(&|name| name.is_empty()), "a name of every source");
-    }
-
-    fn misread(&mut self, text: &[u8], nth: usize) {
-        let words = words(text);
-        self.fact_if(text.is_empty(), "an empty text");
-        self.fact_if(words.is_empty() && !text.is_empty(), "no word at all");
-        self.fact_if(text.len() == LONGEST, "65,536 bytes with a slip");
-        let word = words
-            .get(nth)
-            .map_or(b"".as_slice(), |word| word.characters);
-        self.fact_if(word.starts_with(b"0X"), "the prefix 0X");
-        self.fact_if(word == b"4294967296", "a forced word of 33 bits in decimal");
-        self.fact_if(
-            word == b"0x100000000",
-            "a forced word of 33 bits in hexadecimal",
-        );
-        self.fact_if(word.starts_with(b"-"), "a sign");
-        let later = words
-            .iter()
-            .skip(nth + 1)
-            .take(NUMBERS.saturating_sub(nth + 1));
-        let twice = later.filter(|word| word.characters == b"0x").count() > 0;
-        self.fact_if(twice, "a second slip behind the first");
-        let beyond = nth > 0 && words.first().is_some_and(|word| word.characters == b"8");
-        self.fact_if(beyond, "a slip behind a number beyond its limit");
+        self.facts(around(text, words[0].offset, end(&words[NUMBERS - 1])));
     }
 }
 
@@ -382,14 +373,13 @@ impl Listed for Coverage {
     fn wanted() -> Vec<Item> {
         let mut items: Vec<Item> = (1..=6).map(Item::Digits).collect();
         for level in 0..LEVELS {
-            let ways = [How::None, How::Mark, How::MarkTies, How::One, How::Tie];
-            items.extend(ways.map(|how| Item::Largest(level, how)));
+            items.extend(each(|how| Item::Largest(level, how)));
             let fast = [Standing::Nought, Standing::Forced];
             items.extend(fast.map(|standing| Item::PassedOver(level, standing)));
         }
         for number in limited() {
             items.push(Item::AtLimit(number));
-            items.extend([Far::ByOne, Far::ByMore].map(|far| Item::Beyond(number, far)));
+            items.extend(each(|far| Item::Beyond(number, far)));
         }
         let slips = [
             Slip::Missing,
@@ -408,7 +398,7 @@ impl Listed for Coverage {
         }
         items.push(Item::Misread(Field::Behind, Slip::TooMany));
         items.push(Item::Misread(Field::Behind, Slip::Quote));
-        items.extend(FACTS.map(Item::Fact));
+        items.extend(FACTS.iter().copied().map(Item::Fact));
         items
     }
 }
@@ -416,55 +406,8 @@ impl Listed for Coverage {
 /// The numbers with limits, of sources of every standing.
 fn limited() -> Vec<Limited> {
     let mut all = vec![Limited::Mark];
-    for of in [Standing::Nought, Standing::Forced, Standing::Normal] {
+    for of in Standing::ALL {
         all.extend([Limited::Priority(of), Limited::Type(of), Limited::Frame(of)]);
     }
     all
 }
-
-const FACTS: [&str; 44] = [
-    "the figure 0",
-    "the figure 524,280",
-    "bit 0 of the forced word",
-    "every source forced",
-    "no source forced",
-    "32 bits in decimal",
-    "32 bits in hexadecimal",
-    "a forced word of 33 bits in decimal",
-    "a forced word of 33 bits in hexadecimal",
-    "33 bits beyond a limit, in decimal",
-    "33 bits beyond a limit, in hexadecimal",
-    "more than 64 bits beyond a limit",
-    "only spaces between numbers",
-    "only tabs between numbers",
-    "only carriage returns between numbers",
-    "only line feeds between numbers",
-    "a DOS line end between numbers",
-    "a comment behind a number",
-    "a comment behind white space",
-    "digits in a comment",
-    "a # in a comment",
-    "a CR in a comment",
-    "other bytes in a comment",
-    "a comment at the end without a line feed",
-    "something before the first number",
-    "nothing behind the last number",
-    "all numbers on one line",
-    "a name of 1 byte",
-    "a name of 24 bytes",
-    "a space in a name",
-    "a # in a name",
-    "a name of the first source",
-    "a name of the last source",
-    "a name of every source",
-    "an empty text",
-    "no word at all",
-    "the prefix 0X",
-    "a sign",
-    "a second slip behind the first",
-    "a slip behind a number beyond its limit",
-    "65,536 bytes with a figure",
-    "65,536 bytes with a slip",
-    "one byte too many",
-    "many bytes too many",
-];

@@ -12,6 +12,7 @@ use super::text::NUMBERS;
 use super::{line, needed, Row, Table, MOST_FRAME, MOST_PRIORITY, MOST_TYPE};
 use crate::batch::Request;
 use crate::compare::Subject;
+use crate::generate::played::weights;
 use crate::model::aic::SOURCES;
 use crate::numbered::{Made, Numbered};
 use crate::random::Random;
@@ -94,55 +95,32 @@ impl Made for Typed {
     }
 }
 
-/// What a random table is like.
-#[derive(Clone, Copy)]
-enum Style {
-    Plain,
-    Adorned,
-    Limits,
-    Spoiled,
-    Harmed,
-    Long,
-}
-
-const STYLES: [(u32, Style); 6] = [
-    (300, Style::Plain),
-    (300, Style::Adorned),
-    (150, Style::Limits),
-    (150, Style::Spoiled),
-    (100, Style::Harmed),
-    (2, Style::Long),
-];
+/// What a random table is like, and how often it comes.
+const STYLES: &str = "300 plain, 300 adorned, 150 limits, 150 spoiled, 100 harmed, 2 long";
 
 fn random_typed(random: &mut Random) -> Typed {
-    let style = random.weighted(&STYLES);
+    let style = random.weighted(&weights(STYLES));
     let table = match style {
-        Style::Limits => at_limits(random),
+        "limits" => at_limits(random),
         _ => any_table(random),
     };
     let mut sheet = Sheet::plain(&table);
-    if !matches!(style, Style::Plain) && random.below(4) > 0 {
+    if style != "plain" && random.below(4) > 0 {
         adorn(random, &mut sheet);
     }
     if random.one_in(3) {
         name(random, &mut sheet);
     }
-    let (name, text) = match style {
-        Style::Plain => ("plain", sheet.text()),
-        Style::Adorned => ("adorned", sheet.text()),
-        Style::Limits => ("limits", sheet.text()),
-        Style::Spoiled => {
-            spoil(random, &mut sheet);
-            ("spoiled", sheet.text())
-        }
-        Style::Harmed => ("harmed", harmed(random, sheet.text())),
-        Style::Long => {
-            let length = LONGEST - 2 + random.below(5) as usize;
-            ("long", sheet.of_length(length))
-        }
+    if style == "spoiled" {
+        spoil(random, &mut sheet);
+    }
+    let text = match style {
+        "harmed" => harmed(random, sheet.text()),
+        "long" => sheet.of_length(LONGEST - 2 + random.below(5) as usize),
+        _ => sheet.text(),
     };
     Typed {
-        name,
+        name: style,
         text,
         room: random.one_in(10).then(|| random.below(20) as usize),
     }
@@ -199,117 +177,75 @@ fn at_limits(random: &mut Random) -> Table {
     table
 }
 
+/// The parts of a list of texts.
+fn parts(list: &[u8]) -> Vec<&[u8]> {
+    list.split(|&byte| byte == b'>').collect()
+}
+
 /// What may stand between two numbers.
-const GAPS: [&[u8]; 12] = [
-    b" ",
-    b"\n",
-    b"\t",
-    b"\r\n",
-    b"\r",
-    b" \t \r\n \n",
-    b"#\n",
-    b"# 7 note #\n",
-    b" # 0x1F\r 3 4 5\r\n",
-    b"\n# a line\n\t",
-    b"#\xC3\xA4\xFF\0\n",
-    b"    ",
-];
+const GAPS: &[u8] =
+    b" >\n>\t>\r\n>\r> \t \r\n \n>#\n># 7 note #\n> # 0x1F\r 3 4 5\r\n>\n# a line\n\t\
+    >#\xC3\xA4\xFF\0\n>    ";
 
 /// Other gaps and other forms of the numbers, many or few of them, that say the same table.
 fn adorn(random: &mut Random, sheet: &mut Sheet) {
+    let gaps = parts(GAPS);
     let often = random.pick(&[1, 2, 10, 50]);
     let forms = random.pick(&[1, 2, 10, 50]);
     for nth in 0..NUMBERS {
         if random.one_in(often) {
-            sheet.gap(nth, random.pick(&GAPS));
+            sheet.gap(nth, random.pick(&gaps));
         }
         if random.one_in(forms) {
             sheet.retype(nth, random.pick(&Form::ALL));
         }
     }
     if random.one_in(2) {
-        sheet.gap(
-            NUMBERS,
-            random.pick::<&[u8]>(&[b"", b"#", b"# end", b"\n\n"]),
-        );
+        sheet.gap(NUMBERS, random.pick(&parts(b">#># end>\n\n")));
     }
 }
 
 /// What may stand between quotes, or may not: the last ones are no names.
-const NAMES: [&[u8]; 14] = [
-    b"a",
-    b"timer tick",
-    b"#",
-    b"0 0 0 # 7",
-    b" ",
-    b"~!$%'()*+,-./:;=?@[]^_`{|",
-    b"twenty-four characters..",
-    b"twenty-five characters...",
-    b"",
-    b"a<b",
-    b"a&b",
-    b"a\tb",
-    b"a\nb",
-    b"\x7F",
-];
+const NAMES: &[u8] =
+    b"a>timer tick>#>0 0 0 # 7> >~!$%'()*+,-./:;=?@[]^_`{|>twenty-four characters..\
+    >twenty-five characters...>>a<b>a&b>a\tb>a\nb>\x7F";
 
 /// Names behind some sources; now and then one that is none, or one elsewhere.
 fn name(random: &mut Random, sheet: &mut Sheet) {
-    let good = random.pick(&[5, 7, 7, 7, NAMES.len()]);
+    let (names, parted) = (parts(NAMES), parts(b" >\t>#\n>\n"));
+    let good = random.pick(&[5, 7, 7, 7, names.len()]);
     for source in 0..SOURCES {
         if random.one_in(3) {
-            sheet.name(
-                3 * source + 3,
-                random.pick(&NAMES[..good]),
-                random.pick::<&[u8]>(&[b" ", b"\t", b"#\n", b"\n"]),
-            );
+            let name = random.pick(&names[..good]);
+            sheet.name(3 * source + 3, name, random.pick(&parted));
         }
     }
     if random.one_in(4) {
         let nth = random.below(NUMBERS as u32 + 1) as usize;
-        sheet.name(
-            nth,
-            random.pick(&NAMES),
-            random.pick::<&[u8]>(&[b" ", b" ", b""]),
-        );
+        let name = random.pick(&names);
+        sheet.name(nth, name, random.pick(&parts(b" > >")));
     }
 }
 
 /// Words that are no number, or none of 32 bits.
-const NO_NUMBERS: [&[u8]; 18] = [
-    b"0x",
-    b"0X1F",
-    b"x",
-    b"0x1G",
-    b"-1",
-    b"+1",
-    b"1,",
-    b"1.0",
-    b"1_000",
-    b"1f",
-    b"O",
-    b"0x-1",
-    b"\x00",
-    b"1\x0B2",
-    b"4294967296",
-    b"0x100000000",
-    b"18446744073709551616",
-    b"0x10000000000000000",
-];
+const NO_NUMBERS: &[u8] =
+    b"0x>0X1F>x>0x1G>-1>+1>1,>1.0>1_000>1f>O>0x-1>\0>1\x0B2>4294967296>0x100000000\
+    >18446744073709551616>0x10000000000000000";
 
 /// One word, or more of them, that the table cannot have, left out or too many.
 fn spoil(random: &mut Random, sheet: &mut Sheet) {
+    let no_numbers = parts(NO_NUMBERS);
     let nth = random.below(NUMBERS as u32) as usize;
     match random.below(6) {
         0 => sheet.leave_out(nth),
         1 => sheet.cut(nth),
         2 => sheet.double(nth),
-        3 => sheet.put(NUMBERS, random.pick::<&[u8]>(&[b"0", b"x", b"0x"])),
-        _ => sheet.put(nth, random.pick(&NO_NUMBERS)),
+        3 => sheet.put(NUMBERS, random.pick(&parts(b"0>x>0x"))),
+        _ => sheet.put(nth, random.pick(&no_numbers)),
     }
     if random.one_in(4) {
         let nth = random.below(NUMBERS as u32 - 1) as usize;
-        sheet.put(nth, random.pick(&NO_NUMBERS));
+        sheet.put(nth, random.pick(&no_numbers));
     }
 }
 

@@ -1,4 +1,5 @@
-//! The line that leads to the slip of a refused table: in which line of the text it stands, and what was expected there.
+//! The line that leads to the slip of a refused table: in which line of the text it stands, and what was expected
+//! there.
 
 use super::text::{self, Misread, Slip, Word, NUMBERS};
 use super::{needed, Fault, MOST_FRAME, MOST_PRIORITY, MOST_TYPE};
@@ -72,45 +73,39 @@ mod tests {
 
     #[test]
     fn it_leads_to_the_slip() {
-        let told = |nth, word, line: &str| assert_eq!(with(nth, word).as_deref(), Some(line));
         assert_eq!(with(0, "7"), None);
-        told(18, "9", "line 7: priority 9 is over 7\n");
-        told(19, "0x4", "line 7: type 0x4 is over 3\n");
-        told(20, "65536", "line 7: frame 65536 is over 65535\n");
-        told(
-            97,
-            "70000",
-            "line 34: frame 70000 of the mark is over 65535\n",
-        );
-        told(35, "1,024", "line 12: a number was expected\n");
-        told(
-            96,
-            "4294967296",
-            "line 33: the word of forced sources has more than 32 bits\n",
-        );
-        told(97, "0 0", "line 34: nothing may follow the mark's frame\n");
-        told(
-            1,
-            "\"a\"",
-            "line 1: a name has 1 to 24 characters and stands behind a source's three numbers\n",
-        );
-        told(
-            0,
-            "123456789012345678901",
-            "line 1: priority 12345678901234567890.. is over 7\n",
-        );
-        assert_eq!(
-            lead(b"").as_deref(),
-            Some("line 1: a number was expected\n")
-        );
-        assert_eq!(
-            lead(b"\n\n").as_deref(),
-            Some("line 3: a number was expected\n")
-        );
-        let long = vec![b' '; 65_537];
-        assert_eq!(
-            lead(&long).as_deref(),
-            Some("the text is longer than 65536 bytes\n")
-        );
+        for (nth, word, line) in [
+            (18, "9", "line 7: priority 9 is over 7"),
+            (19, "0x4", "line 7: type 0x4 is over 3"),
+            (20, "65536", "line 7: frame 65536 is over 65535"),
+            (
+                97,
+                "70000",
+                "line 34: frame 70000 of the mark is over 65535",
+            ),
+            (35, "1,024", "line 12: a number was expected"),
+            (
+                96,
+                "4294967296",
+                "line 33: the word of forced sources has more than 32 bits",
+            ),
+            (97, "0 0", "line 34: nothing may follow the mark's frame"),
+            (
+                1,
+                "\"a\"",
+                "line 1: a name has 1 to 24 characters and stands behind a source's three numbers",
+            ),
+            (
+                0,
+                "123456789012345678901",
+                "line 1: priority 12345678901234567890.. is over 7",
+            ),
+        ] {
+            assert_eq!(with(nth, word), Some(format!("{line}\n")));
+        }
+        let told = |text: &[u8], line: &str| assert_eq!(lead(text), Some(format!("{line}\n")));
+        told(b"", "line 1: a number was expected");
+        told(b"\n\n", "line 3: a number was expected");
+        told(&[b' '; 65_537], "the text is longer than 65536 bytes");
     }
 }

@@ -1,4 +1,5 @@
-//! A priority table as people type it, read into its 98 numbers: words between white space, comments and names left out.
+//! A priority table as people type it, read into its 98 numbers: words between white space, comments and names left
+//! out.
 
 use super::{Fault, Row, Table};
 use crate::model::aic::SOURCES;
@@ -68,7 +69,8 @@ pub fn made_of(numbers: &[u32]) -> Table {
     }
 }
 
-/// The 98 numbers of a text, which has nothing else; none for one that is worth 2^32 or more, which is beyond any limit.
+/// The 98 numbers of a text, which has nothing else; none for one that is worth 2^32 or more, which is beyond any
+/// limit.
 pub fn numbers(text: &[u8]) -> Result<Vec<Option<u32>>, Misread> {
     let words = words(text);
     let mut numbers = Vec::with_capacity(NUMBERS);
@@ -211,26 +213,29 @@ mod tests {
 
     #[test]
     fn decimal_and_hexadecimal() {
-        assert_eq!(first("0 7 65535 010"), Ok(vec![0, 7, 65_535, 10]));
-        assert_eq!(
-            first("0x0 0xff 0xFF 0xaBcDeF"),
-            Ok(vec![0, 255, 255, 0xABCDEF])
-        );
-        assert_eq!(
-            first("0x0000000000000000001 0000000000000000002"),
-            Ok(vec![1, 2])
-        );
-        assert_eq!(first_slip("0 0X1"), (Slip::OtherCharacter, 1, 2));
-        assert_eq!(first_slip("00x1"), (Slip::OtherCharacter, 0, 0));
-        assert_eq!(first_slip("0x1g"), (Slip::OtherCharacter, 0, 0));
-        assert_eq!(first_slip("0x0x1"), (Slip::OtherCharacter, 0, 0));
-        assert_eq!(first_slip("1f"), (Slip::OtherCharacter, 0, 0));
+        for (words, numbers) in [
+            ("0 7 65535 010", vec![0, 7, 65_535, 10]),
+            ("0x0 0xff 0xFF 0xaBcDeF", vec![0, 255, 255, 0xABCDEF]),
+            ("0x0000000000000000001 0000000000000000002", vec![1, 2]),
+            ("5#note\n6 # 7 #8\r9\n10", vec![5, 6, 10]),
+            ("#\n##1\n1", vec![1]),
+            (" \t\r\n1\t2\r3\r\n4\n\n5  6", vec![1, 2, 3, 4, 5, 6]),
+        ] {
+            assert_eq!(first(words), Ok(numbers), "{words:?}");
+        }
     }
 
+    /// No digit, other characters, and white space that is none.
     #[test]
-    fn no_digit() {
+    fn words_that_are_no_numbers() {
         for text in ["0 0x 0", "0 0x\n", "0 0x#1", "0 0x\t1"] {
             assert_eq!(first_slip(text), (Slip::NoDigit, 1, 2), "{text:?}");
+        }
+        assert_eq!(first_slip("0 0X1"), (Slip::OtherCharacter, 1, 2));
+        for text in [
+            "00x1", "0x1g", "0x0x1", "1f", "1\u{b}2", "1\u{c}2", "1\02", "1\u{a0}2",
+        ] {
+            assert_eq!(first_slip(text), (Slip::OtherCharacter, 0, 0), "{text:?}");
         }
     }
 
@@ -247,17 +252,14 @@ mod tests {
 
     /// Numbers of 33 bits and of many more, in either base; all but the third have a low word of 0.
     fn over_32_bits() -> [String; 5] {
-        [
-            "4294967296".to_string(),
-            "0x100000000".to_string(),
-            "99999999999999999999999".to_string(),
-            format!("1{}", "0".repeat(64)),
-            format!("0x1{}", "0".repeat(64)),
-        ]
+        let zeros = "0".repeat(64);
+        let decimal = ["4294967296", "0x100000000", "99999999999999999999999"];
+        let [a, b, c] = decimal.map(str::to_string);
+        [a, b, c, format!("1{zeros}"), format!("0x1{zeros}")]
     }
 
-    /// 14 for a number that is too large for its limit, however many digits it has; the forced word has no limit but its
-    /// 32 bits, and beyond them it is no word: 8, at its first character.
+    /// 14 for a number that is too large for its limit, however many digits it has; the forced word has no limit but
+    /// its 32 bits, and beyond them it is no word: 8, at its first character.
     #[test]
     fn however_many_digits() {
         for text in over_32_bits() {
@@ -277,20 +279,15 @@ mod tests {
     #[test]
     fn any_other_character_refuses_its_number() {
         for byte in (0..=u8::MAX).filter(|byte| !byte.is_ascii_digit()) {
-            let text = [b"0 1", [byte].as_slice(), b"2 "].concat();
-            let text = [text, zeros(NUMBERS).into_bytes()].concat();
-            let misread = table(&text).expect_err("a number too many at least");
-            let expected = match byte {
+            let text = [b"0 1", [byte].as_slice(), b"2 ", zeros(NUMBERS).as_bytes()].concat();
+            let (slip, nth, offset) = match byte {
                 b' ' | b'\t' | b'\r' | b'\n' => (Slip::TooMany, NUMBERS, 2 * NUMBERS),
                 // It takes the line with it, and so all that follows.
                 b'#' => (Slip::Missing, 2, text.len()),
                 _ => (Slip::OtherCharacter, 1, 2),
             };
-            let Fault::Misread(misread) = misread else {
-                panic!("{byte:#x}: {misread:?}");
-            };
-            let seen = (misread.slip, misread.nth, misread.offset);
-            assert_eq!(seen, expected, "{byte:#x}");
+            let expected = Fault::Misread(Misread { slip, nth, offset });
+            assert_eq!(table(&text), Err(expected), "{byte:#x}");
         }
     }
 
@@ -304,14 +301,9 @@ mod tests {
         for source in 0..SOURCES {
             let text = behind(3 * source + 3, "\"timer # tick\"");
             assert_eq!(printed(&text), "0 bytes\n", "{source}");
-            let names = names(text.as_bytes());
-            for (other, name) in names.iter().enumerate() {
-                let expected = match other == source {
-                    true => b"timer # tick".as_slice(),
-                    false => b"",
-                };
-                assert_eq!(*name, expected);
-            }
+            let mut expected = [b"".as_slice(); SOURCES];
+            expected[source] = b"timer # tick";
+            assert_eq!(names(text.as_bytes()), expected);
         }
         for nth in (0..=NUMBERS).filter(|nth| *nth == 0 || nth % 3 != 0 || *nth > 96) {
             let slip = format!("E 8 {}\n", 2 * nth);
@@ -325,78 +317,50 @@ mod tests {
     #[test]
     fn a_name_has_1_to_24_printable_characters() {
         let quoted = |name: &str| printed(&behind(3, &format!("\"{name}\"")));
-        for name in ["a", " ", "#", "~", &"x".repeat(24), "a, b; c!"] {
+        let [longest, longer] = [24, 25].map(|length| "x".repeat(length));
+        for name in ["a", " ", "#", "~", &longest, "a, b; c!"] {
             assert_eq!(quoted(name), "0 bytes\n", "{name}");
         }
-        for name in [
-            "",
-            &"x".repeat(25),
-            "a\tb",
-            "a\nb",
-            "<",
-            ">",
-            "&",
-            "\u{7f}",
-            "é",
-        ] {
+        for name in ["", &longer, "a\tb", "a\nb", "<", ">", "&", "\u{7f}", "é"] {
             assert_eq!(quoted(name), "E 8 6\n", "{name}");
         }
         for text in ["\"a", "\"a\"0", "\"a\"\"b\"", "\"", "\"a\".", "\"a b\"x"] {
             assert_eq!(printed(&behind(3, text)), "E 8 6\n", "{text}");
         }
-        assert_eq!(
-            printed(&format!("0 0 0\"a\"{}", " 0".repeat(95))),
-            "E 8 4\n"
-        );
+        let glued = format!("0 0 0\"a\"{}", " 0".repeat(95));
+        assert_eq!(printed(&glued), "E 8 4\n");
     }
 
+    /// A comment ends with its line feed; a missing number is told at the end of the text, one too many at its own; of
+    /// two slips the first is told, and a slip of the typing before 14. A number stands for so many zeros.
     #[test]
-    fn comments_end_with_their_line_feed() {
-        assert_eq!(first("5#note\n6 # 7 #8\r9\n10"), Ok(vec![5, 6, 10]));
-        assert_eq!(first("#\n##1\n1"), Ok(vec![1]));
-        assert_eq!(printed(&format!("{}0#", zeros(97))), "0 bytes\n");
-        assert_eq!(
-            printed(&format!("{}#no line feed, no 0", zeros(97))),
-            "E 8 213\n"
-        );
-    }
-
-    #[test]
-    fn white_space_is_four_characters() {
-        assert_eq!(first(" \t\r\n1\t2\r3\r\n4\n\n5  6"), Ok((1..=6).collect()));
-        for other in ["\u{b}", "\u{c}", "\u{0}", "\u{a0}"] {
-            let text = format!("1{other}2");
-            assert_eq!(first_slip(&text), (Slip::OtherCharacter, 0, 0));
+    fn where_a_slip_is_told() {
+        let beyond = "8 4 65536";
+        for (text, line) in [
+            ("97 0#", "0 bytes"),
+            ("97 #no line feed, no 0", "E 8 213"),
+            ("", "E 8 0"),
+            (" \n# nothing\n", "E 8 12"),
+            ("97 ", "E 8 194"),
+            ("98 ", "0 bytes"),
+            ("97 0", "0 bytes"),
+            ("97 \n\n", "E 8 196"),
+            ("98  \n# end", "0 bytes"),
+            ("99 ", "E 8 196"),
+            ("98 \n x 0x", "E 8 198"),
+            ("B 95 ", "E 14"),
+            ("B 94 ", "E 8 198"),
+            ("B 96 ", "E 8 200"),
+            ("B 94 x", "E 8 198"),
+            ("0 y 95 x", "E 8 2"),
+            ("0 y", "E 8 2"),
+        ] {
+            let mut text = text.replace('B', beyond);
+            for count in [94, 95, 96, 97, 98, 99] {
+                text = text.replace(&format!("{count} "), &zeros(count));
+            }
+            assert_eq!(printed(&text), format!("{line}\n"), "{text:?}");
         }
-    }
-
-    #[test]
-    fn a_missing_number_is_told_at_the_end_of_the_text() {
-        assert_eq!(printed(""), "E 8 0\n");
-        assert_eq!(printed(" \n# nothing\n"), "E 8 12\n");
-        assert_eq!(printed(&zeros(97)), "E 8 194\n");
-        assert_eq!(printed(&zeros(98)), "0 bytes\n");
-        assert_eq!(printed(zeros(98).trim_end()), "0 bytes\n");
-        assert_eq!(printed(&format!("{}\n\n", zeros(97))), "E 8 196\n");
-    }
-
-    #[test]
-    fn nothing_stands_behind_the_last_number() {
-        assert_eq!(printed(&format!("{} \n# end", zeros(98))), "0 bytes\n");
-        assert_eq!(printed(&zeros(99)), "E 8 196\n");
-        assert_eq!(printed(&format!("{}\n x 0x", zeros(98))), "E 8 198\n");
-    }
-
-    /// The numbers in their order, and the slip of the typing before 14.
-    #[test]
-    fn the_first_slip_is_told_and_before_14() {
-        let beyond = "8 4 65536 ";
-        assert_eq!(printed(&format!("{beyond}{}", zeros(95))), "E 14\n");
-        assert_eq!(printed(&format!("{beyond}{}", zeros(94))), "E 8 198\n");
-        assert_eq!(printed(&format!("{beyond}{}", zeros(96))), "E 8 200\n");
-        assert_eq!(printed(&format!("{beyond}{}x", zeros(94))), "E 8 198\n");
-        assert_eq!(printed(&format!("0 y {}x", zeros(95))), "E 8 2\n");
-        assert_eq!(printed("0 y"), "E 8 2\n");
     }
 
     #[test]

@@ -35,13 +35,9 @@ fn at_a_limit(sort: usize) -> Vec<u8> {
         // 1 byte of the kind, and steps of 2, 3 and 4 bytes up to 65,533 + more
         let left = 65_532 + more;
         let (threes, rest) = ((left - 8) / 3, (left - 8) % 3);
-        let steps = "line 0 0\n".repeat(threes)
-            + [
-                "line 999 999\nline 0 0\n",
-                "line 999 999\nline 999 0\n",
-                "line 999 999\nline 999 999\n",
-            ][rest];
-        return ("aic 0 0\n".to_owned() + &steps).into_bytes();
+        let last = ["line 0 0\n", "line 999 0\n", "line 999 999\n"][rest];
+        let steps = "line 0 0\n".repeat(threes);
+        return format!("aic 0 0\n{steps}line 999 999\n{last}").into_bytes();
     }
     let room = LONGEST_TEXT - 3 + more;
     let mut text = b"aintc\nread 0 1\n".to_vec();
@@ -160,16 +156,9 @@ fn damaged(random: &mut Random, mut text: Vec<u8>) -> Vec<u8> {
             text.splice(at..at, piece);
         }
         _ => {
-            let word = random.pick(&[
-                " 0",
-                " 4294967296",
-                " 0x",
-                " 99999999999999999999",
-                "\nread\n",
-                "\naic 0 0\n",
-                "\nREAD 0\n",
-            ]);
-            text.splice(at..at, word.bytes());
+            let words = " 0| 4294967296| 0x| 99999999999999999999|\nread\n|\naic 0 0\n|\nREAD 0\n";
+            let words: Vec<&str> = words.split('|').collect();
+            text.splice(at..at, random.pick(&words).bytes());
         }
     }
     text

@@ -1,5 +1,7 @@
 //! A dump against the model: what it declares, and every signal at every tick.
 
+use std::collections::BTreeMap;
+
 use super::reader::{read, Bits, Declared, Dump, Event, Value, Variable};
 use super::{code, Signal, Waves, TICKS};
 use crate::model::Kind;
@@ -16,29 +18,24 @@ pub struct Compared {
     pub changes: usize,
 }
 
-/// Reads a dump and compares it with the waves of the model; or says the first thing that differs.
+/// Reads a dump and compares it with the waves of the model, its form first and then every value; or says the first thing
+/// that differs.
 pub fn compare(text: &[u8], waves: &Waves) -> Result<Compared, String> {
     let dump = read(text)?;
     declarations(&dump, waves.kind)?;
-    let signals = waves.signals();
-    let mut ticks = Ticks::new(&signals, waves);
-    let mut events = dump.events.as_slice();
-    if let Some((Event::Comment(words), before)) = events.split_last() {
-        ticks.ending = Some(words.join(" "));
-        events = before;
-    }
-    for event in events {
-        ticks.take(event)?;
-    }
-    ticks.end()
+    form(&dump, waves)?;
+    values(&dump, waves)
 }
 
 /// The same for a dump that another program wrote of the first: by name each signal is worth the same at every tick,
 /// however it is written, in whatever order, with which codes, and with what else beside it.
 pub fn meaning(text: &[u8], waves: &Waves) -> Result<Compared, String> {
-    let dump = read(text)?;
+    values(&read(text)?, waves)
+}
+
+fn values(dump: &Dump, waves: &Waves) -> Result<Compared, String> {
     let signals = waves.signals();
-    let codes = signals.iter().map(|signal| code_of(&dump, signal));
+    let codes = signals.iter().map(|signal| code_of(dump, signal));
     let codes: Option<Vec<&str>> = codes.collect();
     let codes = codes.ok_or("the signals are not each declared once")?;
     let mut now: Vec<Option<u32>> = vec![None; signals.len()];
@@ -52,11 +49,7 @@ pub fn meaning(text: &[u8], waves: &Waves) -> Result<Compared, String> {
             Event::Change { code, value } => {
                 let nth = codes.iter().position(|other| other == code);
                 let nth = nth.ok_or_else(|| format!("no signal has the code {code:?}"))?;
-                let bits = value.bits(signals[nth].width);
-                let Some(Bits::Known(number)) = bits else {
-                    return Err(format!("{} is {bits:?}", signals[nth].name));
-                };
-                now[nth] = Some(number as u32);
+                now[nth] = Some(number(value, &signals[nth])?);
                 compared.changes += 1;
             }
             _ => {}
@@ -64,6 +57,14 @@ pub fn meaning(text: &[u8], waves: &Waves) -> Result<Compared, String> {
     }
     hold(&now, waves.ticks.len(), waves, &mut compared)?;
     Ok(compared)
+}
+
+/// The number that a value of a signal is.
+fn number(value: &Value, signal: &Signal) -> Result<u32, String> {
+    match value.bits(signal.width) {
+        Some(Bits::Known(number)) => Ok(number as u32),
+        bits => Err(format!("{} is {value:?}, {bits:?}", signal.name)),
+    }
 }
 
 /// The code of the one variable that has the name and the width of a signal.
@@ -108,7 +109,6 @@ fn hold(
 fn declarations(dump: &Dump, kind: Option<Kind>) -> Result<(), String> {
     let signals = kind.map_or(Vec::new(), super::signals::signals);
     let codes: Vec<String> = (0..signals.len()).map(|n| code(n).to_string()).collect();
-    declared_once(dump)?;
     let mut expected = vec![
         Declared::Comment(TICKS.split(' ').collect()),
         Declared::Timescale("1ns".to_string()),
@@ -126,168 +126,84 @@ fn declarations(dump: &Dump, kind: Option<Kind>) -> Result<(), String> {
         }
         expected.push(Declared::Upscope);
     }
-    for (nth, expected) in expected.iter().enumerate() {
-        match dump.declared.get(nth) {
-            Some(declared) if declared == expected => {}
-            other => return Err(format!("declared {other:?}, expected {expected:?}")),
-        }
-    }
-    match dump.declared.get(expected.len()) {
-        Some(more) => Err(format!("declared {more:?} beside all others")),
-        None => Ok(()),
+    match dump.declared == expected {
+        true => Ok(()),
+        false => Err(format!(
+            "declared {:?}, expected {expected:?}",
+            dump.declared
+        )),
     }
 }
 
-/// No two variables have one code, and no two one name.
-fn declared_once(dump: &Dump) -> Result<(), String> {
-    let mut seen: Vec<&Variable> = Vec::new();
-    for declared in &dump.declared {
-        let Declared::Variable(variable) = declared else {
-            continue;
-        };
-        let same = |other: &&Variable| other.code == variable.code || other.name == variable.name;
-        if seen.iter().any(same) {
-            return Err(format!("{} is declared twice", variable.name));
-        }
-        seen.push(variable);
+/// The ticks are all there, from 0 on; the values of the first one stand in `$dumpvars`, and behind it only changes, each
+/// once a tick and in the plain form of its signal; a comment ends the dump where the trace ended early.
+fn form(dump: &Dump, waves: &Waves) -> Result<(), String> {
+    let mut form = Form::default();
+    let mut events = dump.events.as_slice();
+    let mut ending = None;
+    if let Some((Event::Comment(words), before)) = events.split_last() {
+        ending = Some(words.join(" "));
+        events = before;
     }
-    Ok(())
+    let due = waves.ending;
+    let due = due.map(|(refusal, offset)| format!("E {refusal} {offset}"));
+    if ending != due {
+        return Err(format!("ends by {ending:?}, expected {due:?}"));
+    }
+    let signals = waves.signals();
+    for event in events {
+        let tick = form.ticks;
+        form.take(event, &signals)
+            .map_err(|why| format!("behind {tick} ticks: {why}"))?;
+    }
+    let (ticks, due) = (form.ticks, waves.ticks.len());
+    match ticks == due && (ticks == 0 || form.dumped) {
+        true => Ok(()),
+        false => Err(format!("{ticks} ticks, expected {due}, or no $dumpvars")),
+    }
 }
 
-/// The ticks as far as they are read.
-struct Ticks<'a> {
-    signals: &'a [Signal],
-    waves: &'a Waves,
-    /// What each signal is worth now; nothing before its first value.
-    now: Vec<Option<u32>>,
-    /// Which signals were given a value at this tick.
-    given: Vec<bool>,
+/// What was read of a dump, as far as its form goes.
+#[derive(Default)]
+struct Form<'a> {
     /// The ticks that have begun.
-    begun: usize,
+    ticks: usize,
     dumping: bool,
     dumped: bool,
-    /// The words of the comment that ends the dump.
-    ending: Option<String>,
-    compared: Compared,
+    /// The last value of each code, and behind how many ticks it was given.
+    last: BTreeMap<&'a str, (u32, usize)>,
 }
 
-impl<'a> Ticks<'a> {
-    fn new(signals: &'a [Signal], waves: &'a Waves) -> Ticks<'a> {
-        Ticks {
-            signals,
-            waves,
-            now: vec![None; signals.len()],
-            given: vec![false; signals.len()],
-            begun: 0,
-            dumping: false,
-            dumped: false,
-            ending: None,
-            compared: Compared {
-                signals: signals.len(),
-                ..Compared::default()
-            },
-        }
-    }
-
-    fn take(&mut self, event: &Event) -> Result<(), String> {
+impl<'a> Form<'a> {
+    fn take(&mut self, event: &Event<'a>, signals: &[Signal]) -> Result<(), String> {
         match event {
-            Event::Time(time) => {
-                self.close_tick()?;
-                if *time != self.begun as u64 {
-                    return Err(format!("tick {time} where {} is due", self.begun));
-                }
-                self.begun += 1;
-                self.given.fill(false);
-            }
-            Event::Dump(keyword) => {
-                let fresh = self.begun == 1 && !self.dumped && !self.given.contains(&true);
-                if *keyword != "$dumpvars" || !fresh {
-                    return Err(format!("{keyword} behind tick {:?}", self.tick()));
-                }
+            Event::Time(time) if *time == self.ticks as u64 => self.ticks += 1,
+            Event::Dump("$dumpvars") if self.ticks == 1 && self.last.is_empty() && !self.dumped => {
                 (self.dumping, self.dumped) = (true, true);
             }
             Event::EndOfDump => self.dumping = false,
-            Event::Change { code, value } => self.change(code, value)?,
-            Event::Comment(words) => return Err(format!("a comment {words:?} among the ticks")),
+            Event::Change { code, value } => self.change(code, value, signals)?,
+            other => return Err(format!("{other:?} is not due")),
         }
         Ok(())
     }
 
-    /// The tick that is being read.
-    fn tick(&self) -> Option<usize> {
-        self.begun.checked_sub(1)
-    }
-
-    /// A change has to be one: another value than before, once a tick, in the plain form of its signal.
-    fn change(&mut self, code: &str, value: &Value) -> Result<(), String> {
-        let tick = self.tick().ok_or("a value before tick 0")?;
-        let mut codes = (0..self.signals.len()).map(super::code);
+    fn change(&mut self, code: &'a str, value: &Value, signals: &[Signal]) -> Result<(), String> {
+        let mut codes = (0..signals.len()).map(super::code);
         let nth = codes.position(|signal| code.chars().eq([signal]));
-        let nth = nth.ok_or_else(|| format!("tick {tick}: no signal has the code {code:?}"))?;
-        let Signal { name, width } = self.signals[nth];
-        if (tick == 0) != self.dumping {
-            return Err(format!("tick {tick}: {name} inside $dumpvars or outside"));
-        }
-        let number = match value.bits(width) {
-            Some(Bits::Known(number)) => number as u32,
-            Some(Bits::Unknown(digits)) => {
-                return Err(format!("tick {tick}: {name} is unknown, {digits}"))
-            }
-            None => return Err(format!("tick {tick}: {name} of {width} bits is {value:?}")),
+        let signal = &signals[nth.ok_or_else(|| format!("no signal has the code {code:?}"))?];
+        let number = number(value, signal)?;
+        let digits = format!("{number:b}");
+        let plain = match signal.width {
+            1 => Value::Scalar(&digits),
+            _ => Value::Vector(&digits),
         };
-        let plain = format!("{number:b}");
-        let form = match width {
-            1 => *value == Value::Scalar(&plain),
-            _ => *value == Value::Vector(&plain),
-        };
-        if !form {
-            return Err(format!("tick {tick}: {name} is written as {value:?}"));
+        let placed = self.ticks > 0 && (self.ticks == 1) == self.dumping;
+        let before = self.last.insert(code, (number, self.ticks));
+        let is_new = before.is_none_or(|(same, given)| same != number && given != self.ticks);
+        match placed && is_new && *value == plain {
+            true => Ok(()),
+            false => Err(format!("{} is given as {value:?}, or here", signal.name)),
         }
-        if self.now[nth] == Some(number) || self.given[nth] {
-            return Err(format!("tick {tick}: {name} is repeated"));
-        }
-        self.now[nth] = Some(number);
-        self.given[nth] = true;
-        self.compared.changes += 1;
-        Ok(())
-    }
-
-    /// Every signal is worth what the model says for the tick that ends.
-    fn close_tick(&mut self) -> Result<(), String> {
-        let Some(tick) = self.tick() else {
-            return Ok(());
-        };
-        let Some(expected) = self.waves.ticks.get(tick) else {
-            return Err(format!("tick {tick} is beyond the steps"));
-        };
-        for (nth, signal) in self.signals.iter().enumerate() {
-            if self.now[nth] != Some(expected[nth]) {
-                let (name, now, expected) = (signal.name, self.now[nth], expected[nth]);
-                return Err(format!(
-                    "tick {tick}: {name} is {now:?}, expected {expected}"
-                ));
-            }
-        }
-        self.compared.ticks += 1;
-        self.compared.values += self.signals.len();
-        Ok(())
-    }
-
-    fn end(mut self) -> Result<Compared, String> {
-        self.close_tick()?;
-        if self.begun != self.waves.ticks.len() {
-            let (begun, due) = (self.begun, self.waves.ticks.len());
-            return Err(format!("{begun} ticks, expected {due}"));
-        }
-        if self.begun > 0 && !self.dumped {
-            return Err("no $dumpvars".to_string());
-        }
-        let expected = self.waves.ending;
-        let expected = expected.map(|(refusal, offset)| format!("E {refusal} {offset}"));
-        if self.ending != expected {
-            let ending = self.ending;
-            return Err(format!("ends by {ending:?}, expected {expected:?}"));
-        }
-        Ok(self.compared)
     }
 }

@@ -174,7 +174,7 @@ impl<'a> Reader<'a> {
         if keyword == "$var" {
             return self.variable().map(Some);
         }
-        if !DECLARATIONS.contains(&keyword) {
+        if !is_one_of(DECLARATIONS, keyword) {
             return Err(format!("{keyword:?} is no declaration"));
         }
         let words = self.words()?;
@@ -182,7 +182,7 @@ impl<'a> Reader<'a> {
             ("$comment", _) => Declared::Comment(words),
             ("$date" | "$version", _) => Declared::Words(keyword, words),
             ("$timescale", _) => Declared::Timescale(timescale(&words.concat())?),
-            ("$scope", [sort, name]) if SCOPES.contains(sort) => Declared::Scope { sort, name },
+            ("$scope", [sort, name]) if is_one_of(SCOPES, sort) => Declared::Scope { sort, name },
             ("$upscope", []) => Declared::Upscope,
             ("$enddefinitions", []) => return Ok(None),
             _ => return Err(format!("{words:?} in {keyword}")),
@@ -196,7 +196,7 @@ impl<'a> Reader<'a> {
         let name = name + &self.words()?.concat();
         let number = width.parse().ok().filter(|&width: &u32| width > 0);
         let width = number.ok_or_else(|| format!("a width {width:?}"))?;
-        if !VARIABLES.contains(&sort) {
+        if !is_one_of(VARIABLES, sort) {
             return Err(format!("a variable of sort {sort:?}"));
         }
         if name.starts_with('$') {
@@ -222,7 +222,7 @@ impl<'a> Reader<'a> {
         match word {
             "$comment" => return Ok(Event::Comment(self.words()?)),
             "$end" if dumping => return Ok(Event::EndOfDump),
-            _ if DUMPS.contains(&word) && !dumping => return Ok(Event::Dump(word)),
+            _ if is_one_of(DUMPS, word) && !dumping => return Ok(Event::Dump(word)),
             _ => {}
         }
         let (sign, rest) = word.split_at(1);
@@ -250,52 +250,27 @@ fn is_digit(byte: u8) -> bool {
 
 /// A number 1, 10 or 100 and a unit, with white space between them or none.
 fn timescale(words: &str) -> Result<String, String> {
-    let numbers = ["1", "10", "100"];
-    let units = ["s", "ms", "us", "ns", "ps", "fs"];
     let good = |number: &&str| {
         let unit = words.strip_prefix(*number);
-        unit.is_some_and(|unit| units.contains(&unit))
+        unit.is_some_and(|unit| is_one_of("s ms us ns ps fs", unit))
     };
-    match numbers.iter().any(good) {
+    match ["1", "10", "100"].iter().any(good) {
         true => Ok(words.to_string()),
         false => Err(format!("a timescale {words:?}")),
     }
 }
 
-const DECLARATIONS: [&str; 7] = [
-    "$comment",
-    "$date",
-    "$enddefinitions",
-    "$scope",
-    "$timescale",
-    "$upscope",
-    "$version",
-];
+/// Whether a word is one of a list.
+fn is_one_of(list: &str, word: &str) -> bool {
+    list.split(' ').any(|other| other == word)
+}
 
-const DUMPS: [&str; 4] = ["$dumpvars", "$dumpall", "$dumpon", "$dumpoff"];
-
-const SCOPES: [&str; 5] = ["begin", "fork", "function", "module", "task"];
-
-const VARIABLES: [&str; 18] = [
-    "event",
-    "integer",
-    "parameter",
-    "real",
-    "realtime",
-    "reg",
-    "supply0",
-    "supply1",
-    "time",
-    "tri",
-    "triand",
-    "trior",
-    "trireg",
-    "tri0",
-    "tri1",
-    "wand",
-    "wire",
-    "wor",
-];
+const DECLARATIONS: &str = "$comment $date $enddefinitions $scope $timescale $upscope $version";
+const DUMPS: &str = "$dumpvars $dumpall $dumpon $dumpoff";
+const SCOPES: &str = "begin fork function module task";
+const VARIABLES: &str =
+    "event integer parameter real realtime reg supply0 supply1 time tri triand \
+    trior trireg tri0 tri1 wand wire wor";
 
 #[cfg(test)]
 mod tests {
@@ -313,34 +288,31 @@ mod tests {
         #505 0*@ 1*# 1*$ b10zx1110x11100 (k b1111000101z01x {2\n\
         #510 0*$\n#520 1*$ #530 0*$ bz (k\n#535 $dumpall 0*@ 1*# 0*$ bz (k b1111000101z01x {2 $end\n";
 
+    /// The codes of the changes in a dump.
+    fn changed<'a>(dump: &Dump<'a>) -> Vec<&'a str> {
+        let changes = dump.events.iter().filter_map(|event| match event {
+            Event::Change { code, .. } => Some(*code),
+            _ => None,
+        });
+        changes.collect()
+    }
+
     #[test]
     fn the_standards_example_is_read() {
         let dump = read(EXAMPLE.as_bytes()).expect("it is a good one");
         let variables = dump.declared.iter().filter_map(|declared| match declared {
-            Declared::Variable(variable) => Some((variable.code, variable.width)),
+            Declared::Variable(variable) => Some(format!("{} {}", variable.code, variable.width)),
             _ => None,
         });
-        let codes: Vec<_> = variables.collect();
-        assert_eq!(
-            codes,
-            [("*@", 1), ("*#", 1), ("*$", 1), ("(k", 32), ("{2", 32)]
-        );
-        let times: Vec<u64> = dump
-            .events
-            .iter()
-            .filter_map(|event| match event {
-                Event::Time(time) => Some(*time),
-                _ => None,
-            })
-            .collect();
+        let codes: Vec<String> = variables.collect();
+        assert_eq!(codes, ["*@ 1", "*# 1", "*$ 1", "(k 32", "{2 32"]);
+        let times = dump.events.iter().filter_map(|event| match event {
+            Event::Time(time) => Some(*time),
+            _ => None,
+        });
+        let times: Vec<u64> = times.collect();
         assert_eq!(times, [500, 505, 510, 520, 530, 535]);
-        let changes = dump.events.iter();
-        assert_eq!(
-            changes
-                .filter(|event| matches!(event, Event::Change { .. }))
-                .count(),
-            19
-        );
+        assert_eq!(changed(&dump).len(), 19);
     }
 
     #[test]
@@ -349,15 +321,7 @@ mod tests {
             $enddefinitions $end #0 b1 # 0$ b1 $end 1# b11 $";
         let dump = read(text.as_bytes()).expect("it keeps to the rules");
         assert_eq!(dump.declared.len(), 3);
-        let codes: Vec<&str> = dump
-            .events
-            .iter()
-            .filter_map(|event| match event {
-                Event::Change { code, .. } => Some(*code),
-                _ => None,
-            })
-            .collect();
-        assert_eq!(codes, ["#", "$", "$end", "#", "$"]);
+        assert_eq!(changed(&dump), ["#", "$", "$end", "#", "$"]);
     }
 
     #[test]
@@ -400,25 +364,10 @@ mod tests {
 
     #[test]
     fn changes_that_break_the_rules_are_refused() {
-        let bad = [
-            "#",
-            "#-1",
-            "#+1",
-            "#1x",
-            "b12 !",
-            "b !",
-            "b1",
-            "1",
-            "2!",
-            "$end",
-            "$dumpvars 1!",
-            "$dumpvars #1 $end",
-            "$dumpvars $dumpall $end $end",
-            "$var wire 1 ! a $end",
-            "1\u{7}",
-            "1\u{e9}",
-        ];
-        for changes in bad {
+        let bad =
+            "#, #-1, #+1, #1x, b12 !, b !, b1, 1, 2!, $end, $dumpvars 1!, $dumpvars #1 $end, \
+            $dumpvars $dumpall $end $end, $var wire 1 ! a $end, 1\u{7}, 1\u{e9}";
+        for changes in bad.split(", ") {
             let text = format!("$enddefinitions $end\n{changes}");
             assert!(read(text.as_bytes()).is_err(), "{text:?}");
         }

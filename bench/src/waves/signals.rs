@@ -15,43 +15,8 @@ pub struct Signal {
     pub width: u32,
 }
 
-const fn signal(name: &'static str, width: u32) -> Signal {
-    Signal { name, width }
-}
-
-/// The signals that every kind has: about the step, not the controller.
-pub const STEP: [Signal; 3] = [signal("refusal", 8), signal("value", 32), signal("step", 8)];
-
-const AIC: [Signal; 8] = [
-    signal("irq", 1),
-    signal("fiq", 1),
-    signal("entries", 4),
-    signal("source", 5),
-    signal("level", 8),
-    signal("lines", 32),
-    signal("pending", 32),
-    signal("enabled", 32),
-];
-
-const CORE: [Signal; 6] = [
-    signal("irq", 1),
-    signal("fiq", 1),
-    signal("irq_raw", 32),
-    signal("irq_status", 32),
-    signal("fiq_raw", 8),
-    signal("fiq_status", 8),
-];
-
-const CIC: [Signal; 2] = [signal("hosts", 9), signal("lowest", 9)];
-
-const AINTC: [Signal; 6] = [
-    signal("irq", 1),
-    signal("fiq", 1),
-    signal("irq_number", 7),
-    signal("irq_priority", 7),
-    signal("fiq_number", 7),
-    signal("fiq_priority", 7),
-];
+/// The signals that every kind has, about the step and not the controller, each with its bits.
+const STEP: &str = "refusal 8, value 32, step 8";
 
 /// What `level` is where there is none: no entry is open, or marks alone are.
 pub const NO_LEVEL: u32 = 255;
@@ -60,13 +25,19 @@ pub const NO_HOST: u32 = 256;
 
 /// All signals of a kind, in the order in which they are declared.
 pub fn signals(kind: Kind) -> Vec<Signal> {
-    let own: &[Signal] = match kind {
-        Kind::Aic => &AIC,
-        Kind::Core => &CORE,
-        Kind::Cic | Kind::Indexed => &CIC,
-        Kind::Aintc => &AINTC,
+    let own = match kind {
+        Kind::Aic => "irq 1, fiq 1, entries 4, source 5, level 8, lines 32, pending 32, enabled 32",
+        Kind::Core => "irq 1, fiq 1, irq_raw 32, irq_status 32, fiq_raw 8, fiq_status 8",
+        Kind::Cic | Kind::Indexed => "hosts 9, lowest 9",
+        Kind::Aintc => "irq 1, fiq 1, irq_number 7, irq_priority 7, fiq_number 7, fiq_priority 7",
     };
-    [&STEP, own].concat()
+    let all = STEP.split(", ").chain(own.split(", "));
+    let signals = all.map(|signal| {
+        let (name, width) = signal.split_once(' ').expect("a name and its bits");
+        let width = width.parse().expect("a number of bits");
+        Signal { name, width }
+    });
+    signals.collect()
 }
 
 /// What a dump of a trace has to show.
@@ -114,13 +85,9 @@ impl Waves {
     }
 }
 
-/// The letter that the listing gives a step that is carried out (01, house trace).
+/// The letter of a step as a number.
 pub fn letter(step: Step) -> u32 {
-    u32::from(match step {
-        Step::Read { .. } => b'R',
-        Step::Write { .. } => b'W',
-        Step::Line { .. } => b'L',
-    })
+    u32::from(step.letter())
 }
 
 /// What the signals of the controller itself are worth now.

@@ -21,71 +21,53 @@ pub struct Look {
     pub reads: Workload,
 }
 
-struct Plan {
-    channels: &'static str,
-    pending: &'static str,
-    words: u32,
-    offset: u32,
-    /// The system that is pending, if there is one, and its channel.
-    system: Option<(u32, u32)>,
-}
+/// What is pending, the system if there is one with its channel, and the words of a look.
+type Pending = (&'static str, Option<(u32, u32)>, u32);
 
-const PLANS: [Plan; 6] = [
-    Plan {
-        channels: "one: the index of a host of one channel",
-        pending: "the first system",
-        words: 1,
-        offset: LAST_HOST_INDEX,
-        system: Some((0, 255)),
-    },
-    Plan {
-        channels: "one: the index of a host of one channel",
-        pending: "only the last system",
-        words: 32,
-        offset: LAST_HOST_INDEX,
-        system: Some((1_023, 255)),
-    },
-    Plan {
-        channels: "one: the index of a host of one channel",
-        pending: "nothing",
-        words: 32,
-        offset: LAST_HOST_INDEX,
-        system: None,
-    },
-    Plan {
-        channels: "256: the global index",
-        pending: "the first system, on the first channel",
-        words: 1,
-        offset: GLOBAL_INDEX,
-        system: Some((0, 0)),
-    },
-    Plan {
-        channels: "256: the global index",
-        pending: "only the last system, on the last channel",
-        words: 8_192,
-        offset: GLOBAL_INDEX,
-        system: Some((1_023, 255)),
-    },
-    Plan {
-        channels: "256: the global index",
-        pending: "nothing",
-        words: 8_192,
-        offset: GLOBAL_INDEX,
-        system: None,
-    },
+const PLANS: [(&str, u32, [Pending; 3]); 2] = [
+    (
+        "one: the index of a host of one channel",
+        LAST_HOST_INDEX,
+        [
+            ("the first system", Some((0, 255)), 1),
+            ("only the last system", Some((1_023, 255)), 32),
+            ("nothing", None, 32),
+        ],
+    ),
+    (
+        "256: the global index",
+        GLOBAL_INDEX,
+        [
+            ("the first system, on the first channel", Some((0, 0)), 1),
+            (
+                "only the last system, on the last channel",
+                Some((1_023, 255)),
+                8_192,
+            ),
+            ("nothing", None, 8_192),
+        ],
+    ),
 ];
 
 /// All of them, with so many steps of reads.
 pub fn looks(steps: u32) -> Vec<Look> {
-    PLANS.iter().map(|plan| look(plan, steps)).collect()
+    let looks = PLANS.into_iter().flat_map(|(channels, offset, pending)| {
+        pending.map(|pending| look(channels, offset, pending, steps))
+    });
+    looks.collect()
 }
 
-fn look(plan: &Plan, steps: u32) -> Look {
+fn look(
+    channels: &'static str,
+    offset: u32,
+    (pending, system, words): Pending,
+    steps: u32,
+) -> Look {
     let mut script = Script::new(4, &[1_024, 256, 256, 0x4E82_0000, 1]);
     script.write(CONTROL, 0);
     script.write(HOST_MAP + 0xFC, 0xFF00_0000);
     let mut opened = 2;
-    if let Some((system, channel)) = plan.system {
+    if let Some((system, channel)) = system {
         let place = 8 * (system % 4);
         script.write(CHANNEL_MAP + 4 * (system / 4), channel << place);
         script.write(ENABLE_SET, system);
@@ -93,16 +75,16 @@ fn look(plan: &Plan, steps: u32) -> Look {
         opened += 3;
     }
     let opening = script.bytes.clone();
-    (opened..steps).for_each(|_| script.read(plan.offset));
+    (opened..steps).for_each(|_| script.read(offset));
     Look {
-        channels: plan.channels,
-        pending: plan.pending,
-        words: plan.words,
-        offset: plan.offset,
+        channels,
+        pending,
+        words,
+        offset,
         opening,
         reads: Workload {
-            controller: plan.channels,
-            size: plan.pending,
+            controller: channels,
+            size: pending,
             steps,
             trace: script.bytes,
         },

@@ -231,10 +231,8 @@ impl Second {
 
     /// What an input of a controller is, asked by another controller or not.
     fn value(&self, place: usize, input: usize, from_above: bool) -> bool {
-        let wires = self.chips[place].wires[input].iter();
-        wires
-            .copied()
-            .any(|wire| self.carried(place, wire, from_above))
+        let mut wires = self.chips[place].wires[input].iter();
+        wires.any(|&wire| self.carried(place, wire, from_above))
     }
 
     fn carried(&self, place: usize, wire: Wire, from_above: bool) -> bool {
@@ -276,13 +274,15 @@ impl Second {
         if soft && bits.iter().any(|&bit| own.soft[bit]) {
             return true;
         }
-        let wires = bits
-            .iter()
-            .flat_map(|&bit| &chip.wires[self.input_of(half, bit)]);
-        let apart: BTreeSet<_> = wires.map(|&wire| key(wire)).collect();
-        apart
-            .into_iter()
-            .any(|key| self.carried(place, wire(key), from_above))
+        let inputs = bits.iter().map(|&bit| self.input_of(half, bit));
+        let mut apart: Vec<Wire> = Vec::new();
+        for &wire in inputs.flat_map(|input| &chip.wires[input]) {
+            if !apart.contains(&wire) {
+                apart.push(wire);
+            }
+        }
+        let mut apart = apart.into_iter();
+        apart.any(|wire| self.carried(place, wire, from_above))
     }
 
     /// How many bits of a side count.
@@ -295,10 +295,8 @@ impl Second {
     }
 
     fn word(&self, place: usize, half: usize, bit: impl Fn(usize) -> bool) -> u32 {
-        let bits = 0..self.count(place, half);
-        bits.filter(|&number| bit(number))
-            .map(|number| 1 << number)
-            .sum()
+        let bits = (0..self.count(place, half)).filter(|&number| bit(number));
+        bits.map(|number| 1 << number).sum()
     }
 
     fn access(&mut self, controller: u32, offset: u32, value: Option<u32>) -> Answered {
@@ -342,10 +340,8 @@ impl Second {
         let high: Vec<bool> = (0..self.chips[place].halves[half].count)
             .map(|bit| self.value(place, self.input_of(half, bit), false))
             .collect();
-        let (stores, zeros) = (
-            self.is(Slip::WriteStoresInputs),
-            self.is(Slip::WriteOfZerosClears),
-        );
+        let slips = [Slip::WriteStoresInputs, Slip::WriteOfZerosClears];
+        let [stores, zeros] = slips.map(|slip| self.is(slip));
         let own = &mut self.chips[place].halves[half];
         for (bit, &high) in high.iter().enumerate() {
             let one = value >> bit & 1 == 1;
@@ -363,13 +359,9 @@ impl Second {
     fn outputs(&self, controller: u32) -> Answered {
         let place = self.there(controller)?;
         let [fiq, irq] = [0, 1].map(|half| self.active(place, half, false));
-        let level = |half: usize, active| {
+        let level = |half: usize, active: bool| {
             let level = self.chips[place].halves[half].level;
-            if active {
-                level
-            } else {
-                1 - level
-            }
+            level ^ u32::from(!active)
         };
         let shown = [u32::from(irq), u32::from(fiq), level(1, irq), level(0, fiq)];
         Ok(match self.is(Slip::OutputsSwapped) {
@@ -435,24 +427,5 @@ impl Second {
                 _ => None,
             })
             .collect()
-    }
-}
-
-/// A wire as numbers, so that wires can be sorted.
-fn key(wire: Wire) -> (u8, u32) {
-    match wire {
-        Wire::Nothing => (0, 0),
-        Wire::Pin(pin) => (1, pin),
-        Wire::Output(Side::Irq, other) => (2, other),
-        Wire::Output(Side::Fiq, other) => (3, other),
-    }
-}
-
-fn wire(key: (u8, u32)) -> Wire {
-    match key {
-        (0, _) => Wire::Nothing,
-        (1, pin) => Wire::Pin(pin),
-        (2, other) => Wire::Output(Side::Irq, other),
-        (_, other) => Wire::Output(Side::Fiq, other),
     }
 }

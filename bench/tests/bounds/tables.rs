@@ -1,119 +1,15 @@
-//! Whether a trace keeps a typed table, by hand; and that the figure of a table that is kept holds on generated traces.
+//! That the figure of a table that is kept holds on generated traces, and that one that is not kept bounds nothing; what
+//! keeps a table is worked in the text of bounds.
 
 use bench::bounds::kept::Unkept;
 use bench::bounds::Records;
-use bench::generate::aic::{
-    DISABLE, ENABLE, EOICR, FFDR, FFER, HIGH_LEVEL as LEVEL, IVR, RISING_EDGE as EDGE, SET,
-};
-use bench::generate::Script;
 use bench::model::aic::{Aic, SOURCES};
 use bench::random::Random;
 use bench::stack::{Row, Table};
 use bench::trace::PROGRAM_LIMIT;
+use bench::typed::encode;
 
 use super::random;
-
-/// Sources 4 (level, priority 5), 6 (edge, 4) and 9 (edge, 3) with frames of 100 bytes each; 7 is forced.
-fn table() -> Table {
-    let mut table = Table::default();
-    for (source, kind, priority) in [(4, LEVEL, 5), (6, EDGE, 4), (9, EDGE, 3)] {
-        table.rows[source] = Row {
-            priority,
-            kind: kind >> 5,
-            frame: 100,
-        };
-    }
-    table.forced = 1 << 7;
-    table
-}
-
-/// Start-up code as it is: modes and forcing one by one, enabled last, by step 5.
-fn started_up() -> Script {
-    let mut script = Script::new(0, &[0, 0]);
-    script.write(4 * 4, LEVEL | 5);
-    script.write(4 * 6, EDGE | 4);
-    script.write(4 * 9, EDGE | 3);
-    script.write(FFER, 1 << 7);
-    script.write(ENABLE, 0x2D1);
-    script
-}
-
-fn unkept(script: &Script) -> Option<Unkept> {
-    Records::of(&script.bytes, PROGRAM_LIMIT).unkept(&table())
-}
-
-#[test]
-fn start_up_keeps_a_table() {
-    let script = &mut started_up();
-    script.write(SET, u32::MAX);
-    script.read(IVR);
-    assert_eq!(unkept(script), None);
-    // Nothing is enabled: kept by every trace. One of another kind has no table to keep.
-    assert_eq!(unkept(&Script::new(0, &[0, 0])), None);
-    assert_eq!(unkept(&Script::new(3, &[])), None);
-}
-
-/// Priority, type and forcing of a source that is enabled; the step is told.
-#[test]
-fn one_number_that_differs_breaks_it() {
-    let writes = [
-        (4 * 6, EDGE | 5, 6),
-        (4 * 6, LEVEL | 4, 6),
-        (FFER, 1 << 6, 6),
-        (FFDR, 1 << 7, 7),
-        (ENABLE, 1 << 7 | 1 << 8, usize::MAX),
-    ];
-    for (offset, value, source) in writes {
-        let script = &mut started_up();
-        script.write(EOICR, 0);
-        script.write(offset, value); // 7
-        script.write(4 * 4, 0);
-        let expected = match source {
-            // Source 8 is as the table says, all 0; so the last write is what breaks it.
-            usize::MAX => Unkept { step: 8, source: 4 },
-            source => Unkept { step: 7, source },
-        };
-        assert_eq!(unkept(script), Some(expected));
-    }
-}
-
-/// Off, a source may be anything; the forcing of source 0 is not asked, its mode is.
-#[test]
-fn only_what_is_enabled_is_asked() {
-    let script = &mut started_up();
-    script.write(DISABLE, 1 << 6);
-    script.write(4 * 6, 0);
-    script.write(FFER, 1 << 6 | 1);
-    script.write(FFDR, 1 << 6);
-    script.write(4 * 6, EDGE | 4);
-    script.write(ENABLE, 1 << 6);
-    assert_eq!(unkept(script), None);
-    script.write(0, 1); // 12
-    assert_eq!(
-        unkept(script),
-        Some(Unkept {
-            step: 12,
-            source: 0
-        })
-    );
-    let mut table = table();
-    table.forced |= 1;
-    let records = Records::of(&script.bytes, PROGRAM_LIMIT);
-    assert_eq!(
-        records.unkept(&table),
-        Some(Unkept {
-            step: 12,
-            source: 0
-        })
-    );
-}
-
-#[test]
-fn of_several_the_lowest_is_told() {
-    let mut script = Script::new(0, &[0, 0]);
-    script.write(ENABLE, u32::MAX << 5); // 6 and 9 have no mode yet, and 7 is not forced
-    assert_eq!(unkept(&script), Some(Unkept { step: 1, source: 6 }));
-}
 
 /// What the open handlers and marks take.
 fn open_bytes(table: &Table, aic: &Aic) -> u32 {
@@ -133,15 +29,12 @@ fn a_table_that_is_not_kept_bounds_nothing() {
         kind: 3,
         frame: 300,
     };
-    let mut script = Script::new(0, &[0, 0]);
-    script.write(4, EDGE);
-    script.write(ENABLE, 2);
-    script.line(1, 1);
-    script.read(IVR);
-    script.write(4, EDGE | 1); // 5
-    script.write(SET, 2);
-    script.read(IVR); // a second handler of source 1
-    let records = Records::of(&script.bytes, PROGRAM_LIMIT);
+    let text = "aic 0 0\nwrite 4 0x60\nwrite 0x120 2\nline 1 1\nread 0x100
+        write 4 0x61    # step 5
+        write 0x12C 2
+        read 0x100      # a second handler of source 1";
+    let trace = encode(text.as_bytes()).expect("the text has the form");
+    let records = Records::of(&trace, PROGRAM_LIMIT);
     assert_eq!(records.unkept(&table), Some(Unkept { step: 5, source: 1 }));
     assert_eq!(table.bytes(), Ok(300));
     let end = &records.aics[records.aics.len() - 1];

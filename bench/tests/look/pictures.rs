@@ -2,7 +2,7 @@
 
 use bench::look::{Generator, Window};
 use bench::model::aic::Entry;
-use bench::picture::{compare, meaning, nesting, write, Bar, Compared, Nesting};
+use bench::picture::{compare, meaning, nesting, write, Bar, Column, Compared, Nesting};
 use bench::random::Random;
 use bench::trace::PROGRAM_LIMIT;
 
@@ -25,49 +25,53 @@ fn windows() -> Vec<(Window, Nesting)> {
 /// Makes a window wrong, or leaves it where it has nothing of the sort.
 type Wrong = fn(&mut Random, &Window, &mut Nesting) -> Option<()>;
 
+fn pick<'a, T>(
+    random: &mut Random,
+    those: &'a mut [T],
+    holds: impl Fn(&T) -> bool,
+) -> Option<&'a mut T> {
+    let all: Vec<usize> = (0..those.len()).filter(|&nth| holds(&those[nth])).collect();
+    match all.is_empty() {
+        true => None,
+        false => those.get_mut(random.pick(&all)),
+    }
+}
+
 /// One of the bars for which something holds.
 fn any<'a>(
     random: &mut Random,
     nesting: &'a mut Nesting,
     holds: impl Fn(&Bar) -> bool,
 ) -> Option<&'a mut Bar> {
-    let bars = 0..nesting.bars.len();
-    let all: Vec<usize> = bars.filter(|&nth| holds(&nesting.bars[nth])).collect();
-    match all.is_empty() {
-        true => None,
-        false => nesting.bars.get_mut(random.pick(&all)),
-    }
+    pick(random, &mut nesting.bars, holds)
 }
 
-/// A column for which something holds.
-fn column(random: &mut Random, nesting: &Nesting, holds: impl Fn(usize) -> bool) -> Option<usize> {
-    let columns = 0..nesting.columns.len();
-    let all: Vec<usize> = columns.filter(|&nth| holds(nth)).collect();
-    (!all.is_empty()).then(|| random.pick(&all))
+/// One of the columns for which something holds.
+fn column<'a>(
+    random: &mut Random,
+    nesting: &'a mut Nesting,
+    holds: impl Fn(&Column) -> bool,
+) -> Option<&'a mut Column> {
+    pick(random, &mut nesting.columns, holds)
 }
 
 const WRONG: [(&str, Wrong); 31] = [
     ("a bar one column short", |random, _, nesting| {
-        any(random, nesting, |bar| bar.to > bar.from + 1)?.to -= 1;
-        Some(())
+        any(random, nesting, |bar| bar.to > bar.from + 1).map(|bar| bar.to -= 1)
     }),
     ("a bar one column long", |random, _, nesting| {
         let end = nesting.columns.len();
-        any(random, nesting, |bar| bar.to <= end)?.to += 1;
-        Some(())
+        any(random, nesting, |bar| bar.to <= end).map(|bar| bar.to += 1)
     }),
     ("a bar one column late", |random, _, nesting| {
-        any(random, nesting, |bar| bar.to > bar.from + 1)?.from += 1;
-        Some(())
+        any(random, nesting, |bar| bar.to > bar.from + 1).map(|bar| bar.from += 1)
     }),
     ("a bar one column early", |random, _, nesting| {
-        any(random, nesting, |bar| bar.from > 1)?.from -= 1;
-        Some(())
+        any(random, nesting, |bar| bar.from > 1).map(|bar| bar.from -= 1)
     }),
     ("a closed bar up to the end", |random, _, nesting| {
         let end = nesting.columns.len() + 1;
-        any(random, nesting, |bar| bar.to < end)?.to = end;
-        Some(())
+        any(random, nesting, |bar| bar.to < end).map(|bar| bar.to = end)
     }),
     ("a bar left out", |random, _, nesting| {
         let gone = *any(random, nesting, |_| true)?;
@@ -80,8 +84,7 @@ const WRONG: [(&str, Wrong); 31] = [
         Some(())
     }),
     ("a bar one place higher", |random, _, nesting| {
-        any(random, nesting, |bar| bar.place < 7)?.place += 1;
-        Some(())
+        any(random, nesting, |bar| bar.place < 7).map(|bar| bar.place += 1)
     }),
     ("the places upside down", |_, _, nesting| {
         nesting
@@ -164,24 +167,16 @@ const WRONG: [(&str, Wrong); 31] = [
         Some(())
     }),
     ("an IRQ box left out", |random, _, nesting| {
-        let nth = column(random, nesting, |nth| nesting.columns[nth].irq)?;
-        nesting.columns[nth].irq = false;
-        Some(())
+        column(random, nesting, |it| it.irq).map(|it| it.irq = false)
     }),
     ("an IRQ box too many", |random, _, nesting| {
-        let nth = column(random, nesting, |nth| !nesting.columns[nth].irq)?;
-        nesting.columns[nth].irq = true;
-        Some(())
+        column(random, nesting, |it| !it.irq).map(|it| it.irq = true)
     }),
     ("an FIQ box left out", |random, _, nesting| {
-        let nth = column(random, nesting, |nth| nesting.columns[nth].fiq)?;
-        nesting.columns[nth].fiq = false;
-        Some(())
+        column(random, nesting, |it| it.fiq).map(|it| it.fiq = false)
     }),
     ("an FIQ box too many", |random, _, nesting| {
-        let nth = column(random, nesting, |nth| !nesting.columns[nth].fiq)?;
-        nesting.columns[nth].fiq = true;
-        Some(())
+        column(random, nesting, |it| !it.fiq).map(|it| it.fiq = true)
     }),
     ("IRQ and FIQ exchanged", |_, _, nesting| {
         for column in &mut nesting.columns {
@@ -197,24 +192,14 @@ const WRONG: [(&str, Wrong); 31] = [
         Some(())
     }),
     ("a refusal left out", |random, _, nesting| {
-        let nth = column(random, nesting, |nth| {
-            nesting.columns[nth].refused.is_some()
-        })?;
-        nesting.columns[nth].refused = None;
-        Some(())
+        column(random, nesting, |it| it.refused.is_some()).map(|it| it.refused = None)
     }),
     ("a refusal too many", |random, _, nesting| {
-        let nth = column(random, nesting, |nth| {
-            nesting.columns[nth].refused.is_none()
-        })?;
-        nesting.columns[nth].refused = Some(1);
-        Some(())
+        column(random, nesting, |it| it.refused.is_none()).map(|it| it.refused = Some(1))
     }),
     ("another refusal", |random, _, nesting| {
-        let nth = column(random, nesting, |nth| {
-            nesting.columns[nth].refused.is_some()
-        })?;
-        nesting.columns[nth].refused = nesting.columns[nth].refused.map(|number| number + 1);
+        let it = column(random, nesting, |it| it.refused.is_some())?;
+        it.refused = it.refused.map(|number| number + 1);
         Some(())
     }),
     ("a column too few", |_, _, nesting| {

@@ -29,52 +29,43 @@ fn run(wave: &str, picture: &str) -> Output {
     look(&[&FEW[..], &by].concat())
 }
 
-#[test]
-fn the_model_is_right() {
-    let right = [
-        format!("{REFERENCE} --wave"),
-        format!("{REFERENCE} --picture \"$@\""),
-    ];
-    let output = run(&right[0], &right[1]);
-    let text = String::from_utf8_lossy(&output.stdout);
-    assert_eq!(output.status.code(), Some(0), "{text}");
-    assert_eq!(text.matches("none differs").count(), 2, "{text}");
-}
+/// Wrong programs: `W` is the model's waves, `P` its picture.
+const WRONG_WAVES: [&str; 7] = [
+    "cat",
+    "cat >/dev/null",
+    "exit 1",
+    "W; echo odd >&2",
+    "W | head -n 40",
+    "W | tr ! '~'",
+    "W | sed 's/^\\$scope module \\(.*\\)$/& $end/;/^\\$end$/d'",
+];
+const WRONG_PICTURES: [&str; 10] = [
+    "cat >/dev/null",
+    "cat >/dev/null; echo there is none >&2",
+    "REFERENCE --picture \"$1\" 40",
+    "REFERENCE --picture 1 \"$2\"",
+    "P 2>/dev/null",
+    "P | sed 's/mark/none/'",
+    "P | sed 's/#333/#334/'",
+    "P | grep -v '</svg>'",
+    "P | grep -v '>steps<'",
+    "P | sed 's/at most 8/at most 9/'",
+];
 
 #[test]
-fn wrong_programs_are_found() {
-    let (wave, picture) = (
-        format!("{REFERENCE} --wave"),
-        format!("{REFERENCE} --picture \"$@\""),
-    );
-    let waves = [
-        "cat".to_string(),
-        "cat >/dev/null".to_string(),
-        "exit 1".to_string(),
-        format!("{wave}; echo odd >&2"),
-        format!("{wave} | head -n 40"),
-        format!("{wave} | tr ! '~'"),
-        format!("{wave} | sed 's/^\\$scope module \\(.*\\)$/& $end/;/^\\$end$/d'"),
-    ];
-    for wrong in &waves {
-        let output = run(wrong, &picture);
-        let text = String::from_utf8_lossy(&output.stdout);
-        assert_eq!(output.status.code(), Some(1), "{wrong}: {text}");
-    }
-    let pictures = [
-        "cat >/dev/null".to_string(),
-        "cat >/dev/null; echo there is none >&2".to_string(),
-        format!("{REFERENCE} --picture \"$1\" 40"),
-        format!("{REFERENCE} --picture 1 \"$2\""),
-        format!("{picture} 2>/dev/null"),
-        format!("{picture} | sed 's/mark/none/'"),
-        format!("{picture} | sed 's/#333/#334/'"),
-        format!("{picture} | grep -v '</svg>'"),
-        format!("{picture} | grep -v '>steps<'"),
-        format!("{picture} | sed 's/at most 8/at most 9/'"),
-    ];
-    for wrong in &pictures {
-        let output = run(&wave, wrong);
+fn only_the_model_is_right() {
+    let program = |line: &str| {
+        let line = line.replacen('W', "REFERENCE --wave", 1);
+        let line = line.replacen('P', "REFERENCE --picture \"$@\"", 1);
+        line.replace("REFERENCE", REFERENCE)
+    };
+    let right = run(&program("W"), &program("P"));
+    let text = String::from_utf8_lossy(&right.stdout);
+    assert_eq!(right.status.code(), Some(0), "{text}");
+    assert_eq!(text.matches("none differs").count(), 2, "{text}");
+    let waves = WRONG_WAVES.map(|wrong| (wrong, run(&program(wrong), &program("P"))));
+    let pictures = WRONG_PICTURES.map(|wrong| (wrong, run(&program("W"), &program(wrong))));
+    for (wrong, output) in waves.into_iter().chain(pictures) {
         let text = String::from_utf8_lossy(&output.stdout);
         assert_eq!(output.status.code(), Some(1), "{wrong}: {text}");
     }

@@ -3,7 +3,7 @@
 
 use bench::listing::listing;
 use bench::model::aic::Aic;
-use bench::model::aintc::Side;
+use bench::model::aintc::{Aintc, Side};
 use bench::model::cic::Cic;
 use bench::model::core::CoreInterrupt;
 use bench::model::{Answer, Kind, Machine, Recorded, Step};
@@ -23,7 +23,38 @@ struct Moment<'a> {
     last: Option<&'a [u32]>,
 }
 
-type Wrong = fn(&Moment, &mut [u32]);
+impl Moment<'_> {
+    /// The step, if it was carried out.
+    fn done(&self) -> Option<Step> {
+        let (recorded, answer) = self.step?;
+        answer.ok().map(|_| recorded.step)
+    }
+}
+
+/// Makes other values of the right ones, from a tick or from the controller of a kind.
+#[derive(Clone, Copy)]
+enum Wrong {
+    Tick(fn(&Moment, &mut [u32])),
+    Aic(fn(&Aic, &mut [u32])),
+    Core(fn(&CoreInterrupt, &mut [u32])),
+    Cic(fn(&Cic, &mut [u32])),
+    Aintc(fn(&Aintc, &mut [u32])),
+}
+
+impl Wrong {
+    fn put(self, moment: &Moment, values: &mut [u32]) {
+        match (self, moment.machine) {
+            (Wrong::Tick(edit), _) => edit(moment, values),
+            (Wrong::Aic(edit), Machine::Aic(aic)) => edit(aic, values),
+            (Wrong::Core(edit), Machine::Core(core)) => edit(core, values),
+            (Wrong::Cic(edit), Machine::Cic(cic)) => edit(cic, values),
+            (Wrong::Cic(edit), Machine::Indexed(indexed)) => edit(indexed.cic(), values),
+            (Wrong::Aintc(edit), Machine::Aintc(aintc)) => edit(aintc, values),
+            _ => {}
+        }
+    }
+}
+
 /// Makes other ticks of the right ones.
 type Ticks = fn(&mut Waves);
 
@@ -32,26 +63,6 @@ const REFUSAL: usize = 0;
 const VALUE: usize = 1;
 const STEP: usize = 2;
 const OWN: usize = 3;
-
-fn of_aic(moment: &Moment, edit: impl FnOnce(&Aic)) {
-    if let Machine::Aic(aic) = moment.machine {
-        edit(aic);
-    }
-}
-
-fn of_core(moment: &Moment, edit: impl FnOnce(&CoreInterrupt)) {
-    if let Machine::Core(core) = moment.machine {
-        edit(core);
-    }
-}
-
-fn of_cic(moment: &Moment, edit: impl FnOnce(&Cic)) {
-    match moment.machine {
-        Machine::Cic(cic) => edit(cic),
-        Machine::Indexed(indexed) => edit(indexed.cic()),
-        _ => {}
-    }
-}
 
 const IRQ: usize = OWN;
 const FIQ: usize = OWN + 1;
@@ -62,247 +73,198 @@ const LINES: usize = OWN + 5;
 const PENDING: usize = OWN + 6;
 const ENABLED: usize = OWN + 7;
 
-const OF_STEPS: [(&str, Wrong); 9] = [
+const OF_STEPS: [(&str, fn(&Moment, &mut [u32])); 9] = [
     ("a refused step's value is its refusal", |_, values| {
         values[VALUE] |= values[REFUSAL];
     }),
-    ("a write's value is what was written", |moment, values| {
-        if let Some((recorded, Ok(_))) = moment.step {
-            if let Step::Write { value, .. } = recorded.step {
-                values[VALUE] = value;
-            }
+    ("a write's value is what was written", |tick, values| {
+        if let Some(Step::Write { value, .. }) = tick.done() {
+            values[VALUE] = value;
         }
     }),
-    ("a line step's value is its level", |moment, values| {
-        if let Some((recorded, Ok(_))) = moment.step {
-            if let Step::Line { level, .. } = recorded.step {
-                values[VALUE] = level;
-            }
+    ("a line step's value is its level", |tick, values| {
+        if let Some(Step::Line { level, .. }) = tick.done() {
+            values[VALUE] = level;
         }
     }),
-    (
-        "a refused step has the letter of what was asked",
-        |moment, values| {
-            if let Some((recorded, _)) = moment.step {
-                values[STEP] = letter(recorded.step);
-            }
-        },
-    ),
-    ("the value read stays", |moment, values| {
+    ("a refused step has the letter asked", |tick, values| {
+        if let Some((recorded, _)) = tick.step {
+            values[STEP] = letter(recorded.step);
+        }
+    }),
+    ("the value read stays", |tick, values| {
         if values[STEP] != u32::from(b'R') {
-            values[VALUE] = moment.last.map_or(0, |last| last[VALUE]);
+            values[VALUE] = tick.last.map_or(0, |last| last[VALUE]);
         }
     }),
-    ("the refusal stays", |moment, values| {
+    ("the refusal stays", |tick, values| {
         if values[REFUSAL] == 0 {
-            values[REFUSAL] = moment.last.map_or(0, |last| last[REFUSAL]);
+            values[REFUSAL] = tick.last.map_or(0, |last| last[REFUSAL]);
         }
     }),
-    ("the start has a letter", |moment, values| {
-        if moment.step.is_none() {
+    ("the start has a letter", |tick, values| {
+        if tick.step.is_none() {
             values[STEP] = u32::from(b'S');
         }
     }),
-    ("the outputs are those before the step", |moment, values| {
-        if let Some(before) = moment.before {
+    ("the outputs are those before the step", |tick, values| {
+        if let Some(before) = tick.before {
             values[OWN..].copy_from_slice(&shown(before));
         }
     }),
-    ("a refused step shows no outputs", |moment, values| {
-        if let Some((_, Err(_))) = moment.step {
+    ("a refused step shows no outputs", |tick, values| {
+        if let Some((_, Err(_))) = tick.step {
             values[OWN..].fill(0);
         }
     }),
 ];
 
-const OF_AIC: [(&str, Wrong); 18] = [
-    ("AIC: IRQ though masked", |moment, values| {
-        of_aic(moment, |aic| {
-            values[IRQ] = (0..32).any(|n| aic.candidate(n)).into();
-        });
+/// The last entry, if it is a mark.
+fn ends_in_mark(aic: &Aic) -> bool {
+    aic.entries().last().is_some_and(|entry| entry.is_mark())
+}
+
+const OF_AIC: [(&str, fn(&Aic, &mut [u32])); 18] = [
+    ("IRQ though masked", |aic, values| {
+        values[IRQ] = (0..32).any(|n| aic.candidate(n)).into();
     }),
-    ("AIC: FIQ though masked", |moment, values| {
-        of_aic(moment, |aic| values[FIQ] = aic.fast_request().into());
+    ("FIQ though masked", |aic, values| {
+        values[FIQ] = aic.fast_request().into();
     }),
-    ("AIC: IRQ and FIQ exchanged", |moment, values| {
-        of_aic(moment, |_| values.swap(IRQ, FIQ));
+    ("IRQ and FIQ exchanged", |_, values| values.swap(IRQ, FIQ)),
+    ("marks are no entries", |aic, values| {
+        let handlers = aic.entries().iter().filter(|entry| !entry.is_mark());
+        values[ENTRIES] = handlers.count() as u32;
     }),
-    ("AIC: marks are no entries", |moment, values| {
-        of_aic(moment, |aic| {
-            let handlers = aic.entries().iter().filter(|entry| !entry.is_mark());
-            values[ENTRIES] = handlers.count() as u32;
-        });
+    ("the source of the lowest entry", |aic, values| {
+        let first = aic.entries().first().and_then(|entry| entry.source);
+        values[SOURCE] = first.map_or(0, u32::from);
     }),
-    ("AIC: the source of the lowest entry", |moment, values| {
-        of_aic(moment, |aic| {
-            let first = aic.entries().first().and_then(|entry| entry.source);
-            values[SOURCE] = first.map_or(0, u32::from);
-        });
+    ("the level of the lowest entry", |aic, values| {
+        let first = aic.entries().first().and_then(|entry| entry.level);
+        values[LEVEL] = first.map_or(255, u32::from);
     }),
-    ("AIC: the level of the lowest entry", |moment, values| {
-        of_aic(moment, |aic| {
-            let first = aic.entries().first().and_then(|entry| entry.level);
-            values[LEVEL] = first.map_or(255, u32::from);
-        });
+    ("a mark has the source below", |aic, values| {
+        let last = aic.entries().iter().rev().find_map(|entry| entry.source);
+        values[SOURCE] = last.map_or(0, u32::from);
     }),
-    (
-        "AIC: a mark has the source of the handler below",
-        |moment, values| {
-            of_aic(moment, |aic| {
-                let last = aic.entries().iter().rev().find_map(|entry| entry.source);
-                values[SOURCE] = last.map_or(0, u32::from);
-            });
-        },
-    ),
-    ("AIC: a mark's source is 31", |moment, values| {
-        of_aic(moment, |aic| {
-            if aic.entries().last().is_some_and(|entry| entry.is_mark()) {
-                values[SOURCE] = 31;
-            }
-        });
+    ("a mark's source is 31", |aic, values| {
+        if ends_in_mark(aic) {
+            values[SOURCE] = 31;
+        }
     }),
-    ("AIC: a mark has no level", |moment, values| {
-        of_aic(moment, |aic| {
-            if aic.entries().last().is_some_and(|entry| entry.is_mark()) {
-                values[LEVEL] = 255;
-            }
-        });
+    ("a mark has no level", |aic, values| {
+        if ends_in_mark(aic) {
+            values[LEVEL] = 255;
+        }
     }),
-    ("AIC: no level is 0", |moment, values| {
-        of_aic(moment, |_| values[LEVEL] %= 255);
+    ("no level is 0", |_, values| values[LEVEL] %= 255),
+    ("no level is 7", |_, values| values[LEVEL] &= 7),
+    ("the level is the priority now", |aic, values| {
+        if let Some(source) = aic.entries().last().and_then(|entry| entry.source) {
+            values[LEVEL] = aic.sources()[usize::from(source)].priority.into();
+        }
     }),
-    ("AIC: no level is 7", |moment, values| {
-        of_aic(moment, |_| values[LEVEL] &= 7);
+    ("lines that are active", |aic, values| {
+        values[LINES] = word(|n| aic.sources()[n].line != aic.sources()[n].external);
     }),
-    (
-        "AIC: the level is the source's priority now",
-        |moment, values| {
-            of_aic(moment, |aic| {
-                if let Some(source) = aic.entries().last().and_then(|entry| entry.source) {
-                    values[LEVEL] = aic.sources()[usize::from(source)].priority.into();
-                }
-            });
-        },
-    ),
-    ("AIC: lines that are active", |moment, values| {
-        of_aic(moment, |aic| {
-            values[LINES] = word(|n| aic.sources()[n].line != aic.sources()[n].external);
-        });
+    ("pending and enabled", |_, values| {
+        values[PENDING] &= values[ENABLED];
     }),
-    ("AIC: pending and enabled", |moment, values| {
-        of_aic(moment, |_| values[PENDING] &= values[ENABLED]);
+    ("pending without the fast ones", |aic, values| {
+        values[PENDING] &= word(|n| !aic.fast(n));
     }),
-    ("AIC: pending without the fast ones", |moment, values| {
-        of_aic(moment, |aic| values[PENDING] &= word(|n| !aic.fast(n)));
+    ("edges remembered, not pending", |aic, values| {
+        values[PENDING] = word(|n| aic.sources()[n].memory);
     }),
-    ("AIC: edges remembered, not pending", |moment, values| {
-        of_aic(moment, |aic| {
-            values[PENDING] = word(|n| aic.sources()[n].memory);
-        });
+    ("enabled, the highest source first", |_, values| {
+        values[ENABLED] = values[ENABLED].reverse_bits();
     }),
-    (
-        "AIC: enabled, the highest source first",
-        |moment, values| {
-            of_aic(moment, |_| values[ENABLED] = values[ENABLED].reverse_bits());
-        },
-    ),
-    ("AIC: enabled without the forced ones", |moment, values| {
-        of_aic(moment, |aic| {
-            values[ENABLED] &= word(|n| !aic.sources()[n].forced);
-        });
+    ("enabled without the forced ones", |aic, values| {
+        values[ENABLED] &= word(|n| !aic.sources()[n].forced);
     }),
 ];
 
-const OF_OTHERS: [(&str, Wrong); 16] = [
-    ("CoreInterrupt: IRQ as a level", |moment, values| {
-        of_core(moment, |core| values[OWN] = core.irq.output_level().into());
+const OF_CORE: [(&str, fn(&CoreInterrupt, &mut [u32])); 6] = [
+    ("IRQ as a level", |core, values| {
+        values[OWN] = core.irq.output_level().into();
     }),
-    ("CoreInterrupt: FIQ as a level", |moment, values| {
-        of_core(moment, |core| {
-            values[OWN + 1] = core.fiq.output_level().into()
-        });
+    ("FIQ as a level", |core, values| {
+        values[OWN + 1] = core.fiq.output_level().into();
     }),
-    ("CoreInterrupt: raw without software", |moment, values| {
-        of_core(moment, |core| values[OWN + 2] = core.irq.inputs);
+    ("raw without software", |core, values| {
+        values[OWN + 2] = core.irq.inputs;
     }),
-    (
-        "CoreInterrupt: status without the enables",
-        |moment, values| {
-            of_core(moment, |core| values[OWN + 3] = core.irq.raw());
-        },
-    ),
-    (
-        "CoreInterrupt: raw FIQ that is enabled",
-        |moment, values| {
-            of_core(moment, |core| values[OWN + 4] = core.fiq.status());
-        },
-    ),
-    (
-        "CoreInterrupt: the enables as status of FIQ",
-        |moment, values| {
-            of_core(moment, |core| values[OWN + 5] = core.fiq.enable);
-        },
-    ),
-    ("CIC: hosts that are reached", |moment, values| {
-        of_cic(moment, |cic| values[OWN] = cic.reached().ones());
+    ("status without the enables", |core, values| {
+        values[OWN + 3] = core.irq.raw();
     }),
-    ("CIC: hosts that are enabled", |moment, values| {
-        of_cic(moment, |cic| values[OWN] = cic.host_enable().ones());
+    ("raw FIQ that is enabled", |core, values| {
+        values[OWN + 4] = core.fiq.status();
     }),
-    ("CIC: the lowest of none is 0", |moment, values| {
-        of_cic(moment, |_| values[OWN + 1] &= 255);
+    ("the enables as status of FIQ", |core, values| {
+        values[OWN + 5] = core.fiq.enable;
     }),
-    ("CIC: the lowest that is reached", |moment, values| {
-        of_cic(moment, |cic| {
-            values[OWN + 1] = cic.reached().lowest().map_or(256, |host| host as u32);
-        });
-    }),
-    ("CIC: the highest host", |moment, values| {
-        of_cic(moment, |cic| {
-            let asserted = cic.asserted();
-            let highest = (0..cic.hosts()).rev().find(|&host| asserted.get(host));
-            values[OWN + 1] = highest.map_or(256, |host| host as u32);
-        });
-    }),
-    ("AINTC: IRQ and FIQ exchanged", |moment, values| {
-        if let Machine::Aintc(_) = moment.machine {
-            values.swap(OWN, OWN + 1);
-        }
-    }),
-    ("AINTC: the numbers exchanged", |moment, values| {
-        if let Machine::Aintc(_) = moment.machine {
-            values.swap(OWN + 2, OWN + 4);
-        }
-    }),
-    ("AINTC: no number is 127", |moment, values| {
-        if let Machine::Aintc(aintc) = moment.machine {
-            if aintc.chosen(Side::Fiq).is_none() {
-                values[OWN + 4] = 127;
-            }
-        }
-    }),
-    (
-        "AINTC: the priority that the input has now",
-        |moment, values| {
-            if let Machine::Aintc(aintc) = moment.machine {
-                if let Some(chosen) = aintc.chosen(Side::Irq) {
-                    values[OWN + 3] = aintc.priority(chosen.number.into()).into();
-                }
-            }
-        },
-    ),
-    (
-        "AINTC: the best that is pending, not the chosen",
-        |moment, values| {
-            if let Machine::Aintc(aintc) = moment.machine {
-                let best = aintc
-                    .eligible(Side::Fiq)
-                    .min_by_key(|&input| (aintc.priority(input), 127 - input));
-                values[OWN + 4] = best.map_or(0, |input| input as u32);
-            }
-        },
-    ),
 ];
+
+const OF_CIC: [(&str, fn(&Cic, &mut [u32])); 5] = [
+    ("hosts that are reached", |cic, values| {
+        values[OWN] = cic.reached().ones();
+    }),
+    ("hosts that are enabled", |cic, values| {
+        values[OWN] = cic.host_enable().ones();
+    }),
+    ("the lowest of none is 0", |_, values| {
+        values[OWN + 1] &= 255
+    }),
+    ("the lowest that is reached", |cic, values| {
+        values[OWN + 1] = cic.reached().lowest().map_or(256, |host| host as u32);
+    }),
+    ("the highest host", |cic, values| {
+        let asserted = cic.asserted();
+        let highest = (0..cic.hosts()).rev().find(|&host| asserted.get(host));
+        values[OWN + 1] = highest.map_or(256, |host| host as u32);
+    }),
+];
+
+const OF_AINTC: [(&str, fn(&Aintc, &mut [u32])); 5] = [
+    ("IRQ and FIQ exchanged", |_, values| {
+        values.swap(OWN, OWN + 1)
+    }),
+    ("the numbers exchanged", |_, values| {
+        values.swap(OWN + 2, OWN + 4)
+    }),
+    ("no number is 127", |aintc, values| {
+        if aintc.chosen(Side::Fiq).is_none() {
+            values[OWN + 4] = 127;
+        }
+    }),
+    ("the priority that the input has now", |aintc, values| {
+        if let Some(chosen) = aintc.chosen(Side::Irq) {
+            values[OWN + 3] = aintc.priority(chosen.number.into()).into();
+        }
+    }),
+    ("the best that is pending", |aintc, values| {
+        let all = aintc.eligible(Side::Fiq);
+        let best = all.min_by_key(|&input| (aintc.priority(input), 127 - input));
+        values[OWN + 4] = best.map_or(0, |input| input as u32);
+    }),
+];
+
+/// All 43 of them.
+fn wrong_readings() -> Vec<(String, Wrong)> {
+    fn of<F: Copy>(whose: &str, all: &[(&str, F)], wrong: fn(F) -> Wrong) -> Vec<(String, Wrong)> {
+        let named = |&(name, edit): &(&str, F)| (format!("{whose}: {name}"), wrong(edit));
+        all.iter().map(named).collect()
+    }
+    [
+        of("step", &OF_STEPS, Wrong::Tick),
+        of("AIC", &OF_AIC, Wrong::Aic),
+        of("CoreInterrupt", &OF_CORE, Wrong::Core),
+        of("CIC", &OF_CIC, Wrong::Cic),
+        of("AINTC", &OF_AINTC, Wrong::Aintc),
+    ]
+    .concat()
+}
 
 /// The right waves, and beside them those of every wrong reading.
 struct Beside {
@@ -322,7 +284,7 @@ impl Beside {
         };
         for (wrong, waves) in &mut self.wrong {
             let mut values = values.clone();
-            wrong(&moment, &mut values);
+            wrong.put(&moment, &mut values);
             waves.ticks.push(values);
         }
         self.before = Some(machine.clone());
@@ -355,7 +317,6 @@ fn what_the_model_writes_is_right() {
     for trace in traces() {
         let waves = waves(&trace, PROGRAM_LIMIT);
         let compared = compare(&write(&waves), &waves).expect("nothing differs");
-        assert_eq!(meaning(&write(&waves), &waves), Ok(compared));
         assert_eq!(compared.ticks, waves.ticks.len());
         assert_eq!(compared.values, compared.ticks * compared.signals);
         ticks += compared.ticks;
@@ -398,15 +359,16 @@ fn line(waves: &Waves, tick: usize) -> String {
 
 #[test]
 fn wrong_readings_are_told_apart() {
-    let wrong: Vec<(&str, Wrong)> = [&OF_STEPS[..], &OF_AIC, &OF_OTHERS].concat();
-    let mut found: Vec<(&str, usize)> = wrong.iter().map(|&(name, _)| (name, 0)).collect();
+    let wrong = wrong_readings();
+    assert_eq!(wrong.len(), 43);
+    let mut found: Vec<(&str, usize)> = wrong.iter().map(|(name, _)| (name.as_str(), 0)).collect();
     for trace in traces() {
         let mut beside = Beside {
             right: Waves::default(),
             before: None,
             wrong: wrong
                 .iter()
-                .map(|&(_, wrong)| (wrong, Waves::default()))
+                .map(|(_, wrong)| (*wrong, Waves::default()))
                 .collect(),
         };
         play(&trace, PROGRAM_LIMIT, &mut beside);

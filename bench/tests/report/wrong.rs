@@ -18,8 +18,8 @@ fn most(waits: &[Wait], count: impl Fn(&Wait) -> u32) -> u32 {
     waits.iter().map(count).max().unwrap_or(0)
 }
 
-/// The waits of a source if it asks where something else holds.
-fn if_it_asks(history: &History, source: usize, asks: impl Fn(&Moment) -> bool) -> Vec<Wait> {
+/// The largest number over the waits of a source if it asks where something else holds.
+fn if_it_asks(history: &History, source: usize, asks: impl Fn(&Moment) -> bool) -> u32 {
     let mut other = history.clone();
     for moment in &mut other.moments {
         let bit = 1 << source;
@@ -29,7 +29,7 @@ fn if_it_asks(history: &History, source: usize, asks: impl Fn(&Moment) -> bool) 
         }
         moment.fast &= !bit;
     }
-    other.waits(source)
+    most(&other.waits(source), |wait| history.others(wait))
 }
 
 fn has(word: u32, source: usize) -> bool {
@@ -38,188 +38,131 @@ fn has(word: u32, source: usize) -> bool {
 
 /// What each makes of the counts of a source, the right ones of which it is given.
 const WRONG: [(&str, Wrong); 24] = [
-    ("its own start is counted", |history, source, counts| {
-        counts.waited = most(&history.waits(source), |wait| {
+    ("its own start is counted", |history, n, counts| {
+        counts.waited = most(&history.waits(n), |wait| {
             history.others(wait) + u32::from(wait.end == End::Started)
         });
     }),
-    (
-        "a mark is counted as a handler",
-        |history, source, counts| {
-            counts.waited = most(&history.waits(source), |wait| {
-                let marks = (wait.from + 1..=wait.to).filter(|&at| marks(history, at));
-                history.others(wait) + marks.count() as u32
-            });
-        },
-    ),
-    (
-        "a mark is started by source 0",
-        |history, source, counts| {
-            if source == 0 {
-                let marks = (1..history.moments.len()).filter(|&at| marks(history, at));
-                counts.started = marks.count() as u32;
-            }
-        },
-    ),
-    (
-        "waiting goes on after the start",
-        |history, source, counts| {
-            counts.waited = most(&history.waits(source), |wait| {
-                let moments = &history.moments;
-                let still = (wait.to..moments.len()).take_while(|&at| moments[at].asks(source));
-                let to = still.last().unwrap_or(wait.to);
-                history.others(&Wait { to, ..*wait })
-            });
-        },
-    ),
-    (
-        "a wait begins while the source is fast",
-        |history, source, counts| {
-            let asks = |moment: &Moment| has(moment.pending & moment.enabled, source);
-            let waits = if_it_asks(history, source, asks);
-            counts.waited = most(&waits, |wait| history.others(wait));
-        },
-    ),
-    ("source 0 waits", |history, source, counts| {
-        if source == 0 {
-            let asks = |moment: &Moment| has(moment.pending & moment.enabled, 0);
-            let waits = if_it_asks(history, source, asks);
-            counts.waited = most(&waits, |wait| history.others(wait));
-        }
-    }),
-    (
-        "a wait begins while the source is disabled",
-        |history, source, counts| {
-            let asks = |moment: &Moment| has(moment.pending & !moment.fast, source);
-            let waits = if_it_asks(history, source, asks);
-            counts.waited = most(&waits, |wait| history.others(wait));
-        },
-    ),
-    ("the mask ends a wait", |history, source, counts| {
-        let asks = |moment: &Moment| moment.asks(source) && !moment.masked;
-        let waits = if_it_asks(history, source, asks);
-        counts.waited = most(&waits, |wait| history.others(wait));
-    }),
-    (
-        "it does not wait while a handler of its own is open",
-        |history, source, counts| {
-            let asks = |moment: &Moment| moment.asks(source) && !moment.has_open(source);
-            let waits = if_it_asks(history, source, asks);
-            counts.waited = most(&waits, |wait| history.others(wait));
-        },
-    ),
-    (
-        "it waits again when its handler is closed",
-        |history, source, counts| {
-            let asks = |moment: &Moment| moment.asks(source) && !moment.has_open(source);
-            let waits = if_it_asks(history, source, asks);
-            let again = most(&waits, |wait| history.others(wait));
-            counts.waited = counts.waited.max(again);
-        },
-    ),
-    (
-        "nesting without the entries below",
-        |history, source, counts| {
-            counts.entries = nesting(history, source, |entries, at| entries.len() - at);
-        },
-    ),
-    (
-        "nesting without the entries above",
-        |history, source, counts| {
-            counts.entries = nesting(history, source, |_, at| at + 1);
-        },
-    ),
-    ("nesting without itself", |history, source, counts| {
-        counts.entries = nesting(history, source, |entries, _| entries.len() - 1);
-    }),
-    ("nesting without marks", |history, source, counts| {
-        counts.entries = nesting(history, source, |entries, _| {
-            entries.iter().flatten().count()
+    ("a mark is counted as a handler", |history, n, counts| {
+        counts.waited = most(&history.waits(n), |wait| {
+            let marks = (wait.from + 1..=wait.to).filter(|&at| marks(history, at));
+            history.others(wait) + marks.count() as u32
         });
     }),
-    (
-        "nesting while it is the last alone",
-        |history, source, counts| {
-            counts.entries = nesting(history, source, |entries, at| {
-                if at + 1 == entries.len() {
-                    entries.len()
-                } else {
-                    0
-                }
-            });
-        },
-    ),
-    (
-        "a wait that has no end is not counted",
-        |history, source, counts| {
-            counts.waited = most(&history.waits(source), |wait| match wait.end {
-                End::Never => 0,
-                _ => history.others(wait),
-            });
-        },
-    ),
-    (
-        "a wait that does not end in a start is not counted",
-        |history, source, counts| {
-            counts.waited = most(&history.waits(source), |wait| match wait.end {
-                End::Started => history.others(wait),
-                _ => 0,
-            });
-        },
-    ),
-    ("the waits are added up", |history, source, counts| {
-        let waits = history.waits(source);
+    ("a mark is started by source 0", |history, n, counts| {
+        if n == 0 {
+            let marks = (1..history.moments.len()).filter(|&at| marks(history, at));
+            counts.started = marks.count() as u32;
+        }
+    }),
+    ("waiting goes on after the start", |history, n, counts| {
+        counts.waited = most(&history.waits(n), |wait| {
+            let moments = &history.moments;
+            let still = (wait.to..moments.len()).take_while(|&at| moments[at].asks(n));
+            let to = still.last().unwrap_or(wait.to);
+            history.others(&Wait { to, ..*wait })
+        });
+    }),
+    ("a wait begins while it is fast", |history, n, counts| {
+        let asks = |moment: &Moment| has(moment.pending & moment.enabled, n);
+        counts.waited = if_it_asks(history, n, asks);
+    }),
+    ("source 0 waits", |history, n, counts| {
+        if n == 0 {
+            let asks = |moment: &Moment| has(moment.pending & moment.enabled, 0);
+            counts.waited = if_it_asks(history, n, asks);
+        }
+    }),
+    ("it waits while it is disabled", |history, n, counts| {
+        let asks = |moment: &Moment| has(moment.pending & !moment.fast, n);
+        counts.waited = if_it_asks(history, n, asks);
+    }),
+    ("the mask ends a wait", |history, n, counts| {
+        let asks = |moment: &Moment| moment.asks(n) && !moment.masked;
+        counts.waited = if_it_asks(history, n, asks);
+    }),
+    ("its open handler ends its wait", |history, n, counts| {
+        let asks = |moment: &Moment| moment.asks(n) && !moment.has_open(n);
+        counts.waited = if_it_asks(history, n, asks);
+    }),
+    ("it waits again after its close", |history, n, counts| {
+        let asks = |moment: &Moment| moment.asks(n) && !moment.has_open(n);
+        counts.waited = if_it_asks(history, n, asks).max(counts.waited);
+    }),
+    ("nesting without the entries below", |history, n, counts| {
+        counts.entries = nesting(history, n, |entries, at| entries.len() - at);
+    }),
+    ("nesting without the entries above", |history, n, counts| {
+        counts.entries = nesting(history, n, |_, at| at + 1);
+    }),
+    ("nesting without itself", |history, n, counts| {
+        counts.entries = nesting(history, n, |entries, _| entries.len() - 1);
+    }),
+    ("nesting without marks", |history, n, counts| {
+        counts.entries = nesting(history, n, |entries, _| entries.iter().flatten().count());
+    }),
+    ("nesting while it is last alone", |history, n, counts| {
+        counts.entries = nesting(history, n, |entries, at| {
+            if at + 1 == entries.len() {
+                entries.len()
+            } else {
+                0
+            }
+        });
+    }),
+    ("an endless wait is not counted", |history, n, counts| {
+        counts.waited = most(&history.waits(n), |wait| match wait.end {
+            End::Never => 0,
+            _ => history.others(wait),
+        });
+    }),
+    ("a wait must end in a start", |history, n, counts| {
+        counts.waited = most(&history.waits(n), |wait| match wait.end {
+            End::Started => history.others(wait),
+            _ => 0,
+        });
+    }),
+    ("the waits are added up", |history, n, counts| {
+        let waits = history.waits(n);
         counts.waited = waits.iter().map(|wait| history.others(wait)).sum();
     }),
-    ("the last wait is the figure", |history, source, counts| {
-        let last = history.waits(source).pop();
+    ("the last wait is the figure", |history, n, counts| {
+        let last = history.waits(n).pop();
         counts.waited = last.map_or(0, |wait| history.others(&wait));
     }),
-    ("the first wait is the figure", |history, source, counts| {
-        let waits = history.waits(source);
+    ("the first wait is the figure", |history, n, counts| {
+        let waits = history.waits(n);
         counts.waited = waits.first().map_or(0, |wait| history.others(wait));
     }),
-    (
-        "the first step of a wait is not counted",
-        |history, source, counts| {
-            counts.waited = most(&history.waits(source), |wait| {
-                let from = wait.to.min(wait.from + 1);
-                history.others(&Wait { from, ..*wait })
-            });
-        },
-    ),
-    (
-        "the last step of the trace is not counted",
-        |history, source, counts| {
-            let mut shorter = history.clone();
-            shorter.moments.pop();
-            if !shorter.moments.is_empty() {
-                *counts = shorter.counts(source);
+    ("the first step is not counted", |history, n, counts| {
+        counts.waited = most(&history.waits(n), |wait| {
+            let from = wait.to.min(wait.from + 1);
+            history.others(&Wait { from, ..*wait })
+        });
+    }),
+    ("the last step is not counted", |history, n, counts| {
+        let mut shorter = history.clone();
+        shorter.moments.pop();
+        if !shorter.moments.is_empty() {
+            *counts = shorter.counts(n);
+        }
+    }),
+    ("a look in protect mode is a start", |history, n, counts| {
+        let mut other = history.clone();
+        for moment in &mut other.moments {
+            let read = Step::Read { offset: IVR };
+            if moment.protected {
+                let reads = moment.step == Some((read, false));
+                moment.started = moment.remembered.filter(|_| reads);
             }
-        },
-    ),
-    (
-        "in protect mode the read is the start",
-        |history, source, counts| {
-            let mut other = history.clone();
-            for moment in &mut other.moments {
-                let read = Step::Read { offset: IVR };
-                if moment.protected {
-                    let reads = moment.step == Some((read, false));
-                    moment.started = moment.remembered.filter(|_| reads);
-                }
-            }
-            *counts = other.counts(source);
-        },
-    ),
-    (
-        "a start that ends no wait is not counted",
-        |history, source, counts| {
-            let waits = history.waits(source);
-            let ended = waits.iter().filter(|wait| wait.end == End::Started);
-            counts.started = ended.count() as u32;
-        },
-    ),
+        }
+        *counts = other.counts(n);
+    }),
+    ("a start must end a wait", |history, n, counts| {
+        let waits = history.waits(n);
+        let ended = waits.iter().filter(|wait| wait.end == End::Started);
+        counts.started = ended.count() as u32;
+    }),
 ];
 
 /// Whether the step that led to a moment opened a mark.

@@ -17,6 +17,9 @@ ghost use Rattle.aic_room.specs.Room.{Laid};
 ghost use Rattle.aic_waits.specs.Figures.{entriesNow};
 ghost use Rattle.aic_waits.specs.Following.{Figures, capped, noFigures, startedFrom, followed};
 ghost use Rattle.aic_figures.specs.Book.{Kept, Put, Moved, settledAt};
+
+pub mod waits;
+
 use rooms::Room;
 use totals::Totals;
 
@@ -99,7 +102,7 @@ fn begin_all(book: &mut Book, some: u32)
 // ---- entries and starts
 
 // The source of the entry above so many, 32 where there is none or it is a mark.
-pub fn started_from(room: &Room, before: u32) -> u32
+pub(crate) fn started_from(room: &Room, before: u32) -> u32
     ensures { λ r. ⌜ ((t : Aic) → sound t ≡ true → Laid t (now (room .entry)) → r ≡ startedFrom before t) ⌝ }
 {
     if room[aic_room::layout::DEPTH] <= before {
@@ -158,7 +161,7 @@ fn count_start(book: &mut Book, by: u32)
 // ---- a step
 
 // Those that wait after a step: they ask, are not started by it, and waited before it or did not ask.
-pub fn waits_after(asks: u32, by: u32, asked: u32, waiting: u32) -> u32
+pub(crate) fn waits_after(asks: u32, by: u32, asked: u32, waiting: u32) -> u32
     ensures { λ r. ⌜ ((i : ℕ) → i < 32 → bit r i ≡ ((bit asks i && not (eqb i by)) && (bit waiting i || not (bit asked i)))) × (r < 4294967296) ⌝ }
 {
     let others = words::with_bit(asks, by, false);
@@ -183,15 +186,19 @@ fn move_on<'a>(book: &'a mut Book, room: &'a Room, before: u32, asks: u32)
     book[WAITING] = waits;
 }
 
-// The book after a step with so many entries open before it.
+// The book after a step with so many entries open before it. What is rare is called from two places, so that the tests alone become part of a loop.
 pub fn follow<'a>(book: &'a mut Book, room: &'a Room, before: u32)
     ensures { λ _. ⌜ ((f : Figures) (s : Aic) (n : ℕ) (x : Step) → sound s ≡ true → Shaped s → n < 4294967290 → before ≡ s .depth → Kept f s n (now (book .entry)) → Laid (step s x .aic) (now (room .entry)) → Kept (followed f s x) (step s x .aic) (n + 1) (now (book .exit))) ⌝ }
 {
     let asks = aic_room::layout::waiting(room);
-    if (asks == book[ASKED]) & (room[aic_room::layout::DEPTH] <= before) {
+    if asks != book[ASKED] {
+        move_on(book, room, before, asks);
         return;
     }
-    move_on(book, room, before, asks);
+    if before < room[aic_room::layout::DEPTH] {
+        move_on(book, room, before, asks);
+        return;
+    }
 }
 
 // ---- at the end

@@ -22,9 +22,9 @@ use Rattle.aintc_record.specs.Promises.{Shaped, Bounds}
 use Rattle.aintc_record.specs.Record.{withLines, withSoft, withThreshold, reset}
 use Rattle.aintc_record.specs.Route.{routed}
 use Rattle.aintc_record.proofs.Promises as record-promises
-use Rattle.aintc_choice.specs.Inputs.{raised, unmasked, pending, pendingWord}
-use Rattle.aintc_choice.specs.Settle.{settle, sound}
-use Rattle.aintc_choice.proofs.Promises as choice-promises
+use Rattle.aintc_registers.specs.Inputs.{raised, unmasked, pending, pendingWord}
+use Rattle.aintc_registers.specs.Settle.{settle, sound}
+use Rattle.aintc_registers.proofs.Promises as choice-promises
 use Rattle.aintc_registers.specs.declared.Answer.{Answer}
 use Rattle.aintc_registers.specs.Effects.{writtenAt, moved}
 use Rattle.aintc_registers.specs.Map.{access}

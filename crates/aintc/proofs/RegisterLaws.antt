@@ -16,9 +16,9 @@ use Rattle.steps.specs.Tables.{Readable, Writable}
 use Rattle.aintc_record.specs.declared.Aintc.{Aintc}
 use Rattle.aintc_record.specs.Record.{withSoft, withMasks, withRoutes, reset}
 use Rattle.aintc_record.specs.Route.{routeValue, routeByte, routeAt}
-use Rattle.aintc_choice.specs.Inputs.{pending, pendingWord}
-use Rattle.aintc_choice.specs.Settle.{settle, sound}
-use Rattle.aintc_choice.proofs.Promises as choice-promises
+use Rattle.aintc_registers.specs.Inputs.{pending, pendingWord}
+use Rattle.aintc_registers.specs.Settle.{settle, sound}
+use Rattle.aintc_registers.proofs.Promises as choice-promises
 use Rattle.aintc_registers.specs.Effects.{released, agreed, configured, singleWritten, bankWritten, writtenAt}
 use Rattle.aintc_registers.specs.Map.{revision, sysconfig, sysstatus, sirIrq, sirFiq, control, protection, idle, irqPriority, fiqPriority, threshold, itr, mir, mirClear, mirSet, isrSet, isrClear, pendingIrq, pendingFiq, ilr, past, rowOf, rowAccess, access, inputOf}
 use Rattle.aintc_registers.specs.declared.Answer.{Answer}

@@ -23,11 +23,11 @@ use Rattle.aintc_record.specs.Record.{side, nobody, chosenAt, reset}
 use Rattle.aintc_record.specs.Route.{priority, routed}
 use Rattle.aintc_record.proofs.RecordLaws.{bounded-is, is-bounded}
 use Rattle.aintc_record.proofs.Promises as record-promises
-use Rattle.aintc_choice.specs.Inputs.{raised, unmasked, pending, passes, eligible}
-use Rattle.aintc_choice.specs.Order.{before}
-use Rattle.aintc_choice.specs.Promises.{SomeEligible, NoneEligible, First}
-use Rattle.aintc_choice.specs.Settle.{settle, sound}
-use Rattle.aintc_choice.proofs.Promises as choice-promises
+use Rattle.aintc_registers.specs.Inputs.{raised, unmasked, pending, passes, eligible}
+use Rattle.aintc_registers.specs.Order.{before}
+use Rattle.aintc_registers.specs.Promises.{SomeEligible, NoneEligible, First}
+use Rattle.aintc_registers.specs.Settle.{settle, sound}
+use Rattle.aintc_registers.proofs.Promises as choice-promises
 use Rattle.aintc_registers.specs.declared.Answer.{Answer}
 use Rattle.aintc_registers.specs.Effects.{released, agreed, configured, singleWritten, writtenAt, moved}
 use Rattle.aintc_registers.specs.Model.{readNumber, writeNumber, lineNumber, read, write, line, step}

@@ -18,8 +18,8 @@ use Rattle.aintc_record.specs.declared.Chosen.{Chosen}
 use Rattle.aintc_record.specs.Promises.{Shaped, Fresh}
 use Rattle.aintc_record.specs.Record.{withLines, withSoft, withThreshold, side, chosenAt}
 use Rattle.aintc_record.specs.Route.{priority}
-use Rattle.aintc_choice.specs.Promises.{SomeEligible, NoneEligible, First}
-use Rattle.aintc_choice.specs.Settle.{settle, sound}
+use Rattle.aintc_registers.specs.Promises.{SomeEligible, NoneEligible, First}
+use Rattle.aintc_registers.specs.Settle.{settle, sound}
 use Rattle.aintc_registers.specs.declared.Answer.{Answer}
 use Rattle.aintc_registers.specs.Map.{access}
 use Rattle.aintc_registers.specs.Registers.{answered, refused}

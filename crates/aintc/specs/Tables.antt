@@ -13,8 +13,8 @@ use Rattle.steps.specs.declared.Access.the-variants.{NoRegister, ReadOnly, Writ
 use Rattle.steps.specs.Tables.{Readable, Writable}
 use Rattle.aintc_record.specs.declared.Aintc.{Aintc}
 use Rattle.aintc_record.specs.Record.{withSoft, withMasks, withRoutes, withThreshold, withRevision, withGuarded, withAutoidle, withIdle, withSides, nobody, reset}
-use Rattle.aintc_choice.specs.Inputs.{pending}
-use Rattle.aintc_choice.specs.Settle.{settle}
+use Rattle.aintc_registers.specs.Inputs.{pending}
+use Rattle.aintc_registers.specs.Settle.{settle}
 use Rattle.aintc_registers.specs.declared.Answer.{Answer}
 use Rattle.aintc_registers.specs.Map.{access}
 use Rattle.aintc_registers.specs.Registers.{answered}

@@ -3,7 +3,7 @@ ghost use mathlib.Core.Path.{_≡_};
 ghost use mathlib.Core.Bool.{true};
 ghost use Rattle.rooms.specs.Reply.{told};
 ghost use Rattle.aintc_record.specs.declared.Aintc.{Aintc};
-ghost use Rattle.aintc_choice.specs.Settle.{sound};
+ghost use Rattle.aintc_registers.specs.Settle.{sound};
 ghost use Rattle.aintc_registers.specs.Model.{within, start, read, write, line, step, outputs};
 ghost use Rattle.aintc_room.specs.Room.{Laid};
 ghost use Rattle.aintc_room.specs.Reply.{Done};
@@ -82,7 +82,7 @@ pub fn outputs_sound(s: Aintc) -> Signals
 pub fn step(s: Aintc, privilege: u32, x: Step) -> Answer
     ensures { λ r. ⌜ r ≡ step s privilege x ⌝ }
 {
-    if aintc_choice::is_sound(s) {
+    if aintc_registers::choice::is_sound(s) {
         return step_sound(s, privilege, x);
     }
     refusal_of(s, steps::UNSOUND)
@@ -113,7 +113,7 @@ pub fn line(s: Aintc, k: u32, level: u32) -> Answer
 pub fn outputs(s: Aintc) -> Signals
     ensures { λ r. ⌜ r ≡ outputs s ⌝ }
 {
-    if aintc_choice::is_sound(s) {
+    if aintc_registers::choice::is_sound(s) {
         return outputs_sound(s);
     }
     Signals {

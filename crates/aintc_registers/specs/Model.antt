@@ -11,7 +11,7 @@ use Rattle.steps.specs.declared.Step.the-variants.{Read, Write, Line}
 use Rattle.steps.specs.Refusals.{carriedOut, beyond, unsound, unprivileged, readRefusal, writeRefusal, lineRefusal}
 use Rattle.aintc_record.specs.declared.Aintc.{Aintc}
 use Rattle.aintc_record.specs.Record.{reset}
-use Rattle.aintc_choice.specs.Settle.{settle, sound}
+use Rattle.aintc_registers.specs.Settle.{settle, sound}
 use Rattle.aintc_registers.specs.declared.Answer.{Answer}
 use Rattle.aintc_registers.specs.Effects.{writtenAt, moved}
 use Rattle.aintc_registers.specs.Map.{protection, access}

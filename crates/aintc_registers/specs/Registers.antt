@@ -8,7 +8,7 @@ use Rattle.words.specs.Counting.{one}
 use Rattle.steps.specs.Refusals.{carriedOut}
 use Rattle.aintc_record.specs.declared.Aintc.{Aintc}
 use Rattle.aintc_record.specs.Route.{routeValue, routeAt}
-use Rattle.aintc_choice.specs.Inputs.{pendingWord}
+use Rattle.aintc_registers.specs.Inputs.{pendingWord}
 use Rattle.aintc_registers.specs.declared.Answer.{Answer}
 use Rattle.aintc_registers.specs.Map.{revision, sysconfig, sysstatus, sirIrq, sirFiq, protection, idle, irqPriority, fiqPriority, threshold, itr, mir, isrSet, pendingIrq, pendingFiq, ilr, rowOf, bankOf, inputOf}
 

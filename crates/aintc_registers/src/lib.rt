@@ -3,6 +3,7 @@
 ghost use mathlib.Core.Path.{_≡_};
 ghost use Rattle.aintc_registers.specs.Registers.{refused};
 
+pub mod choice;
 pub mod map;
 pub mod model;
 

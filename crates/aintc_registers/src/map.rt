@@ -46,7 +46,7 @@ pub const PENDING_FIQ: u32 = 0x9C;
 pub const ILR: u32 = 0x100;
 
 // No register from here on.
-pub const PAST: u32 = 0x300;
+const PAST: u32 = 0x300;
 
 // The row of the table that an offset is in, told by the first offset of the row.
 pub fn row_of(offset: u32) -> u32

@@ -20,7 +20,7 @@ use Rattle.aintc_record.specs.declared.Chosen.{Chosen}
 use Rattle.aintc_record.specs.Record.{withRoutes, withSoft, withMasks, side, nobody, reset}
 use Rattle.aintc_record.specs.Route.{routeOf, priorityOf, routeByte}
 use Rattle.aintc_record.proofs.RecordLaws.{same-getD}
-use Rattle.aintc_choice.specs.Search.{routeWord}
+use Rattle.aintc_registers.specs.Search.{routeWord}
 use Rattle.aintc_registers.specs.Effects.{released, agreed}
 use Rattle.aintc_room.specs.Room.{fiqWord, priorityWord, bitsWord, parts, sizes, laid, Laid, chosenFrom, chosenPut, withSide}
 use Rattle.aintc_room.proofs.CellLaws.{laid-as, sized, put-side, put-soft, put-masks}

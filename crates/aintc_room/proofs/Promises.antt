@@ -9,7 +9,7 @@ use Rattle.words.specs.Word.{bit}
 use Rattle.words.proofs.WordLaws.{bit-wordOf}
 use Rattle.aintc_record.specs.declared.Aintc.{Aintc}
 use Rattle.aintc_record.specs.Route.{routeAt, routeOf, priorityOf, priority}
-use Rattle.aintc_choice.specs.Search.{routeWord}
+use Rattle.aintc_registers.specs.Search.{routeWord}
 use Rattle.aintc_room.specs.Room.{priorityWord, laid, Laid}
 use Rattle.aintc_room.specs.Promises.{Promises}
 use Rattle.aintc_room.proofs.CellLaws.{cell-is, kind-is, part-is, fiqs-is, bits-is}

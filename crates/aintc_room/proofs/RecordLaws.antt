@@ -17,8 +17,8 @@ use Rattle.aintc_record.specs.declared.Aintc.{Aintc}
 use Rattle.aintc_record.specs.declared.Chosen.{Chosen}
 use Rattle.aintc_record.specs.Promises.{Bounds}
 use Rattle.aintc_record.specs.Record.{side}
-use Rattle.aintc_choice.specs.Settle.{sound}
-use Rattle.aintc_choice.proofs.Promises as choice-promises
+use Rattle.aintc_registers.specs.Settle.{sound}
+use Rattle.aintc_registers.proofs.Promises as choice-promises
 use Rattle.aintc_room.specs.Room.{parts, sizes, laid, Laid, chosenFrom}
 use Rattle.aintc_room.proofs.CellLaws.{sized, part-is, threshold-is, revision-is, guarded-is, autoidle-is, turbo-is, funcidle-is, active-is, number-is, priority-is, lines-is, soft-is, masks-is, route-is}
 

@@ -14,7 +14,7 @@ use Rattle.steps.specs.declared.Access.{Access}
 use Rattle.aintc_record.specs.declared.Aintc.{Aintc}
 use Rattle.aintc_record.specs.Record.{side}
 use Rattle.aintc_record.specs.Route.{routeValue, routeAt}
-use Rattle.aintc_choice.specs.Settle.{settle, sound}
+use Rattle.aintc_registers.specs.Settle.{settle, sound}
 use Rattle.aintc_registers.specs.declared.Answer.{Answer}
 use Rattle.aintc_registers.specs.Map.{access}
 use Rattle.aintc_registers.specs.Effects.{writtenAt, moved}

@@ -20,7 +20,7 @@ use Rattle.rooms.proofs.PartLaws.{part-get, part-set, part-sized, made-length, 
 use Rattle.aintc_record.specs.declared.Aintc.{Aintc}
 use Rattle.aintc_record.specs.Record.{withRoutes}
 use Rattle.aintc_record.specs.Route.{priorityOf, routeOf}
-use Rattle.aintc_choice.specs.Search.{routeWord}
+use Rattle.aintc_registers.specs.Search.{routeWord}
 use Rattle.aintc_room.specs.Room.{fiqWord, priorityWord, bitsWord, parts, sizes, laid, Laid, bitPut}
 use Rattle.aintc_room.proofs.CellLaws.{sized}
 

@@ -24,11 +24,11 @@ use Rattle.words.proofs.WordLaws.{bit-mod, bit-wordOf, wordOf-same, bit-and, bi
 use Rattle.aintc_record.specs.declared.Aintc.{Aintc}
 use Rattle.aintc_record.specs.Route.{routeOf, priorityOf, priority, routed}
 use Rattle.aintc_record.proofs.RecordLaws.{priority-fits}
-use Rattle.aintc_choice.specs.Inputs.{unmasked, pending, openWord, pendingWord}
-use Rattle.aintc_choice.specs.Order.{before}
-use Rattle.aintc_choice.specs.Search.{routeWord}
-use Rattle.aintc_choice.proofs.InputLaws.{open-from, pending-from}
-use Rattle.aintc_choice.proofs.Promises as choice-promises
+use Rattle.aintc_registers.specs.Inputs.{unmasked, pending, openWord, pendingWord}
+use Rattle.aintc_registers.specs.Order.{before}
+use Rattle.aintc_registers.specs.Search.{routeWord}
+use Rattle.aintc_registers.proofs.InputLaws.{open-from, pending-from}
+use Rattle.aintc_registers.proofs.Promises as choice-promises
 use Rattle.aintc_room.specs.Room.{priorityWord, Laid}
 use Rattle.aintc_room.proofs.CellLaws.{lines-is, soft-is, masks-is, fiqs-is, bits-is}
 use Rattle.aintc_room.proofs.Promises.{priority-bit}

@@ -23,12 +23,12 @@ use Rattle.aintc_record.specs.declared.Aintc.{Aintc}
 use Rattle.aintc_record.specs.declared.Chosen.{Chosen}
 use Rattle.aintc_record.specs.Record.{side, withSides, withLines, chosenAt}
 use Rattle.aintc_record.specs.Route.{routeOf, priorityOf, routeAt, priority, routed}
-use Rattle.aintc_choice.specs.Inputs.{raised, unmasked, pending, passes, eligible, openWord, pendingWord}
-use Rattle.aintc_choice.specs.Order.{before, foremost, some, first}
-use Rattle.aintc_choice.specs.Promises.{NoneEligible, First}
-use Rattle.aintc_choice.specs.Settle.{settledSide, settle, sound}
-use Rattle.aintc_choice.proofs.Promises as choice-promises
-use Rattle.aintc_choice.proofs.SettleLaws.{is-none, settled-held, settled-none, side-settled}
+use Rattle.aintc_registers.specs.Inputs.{raised, unmasked, pending, passes, eligible, openWord, pendingWord}
+use Rattle.aintc_registers.specs.Order.{before, foremost, some, first}
+use Rattle.aintc_registers.specs.Promises.{NoneEligible, First}
+use Rattle.aintc_registers.specs.Settle.{settledSide, settle, sound}
+use Rattle.aintc_registers.proofs.Promises as choice-promises
+use Rattle.aintc_registers.proofs.SettleLaws.{is-none, settled-held, settled-none, side-settled}
 use Rattle.aintc_registers.specs.Effects.{moved}
 use Rattle.aintc_room.specs.Room.{Laid, chosenFrom, chosenPut, withSide}
 use Rattle.aintc_room.proofs.CellLaws.{laid-as, threshold-is, active-is, route-is, put-side, put-lines, lines-is}

@@ -9,8 +9,8 @@ use Rattle.words.specs.Array.{bitAt}
 use Rattle.words.specs.Word.{bit}
 use Rattle.aintc_record.specs.declared.Aintc.{Aintc}
 use Rattle.aintc_record.specs.Record.{side}
-use Rattle.aintc_choice.specs.Inputs.{pending, eligible}
-use Rattle.aintc_choice.specs.Order.{before}
+use Rattle.aintc_registers.specs.Inputs.{pending, eligible}
+use Rattle.aintc_registers.specs.Order.{before}
 
 -- the inputs that four words hold
 abbrev pub held : ℕ → ℕ → ℕ → ℕ → ℕ → Bool

@@ -13,7 +13,7 @@ use Rattle.aintc_record.specs.declared.Chosen.{Chosen}
 use Rattle.aintc_record.specs.Promises.{Shaped}
 use Rattle.aintc_record.specs.Record.{withSides}
 use Rattle.aintc_record.specs.Route.{priorityOf}
-use Rattle.aintc_choice.specs.Search.{routeWord}
+use Rattle.aintc_registers.specs.Search.{routeWord}
 
 -- word n of the inputs that ask for FIQ (000, table 4-23)
 abbrev pub fiqWord : List ℕ → ℕ → ℕ

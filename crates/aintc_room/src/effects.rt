@@ -7,7 +7,7 @@ ghost use Rattle.rooms.specs.Parts.{stored};
 ghost use Rattle.aintc_record.specs.declared.Aintc.{Aintc};
 ghost use Rattle.aintc_record.specs.Record.{withRoutes, side, reset};
 ghost use Rattle.aintc_record.specs.Route.{routeByte};
-ghost use Rattle.aintc_choice.specs.Settle.{settle, sound};
+ghost use Rattle.aintc_registers.specs.Settle.{settle, sound};
 ghost use Rattle.aintc_registers.specs.Effects.{released, agreed, configured, singleWritten, bankWritten, writtenAt, moved};
 ghost use Rattle.aintc_room.specs.Room.{Laid, withSide};
 use super::layout::AUTOIDLE;

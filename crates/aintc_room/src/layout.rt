@@ -9,7 +9,7 @@ ghost use Rattle.words.specs.Counting.{upto};
 ghost use Rattle.rooms.specs.Parts.{stored};
 ghost use Rattle.aintc_record.specs.declared.Aintc.{Aintc};
 ghost use Rattle.aintc_record.specs.Record.{withRoutes};
-ghost use Rattle.aintc_choice.specs.Settle.{sound};
+ghost use Rattle.aintc_registers.specs.Settle.{sound};
 ghost use Rattle.aintc_room.specs.Room.{fiqWord, priorityWord, bitsWord, Laid, Tabled, chosenPut, bitPut};
 use aintc_record::Aintc;
 use aintc_record::Chosen;
@@ -93,7 +93,7 @@ fn lay_fiqs<'a>(room: &'a mut Room, routes: &'a [u8; 128])
 {
     let mut n: u32 = 0;
     while n < 4 {
-        let w = aintc_choice::route_word(routes, 32 * n, 1);
+        let w = aintc_registers::choice::route_word(routes, 32 * n, 1);
         room[FIQS + n as usize] = w;
         n = n + 1;
     }

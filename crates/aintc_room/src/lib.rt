@@ -5,7 +5,7 @@ ghost use Prim.Native.Nat.{ℕ, _<_};
 ghost use Rattle.steps.specs.declared.Step.{Step};
 ghost use Rattle.aintc_record.specs.declared.Aintc.{Aintc};
 ghost use Rattle.aintc_record.specs.Record.{side};
-ghost use Rattle.aintc_choice.specs.Settle.{sound};
+ghost use Rattle.aintc_registers.specs.Settle.{sound};
 ghost use Rattle.aintc_record.specs.Route.{routeAt, routeValue};
 ghost use Rattle.aintc_registers.specs.Registers.{shown, singleRead, bankRead, readAt};
 ghost use Rattle.aintc_registers.specs.Model.{isRegister, barred, accessNumber, read, write, line, step, outputs};

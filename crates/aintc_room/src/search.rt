@@ -9,7 +9,7 @@ ghost use Rattle.words.specs.Choice.{pick};
 ghost use Rattle.words.specs.Counting.{anyBelow};
 ghost use Rattle.words.specs.Word.{bit, either};
 ghost use Rattle.aintc_record.specs.declared.Aintc.{Aintc};
-ghost use Rattle.aintc_choice.specs.Inputs.{openWord, pendingWord};
+ghost use Rattle.aintc_registers.specs.Inputs.{openWord, pendingWord};
 ghost use Rattle.aintc_room.specs.Room.{Laid};
 ghost use Rattle.aintc_room.specs.First.{held, halves, SomeOf, FirstOf, HighestOf};
 use super::layout::BITS;

@@ -4,7 +4,7 @@ ghost use mathlib.Core.Bool.{false};
 ghost use Prim.Native.Nat.{ℕ, _<_, _≤_};
 ghost use Rattle.aintc_record.specs.declared.Aintc.{Aintc};
 ghost use Rattle.aintc_record.specs.Record.{side};
-ghost use Rattle.aintc_choice.specs.Settle.{settledSide, settle};
+ghost use Rattle.aintc_registers.specs.Settle.{settledSide, settle};
 ghost use Rattle.aintc_room.specs.Room.{Laid, chosenFrom, withSide};
 ghost use Rattle.aintc_room.specs.First.{Leads, Alone};
 use super::layout::FIQ;

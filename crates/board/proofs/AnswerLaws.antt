@@ -10,11 +10,11 @@ use lib.Dec.{eqb, ltb, leb}
 use Rattle.words.specs.Choice.{pick}
 use Rattle.words.proofs.ChoiceLaws.{pick-true, pick-false, pick-cases}
 use Rattle.board_wires.specs.declared.Board.{Board}
-use Rattle.board_record.specs.Sound.{sound}
-use Rattle.board_record.proofs.SoundLaws.{sound-parts}
-use Rattle.board_record.specs.declared.Answer.{Answer}
+use Rattle.board.specs.Sound.{sound}
+use Rattle.board.proofs.SoundLaws.{sound-parts}
+use Rattle.board.specs.declared.record.Answer.{Answer}
 use Rattle.board.specs.declared.Reply.{Reply}
-use Rattle.board_record.specs.Record.{refused}
+use Rattle.board.specs.Record.{refused}
 use Rattle.board.specs.Model.{unlessRefused, replied, checked, isThere}
 
 -- ---- answers

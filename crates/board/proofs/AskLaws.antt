@@ -24,11 +24,11 @@ use Rattle.board_wires.specs.Chain.{chain as chainBelow}
 use Rattle.board_wires.specs.Promises.{Raised, Alike}
 use Rattle.board_wires.specs.Wires.{wireOf, wireNumber, wireAt, pinOf, coreAt, activity, inputValue, wiredCore}
 use Rattle.board_wires.proofs.Promises.{kept as wired}
-use Rattle.board_record.specs.Sound.{sound}
-use Rattle.board_record.proofs.SoundLaws.{sound-rules}
-use Rattle.board_record.specs.declared.Answer.{Answer}
+use Rattle.board.specs.Sound.{sound}
+use Rattle.board.proofs.SoundLaws.{sound-rules}
+use Rattle.board.specs.declared.record.Answer.{Answer}
 use Rattle.board.specs.declared.Reply.{Reply}
-use Rattle.board_record.specs.Record.{answered}
+use Rattle.board.specs.Record.{answered}
 use Rattle.board.specs.Model.{checked, isThere, read, silent, outputs, input, chain}
 use Rattle.board.proofs.AnswerLaws.{carried, stopped, is-there, through, reply-done}
 use Rattle.board.proofs.NumberLaws.{outputs-number}

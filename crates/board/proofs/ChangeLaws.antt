@@ -21,12 +21,12 @@ use Rattle.board_wires.specs.declared.Wire.{Wire}
 use Rattle.board_wires.specs.declared.Wire.the-variants.{Nothing, Pin, Irq, Fiq}
 use Rattle.board_wires.specs.Wires.{wireOf, wireNumber, wireAt}
 use Rattle.board_wires.proofs.NumberLaws.{of-nothing, of-pin, of-irq, of-fiq, number-nothing, number-pin, number-irq, number-fiq, wire-there, no-input}
-use Rattle.board_record.specs.Promises.{Shaped}
-use Rattle.board_record.specs.Record.{withController, withWire, withPin, answered}
-use Rattle.board_record.specs.Sound.{low, sound, lower}
-use Rattle.board_record.proofs.RecordLaws.{core-put, core-other, core-more, wire-put, wire-other}
-use Rattle.board_record.proofs.SoundLaws.{sound-parts, sound-rules, lines-low, number-rule, pin-sound, wire-sound, controller-sound}
-use Rattle.board_record.specs.declared.Answer.{Answer}
+use Rattle.board.specs.RecordPromises.{Shaped}
+use Rattle.board.specs.Record.{withController, withWire, withPin, answered}
+use Rattle.board.specs.Sound.{low, sound, lower}
+use Rattle.board.proofs.RecordLaws.{core-put, core-other, core-more, wire-put, wire-other}
+use Rattle.board.proofs.SoundLaws.{sound-parts, sound-rules, lines-low, number-rule, pin-sound, wire-sound, controller-sound}
+use Rattle.board.specs.declared.record.Answer.{Answer}
 use Rattle.board.specs.Model.{checked, isThere, isNamed, upwardRefusal, add, connect, putPin}
 use Rattle.board.specs.Tables.{Adds, Wires, Pins}
 use Rattle.board.proofs.AnswerLaws.{either-way, done, none-given, there-is}

@@ -6,9 +6,9 @@ use native.Mathlib.Omega.{arith}
 use lib.Dec.{eqb}
 use Rattle.words.specs.Choice.{pick}
 use Rattle.steps.specs.Refusals.{writeRefusal}
-use Rattle.coreinterrupt_side.specs.declared.Side.{Side}
-use Rattle.coreinterrupt_side.specs.Side.{withInputs, clearAccess, sideAccess, sideWrite}
-use Rattle.coreinterrupt_side.proofs.TableLaws.{write-past}
+use Rattle.coreinterrupt.specs.declared.sides.Side.{Side}
+use Rattle.coreinterrupt.specs.Side.{withInputs, clearAccess, sideAccess, sideWrite}
+use Rattle.coreinterrupt.proofs.SidesTableLaws.{write-past}
 use Rattle.coreinterrupt.specs.declared.Answer.{Answer}
 use Rattle.coreinterrupt.specs.declared.Core.{Core}
 use Rattle.coreinterrupt.specs.Model.{coreOf, side, withSide, sound, answered, refused, unlessRefused, fiqOffset, register, access, written, write}

@@ -22,8 +22,8 @@ use Rattle.board_wires.specs.declared.Board.{Board}
 use Rattle.board_wires.specs.declared.Wire.{Wire}
 use Rattle.board_wires.specs.declared.Wire.the-variants.{Nothing, Pin, Irq, Fiq}
 use Rattle.board_wires.specs.Wires.{coreAt, wiredCore}
-use Rattle.board_record.specs.Sound.{lower}
-use Rattle.board_record.proofs.SoundLaws.{sound-parts, sound-rules}
+use Rattle.board.specs.Sound.{lower}
+use Rattle.board.proofs.SoundLaws.{sound-parts, sound-rules}
 use Rattle.board.specs.Model.{checked, isThere, isNamed, upwardRefusal, add, connect, putPin, read, write, outputs, input, chain}
 use Rattle.board.specs.Tables.{Misconfigured, Missing, Upward, Absent, AddTable, WireTable, PinTable, OwnTable, InputTable}
 use Rattle.board.proofs.AnswerLaws.{number-is, reply-number, Told, told-true, told-both, told-lt, told-le, told-there, is-there, none-given, through, Later, checks-twelve, checks-six, checks-else, there-is}

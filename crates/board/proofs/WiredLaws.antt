@@ -7,7 +7,7 @@ use native.Mathlib.Decide.{decLt}
 use native.Mathlib.Omega.{arith}
 use Rattle.words.proofs.TruthLaws.{same-test}
 use Rattle.words.proofs.WordLaws.{same-word}
-use Rattle.coreinterrupt_side.specs.Side.{active}
+use Rattle.coreinterrupt.specs.Side.{active}
 use Rattle.coreinterrupt.specs.declared.Core.{Core}
 use Rattle.coreinterrupt.specs.Model.{coreOf, sound as soundCore}
 use Rattle.board_wires.specs.declared.Board.{Board}
@@ -15,8 +15,8 @@ use Rattle.board_wires.specs.declared.Wire.{Wire}
 use Rattle.board_wires.specs.declared.Wire.the-variants.{Nothing, Pin, Irq, Fiq}
 use Rattle.board_wires.specs.Wires.{wireIn, wireAt, pinIn, coreAt, activity, inputValue, wiredCore}
 use Rattle.board_wires.proofs.Promises.{kept as wired}
-use Rattle.board_record.specs.Sound.{sound}
-use Rattle.board_record.proofs.SoundLaws.{sound-rules}
+use Rattle.board.specs.Sound.{sound}
+use Rattle.board.proofs.SoundLaws.{sound-rules}
 use Rattle.board.proofs.LineLaws.{lined}
 
 -- ---- of a sound board

@@ -13,12 +13,12 @@ use Rattle.coreinterrupt.specs.Model as CoreInterrupt
 use Rattle.coreinterrupt.proofs.Promises.{kept as alone-kept}
 use Rattle.board_wires.specs.declared.Board.{Board}
 use Rattle.board_wires.specs.Wires.{coreAt, wiredCore}
-use Rattle.board_record.specs.Promises.{Shaped}
-use Rattle.board_record.specs.Record.{withCore, answered}
-use Rattle.board_record.specs.Sound.{sound}
-use Rattle.board_record.proofs.RecordLaws.{core-put, core-other}
-use Rattle.board_record.proofs.SoundLaws.{sound-parts, sound-rules, lines-low, core-sound}
-use Rattle.board_record.specs.declared.Answer.{Answer}
+use Rattle.board.specs.RecordPromises.{Shaped}
+use Rattle.board.specs.Record.{withCore, answered}
+use Rattle.board.specs.Sound.{sound}
+use Rattle.board.proofs.RecordLaws.{core-put, core-other}
+use Rattle.board.proofs.SoundLaws.{sound-parts, sound-rules, lines-low, core-sound}
+use Rattle.board.specs.declared.record.Answer.{Answer}
 use Rattle.board.specs.Model.{checked, isThere, write}
 use Rattle.board.specs.Tables.{OwnTable}
 use Rattle.board.proofs.AnswerLaws.{carried, stopped, either-way, is-there, there-is, none-given, through}

@@ -12,9 +12,9 @@ use Rattle.board_wires.specs.declared.Wire.{Wire}
 use Rattle.board_wires.specs.declared.Wire.the-variants.{Nothing, Pin, Irq, Fiq}
 use Rattle.board_wires.specs.Chain.{chain as chainBelow}
 use Rattle.board_wires.specs.Wires.{coreAt, inputValue, wiredCore}
-use Rattle.board_record.specs.Record.{controllerLimit, inputLimit, pinLimit, withController, withCore, withWire, withPin, answered, refused}
-use Rattle.board_record.specs.Sound.{sound, lower}
-use Rattle.board_record.specs.declared.Answer.{Answer}
+use Rattle.board.specs.Record.{controllerLimit, inputLimit, pinLimit, withController, withCore, withWire, withPin, answered, refused}
+use Rattle.board.specs.Sound.{sound, lower}
+use Rattle.board.specs.declared.record.Answer.{Answer}
 use Rattle.board.specs.declared.Reply.{Reply}
 
 -- ---- answers

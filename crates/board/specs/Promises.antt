@@ -1,4 +1,4 @@
--- What is promised of a board (02, 8/12). Sound boards and the empty one are promised by crate board_record, the wires and the chains by board_wires.
+-- What is promised of a board (02, 8/12). Sound boards and the empty one are promised in RecordPromises, the wires and the chains by board_wires.
 use Prim.Native.Nat.{ℕ, _+_, _<_}
 use mathlib.Core.Path.{_≡_}
 use mathlib.Core.Bool.{true, false}
@@ -12,9 +12,9 @@ use Rattle.board_wires.specs.declared.Wire.the-variants.{Nothing, Pin, Irq, Fiq
 use Rattle.board_wires.specs.Chain.{chain as chainBelow}
 use Rattle.board_wires.specs.Promises.{Raised, Alike}
 use Rattle.board_wires.specs.Wires.{wireAt, coreAt, inputValue, wiredCore}
-use Rattle.board_record.specs.Promises.{Shaped}
-use Rattle.board_record.specs.Sound.{sound}
-use Rattle.board_record.specs.declared.Answer.{Answer}
+use Rattle.board.specs.RecordPromises.{Shaped}
+use Rattle.board.specs.Sound.{sound}
+use Rattle.board.specs.declared.record.Answer.{Answer}
 use Rattle.board.specs.Model.{add, connect, putPin, read, write, outputs, input, chain}
 use Rattle.board.specs.Tables.{AddTable, WireTable, PinTable, OwnTable, InputTable, Adds, Wires, Pins}
 

@@ -9,8 +9,8 @@ use Rattle.board_wires.specs.declared.Board.{Board}
 use Rattle.board_wires.specs.declared.Wire.{Wire}
 use Rattle.board_wires.specs.declared.Wire.the-variants.{Nothing, Pin, Irq, Fiq}
 use Rattle.board_wires.specs.Wires.{wireAt, coreAt}
-use Rattle.board_record.specs.Sound.{sound}
-use Rattle.board_record.specs.declared.Answer.{Answer}
+use Rattle.board.specs.Sound.{sound}
+use Rattle.board.specs.declared.record.Answer.{Answer}
 
 -- ---- numbers
 

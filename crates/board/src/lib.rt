@@ -1,12 +1,15 @@
 // A board of up to eight CoreInterrupts by value: what is done to it and what it answers is defined in specs/Model.antt (02, 8/12).
 ghost use mathlib.Core.Path.{_≡_};
-ghost use Rattle.board_record.specs.Record.{empty};
+ghost use Rattle.board.specs.Record.{empty};
 ghost use Rattle.board.specs.Model.{unlessRefused, replied, checked, isThere, isNamed, upwardRefusal, add, connect, putPin, read, write, silent, outputs, input, chain};
-use board_record::Answer;
+
+pub mod record;
+
 use board_wires::Board;
 use board_wires::Wire;
 use coreinterrupt::Core;
 use coreinterrupt::Signals;
+use record::Answer;
 
 // What a question answers that changes nothing.
 pub struct Reply {
@@ -21,7 +24,7 @@ fn unless_refused(b: Board, n: u32, a: Answer) -> Answer
     if n == steps::CARRIED_OUT {
         return a;
     }
-    board_record::refusal_of(b, n)
+    record::refusal_of(b, n)
 }
 
 // The value of a question, or the refusal n.
@@ -46,7 +49,7 @@ fn reply_of(n: u32, value: u32) -> Reply
 fn checked(b: Board, within: bool, n: u32) -> u32
     ensures { λ r. ⌜ r ≡ checked b within n ⌝ }
 {
-    if !board_record::is_sound(b) {
+    if !record::is_sound(b) {
         return steps::UNSOUND;
     }
     if !within {
@@ -68,7 +71,7 @@ fn is_named(b: Board, w: Wire) -> bool
 {
     match w {
         Wire::Nothing => true,
-        Wire::Pin(p) => p < board_record::PIN_LIMIT,
+        Wire::Pin(p) => p < record::PIN_LIMIT,
         Wire::Irq(d) => is_there(b, d),
         Wire::Fiq(d) => is_there(b, d),
     }
@@ -78,7 +81,7 @@ fn is_named(b: Board, w: Wire) -> bool
 fn upward_refusal(c: u32, w: Wire) -> u32
     ensures { λ r. ⌜ r ≡ upwardRefusal c w ⌝ }
 {
-    if board_record::is_lower(c, w) {
+    if record::is_lower(c, w) {
         return steps::CARRIED_OUT;
     }
     steps::UPWARD
@@ -91,8 +94,8 @@ pub fn empty() -> Board
     ensures { λ r. ⌜ r ≡ empty ⌝ }
 {
     let none = Core {
-        fiq: coreinterrupt_side::idle(0, 0),
-        irq: coreinterrupt_side::idle(0, 0),
+        fiq: coreinterrupt::sides::idle(0, 0),
+        irq: coreinterrupt::sides::idle(0, 0),
     };
     Board {
         controllers: 0,
@@ -107,21 +110,21 @@ pub fn add(b: Board, fiqs: u32, irqs: u32, fiqlevel: u32, irqlevel: u32) -> Answ
     ensures { λ r. ⌜ r ≡ add b fiqs irqs fiqlevel irqlevel ⌝ }
 {
     let s = coreinterrupt::start(fiqs, irqs, fiqlevel, irqlevel);
-    let n = checked(b, b.controllers < board_record::CONTROLLER_LIMIT, s.refusal);
+    let n = checked(b, b.controllers < record::CONTROLLER_LIMIT, s.refusal);
     if n == steps::CARRIED_OUT {
-        return board_record::answer_of(board_record::with_controller(b, s.core), b.controllers);
+        return record::answer_of(record::with_controller(b, s.core), b.controllers);
     }
-    board_record::refusal_of(b, n)
+    record::refusal_of(b, n)
 }
 
 // Input i of controller c is wired to w: 6 for a controller, an input or a pin that there is not, then 15.
 pub fn connect(b: Board, c: u32, i: u32, w: Wire) -> Answer
     ensures { λ r. ⌜ r ≡ connect b c i w ⌝ }
 {
-    let within = is_there(b, c) & (i < board_record::INPUT_LIMIT) & is_named(b, w);
+    let within = is_there(b, c) & (i < record::INPUT_LIMIT) & is_named(b, w);
     let n = checked(b, within, upward_refusal(c, w));
-    let wired = board_record::with_wire(b, c, i, w);
-    unless_refused(b, n, board_record::answer_of(wired, 0))
+    let wired = record::with_wire(b, c, i, w);
+    unless_refused(b, n, record::answer_of(wired, 0))
 }
 
 // Pin p is put to a level.
@@ -130,13 +133,13 @@ pub fn put_pin(b: Board, p: u32, level: u32) -> Answer
 {
     let n = checked(
         b,
-        (p < board_record::PIN_LIMIT) & (level <= 1),
+        (p < record::PIN_LIMIT) & (level <= 1),
         steps::CARRIED_OUT,
     );
     if n == steps::CARRIED_OUT {
-        return board_record::answer_of(board_record::with_pin(b, p, level as u8), 0);
+        return record::answer_of(record::with_pin(b, p, level as u8), 0);
     }
-    board_record::refusal_of(b, n)
+    record::refusal_of(b, n)
 }
 
 // ---- the registers of a controller
@@ -147,7 +150,7 @@ pub fn read(b: Board, c: u32, offset: u32) -> Answer
 {
     let a = coreinterrupt::read(board_wires::pair::wired_core(b, c), offset);
     let n = checked(b, is_there(b, c), a.refusal);
-    unless_refused(b, n, board_record::answer_of(b, a.value))
+    unless_refused(b, n, record::answer_of(b, a.value))
 }
 
 // A write of a value to the register at an offset of controller c.
@@ -157,9 +160,9 @@ pub fn write(b: Board, c: u32, offset: u32, value: u32) -> Answer
     let a = coreinterrupt::write(board_wires::core_at(b, c), offset, value);
     let n = checked(b, is_there(b, c), a.refusal);
     if n == steps::CARRIED_OUT {
-        return board_record::answer_of(board_record::with_core(b, c, a.core), a.value);
+        return record::answer_of(record::with_core(b, c, a.core), a.value);
     }
-    board_record::refusal_of(b, n)
+    record::refusal_of(b, n)
 }
 
 // ---- what a board answers
@@ -187,7 +190,7 @@ pub fn input(b: Board, c: u32, i: u32) -> Reply
 {
     let n = checked(
         b,
-        is_there(b, c) & (i < board_record::INPUT_LIMIT),
+        is_there(b, c) & (i < record::INPUT_LIMIT),
         steps::CARRIED_OUT,
     );
     reply_of(n, words::one_if(board_wires::pair::input_value(b, c, i)))

@@ -2,7 +2,7 @@
 use super::questions;
 use board_wires::Board;
 use coreinterrupt::Core;
-use coreinterrupt_side::Side;
+use coreinterrupt::sides::Side;
 
 // Three controllers of two FIQ and three IRQ sources; nothing is printed.
 fn three() -> Board {

@@ -13,11 +13,11 @@ use Rattle.words.specs.Counting.{upto}
 use Rattle.words.specs.Word.{bit}
 use Rattle.words.proofs.ChoiceLaws.{pick-true}
 use Rattle.words.proofs.TruthLaws.{and-both, or-either, or-left, or-right}
-use Rattle.coreinterrupt_side.specs.declared.Side.{Side}
-use Rattle.coreinterrupt_side.specs.Side.{withInputs, raw, active, moved, sideSound}
-use Rattle.coreinterrupt_side.specs.Promises.{SomeSource}
-use Rattle.coreinterrupt_side.proofs.SideLaws.{moved-spare, line-bit, line-word, line-only, moved-sound, sound-active, sound-rules}
-use Rattle.coreinterrupt_side.proofs.Promises.{kept as side-kept}
+use Rattle.coreinterrupt.specs.declared.sides.Side.{Side}
+use Rattle.coreinterrupt.specs.Side.{withInputs, raw, active, moved, sideSound}
+use Rattle.coreinterrupt.specs.SidesPromises.{SomeSource}
+use Rattle.coreinterrupt.proofs.SideLaws.{moved-spare, line-bit, line-word, line-only, moved-sound, sound-active, sound-rules}
+use Rattle.coreinterrupt.proofs.SidesPromises.{kept as side-kept}
 use Rattle.coreinterrupt.specs.Model.{side, sound}
 use Rattle.coreinterrupt.proofs.ModelLaws.{fiq-sound, irq-sound, sound-is}
 use Rattle.board_wires.specs.declared.Board.{Board}

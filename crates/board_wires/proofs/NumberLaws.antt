@@ -12,7 +12,7 @@ use borrow.Author.Tests.{lt-ltb, le-ltb, ltb-true, eq-eqb, ne-eqb, eqb-true}
 use Rattle.words.specs.Choice.{pick}
 use Rattle.words.proofs.ChoiceLaws.{pick-false}
 use Rattle.words.proofs.TruthLaws.{and-left, and-right, and-both}
-use Rattle.coreinterrupt_side.specs.Side.{idle}
+use Rattle.coreinterrupt.specs.Side.{idle}
 use Rattle.coreinterrupt.specs.Model.{coreOf}
 use Rattle.board_wires.specs.declared.Board.{Board}
 use Rattle.board_wires.specs.declared.Wire.{Wire}

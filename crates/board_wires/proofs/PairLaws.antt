@@ -15,8 +15,8 @@ use Rattle.words.proofs.ChoiceLaws.{pick-true, pick-false}
 use Rattle.words.proofs.CountingLaws.{upto-none, upto-more, at-end}
 use Rattle.words.proofs.TruthLaws.{clash}
 use Rattle.words.proofs.WordLaws.{bit-wordOf, bit-past, bit-withBit, wordOf-lt, wordOf-same, wordOf-more, wordOf-none-yet}
-use Rattle.coreinterrupt_side.specs.declared.Side.{Side}
-use Rattle.coreinterrupt_side.specs.Side.{active, moved}
+use Rattle.coreinterrupt.specs.declared.sides.Side.{Side}
+use Rattle.coreinterrupt.specs.Side.{active, moved}
 use Rattle.coreinterrupt.specs.declared.Core.{Core}
 use Rattle.coreinterrupt.specs.Model.{coreOf, side}
 use Rattle.board_wires.specs.declared.Board.{Board}

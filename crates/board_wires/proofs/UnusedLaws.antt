@@ -6,7 +6,7 @@ use mathlib.Core.List.{List}
 use lib.Dec.{eqb, ltb}
 use lib.ListN.{getD}
 use Rattle.words.specs.Choice.{pick}
-use Rattle.coreinterrupt_side.specs.Side.{idle, active}
+use Rattle.coreinterrupt.specs.Side.{idle, active}
 use Rattle.coreinterrupt.specs.declared.Core.{Core}
 use Rattle.coreinterrupt.specs.Model.{coreOf, side}
 use Rattle.board_wires.specs.declared.Board.{Board}

@@ -5,8 +5,8 @@ use mathlib.Core.List.{List}
 use Rattle.words.specs.Choice.{pick}
 use Rattle.words.specs.Counting.{upto}
 use Rattle.words.specs.Word.{bit, wordOf, withBit}
-use Rattle.coreinterrupt_side.specs.declared.Side.{Side}
-use Rattle.coreinterrupt_side.specs.Side.{moved}
+use Rattle.coreinterrupt.specs.declared.sides.Side.{Side}
+use Rattle.coreinterrupt.specs.Side.{moved}
 use Rattle.coreinterrupt.specs.declared.Core.{Core}
 use Rattle.coreinterrupt.specs.Model.{coreOf, fiqLimit, irqLimit}
 use Rattle.board_wires.specs.declared.Board.{Board}

@@ -7,8 +7,8 @@ use lib.Dec.{ltb}
 use lib.ListN.{getD}
 use Rattle.words.specs.Choice.{pick}
 use Rattle.words.specs.Word.{bit}
-use Rattle.coreinterrupt_side.specs.declared.Side.{Side}
-use Rattle.coreinterrupt_side.specs.Side.{withInputs, active}
+use Rattle.coreinterrupt.specs.declared.sides.Side.{Side}
+use Rattle.coreinterrupt.specs.Side.{withInputs, active}
 use Rattle.coreinterrupt.specs.Model.{sound}
 use Rattle.board_wires.specs.declared.Board.{Board}
 use Rattle.board_wires.specs.declared.Wire.the-variants.{Nothing, Pin, Irq, Fiq}

@@ -6,8 +6,8 @@ use lib.Dec.{eqb, ltb}
 use lib.ListN.{getD}
 use Rattle.words.specs.Choice.{pick}
 use Rattle.words.specs.Counting.{upto}
-use Rattle.coreinterrupt_side.specs.declared.Side.{Side}
-use Rattle.coreinterrupt_side.specs.Side.{idle, active, moved}
+use Rattle.coreinterrupt.specs.declared.sides.Side.{Side}
+use Rattle.coreinterrupt.specs.Side.{idle, active, moved}
 use Rattle.coreinterrupt.specs.declared.Core.{Core}
 use Rattle.coreinterrupt.specs.Model.{coreOf, side, fiqLimit, irqLimit}
 use Rattle.board_wires.specs.declared.Board.{Board}

@@ -105,8 +105,8 @@ pub fn core_at(b: Board, c: u32) -> Core
         return b.core[k];
     }
     Core {
-        fiq: coreinterrupt_side::idle(0, 0),
-        irq: coreinterrupt_side::idle(0, 0),
+        fiq: coreinterrupt::sides::idle(0, 0),
+        irq: coreinterrupt::sides::idle(0, 0),
     }
 }
 

@@ -8,7 +8,7 @@ use super::Board;
 use super::Wire;
 use super::chain;
 use coreinterrupt::Core;
-use coreinterrupt_side::Side;
+use coreinterrupt::sides::Side;
 
 // The values of the forty inputs: bit k of `irq` is input k, bit k of `fiq` is input 32 + k.
 pub struct Inputs {
@@ -93,7 +93,7 @@ fn lined(s: Side, w: u32, n: u32) -> Side
     let mut x = s;
     let mut i: u32 = 0;
     while i < n {
-        x = coreinterrupt_side::moved(x, i, words::has(w, i));
+        x = coreinterrupt::sides::moved(x, i, words::has(w, i));
         i = i + 1;
     }
     x
@@ -136,8 +136,8 @@ pub(crate) fn activity(b: Board, c: u32) -> Activities
     let v = values(b, c);
     let k = lined_core(super::core_at(b, c), v);
     Activities {
-        irq: coreinterrupt_side::active(k.irq),
-        fiq: coreinterrupt_side::active(k.fiq),
+        irq: coreinterrupt::sides::active(k.irq),
+        fiq: coreinterrupt::sides::active(k.fiq),
     }
 }
 

@@ -19,7 +19,7 @@ use Rattle.aic_registers.specs.Registers.{stored, readAt, writtenAt}
 use Rattle.aic.specs.Model.{start, outputs, readNumber, writeNumber, lineNumber, read, write, line}
 use Rattle.aic_runs.specs.Runs.{run}
 use Rattle.aic_runs.specs.Worked.{ready, tower}
-use Rattle.coreinterrupt_side.specs.Side.{clearAccess, sideAccess, sideRead, sideSound}
+use Rattle.coreinterrupt.specs.Side.{clearAccess, sideAccess, sideRead, sideSound}
 use Rattle.coreinterrupt.specs.Model as CoreInterrupt
 use Rattle.cic_record.specs.Sound as Cic
 use Rattle.cic_record.specs.Start.{fresh, configured, start as cicStart}

@@ -20,7 +20,7 @@ use Rattle.aic_registers.specs.Map.{access}
 use Rattle.aic_registers.specs.Effects.{moded}
 use Rattle.aic_registers.specs.Registers.{stored, readAt, writtenAt}
 use Rattle.aic.specs.Model.{start, readNumber, writeNumber, read, write}
-use Rattle.coreinterrupt_side.specs.Side.{clearAccess, sideAccess, sideRead, setBits, sideWrite, sideSound}
+use Rattle.coreinterrupt.specs.Side.{clearAccess, sideAccess, sideRead, setBits, sideWrite, sideSound}
 use Rattle.coreinterrupt.specs.Model as CoreInterrupt
 use Rattle.cic_record.specs.Sound as Cic
 use Rattle.cic_record.specs.Start.{fresh, configured, start as cicStart}
@@ -29,9 +29,9 @@ use Rattle.cic_registers.specs.Registers as Registers
 use Rattle.cic_registers.specs.Model.{readAs, writeAs, stepAs}
 use Rattle.aintc_record.specs.Bounds.{chosenBounded, bounded}
 use Rattle.aintc_record.specs.Record as AintcRecord
-use Rattle.aintc_choice.specs.Inputs as Inputs
-use Rattle.aintc_choice.specs.Order.{some}
-use Rattle.aintc_choice.specs.Settle as Settle
+use Rattle.aintc_registers.specs.Inputs as Inputs
+use Rattle.aintc_registers.specs.Order.{some}
+use Rattle.aintc_registers.specs.Settle as Settle
 use Rattle.aintc_registers.specs.Map.{threshold}
 use Rattle.aintc_registers.specs.Map as AintcMap
 use Rattle.aintc_registers.specs.Effects as Effects

@@ -1,7 +1,7 @@
 // CoreInterrupt: which starts and which records are refused, 10 and 12 (01, CoreInterrupt).
 use cases::lines;
 use coreinterrupt::Core;
-use coreinterrupt_side::Side;
+use coreinterrupt::sides::Side;
 
 fn start(fiqs: u32, irqs: u32, fiqlevel: u32, irqlevel: u32) {
     let b = coreinterrupt::start(fiqs, irqs, fiqlevel, irqlevel);
@@ -26,8 +26,8 @@ fn look(fiq: Side, irq: Side) -> u32 {
 
 // One side with this count and level, the other without sources.
 fn counts(count: u32, level: u32) {
-    let g = coreinterrupt_side::idle(count, level);
-    let none = coreinterrupt_side::idle(0, 0);
+    let g = coreinterrupt::sides::idle(count, level);
+    let none = coreinterrupt::sides::idle(0, 0);
     lines::four(count, level, 0, 0, look(g, none));
     lines::four(0, 0, count, level, look(none, g));
 }
@@ -46,7 +46,7 @@ fn side(count: u32, inputs: u32, soft: u32, enable: u32) -> Side {
 // This side as the FIQ side and as the IRQ side, the other without sources.
 fn both(count: u32, inputs: u32, soft: u32, enable: u32) {
     let g = side(count, inputs, soft, enable);
-    let none = coreinterrupt_side::idle(0, 0);
+    let none = coreinterrupt::sides::idle(0, 0);
     lines::four(count, inputs, soft, enable, look(g, none));
     lines::four(count, inputs, soft, enable, look(none, g));
 }
@@ -66,8 +66,8 @@ fn words() {
 // Of an unsound record 12 stands before every other number, and its outputs are refused too.
 fn first_of_all() {
     let c = Core {
-        fiq: coreinterrupt_side::idle(8, 2),
-        irq: coreinterrupt_side::idle(32, 1),
+        fiq: coreinterrupt::sides::idle(8, 2),
+        irq: coreinterrupt::sides::idle(32, 1),
     };
     let r = coreinterrupt::read(c, 0x031);
     lines::one(0x031, r.refusal);

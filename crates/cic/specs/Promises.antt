@@ -1,4 +1,4 @@
--- What is promised of the CIC's steps. The start, sound records and the parts of a record are promised by crate cic_record, the outputs by cic_hosts.
+-- What is promised of the CIC's steps. The start, sound records and the parts of a record are promised by crate cic_record, the outputs by cic_registers.
 use mathlib.Core.Bool.{true, false, not, _&&_, _||_}
 use mathlib.Core.Path.{_≡_}
 use mathlib.Core.Logic.{_≢_}

@@ -4,7 +4,7 @@ ghost use mathlib.Core.Path.{_≡_};
 ghost use mathlib.Core.Bool.{true};
 ghost use Rattle.cic_record.specs.Sound.{within, sound};
 ghost use Rattle.cic_record.specs.Start.{start};
-ghost use Rattle.cic_hosts.specs.Hosts.{asserted, outputs};
+ghost use Rattle.cic_registers.specs.Hosts.{asserted, outputs};
 ghost use Rattle.rooms.specs.Reply.{told};
 ghost use Rattle.cic_registers.specs.Model.{readAs, writeAs, lineAs, stepAs, read, write, line, step};
 use cic_record::Answer;
@@ -80,7 +80,7 @@ pub fn step_sound(c: Cic, s: Step) -> Answer
 pub fn outputs(c: Cic) -> Signals
     ensures { λ r. ⌜ r ≡ outputs c ⌝ }
 {
-    cic_hosts::outputs(c)
+    cic_registers::hosts::outputs(c)
 }
 
 // The same of a record that is known to be sound: it is not looked at again.
@@ -88,14 +88,14 @@ pub fn outputs_sound(c: Cic) -> Signals
     requires { ⌜ sound c ≡ true ⌝ }
     ensures { λ r. ⌜ r ≡ outputs c ⌝ }
 {
-    cic_hosts::shown(c)
+    cic_registers::hosts::shown(c)
 }
 
 // Whether a host interrupt is asserted.
 pub fn asserted(c: Cic, h: Host) -> bool
     ensures { λ r. ⌜ r ≡ asserted c h ⌝ }
 {
-    cic_hosts::asserted(c, h)
+    cic_registers::hosts::asserted(c, h)
 }
 
 // ---- a sound record, whose steps are carried out in a room in which nothing is kept beside it

@@ -18,7 +18,7 @@ use Rattle.words.proofs.TruthLaws.{and-left, and-right, clash, not-holds}
 use Rattle.words.proofs.WordLaws.{bit-both, bit-kept}
 use Rattle.cic_record.specs.declared.Channel.{Channel}
 use Rattle.cic_record.specs.Kinds.{system, channelIn}
-use Rattle.cic_hosts.proofs.ScanLaws.{bit-of-left}
+use Rattle.cic_registers.proofs.ScanLaws.{bit-of-left}
 use Rattle.cic_held.specs.declared.indices.Found.{Found}
 use Rattle.cic_held.specs.Search.{lit, pendingOf, firstOf, hasOf, lookedOf, foundOf}
 

@@ -27,7 +27,7 @@ fn is_of(channel: &[u8; 1024], s: System, k: Channel) -> bool
     requires { ⌜ s .0 < 1024 ⌝ }
     ensures { λ r. ⌜ r ≡ eqb (channelIn (now (channel .entry)) s .0) (k .0) ⌝ }
 {
-    let of = cic_hosts::channel_in(channel, s);
+    let of = cic_registers::hosts::channel_in(channel, s);
     of.0 == k.0
 }
 
@@ -88,7 +88,7 @@ fn asks(host: &[u8; 256], every: bool, h: Host, k: Channel) -> bool
     requires { ⌜ k .0 < 256 ⌝ }
     ensures { λ r. ⌜ r ≡ (every || eqb (hostIn (now (host .entry)) k .0) (h .0)) ⌝ }
 {
-    let to = cic_hosts::host_in(host, k);
+    let to = cic_registers::hosts::host_in(host, k);
     every | (to.0 == h.0)
 }
 

@@ -14,7 +14,7 @@ use Rattle.cic_record.specs.declared.Host.{Host}
 use Rattle.cic_record.specs.declared.Signals.{Signals}
 use Rattle.cic_record.specs.Kinds.{hostNumber}
 use Rattle.cic_record.specs.Sound as cic-sound
-use Rattle.cic_hosts.specs.Hosts as hosts
+use Rattle.cic_registers.specs.Hosts as hosts
 use Rattle.cic_held.specs.Order.{indexOf}
 use Rattle.cic_held.specs.IndicesPromises.{Meets, MeetsFor}
 use Rattle.cic_held.proofs.IndicesPromises as of-indices

@@ -10,7 +10,7 @@ use Rattle.steps.specs.declared.Step.the-variants.{Read, Write, Line}
 use Rattle.steps.specs.Refusals.{carriedOut, unsound, readRefusal, writeRefusal}
 use Rattle.cic_record.specs.declared.Answer.{Answer as CicAnswer}
 use Rattle.cic_record.specs.declared.Signals.{Signals}
-use Rattle.cic_hosts.specs.Hosts.{shown}
+use Rattle.cic_registers.specs.Hosts.{shown}
 use Rattle.cic_registers.specs.Model as cic
 use Rattle.cic_held.specs.declared.Answer.{Answer}
 use Rattle.cic_held.specs.declared.Held.{Held}

@@ -11,7 +11,7 @@ use Rattle.steps.specs.Refusals.{carriedOut}
 use Rattle.steps.specs.Tables.{ReadTable, WriteTable, LineTable}
 use Rattle.cic_record.specs.declared.Answer.{Answer as CicAnswer}
 use Rattle.cic_record.specs.Kinds.{hostNumber}
-use Rattle.cic_hosts.specs.Hosts as hosts
+use Rattle.cic_registers.specs.Hosts as hosts
 use Rattle.cic_registers.specs.Map.{access}
 use Rattle.cic_registers.specs.Model as cic
 use Rattle.cic_held.specs.IndicesPromises.{Meets, MeetsFor}

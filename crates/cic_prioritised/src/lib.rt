@@ -3,9 +3,12 @@
 ghost use mathlib.Core.Path.{_≡_};
 ghost use mathlib.Core.Bool.{true};
 ghost use Rattle.rooms.specs.Reply.{told};
-ghost use Rattle.cic_hosts.specs.Hosts.{asserted};
+ghost use Rattle.cic_registers.specs.Hosts.{asserted};
 ghost use Rattle.cic_held.specs.Held.{within, sound, start};
 ghost use Rattle.cic_indexed.specs.Model.{refused, read, write, line, step, outputs};
+
+pub mod looked;
+
 use cic_held::Answer;
 use cic_held::Begun;
 use cic_held::Prioritised;
@@ -96,14 +99,14 @@ pub fn outputs_sound(p: Prioritised) -> Signals
     requires { ⌜ sound p ≡ true ⌝ }
     ensures { λ r. ⌜ r ≡ outputs p ⌝ }
 {
-    cic_hosts::shown(p.cic)
+    cic_registers::hosts::shown(p.cic)
 }
 
 // Whether a host interrupt is asserted: as of the CIC.
 pub fn asserted(p: Prioritised, h: Host) -> bool
     ensures { λ r. ⌜ r ≡ asserted (p .cic) h ⌝ }
 {
-    cic_hosts::asserted(p.cic, h)
+    cic_registers::hosts::asserted(p.cic, h)
 }
 
 // A step that is refused: its number, the value 0 and the same record.

@@ -1,6 +1,8 @@
--- Registers of bits, what the CIC's registers answer, what a write does, and what is promised of them.
+-- Which hosts are asserted, registers of bits, what the CIC's registers answer, what a write does, and what is promised of them.
 pub mod Access
 pub mod Bits
+pub mod Hosts
+pub mod HostsPromises
 pub mod LayoutPromises
 pub mod Map
 pub mod Maps
@@ -8,3 +10,4 @@ pub mod MapsPromises
 pub mod Model
 pub mod Promises
 pub mod Registers
+pub mod Scan

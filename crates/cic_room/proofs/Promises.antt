@@ -18,7 +18,7 @@ use Rattle.cic_record.specs.declared.Cic.{Cic}
 use Rattle.cic_record.specs.Kinds.{system, hostNumber}
 use Rattle.cic_record.specs.Sound.{sound}
 use Rattle.cic_record.proofs.PartsLaws.{sound-parts, sound-counts}
-use Rattle.cic_hosts.specs.Hosts.{raises, asserted, shown}
+use Rattle.cic_registers.specs.Hosts.{raises, asserted, shown}
 use Rattle.cic_registers.specs.Maps.{mapRead}
 use Rattle.cic_room.specs.Room.{Frame, ofChannel, ofHost, someWord, cells, permitted, reached, shownWord, laid, Laid}
 use Rattle.cic_room.specs.Tables.{Held, hostAt}

@@ -39,7 +39,7 @@ use Rattle.cic_registers.specs.Access.{replyBy, answerBy, readIn}
 use Rattle.cic_registers.specs.Model.{readAs}
 use Rattle.cic_registers.proofs.StepLaws.{aligned-read}
 use Rattle.rooms.specs.Reply.{Reply, reply}
-use Rattle.cic_hosts.specs.Hosts.{shown, outputs}
+use Rattle.cic_registers.specs.Hosts.{shown, outputs}
 use Rattle.cic_room.specs.Room.{Frame, Laid}
 use Rattle.cic_room.proofs.Promises as of-laid
 use Rattle.cic_room.proofs.PutLaws.{systems-is, channels-is, hosts-is, revision-is}

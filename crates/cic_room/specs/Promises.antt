@@ -12,7 +12,7 @@ use Rattle.cic_record.specs.declared.Cic.{Cic}
 use Rattle.cic_record.specs.Kinds.{system, hostNumber, channelOf}
 use Rattle.cic_record.specs.Promises.{Shaped}
 use Rattle.cic_record.specs.Sound.{sound}
-use Rattle.cic_hosts.specs.Hosts.{raises, shown}
+use Rattle.cic_registers.specs.Hosts.{raises, shown}
 use Rattle.cic_room.specs.Room.{Frame, Framed, Bytes, Laid}
 
 pub record Promises : Type 0 where

@@ -4,7 +4,7 @@ ghost use mathlib.Core.Bool.{true};
 ghost use Prim.Native.Nat.{ℕ};
 ghost use Rattle.cic_record.specs.declared.Cic.{Cic};
 ghost use Rattle.cic_record.specs.Sound.{sound};
-ghost use Rattle.cic_hosts.specs.Hosts.{outputs};
+ghost use Rattle.cic_registers.specs.Hosts.{outputs};
 ghost use Rattle.cic_registers.specs.Model.{readAs, writeAs, lineAs, stepAs};
 ghost use Rattle.rooms.specs.Reply.{told};
 ghost use Rattle.trace.specs.Turns.{stepOf};

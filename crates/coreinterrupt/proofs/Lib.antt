@@ -3,6 +3,9 @@ pub mod AnswerLaws
 pub mod ModelLaws
 pub mod OutputLaws
 pub mod Promises
+pub mod SideLaws
+pub mod SidesPromises
+pub mod SidesTableLaws
 pub mod SoundLaws
 pub mod StartLaws
 pub mod TableLaws

@@ -15,14 +15,14 @@ use Rattle.steps.specs.declared.Step.{Step}
 use Rattle.steps.specs.declared.Step.the-variants.{Read, Write, Line}
 use Rattle.steps.specs.Refusals.{readRefusal, writeRefusal, lineRefusal}
 use Rattle.steps.proofs.Promises.{read-table, line-table}
-use Rattle.coreinterrupt_side.specs.declared.Side.{Side}
+use Rattle.coreinterrupt.specs.declared.sides.Side.{Side}
 use Rattle.coreinterrupt.specs.declared.Core.{Core}
 use Rattle.coreinterrupt.specs.declared.Answer.{Answer}
-use Rattle.coreinterrupt_side.specs.Side.{sideAccess, sideWrite, moved, sideSound}
+use Rattle.coreinterrupt.specs.Side.{sideAccess, sideWrite, moved, sideSound}
 use Rattle.coreinterrupt.specs.Model.{side, withSide, sound, answered, refused, fiqOffset, register, access, valueAt, written, read, write, fiqLine, input, lineMoved, line, step}
 use Rattle.coreinterrupt.specs.Promises.{Rules}
 use Rattle.coreinterrupt.proofs.AnswerLaws.{carried, either-way, refused-is}
-use Rattle.coreinterrupt_side.proofs.SideLaws.{write-sound, moved-sound, moved-spare, sound-rules, rules-sound, six-registers, zero-readable, zero-read}
+use Rattle.coreinterrupt.proofs.SideLaws.{write-sound, moved-sound, moved-spare, sound-rules, rules-sound, six-registers, zero-readable, zero-read}
 
 -- ---- soundness
 

@@ -7,10 +7,10 @@ use native.Mathlib.Omega.{arith}
 use Rattle.words.proofs.ChoiceLaws.{pick-true, pick-false}
 use Rattle.words.proofs.TruthLaws.{told}
 use Rattle.coreinterrupt.specs.declared.Core.{Core}
-use Rattle.coreinterrupt_side.specs.Side.{active, outputLevel}
+use Rattle.coreinterrupt.specs.Side.{active, outputLevel}
 use Rattle.coreinterrupt.specs.Model.{sound, outputs}
-use Rattle.coreinterrupt_side.specs.Promises.{SomeSource}
-use Rattle.coreinterrupt_side.proofs.SideLaws.{sound-active, level-active, level-small}
+use Rattle.coreinterrupt.specs.SidesPromises.{SomeSource}
+use Rattle.coreinterrupt.proofs.SideLaws.{sound-active, level-active, level-small}
 use Rattle.coreinterrupt.proofs.ModelLaws.{fiq-sound, irq-sound}
 
 pub shown : (c : Core) → sound c ≡ true

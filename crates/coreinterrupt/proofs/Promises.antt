@@ -8,7 +8,7 @@ use Rattle.steps.specs.Tables.{ReadTable, WriteTable, LineTable}
 use Rattle.steps.proofs.Promises.{read-table, write-table, line-table}
 use Rattle.coreinterrupt.specs.declared.Core.{Core}
 use Rattle.coreinterrupt.specs.declared.Answer.{Answer}
-use Rattle.coreinterrupt_side.specs.Side.{sideWrite, moved}
+use Rattle.coreinterrupt.specs.Side.{sideWrite, moved}
 use Rattle.coreinterrupt.specs.Model.{side, sound, answered, fiqOffset, register, access, valueAt, written, read, write, fiqLine, input, lineMoved, line}
 use Rattle.coreinterrupt.specs.Promises.{Promises}
 use Rattle.coreinterrupt.proofs.AnswerLaws.{carried, stopped, either-way, number-is}

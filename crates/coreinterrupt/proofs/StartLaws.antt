@@ -10,10 +10,10 @@ use Rattle.words.specs.Choice.{pick}
 use Rattle.words.proofs.ChoiceLaws.{pick-true, pick-false}
 use Rattle.words.proofs.TruthLaws.{and-left, and-right, and-both, told, clash}
 use Rattle.coreinterrupt.specs.declared.Begun.{Begun}
-use Rattle.coreinterrupt_side.specs.Side.{idle}
+use Rattle.coreinterrupt.specs.Side.{idle}
 use Rattle.coreinterrupt.specs.Model.{coreOf, sound, within, allWithin, start}
 use Rattle.coreinterrupt.specs.Promises.{Limited}
-use Rattle.coreinterrupt_side.proofs.SideLaws.{idle-sound}
+use Rattle.coreinterrupt.proofs.SideLaws.{idle-sound}
 
 pub limits : (v : ℕ)
     → ((within 0 v ≡ true) ↔ (v ≤ 8)) × ((within 1 v ≡ true) ↔ (v ≤ 32)) × ((within 2 v ≡ true) ↔ (v ≤ 1)) × ((within 3 v ≡ true) ↔ (v ≤ 1))

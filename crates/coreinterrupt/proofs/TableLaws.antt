@@ -11,10 +11,10 @@ use Rattle.words.specs.Word.{bit}
 use Rattle.steps.specs.Refusals.{readRefusal, writeRefusal, lineRefusal}
 use Rattle.steps.specs.Tables.{Readable, Writable}
 use Rattle.steps.proofs.Promises.{read-table, write-table, line-table}
-use Rattle.coreinterrupt_side.specs.declared.Side.{Side}
-use Rattle.coreinterrupt_side.specs.Side.{sideAccess, sideRead, setBits, clearBits, sideWrite, moved}
-use Rattle.coreinterrupt_side.specs.Promises.{Rules}
-use Rattle.coreinterrupt_side.proofs.SideLaws.{clears-hidden, clears-shown, clear-writable, set-bit, clear-bit, set-word, clear-word, line-bit, line-word, line-only, sound-rules}
+use Rattle.coreinterrupt.specs.declared.sides.Side.{Side}
+use Rattle.coreinterrupt.specs.Side.{sideAccess, sideRead, setBits, clearBits, sideWrite, moved}
+use Rattle.coreinterrupt.specs.SidesPromises.{Rules}
+use Rattle.coreinterrupt.proofs.SideLaws.{clears-hidden, clears-shown, clear-writable, set-bit, clear-bit, set-word, clear-word, line-bit, line-word, line-only, sound-rules}
 use Rattle.coreinterrupt.specs.declared.Core.{Core}
 use Rattle.coreinterrupt.specs.Model.{coreOf, side, withSide, sound, answered, fiqOffset, register, access, valueAt, written, read, write, input, lineMoved, line}
 use Rattle.coreinterrupt.specs.Tables.{Sets, MapTable, Reads, Writes, Lines}

@@ -1,4 +1,6 @@
--- CoreInterrupt: the controller of two sides, and what is promised of it.
+-- CoreInterrupt: one side, the controller of two sides, and what is promised of both.
 pub mod Model
 pub mod Promises
+pub mod Side
+pub mod SidesPromises
 pub mod Tables

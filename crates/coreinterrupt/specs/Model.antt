@@ -7,12 +7,12 @@ use Rattle.steps.specs.declared.Access.{Access}
 use Rattle.steps.specs.declared.Step.{Step}
 use Rattle.steps.specs.declared.Step.the-variants.{Read, Write, Line}
 use Rattle.steps.specs.Refusals.{carriedOut, misconfigured, unsound, readRefusal, writeRefusal, lineRefusal}
-use Rattle.coreinterrupt_side.specs.declared.Side.{Side}
+use Rattle.coreinterrupt.specs.declared.sides.Side.{Side}
 use Rattle.coreinterrupt.specs.declared.Core.{Core}
 use Rattle.coreinterrupt.specs.declared.Begun.{Begun}
 use Rattle.coreinterrupt.specs.declared.Answer.{Answer}
 use Rattle.coreinterrupt.specs.declared.Signals.{Signals}
-use Rattle.coreinterrupt_side.specs.Side.{idle, active, outputLevel, sideAccess, sideRead, sideWrite, moved, sideSound}
+use Rattle.coreinterrupt.specs.Side.{idle, active, outputLevel, sideAccess, sideRead, sideWrite, moved, sideSound}
 
 -- ---- numbers of the paper
 

@@ -7,8 +7,8 @@ use Rattle.steps.specs.declared.Step.{Step}
 use Rattle.steps.specs.declared.Step.the-variants.{Read, Write, Line}
 use Rattle.steps.specs.Refusals.{carriedOut, misconfigured, unsound}
 use Rattle.steps.specs.Tables.{ReadTable, WriteTable, LineTable}
-use Rattle.coreinterrupt_side.specs.Side.{active, outputLevel}
-use Rattle.coreinterrupt_side.specs.Promises.{SomeSource, Rules as SideRules}
+use Rattle.coreinterrupt.specs.Side.{active, outputLevel}
+use Rattle.coreinterrupt.specs.SidesPromises.{SomeSource, Rules as SideRules}
 use Rattle.coreinterrupt.specs.declared.Core.{Core}
 use Rattle.coreinterrupt.specs.declared.Answer.{Answer}
 use Rattle.coreinterrupt.specs.Model.{sound, within, start, answered, refused, unlessRefused, access, read, write, line, step, outputs}

@@ -7,7 +7,7 @@ use lib.Dec.{eqb, ltb}
 use Rattle.words.specs.Choice.{pick}
 use Rattle.words.specs.Word.{bit}
 use Rattle.steps.specs.declared.Access.the-variants.{NoRegister, ReadOnly, WriteOnly, ReadWrite}
-use Rattle.coreinterrupt_side.specs.Side.{withInputs, withSoft, withEnable, raw, status}
+use Rattle.coreinterrupt.specs.Side.{withInputs, withSoft, withEnable, raw, status}
 use Rattle.coreinterrupt.specs.declared.Core.{Core}
 use Rattle.coreinterrupt.specs.declared.Answer.{Answer}
 use Rattle.coreinterrupt.specs.Model.{answered, access, read, write, line}

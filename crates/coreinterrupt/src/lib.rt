@@ -3,11 +3,13 @@ ghost use mathlib.Core.Path.{_≡_};
 ghost use mathlib.Core.Bool.{true};
 ghost use Rattle.coreinterrupt.specs.Model.{side, withSide, sound, within, allWithin, start, answered, refused, unlessRefused, register, access, valueAt, written, read, write, input, lineMoved, line, step, outputs};
 
+pub mod sides;
+
 // The controller: its FIQ side and its IRQ side.
 #[repr(C)]
 pub struct Core {
-    pub fiq: coreinterrupt_side::Side,
-    pub irq: coreinterrupt_side::Side,
+    pub fiq: sides::Side,
+    pub irq: sides::Side,
 }
 
 // What a start answers.
@@ -71,16 +73,16 @@ pub fn start(fiqs: u32, irqs: u32, fiqlevel: u32, irqlevel: u32) -> Begun
         return Begun {
             refusal: steps::CARRIED_OUT,
             core: Core {
-                fiq: coreinterrupt_side::idle(fiqs, fiqlevel),
-                irq: coreinterrupt_side::idle(irqs, irqlevel),
+                fiq: sides::idle(fiqs, fiqlevel),
+                irq: sides::idle(irqs, irqlevel),
             },
         };
     }
     Begun {
         refusal: steps::MISCONFIGURED,
         core: Core {
-            fiq: coreinterrupt_side::idle(0, 0),
-            irq: coreinterrupt_side::idle(0, 0),
+            fiq: sides::idle(0, 0),
+            irq: sides::idle(0, 0),
         },
     }
 }
@@ -89,7 +91,7 @@ pub fn start(fiqs: u32, irqs: u32, fiqlevel: u32, irqlevel: u32) -> Begun
 pub fn is_sound(c: Core) -> bool
     ensures { λ r. ⌜ r ≡ sound c ⌝ }
 {
-    coreinterrupt_side::is_sound(FIQ_LIMIT, c.fiq) & coreinterrupt_side::is_sound(IRQ_LIMIT, c.irq)
+    sides::is_sound(FIQ_LIMIT, c.fiq) & sides::is_sound(IRQ_LIMIT, c.irq)
 }
 
 // The answer of a step that is carried out.
@@ -125,14 +127,14 @@ pub fn unless_refused(c: Core, n: u32, a: Answer) -> Answer
 }
 
 // The FIQ side or the IRQ side.
-fn side(c: Core, fast: bool) -> coreinterrupt_side::Side
+fn side(c: Core, fast: bool) -> sides::Side
     ensures { λ r. ⌜ r ≡ side c fast ⌝ }
 {
     if fast { c.fiq } else { c.irq }
 }
 
 // The record with one side replaced.
-fn with_side(c: Core, fast: bool, s: coreinterrupt_side::Side) -> Core
+fn with_side(c: Core, fast: bool, s: sides::Side) -> Core
     ensures { λ r. ⌜ r ≡ withSide c fast s ⌝ }
 {
     let mut d = c;
@@ -158,14 +160,14 @@ pub fn register(offset: u32) -> u32
 fn access(c: Core, offset: u32) -> steps::Access
     ensures { λ r. ⌜ r ≡ access c offset ⌝ }
 {
-    coreinterrupt_side::access(side(c, offset < IRQ_BASE), register(offset))
+    sides::access(side(c, offset < IRQ_BASE), register(offset))
 }
 
 // What the register at an offset answers.
 fn value_at(c: Core, offset: u32) -> u32
     ensures { λ r. ⌜ r ≡ valueAt c offset ⌝ }
 {
-    coreinterrupt_side::read(side(c, offset < IRQ_BASE), register(offset))
+    sides::read(side(c, offset < IRQ_BASE), register(offset))
 }
 
 // The record after the register at an offset took a value.
@@ -173,7 +175,7 @@ fn written(c: Core, offset: u32, value: u32) -> Core
     ensures { λ r. ⌜ r ≡ written c offset value ⌝ }
 {
     let fast = offset < IRQ_BASE;
-    let s = coreinterrupt_side::write(side(c, fast), register(offset), value);
+    let s = sides::write(side(c, fast), register(offset), value);
     with_side(c, fast, s)
 }
 
@@ -192,7 +194,7 @@ fn line_moved(c: Core, k: u32, high: bool) -> Core
     ensures { λ r. ⌜ r ≡ lineMoved c k high ⌝ }
 {
     let fast = IRQ_LIMIT <= k;
-    let s = coreinterrupt_side::moved(side(c, fast), input(k), high);
+    let s = sides::moved(side(c, fast), input(k), high);
     with_side(c, fast, s)
 }
 
@@ -241,10 +243,10 @@ pub fn outputs_sound(c: Core) -> Signals
 {
     Signals {
         refusal: steps::CARRIED_OUT,
-        irq: coreinterrupt_side::active(c.irq),
-        fiq: coreinterrupt_side::active(c.fiq),
-        irqlevel: coreinterrupt_side::output_level(c.irq),
-        fiqlevel: coreinterrupt_side::output_level(c.fiq),
+        irq: sides::active(c.irq),
+        fiq: sides::active(c.fiq),
+        irqlevel: sides::output_level(c.irq),
+        fiqlevel: sides::output_level(c.fiq),
     }
 }
 

@@ -8,7 +8,7 @@ use Rattle.steps.specs.declared.Step.{Step}
 use Rattle.rooms.specs.Parts.{Sized}
 use Rattle.rooms.specs.Reply.{Reply}
 use Rattle.rooms.proofs.PartLaws.{part-get, flat-length}
-use Rattle.coreinterrupt_side.specs.declared.Side.{Side}
+use Rattle.coreinterrupt.specs.declared.sides.Side.{Side}
 use Rattle.coreinterrupt.specs.declared.Core.{Core}
 use Rattle.coreinterrupt.specs.Model.{sound, step, refused}
 use Rattle.coreinterrupt.proofs.Promises.{kept as core-kept}

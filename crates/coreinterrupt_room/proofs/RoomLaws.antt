@@ -10,8 +10,8 @@ use Rattle.words.specs.Choice.{pick}
 use Rattle.words.specs.Word.{kept, withBit}
 use Rattle.words.proofs.ChoiceLaws.{pick-ap, pick-true}
 use Rattle.rooms.proofs.PartLaws.{zeros-flat}
-use Rattle.coreinterrupt_side.specs.declared.Side.{Side}
-use Rattle.coreinterrupt_side.specs.Side.{withInputs, setBits, clearBits, sideWrite, moved, active, outputLevel}
+use Rattle.coreinterrupt.specs.declared.sides.Side.{Side}
+use Rattle.coreinterrupt.specs.Side.{withInputs, setBits, clearBits, sideWrite, moved, active, outputLevel}
 use Rattle.coreinterrupt.specs.declared.Core.{Core}
 use Rattle.coreinterrupt.specs.declared.Signals.{Signals}
 use Rattle.coreinterrupt.specs.Model.{coreOf, side, withSide, sound, outputs}

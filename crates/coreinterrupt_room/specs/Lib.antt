@@ -1,3 +1,5 @@
--- CoreInterrupt laid out in a room.
+-- CoreInterrupt laid out in a room, and on a record that is lent.
+pub mod Lent
+pub mod LentPromises
 pub mod Promises
 pub mod Room

@@ -8,7 +8,7 @@ use lib.ListN.{length, getD}
 use Rattle.steps.specs.declared.Step.{Step}
 use Rattle.steps.specs.declared.Step.the-variants.{Read}
 use Rattle.rooms.specs.Reply.{Reply}
-use Rattle.coreinterrupt_side.specs.declared.Side.{Side}
+use Rattle.coreinterrupt.specs.declared.sides.Side.{Side}
 use Rattle.coreinterrupt.specs.declared.Core.{Core}
 use Rattle.coreinterrupt.specs.Model.{sound, step}
 use Rattle.coreinterrupt_room.specs.Room.{Laid, Done}

@@ -9,7 +9,7 @@ use Rattle.words.specs.Word.{either, without}
 use Rattle.steps.specs.Refusals.{carriedOut, readAccess, writeAccess}
 use Rattle.rooms.specs.Parts.{flat}
 use Rattle.rooms.specs.Reply.{Reply, reply}
-use Rattle.coreinterrupt_side.specs.Side.{sideAccess, sideRead, sideWrite}
+use Rattle.coreinterrupt.specs.Side.{sideAccess, sideRead, sideWrite}
 use Rattle.coreinterrupt.specs.declared.Core.{Core}
 use Rattle.coreinterrupt.specs.declared.Answer.{Answer}
 use Rattle.coreinterrupt.specs.Model.{side, withSide, answered, unlessRefused}

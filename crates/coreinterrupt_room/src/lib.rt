@@ -5,23 +5,26 @@ ghost use Prim.Native.Nat.{_<_};
 ghost use lib.Dec.{eqb, ltb};
 ghost use Rattle.words.specs.Choice.{pick};
 ghost use Rattle.words.specs.Word.{withBit};
-ghost use Rattle.coreinterrupt_side.specs.Side.{raw, status, active, outputLevel, moved, sideWrite};
+ghost use Rattle.coreinterrupt.specs.Side.{raw, status, active, outputLevel, moved, sideWrite};
 ghost use Rattle.coreinterrupt.specs.declared.Core.{Core};
 ghost use Rattle.coreinterrupt.specs.Model.{side, withSide, sound, read, write, line, step, outputs};
 ghost use Rattle.trace.specs.Turns.{stepOf};
 ghost use Rattle.rooms.specs.Reply.{reply, told};
 ghost use Rattle.coreinterrupt_room.specs.Room.{Laid, firstOf, replyOf, Done, readFrom, writeTo, turned};
+
+pub mod lent;
+
 use coreinterrupt::Core;
 use coreinterrupt::Signals;
-use coreinterrupt_side::Side;
+use coreinterrupt::sides::Side;
 use rooms::Room;
 
-pub const KIND: usize = 0;
+const KIND: usize = 0;
 
 // Five words of each side: sources, active level, lines, soft, enable.
-pub const FIQ: usize = 1;
+const FIQ: usize = 1;
 
-pub const IRQ: usize = 6;
+const IRQ: usize = 6;
 
 // ---- a record into a room, and back
 
@@ -96,7 +99,7 @@ fn status(room: &Room, fast: bool) -> u32
 }
 
 // Whether the side's output is active.
-pub fn is_active(room: &Room, fast: bool) -> bool
+fn is_active(room: &Room, fast: bool) -> bool
     ensures { λ r. ⌜ ((c : Core) → Laid c (now (room .entry)) → r ≡ active (side c fast)) ⌝ }
 {
     status(room, fast) != 0
@@ -106,7 +109,7 @@ pub fn is_active(room: &Room, fast: bool) -> bool
 fn output_level(room: &Room, fast: bool) -> u32
     ensures { λ r. ⌜ ((c : Core) → Laid c (now (room .entry)) → r ≡ outputLevel (side c fast)) ⌝ }
 {
-    coreinterrupt_side::output_level(side_in(room, fast))
+    coreinterrupt::sides::output_level(side_in(room, fast))
 }
 
 // Both outputs.

@@ -23,7 +23,7 @@ use Rattle.aic_record.specs.declared.Aic.{Aic}
 use Rattle.aic_record.specs.Last.{lastSource, lastLevel}
 use Rattle.cic_record.specs.declared.Cic.{Cic}
 use Rattle.cic_record.specs.Kinds.{hostNumber}
-use Rattle.cic_hosts.specs.Hosts.{asserted}
+use Rattle.cic_registers.specs.Hosts.{asserted}
 use Rattle.machine.specs.declared.record.Columns.{Columns}
 use Rattle.machine.specs.declared.record.Machine.{Machine}
 use Rattle.machine.specs.Shown.{shown}

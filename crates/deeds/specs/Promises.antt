@@ -17,7 +17,7 @@ use Rattle.aic.specs.Model.{step}
 use Rattle.aic_runs.specs.Counted.{starts, startedBy, levelOf, startsOf, closes}
 use Rattle.cic_record.specs.declared.Cic.{Cic}
 use Rattle.cic_record.specs.Kinds.{hostNumber}
-use Rattle.cic_hosts.specs.Hosts.{asserted}
+use Rattle.cic_registers.specs.Hosts.{asserted}
 use Rattle.aintc_record.specs.declared.Chosen.{Chosen}
 use Rattle.machine.specs.declared.record.Machine.{Machine}
 use Rattle.machine.specs.Shown.{shown}

@@ -145,8 +145,8 @@ fn put_gains(out: &mut [u8], at: usize, what: &[u8], c: Cic, d: Cic) -> usize
     ensures { λ r. ⌜ (now (out .exit), r) ≡ write (now (out .entry), at) (gainWords (now (what .entry)) c d) ⌝ }
 {
     let ws = gained(c, d);
-    let count = cic_hosts::count_of(ws);
-    let lowest = cic_hosts::lowest_of(ws);
+    let count = cic_registers::hosts::count_of(ws);
+    let lowest = cic_registers::hosts::lowest_of(ws);
     put_hosts(out, at, what, count, lowest)
 }
 
@@ -175,8 +175,8 @@ fn put_further(out: &mut [u8], at: usize, count: u32) -> usize
 fn gained(c: Cic, d: Cic) -> [u32; 8]
     ensures { λ r. ⌜ ((h : ℕ) → h < 256 → bitAt r h ≡ gains c d h) ⌝ }
 {
-    let before = cic_hosts::asserted_hosts(c);
-    let after = cic_hosts::asserted_hosts(d);
+    let before = cic_registers::hosts::asserted_hosts(c);
+    let after = cic_registers::hosts::asserted_hosts(d);
     only_in(after, before)
 }
 

@@ -15,12 +15,12 @@ ghost use Rattle.trace_bounds.specs.Figures.{figuresIn, countsOf, termsOf};
 ghost use Rattle.tables.specs.Reading.{answerTo};
 ghost use Rattle.encode.specs.Encode.{encoded};
 ghost use Rattle.explain.specs.Explain.{explainedOf, explainedWindow};
-ghost use Rattle.coreinterrupt_lent.specs.Lent.{leftBy, startOver, stepTold};
+ghost use Rattle.coreinterrupt_room.specs.Lent.{leftBy, startOver, stepTold};
 ghost use Rattle.steps.specs.Refusals.{privileged};
 ghost use Rattle.steps.specs.declared.Step.the-variants.{Read, Write, Line};
 ghost use Rattle.trace.specs.Turns.{made};
-ghost use Rattle.controller.specs.Batch.{stepsIn, SteppedAll};
-ghost use Rattle.controller.specs.Controller.{numbered, Started, Stepped, Showing, shownIn};
+ghost use Rattle.machine_room.specs.Batch.{stepsIn, SteppedAll};
+ghost use Rattle.machine_room.specs.Controller.{numbered, Started, Stepped, Showing, shownIn};
 
 // Writes the listing of a trace of at most `limit` steps to the start of the lent buffer. Answers the number of bytes written: what finds no room
 // is dropped, and the rest of the buffer stays as it was. A listing of at most 99,999 steps has at most 29 bytes for each step and 58 more.
@@ -152,12 +152,12 @@ pub extern "C" fn wisteria_core_start(
     irqs: u32,
     fiqlevel: u32,
     irqlevel: u32,
-) -> coreinterrupt_lent::Reply
+) -> coreinterrupt_room::lent::Reply
     ensures { λ r. ⌜ (now (core .exit), r) ≡ leftBy (startOver (now (core .entry)) fiqs irqs fiqlevel irqlevel) ⌝ }
 {
-    let a = coreinterrupt_lent::start_over(*core, fiqs, irqs, fiqlevel, irqlevel);
+    let a = coreinterrupt_room::lent::start_over(*core, fiqs, irqs, fiqlevel, irqlevel);
     *core = a.core;
-    coreinterrupt_lent::Reply {
+    coreinterrupt_room::lent::Reply {
         refusal: a.refusal,
         value: a.value,
     }
@@ -171,12 +171,12 @@ pub extern "C" fn wisteria_core_step(
     kind: u32,
     first: u32,
     second: u32,
-) -> coreinterrupt_lent::Reply
+) -> coreinterrupt_room::lent::Reply
     ensures { λ r. ⌜ (now (core .exit), r) ≡ leftBy (stepTold (now (core .entry)) kind first second) ⌝ }
 {
-    let a = coreinterrupt_lent::step_told(*core, kind, first, second);
+    let a = coreinterrupt_room::lent::step_told(*core, kind, first, second);
     *core = a.core;
-    coreinterrupt_lent::Reply {
+    coreinterrupt_room::lent::Reply {
         refusal: a.refusal,
         value: a.value,
     }
@@ -236,7 +236,7 @@ pub extern "C" fn wisteria_start<'a>(
     ensures { λ r. ⌜ Started (now (held .entry)) kind (numbered (now (numbers .entry))) (now (held .exit)) r ⌝ }
 {
     let ns = *numbers;
-    controller::start(held, kind, kinds::Configuration { numbers: ns })
+    machine_room::controller::start(held, kind, kinds::Configuration { numbers: ns })
 }
 
 // Reads the register at an offset. Answers the refusal, 0 for none; the value is 0 where the read is refused.
@@ -249,7 +249,7 @@ pub extern "C" fn wisteria_read<'a>(
 ) -> u32
     ensures { λ r. ⌜ Stepped (now (held .entry)) (made (Read offset) privilege) (now (held .exit)) (r, now (value .exit)) ⌝ }
 {
-    let a = controller::read(held, offset, privilege);
+    let a = machine_room::controller::read(held, offset, privilege);
     *value = rooms::value_in(a);
     rooms::refusal_in(a)
 }
@@ -264,7 +264,7 @@ pub extern "C" fn wisteria_write(
 ) -> u32
     ensures { λ r. ⌜ ((v : ℕ) × Stepped (now (held .entry)) (made (Write offset value) privilege) (now (held .exit)) (r, v)) ⌝ }
 {
-    let a = controller::write(held, offset, value, privilege);
+    let a = machine_room::controller::write(held, offset, value, privilege);
     rooms::refusal_in(a)
 }
 
@@ -273,7 +273,7 @@ pub extern "C" fn wisteria_write(
 pub extern "C" fn wisteria_line(held: &mut [u32; 2048], line: u32, level: u32) -> u32
     ensures { λ r. ⌜ ((v : ℕ) × Stepped (now (held .entry)) (made (Line line level) privileged) (now (held .exit)) (r, v)) ⌝ }
 {
-    let a = controller::line(held, line, level);
+    let a = machine_room::controller::line(held, line, level);
     rooms::refusal_in(a)
 }
 
@@ -282,7 +282,7 @@ pub extern "C" fn wisteria_line(held: &mut [u32; 2048], line: u32, level: u32) -
 pub extern "C" fn wisteria_outputs<'a>(held: &'a [u32; 2048], columns: &'a mut [u32; 3]) -> u32
     ensures { λ r. ⌜ Showing (now (held .entry)) (shownIn r (now (columns .exit))) ⌝ }
 {
-    let s = controller::outputs(held);
+    let s = machine_room::controller::outputs(held);
     let three = [s.first, s.second, s.third];
     *columns = three;
     s.refusal
@@ -299,5 +299,5 @@ pub extern "C" fn wisteria_step_words<'a>(
 ) -> u32
     ensures { λ r. ⌜ SteppedAll (now (held .entry)) (now (words .entry)) (now (answers .entry)) (stepsIn (now (words .entry)) (now (answers .entry))) (now (held .exit)) (now (answers .exit)) r ⌝ }
 {
-    controller::steps_in(held, words, answers)
+    machine_room::controller::steps_in(held, words, answers)
 }

@@ -22,7 +22,7 @@ use Rattle.cic_record.specs.declared.Signals.{Signals}
 use Rattle.cic_record.specs.declared.System.{System}
 use Rattle.cic_record.specs.Kinds.{system}
 use Rattle.cic_record.specs.Record.{refused, answered}
-use Rattle.cic_hosts.specs.Hosts as hosts
+use Rattle.cic_registers.specs.Hosts as hosts
 use Rattle.cic_registers.proofs.MapsPromises as maps
 use Rattle.cic_registers.specs.declared.layout.Register.{Register}
 use Rattle.cic_registers.specs.declared.layout.Register.the-variants.{Nothing, Revision, GlobalEnable, StatusIndexSet, StatusIndexClear, EnableIndexSet, EnableIndexClear, HostIndexSet, HostIndexClear, RawSet, EnabledClear, EnableSet, EnableClear, ChannelMap, HostMap, HostEnable}

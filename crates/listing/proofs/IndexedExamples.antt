@@ -10,7 +10,7 @@ use Rattle.numbers.specs.Number.{sizeAt, worthAt, faulty, numberAt}
 use Rattle.text.specs.Text.{hexDigit, hexOf, decimalOf, field}
 use Rattle.trace.specs.Steps.{operandsOf, twoNumbers, stepAt}
 use Rattle.trace.specs.Trace.{turnAt, stepsFrom}
-use Rattle.cic_hosts.specs.Hosts.{shown as cicShown}
+use Rattle.cic_registers.specs.Hosts.{shown as cicShown}
 use Rattle.cic_held.specs.Order.{pendingIn, busy, firstIn, channelFirst, indexOver, indexOf}
 use Rattle.cic_held.specs.Held.{heldAs, wordHeld, within, start, freedHosts, controlled}
 use Rattle.cic_indexed.specs.Registers.{ownAt, hostAccess, hostsWritten, heldAfter}

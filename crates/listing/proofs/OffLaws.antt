@@ -6,7 +6,7 @@ use mathlib.Core.List.{List, [], _∷_, _++_}
 use Rattle.steps.specs.declared.Recorded.{Recorded}
 use Rattle.trace.specs.Trace.{Trace}
 use Rattle.cic_record.specs.declared.Cic.{Cic}
-use Rattle.cic_hosts.specs.Hosts.{outputs as cicOutputs}
+use Rattle.cic_registers.specs.Hosts.{outputs as cicOutputs}
 use Rattle.cic_registers.specs.Model.{step as cicStep}
 use Rattle.cic_indexed.proofs.Promises.{kept as prioritised}
 use Rattle.machine.specs.declared.record.Machine.{Machine}

@@ -40,7 +40,7 @@ fn list_begun(trace: &[u8], limit: u32, b: Begun, out: &mut [u8], at: usize) -> 
 {
     let m = b.machine;
     let told = kinds::tells_privilege(m.kind);
-    loops::list_steps(trace, limit, told, b.place, m, out, at)
+    player::loops::list_steps(trace, limit, told, b.place, m, out, at)
 }
 
 // The steps of a trace that has begun, on a machine by value.
@@ -50,5 +50,5 @@ fn list_any(trace: &[u8], limit: u32, b: Begun, out: &mut [u8], at: usize) -> us
 {
     let m = b.machine;
     let told = kinds::tells_privilege(m.kind);
-    loops::plain::list_steps(trace, limit, told, b.place, m, out, at)
+    player::loops::plain::list_steps(trace, limit, told, b.place, m, out, at)
 }

@@ -19,11 +19,11 @@ use Rattle.aic_registers.specs.Handlers.{spent, opened, startedAt, marked, clos
 use Rattle.aic_registers.specs.Effects.{moded, vectored, enabledBy, disabledBy, setBy, clearedBy, debugBy, forcedBy, unforcedBy, turns, moved}
 use Rattle.aic_registers.specs.Registers.{outputBits, stored, readAt, writtenAt}
 use Rattle.aic.specs.Model.{within as aicWithin, start as aicStart, readNumber, writeNumber, lineNumber, read, write, line, outputs as aicOutputs}
-use Rattle.coreinterrupt_side.specs.Side.{raw, status, active as sideActive, outputLevel, clearAccess, sideAccess, sideRead, setBits, clearBits, sideWrite, moved as sideMoved, sideSound}
+use Rattle.coreinterrupt.specs.Side.{raw, status, active as sideActive, outputLevel, clearAccess, sideAccess, sideRead, setBits, clearBits, sideWrite, moved as sideMoved, sideSound}
 use Rattle.coreinterrupt.specs.Model.{side, withSide, sound as coreSound, within as coreWithin, allWithin, start as coreStart, unlessRefused, fiqOffset, register, access as coreAccess, valueAt, written, read as coreRead, write as coreWrite, fiqLine, input, lineMoved, line as coreLine, outputs as coreOutputs}
 use Rattle.cic_record.specs.Sound.{within as cicWithin}
 use Rattle.cic_record.specs.Start.{fresh, configured, start as cicStart}
-use Rattle.cic_hosts.specs.Hosts.{raises, asserted, outputs as cicOutputs, shown as cicShown}
+use Rattle.cic_registers.specs.Hosts.{raises, asserted, outputs as cicOutputs, shown as cicShown}
 use Rattle.cic_registers.specs.Map.{singleAt, registerAt, accessOf}
 use Rattle.cic_registers.specs.Maps.{byteRead, mapRead, byteTaken, mapTaken, bytePut, mapPut}
 use Rattle.cic_registers.specs.Registers.{valueOf, valueRefusal as cicValueRefusal, writtenTo}
@@ -32,9 +32,9 @@ use Rattle.cic_registers.specs.Model.{readAs, writeAs, moved as cicMoved, lineA
 use Rattle.aintc_record.specs.Bounds.{chosenBounded, bounded}
 use Rattle.aintc_record.specs.Record.{side as aintcSide, reset as aintcReset, blank as aintcBlank}
 use Rattle.aintc_record.specs.Route.{priority as aintcPriority, routed}
-use Rattle.aintc_choice.specs.Inputs.{raised, unmasked, pending as aintcPending, passes, eligible}
-use Rattle.aintc_choice.specs.Order.{before, foremost as aintcForemost, some, first}
-use Rattle.aintc_choice.specs.Settle.{settledSide, settle, sideQuiet, sound as aintcSound}
+use Rattle.aintc_registers.specs.Inputs.{raised, unmasked, pending as aintcPending, passes, eligible}
+use Rattle.aintc_registers.specs.Order.{before, foremost as aintcForemost, some, first}
+use Rattle.aintc_registers.specs.Settle.{settledSide, settle, sideQuiet, sound as aintcSound}
 use Rattle.aintc_registers.specs.Effects.{released, agreed, configured as aintcConfigured, singleWritten, bankWritten, writtenAt as aintcWrittenAt, moved as aintcMoved}
 use Rattle.aintc_registers.specs.Map.{rowOf, rowAccess, access as aintcAccess}
 use Rattle.aintc_registers.specs.Registers.{shown as aintcShown, singleRead, bankRead, readAt as aintcReadAt}

@@ -15,7 +15,7 @@ use Rattle.aic_record.specs.Sound.{sound as aicSound}
 use Rattle.aic.specs.Model.{start as aicStart}
 use Rattle.aic_record.proofs.Promises.{kept as record-kept}
 use Rattle.aic.proofs.Promises.{kept as aic}
-use Rattle.coreinterrupt_side.specs.Side.{idle}
+use Rattle.coreinterrupt.specs.Side.{idle}
 use Rattle.coreinterrupt.specs.Model.{coreOf, within as coreWithin, allWithin, start as coreStart, sound as coreSound}
 use Rattle.coreinterrupt.proofs.Promises.{kept as core}
 use Rattle.cic_record.specs.declared.Begun.{Begun as CicBegun}
@@ -25,7 +25,7 @@ use Rattle.cic_record.proofs.Promises.{kept as cic}
 use Rattle.cic_held.specs.declared.Begun.{Begun as IndexedBegun}
 use Rattle.cic_held.specs.Held.{within as indexedWithin, sound as indexedSound, start as indexedStart}
 use Rattle.cic_held.proofs.Promises.{kept as held}
-use Rattle.aintc_choice.specs.Settle.{sound as aintcSound}
+use Rattle.aintc_registers.specs.Settle.{sound as aintcSound}
 use Rattle.aintc_registers.specs.Model.{start as aintcStart}
 use Rattle.aintc.proofs.Promises.{kept as aintc}
 use Rattle.kinds.specs.Configuration.{withNumber, filled}

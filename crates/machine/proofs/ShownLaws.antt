@@ -18,15 +18,15 @@ use Rattle.coreinterrupt.proofs.Promises.{kept as core}
 use Rattle.cic_record.specs.declared.Cic.{Cic}
 use Rattle.cic_record.specs.Kinds.{hostNumber}
 use Rattle.cic_record.specs.Sound.{sound as cicSound}
-use Rattle.cic_hosts.specs.Hosts.{asserted, outputs as cicOutputs, shown as cicShown}
-use Rattle.cic_hosts.proofs.Promises.{kept as hosts}
+use Rattle.cic_registers.specs.Hosts.{asserted, outputs as cicOutputs, shown as cicShown}
+use Rattle.cic_registers.proofs.HostsPromises.{kept as hosts}
 use Rattle.cic_held.specs.declared.Prioritised.{Prioritised}
 use Rattle.cic_held.specs.Held.{sound as indexedSound}
 use Rattle.cic_held.proofs.Promises.{kept as held}
 use Rattle.cic_indexed.specs.Model.{outputs as indexedOutputs}
 use Rattle.aintc_record.specs.declared.Chosen.{Chosen}
 use Rattle.aintc_record.specs.Promises.{Bounds}
-use Rattle.aintc_choice.proofs.Promises.{kept as choice}
+use Rattle.aintc_registers.proofs.Promises.{kept as choice}
 use Rattle.aintc_registers.specs.Model.{outputs as aintcOutputs}
 use Rattle.aintc.proofs.Promises.{kept as aintc}
 use Rattle.machine.specs.declared.record.Machine.{Machine}

@@ -20,7 +20,7 @@ use Rattle.cic_held.specs.declared.Prioritised.{Prioritised}
 use Rattle.cic_held.specs.Held.{sound as indexedSound}
 use Rattle.cic_indexed.specs.Model.{step as indexedStep}
 use Rattle.cic_indexed.proofs.Promises.{kept as prioritised}
-use Rattle.aintc_choice.specs.Settle.{sound as aintcSound}
+use Rattle.aintc_registers.specs.Settle.{sound as aintcSound}
 use Rattle.aintc_registers.specs.Model.{step as aintcStep}
 use Rattle.aintc.proofs.Promises.{kept as aintc}
 use Rattle.machine.specs.declared.Answer.{Answer}

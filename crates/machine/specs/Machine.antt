@@ -5,7 +5,7 @@ use Rattle.aic_record.specs.declared.Aic.{Aic}
 use Rattle.aic_record.specs.Record.{reset}
 use Rattle.aic_record.specs.Sound.{sound as aicSound}
 use Rattle.aic.specs.Model.{start as aicStart}
-use Rattle.coreinterrupt_side.specs.Side.{idle}
+use Rattle.coreinterrupt.specs.Side.{idle}
 use Rattle.coreinterrupt.specs.declared.Core.{Core}
 use Rattle.coreinterrupt.specs.Model.{coreOf, start as coreStart, sound as coreSound}
 use Rattle.cic_record.specs.declared.Cic.{Cic}
@@ -15,7 +15,7 @@ use Rattle.cic_held.specs.declared.Prioritised.{Prioritised}
 use Rattle.cic_held.specs.Held.{prioritised, nothingHeld, start as indexedStart, sound as indexedSound}
 use Rattle.aintc_record.specs.declared.Aintc.{Aintc}
 use Rattle.aintc_record.specs.Record.{blank as aintcBlank}
-use Rattle.aintc_choice.specs.Settle.{sound as aintcSound}
+use Rattle.aintc_registers.specs.Settle.{sound as aintcSound}
 use Rattle.aintc_registers.specs.Model.{start as aintcStart}
 use Rattle.kinds.specs.declared.Configuration.{Configuration}
 use Rattle.kinds.specs.Configuration.{numberIn}

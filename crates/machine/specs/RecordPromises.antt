@@ -11,10 +11,10 @@ use Rattle.aic.specs.Model.{start as aicStart, outputs as aicOutputs}
 use Rattle.coreinterrupt.specs.Model.{start as coreStart, sound as coreSound, outputs as coreOutputs}
 use Rattle.cic_record.specs.Sound.{sound as cicSound}
 use Rattle.cic_record.specs.Start.{start as cicStart}
-use Rattle.cic_hosts.specs.Hosts.{outputs as cicOutputs}
+use Rattle.cic_registers.specs.Hosts.{outputs as cicOutputs}
 use Rattle.cic_held.specs.Held.{start as indexedStart, sound as indexedSound}
 use Rattle.cic_indexed.specs.Model.{outputs as indexedOutputs}
-use Rattle.aintc_choice.specs.Settle.{sound as aintcSound}
+use Rattle.aintc_registers.specs.Settle.{sound as aintcSound}
 use Rattle.aintc_registers.specs.Model.{start as aintcStart, outputs as aintcOutputs}
 use Rattle.kinds.specs.declared.Configuration.{Configuration}
 use Rattle.kinds.specs.Configuration.{noNumbers, filled}

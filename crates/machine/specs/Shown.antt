@@ -5,7 +5,7 @@ use Rattle.aic.specs.Model.{outputs as aicOutputs}
 use Rattle.coreinterrupt.specs.declared.Signals.{Signals as CoreSignals}
 use Rattle.coreinterrupt.specs.Model.{outputs as coreOutputs}
 use Rattle.cic_record.specs.declared.Signals.{Signals as CicSignals}
-use Rattle.cic_hosts.specs.Hosts.{outputs as cicOutputs}
+use Rattle.cic_registers.specs.Hosts.{outputs as cicOutputs}
 use Rattle.cic_indexed.specs.Model.{outputs as indexedOutputs}
 use Rattle.aintc_registers.specs.declared.model.Signals.{Signals as AintcSignals}
 use Rattle.aintc_registers.specs.Model.{outputs as aintcOutputs}

@@ -10,7 +10,7 @@ ghost use Rattle.cic_record.specs.Sound.{sound as cicSound};
 ghost use Rattle.cic_registers.specs.Model.{step as cicStep};
 ghost use Rattle.cic_held.specs.Held.{sound as indexedSound};
 ghost use Rattle.cic_indexed.specs.Model.{step as indexedStep};
-ghost use Rattle.aintc_choice.specs.Settle.{sound as aintcSound};
+ghost use Rattle.aintc_registers.specs.Settle.{sound as aintcSound};
 ghost use Rattle.aintc_registers.specs.Model.{step as aintcStep};
 ghost use Rattle.machine.specs.Machine.{indexed, sound};
 ghost use Rattle.machine.specs.Steps.{afterAic, afterCore, afterCic, afterAintc, afterIndexed, step};

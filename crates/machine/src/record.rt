@@ -159,7 +159,7 @@ pub fn is_sound(m: Machine) -> bool
     }
     if kind == kinds::AINTC {
         let s = m.aintc;
-        return aintc_choice::is_sound(s);
+        return aintc_registers::choice::is_sound(s);
     }
     if kind == kinds::INDEXED {
         return cic_prioritised::is_sound(indexed(m));

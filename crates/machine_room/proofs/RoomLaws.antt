@@ -20,7 +20,7 @@ use Rattle.coreinterrupt_room.specs.Room.{Laid as CoreLaid, Done as CoreDone}
 use Rattle.coreinterrupt_room.proofs.RoomLaws.{kind-is as core-kind}
 use Rattle.cic_record.specs.declared.Cic.{Cic}
 use Rattle.cic_record.specs.Sound.{sound as cicSound}
-use Rattle.cic_hosts.specs.Hosts.{outputs as cicOutputs}
+use Rattle.cic_registers.specs.Hosts.{outputs as cicOutputs}
 use Rattle.cic_registers.specs.Model.{step as cicStep, stepAs as cicStepAs}
 use Rattle.cic_room.specs.Room.{plain, Laid as CicLaid}
 use Rattle.cic_room.proofs.Promises.{kept as laidCic}

@@ -11,6 +11,9 @@ ghost use Rattle.machine.specs.Steps.{step};
 ghost use Rattle.rooms.specs.Reply.{told};
 ghost use Rattle.trace.specs.Turns.{made, stepOf};
 ghost use Rattle.machine_room.specs.Room.{Laid, Done, Beside};
+
+pub mod controller;
+
 use aic_record::Aic;
 use machine::record::Columns;
 use machine::record::Machine;

@@ -63,7 +63,7 @@ fn picture_aic(trace: &[u8], first: u32, steps: u32, b: Begun, out: &mut [u8]) -
     ensures { λ r. ⌜ ((now (out .exit), r .bytes) ≡ laid (now (out .entry)) (pictureOf (now (trace .entry)) first steps)) × (r .drawn ≡ isDrawn (now (trace .entry)) first steps) ⌝ }
 {
     let m = b.machine;
-    let p = loops::plain::play_steps(trace, MOST, false, b.place, m);
+    let p = player::loops::plain::play_steps(trace, MOST, false, b.place, m);
     if inside(p.steps, first, steps) {
         let n = draw_window(trace, first, steps, b.place, m, out);
         return Drawn {

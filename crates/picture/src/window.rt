@@ -34,7 +34,7 @@ pub(crate) fn fill(
     requires { ⌜ Ready m × (1 ≤ first) × (first ≤ length (stepsFrom false limit (now trace) start .steps)) ⌝ }
     ensures { λ r. ⌜ ((now (columns .exit), r .count) ≡ laid (now (columns .entry)) (columnsOf first steps m (stepsFrom false limit (now (trace .entry)) start .steps))) × (r .source ≡ before first m (stepsFrom false limit (now (trace .entry)) start .steps) .aic .source) × (r .level ≡ before first m (stepsFrom false limit (now (trace .entry)) start .steps) .aic .level) ⌝ }
 {
-    let p = loops::plain::play_steps(trace, first - 1, false, start, m);
+    let p = player::loops::plain::play_steps(trace, first - 1, false, start, m);
     let b = p.machine;
     let a = b.aic;
     let next = put_column(columns, 0, column(a, steps::CARRIED_OUT));

@@ -1,3 +1,4 @@
--- The proof of what is promised.
+-- The law of the loops, and the proof of what is promised.
 pub mod LookedPromises
+pub mod LoopLaws
 pub mod Promises

@@ -4,7 +4,7 @@ use mathlib.Core.Path.{_≡_, sym}
 use Prim.Native.Nat.{ℕ}
 use borrow.Author.Tests.{eq-eqb, ne-eqb}
 use Rattle.words.proofs.ChoiceLaws.{pick-true, pick-false}
-use Rattle.cic_looked.specs.Looking.{lookAt}
+use Rattle.cic_prioritised.specs.Looking.{lookAt}
 use Rattle.machine.specs.declared.record.Machine.{Machine}
 use Rattle.machine.specs.Machine.{indexed}
 use Rattle.beginning.specs.Play.{playOf}

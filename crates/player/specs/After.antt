@@ -3,7 +3,7 @@ use mathlib.Core.List.{List}
 use Prim.Native.Nat.{ℕ}
 use lib.Dec.{eqb}
 use Rattle.words.specs.Choice.{pick}
-use Rattle.cic_looked.specs.Looking.{lookAt}
+use Rattle.cic_prioritised.specs.Looking.{lookAt}
 use Rattle.kinds.specs.Kinds.{indexedKind}
 use Rattle.machine.specs.declared.record.Machine.{Machine}
 use Rattle.machine.specs.Machine.{indexed}

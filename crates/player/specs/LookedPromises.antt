@@ -3,7 +3,7 @@ use mathlib.Core.List.{List}
 use mathlib.Core.Logic.{_≢_}
 use mathlib.Core.Path.{_≡_}
 use Prim.Native.Nat.{ℕ}
-use Rattle.cic_looked.specs.Looking.{lookAt}
+use Rattle.cic_prioritised.specs.Looking.{lookAt}
 use Rattle.machine.specs.Machine.{indexed}
 use Rattle.beginning.specs.Play.{playOf}
 use Rattle.player.specs.After.{wordsAfter}

@@ -5,6 +5,7 @@ ghost use Rattle.beginning.specs.Begin.{beginOf};
 ghost use Rattle.beginning.specs.Play.{playOf};
 
 pub mod looked;
+pub mod loops;
 
 use beginning::Begun;
 use beginning::reports::Played;

@@ -4,7 +4,7 @@ ghost use Rattle.player.specs.After.{wordsOf, wordsAfter};
 use machine::record::Machine;
 
 // Plays at most `limit` steps of a trace. Answers the status words, of 32 system interrupts each, that a read of the register at an offset would then look
-// at: 0 unless the machine is a CIC with prioritised indices, and where look_at of cic_looked answers 0.
+// at: 0 unless the machine is a CIC with prioritised indices, and where look_at of cic_prioritised answers 0.
 pub fn words_after(trace: &[u8], limit: u32, offset: u32) -> u32
     ensures { λ r. ⌜ r ≡ wordsAfter (now (trace .entry)) limit offset ⌝ }
 {
@@ -20,6 +20,6 @@ fn words_of(m: Machine, offset: u32) -> u32
         return 0;
     }
     let p = machine::record::indexed(m);
-    let l = cic_looked::look_at(p, offset);
+    let l = cic_prioritised::looked::look_at(p, offset);
     l.words
 }

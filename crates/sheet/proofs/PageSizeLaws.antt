@@ -12,8 +12,8 @@ use Rattle.text.specs.Phrases.{bytes, counted}
 use Rattle.stack.specs.declared.Table.{Table}
 use Rattle.stack.specs.Bytes.{normal, levelBytes, stackBytes}
 use Rattle.totals.specs.declared.waits.Waits.{Waits}
-use Rattle.sheet_figures.specs.declared.Noted.{Noted}
-use Rattle.sheet_figures.specs.declared.Sheet.{Sheet}
+use Rattle.totals.specs.declared.sheets.Noted.{Noted}
+use Rattle.totals.specs.declared.sheets.Sheet.{Sheet}
 use Rattle.sheet.specs.Texts.{amount, each}
 use Rattle.sheet.specs.Names.{escape, nameOf}
 use Rattle.sheet.specs.Head.{documentHead, styleParts, styleTables, stylePaper, tracesHead, pageHead}

@@ -3,7 +3,7 @@ use Prim.Native.Nat.{ℕ, _+_}
 use mathlib.Core.List.{List, _++_}
 use Rattle.text.specs.Phrases.{bytes}
 use Rattle.stack.specs.declared.Table.{Table}
-use Rattle.sheet_figures.specs.declared.Sheet.{Sheet}
+use Rattle.totals.specs.declared.sheets.Sheet.{Sheet}
 use Rattle.sheet.specs.Texts.{amount, cell, each}
 use Rattle.sheet.specs.Order.{inOrder, hidden}
 use Rattle.sheet.specs.Levels.{stackPart}

@@ -6,9 +6,9 @@ use Rattle.text.specs.Phrases.{bytes}
 unfoldable pub meaningFirst : List ℕ
 meaningFirst =
     bytes "<section id=\"meaning\">\n<h2>What each figure counts</h2>\n<dl>\n"
-    ++ bytes "<dt>stack</dt><dd>bytes of handler and mark frames open at once. Proved of every trace counted, from reset on: neverMoreKept of stack_kept.</dd>\n"
+    ++ bytes "<dt>stack</dt><dd>bytes of handler and mark frames open at once. Proved of every trace counted, from reset on: neverMoreKept of stack.</dd>\n"
     ++ bytes "<dt>table kept</dt><dd>every source that is enabled has the table's priority, type and forcing, at the start and after every step; "
-    ++ bytes "a trace that breaks this is left out by 18: keepsIs of stack_kept.</dd>\n"
+    ++ bytes "a trace that breaks this is left out by 18: keepsIs of stack.</dd>\n"
     ++ bytes "<dt>started</dt><dd>handlers of the source that were started, added up over the traces: startedOf of aic_waits.</dd>\n"
     ++ bytes "<dt>most seen</dt><dd>handlers of other sources started during one wait of the source, the most of any wait: waitedOf of aic_waits.</dd>\n"
 

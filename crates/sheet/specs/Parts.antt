@@ -8,7 +8,7 @@ use Rattle.text.specs.Phrases.{bytes, counted}
 use Rattle.stack.specs.declared.Table.{Table}
 use Rattle.stack.specs.Bytes.{levelBytes, stackBytes}
 use Rattle.totals.specs.declared.waits.Waits.{Waits}
-use Rattle.sheet_figures.specs.declared.Sheet.{Sheet}
+use Rattle.totals.specs.declared.sheets.Sheet.{Sheet}
 use Rattle.sheet.specs.Texts.{amount, cellOf, sourceCell, each, down}
 use Rattle.sheet.specs.Order.{inOrder, hidden}
 use Rattle.sheet.specs.Levels.{tallest, bar, levelRow, stackPart}

@@ -14,8 +14,8 @@ use Rattle.stack.specs.declared.Table.{Table}
 use Rattle.stack.specs.Bytes.{normal, levelBytes, stackBytes}
 use Rattle.stack.specs.Promises.{NormalOf}
 use Rattle.totals.specs.declared.waits.Waits.{Waits}
-use Rattle.sheet_figures.specs.declared.Noted.{Noted}
-use Rattle.sheet_figures.specs.declared.Sheet.{Sheet}
+use Rattle.totals.specs.declared.sheets.Noted.{Noted}
+use Rattle.totals.specs.declared.sheets.Sheet.{Sheet}
 use Rattle.sheet.specs.Texts.{amount, cell, cellOf, sourceCell, emptyCell, each, down}
 use Rattle.sheet.specs.Names.{escape, escaped, nameOf}
 use Rattle.sheet.specs.Head.{pageHead}

@@ -7,7 +7,7 @@ use Rattle.words.specs.Choice.{pick}
 use Rattle.steps.specs.Refusals.{carriedOut}
 use Rattle.text.specs.Text.{field}
 use Rattle.text.specs.Phrases.{bytes, counted}
-use Rattle.sheet_figures.specs.declared.Noted.{Noted}
+use Rattle.totals.specs.declared.sheets.Noted.{Noted}
 use Rattle.sheet.specs.Texts.{cell}
 use Rattle.sheet.specs.Names.{escaped}
 

@@ -9,7 +9,7 @@ use Rattle.text.specs.Phrases.{bytes, counted}
 use Rattle.stack.specs.declared.Table.{Table}
 use Rattle.stack.specs.Bytes.{normal}
 use Rattle.totals.specs.declared.waits.Waits.{Waits}
-use Rattle.sheet_figures.specs.declared.Sheet.{Sheet}
+use Rattle.totals.specs.declared.sheets.Sheet.{Sheet}
 use Rattle.sheet.specs.Texts.{amount, cellOf, sourceCell, emptyCell}
 use Rattle.sheet.specs.Names.{escaped, nameOf}
 use Rattle.sheet.specs.Order.{aheadOf}

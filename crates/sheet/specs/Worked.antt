@@ -6,8 +6,8 @@ use Rattle.text.specs.Phrases.{bytes}
 use Rattle.totals.specs.declared.Totals.{Totals}
 use Rattle.totals.specs.declared.waits.Waits.{Waits}
 use Rattle.stack.specs.declared.Table.{Table}
-use Rattle.sheet_figures.specs.declared.Noted.{Noted}
-use Rattle.sheet_figures.specs.declared.Sheet.{Sheet}
+use Rattle.totals.specs.declared.sheets.Noted.{Noted}
+use Rattle.totals.specs.declared.sheets.Sheet.{Sheet}
 
 abbrev none : Waits
 none =

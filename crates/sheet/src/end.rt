@@ -19,8 +19,8 @@ use super::levels;
 use super::meaning;
 use super::order;
 use super::sources;
-use sheet_figures::Sheet;
 use stack::Table;
+use totals::sheets::Sheet;
 
 pub(crate) fn put_page(
     out: &mut [u8],

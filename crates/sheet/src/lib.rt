@@ -6,8 +6,8 @@ ghost use Prim.Native.Nat.{ℕ, _≤_};
 ghost use lib.ListN.{length};
 ghost use Rattle.text.specs.Text.{laid};
 ghost use Rattle.stack.specs.declared.Table.{Table as Priorities};
-ghost use Rattle.sheet_figures.specs.declared.Noted.{Noted as Figures};
-ghost use Rattle.sheet_figures.specs.declared.Sheet.{Sheet as Sums};
+ghost use Rattle.totals.specs.declared.sheets.Noted.{Noted as Figures};
+ghost use Rattle.totals.specs.declared.sheets.Sheet.{Sheet as Sums};
 ghost use Rattle.sheet.specs.Head.{pageHead};
 ghost use Rattle.sheet.specs.Rows.{traceRow, leftOutRow};
 ghost use Rattle.sheet.specs.End.{pageEnd};
@@ -22,9 +22,9 @@ mod order;
 mod rows;
 mod sources;
 
-use sheet_figures::Noted;
-use sheet_figures::Sheet;
 use stack::Table;
+use totals::sheets::Noted;
+use totals::sheets::Sheet;
 
 // How the page begins.
 pub fn put_head(out: &mut [u8]) -> usize

@@ -10,9 +10,9 @@ pub(crate) fn put_meaning(out: &mut [u8], at: usize) -> usize
         out,
         at,
         b"<section id=\"meaning\">\n<h2>What each figure counts</h2>\n<dl>\n\
-        <dt>stack</dt><dd>bytes of handler and mark frames open at once. Proved of every trace counted, from reset on: neverMoreKept of stack_kept.</dd>\n\
+        <dt>stack</dt><dd>bytes of handler and mark frames open at once. Proved of every trace counted, from reset on: neverMoreKept of stack.</dd>\n\
         <dt>table kept</dt><dd>every source that is enabled has the table's priority, type and forcing, at the start and after every step; \
-        a trace that breaks this is left out by 18: keepsIs of stack_kept.</dd>\n\
+        a trace that breaks this is left out by 18: keepsIs of stack.</dd>\n\
         <dt>started</dt><dd>handlers of the source that were started, added up over the traces: startedOf of aic_waits.</dd>\n\
         <dt>most seen</dt><dd>handlers of other sources started during one wait of the source, the most of any wait: waitedOf of aic_waits.</dd>\n",
     );

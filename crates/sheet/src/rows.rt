@@ -4,7 +4,7 @@ ghost use Rattle.text.specs.Text.{write};
 ghost use Rattle.sheet.specs.Rows.{rowHead, ended, enabling, remark, ending, traceRow, reason, leftOutRow};
 use super::cells;
 use super::escapes;
-use sheet_figures::Noted;
+use totals::sheets::Noted;
 
 // Of a trace that is counted.
 pub(crate) fn put_counted(out: &mut [u8], at: usize, n: u32, t: Noted, name: &[u8]) -> usize

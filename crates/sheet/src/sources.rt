@@ -26,8 +26,8 @@ ghost use Rattle.sheet.specs.Sources.{
 use super::cells;
 use super::escapes;
 use super::order;
-use sheet_figures::Sheet;
 use stack::Table;
+use totals::sheets::Sheet;
 use totals::waits::Waits;
 
 // ---- rows

@@ -3,8 +3,8 @@ use Prim.Native.Nat.{ℕ}
 use mathlib.Core.Path.{_≡_, refl, sym, ap, _∙_}
 use mathlib.Core.List.{List, [], _∷_, _++_}
 use Rattle.stack.specs.declared.Table.{Table}
-use Rattle.sheet_figures.specs.declared.Sheet.{Sheet}
-use Rattle.sheet_figures.specs.Sheet.{added, leftUnopened}
+use Rattle.totals.specs.declared.sheets.Sheet.{Sheet}
+use Rattle.totals.specs.Sheet.{added, leftUnopened}
 use Rattle.sheet_traces.specs.Noted.{noteOf}
 use Rattle.sheet_run.specs.Put.{Named, shut, holds, putOne, putAll, Put}
 

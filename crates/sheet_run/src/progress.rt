@@ -1,7 +1,7 @@
 // The sheet so far, and the row of a name that cannot be opened or read.
 ghost use mathlib.Core.Path.{_≡_};
-ghost use Rattle.sheet_figures.specs.Sheet.{noSheet, leftUnopened};
-use sheet_figures::Sheet;
+ghost use Rattle.totals.specs.Sheet.{noSheet, leftUnopened};
+use totals::sheets::Sheet;
 
 // The sheet so far: its figures, and whether every row of it could be written.
 pub struct Sum {
@@ -13,7 +13,7 @@ pub struct Sum {
 pub(crate) fn none() -> Sum
     ensures { λ r. ⌜ r .sheet ≡ noSheet ⌝ }
 {
-    let s = sheet_figures::none();
+    let s = totals::sheets::none();
     Sum {
         sheet: s,
         written: true,
@@ -24,7 +24,7 @@ pub(crate) fn none() -> Sum
 pub(crate) fn unopened(name: &[u8], sum: Sum) -> Sum
     ensures { λ r. ⌜ r .sheet ≡ leftUnopened (sum .sheet) ⌝ }
 {
-    let s = sheet_figures::unopened(sum.sheet);
+    let s = totals::sheets::unopened(sum.sheet);
     let written = print_unopened(s.named, name);
     Sum {
         sheet: s,

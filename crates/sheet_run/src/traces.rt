@@ -4,13 +4,13 @@ ghost use lib.Dec.{eqb};
 ghost use Rattle.words.specs.Choice.{pick};
 ghost use Rattle.text.specs.Text.{laid};
 ghost use Rattle.sheet.specs.Rows.{traceRow, leftOutRow};
-ghost use Rattle.sheet_figures.specs.Sheet.{added};
+ghost use Rattle.totals.specs.Sheet.{added};
 ghost use Rattle.sheet_traces.specs.Noted.{noteOf};
 ghost use Rattle.sheet_run.specs.Put.{Put};
 use super::progress;
 use super::progress::Sum;
-use sheet_figures::Noted;
 use stack::Table;
+use totals::sheets::Noted;
 
 // The most steps of a trace that are played.
 const LIMIT: u32 = 20000;
@@ -46,7 +46,7 @@ fn put_to(trace: &[u8], name: &[u8], table: Table, sum: Sum) -> Sum
     ensures { λ r. ⌜ r .sheet ≡ added (sum .sheet) (noteOf (now (trace .entry)) 20000 table) .sheet ⌝ }
 {
     let t = sheet_traces::note(trace, LIMIT, table);
-    let a = sheet_figures::add(sum.sheet, t);
+    let a = totals::sheets::add(sum.sheet, t);
     let s = a.sheet;
     let written = print_row(s.named, t, a.refusal, name);
     Sum {

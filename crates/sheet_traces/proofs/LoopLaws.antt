@@ -37,12 +37,12 @@ use Rattle.aic_bounds.specs.declared.Marks.{Marks}
 use Rattle.aic_bounds.specs.Following.{noMarks, marksOf, marksBy}
 use Rattle.aic_bounds.specs.declared.figures.Figures.{Figures}
 use Rattle.aic_bounds.specs.Figures.{noFigures, figuresOver, figuresOf}
-use Rattle.aic_wait_book.specs.Book.{Kept}
-use Rattle.aic_wait_book.specs.Waits.{waitsNow, followed}
-use Rattle.aic_wait_book.proofs.Promises as Book
+use Rattle.aic_figures.specs.WaitsBook.{Kept}
+use Rattle.aic_figures.specs.Waits.{waitsNow, followed}
+use Rattle.aic_figures.proofs.Promises as Book
 use Rattle.stack.specs.declared.Table.{Table}
-use Rattle.stack_kept.specs.Kept.{keeps, unkept}
-use Rattle.stack_kept.proofs.KeptLaws.{unkept-none}
+use Rattle.stack.specs.Kept.{keeps, unkept}
+use Rattle.stack.proofs.KeptLaws.{unkept-none}
 use Rattle.tally.specs.Tally.{stepsIn}
 use Rattle.tally.specs.Following.{totalsOf}
 use Rattle.tally.proofs.LengthLaws.{found-far}

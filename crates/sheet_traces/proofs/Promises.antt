@@ -19,13 +19,13 @@ use Rattle.aic_bounds.specs.Bounds as Terms
 use Rattle.aic_bounds.specs.Over.{largestOf, waitsUnbounded, boundedOf}
 use Rattle.aic_bounds.proofs.Promises as Bounds
 use Rattle.aic_waits.specs.Figures.{waitedOf}
-use Rattle.aic_wait_book.specs.Promises.{Source}
-use Rattle.aic_wait_book.proofs.Promises as Book
+use Rattle.aic_figures.specs.Promises.{Source}
+use Rattle.aic_figures.proofs.Promises as Book
 use Rattle.beginning.specs.Begin.{beginOf}
 use Rattle.stack.specs.declared.Table.{Table}
 use Rattle.stack.specs.Bytes.{stackBytes, openBytes}
-use Rattle.stack_kept.specs.Kept.{keepsAlong}
-use Rattle.stack_kept.proofs.Promises as Kept
+use Rattle.stack.specs.Kept.{keepsAlong}
+use Rattle.stack.proofs.KeptPromises as Kept
 use Rattle.tally.specs.Promises.{aicOf, playedOf}
 use Rattle.tally.specs.Tally.{tallyOf}
 use Rattle.tally.proofs.TallyLaws.{fresh}
@@ -34,7 +34,7 @@ use Rattle.totals.specs.declared.Totals.{Totals}
 use Rattle.totals.specs.Promises.{Whole}
 use Rattle.totals.specs.Waits.{boundOf}
 use Rattle.totals.specs.declared.waits.Waits.{Waits}
-use Rattle.sheet_figures.specs.declared.Noted.{Noted}
+use Rattle.totals.specs.declared.sheets.Noted.{Noted}
 use Rattle.sheet_traces.specs.Watched.{straysIn, watchedIn}
 use Rattle.sheet_traces.specs.Noted.{startsAic, noteOf}
 use Rattle.sheet_traces.specs.Promises.{Promises, Reported, Seen, Unseen}

@@ -21,8 +21,8 @@ use Rattle.aic.specs.Model.{step}
 use Rattle.aic_runs.specs.Counted.{carried}
 use Rattle.aic_runs.specs.Runs.{run}
 use Rattle.stack.specs.declared.Table.{Table}
-use Rattle.stack_kept.specs.Kept.{keeps, unkept, keepsAlong}
-use Rattle.stack_kept.proofs.KeptLaws.{unkept-is, unkept-none}
+use Rattle.stack.specs.Kept.{keeps, unkept, keepsAlong}
+use Rattle.stack.proofs.KeptLaws.{unkept-is, unkept-none}
 use Rattle.sheet_traces.specs.Watched.{opensMark, idleEnd, usedIn, straysIn, astrayFrom}
 use Rattle.sheet_traces.specs.Left.{Left}
 

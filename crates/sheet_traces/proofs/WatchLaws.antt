@@ -37,8 +37,8 @@ use Rattle.aic_bounds.specs.declared.Marks.{Marks}
 use Rattle.aic_bounds.specs.Following.{marksOf, marksBy, noMarks}
 use Rattle.aic_bounds.proofs.MarkLaws.{marks-is}
 use Rattle.stack.specs.declared.Table.{Table}
-use Rattle.stack_kept.specs.Kept.{keeps, unkept}
-use Rattle.stack_kept.proofs.KeptLaws.{keeps-is, unkept-none}
+use Rattle.stack.specs.Kept.{keeps, unkept}
+use Rattle.stack.proofs.KeptLaws.{keeps-is, unkept-none}
 use Rattle.sheet_traces.specs.declared.Watched.{Watched}
 use Rattle.sheet_traces.specs.Watched.{opensMark, idleEnd, usedIn, straysIn, astrayFrom, watchedIn}
 use Rattle.sheet_traces.specs.Following.{watchedFirst, straysNext, watchedBy, watchedAll, Met}

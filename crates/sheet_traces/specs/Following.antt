@@ -16,7 +16,7 @@ use Rattle.aic_runs.specs.Counted.{carried, rewrites}
 use Rattle.aic_runs.specs.Runs.{count}
 use Rattle.aic_waits.specs.Following.{Figures, figuresOver}
 use Rattle.stack.specs.declared.Table.{Table}
-use Rattle.stack_kept.specs.Kept.{keeps, unkept}
+use Rattle.stack.specs.Kept.{keeps, unkept}
 use Rattle.tally.specs.declared.Tallied.{Tallied}
 use Rattle.tally.specs.Following.{totalsOf}
 use Rattle.tally.specs.Tally.{stepsIn}

@@ -8,7 +8,7 @@ use Rattle.steps.specs.declared.Step.{Step}
 use Rattle.aic_record.specs.declared.Aic.{Aic}
 use Rattle.aic_runs.specs.Runs.{run}
 use Rattle.stack.specs.declared.Table.{Table}
-use Rattle.stack_kept.specs.Kept.{keeps, unkept}
+use Rattle.stack.specs.Kept.{keeps, unkept}
 
 -- after some first steps of xs the record does not keep the table, and every record before it does; source i is the lowest that does not; with n steps gone
 -- before, the last of these first steps has the number `after`

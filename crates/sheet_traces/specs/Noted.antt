@@ -16,8 +16,8 @@ use Rattle.tally.specs.Promises.{aicOf, playedOf}
 use Rattle.tally.specs.Tally.{stepsIn, tallyOf}
 use Rattle.totals.specs.declared.waits.Waits.{Waits}
 use Rattle.totals.specs.Waits.{noWaits}
-use Rattle.aic_wait_book.specs.Waits.{waitsOf}
-use Rattle.sheet_figures.specs.declared.Noted.{Noted}
+use Rattle.aic_figures.specs.Waits.{waitsOf}
+use Rattle.totals.specs.declared.sheets.Noted.{Noted}
 use Rattle.sheet_traces.specs.declared.Played.{Played}
 use Rattle.sheet_traces.specs.declared.Watched.{Watched}
 use Rattle.sheet_traces.specs.Watched.{watchedIn}

@@ -14,13 +14,13 @@ use Rattle.aic_runs.specs.Runs.{run, count}
 use Rattle.beginning.specs.Begin.{beginOf}
 use Rattle.stack.specs.declared.Table.{Table}
 use Rattle.stack.specs.Bytes.{stackBytes, openBytes}
-use Rattle.stack_kept.specs.Kept.{keeps, unkept, keepsAlong}
+use Rattle.stack.specs.Kept.{keeps, unkept, keepsAlong}
 use Rattle.tally.specs.Promises.{aicOf, playedOf}
 use Rattle.tally.specs.Tally.{tallyOf}
 use Rattle.totals.specs.Promises.{Whole}
 use Rattle.totals.specs.Waits.{noWaits, boundOf}
-use Rattle.aic_wait_book.specs.Promises.{Source}
-use Rattle.sheet_figures.specs.declared.Noted.{Noted}
+use Rattle.aic_figures.specs.Promises.{Source}
+use Rattle.totals.specs.declared.sheets.Noted.{Noted}
 use Rattle.sheet_traces.specs.Watched.{opensMark, idleEnd, usedIn, straysIn, astrayFrom}
 use Rattle.sheet_traces.specs.Left.{Left}
 use Rattle.sheet_traces.specs.Noted.{noteOf}

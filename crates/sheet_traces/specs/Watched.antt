@@ -14,7 +14,7 @@ use Rattle.aic.specs.Model.{step}
 use Rattle.aic_runs.specs.Counted.{carried}
 use Rattle.aic_runs.specs.Runs.{run, count}
 use Rattle.stack.specs.declared.Table.{Table}
-use Rattle.stack_kept.specs.Kept.{keeps, unkept}
+use Rattle.stack.specs.Kept.{keeps, unkept}
 use Rattle.sheet_traces.specs.declared.Watched.{Watched}
 
 -- the step opens an entry, and it is a mark: one of source 0 (02, 3/12; 003, 27.7.5)

@@ -18,10 +18,10 @@ ghost use Rattle.aic_waits.specs.Following.{Figures};
 ghost use Rattle.aic_figures.specs.Book.{Kept as Counted};
 ghost use Rattle.aic_bounds.specs.Following.{noMarks};
 ghost use Rattle.aic_bounds.specs.declared.figures.Figures.{Figures as Bounds};
-ghost use Rattle.aic_wait_book.specs.Book.{Kept};
-ghost use Rattle.aic_wait_book.specs.Waits.{waitsNow};
+ghost use Rattle.aic_figures.specs.WaitsBook.{Kept};
+ghost use Rattle.aic_figures.specs.Waits.{waitsNow};
 ghost use Rattle.aic_room.specs.Room.{Laid};
-ghost use Rattle.stack_kept.specs.Kept.{unkept};
+ghost use Rattle.stack.specs.Kept.{unkept};
 ghost use Rattle.beginning.specs.Begin.{beginOf};
 ghost use Rattle.tally.specs.Tally.{stepsIn};
 ghost use Rattle.tally.specs.Following.{totalsOf};
@@ -33,9 +33,9 @@ use aic_bounds::Marks;
 use aic_record::Aic;
 use beginning::Begun;
 use rooms::Room;
-use sheet_figures::Noted;
 use stack::Table;
 use tally::Tallied;
+use totals::sheets::Noted;
 use totals::waits::Waits;
 use trace::turns::Told;
 
@@ -83,7 +83,7 @@ fn brought(carried: bool, m: Marks) -> Marks
     if carried {
         return m;
     }
-    aic_wait_book::no_marks()
+    aic_figures::waits::no_marks()
 }
 
 // The lowest source that does not keep the table: as it was where one did not before, or where nothing that matters is written since; else it is looked for.
@@ -93,7 +93,7 @@ fn strays_after(room: &Room, table: Table, strays: u32, same: bool) -> u32
     if same | (strays != 32) {
         return strays;
     }
-    stack_kept::unkept(table, aic_room::layout::record_of(room))
+    stack::kept::unkept(table, aic_room::layout::record_of(room))
 }
 
 // What is watched after the n-th step, before which so many entries were open and these sources enabled. Most steps bring nothing that is looked for.
@@ -162,7 +162,7 @@ fn watched_anew(
 fn watch_first(first: Aic, table: Table) -> Watched
     ensures { λ r. ⌜ r ≡ watchedFirst table first ⌝ }
 {
-    let strays = stack_kept::unkept(table, first);
+    let strays = stack::kept::unkept(table, first);
     Watched {
         marks: 0,
         idle: 0,
@@ -187,7 +187,7 @@ fn turn(trace: &[u8], at: usize, left: u32) -> Told
 // What is told after the last step: n were played and so many of them refused, and the trace ended by a refusal at an offset.
 fn ended<'a>(
     counts: &'a mut aic_figures::Book,
-    book: &'a aic_wait_book::Book,
+    book: &'a aic_figures::waits::Book,
     w: Watched,
     n: u32,
     refused: u32,
@@ -204,7 +204,7 @@ fn ended<'a>(
         offset,
         figures,
     };
-    let waits = aic_wait_book::waits_in(book);
+    let waits = aic_figures::waits::waits_in(book);
     Played {
         tallied,
         watched: w,
@@ -220,7 +220,7 @@ fn play_steps(trace: &[u8], limit: u32, start: usize, first: Aic, table: Table) 
 {
     let mut room = aic_room::layout::lay(first);
     let mut counts = aic_figures::start();
-    let mut book = aic_wait_book::start();
+    let mut book = aic_figures::waits::start();
     let mut w = watch_first(first, table);
     let mut at = start;
     let mut left = limit;
@@ -233,16 +233,16 @@ fn play_steps(trace: &[u8], limit: u32, start: usize, first: Aic, table: Table) 
         }
         let before = room[aic_room::layout::DEPTH];
         let enabled = room[aic_room::layout::ENABLED];
-        let brings = aic_wait_book::marks(&room, t.kind, t.x, t.y);
+        let brings = aic_figures::waits::marks(&room, t.kind, t.x, t.y);
         let a = aic_room::step(&mut room, t.kind, t.x, t.y);
         let carried = rooms::refusal_in(a) == steps::CARRIED_OUT;
         let m = brought(carried, brings);
         let idle = is_idle(carried, t.kind, t.x, before);
         n = n + 1;
         refused = refused + words::one_if(!carried);
-        aic_figures::follow(&mut counts, &room, before);
-        aic_wait_book::follow(&mut book, &room, before, n, m);
+        aic_figures::waits::follow(&mut book, &room, before, n, m);
         w = watched_after(w, &room, table, before, enabled, idle, m.rewrote, n);
+        aic_figures::follow(&mut counts, &room, before);
         at = t.next;
         left = left - 1;
     }

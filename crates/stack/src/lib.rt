@@ -6,6 +6,8 @@ ghost use Rattle.text.specs.Text.{write, laid};
 ghost use Rattle.stack.specs.Bytes.{isOf, taller, levelBytes, stackBytes, sourceWithin, withinLimits, needed};
 ghost use Rattle.stack.specs.Printed.{figureLine, numberLine, textOf};
 
+pub mod kept;
+
 // For each of the 32 sources its priority, its type and the frame of its handler in bytes; the word of forced sources; the frame of a mark in
 // bytes. The numbers are wide, so that those beyond their limits can be handed in and refused.
 pub struct Table {

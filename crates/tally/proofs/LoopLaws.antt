@@ -23,7 +23,7 @@ use Rattle.machine.specs.Machine.{sound}
 use Rattle.machine.specs.RecordPromises.{Ready}
 use Rattle.machine.specs.Steps.{step}
 use Rattle.machine_room.specs.Room.{Laid, Done}
-use Rattle.loops.proofs.LoopLaws.{Standing, next, done}
+use Rattle.player.proofs.LoopLaws.{Standing, next, done}
 use Rattle.tally.specs.Following.{followedBy, tallied, Followed}
 use Rattle.tally.proofs.LengthLaws.{found-far}
 use Rattle.tally.proofs.TurnLaws.{tallied-found}

@@ -5,6 +5,7 @@ ghost use mathlib.Core.List.{zipWith};
 ghost use Prim.Native.Nat.{_+_, max};
 ghost use Rattle.totals.specs.Totals.{zeros, passes, together, added};
 
+pub mod sheets;
 pub mod waits;
 
 // For each source, of one trace or of many: the handlers started, the most handlers started while it waited, and the most entries open while it was open.
@@ -74,7 +75,7 @@ fn together(t: Totals, f: Totals) -> Totals
 }
 
 // Whether some sum would pass the figure.
-pub fn any_passes(a: [u32; 32], b: [u32; 32]) -> bool
+pub(crate) fn any_passes(a: [u32; 32], b: [u32; 32]) -> bool
     ensures { λ r. ⌜ r ≡ passes a b ⌝ }
 {
     let mut past = false;

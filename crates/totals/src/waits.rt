@@ -56,7 +56,7 @@ pub fn none() -> Waits
 }
 
 // The waits with those of a trace put to them; 16 where a number of waits would pass 4,294,967,295.
-pub fn add(a: Waits, b: Waits) -> Added
+pub(crate) fn add(a: Waits, b: Waits) -> Added
     ensures { λ r. ⌜ r ≡ added a b ⌝ }
 {
     if any_pass(a, b) {
@@ -157,7 +157,7 @@ fn terms_of(a: Waits, b: Waits) -> Terms
 }
 
 // The sources that first have a wait without a bound in the second.
-pub fn newly(a: Waits, b: Waits) -> u32
+pub(crate) fn newly(a: Waits, b: Waits) -> u32
     ensures { λ r. ⌜ r ≡ wordOf 32 (newly a b) ⌝ }
 {
     let mut w: u32 = 0;
@@ -170,7 +170,7 @@ pub fn newly(a: Waits, b: Waits) -> u32
 }
 
 // Source by source the second's number for those of a word, else the first's.
-pub fn chosen(w: u32, a: [u32; 32], b: [u32; 32]) -> [u32; 32]
+pub(crate) fn chosen(w: u32, a: [u32; 32], b: [u32; 32]) -> [u32; 32]
     ensures { λ r. ⌜ ((p : ℕ → Bool) → ((i : ℕ) → i < 32 → bit w i ≡ p i) → r ≡ chosen p a b) ⌝ }
 {
     let mut out = [0u32; 32];

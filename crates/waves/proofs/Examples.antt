@@ -14,7 +14,7 @@ use Rattle.beginning.specs.Begin.{setupFrom, setupOf, bySetup, beginOf}
 use Rattle.beginning.specs.Play.{recordsFrom, recordsOf, report, playOf}
 use Rattle.lines.specs.Listing.{letter}
 use Rattle.aic_record.specs.Last.{lastSource, lastLevel}
-use Rattle.signals.specs.Signals.{ownRows, rows, signals, widths, values}
+use Rattle.waves.specs.Signals.{ownRows, rows, signals, widths, values}
 use Rattle.waves.specs.Moments.{atStart, momentsFrom}
 use Rattle.waves.specs.Waves.{wavesOf}
 use Rattle.waves.specs.Promises.{first, aicTrace, aicWaves}

@@ -5,7 +5,7 @@ use mathlib.Core.List.{List, _++_, append-assoc}
 use Rattle.text.specs.Text.{write}
 use Rattle.text.proofs.WriteLaws.{and-then}
 use Rattle.vcd.specs.Dump.{declarations}
-use Rattle.signals.specs.Signals.{Row, ofEvery, ownRows, rows, declaredOf, signals}
+use Rattle.waves.specs.Signals.{Row, ofEvery, ownRows, rows, declaredOf, signals}
 
 both-declared : (kind : ℕ) → declarations 0 (declaredOf ofEvery) ++ declarations 3 (declaredOf (ownRows kind)) ≡ declarations 0 (signals kind)
 unfolding declarations signals rows

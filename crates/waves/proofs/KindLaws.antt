@@ -7,7 +7,7 @@ use lib.ListN.{length, take, replicate, length-append, length-map}
 use lib.Seq.{take-append-seam}
 use Rattle.text.specs.Text.{write}
 use Rattle.vcd.specs.Dump.{firstTick, nextTick}
-use Rattle.signals.specs.Signals.{Row, rows, widths, eleven}
+use Rattle.waves.specs.Signals.{Row, rows, widths, eleven}
 
 count-widths : (kind : ℕ) → length (widths kind) ≡ length (rows kind)
 unfolding widths

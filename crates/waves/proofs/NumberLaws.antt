@@ -30,7 +30,7 @@ use Rattle.cic_held.specs.declared.Prioritised.{Prioritised}
 use Rattle.cic_indexed.specs.Model.{step as indexedStep}
 use Rattle.cic_indexed.proofs.Promises.{kept as indexed}
 use Rattle.aintc_record.specs.declared.Aintc.{Aintc}
-use Rattle.aintc_choice.specs.Settle.{sound as aintcSound}
+use Rattle.aintc_registers.specs.Settle.{sound as aintcSound}
 use Rattle.aintc_registers.specs.declared.Answer.{Answer as AintcAnswer}
 use Rattle.aintc_registers.specs.Map.{access}
 use Rattle.aintc_registers.specs.Model.{barred, accessNumber, readNumber, writeNumber, read, write, step as aintcStep}

@@ -5,7 +5,7 @@ use mathlib.Core.List.{List, [], _∷_, _++_}
 use lib.ListN.{length, getD, replicate}
 use Rattle.text.specs.Phrases.{bytes}
 use Rattle.vcd.specs.Dump.{valuesFrom, changesFrom, tick, firstTick, nextTick, ticksFrom}
-use Rattle.signals.specs.Signals.{eleven}
+use Rattle.waves.specs.Signals.{eleven}
 
 -- two tables that give the same values
 abbrev pub Same : List ℕ → List ℕ → Type 0

@@ -11,8 +11,8 @@ use Rattle.machine.specs.Shown.{shown}
 use Rattle.machine.proofs.RecordPromises.{kept as record-kept}
 use Rattle.machine.specs.declared.Answer.{Answer}
 use Rattle.lines.specs.Listing.{letter, shownValue, lineOf, stepLine}
-use Rattle.signals.specs.Promises.{valueAt}
-use Rattle.signals.proofs.Promises.{kept as shows}
+use Rattle.waves.specs.SignalsPromises.{valueAt}
+use Rattle.waves.proofs.SignalsPromises.{kept as shows}
 use Rattle.waves.specs.Moments.{after}
 use Rattle.waves.specs.Waves.{wavesOf}
 use Rattle.waves.specs.Promises.{tickLine, Promises}

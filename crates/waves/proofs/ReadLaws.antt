@@ -34,11 +34,11 @@ use Rattle.beginning.specs.Begin.{beginOf}
 use Rattle.beginning.proofs.BeginningLaws.{begin-ready}
 use Rattle.beginning.specs.Play.{recordsOf, runOf, report, playOf}
 use Rattle.beginning.proofs.PlayLaws.{records-limited}
-use Rattle.signals.specs.Signals.{Moment, signals, widths, values}
-use Rattle.signals.proofs.Promises.{kept as shows}
-use Rattle.signals.proofs.SignalLaws.{rows-aic, rows-core, rows-cic, rows-aintc, rows-indexed, rows-none}
+use Rattle.waves.specs.Signals.{Moment, signals, widths, values}
+use Rattle.waves.proofs.SignalsPromises.{kept as shows}
+use Rattle.waves.proofs.SignalLaws.{rows-aic, rows-core, rows-cic, rows-aintc, rows-indexed, rows-none}
 use Rattle.lines.specs.Listing.{letterOf, letter}
-use Rattle.signals.specs.Promises.{Fits}
+use Rattle.waves.specs.SignalsPromises.{Fits}
 use Rattle.waves.specs.Moments.{atStart, after, momentsFrom}
 use Rattle.waves.specs.Waves.{dumpOf, noDump, wavesOf}
 use Rattle.waves.specs.Promises.{first, widthsOf, moments, readBack}

@@ -14,7 +14,7 @@ use Rattle.machine.specs.declared.record.Machine.{Machine}
 use Rattle.machine.specs.declared.Answer.{Answer}
 use Rattle.machine.specs.Steps.{step}
 use Rattle.machine.proofs.Promises.{kept as machine}
-use Rattle.signals.specs.Signals.{widths, values, eleven}
+use Rattle.waves.specs.Signals.{widths, values, eleven}
 use Rattle.waves.proofs.PaddingLaws.{Same, padded, ticks-same}
 use Rattle.waves.specs.Moments.{after, momentsFrom, restFrom}
 

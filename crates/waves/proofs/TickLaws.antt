@@ -9,7 +9,7 @@ use Rattle.vcd.specs.Dump.{heading, firstTick, nextTick}
 use Rattle.kinds.specs.Kinds.{name}
 use Rattle.machine.specs.declared.record.Machine.{Machine}
 use Rattle.lines.specs.Listing.{letter}
-use Rattle.signals.specs.Signals.{moment, signals, widths, values, eleven}
+use Rattle.waves.specs.Signals.{moment, signals, widths, values, eleven}
 use Rattle.waves.proofs.PaddingLaws.{same, padded, first-same, next-same}
 
 -- a heading and tick 0

@@ -16,7 +16,7 @@ use Rattle.beginning.specs.declared.Begun.{Begun}
 use Rattle.beginning.specs.Begin.{beginOf}
 use Rattle.beginning.specs.Play.{recordsFrom}
 use Rattle.beginning.proofs.PlayLaws.{records-begun}
-use Rattle.signals.specs.Signals.{signals, widths, values, eleven}
+use Rattle.waves.specs.Signals.{signals, widths, values, eleven}
 use Rattle.waves.proofs.PaddingLaws.{padded}
 use Rattle.waves.specs.Moments.{atStart, restFrom}
 use Rattle.waves.proofs.StepLaws.{rest-same}

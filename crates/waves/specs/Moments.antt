@@ -8,7 +8,7 @@ use Rattle.machine.specs.declared.Answer.{Answer}
 use Rattle.machine.specs.Steps.{step}
 use Rattle.lines.specs.Listing.{letter}
 use Rattle.vcd.specs.Dump.{ticksFrom, ending}
-use Rattle.signals.specs.Signals.{Moment, moment, widths, values}
+use Rattle.waves.specs.Signals.{Moment, moment, widths, values}
 
 -- the moment after the start: no step yet, so no letter
 abbrev pub atStart : Machine → Moment

@@ -19,8 +19,8 @@ use Rattle.machine.specs.Steps.{step}
 use Rattle.beginning.specs.Begin.{beginOf}
 use Rattle.beginning.specs.Play.{recordsOf, runOf, playOf}
 use Rattle.lines.specs.Listing.{letter, shownValue, lineOf, stepLine}
-use Rattle.signals.specs.Promises.{valueAt, Fits}
-use Rattle.signals.specs.Signals.{Moment, signals, widths, values}
+use Rattle.waves.specs.SignalsPromises.{valueAt, Fits}
+use Rattle.waves.specs.Signals.{Moment, signals, widths, values}
 use Rattle.waves.specs.Moments.{atStart, after, momentsFrom}
 use Rattle.waves.specs.Waves.{wavesOf}
 

@@ -10,7 +10,7 @@ use Rattle.machine.specs.declared.record.Machine.{Machine}
 use Rattle.beginning.specs.Begin.{beginOf}
 use Rattle.beginning.specs.Play.{recordsOf}
 use Rattle.vcd.specs.Dump.{opening, declared, heading, ending, ticks}
-use Rattle.signals.specs.Signals.{signals, widths, values}
+use Rattle.waves.specs.Signals.{signals, widths, values}
 use Rattle.waves.specs.Moments.{atStart, momentsFrom}
 
 -- the dump of step records on a machine

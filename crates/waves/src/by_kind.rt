@@ -3,7 +3,7 @@ ghost use mathlib.Core.Path.{_≡_};
 ghost use Rattle.text.specs.Text.{write};
 ghost use Rattle.vcd.specs.Dump.{heading, declarations, firstTick, nextTick};
 ghost use Rattle.kinds.specs.Kinds.{name};
-ghost use Rattle.signals.specs.Signals.{ownRows, declaredOf, signals, widths};
+ghost use Rattle.waves.specs.Signals.{ownRows, declaredOf, signals, widths};
 use super::names;
 
 // What is declared of a kind, in a scope of its name.
@@ -46,8 +46,8 @@ fn put_own(out: &mut [u8], at: usize, kind: u32) -> usize
 pub(crate) fn put_first(out: &mut [u8], at: usize, kind: u32, values: &[u32; 11]) -> usize
     ensures { λ r. ⌜ (now (out .exit), r) ≡ write (now (out .entry), at) (firstTick (widths kind) (now (values .entry))) ⌝ }
 {
-    let w = signals::widths(kind);
-    let n = signals::count(kind);
+    let w = super::signals::widths(kind);
+    let n = super::signals::count(kind);
     vcd::put_first(out, at, &w[..n], values)
 }
 
@@ -62,7 +62,7 @@ pub(crate) fn put_next(
 ) -> usize
     ensures { λ r. ⌜ (now (out .exit), r) ≡ write (now (out .entry), at) (nextTick n (widths kind) (now (before .entry)) (now (values .entry))) ⌝ }
 {
-    let w = signals::widths(kind);
-    let k = signals::count(kind);
+    let w = super::signals::widths(kind);
+    let k = super::signals::count(kind);
     vcd::put_next(out, at, n, &w[..k], before, values)
 }

@@ -10,6 +10,7 @@ ghost use Rattle.waves.specs.Waves.{dumpOf, wavesOf};
 mod by_kind;
 mod moments;
 mod names;
+mod signals;
 mod ticks;
 
 use beginning::Begun;

@@ -2,7 +2,7 @@
 ghost use mathlib.Core.Path.{_≡_};
 ghost use Rattle.text.specs.Text.{write};
 ghost use Rattle.vcd.specs.Dump.{declarations};
-ghost use Rattle.signals.specs.Signals.{ofEvery, ofAic as aicRows, ofCore as coreRows, ofCic as cicRows, ofAintc as aintcRows, declaredOf};
+ghost use Rattle.waves.specs.Signals.{ofEvery, ofAic as aicRows, ofCore as coreRows, ofCic as cicRows, ofAintc as aintcRows, declaredOf};
 
 // The signals of every kind.
 pub(crate) fn put_every(out: &mut [u8], at: usize) -> usize

@@ -7,7 +7,7 @@ ghost use Rattle.vcd.specs.Dump.{opening, declared, heading, firstTick, nextTic
 ghost use Rattle.kinds.specs.Kinds.{name};
 ghost use Rattle.machine.specs.Machine.{sound};
 ghost use Rattle.lines.specs.Listing.{letter};
-ghost use Rattle.signals.specs.Signals.{moment, signals, widths, values, eleven};
+ghost use Rattle.waves.specs.Signals.{moment, signals, widths, values, eleven};
 use super::by_kind;
 use machine::record::Machine;
 use steps::Step;
@@ -33,7 +33,7 @@ pub(crate) fn put_start(out: &mut [u8], m: Machine) -> Ticked
     ensures { λ r. ⌜ ((now (out .exit), r .to) ≡ write (now (out .entry), 0) (heading (name (m .kind)) (signals (m .kind)) ++ firstTick (widths (m .kind)) (values (moment 0 0 0 m)))) × (r .values ≡ eleven (values (moment 0 0 0 m))) ⌝ }
 {
     let kind = m.kind;
-    let values = signals::values(steps::CARRIED_OUT, 0, 0, m);
+    let values = super::signals::values(steps::CARRIED_OUT, 0, 0, m);
     let a = by_kind::put_heading(out, 0, kind);
     let to = by_kind::put_first(out, a, kind, &values);
     Ticked { to, values }
@@ -54,7 +54,7 @@ pub(crate) fn put_step(
     ensures { λ r. ⌜ ((now (out .exit), r .to) ≡ write (now (out .entry), at) (nextTick n (widths (m .kind)) (now (before .entry)) (values (moment refusal value (letter step refusal) m)))) × (r .values ≡ eleven (values (moment refusal value (letter step refusal) m))) ⌝ }
 {
     let letter = lines::letter_of(step, refusal) as u32;
-    let values = signals::values(refusal, value, letter, m);
+    let values = super::signals::values(refusal, value, letter, m);
     let to = by_kind::put_next(out, at, m.kind, n, before, &values);
     Ticked { to, values }
 }

@@ -1,13 +1,10 @@
 //! Everything that a transcript has to reach.
 
-use super::{Coverage, Far, Item, Lead, Limit, Spot, Up};
+use super::{Coverage, Far, Item, Lead, Limit};
 use crate::boards::Sort;
 use crate::model::board::CONTROLLERS;
 use crate::model::core::{Register, Role, Side};
-use crate::tally::{Listed, Tally};
-
-const BOTH: [bool; 2] = [false, true];
-const SIDES: [Side; 2] = [Side::Irq, Side::Fiq];
+use crate::tally::{each, Listed, Tally};
 
 impl Listed for Coverage {
     type Item = Item;
@@ -25,9 +22,9 @@ impl Listed for Coverage {
         items.extend(limits());
         items.extend(configurations());
         items.extend(wires());
-        items.extend(values());
         items.extend(registers());
-        items.extend(FACTS.iter().copied().map(Item::Fact));
+        let facts = [super::FACTS, super::situations::FACTS].concat();
+        items.extend(facts.into_iter().map(Item::Fact));
         items
     }
 }
@@ -72,8 +69,7 @@ fn limits() -> Vec<Item> {
         }
     }
     // No wire from the last controller is ever carried out: there is none above it.
-    let fars = [Far::First, Far::Absent, Far::Further];
-    items.extend(fars.map(|far| Item::Beyond(Sort::Connect, Limit::Other, far)));
+    items.extend(each(|far| Item::Beyond(Sort::Connect, Limit::Other, far)));
     items
 }
 
@@ -81,49 +77,21 @@ fn configurations() -> Vec<Item> {
     let mut items: Vec<Item> = (0..4).map(Item::Configuration).collect();
     items.extend([0, 1, 8].map(|count| Item::Sources(Side::Fiq, count)));
     items.extend([0, 1, 31, 32].map(|count| Item::Sources(Side::Irq, count)));
-    for fiq in BOTH {
-        items.extend(BOTH.map(|irq| Item::Levels(fiq, irq)));
-    }
+    items.extend(each(|(fiq, irq)| Item::Levels(fiq, irq)));
     items
 }
 
-/// The four places that an input can have.
-fn spots() -> Vec<Spot> {
-    let used = |side| BOTH.map(|used| Spot { side, used });
-    SIDES.into_iter().flat_map(used).collect()
-}
-
+/// Wires, activities, levels and what they move.
 fn wires() -> Vec<Item> {
-    let mut items = Vec::new();
-    for lead in Lead::ALL {
-        items.extend(Lead::ALL.map(|new| Item::Replaced(lead, new)));
-        for spot in spots() {
-            items.push(Item::Wired(lead, spot));
-            items.push(Item::Asked(lead, spot, false));
-            if lead != Lead::Nothing {
-                items.push(Item::Asked(lead, spot, true));
-            }
-        }
-    }
-    for side in SIDES {
-        for spot in spots() {
-            items.extend([Up::Same, Up::Higher].map(|up| Item::NotLower(side, up, spot)));
-        }
-    }
-    items
-}
-
-/// Activities, levels and what they move.
-fn values() -> Vec<Item> {
-    let mut items = Vec::new();
-    for side in SIDES {
-        for level in BOTH {
-            items.extend(BOTH.map(|active| Item::Activity(side, level, active)));
-            items.extend(BOTH.map(|active| Item::Output(side, level, active)));
-        }
-    }
+    let mut items: Vec<Item> = each(|(lead, new)| Item::Replaced(lead, new)).collect();
+    items.extend(each(|(lead, spot)| Item::Wired(lead, spot)));
+    let asked = each(|(lead, spot, high)| Item::Asked(lead, spot, high));
+    items.extend(asked.filter(|item| !matches!(item, Item::Asked(Lead::Nothing, _, true))));
+    items.extend(each(|(side, up, spot)| Item::NotLower(side, up, spot)));
+    items.extend(each(|(side, level, on)| Item::Activity(side, level, on)));
+    items.extend(each(|(side, level, on)| Item::Output(side, level, on)));
     for sort in [Sort::Connect, Sort::Pin, Sort::Write] {
-        items.extend(BOTH.map(|on| Item::Moved(sort, on)));
+        items.extend(each(|on| Item::Moved(sort, on)));
     }
     items
 }
@@ -148,24 +116,3 @@ fn registers() -> Vec<Item> {
     }
     items
 }
-
-const FACTS: &[&str] = &[
-    "6 of a ninth, whose configuration is bad",
-    "6 of an input, with a wire that leads up",
-    "6 of a controller, with a misaligned offset",
-    "6 of a controller, with no register at the offset",
-    "input 0 is wired",
-    "input 31 is wired",
-    "input 32 is wired",
-    "an input is wired to pin 0",
-    "a wire to the next lower number",
-    "a wire from controller 0 to controller 7",
-    "a second wire from one output to one controller",
-    "a clear of a side with no sources is read",
-    "a side is inactive though an unused input is high",
-    "a chain shorter than the controllers below",
-    "a chain longer than the controllers that are wired",
-    "a chain that does not go by the lowest number wired",
-    "a chain that does not go by the highest number wired",
-    "a chain by an unused input alone",
-];

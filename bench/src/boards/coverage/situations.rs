@@ -5,10 +5,52 @@ use std::collections::BTreeSet;
 use super::reasons::numbers;
 use super::{Coverage, Item, Lead, Spot};
 use crate::boards::{Call, Reply};
+use crate::facts;
 use crate::model::board::{Board, Wire, INPUTS};
-use crate::model::core::{CoreInterrupt, Register, Role, Side, IRQ_INPUTS};
+use crate::model::core::{CoreInterrupt, Group, Register, Role, Side, IRQ_INPUTS};
 
 const SIDES: [Side; 2] = [Side::Irq, Side::Fiq];
+
+facts! { pub FACTS;
+    fn connected(before: &Board, controller: usize, input: usize, wire: Wire) {
+        let other = match wire {
+            Wire::Output(_, other) => Some(other as usize),
+            _ => None,
+        };
+        let wires = before.wires(controller);
+        let again = wires.contains(&wire) && wires[input] != wire;
+        "input 0 is wired" if input == 0;
+        "input 31 is wired" if input == IRQ_INPUTS - 1;
+        "input 32 is wired" if input == IRQ_INPUTS;
+        "an input is wired to pin 0" if wire == Wire::Pin(0);
+        "a wire to the next lower number" if other.is_some_and(|other| other + 1 == controller);
+        "a wire from controller 0 to controller 7" if (other, controller) == (Some(0), 7);
+        "a second wire from one output to one controller" if other.is_some() && again;
+    }
+
+    fn shown(role: Role, group: &Group) {
+        let clear = matches!(role, Role::SoftClear | Role::EnableClear);
+        "a clear of a side with no sources is read" if clear && group.count == 0;
+    }
+
+    fn silent(group: &Group, unused_high: bool) {
+        "a side is inactive though an unused input is high" if unused_high && !group.active();
+    }
+
+    fn chain(board: &Board, controller: usize, length: usize) {
+        let direct = leads(board, controller, |_| true);
+        let below = all_below(board, controller);
+        let by = |number: usize| 1 + board.chain(number as u32).map_or(0, |long| long as usize);
+        let used = leads(board, controller, |spot| spot.used);
+        let by_used = used.into_iter().map(by).max().unwrap_or(0);
+        let passed = |end: Option<&usize>| end.is_some_and(|&number| by(number) < length);
+        "a chain shorter than the controllers below" if below.len() > length;
+        "a chain longer than the controllers that are wired" if direct.len() < length;
+        "a chain that does not go by the lowest number wired" if passed(direct.first());
+        "a chain that does not go by the highest number wired" if passed(direct.last());
+        "a chain by an unused input alone" if by_used < length;
+    }
+}
 
 impl Coverage {
     pub(super) fn carried_out(
@@ -58,7 +100,7 @@ impl Coverage {
             }
             Call::Chain { controller } => {
                 self.reach(Item::Chain(reply.values[0]));
-                self.chain(after, controller as usize, reply.values[0] as usize);
+                self.facts(chain(after, controller as usize, reply.values[0] as usize));
             }
         }
     }
@@ -68,18 +110,7 @@ impl Coverage {
         let old = before.wires(controller)[input];
         self.reach(Item::Wired(Lead::of(wire), spot));
         self.reach(Item::Replaced(Lead::of(old), Lead::of(wire)));
-        self.fact_if(input == 0, "input 0 is wired");
-        self.fact_if(input == IRQ_INPUTS - 1, "input 31 is wired");
-        self.fact_if(input == IRQ_INPUTS, "input 32 is wired");
-        self.fact_if(wire == Wire::Pin(0), "an input is wired to pin 0");
-        if let Wire::Output(_, other) = wire {
-            let next = other as usize + 1 == controller;
-            self.fact_if(next, "a wire to the next lower number");
-            let across = (other, controller) == (0, 7);
-            self.fact_if(across, "a wire from controller 0 to controller 7");
-            let again = before.wires(controller).contains(&wire) && old != wire;
-            self.fact_if(again, "a second wire from one output to one controller");
-        }
+        self.facts(connected(before, controller, input, wire));
     }
 
     /// The turns of outputs that are not of the controller which the call names.
@@ -116,9 +147,7 @@ impl Coverage {
                 self.reach(Item::Shown(register, Lead::of(wire)));
             }
         }
-        let clear = matches!(register.role, Role::SoftClear | Role::EnableClear);
-        let empty = clear && group.count == 0;
-        self.fact_if(empty, "a clear of a side with no sources is read");
+        self.facts(shown(register.role, group));
     }
 
     fn outputs(&mut self, board: &Board, controller: usize) {
@@ -130,10 +159,9 @@ impl Coverage {
             if let Some(far) = nearest[controller][side as usize] {
                 self.reach(Item::Through(far));
             }
-            let unused = side_wires(board, controller, side).skip(group.count as usize);
-            let high = unused.filter(|&(_, wire)| board.value(wire, &settled));
-            let silent = !group.active() && high.count() > 0;
-            self.fact_if(silent, "a side is inactive though an unused input is high");
+            let mut unused = side_wires(board, controller, side).skip(group.count as usize);
+            let high = unused.any(|(_, wire)| board.value(wire, &settled));
+            self.facts(silent(group, high));
         }
     }
 
@@ -144,41 +172,6 @@ impl Coverage {
         if let Wire::Output(side, other) = wire {
             let level = board.stored(other as usize).group(side).active_level;
             self.reach(Item::Activity(side, level, high));
-        }
-    }
-
-    fn chain(&mut self, board: &Board, controller: usize, length: usize) {
-        let direct = leads(board, controller, |_| true);
-        let mut below = direct.clone();
-        for number in (0..controller).rev() {
-            if below.contains(&number) {
-                below.extend(leads(board, number, |_| true));
-            }
-        }
-        let by = |number: usize| 1 + board.chain(number as u32).map_or(0, |long| long as usize);
-        let used = leads(board, controller, |spot| spot.used);
-        let by_used = used.into_iter().map(by).max().unwrap_or(0);
-        let passed = |end: Option<&usize>| end.is_some_and(|&number| by(number) < length);
-        for (there, fact) in [
-            (
-                below.len() > length,
-                "a chain shorter than the controllers below",
-            ),
-            (
-                direct.len() < length,
-                "a chain longer than the controllers that are wired",
-            ),
-            (
-                passed(direct.first()),
-                "a chain that does not go by the lowest number wired",
-            ),
-            (
-                passed(direct.last()),
-                "a chain that does not go by the highest number wired",
-            ),
-            (by_used < length, "a chain by an unused input alone"),
-        ] {
-            self.fact_if(there, fact);
         }
     }
 }
@@ -203,6 +196,17 @@ fn leads(board: &Board, controller: usize, passes: impl Fn(Spot) -> bool) -> BTr
             Wire::Nothing | Wire::Pin(_) => None,
         })
         .collect()
+}
+
+/// All controllers that one hears of, by however many others.
+fn all_below(board: &Board, controller: usize) -> BTreeSet<usize> {
+    let mut below = leads(board, controller, |_| true);
+    for number in (0..controller).rev() {
+        if below.contains(&number) {
+            below.extend(leads(board, number, |_| true));
+        }
+    }
+    below
 }
 
 /// Of each output that is active how many controllers below it at least take part in that: none where a pin or its own

@@ -1,10 +1,11 @@
 //! The sweeps of the AINTC: every register by every privilege, and each way to be chosen, held and released, on both
-//! sides alike.
+//! sides alike. Those of one side have words of their own for an input: `40:5` gives it a priority and leads it to the
+//! side, `40~5` to the other side; `40u` unmasks and `40m` masks it, `40s` sets its soft bit and `40c` clears it. `A`
+//! is the side's agreement and `B` that of the other; `?40` asks for all that tells of the side and of the input's
+//! bank, and `!40` the same of the other side.
 
-use crate::generate::aintc::{
-    bit, of_bank, CONTROL, END, ILR, ISR_CLEAR, ISR_SET, ITR, MIR, MIR_CLEAR, MIR_SET, PENDING,
-    PRIORITY, PROTECTION, SIR, SYSCONFIG, THRESHOLD,
-};
+use crate::generate::aintc::{bit, CONTROL, END, PROTECTION, SIR, SYSCONFIG, THRESHOLD};
+use crate::generate::steps::{decimal, steps};
 use crate::generate::{Script, AINTC};
 use crate::model::aintc::{Side, INPUTS};
 
@@ -64,268 +65,137 @@ fn privileges() -> Script {
     script
 }
 
-/// The priority and route of an input.
-fn ilr(script: &mut Script, input: u32, priority: u32, side: Side) {
-    script.write(ILR + 4 * input, priority << 2 | side as u32);
+/// A trace that is told of one side.
+struct Told {
+    side: Side,
+    script: Script,
 }
 
-fn unmask(script: &mut Script, input: u32) {
-    script.write(of_bank(MIR_CLEAR, input), bit(input));
-}
+impl Told {
+    fn new(side: Side, text: &str) -> Told {
+        let script = Script::new(AINTC, &[]);
+        let mut told = Told { side, script };
+        told.steps(text);
+        told
+    }
 
-fn mask(script: &mut Script, input: u32) {
-    script.write(of_bank(MIR_SET, input), bit(input));
-}
+    fn steps(&mut self, text: &str) {
+        for word in text.split_whitespace() {
+            self.step(word);
+        }
+    }
 
-fn soft(script: &mut Script, input: u32) {
-    script.write(of_bank(ISR_SET, input), bit(input));
-}
-
-fn soft_clear(script: &mut Script, input: u32) {
-    script.write(of_bank(ISR_CLEAR, input), bit(input));
-}
-
-fn agree(script: &mut Script, side: Side) {
-    script.write(CONTROL, side.agreement());
+    fn step(&mut self, word: &str) {
+        let (side, other) = (self.side as usize, self.side.other() as usize);
+        let bank = |register: &str, input: &str| {
+            let (bank, bit) = (decimal(input) / 32, bit(decimal(input)));
+            format!("{register}{bank}={bit:x}")
+        };
+        let text = match (word, word.split_at(word.len() - 1)) {
+            ("A", _) => format!("CONTROL={:x}", self.side.agreement()),
+            ("B", _) => format!("CONTROL={:x}", self.side.other().agreement()),
+            (_, (input, "u")) => bank("MIR_CLEAR", input),
+            (_, (input, "m")) => bank("MIR_SET", input),
+            (_, (input, "s")) => bank("ISR_SET", input),
+            (_, (input, "c")) => bank("ISR_CLEAR", input),
+            _ => match (word.split_once([':', '~']), word.split_at(1)) {
+                (Some((input, priority)), _) => {
+                    let to = if word.contains('~') { other } else { side };
+                    format!("ILR{input}={:x}", decimal(priority) << 2 | to as u32)
+                }
+                (_, ("?", input)) => status(side, decimal(input)),
+                (_, ("!", input)) => status(other, decimal(input)),
+                _ => word.to_owned(),
+            },
+        };
+        self.script.steps(&text);
+    }
 }
 
 /// Reads all that tells of a side, and the bank of an input.
-fn status(script: &mut Script, side: Side, input: u32) {
-    script.read(SIR[side as usize]);
-    script.read(PRIORITY[side as usize]);
-    script.read(of_bank(PENDING[side as usize], input));
-    script.read(of_bank(ITR, input));
-    script.read(of_bank(ISR_SET, input));
+fn status(side: usize, input: u32) -> String {
+    let (bank, pending) = (input / 32, ["PENDING_IRQ", "PENDING_FIQ"][side]);
+    format!("SIR{side} PRIORITY{side} {pending}{bank} ITR{bank} ISR_SET{bank}")
 }
 
 /// Each way in which a free side comes to choose, and whom it passes over.
 fn choosing(side: Side) -> Script {
-    let mut script = Script::new(AINTC, &[]);
-    for (input, priority) in [(4, 2), (5, 3), (6, 2), (7, 9)] {
-        ilr(&mut script, input, priority, side);
-        script.line(input, 1);
-    }
-    status(&mut script, side, 4);
-    script.write(MIR_CLEAR, 0xF0);
+    let mut told = Told::new(side, "4:2 4+ 5:3 5+ 6:2 6+ 7:9 7+ ?4 MIR_CLEAR0=F0");
     // 6 by the tie with 4, then as they go away: 4, 5, 7, none.
-    for input in [6, 4, 5, 7] {
-        status(&mut script, side, input);
-        agree(&mut script, side);
-        script.line(input, 0);
-        agree(&mut script, side);
-    }
-    soft(&mut script, 5);
-    status(&mut script, side, 5);
-    soft_clear(&mut script, 5);
-    agree(&mut script, side);
-    script.write(ISR_SET, 0xF0);
-    script.write(MIR, 0xFFFF_FF6F);
-    agree(&mut script, side);
-    script.write(ISR_CLEAR, 0x50);
-    agree(&mut script, side);
-    script.write(MIR, u32::MAX);
-    agree(&mut script, side);
-    script.write(MIR, !0x20);
-    status(&mut script, side, 5);
-    by_threshold_and_ilr(&mut script, side);
-    script
-}
-
-/// One input that the threshold keeps out, let in by the threshold, by its priority and by its route.
-fn by_threshold_and_ilr(script: &mut Script, side: Side) {
-    script.write(ISR_CLEAR, u32::MAX);
-    script.write(CONTROL, 3);
-    for input in [8, 9] {
-        ilr(script, input, 11 - input, side);
-        unmask(script, input);
-    }
-    script.write(THRESHOLD, 2);
-    script.line(8, 1);
-    status(script, side, 8);
-    script.write(THRESHOLD, 0xFFFF_FFFF);
-    status(script, side, 8);
-    script.write(THRESHOLD, 3);
-    agree(script, side);
-    script.line(9, 1);
-    status(script, side, 8);
-    script.line(9, 0);
-    agree(script, side);
-    ilr(script, 8, 1, side);
-    script.line(8, 0);
-    agree(script, side);
-    ilr(script, 8, 1, side.other());
-    script.line(8, 1);
-    ilr(script, 8, 1, side);
-    script.read(SIR[0]);
-    script.read(SIR[1]);
-    script.line(8, 0);
-    script.write(CONTROL, 3);
-    script.read(SIR[0]);
-    script.read(SIR[1]);
+    told.steps("?6 A 6- A ?4 A 4- A ?5 A 5- A ?7 A 7- A");
+    told.steps("5s ?5 5c A ISR_SET0=F0 MIR0=FFFFFF6F A ISR_CLEAR0=50 A");
+    told.steps("MIR0=FFFFFFFF A MIR0=FFFFFFDF ?5");
+    // One input that the threshold keeps out, let in by the threshold, by its priority and by its route.
+    told.steps("ISR_CLEAR0=FFFFFFFF CONTROL=3 8:3 8u 9:2 9u THRESHOLD=2 8+ ?8");
+    told.steps("THRESHOLD=FFFFFFFF ?8 THRESHOLD=3 A 9+ ?8 9- A 8:1 8- A");
+    told.steps("8~1 8+ 8:1 SIR0 SIR1 8- CONTROL=3 SIR0 SIR1");
+    told.script
 }
 
 /// One chosen, and everything done to it and beside it that must not move it.
 fn holding(side: Side) -> Script {
-    let mut script = Script::new(AINTC, &[]);
-    for (input, priority) in [(40, 5), (41, 4), (50, 5), (33, 5), (52, 0)] {
-        ilr(&mut script, input, priority, side);
-        unmask(&mut script, input);
+    let mut told = Told::new(side, "40:5 40u 41:4 41u 50:5 50u 33:5 33u 52:0 52u");
+    told.steps("40+ ?40 50+ ?40 33+ ?40 41+ ?40 52s 52c 50- 40- ?40 40s 40+ 40c 40s 40- 40c 40+");
+    told.steps("40m ?40 40u MIR1=00000102 MIR1=FFFF0001");
+    // Another priority, another route, so that the other side takes it too, and a threshold that falls to it.
+    told.steps("40:9 ?40 40~9");
+    for side in 0..2 {
+        told.script.steps(&status(side, 40));
     }
-    for input in [40, 50, 33, 41] {
-        script.line(input, 1);
-        status(&mut script, side, 40);
-    }
-    soft(&mut script, 52);
-    soft_clear(&mut script, 52);
-    script.line(50, 0);
-    script.line(40, 0);
-    status(&mut script, side, 40);
-    soft(&mut script, 40);
-    script.line(40, 1);
-    soft_clear(&mut script, 40);
-    soft(&mut script, 40);
-    script.line(40, 0);
-    soft_clear(&mut script, 40);
-    script.line(40, 1);
-    mask(&mut script, 40);
-    status(&mut script, side, 40);
-    unmask(&mut script, 40);
-    script.write(of_bank(MIR, 40), 0x0000_0102);
-    script.write(of_bank(MIR, 40), 0xFFFF_0001);
-    held_with_other_ilr(&mut script, side);
-    held_without_agreement(&mut script, side);
-    agree(&mut script, side);
-    status(&mut script, side, 40);
-    script
-}
-
-/// Another priority, another route, so that the other side takes it too, and a threshold that falls to it.
-fn held_with_other_ilr(script: &mut Script, side: Side) {
-    ilr(script, 40, 9, side);
-    status(script, side, 40);
-    ilr(script, 40, 9, side.other());
-    for side in Side::BOTH {
-        status(script, side, 40);
-    }
-    ilr(script, 40, 5, side);
-    agree(script, side.other());
-    status(script, side.other(), 40);
-    for threshold in [6, 5, 0, 0xFF] {
-        script.write(THRESHOLD, threshold);
-        status(script, side, 40);
-    }
-}
-
-/// Agreement bits that are not its own, and its own by who may not.
-fn held_without_agreement(script: &mut Script, side: Side) {
-    for value in [0, 0xFFFF_FFFC, side.other().agreement()] {
-        script.write(CONTROL, value);
-        script.read(SIR[side as usize]);
-    }
-    script.write(PROTECTION, 1);
-    script.write_by(0, CONTROL, 3);
-    script.write_by(2, CONTROL, 3);
-    script.read(SIR[side as usize]);
-    script.line(41, 0);
-    script.line(41, 1);
-    script.write(PROTECTION, 0xFFFF_FFFE);
+    told.steps("40:5 B !40 THRESHOLD=6 ?40 THRESHOLD=5 ?40 THRESHOLD=0 ?40 THRESHOLD=FF ?40");
+    // Agreement bits that are not its own, and its own by who may not.
+    let sir = format!("SIR{}", side as usize);
+    steps!(told: "CONTROL=0 {sir} CONTROL=FFFFFFFC {sir} B {sir} PROTECTION=1");
+    told.script.write_by(0, CONTROL, 3);
+    told.script.write_by(2, CONTROL, 3);
+    steps!(told: "{sir} 41- 41+ PROTECTION=FFFFFFFE A ?40");
+    told.script
 }
 
 /// Agreement with none chosen, with the same still there, with another, with nothing left, and with one that has to
 /// wait for the threshold; both sides in one write.
 fn releasing(side: Side) -> Script {
-    let mut script = Script::new(AINTC, &[]);
-    agree(&mut script, side);
-    script.read(SIR[side as usize]);
-    for (input, priority) in [(70, 7), (71, 8)] {
-        ilr(&mut script, input, priority, side);
-        unmask(&mut script, input);
-        script.line(input, 1);
+    let of = side as usize;
+    let mut told = Told::new(side, &format!("A SIR{of} 70:7 70u 70+ 71:8 71u 71+"));
+    steps!(told: "A 70- A 71- A A 70+ PRIORITY{of} THRESHOLD=7 A ?70");
+    told.steps("71:6 71+ ?71 71- A THRESHOLD=FF 71~6 71+ 70m");
+    for side in 0..2 {
+        told.script.steps(&status(side, 70));
     }
-    agree(&mut script, side);
-    script.line(70, 0);
-    agree(&mut script, side);
-    script.line(71, 0);
-    agree(&mut script, side);
-    agree(&mut script, side);
-    script.line(70, 1);
-    script.read(PRIORITY[side as usize]);
-    script.write(THRESHOLD, 7);
-    agree(&mut script, side);
-    status(&mut script, side, 70);
-    ilr(&mut script, 71, 6, side);
-    script.line(71, 1);
-    status(&mut script, side, 71);
-    script.line(71, 0);
-    agree(&mut script, side);
-    script.write(THRESHOLD, 0xFF);
-    ilr(&mut script, 71, 6, side.other());
-    script.line(71, 1);
-    mask(&mut script, 70);
-    for side in Side::BOTH {
-        status(&mut script, side, 70);
-    }
-    script.write(CONTROL, 3);
-    script.write(CONTROL, u32::MAX);
-    script.line(71, 0);
-    script.write(CONTROL, 3);
-    script
+    told.steps("CONTROL=3 CONTROL=FFFFFFFF 71- CONTROL=3");
+    told.script
 }
 
 /// Thresholds and priorities on both sides of each turn of the rule, one input at a time and two at once.
 fn thresholds(side: Side) -> Script {
-    let mut script = Script::new(AINTC, &[]);
-    unmask(&mut script, 9);
+    let mut told = Told::new(side, "9u");
     for threshold in [0, 1, 2, 3, 0x7E, 0x7F, 0x80, 0xFE, 0xFF, 0x100] {
-        script.write(THRESHOLD, threshold);
-        script.read(THRESHOLD);
+        steps!(told: "THRESHOLD={threshold:x} THRESHOLD");
         for priority in [0, 1, 2, 3, 0x7E, 0x7F] {
-            ilr(&mut script, 9, priority, side);
-            script.line(9, 1);
-            status(&mut script, side, 9);
-            script.line(9, 0);
-            agree(&mut script, side);
+            steps!(told: "9:{priority} 9+ ?9 9- A");
         }
     }
     for (threshold, [low, high]) in [(2, [3, 1]), (0, [1, 0]), (0x7F, [0x7F, 0x7E])] {
-        mask(&mut script, 9);
-        script.write(THRESHOLD, threshold);
-        ilr(&mut script, 9, low, side);
-        ilr(&mut script, 10, high, side);
-        script.write(ISR_SET, 0x600);
-        script.write(MIR_CLEAR, 0x600);
-        status(&mut script, side, 9);
-        script.write(ISR_CLEAR, 0x400);
-        agree(&mut script, side);
-        script.write(ISR_CLEAR, 0x200);
-        script.write(THRESHOLD, 0xFF);
-        agree(&mut script, side);
+        steps!(told: "9m THRESHOLD={threshold:x} 9:{low} 10:{high}");
+        told.steps("ISR_SET0=600 MIR_CLEAR0=600 ?9 ISR_CLEAR0=400 A ISR_CLEAR0=200");
+        told.steps("THRESHOLD=FF A");
     }
-    script
+    told.script
 }
 
 /// Every input chosen by its line and by its soft bit, while its neighbours and its own other side see nothing.
 fn every_input(side: Side) -> Script {
-    let mut script = Script::new(AINTC, &[]);
-    for input in 0..INPUTS as u32 {
-        ilr(&mut script, input, input, side);
-        unmask(&mut script, input);
-        script.line(input, 1);
-        status(&mut script, side, input);
-        script.read(of_bank(PENDING[1 - side as usize], input));
-        script.read(of_bank(MIR, input));
-        script.read(ILR + 4 * input);
-        script.line(input, 0);
-        agree(&mut script, side);
-        soft(&mut script, input);
-        status(&mut script, side, input);
-        soft_clear(&mut script, input);
-        agree(&mut script, side);
-        if input % 2 == 0 {
-            mask(&mut script, input);
+    let mut told = Told::new(side, "");
+    let other = ["PENDING_FIQ", "PENDING_IRQ"][side as usize];
+    for n in 0..INPUTS as u32 {
+        let bank = n / 32;
+        steps!(told: "{n}:{n} {n}u {n}+ ?{n} {other}{bank} MIR{bank} ILR{n}");
+        steps!(told: "{n}- A {n}s ?{n} {n}c A");
+        if n % 2 == 0 {
+            steps!(told: "{n}m");
         }
     }
-    script
+    told.script
 }
 
 /// Everything set, then the soft reset, by 2 and by 3, under protection and not, and by who may not; all is read
@@ -341,32 +211,18 @@ fn resets() -> Script {
         (1, u32::MAX, 1),
     ];
     for (privilege, value, guarded) in by {
-        for (input, side) in [
-            (0, Side::Irq),
-            (31, Side::Fiq),
-            (64, Side::Fiq),
-            (127, Side::Irq),
-        ] {
-            ilr(&mut script, input, 1 + input / 2, side);
-            unmask(&mut script, input);
-            script.line(input, 1);
+        for (input, side) in [(0, 0), (31, 1), (64, 1), (127, 0)] {
+            let (bank, ilr) = (input / 32, (1 + input / 2) << 2 | side);
+            steps!(script: "ILR{input}={ilr:x} MIR_CLEAR{bank}={:x} {input}+", bit(input));
         }
-        soft(&mut script, 1);
-        for offset in [0x000, 0x050, THRESHOLD] {
-            script.write(offset, 0xFFFF_FF76);
-        }
-        script.write(SYSCONFIG, 1);
+        script.steps("ISR_SET0=2 @0=FFFFFF76 @50=FFFFFF76 THRESHOLD=FFFFFF76 SYSCONFIG=1");
         script.write(PROTECTION, guarded);
         script.write_by(privilege, SYSCONFIG, value);
-        for offset in (0..END).step_by(4) {
-            script.read(offset);
-        }
+        (0..END).step_by(4).for_each(|offset| script.read(offset));
         for bank in 0..4 {
-            script.write(MIR_CLEAR + 0x20 * bank, u32::MAX);
+            steps!(script: "MIR_CLEAR{bank}=FFFFFFFF");
         }
-        script.read(SIR[0]);
-        script.write(PROTECTION, 0);
-        script.write(CONTROL, 3);
+        script.steps("SIR0 PROTECTION=0 CONTROL=3");
     }
     script
 }

@@ -1,7 +1,7 @@
 //! Traces that are the same for every seed: each source kept waiting, at each depth, each sort of ending, and figures
 //! that need more than a byte.
 
-use crate::generate::aic::{DCR, ENABLE, EOICR, FFER, HIGH_LEVEL, IVR, RISING_EDGE, SET};
+use crate::generate::steps::steps;
 use crate::generate::{Case, Script};
 use crate::trace::{LONGEST, PROGRAM_LIMIT};
 
@@ -19,12 +19,7 @@ pub fn all() -> Vec<Case> {
 }
 
 fn case(trace: Vec<u8>, limit: u32) -> Case {
-    Case {
-        name: "sweep",
-        trace,
-        limit,
-        room: None,
-    }
+    Case::new("sweep", trace, limit)
 }
 
 /// An AIC with internal sources and low lines.
@@ -37,10 +32,8 @@ fn tower(first: u32, entries: u32) -> Script {
     let mut script = plain();
     for level in 0..entries {
         let source = (first - 1 + level) % 31 + 1;
-        script.write(4 * source, RISING_EDGE | level);
-        script.write(ENABLE, 1 << source);
-        script.line(source, 1);
-        script.read(IVR);
+        let (mode, bit) = (0x60 | level, 1_u32 << source);
+        steps!(script: "MODE{source}={mode:x} ENABLE={bit:x} {source}+ IVR");
     }
     script
 }
@@ -48,24 +41,15 @@ fn tower(first: u32, entries: u32) -> Script {
 /// A source that waits while another one is started and closed so often; then it is started itself.
 fn kept_waiting(source: u32, times: u32) -> Script {
     let other = source % 31 + 1;
+    let (bit, both) = (1_u32 << other, 1 << source | 1 << other);
+    let again = format!("SET={bit:x} IVR EOICR=0");
     let mut script = plain();
-    script.write(4 * source, HIGH_LEVEL);
-    script.write(4 * other, RISING_EDGE | 7);
-    script.write(ENABLE, 1 << source | 1 << other);
-    script.line(source, 1);
+    steps!(script: "MODE{source}=40 MODE{other}=67 ENABLE={both:x} {source}+");
     for _ in 0..times {
-        again(&mut script, other);
+        script.steps(&again);
     }
-    script.read(IVR);
-    again(&mut script, other);
+    steps!(script: "IVR {again}");
     script
-}
-
-/// An edge source is set, started and closed.
-fn again(script: &mut Script, source: u32) {
-    script.write(SET, 1 << source);
-    script.read(IVR);
-    script.write(EOICR, 0);
 }
 
 /// The beginning of a trace of each kind.
@@ -80,15 +64,11 @@ const OPENINGS: [(u32, &[u32]); 5] = [
 /// A trace of a kind with steps of which some are refused or none.
 pub fn steps_of_kind(kind: usize, refused: bool) -> Script {
     let (number, configuration) = OPENINGS[kind];
-    let mut script = Script::new(number, configuration);
-    script.line(1, 1);
-    script.read(0);
-    if refused {
-        script.line(2_000, 1);
-        script.read(1);
-    }
-    script.line(1, 0);
-    script
+    let steps = match refused {
+        true => "1+ @0 2000+ @1 1-",
+        false => "1+ @0 1-",
+    };
+    Script::with(number, configuration, steps)
 }
 
 /// Each kind with and without refused steps, whole, cut, with an unknown step, at its limit and without steps; and what
@@ -131,20 +111,9 @@ fn large() -> Vec<Case> {
     }
     for kind in [2, 3] {
         let mut script = plain();
-        script.write(4 * 3, kind << 5);
-        script.write(4 * 2, HIGH_LEVEL | 1);
-        script.write(ENABLE, 0xC);
-        script.write(DCR, 1);
-        script.line(3, 1);
-        script.line(2, 1);
-        for _ in 0..4_500 {
-            script.read(IVR);
-            script.write(IVR, 0);
-            script.write(EOICR, 0);
-        }
-        script.write(FFER, 4);
-        script.read(IVR);
-        script.write(IVR, 0);
+        steps!(script: "MODE3={:x} MODE2=41 ENABLE=C DCR=1 3+ 2+", kind << 5);
+        script.steps(&"IVR IVR=0 EOICR=0 ".repeat(4_500));
+        script.steps("FFER=4 IVR IVR=0");
         cases.push(case(script.bytes, PROGRAM_LIMIT));
     }
     let refused = [&[0, 0, 0], [1, 1].repeat(30_000).as_slice()].concat();

@@ -1,5 +1,6 @@
 //! Typed tables that visit everything once and on purpose: every way to a level's frame, every limit, slip and form.
 
+use super::parts;
 use super::sheet::{Form, Sheet};
 use crate::model::aic::SOURCES;
 use crate::stack::text::NUMBERS;
@@ -15,13 +16,20 @@ pub fn all() -> Vec<Vec<u8>> {
     tables.extend(ways());
     tables.extend(fast_ones());
     tables.extend(limits());
-    texts.extend(tables.iter().map(|table| Sheet::plain(table).text()));
-    texts.extend(forms().iter().map(Sheet::text));
-    texts.extend(layouts().iter().map(Sheet::text));
-    texts.extend(slips().iter().map(Sheet::text));
-    texts.extend(names().iter().map(Sheet::text));
+    texts.extend(tables.iter().map(|table| typed(table, |_| ())));
+    texts.extend(forms());
+    texts.extend(layouts());
+    texts.extend(slips());
+    texts.extend(names());
     texts.extend(lengths());
     texts
+}
+
+/// The text of a table that is typed otherwise.
+fn typed(table: &Table, change: impl FnOnce(&mut Sheet)) -> Vec<u8> {
+    let mut sheet = Sheet::plain(table);
+    change(&mut sheet);
+    sheet.text()
 }
 
 /// Source n at level n modulo 8, with frames that differ from source to source; the last eight sources are forced.
@@ -117,142 +125,86 @@ fn limits() -> Vec<Table> {
 }
 
 /// All numbers in each form, with letters among their hexadecimal digits and without; the forced word at its most.
-fn forms() -> Vec<Sheet> {
-    let letters = Table {
-        forced: 0xFEDC_BA98,
+fn forms() -> Vec<Vec<u8>> {
+    let with = |forced, mark| Table {
+        forced,
+        mark,
         ..board()
     };
-    let mut digits = Table {
-        forced: 0x1234_5678,
-        mark: 0x0009,
-        ..board()
-    };
+    let letters = with(0xFEDC_BA98, board().mark);
+    let mut digits = with(0x1234_5678, 0x0009);
     for (source, row) in (0..).zip(&mut digits.rows) {
         row.frame = 0x1000 + 0x0111 * (source % 9);
     }
-    let most = Table {
-        forced: u32::MAX,
-        ..board()
-    };
-    let mut sheets = Vec::new();
-    for table in [letters, digits, most] {
-        for form in Form::ALL {
-            let mut sheet = Sheet::plain(&table);
-            (0..NUMBERS).for_each(|nth| sheet.retype(nth, form));
-            sheets.push(sheet);
-        }
-    }
-    sheets
+    let most = with(u32::MAX, board().mark);
+    let all = |sheet: &mut Sheet, form| (0..NUMBERS).for_each(|nth| sheet.retype(nth, form));
+    let in_forms = |table| Form::ALL.map(|form| typed(&table, |sheet| all(sheet, form)));
+    [letters, digits, most].map(in_forms).concat()
 }
 
 /// The same white space or comment between all numbers, and each way to begin and to end.
-fn layouts() -> Vec<Sheet> {
-    let gaps: [&[u8]; 10] = [
-        b" ",
-        b"\t",
-        b"\r",
-        b"\n",
-        b"\r\n",
-        b" \t\t  \n\n\r\r ",
-        b"#note\n",
-        b" # note\r\n",
-        b"\n# 1 2 3 # 0x4\r5\n",
-        b"#\x00\x7F\x80\xFF\n",
-    ];
-    let mut sheets = Vec::new();
-    for gap in gaps {
-        let mut sheet = Sheet::plain(&board());
-        (1..NUMBERS).for_each(|nth| sheet.gap(nth, gap));
-        sheets.push(sheet.clone());
-        sheet.gap(0, gap);
-        sheet.gap(NUMBERS, gap);
-        sheets.push(sheet);
+fn layouts() -> Vec<Vec<u8>> {
+    let gaps = b" >\t>\r>\n>\r\n> \t\t  \n\n\r\r >#note\n> # note\r\n>\n# 1 2 3 # 0x4\r5\n\
+        >#\x00\x7F\x80\xFF\n";
+    let mut texts = Vec::new();
+    for gap in parts(gaps) {
+        let between = |nths: std::ops::Range<usize>| {
+            typed(&board(), |sheet| nths.for_each(|nth| sheet.gap(nth, gap)))
+        };
+        texts.extend([between(1..NUMBERS), between(0..NUMBERS + 1)]);
     }
-    for end in [b"".as_slice(), b"#", b" # end", b"\n#"] {
-        let mut sheet = Sheet::plain(&board());
-        sheet.gap(NUMBERS, end);
-        sheets.push(sheet);
-    }
-    sheets
+    let ends = parts(b">#> # end>\n#").into_iter();
+    texts.extend(ends.map(|end| typed(&board(), |sheet| sheet.gap(NUMBERS, end))));
+    texts
 }
 
 /// Each slip of each sort of number, at the first source and at the last, and more digits than 32 or 64 bits hold; a
 /// number too many; and slips that come before another one or before a number beyond its limit.
-fn slips() -> Vec<Sheet> {
+fn slips() -> Vec<Vec<u8>> {
     let last = 3 * (SOURCES - 1);
-    let words: [&[u8]; 9] = [
-        b"0x",
-        b"0X7",
-        b"O",
-        b"7.",
-        b"4294967296",
-        b"0x100000000",
-        b"18446744073709551616",
-        b"0x10000000000000000",
-        b"100000000000000000000000000000000000000000000000000000000000000000",
-    ];
-    let mut sheets = Vec::new();
+    let words = parts(
+        b"0x>0X7>O>7.>4294967296>0x100000000>18446744073709551616>0x10000000000000000\
+        >100000000000000000000000000000000000000000000000000000000000000000",
+    );
+    let put = |nth, word| typed(&board(), |sheet| sheet.put(nth, word));
+    let mut texts = Vec::new();
     for nth in [0, 1, 2, last, last + 1, last + 2, last + 3, last + 4] {
-        let plain = Sheet::plain(&board());
-        let mut cut = plain.clone();
-        cut.cut(nth);
-        sheets.push(cut);
-        for word in words {
-            let mut sheet = plain.clone();
-            sheet.put(nth, word);
-            sheets.push(sheet);
-        }
+        texts.push(typed(&board(), |sheet| sheet.cut(nth)));
+        texts.extend(words.iter().map(|word| put(nth, word)));
     }
-    for word in [b"0".as_slice(), b"x", b"0x"] {
-        let mut sheet = Sheet::plain(&board());
-        sheet.put(NUMBERS, word);
-        sheets.push(sheet);
+    texts.extend(parts(b"0>x>0x").iter().map(|word| put(NUMBERS, word)));
+    let mark = 65_536;
+    for (first, second) in [(0, NUMBERS - 1), (40, 41), (97, NUMBERS)] {
+        let two = |table, nth, word| {
+            typed(&table, |sheet| {
+                sheet.put(nth, word);
+                sheet.put(second, b"0x");
+            })
+        };
+        texts.push(two(board(), first, b"-1"));
+        texts.push(two(Table { mark, ..board() }, 0, b"8"));
     }
-    sheets.extend(two_slips());
-    sheets
+    texts
 }
 
 /// A name behind each number, the shortest and the longest, each byte in one, and what is no name.
-fn names() -> Vec<Sheet> {
-    let with = |nth: usize, name: &[u8], parted: &[u8]| {
-        let mut sheet = Sheet::plain(&board());
-        sheet.name(nth, name, parted);
-        sheet
+fn names() -> Vec<Vec<u8>> {
+    let with =
+        |nth, name: &[u8], parted: &[u8]| typed(&board(), |sheet| sheet.name(nth, name, parted));
+    let mut texts: Vec<Vec<u8>> = (0..=NUMBERS).map(|nth| with(nth, b"name", b" ")).collect();
+    texts.extend((0..=u8::MAX).map(|byte| with(6, &[b'a', byte], b" ")));
+    texts.extend([0, 1, 24, 25].map(|length| with(3, &vec![b'x'; length], b"#\n")));
+    texts.push(with(9, b"glued", b""));
+    texts.push(with(9, b"first\" \"second", b" "));
+    texts.push(with(9, b"first\"\"second", b" "));
+    texts.push(with(96, b"first\" \"second", b" "));
+    texts.push(with(9, b"a # b", b"\n# \"\n"));
+    let all = |sheet: &mut Sheet| {
+        (0..SOURCES).for_each(|source| sheet.name(3 * source + 3, b"source", b"\t"));
     };
-    let mut sheets: Vec<Sheet> = (0..=NUMBERS).map(|nth| with(nth, b"name", b" ")).collect();
-    let bytes = (0..=u8::MAX).map(|byte| with(6, &[b'a', byte], b" "));
-    sheets.extend(bytes);
-    sheets.extend([0, 1, 24, 25].map(|length| with(3, &vec![b'x'; length], b"#\n")));
-    sheets.push(with(9, b"glued", b""));
-    sheets.push(with(9, b"first\" \"second", b" "));
-    sheets.push(with(9, b"first\"\"second", b" "));
-    sheets.push(with(96, b"first\" \"second", b" "));
-    sheets.push(with(9, b"a # b", b"\n# \"\n"));
-    let mut all = Sheet::plain(&board());
-    (0..SOURCES).for_each(|source| all.name(3 * source + 3, b"source", b"\t"));
-    sheets.push(all);
-    let mut open = Sheet::plain(&board());
-    open.gap(6, b" \"open\n");
-    sheets.push(open);
-    sheets
-}
-
-fn two_slips() -> Vec<Sheet> {
-    let mut sheets = Vec::new();
-    for (first, second) in [(0, NUMBERS - 1), (40, 41), (97, NUMBERS)] {
-        let mut sheet = Sheet::plain(&board());
-        sheet.put(first, b"-1");
-        sheet.put(second, b"0x");
-        sheets.push(sheet);
-        let mut sheet = Sheet::plain(&Table {
-            mark: 65_536,
-            ..board()
-        });
-        sheet.put(0, b"8");
-        sheet.put(second, b"0x");
-        sheets.push(sheet);
-    }
-    sheets
+    texts.push(typed(&board(), all));
+    texts.push(typed(&board(), |sheet| sheet.gap(6, b" \"open\n")));
+    texts
 }
 
 /// The longest text and its neighbours, good and bad, and much longer ones.

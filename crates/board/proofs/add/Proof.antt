@@ -2,7 +2,7 @@
 use lib.Dec.{ltb}
 use Rattle.coreinterrupt.specs.declared.Begun.{Begun}
 use Rattle.board_wires.specs.declared.Board.{Board}
-use Rattle.board_record.specs.Record.{withController, answered}
+use Rattle.board.specs.Record.{withController, answered}
 use Rattle.board.specs.Model.{checked, add}
 use Rattle.board.proofs.AnswerLaws.{taken, left, none-given}
 use mathlib.Core.Path.{sym, ap, _∙_}

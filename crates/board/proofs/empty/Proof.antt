@@ -1,5 +1,5 @@
 -- That `empty` of src/lib.rt keeps its contract.
-use Rattle.board_record.specs.Record.{empty}
+use Rattle.board.specs.Record.{empty}
 use borrow.Author.Needs.{needs}
 use Rattle.board.proofs.empty.Statement.{statement}
 use Rattle.board.proofs.empty.Tie as tie

@@ -1,5 +1,5 @@
 -- That `outputs_sound` of src/lib.rt keeps its contract.
-use Rattle.cic_hosts.specs.Hosts.{outputs}
+use Rattle.cic_registers.specs.Hosts.{outputs}
 use Rattle.words.proofs.ChoiceLaws.{pick-true}
 use mathlib.Core.Path.{_∙_}
 use borrow.Author.Needs.{needs}

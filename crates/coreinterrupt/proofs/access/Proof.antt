@@ -1,5 +1,5 @@
 -- That `access` of src/lib.rt keeps its contract.
-use Rattle.coreinterrupt_side.specs.Side.{sideAccess}
+use Rattle.coreinterrupt.specs.Side.{sideAccess}
 use Rattle.coreinterrupt.specs.Model.{fiqOffset, access}
 use mathlib.Core.Path.{ap₂, _∙_}
 use borrow.Author.Needs.{needs}

@@ -1,7 +1,7 @@
 -- That `line_moved` of src/lib.rt keeps its contract.
-use Rattle.coreinterrupt_side.specs.declared.Side.{Side}
+use Rattle.coreinterrupt.specs.declared.sides.Side.{Side}
 use Prim.Native.Nat.{ℕ}
-use Rattle.coreinterrupt_side.specs.Side.{moved}
+use Rattle.coreinterrupt.specs.Side.{moved}
 use Rattle.coreinterrupt.specs.Model.{fiqLine, withSide, lineMoved}
 use mathlib.Core.Path.{ap, ap₂, _∙_}
 use borrow.Author.Needs.{needs}

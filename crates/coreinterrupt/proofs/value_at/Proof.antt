@@ -1,5 +1,5 @@
 -- That `value_at` of src/lib.rt keeps its contract.
-use Rattle.coreinterrupt_side.specs.Side.{sideRead}
+use Rattle.coreinterrupt.specs.Side.{sideRead}
 use Rattle.coreinterrupt.specs.Model.{fiqOffset, valueAt}
 use mathlib.Core.Path.{ap₂, _∙_}
 use borrow.Author.Needs.{needs}

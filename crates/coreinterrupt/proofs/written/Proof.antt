@@ -1,7 +1,7 @@
 -- That `written` of src/lib.rt keeps its contract.
-use Rattle.coreinterrupt_side.specs.declared.Side.{Side}
+use Rattle.coreinterrupt.specs.declared.sides.Side.{Side}
 use Prim.Native.Nat.{ℕ}
-use Rattle.coreinterrupt_side.specs.Side.{sideWrite}
+use Rattle.coreinterrupt.specs.Side.{sideWrite}
 use Rattle.coreinterrupt.specs.Model.{fiqOffset, withSide, written}
 use mathlib.Core.Path.{ap, ap₂, _∙_}
 use borrow.Author.Needs.{needs}

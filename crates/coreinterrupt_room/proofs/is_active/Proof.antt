@@ -3,7 +3,7 @@ use mathlib.Core.Path.{ap}
 use Prim.Native.Nat.{ℕ}
 use mathlib.Core.Bool.{not}
 use lib.Dec.{eqb}
-use Rattle.coreinterrupt_side.specs.Side.{active}
+use Rattle.coreinterrupt.specs.Side.{active}
 use borrow.Author.Needs.{needs}
 use Rattle.coreinterrupt_room.proofs.is_active.Statement.{statement}
 use Rattle.coreinterrupt_room.proofs.is_active.Tie as tie

@@ -2,7 +2,7 @@
 use mathlib.Core.Path.{ap}
 use Prim.Native.Nat.{ℕ}
 use lib.Dec.{eqb}
-use Rattle.coreinterrupt_side.specs.Side.{moved}
+use Rattle.coreinterrupt.specs.Side.{moved}
 use Rattle.coreinterrupt.specs.Model.{side, withSide, fiqLine}
 use Rattle.coreinterrupt_room.proofs.RoomLaws.{laid-as}
 use Rattle.coreinterrupt_room.proofs.StepLaws.{done-as, line-stopped, line-carried}

@@ -1,6 +1,6 @@
 -- That `output_level` of src/lib.rt keeps its contract.
 use mathlib.Core.Path.{ap, _∙_}
-use Rattle.coreinterrupt_side.specs.Side.{outputLevel}
+use Rattle.coreinterrupt.specs.Side.{outputLevel}
 use borrow.Author.Needs.{needs}
 use Rattle.coreinterrupt_room.proofs.output_level.Statement.{statement}
 use Rattle.coreinterrupt_room.proofs.output_level.Tie as tie

@@ -1,6 +1,6 @@
 -- That `raw` of src/lib.rt keeps its contract.
 use mathlib.Core.Path.{ap₂, _∙_}
-use Rattle.coreinterrupt_side.specs.Side.{raw}
+use Rattle.coreinterrupt.specs.Side.{raw}
 use Rattle.words.specs.Word.{either}
 use Rattle.coreinterrupt_room.proofs.RoomLaws.{inputs-is, soft-is}
 use borrow.Author.Needs.{needs}

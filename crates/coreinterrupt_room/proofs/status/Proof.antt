@@ -1,6 +1,6 @@
 -- That `status` of src/lib.rt keeps its contract.
 use mathlib.Core.Path.{ap₂, _∙_}
-use Rattle.coreinterrupt_side.specs.Side.{status}
+use Rattle.coreinterrupt.specs.Side.{status}
 use Rattle.words.specs.Word.{both}
 use Rattle.coreinterrupt_room.proofs.RoomLaws.{enable-is}
 use borrow.Author.Needs.{needs}

@@ -39,20 +39,20 @@ use denote.Triple.Table.{entered, cited}
 use denote.Triple.Walked.{says, Stays, stay-ref, stay-none, walkOf, AllGo, goes-none, goes-ref, Walks, ends-at, walked, walk-meets}
 use denote.Exit.{yes}
 use denote.Triple.Clauses.{ensured, lasts}
-use Rattle.coreinterrupt_lent.specs.Lent.{stepTold, replyOf, leftBy}
+use Rattle.coreinterrupt_room.specs.Lent.{stepTold, replyOf, leftBy}
 use Rattle.coreinterrupt.specs.declared.Core.{Core}
 use Rattle.coreinterrupt.specs.declared.Answer.{Answer}
 use Rattle.coreinterrupt.proofs.Core as T
 use Rattle.coreinterrupt.proofs.Core.Laws as T′
 use Rattle.coreinterrupt.proofs.Answer as U
 use Rattle.coreinterrupt.proofs.Answer.Laws as U′
-use Rattle.coreinterrupt_lent.proofs.Reply as Q
-use Rattle.coreinterrupt_lent.proofs.Reply.Laws as Q′
-use Rattle.coreinterrupt_lent.proofs.step_told as callee
-use Rattle.coreinterrupt_lent.proofs.step_told.Symbol as callee-def
-use Rattle.coreinterrupt_lent.proofs.step_told.Symbol.{name as #callee}
-use Rattle.coreinterrupt_lent.proofs.step_told.Met as callee-thm
-use Rattle.coreinterrupt_lent.proofs.ValueLaws.{vals, reply-val, spelt-as, rec-is, reply-is}
+use Rattle.coreinterrupt_room.proofs.lent.Reply as Q
+use Rattle.coreinterrupt_room.proofs.lent.Reply.Laws as Q′
+use Rattle.coreinterrupt_room.proofs.lent.step_told as callee
+use Rattle.coreinterrupt_room.proofs.lent.step_told.Symbol as callee-def
+use Rattle.coreinterrupt_room.proofs.lent.step_told.Symbol.{name as #callee}
+use Rattle.coreinterrupt_room.proofs.lent.step_told.Met as callee-thm
+use Rattle.coreinterrupt_room.proofs.ValueLaws.{vals, reply-val, spelt-as, rec-is, reply-is}
 use Rattle.exports.proofs.wisteria_core_step.Key.{name as #lent}
 use Rattle.exports.proofs.wisteria_core_step as lent
 use Rattle.exports.proofs.wisteria_core_step.Statement as stated
@@ -144,4 +144,4 @@ wisteria-core-step-spec 𝓤 H 𝓜 𝓖 𝓡 =
     entered 𝓤 H (tripleOf 𝓤 H (𝓖 .A) lent.signature (lent.spec 𝓤 H (𝓖 .A) (𝓜 .mem) (𝓡 .run)))
     (tables 𝓤 H 𝓜 𝓡 code.env .C) (tables 𝓤 H 𝓜 𝓡 code.env .Λ) #lent code.function (code.unfolded 𝓤 H 𝓜 𝓡)
     (lent-meets 𝓤 H (𝓖 .A) (givenOf 𝓤 H 𝓜 𝓖) (𝓜 .mem) (𝓡 .run) (tablesOf 𝓤 H 𝓜 (tables 𝓤 H 𝓜 𝓡 code.env))
-    (cited 𝓤 H (Callee 𝓤 H (𝓖 .A) (𝓜 .mem) (𝓡 .run)) 𝓜 𝓡 code.env #callee callee-def.routine code.calls-coreinterrupt-lent·step-told (callee-thm.met 𝓤 H 𝓜 𝓖 𝓡)))
+    (cited 𝓤 H (Callee 𝓤 H (𝓖 .A) (𝓜 .mem) (𝓡 .run)) 𝓜 𝓡 code.env #callee callee-def.routine code.calls-coreinterrupt-room·lent·step-told (callee-thm.met 𝓤 H 𝓜 𝓖 𝓡)))

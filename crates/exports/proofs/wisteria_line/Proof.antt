@@ -1,6 +1,6 @@
 -- That `wisteria_line` of src/lib.rt keeps its contract.
 use mathlib.Core.Path.{refl}
-use Rattle.controller.proofs.ControllerLaws.{stepped-to}
+use Rattle.machine_room.proofs.ControllerLaws.{stepped-to}
 use borrow.Author.Needs.{needs}
 use Rattle.exports.proofs.wisteria_line.Statement.{statement}
 use Rattle.exports.proofs.wisteria_line.Tie as tie

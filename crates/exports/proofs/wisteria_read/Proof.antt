@@ -1,5 +1,5 @@
 -- That `wisteria_read` of src/lib.rt keeps its contract.
-use Rattle.controller.proofs.ControllerLaws.{stepped-to}
+use Rattle.machine_room.proofs.ControllerLaws.{stepped-to}
 use borrow.Author.Needs.{needs}
 use Rattle.exports.proofs.wisteria_read.Statement.{statement}
 use Rattle.exports.proofs.wisteria_read.Tie as tie

@@ -4,7 +4,7 @@ use mathlib.Core.List.{List}
 use native.Mathlib.Omega.{arith}
 use mathlib.Core.Path.{_≡_, sym}
 use lib.ListN.{length, replicate, length-replicate}
-use Rattle.sheet_figures.specs.declared.Noted.{Noted}
+use Rattle.totals.specs.declared.sheets.Noted.{Noted}
 use Rattle.sheet.specs.Rows.{traceRow, leftOutRow}
 use Rattle.sheet.proofs.PageSizeLaws.{length-trace, length-left-out}
 use Rattle.sheet.proofs.row_room.Statement.{statement}

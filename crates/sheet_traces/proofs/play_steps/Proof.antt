@@ -13,7 +13,7 @@ use Rattle.aic_room.specs.Room.{Laid}
 use Rattle.aic_waits.specs.Following.{noFigures as noTotals}
 use Rattle.aic_figures.specs.Book.{Kept as Counted}
 use Rattle.aic_bounds.specs.Figures.{noFigures}
-use Rattle.aic_wait_book.specs.Book.{Kept}
+use Rattle.aic_figures.specs.WaitsBook.{Kept}
 use Rattle.sheet_traces.specs.Following.{watchedFirst}
 use Rattle.sheet_traces.proofs.LoopLaws.{Watching, begins, played-whole, small, some-left, stands, met, watches-on}
 use borrow.Author.Needs.{needs}
@@ -61,7 +61,7 @@ add-refused c =
 
 watched-after-requires : tie.Need-watched-after-requires Inv-loop μ-loop
 watched-after-requires c κs =
-    let i = c .before .before .before .before .before .before .before .before .before .before .before .before .before .before .before in
+    let i = c .before .before .before .before .before .before .before .before .before .before .before .before in
     let s = i .before .before in
     let l = s .before in
     let f = l .before .before .before .before .before .before in
@@ -90,8 +90,8 @@ loop-less c =
 
 loop-again : tie.Need-loop-again Inv-loop μ-loop
 loop-again c =
-    let o = c .before .before in
-    let y = o .before .before .before in
+    let o = c .before .before .before in
+    let y = o .before .before in
     let q = y .before .before .before in
     let d = q .before in
     let b = d .before in
@@ -104,11 +104,11 @@ loop-again c =
     λ first ok n h e j k.
     let g = l .loop .inv first ok n h e j k in
     let t = s .turn .ensures in
-    watches-on _ g t n (i .if1 .left) (a .step .last .0) (a .step .ensures) _ _ _ _ refl (r .refusal-in .ensures) (m .marks .ensures) (b .brought .ensures) _ _ (y .follow .last .0)
-    (o .follow2 .last .0)
-    (c .watched-after .ensures (g .aic) _ (g .ok) (g .laid .shaped) (stands _ g t n (i .if1 .left) (a .step .last .0) (a .step .ensures))
+    watches-on _ g t n (i .if1 .left) (a .step .last .0) (a .step .ensures) _ _ _ _ refl (r .refusal-in .ensures) (m .marks .ensures) (b .brought .ensures) _ _ (c .follow2 .last .0)
+    (y .follow .last .0)
+    (o .watched-after .ensures (g .aic) _ (g .ok) (g .laid .shaped) (stands _ g t n (i .if1 .left) (a .step .last .0) (a .step .ensures))
     (met _ g t n (i .if1 .left) (a .step .last .0) (a .step .ensures) _ _ _ _ refl (r .refusal-in .ensures) (m .marks .ensures) (b .brought .ensures) _ (d .is-idle .ensures)))
-    (q .one-if .ensures) (y .follow .ensures) (o .follow2 .ensures)
+    (q .one-if .ensures) (c .follow2 .ensures) (y .follow .ensures)
 
 pub play-steps-spec : {M : Type 1} → statement M
 play-steps-spec =
@@ -135,8 +135,8 @@ play-steps-spec =
     (λ c κs. search needs)
     add-refused
     (λ c κs. search needs)
-    (λ c κs. search needs)
     watched-after-requires
+    (λ c κs. search needs)
     sub-left
     loop-less
     loop-again)

@@ -2,7 +2,7 @@
 use Prim.Native.Nat.{ℕ}
 use mathlib.Core.Path.{_≡_, ap, _∙_}
 use Rattle.aic_record.specs.declared.Aic.{Aic}
-use Rattle.stack_kept.specs.Kept.{unkept}
+use Rattle.stack.specs.Kept.{unkept}
 use Rattle.sheet_traces.proofs.WatchLaws.{strays-as-they-were, strays-anew}
 use borrow.Author.Needs.{needs}
 use Rattle.sheet_traces.proofs.strays_after.Statement.{statement}

@@ -13,7 +13,7 @@ use Rattle.aic_figures.specs.Book.{Kept}
 use Rattle.machine.specs.declared.record.Machine.{Machine}
 use Rattle.machine.specs.RecordPromises.{Ready}
 use Rattle.machine_room.specs.Room.{Laid}
-use Rattle.loops.proofs.LoopLaws.{stands}
+use Rattle.player.proofs.LoopLaws.{stands}
 use Rattle.tally.proofs.LoopLaws.{Tallying, tallies-on}
 use Rattle.tally.proofs.TurnLaws.{tallied-ended}
 use borrow.Author.Needs.{needs}

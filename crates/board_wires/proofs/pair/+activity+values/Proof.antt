@@ -19,7 +19,7 @@ use Rattle.board_wires.proofs.pair.lined_core.Reads as lined-core-reads
 use Rattle.board_wires.proofs.pair.values_by.Reads as values-by-reads
 use Rattle.board_wires.proofs.pair.with_told.Reads as with-told-reads
 use Rattle.board_wires.proofs.core_at.Reads as core-at-reads
-use Rattle.coreinterrupt_side.proofs.active.Reads as active-reads
+use Rattle.coreinterrupt.proofs.sides.active.Reads as active-reads
 use Rattle.board_wires.proofs.pair.+activity+values.{statement}
 use Rattle.board_wires.proofs.pair.+activity+values.Tie.{close}
 

@@ -3,8 +3,8 @@ use mathlib.Core.Path.{ap, _∙_}
 use borrow.Author.Tests.{eq-eqb, ne-eqb}
 use Rattle.words.proofs.ChoiceLaws.{pick-true, pick-false}
 use Rattle.cic_held.specs.declared.Prioritised.{Prioritised}
-use Rattle.cic_looked.specs.declared.Looked.{Looked}
-use Rattle.cic_looked.specs.Looking.{lookAt}
+use Rattle.cic_prioritised.specs.declared.looked.Looked.{Looked}
+use Rattle.cic_prioritised.specs.Looking.{lookAt}
 use Rattle.player.specs.After.{wordsOf}
 use borrow.Author.Needs.{needs}
 use Rattle.player.proofs.looked.words_of.Statement.{statement}

@@ -3,7 +3,7 @@ use Prim.Native.Nat.{_≤_}
 use mathlib.Core.Path.{refl, sym, ap, _∙_}
 use native.Mathlib.Omega.{arith}
 use lib.Seq.{length-take-le}
-use Rattle.sheet_figures.specs.declared.Sheet.{Sheet}
+use Rattle.totals.specs.declared.sheets.Sheet.{Sheet}
 use Rattle.sheet_run.specs.declared.progress.Sum.{Sum}
 use Rattle.sheet_run.proofs.PutLaws.{put-none, put-shut}
 use borrow.Author.Needs.{needs}

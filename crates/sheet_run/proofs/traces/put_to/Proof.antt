@@ -1,7 +1,7 @@
 -- That `put_to` of src/traces.rt keeps its contract.
 use mathlib.Core.Path.{ap, _∙_}
-use Rattle.sheet_figures.specs.declared.Added.{Added}
-use Rattle.sheet_figures.specs.Sheet.{added}
+use Rattle.totals.specs.declared.sheets.Added.{Added}
+use Rattle.totals.specs.Sheet.{added}
 use borrow.Author.Needs.{needs}
 use Rattle.sheet_run.proofs.traces.put_to.Statement.{statement}
 use Rattle.sheet_run.proofs.traces.put_to.Tie as tie

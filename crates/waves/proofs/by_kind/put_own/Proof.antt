@@ -3,7 +3,7 @@ use mathlib.Core.List.{[]}
 use Rattle.text.proofs.WriteLaws.{nothing}
 use Rattle.vcd.specs.Dump.{declarations}
 use Rattle.kinds.proofs.KindLaws.{at-aic, at-core, at-cic, at-aintc, at-indexed, at-none}
-use Rattle.signals.specs.Signals.{ofAic as aicRows, ofCore as coreRows, ofCic as cicRows, ofAintc as aintcRows, ofIndexed as indexedRows, ownRows}
+use Rattle.waves.specs.Signals.{ofAic as aicRows, ofCore as coreRows, ofCic as cicRows, ofAintc as aintcRows, ofIndexed as indexedRows, ownRows}
 use Rattle.waves.proofs.HeadingLaws.{declared-as}
 use borrow.Author.Needs.{needs}
 use Rattle.waves.proofs.by_kind.put_own.Statement.{statement}

@@ -1,3 +1,0 @@
--- One side of CoreInterrupt, FIQ or IRQ, and what is promised of it.
-pub mod Side
-pub mod Promises
