@@ -9,28 +9,28 @@ use lib.Dec.{eqb, ltb, leb}
 use lib.ListN.{set}
 use borrow.Author.Tests.{eqb-false, eq-eqb, ne_eqb, lt-ltb, le-ltb, le-leb, lt-leb, ltb-true, leb-false}
 use Rattle.words.specs.Choice.{pick}
-use Rattle.words.specs.Word.{bit, kept, either, both, without, withBit}
-use Rattle.words.proofs.ChoiceLaws.{pick-cases}
-use Rattle.words.proofs.WordLaws.{bit-wordOf, bit-alone, bit-either, bit-both, bit-without}
+use Rattle.words.specs.Word.{bit, kept, either, both, without, with_bit}
+use Rattle.words.proofs.ChoiceLaws.{pick_cases}
+use Rattle.words.proofs.WordLaws.{bit-word_of, bit_alone, bit-either, bit-both, bit-without}
 use Rattle.steps.specs.declared.Access.{Access}
 use Rattle.steps.specs.declared.Access.TheVariants.{NoRegister, ReadOnly, WriteOnly, ReadWrite}
-use Rattle.steps.specs.Refusals.{readRefusal, writeRefusal}
+use Rattle.steps.specs.Refusals.{read_refusal, write_refusal}
 use Rattle.aic_record.specs.declared.Aic.{Aic}
-use Rattle.aic_record.specs.Record.{withMemory, withMode}
-use Rattle.aic_record.specs.Mode.{type_of, keptMode, kind, edge}
+use Rattle.aic_record.specs.Record.{with_memory, with_mode}
+use Rattle.aic_record.specs.Mode.{type_of, kept_mode, kind, edge}
 use Rattle.aic_record.specs.Sound.{sound}
-use Rattle.aic_sources.specs.Pending.{edgeWord}
+use Rattle.aic_sources.specs.Pending.{edge_word}
 use Rattle.aic_registers.specs.Map.{svr, ivr, fvr, cisr, iecr, eoicr, dcr, ffer, ffdr, ffsr, access}
-use Rattle.aic_registers.specs.Handlers.{answered, ivrWritten, current, closedLast, ended}
-use Rattle.aic_registers.specs.Effects.{moded, vectored, enabledBy, disabledBy, setBy, clearedBy, debugBy, forcedBy, unforcedBy}
-use Rattle.aic_registers.specs.Registers.{outputBits, stored, readAt, writtenAt}
-use Rattle.aic.specs.Model.{readNumber, writeNumber, read, write}
+use Rattle.aic_registers.specs.Handlers.{answered, ivr_written, current, closed_last, ended}
+use Rattle.aic_registers.specs.Effects.{moded, vectored, enabled_by, disabled_by, set_by, cleared_by, debug_by, forced_by, unforced_by}
+use Rattle.aic_registers.specs.Registers.{output_bits, stored, read_at, written_at}
+use Rattle.aic.specs.Model.{read_number, write_number, read, write}
 use Rattle.aic.specs.Tables.{Sets, MapTable, Reads, Writes}
-use Rattle.words.proofs.WordLaws.{same_word, bit_kept, kept-lt, bit-cleared, either_lt, without-lt, withBit-lt}
+use Rattle.words.proofs.WordLaws.{same_word, bit_kept, kept_lt, bit-cleared, either_lt, without_lt, with_bit_lt}
 
 -- the two bits of debug control that are kept
 kept-is : (v n : ℕ) → n < 4 → bit n 0 ≡ bit v 0 → bit n 1 ≡ bit v 1 → kept 2 v ≡ n
-kept-is v n l p q = same_word 2 (kept 2 v) n (kept-lt 2 v) l (λ k m. bits k m (ℕ_discrete k 0))
+kept-is v n l p q = same_word 2 (kept 2 v) n (kept_lt 2 v) l (λ k m. bits k m (ℕ_discrete k 0))
   where
     bits : (k : ℕ) → k < 2 → Dec (k ≡ 0) → bit (kept 2 v) k ≡ bit n k
     bits k m (yes e) = rw e (bit_kept 2 v 0 ∙ and-true (bit v 0) ∙ sym p)
@@ -38,19 +38,19 @@ kept-is v n l p q = same_word 2 (kept 2 v) n (kept-lt 2 v) l (λ k m. bits k m (
 
 kept_on : (v : ℕ) → bit v 0 ≡ true → kept 2 v ≡ pick (bit v 1) 3 1
 kept_on v e =
-    pick-cases (λ (n : ℕ). kept 2 v ≡ n) (bit v 1) (λ h. kept-is v 3 (omega arith) (rw e (unfold bit in refl)) (rw h (unfold bit in refl)))
+    pick_cases (λ (n : ℕ). kept 2 v ≡ n) (bit v 1) (λ h. kept-is v 3 (omega arith) (rw e (unfold bit in refl)) (rw h (unfold bit in refl)))
     (λ h. kept-is v 1 (omega arith) (rw e (unfold bit in refl)) (rw h (unfold bit in refl)))
 
 kept_off : (v : ℕ) → bit v 0 ≡ false → kept 2 v ≡ pick (bit v 1) 2 0
 kept_off v e =
-    pick-cases (λ (n : ℕ). kept 2 v ≡ n) (bit v 1) (λ h. kept-is v 2 (omega arith) (rw e (unfold bit in refl)) (rw h (unfold bit in refl)))
+    pick_cases (λ (n : ℕ). kept 2 v ≡ n) (bit v 1) (λ h. kept-is v 2 (omega arith) (rw e (unfold bit in refl)) (rw h (unfold bit in refl)))
     (λ h. kept-is v 0 (omega arith) (rw e (unfold bit in refl)) (rw h (unfold bit in refl)))
 
 module _ (s : Aic) (ok : sound s ≡ true) where
   -- ---- writes
 
   mode-write : (k v : ℕ) → k < 32 → write s (k * 4) v ≡ answered (moded s k v) 0
-  unfolding write writeNumber writeRefusal access writtenAt pick
+  unfolding write write_number write_refusal access written_at pick
   mode-write k v l =
       let e : k * 4 / 4 ≡ k = omega arith in
       rw (
@@ -62,7 +62,7 @@ module _ (s : Aic) (ok : sound s ≡ true) where
       )
 
   vector-write : (k v : ℕ) → k < 32 → write s (svr + k * 4) v ≡ answered (vectored s k v) 0
-  unfolding write writeNumber writeRefusal access writtenAt pick
+  unfolding write write_number write_refusal access written_at pick
   vector-write k v l =
       let e : (svr + k * 4) / 4 - 32 ≡ k = omega arith in
       rw (
@@ -75,55 +75,55 @@ module _ (s : Aic) (ok : sound s ≡ true) where
       )
 
   retyped : (k v : ℕ) → k < 32 → kind s k ≢ type_of v
-      → Sets (write s (k * 4) v) 0 s.memory (λ w. withMode (withMemory s w) (set s.mode k (keptMode v))) (λ j. bit s.memory j && not (eqb j k))
+      → Sets (write s (k * 4) v) 0 s.memory (λ w. with_mode (with_memory s w) (set s.mode k (kept_mode v))) (λ j. bit s.memory j && not (eqb j k))
   unfolding moded pick
   retyped k v l d =
       record {
-        word = withBit s.memory k false;
+        word = with_bit s.memory k false;
         done = mode-write k v l ∙ rw (ne_eqb (kind s k) (type_of v) d);
         bits = bit-cleared s.memory k;
-        below = λ _. withBit-lt s.memory k false;
+        below = λ _. with_bit_lt s.memory k false;
       }
 
-  reranked : (k v : ℕ) → k < 32 → kind s k ≡ type_of v → write s (k * 4) v ≡ answered (withMode s (set s.mode k (keptMode v))) 0
+  reranked : (k v : ℕ) → k < 32 → kind s k ≡ type_of v → write s (k * 4) v ≡ answered (with_mode s (set s.mode k (kept_mode v))) 0
   unfolding moded pick
   reranked k v l e = mode-write k v l ∙ rw (eq-eqb (kind s k) (type_of v) e)
 
   module _ (v : ℕ) where
-    bits-edge : (k : ℕ) → k < 32 → bit (both v (edgeWord s)) k ≡ (bit v k && edge s k)
-    unfolding edgeWord
-    bits-edge k l = bit-both v (edgeWord s) k l ∙ rw (bit-wordOf 32 (edge s) k l)
+    bits-edge : (k : ℕ) → k < 32 → bit (both v (edge_word s)) k ≡ (bit v k && edge s k)
+    unfolding edge_word
+    bits-edge k l = bit-both v (edge_word s) k l ∙ rw (bit-word_of 32 (edge s) k l)
 
-    bits-force : (k : ℕ) → k < 32 → bit (without v 1) k ≡ (bit v k && not (eqb k 0))
-    bits-force k l = bit-without v 1 k l ∙ rw (bit-alone 0 k)
+    bits_force : (k : ℕ) → k < 32 → bit (without v 1) k ≡ (bit v k && not (eqb k 0))
+    bits_force k l = bit-without v 1 k l ∙ rw (bit_alone 0 k)
 
-    pub writes-of : Writes s v
-    unfolding write writeNumber writeRefusal access writtenAt pick
-        vectored enabledBy disabledBy setBy clearedBy forcedBy unforcedBy debugBy ivrWritten ended closedLast
-    writes-of =
+    pub writes_of : Writes s v
+    unfolding write write_number write_refusal access written_at pick
+        vectored enabled_by disabled_by set_by cleared_by forced_by unforced_by debug_by ivr_written ended closed_last
+    writes_of =
         record {
           retyped = λ k l d. retyped k v l d;
           reranked = λ k l e. reranked k v l e;
           vectors = λ k l. vector-write k v l;
           ignored = λ o. rw (ok, o);
           enables = record { word = either s.enabled v; done = rw ok; bits = bit-either s.enabled v; below = λ _. either_lt s.enabled v };
-          disables = record { word = without s.enabled v; done = rw ok; bits = bit-without s.enabled v; below = λ _. without-lt s.enabled v };
+          disables = record { word = without s.enabled v; done = rw ok; bits = bit-without s.enabled v; below = λ _. without_lt s.enabled v };
           sets =
               record {
-                word = either s.memory (both v (edgeWord s));
+                word = either s.memory (both v (edge_word s));
                 done = rw ok;
-                bits = λ k l. bit-either s.memory (both v (edgeWord s)) k l ∙ rw (bits-edge k l);
-                below = λ _. either_lt s.memory (both v (edgeWord s));
+                bits = λ k l. bit-either s.memory (both v (edge_word s)) k l ∙ rw (bits-edge k l);
+                below = λ _. either_lt s.memory (both v (edge_word s));
               };
           clears =
               record {
-                word = without s.memory (both v (edgeWord s));
+                word = without s.memory (both v (edge_word s));
                 done = rw ok;
-                bits = λ k l. bit-without s.memory (both v (edgeWord s)) k l ∙ rw (bits-edge k l);
-                below = λ _. without-lt s.memory (both v (edgeWord s));
+                bits = λ k l. bit-without s.memory (both v (edge_word s)) k l ∙ rw (bits-edge k l);
+                below = λ _. without_lt s.memory (both v (edge_word s));
               };
           closes = λ d. rw (ok, ne_eqb s.depth 0 d);
-          closesNone = λ e. rw (ok, eq-eqb s.depth 0 e);
+          closes_none = λ e. rw (ok, eq-eqb s.depth 0 e);
           spurious = rw ok;
           protecting = λ e. rw (ok, e, kept_on v e);
           leaving = λ e. rw (ok, e, kept_off v e);
@@ -131,16 +131,16 @@ module _ (s : Aic) (ok : sound s ≡ true) where
               record {
                 word = either s.forced (without v 1);
                 done = rw ok;
-                bits = λ k l. bit-either s.forced (without v 1) k l ∙ rw (bits-force k l);
+                bits = λ k l. bit-either s.forced (without v 1) k l ∙ rw (bits_force k l);
                 below = λ _. either_lt s.forced (without v 1);
               };
-          unforces = record { word = without s.forced v; done = rw ok; bits = bit-without s.forced v; below = λ _. without-lt s.forced v };
+          unforces = record { word = without s.forced v; done = rw ok; bits = bit-without s.forced v; below = λ _. without_lt s.forced v };
         }
 
   -- ---- plain reads
 
   pub reads_of : Reads s
-  unfolding read readNumber readRefusal access readAt stored current outputBits pick
+  unfolding read read_number read_refusal access read_at stored current output_bits pick
   reads_of =
       record {
         modes = λ k l.
@@ -166,8 +166,8 @@ module _ (s : Aic) (ok : sound s ≡ true) where
               lt-ltb (svr + k * 4) ivr (omega arith),
               e,
             );
-        noneOpen = λ e. rw (ok, eq-eqb s.depth 0 e);
-        someOpen = λ d. rw (ok, ne_eqb s.depth 0 d);
+        none_open = λ e. rw (ok, eq-eqb s.depth 0 e);
+        some_open = λ d. rw (ok, ne_eqb s.depth 0 d);
         pendings = rw ok;
         enables = rw ok;
         outputs = rw ok;
@@ -194,14 +194,14 @@ write-only e = let z : ◌≡◌ {A = ℕ} 0 1 = cc in omega arith
 absent-gap : (o : ℕ) → o % 4 ≡ 0 → access o ≡ NoRegister → Gap o
 unfolding access
 absent-gap o a =
-    pick-cases A (leb o ivr) (λ _ e. absurd (both_ways e)) (λ _.
-    pick-cases A (leb o cisr) (λ _ e. absurd (read-only e)) (λ n.
-    pick-cases A (ltb o iecr) (λ l _. low (omega (arith, leb-false)) (omega (arith, ltb-true)) (ℕ_discrete o 0x118)) (λ _.
-    pick-cases A (leb o eoicr) (λ _ e. absurd (write-only e)) (λ _.
-    pick-cases A (leb o dcr) (λ _ e. absurd (both_ways e)) (λ m.
-    pick-cases A (ltb o ffer) (λ l _. inr (inr (inl (omega (arith, leb-false o dcr m, ltb-true o ffer l))))) (λ _.
-    pick-cases A (leb o ffdr) (λ _ e. absurd (write-only e)) (λ k.
-    pick-cases A (eqb o ffsr) (λ _ e. absurd (read-only e)) (λ d _. inr (inr (inr (omega (arith, leb-false o ffdr k, eqb-false o ffsr d))))))))))))
+    pick_cases A (leb o ivr) (λ _ e. absurd (both_ways e)) (λ _.
+    pick_cases A (leb o cisr) (λ _ e. absurd (read-only e)) (λ n.
+    pick_cases A (ltb o iecr) (λ l _. low (omega (arith, leb-false)) (omega (arith, ltb-true)) (ℕ_discrete o 0x118)) (λ _.
+    pick_cases A (leb o eoicr) (λ _ e. absurd (write-only e)) (λ _.
+    pick_cases A (leb o dcr) (λ _ e. absurd (both_ways e)) (λ m.
+    pick_cases A (ltb o ffer) (λ l _. inr (inr (inl (omega (arith, leb-false o dcr m, ltb-true o ffer l))))) (λ _.
+    pick_cases A (leb o ffdr) (λ _ e. absurd (write-only e)) (λ k.
+    pick_cases A (eqb o ffsr) (λ _ e. absurd (read-only e)) (λ d _. inr (inr (inr (omega (arith, leb-false o ffdr k, eqb-false o ffsr d))))))))))))
   where
     A : Access → Type 0
     A x = x ≡ NoRegister → Gap o
@@ -216,9 +216,9 @@ the-map =
     record {
       modes = λ k l. rw (le-leb (k * 4) ivr (omega arith));
       vectors = λ k l. rw (le-leb (svr + k * 4) ivr (omega arith));
-      readWrite = (refl, refl, refl);
+      read_write = (refl, refl, refl);
       read_only = (refl, refl, refl, refl, refl, refl);
-      writeOnly = (refl, refl, refl, refl, refl, refl, refl);
+      write_only = (refl, refl, refl, refl, refl, refl, refl);
       absent = λ o a. (absent-gap o a, bare o);
     }
   where

@@ -3,7 +3,7 @@ use Rattle.std.specs.Prelude.{ℕ, Bool, false, eqb, ltb}
 use Rattle.words.specs.Choice.{pick}
 use Rattle.steps.specs.declared.Step.{Step}
 use Rattle.steps.specs.declared.Step.TheVariants.{Read, Write, Line}
-use Rattle.steps.specs.Refusals.{carriedOut, unsound, readRefusal, writeRefusal, lineRefusal}
+use Rattle.steps.specs.Refusals.{carried_out, unsound, read_refusal, write_refusal, line_refusal}
 use Rattle.aic_record.specs.declared.Aic.{Aic}
 use Rattle.aic_record.specs.Record.{reset}
 use Rattle.aic_record.specs.Sound.{sound}
@@ -15,35 +15,35 @@ use Rattle.aic.specs.declared.Signals.{Signals}
 use Rattle.aic_registers.specs.Map.{access}
 use Rattle.aic_registers.specs.Handlers.{answered, refused}
 use Rattle.aic_registers.specs.Effects.{moved}
-use Rattle.aic_registers.specs.Registers.{readAt, writtenAt}
+use Rattle.aic_registers.specs.Registers.{read_at, written_at}
 
 -- two configuration numbers, the external sources and the first line levels, each any word: no start is refused (01, AIC, Configuration)
 unfoldable pub within : ℕ → ℕ → Bool
 within nth value = ltb nth 2
 
 unfoldable pub start : ℕ → ℕ → Begun
-start external lines = record { refusal = carriedOut; aic = reset external lines }
+start external lines = record { refusal = carried_out; aic = reset external lines }
 
 -- by which number a read, a write or a line step is refused, 0 for none; a register that is written takes any value, and lines 0 to 31 are the
 -- inputs (01, Numbers; 02, 9/12)
-unfoldable pub readNumber : Aic → ℕ → ℕ
-readNumber s o = readRefusal (sound s) o (access o)
+unfoldable pub read_number : Aic → ℕ → ℕ
+read_number s o = read_refusal (sound s) o (access o)
 
-unfoldable pub writeNumber : Aic → ℕ → ℕ → ℕ
-writeNumber s o v = writeRefusal (sound s) o (access o) carriedOut
+unfoldable pub write_number : Aic → ℕ → ℕ → ℕ
+write_number s o v = write_refusal (sound s) o (access o) carried_out
 
-unfoldable pub lineNumber : Aic → ℕ → ℕ → ℕ
-lineNumber s k l = lineRefusal (sound s) 32 k l
+unfoldable pub line_number : Aic → ℕ → ℕ → ℕ
+line_number s k l = line_refusal (sound s) 32 k l
 
 -- a read, a write and a line step: carried out, or refused
 unfoldable pub read : Aic → ℕ → Answer
-read s o = pick (eqb (readNumber s o) carriedOut) (readAt s o) (refused s (readNumber s o))
+read s o = pick (eqb (read_number s o) carried_out) (read_at s o) (refused s (read_number s o))
 
 unfoldable pub write : Aic → ℕ → ℕ → Answer
-write s o v = pick (eqb (writeNumber s o v) carriedOut) (answered (writtenAt s o v) 0) (refused s (writeNumber s o v))
+write s o v = pick (eqb (write_number s o v) carried_out) (answered (written_at s o v) 0) (refused s (write_number s o v))
 
 unfoldable pub line : Aic → ℕ → ℕ → Answer
-line s k l = pick (eqb (lineNumber s k l) carriedOut) (answered (moved s k (eqb l 1)) 0) (refused s (lineNumber s k l))
+line s k l = pick (eqb (line_number s k l) carried_out) (answered (moved s k (eqb l 1)) 0) (refused s (line_number s k l))
 
 -- a step of a recorded trace
 abbrev pub step : Aic → Step → Answer
@@ -55,5 +55,5 @@ step s (Line k l) = line s k l
 unfoldable pub outputs : Aic → Signals
 outputs s =
     pick (sound s)
-    (record { refusal = carriedOut; irq = irq s; fiq = fiq s; entries = s.depth })
+    (record { refusal = carried_out; irq = irq s; fiq = fiq s; entries = s.depth })
     (record { refusal = unsound; irq = false; fiq = false; entries = 0 })

@@ -3,4 +3,4 @@ use Rattle.aic_bounds.specs.FiguresPromises.{Promises}
 use Rattle.aic_bounds.proofs.FigureLaws.{figures-tell}
 
 pub kept : Promises
-kept = record { figuresTell = figures-tell }
+kept = record { figures_tell = figures-tell }

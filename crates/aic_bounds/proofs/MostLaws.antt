@@ -11,22 +11,22 @@ use lib.ListN.{length, length-append}
 use borrow.Author.Tests.{eqb-true, eq-eqb, ne_eqb, ltb-true, lt-ltb, le-ltb}
 use Rattle.words.specs.Choice.{pick}
 use Rattle.words.specs.Counting.{one}
-use Rattle.words.proofs.ChoiceLaws.{pick-cases}
+use Rattle.words.proofs.ChoiceLaws.{pick_cases}
 use Rattle.words.proofs.TruthLaws.{and_left, and_right, and_both, clash}
 use Rattle.steps.specs.declared.Step.{Step}
 use Rattle.aic_record.specs.declared.Aic.{Aic}
 use Rattle.aic_record.specs.Promises.{Shaped}
 use Rattle.aic_sources.specs.Normal.{waiting}
 use Rattle.aic.specs.Model.{step}
-use Rattle.aic_runs.specs.Counted.{startsOf, startsOther, rewrites, steady}
+use Rattle.aic_runs.specs.Counted.{starts_of, starts_other, rewrites, steady}
 use Rattle.aic_runs.specs.Runs.{run, always}
-use Rattle.aic_waits.specs.Figures.{waitNext, waitAfter, waitMost, waitedOf}
+use Rattle.aic_waits.specs.Figures.{wait_next, wait_after, wait_most, waited_of}
 use Rattle.aic_bounds.specs.declared.Bound.{Bound}
-use Rattle.aic_bounds.specs.Bounds.{idle, fresh, grown, boundAfter, boundOver, bound_at, boundOf}
-use Rattle.aic_bounds.specs.Over.{bounds, withBound, mostOver, boundedOf, begunOver, waitsBegun, loses, unboundedOver, waitsUnbounded}
+use Rattle.aic_bounds.specs.Bounds.{idle, fresh, grown, bound_after, bound_over, bound_at, bound_of}
+use Rattle.aic_bounds.specs.Over.{bounds, with_bound, most_over, bounded_of, begun_over, waits_begun, loses, unbounded_over, waits_unbounded}
 use Rattle.aic_bounds.specs.Promises.{outset, Waiting, Ends, Whole}
-use Rattle.aic_bounds.proofs.StepLaws.{next-on, step-cases, after-wait, over-append}
-use Rattle.aic_bounds.proofs.TermLaws.{stuck-here, terms-of, wait-where, every-moment}
+use Rattle.aic_bounds.proofs.StepLaws.{next_on, step_cases, after-wait, over_append}
+use Rattle.aic_bounds.proofs.TermLaws.{stuck_here, terms_of, wait_where, every-moment}
 
 -- ---- the bound of the wait that stands
 
@@ -38,47 +38,47 @@ is-bounds : (b : Bound) → 2 ≤ b.wait → b.broke ≡ 0 → bounds b ≡ true
 unfolding bounds
 is-bounds b l z = and_both (lt-ltb 1 b.wait l) (eq-eqb b.broke 0 z)
 
-with-more : (m : ℕ) (b : Bound) → m ≤ withBound m b
-unfolding withBound
-with-more m b = pick-cases (λ r. m ≤ r) (bounds b) (λ _. omega arith) (λ _. omega arith)
+with-more : (m : ℕ) (b : Bound) → m ≤ with_bound m b
+unfolding with_bound
+with-more m b = pick_cases (λ r. m ≤ r) (bounds b) (λ _. omega arith) (λ _. omega arith)
 
-with_bound : (m : ℕ) (b : Bound) → 2 ≤ b.wait → b.broke ≡ 0 → withBound m b ≡ max m (boundOf b)
-unfolding withBound pick
-with_bound m b l z = rw (is-bounds b l z)
+with_bound_lem : (m : ℕ) (b : Bound) → 2 ≤ b.wait → b.broke ≡ 0 → with_bound m b ≡ max m (bound_of b)
+unfolding with_bound pick
+with_bound_lem m b l z = rw (is-bounds b l z)
 
-with-most : (m : ℕ) (b : Bound) → withBound m b ≤ max m (boundOf b)
-unfolding withBound
-with-most m b = pick-cases (λ r. r ≤ max m (boundOf b)) (bounds b) (λ _. omega arith) (λ _. omega arith)
+with-most : (m : ℕ) (b : Bound) → with_bound m b ≤ max m (bound_of b)
+unfolding with_bound
+with-most m b = pick_cases (λ r. r ≤ max m (bound_of b)) (bounds b) (λ _. omega arith) (λ _. omega arith)
 
 -- one that does not wait adds nothing
-pub with_none : (m : ℕ) (b : Bound) → b.wait < 2 → withBound m b ≡ m
-unfolding withBound
-with_none m b l = pick-cases (λ r. r ≡ m) (bounds b) (λ e. absurd (omega (arith, l, (bounds-is b e).0))) (λ _. refl)
+pub with_none : (m : ℕ) (b : Bound) → b.wait < 2 → with_bound m b ≡ m
+unfolding with_bound
+with_none m b l = pick_cases (λ r. r ≡ m) (bounds b) (λ e. absurd (omega (arith, l, (bounds-is b e).0))) (λ _. refl)
 
-with-which : (m r : ℕ) (b : Bound) → r ≡ withBound m b → (r ≡ m) ⊎ ((bounds b ≡ true) × (r ≡ boundOf b))
-unfolding withBound
-with-which m r b =
-    pick-cases (λ q. r ≡ q → (r ≡ m) ⊎ ((bounds b ≡ true) × (r ≡ boundOf b))) (bounds b) (λ e q. go e (dec_lt m (boundOf b)) q) (λ e q. inl q)
+with_which : (m r : ℕ) (b : Bound) → r ≡ with_bound m b → (r ≡ m) ⊎ ((bounds b ≡ true) × (r ≡ bound_of b))
+unfolding with_bound
+with_which m r b =
+    pick_cases (λ q. r ≡ q → (r ≡ m) ⊎ ((bounds b ≡ true) × (r ≡ bound_of b))) (bounds b) (λ e q. go e (dec_lt m (bound_of b)) q) (λ e q. inl q)
   where
-    go : bounds b ≡ true → Dec (m < boundOf b) → r ≡ max m (boundOf b) → (r ≡ m) ⊎ ((bounds b ≡ true) × (r ≡ boundOf b))
+    go : bounds b ≡ true → Dec (m < bound_of b) → r ≡ max m (bound_of b) → (r ≡ m) ⊎ ((bounds b ≡ true) × (r ≡ bound_of b))
     go e (yes l) q = inr (e, omega (arith, q, l))
     go e (no g) q = inl (omega (arith, q, g))
 
 -- ---- part of a run, then the rest
 
-run-next : (s : Aic) (ps : List Step) (x : Step) → run s (ps ++ (x ∷ [])) ≡ (step (run s ps) x).aic
+run_next : (s : Aic) (ps : List Step) (x : Step) → run s (ps ++ (x ∷ [])) ≡ (step (run s ps) x).aic
 unfolding run
-run-next s [] x = refl
-run-next s (p ∷ ps) x = run-next (step s p).aic ps x
+run_next s [] x = refl
+run_next s (p ∷ ps) x = run_next (step s p).aic ps x
 
-pub most-append : (k n : ℕ) (b : Bound) (m : ℕ) (s : Aic) (xs ys : List Step)
-    → mostOver k n b m s (xs ++ ys) ≡ mostOver k (n + length xs) (boundOver k n b s xs) (mostOver k n b m s xs) (run s xs) ys
-unfolding mostOver boundOver run
-most-append k n b m s [] ys = ap (λ (i : ℕ). mostOver k i b m s ys) (omega arith)
-most-append k n b m s (x ∷ xs) ys =
-    most-append k (n + 1) (boundAfter k (n + 1) b s x) _ (step s x).aic xs ys
-    ∙ ap (λ (i : ℕ). mostOver k i (boundOver k (n + 1) (boundAfter k (n + 1) b s x) (step s x).aic xs)
-    (mostOver k (n + 1) (boundAfter k (n + 1) b s x) (pick (ltb (boundAfter k (n + 1) b s x).wait 2) (withBound m b) m) (step s x).aic xs)
+pub most_append : (k n : ℕ) (b : Bound) (m : ℕ) (s : Aic) (xs ys : List Step)
+    → most_over k n b m s (xs ++ ys) ≡ most_over k (n + length xs) (bound_over k n b s xs) (most_over k n b m s xs) (run s xs) ys
+unfolding most_over bound_over run
+most_append k n b m s [] ys = ap (λ (i : ℕ). most_over k i b m s ys) (omega arith)
+most_append k n b m s (x ∷ xs) ys =
+    most_append k (n + 1) (bound_after k (n + 1) b s x) _ (step s x).aic xs ys
+    ∙ ap (λ (i : ℕ). most_over k i (bound_over k (n + 1) (bound_after k (n + 1) b s x) (step s x).aic xs)
+    (most_over k (n + 1) (bound_after k (n + 1) b s x) (pick (ltb (bound_after k (n + 1) b s x).wait 2) (with_bound m b) m) (step s x).aic xs)
     (run (step s x).aic xs) ys) (omega arith)
 
 no_less : (c : Bool) (m r : ℕ) → m ≤ r → m ≤ pick c r m
@@ -86,67 +86,67 @@ unfolding pick
 no_less true m r h = h
 no_less false m r h = omega arith
 
-pub most-grows : (k n : ℕ) (b : Bound) (m : ℕ) (s : Aic) (xs : List Step) → m ≤ mostOver k n b m s xs
-unfolding mostOver
-most-grows k n b m s [] = omega arith
-most-grows k n b m s (x ∷ xs) =
+pub most_grows : (k n : ℕ) (b : Bound) (m : ℕ) (s : Aic) (xs : List Step) → m ≤ most_over k n b m s xs
+unfolding most_over
+most_grows k n b m s [] = omega arith
+most_grows k n b m s (x ∷ xs) =
     omega (
       arith,
-      most-grows k (n + 1) (boundAfter k (n + 1) b s x) (pick (ltb (boundAfter k (n + 1) b s x).wait 2) (withBound m b) m) (step s x).aic xs,
-      no_less (ltb (boundAfter k (n + 1) b s x).wait 2) m (withBound m b) (with-more m b),
+      most_grows k (n + 1) (bound_after k (n + 1) b s x) (pick (ltb (bound_after k (n + 1) b s x).wait 2) (with_bound m b) m) (step s x).aic xs,
+      no_less (ltb (bound_after k (n + 1) b s x).wait 2) m (with_bound m b) (with-more m b),
     )
 
 -- ---- none has more
 
 -- a step that ends a wait leaves none
-ends-none : (w : ℕ) (waits own other : Bool) → (waits ≡ false) ⊎ (own ≡ true) → waitNext w waits own other < 2
-unfolding waitNext pick
+ends-none : (w : ℕ) (waits own other : Bool) → (waits ≡ false) ⊎ (own ≡ true) → wait_next w waits own other < 2
+unfolding wait_next pick
 ends-none w false own other h = omega arith
 ends-none w true own other (inl e) = clash refl e
 ends-none w true own other (inr e) = rw e (omega arith)
 
 module _ (k n : ℕ) (b : Bound) (m : ℕ) (u : Aic) (l : 2 ≤ b.wait) (z : b.broke ≡ 0) where
-  ended-most : (after : List Step) → Ends k u after → boundOf b ≤ withBound (mostOver k n b m u after) (boundOver k n b u after)
-  unfolding mostOver boundOver
-  ended-most [] e = omega (arith, with_bound m b l z)
+  ended-most : (after : List Step) → Ends k u after → bound_of b ≤ with_bound (most_over k n b m u after) (bound_over k n b u after)
+  unfolding most_over bound_over
+  ended-most [] e = omega (arith, with_bound_lem m b l z)
   ended-most (y ∷ ys) e =
       let w = after-wait k (n + 1) b u y in
-      let d : (boundAfter k (n + 1) b u y).wait < 2 = omega (arith, w, ends-none b.wait (waiting (step u y).aic k) (startsOf k u y) (startsOther k u y) e) in
-      let c : pick (ltb (boundAfter k (n + 1) b u y).wait 2) (withBound m b) m ≡ withBound m b =
-      rw (lt-ltb (boundAfter k (n + 1) b u y).wait 2 d) (unfold pick in refl) in
+      let d : (bound_after k (n + 1) b u y).wait < 2 = omega (arith, w, ends-none b.wait (waiting (step u y).aic k) (starts_of k u y) (starts_other k u y) e) in
+      let c : pick (ltb (bound_after k (n + 1) b u y).wait 2) (with_bound m b) m ≡ with_bound m b =
+      rw (lt-ltb (bound_after k (n + 1) b u y).wait 2 d) (unfold pick in refl) in
       omega (
         arith,
         c,
-        with_bound m b l z,
-        most-grows k (n + 1) (boundAfter k (n + 1) b u y) (pick (ltb (boundAfter k (n + 1) b u y).wait 2) (withBound m b) m) (step u y).aic ys,
-        with-more (mostOver k (n + 1) (boundAfter k (n + 1) b u y) (pick (ltb (boundAfter k (n + 1) b u y).wait 2) (withBound m b) m) (step u y).aic ys)
-            (boundOver k (n + 1) (boundAfter k (n + 1) b u y) (step u y).aic ys),
+        with_bound_lem m b l z,
+        most_grows k (n + 1) (bound_after k (n + 1) b u y) (pick (ltb (bound_after k (n + 1) b u y).wait 2) (with_bound m b) m) (step u y).aic ys,
+        with-more (most_over k (n + 1) (bound_after k (n + 1) b u y) (pick (ltb (bound_after k (n + 1) b u y).wait 2) (with_bound m b) m) (step u y).aic ys)
+            (bound_over k (n + 1) (bound_after k (n + 1) b u y) (step u y).aic ys),
       )
 
-run-append : (s : Aic) (xs ys : List Step) → run s (xs ++ ys) ≡ run (run s xs) ys
+run_append : (s : Aic) (xs ys : List Step) → run s (xs ++ ys) ≡ run (run s xs) ys
 unfolding run
-run-append s [] ys = refl
-run-append s (x ∷ xs) ys = run-append (step s x).aic xs ys
+run_append s [] ys = refl
+run_append s (x ∷ xs) ys = run_append (step s x).aic xs ys
 
 -- the record after a wait
 pub outset-run : (s : Aic) (before : List Step) (x : Step) (during : List Step) → run s (before ++ (x ∷ during)) ≡ run (outset s before x) during
 unfolding run
-outset-run s before x during = run-append s before (x ∷ during)
+outset-run s before x during = run_append s before (x ∷ during)
 
 pub most-largest : (s : Aic) (k : ℕ) (xs before : List Step) (x : Step) (during after : List Step) → Whole k s xs before x during after
-    → always steady (outset s before x) during ≡ true → boundOf (bound_at k s (before ++ (x ∷ during))) ≤ boundedOf k s xs
+    → always steady (outset s before x) during ≡ true → bound_of (bound_at k s (before ++ (x ∷ during))) ≤ bounded_of k s xs
 most-largest s k xs before x during after w h = rw (w.parts ∙ sym (append_assoc before (x ∷ during) after)) parted
   where
     ps : List Step
     ps = before ++ (x ∷ during)
 
-    parted : boundOf (bound_at k s (before ++ (x ∷ during))) ≤ boundedOf k s ((before ++ (x ∷ during)) ++ after)
-    parted = unfold boundedOf bound_at in (
-        let c = terms-of k s before x during w.waits in
+    parted : bound_of (bound_at k s (before ++ (x ∷ during))) ≤ bounded_of k s ((before ++ (x ∷ during)) ++ after)
+    parted = unfold bounded_of bound_at in (
+        let c = terms_of k s before x during w.waits in
         let e = outset-run s before x during in
-        rw (over-append k 0 (idle 0) s (before ++ (x ∷ during)) after, most-append k 0 (idle 0) 0 s (before ++ (x ∷ during)) after)
-        (ended-most k (0 + length (before ++ (x ∷ during))) (boundOver k 0 (idle 0) s (before ++ (x ∷ during)))
-        (mostOver k 0 (idle 0) 0 s (before ++ (x ∷ during))) (run s (before ++ (x ∷ during)))
+        rw (over_append k 0 (idle 0) s (before ++ (x ∷ during)) after, most_append k 0 (idle 0) 0 s (before ++ (x ∷ during)) after)
+        (ended-most k (0 + length (before ++ (x ∷ during))) (bound_over k 0 (idle 0) s (before ++ (x ∷ during)))
+        (most_over k 0 (idle 0) 0 s (before ++ (x ∷ during))) (run s (before ++ (x ∷ during)))
         (omega (arith, c.started)) (c.holds.1 h) after (rw e w.ends)))
 
 -- ---- some wait has it
@@ -154,15 +154,15 @@ most-largest s k xs before x during after w h = rw (w.parts ∙ sym (append_asso
 abbrev Found : Aic → ℕ → List Step → ℕ → Type 0
 Found s k xs r =
     (before : List Step) × (x : Step) × (during : List Step) × (after : List Step) × Whole k s xs before x during after
-    × (always steady (outset s before x) during ≡ true) × (r ≡ boundOf (bound_at k s (before ++ (x ∷ during))))
+    × (always steady (outset s before x) during ≡ true) × (r ≡ bound_of (bound_at k s (before ++ (x ∷ during))))
 
 -- the wait that stands after part of a run, and ends there
-whole-now : (s : Aic) (k : ℕ) (ps rest : List Step) → 2 ≤ (bound_at k s ps).wait → (bound_at k s ps).broke ≡ 0 → Ends k (run s ps) rest
-    → Found s k (ps ++ rest) (boundOf (bound_at k s ps))
-whole-now s k ps rest l z e = go (wait-where s k ps l)
+whole_now : (s : Aic) (k : ℕ) (ps rest : List Step) → 2 ≤ (bound_at k s ps).wait → (bound_at k s ps).broke ≡ 0 → Ends k (run s ps) rest
+    → Found s k (ps ++ rest) (bound_of (bound_at k s ps))
+whole_now s k ps rest l z e = go (wait_where s k ps l)
   where
     go : (before : List Step) × (x : Step) × (during : List Step) × (ps ≡ before ++ (x ∷ during)) × Waiting k s before x during
-        → Found s k (ps ++ rest) (boundOf (bound_at k s ps))
+        → Found s k (ps ++ rest) (bound_of (bound_at k s ps))
     go (before, x, during, q, w) = (
       before,
       x,
@@ -173,8 +173,8 @@ whole-now s k ps rest l z e = go (wait-where s k ps l)
         waits = w;
         ends = rw (sym (outset-run s before x during), sym q) e;
       },
-      (terms-of k s before x during w).holds.0 (ap (λ (a : List Step). (bound_at k s a).broke) (sym q) ∙ z),
-      ap (λ (a : List Step). boundOf (bound_at k s a)) q,
+      (terms_of k s before x during w).holds.0 (ap (λ (a : List Step). (bound_at k s a).broke) (sym q) ∙ z),
+      ap (λ (a : List Step). bound_of (bound_at k s a)) q,
     )
 
 -- part of a run, and what is observed after it
@@ -184,78 +184,78 @@ pub record At (s : Aic) (k : ℕ) (ps : List Step) (n : ℕ) (b : Bound) (u : Ai
   pub passed : n ≡ length ps
 
 pub at_next : (s : Aic) (k : ℕ) (ps : List Step) (n : ℕ) (b : Bound) (u : Aic) (x : Step) → At s k ps n b u
-    → At s k (ps ++ (x ∷ [])) (n + 1) (boundAfter k (n + 1) b u x) (step u x).aic
-unfolding bound_at boundOver
+    → At s k (ps ++ (x ∷ [])) (n + 1) (bound_after k (n + 1) b u x) (step u x).aic
+unfolding bound_at bound_over
 at_next s k ps n b u x a =
     record {
       seen =
-          ap₂ (λ (c : Bound) (v : Aic). boundAfter k (n + 1) c v x) a.seen a.reached
-          ∙ ap (λ (i : ℕ). boundAfter k i (boundOver k 0 (idle 0) s ps) (run s ps) x) (omega (arith, a.passed))
-          ∙ sym (over-append k 0 (idle 0) s ps (x ∷ []));
-      reached = ap (λ (v : Aic). (step v x).aic) a.reached ∙ sym (run-next s ps x);
+          ap₂ (λ (c : Bound) (v : Aic). bound_after k (n + 1) c v x) a.seen a.reached
+          ∙ ap (λ (i : ℕ). bound_after k i (bound_over k 0 (idle 0) s ps) (run s ps) x) (omega (arith, a.passed))
+          ∙ sym (over_append k 0 (idle 0) s ps (x ∷ []));
+      reached = ap (λ (v : Aic). (step v x).aic) a.reached ∙ sym (run_next s ps x);
       passed = omega (arith, a.passed, length-append ps (x ∷ []));
     }
 
 -- a step after which a source that waited does not ends its wait
-pub none-ends : (w : ℕ) (waits own other : Bool) → 2 ≤ w → waitNext w waits own other < 2 → (waits ≡ false) ⊎ (own ≡ true)
+pub none-ends : (w : ℕ) (waits own other : Bool) → 2 ≤ w → wait_next w waits own other < 2 → (waits ≡ false) ⊎ (own ≡ true)
 none-ends w false own other l h = inl refl
 none-ends w true true other l h = inr refl
-none-ends w true false other l h = absurd (omega (arith, l, h, next-on w true false other l refl refl))
+none-ends w true false other l h = absurd (omega (arith, l, h, next_on w true false other l refl refl))
 
 module _ (s : Aic) (k : ℕ) (ps : List Step) (n : ℕ) (b : Bound) (u : Aic) (m : ℕ) (x : Step) (xs : List Step) (a : At s k ps n b u) (r : ℕ) where
   abbrev b' : Bound
-  b' = boundAfter k (n + 1) b u x
+  b' = bound_after k (n + 1) b u x
 
-  ended_here : bounds b ≡ true → b'.wait < 2 → r ≡ boundOf b → Found s k (ps ++ (x ∷ xs)) r
+  ended_here : bounds b ≡ true → b'.wait < 2 → r ≡ bound_of b → Found s k (ps ++ (x ∷ xs)) r
   ended_here e l q =
       let o = bounds-is b e in
-      let w : waitAfter k b.wait u x < 2 = omega (arith, l, after-wait k (n + 1) b u x) in
-      let f = none-ends b.wait (waiting (step u x).aic k) (startsOf k u x) (startsOther k u x) o.0 w in
-      rw (q ∙ ap boundOf a.seen)
-      (whole-now s k ps (x ∷ xs) (rw (← a.seen) o.0) (rw (← a.seen) o.1) (rw (← a.reached) f))
+      let w : wait_after k b.wait u x < 2 = omega (arith, l, after-wait k (n + 1) b u x) in
+      let f = none-ends b.wait (waiting (step u x).aic k) (starts_of k u x) (starts_other k u x) o.0 w in
+      rw (q ∙ ap bound_of a.seen)
+      (whole_now s k ps (x ∷ xs) (rw (← a.seen) o.0) (rw (← a.seen) o.1) (rw (← a.reached) f))
 
-  found_here : r ≡ pick (ltb b'.wait 2) (withBound m b) m → (r ≡ m) ⊎ Found s k (ps ++ (x ∷ xs)) r
+  found_here : r ≡ pick (ltb b'.wait 2) (with_bound m b) m → (r ≡ m) ⊎ Found s k (ps ++ (x ∷ xs)) r
   found_here =
-      pick-cases (λ q. r ≡ q → (r ≡ m) ⊎ Found s k (ps ++ (x ∷ xs)) r) (ltb b'.wait 2) (λ c q. sort (ltb-true b'.wait 2 c) (with-which m r b q))
+      pick_cases (λ q. r ≡ q → (r ≡ m) ⊎ Found s k (ps ++ (x ∷ xs)) r) (ltb b'.wait 2) (λ c q. sort (ltb-true b'.wait 2 c) (with_which m r b q))
       (λ c q. inl q)
     where
-      sort : b'.wait < 2 → (r ≡ m) ⊎ ((bounds b ≡ true) × (r ≡ boundOf b)) → (r ≡ m) ⊎ Found s k (ps ++ (x ∷ xs)) r
+      sort : b'.wait < 2 → (r ≡ m) ⊎ ((bounds b ≡ true) × (r ≡ bound_of b)) → (r ≡ m) ⊎ Found s k (ps ++ (x ∷ xs)) r
       sort l (inl e) = inl e
       sort l (inr (e, q)) = inr (ended_here e l q)
 
-  found-more : (r ≡ pick (ltb b'.wait 2) (withBound m b) m) ⊎ Found s k ((ps ++ (x ∷ [])) ++ xs) r → (r ≡ m) ⊎ Found s k (ps ++ (x ∷ xs)) r
+  found-more : (r ≡ pick (ltb b'.wait 2) (with_bound m b) m) ⊎ Found s k ((ps ++ (x ∷ [])) ++ xs) r → (r ≡ m) ⊎ Found s k (ps ++ (x ∷ xs)) r
   found-more (inl e) = found_here e
   found-more (inr f) = inr (rw (← append_assoc ps (x ∷ []) xs) f)
 
 found : (s : Aic) (k : ℕ) (ps : List Step) (n : ℕ) (b : Bound) (u : Aic) (m : ℕ) (xs : List Step) → At s k ps n b u
-    → (mostOver k n b m u xs ≡ m) ⊎ Found s k (ps ++ xs) (mostOver k n b m u xs)
-unfolding mostOver
+    → (most_over k n b m u xs ≡ m) ⊎ Found s k (ps ++ xs) (most_over k n b m u xs)
+unfolding most_over
 found s k ps n b u m [] a = inl refl
 found s k ps n b u m (x ∷ xs) a =
     found-more s k ps n b u m x xs a _
-    (found s k (ps ++ (x ∷ [])) (n + 1) (boundAfter k (n + 1) b u x) (step u x).aic
-    (pick (ltb (boundAfter k (n + 1) b u x).wait 2) (withBound m b) m) xs (at_next s k ps n b u x a))
+    (found s k (ps ++ (x ∷ [])) (n + 1) (bound_after k (n + 1) b u x) (step u x).aic
+    (pick (ltb (bound_after k (n + 1) b u x).wait 2) (with_bound m b) m) xs (at_next s k ps n b u x a))
 
 pub at_first : (s : Aic) (k : ℕ) → At s k [] 0 (idle 0) s
-unfolding bound_at boundOver run
+unfolding bound_at bound_over run
 at_first s k = record { seen = refl; reached = refl; passed = refl }
 
-pub most-reached : (s : Aic) (k : ℕ) (xs : List Step) → (boundedOf k s xs ≡ 0) ⊎ Found s k xs (boundedOf k s xs)
-unfolding boundedOf
-most-reached s k xs = go (with-which (mostOver k 0 (idle 0) 0 s xs) (withBound (mostOver k 0 (idle 0) 0 s xs) (bound_at k s xs)) (bound_at k s xs) refl)
+pub most-reached : (s : Aic) (k : ℕ) (xs : List Step) → (bounded_of k s xs ≡ 0) ⊎ Found s k xs (bounded_of k s xs)
+unfolding bounded_of
+most-reached s k xs = go (with_which (most_over k 0 (idle 0) 0 s xs) (with_bound (most_over k 0 (idle 0) 0 s xs) (bound_at k s xs)) (bound_at k s xs) refl)
   where
-    before : (r : ℕ) → r ≡ mostOver k 0 (idle 0) 0 s xs → (mostOver k 0 (idle 0) 0 s xs ≡ 0) ⊎ Found s k xs (mostOver k 0 (idle 0) 0 s xs)
+    before : (r : ℕ) → r ≡ most_over k 0 (idle 0) 0 s xs → (most_over k 0 (idle 0) 0 s xs ≡ 0) ⊎ Found s k xs (most_over k 0 (idle 0) 0 s xs)
         → (r ≡ 0) ⊎ Found s k xs r
     before r e f = rw e f
 
-    last : (r : ℕ) → bounds (bound_at k s xs) ≡ true → r ≡ boundOf (bound_at k s xs) → Found s k xs r
+    last : (r : ℕ) → bounds (bound_at k s xs) ≡ true → r ≡ bound_of (bound_at k s xs) → Found s k xs r
     last r e q =
         let o = bounds-is (bound_at k s xs) e in
-        rw q (subst (λ (l : List Step). Found s k l (boundOf (bound_at k s xs))) (append-nil xs) (whole-now s k xs [] o.0 o.1 tt))
+        rw q (subst (λ (l : List Step). Found s k l (bound_of (bound_at k s xs))) (append-nil xs) (whole_now s k xs [] o.0 o.1 tt))
 
-    go : (withBound (mostOver k 0 (idle 0) 0 s xs) (bound_at k s xs) ≡ mostOver k 0 (idle 0) 0 s xs)
-        ⊎ ((bounds (bound_at k s xs) ≡ true) × (withBound (mostOver k 0 (idle 0) 0 s xs) (bound_at k s xs) ≡ boundOf (bound_at k s xs)))
-        → (withBound (mostOver k 0 (idle 0) 0 s xs) (bound_at k s xs) ≡ 0) ⊎ Found s k xs (withBound (mostOver k 0 (idle 0) 0 s xs) (bound_at k s xs))
+    go : (with_bound (most_over k 0 (idle 0) 0 s xs) (bound_at k s xs) ≡ most_over k 0 (idle 0) 0 s xs)
+        ⊎ ((bounds (bound_at k s xs) ≡ true) × (with_bound (most_over k 0 (idle 0) 0 s xs) (bound_at k s xs) ≡ bound_of (bound_at k s xs)))
+        → (with_bound (most_over k 0 (idle 0) 0 s xs) (bound_at k s xs) ≡ 0) ⊎ Found s k xs (with_bound (most_over k 0 (idle 0) 0 s xs) (bound_at k s xs))
     go (inl e) = before _ e (found s k [] 0 (idle 0) s 0 xs (at_first s k))
     go (inr (e, q)) = inr (last _ e q)
 
@@ -271,36 +271,36 @@ once m r h = go (ℕ_discrete m 0) (ℕ_discrete r 0)
     go (no e) (no f) = rw (ne_eqb m 0 e, ne_eqb r 0 f) (omega arith)
 
 loses-step : (k n : ℕ) (b : Bound) (s : Aic) (x : Step)
-    → one (loses b (boundAfter k n b s x)) + one (bounds (boundAfter k n b s x)) ≤ one (ltb b.wait 2 && ltb 1 (waitAfter k b.wait s x)) + one (bounds b)
+    → one (loses b (bound_after k n b s x)) + one (bounds (bound_after k n b s x)) ≤ one (ltb b.wait 2 && ltb 1 (wait_after k b.wait s x)) + one (bounds b)
 unfolding bounds loses
 loses-step k n b s x =
-    step-cases k n b s x
+    step_cases k n b s x
     (λ r. one (eqb b.broke 0 && not (eqb r.broke 0)) + one (ltb 1 r.wait && eqb r.broke 0)
-    ≤ one (ltb b.wait 2 && ltb 1 (waitAfter k b.wait s x)) + one (ltb 1 b.wait && eqb b.broke 0))
-    (λ l. rw (le-ltb 1 (waitAfter k b.wait s x) (omega (arith, l)), and-false (eqb b.broke 0)) (omega arith))
+    ≤ one (ltb b.wait 2 && ltb 1 (wait_after k b.wait s x)) + one (ltb 1 b.wait && eqb b.broke 0))
+    (λ l. rw (le-ltb 1 (wait_after k b.wait s x) (omega (arith, l)), and-false (eqb b.broke 0)) (omega arith))
     (λ e z. rw (e, z, and-false (eqb b.broke 0)) (omega arith))
-    (λ l o. rw (lt-ltb 1 (waitAfter k b.wait s x) l, le-ltb b.wait 2 o, lt-ltb 1 b.wait o)
-    (omega (arith, once b.broke (pick (eqb b.broke 0 && rewrites s x) n b.broke) (stuck-here b.broke n (rewrites s x)))))
+    (λ l o. rw (lt-ltb 1 (wait_after k b.wait s x) l, le-ltb b.wait 2 o, lt-ltb 1 b.wait o)
+    (omega (arith, once b.broke (pick (eqb b.broke 0 && rewrites s x) n b.broke) (stuck_here b.broke n (rewrites s x)))))
 
-fewer : (k n : ℕ) (b : Bound) (s : Aic) (xs : List Step) → unboundedOver k n b s xs ≤ begunOver k b.wait s xs + one (bounds b)
-unfolding unboundedOver begunOver
+fewer : (k n : ℕ) (b : Bound) (s : Aic) (xs : List Step) → unbounded_over k n b s xs ≤ begun_over k b.wait s xs + one (bounds b)
+unfolding unbounded_over begun_over
 fewer k n b s [] = omega arith
 fewer k n b s (x ∷ xs) =
     omega (
       arith,
       loses-step k (n + 1) b s x,
-      fewer k (n + 1) (boundAfter k (n + 1) b s x) (step s x).aic xs,
-      ap (λ (w : ℕ). begunOver k w (step s x).aic xs) (after-wait k (n + 1) b s x),
+      fewer k (n + 1) (bound_after k (n + 1) b s x) (step s x).aic xs,
+      ap (λ (w : ℕ). begun_over k w (step s x).aic xs) (after-wait k (n + 1) b s x),
     )
 
-pub fewer-unbounded : (s : Aic) (k : ℕ) (xs : List Step) → waitsUnbounded k s xs ≤ waitsBegun k s xs
-unfolding bounds waitsUnbounded waitsBegun
-fewer-unbounded s k xs = omega (arith, fewer k 0 (idle 0) s xs)
+pub fewer_unbounded : (s : Aic) (k : ℕ) (xs : List Step) → waits_unbounded k s xs ≤ waits_begun k s xs
+unfolding bounds waits_unbounded waits_begun
+fewer_unbounded s k xs = omega (arith, fewer k 0 (idle 0) s xs)
 
 -- ---- what was seen
 
-grown-more : (w n : ℕ) (b : Bound) (s : Aic) (x : Step) → boundOf b ≤ boundOf (grown w b n s x)
-unfolding boundOf
+grown-more : (w n : ℕ) (b : Bound) (s : Aic) (x : Step) → bound_of b ≤ bound_of (grown w b n s x)
+unfolding bound_of
 grown-more w n b s x = omega arith
 
 -- a step by which no wait loses its bound
@@ -311,44 +311,44 @@ unbroken-step m r z h = go (ℕ_discrete r 0)
     go (yes e) = e
     go (no d) = absurd (omega (arith, h, ap one (and_both (eq-eqb m 0 z) (ap not (ne_eqb r 0 d)))))
 
-seen_step : (k n : ℕ) (b : Bound) (s : Aic) (x : Step) (m o : ℕ) → o ≤ withBound m b → (boundAfter k n b s x).broke ≡ 0
-    → (2 ≤ (boundAfter k n b s x).wait → (boundAfter k n b s x).wait ≤ boundOf (boundAfter k n b s x) + 2)
-    → max o (waitAfter k b.wait s x - 2) ≤ withBound (pick (ltb (boundAfter k n b s x).wait 2) (withBound m b) m) (boundAfter k n b s x)
+seen_step : (k n : ℕ) (b : Bound) (s : Aic) (x : Step) (m o : ℕ) → o ≤ with_bound m b → (bound_after k n b s x).broke ≡ 0
+    → (2 ≤ (bound_after k n b s x).wait → (bound_after k n b s x).wait ≤ bound_of (bound_after k n b s x) + 2)
+    → max o (wait_after k b.wait s x - 2) ≤ with_bound (pick (ltb (bound_after k n b s x).wait 2) (with_bound m b) m) (bound_after k n b s x)
 seen_step k n b s x m o h =
-    step-cases k n b s x
-    (λ r. r.broke ≡ 0 → (2 ≤ r.wait → r.wait ≤ boundOf r + 2)
-    → max o (waitAfter k b.wait s x - 2) ≤ withBound (pick (ltb r.wait 2) (withBound m b) m) r)
-    (λ l z q. rw (lt-ltb (waitAfter k b.wait s x) 2 l) (unfold pick in (omega (arith, l, h, with-more (withBound m b) (idle (waitAfter k b.wait s x))))))
+    step_cases k n b s x
+    (λ r. r.broke ≡ 0 → (2 ≤ r.wait → r.wait ≤ bound_of r + 2)
+    → max o (wait_after k b.wait s x - 2) ≤ with_bound (pick (ltb r.wait 2) (with_bound m b) m) r)
+    (λ l z q. rw (lt-ltb (wait_after k b.wait s x) 2 l) (unfold pick in (omega (arith, l, h, with-more (with_bound m b) (idle (wait_after k b.wait s x))))))
     (λ e v z q. rw e (unfold pick in (omega (arith, h, with_none m b (omega (arith, v)), with-more m (fresh k (step s x).aic)))))
-    (λ l v z q. rw (le-ltb (waitAfter k b.wait s x) 2 l)
+    (λ l v z q. rw (le-ltb (wait_after k b.wait s x) 2 l)
     (unfold pick in (omega (
       arith,
       h,
       with-most m b,
-      with_bound m (grown (waitAfter k b.wait s x) b n s x) l z,
-      grown-more (waitAfter k b.wait s x) n b s x,
+      with_bound_lem m (grown (wait_after k b.wait s x) b n s x) l z,
+      grown-more (wait_after k b.wait s x) n b s x,
       q l,
     ))))
 
 module _ (s : Aic) (k : ℕ) (h : Shaped s) (small : k < 32) where
-  seen-run : (ps : List Step) (n : ℕ) (b : Bound) (u : Aic) (m o : ℕ) (xs : List Step) → At s k ps n b u → b.broke ≡ 0 → o ≤ withBound m b
-      → unboundedOver k n b u xs ≡ 0
-      → waitMost k b.wait o u xs ≤ withBound (mostOver k n b m u xs) (boundOver k n b u xs)
-  unfolding waitMost mostOver boundOver unboundedOver loses
+  seen-run : (ps : List Step) (n : ℕ) (b : Bound) (u : Aic) (m o : ℕ) (xs : List Step) → At s k ps n b u → b.broke ≡ 0 → o ≤ with_bound m b
+      → unbounded_over k n b u xs ≡ 0
+      → wait_most k b.wait o u xs ≤ with_bound (most_over k n b m u xs) (bound_over k n b u xs)
+  unfolding wait_most most_over bound_over unbounded_over loses
   seen-run ps n b u m o [] a z l q = l
   seen-run ps n b u m o (x ∷ xs) a z l q =
       let a' = at_next s k ps n b u x a in
-      let z' = unbroken-step b.broke (boundAfter k (n + 1) b u x).broke z (omega (arith, q)) in
+      let z' = unbroken-step b.broke (bound_after k (n + 1) b u x).broke z (omega (arith, q)) in
       let w = after-wait k (n + 1) b u x in
-      let e : 2 ≤ (boundAfter k (n + 1) b u x).wait → (boundAfter k (n + 1) b u x).wait ≤ boundOf (boundAfter k (n + 1) b u x) + 2 =
+      let e : 2 ≤ (bound_after k (n + 1) b u x).wait → (bound_after k (n + 1) b u x).wait ≤ bound_of (bound_after k (n + 1) b u x) + 2 =
       rw a'.seen (λ g. every-moment s k (ps ++ (x ∷ [])) h small g (ap (λ (c : Bound). c.broke) (sym a'.seen) ∙ z')) in
       omega (
         arith,
-        ap (λ (v : ℕ). waitMost k v (max o (waitAfter k b.wait u x - 2)) (step u x).aic xs) w,
-        seen-run (ps ++ (x ∷ [])) (n + 1) (boundAfter k (n + 1) b u x) (step u x).aic (pick (ltb (boundAfter k (n + 1) b u x).wait 2) (withBound m b) m)
-            (max o (waitAfter k b.wait u x - 2)) xs a' z' (seen_step k (n + 1) b u x m o l z' e) (omega (arith, q)),
+        ap (λ (v : ℕ). wait_most k v (max o (wait_after k b.wait u x - 2)) (step u x).aic xs) w,
+        seen-run (ps ++ (x ∷ [])) (n + 1) (bound_after k (n + 1) b u x) (step u x).aic (pick (ltb (bound_after k (n + 1) b u x).wait 2) (with_bound m b) m)
+            (max o (wait_after k b.wait u x - 2)) xs a' z' (seen_step k (n + 1) b u x m o l z' e) (omega (arith, q)),
       )
 
-  pub seen-bounded : (xs : List Step) → waitsUnbounded k s xs ≡ 0 → waitedOf k s xs ≤ boundedOf k s xs
-  unfolding waitedOf boundedOf bound_at waitsUnbounded
+  pub seen-bounded : (xs : List Step) → waits_unbounded k s xs ≡ 0 → waited_of k s xs ≤ bounded_of k s xs
+  unfolding waited_of bounded_of bound_at waits_unbounded
   seen-bounded xs q = seen-run [] 0 (idle 0) s 0 0 xs (at_first s k) refl (omega arith) q

@@ -15,11 +15,11 @@ use Rattle.aic_waits.specs.Figures.{standing}
 use Rattle.aic_bounds.specs.Bounds.{sets, lifts, bound_at, idle}
 use Rattle.aic_bounds.specs.Promises.{Promises}
 use Rattle.aic_bounds.proofs.StepLaws.{over-wait}
-use Rattle.aic_bounds.proofs.TermLaws.{terms-of, bounded_of, same-figure, wait-where, every-moment, broke-at}
-use Rattle.aic_bounds.proofs.MostLaws.{most-reached, most-largest, fewer-unbounded, seen-bounded}
+use Rattle.aic_bounds.proofs.TermLaws.{terms_of, bounded_of, same-figure, wait_where, every-moment, broke_at}
+use Rattle.aic_bounds.proofs.MostLaws.{most-reached, most-largest, fewer_unbounded, seen-bounded}
 use Rattle.aic_bounds.proofs.PlaceLaws.{begun-none, begun_more, begun-same, unended-one, unended-none, first-none, first-is}
-use Rattle.aic_bounds.proofs.FollowLaws.{followed-at}
-use Rattle.aic_bounds.proofs.BestLaws.{largest-sum, largest-none, largest-first}
+use Rattle.aic_bounds.proofs.FollowLaws.{followed_at}
+use Rattle.aic_bounds.proofs.BestLaws.{largest_sum, largest-none, largest-first}
 use Rattle.aic_bounds.proofs.MarkLaws.{marks-is}
 use Rattle.aic_bounds.proofs.Worked.{worked}
 
@@ -38,37 +38,37 @@ wait-is s k xs = over-wait k 0 (idle 0) s xs
 pub kept : Promises
 kept =
     record {
-      setsIs = sets-is;
-      liftsIs = lifts-is;
-      waitIs = wait-is;
-      waitWhere = wait-where;
-      terms = λ s k before x during w. terms-of k s before x during w;
-      brokeAt = broke-at;
-      marksIs = marks-is;
-      followedIs = followed-at;
+      sets_is = sets-is;
+      lifts_is = lifts-is;
+      wait_is = wait-is;
+      wait_where = wait_where;
+      terms = λ s k before x during w. terms_of k s before x during w;
+      broke_at = broke_at;
+      marks_is = marks-is;
+      followed_is = followed_at;
       bounded = λ s k before x during h l w q. bounded_of k s before x during h l w q;
-      everyMoment = every-moment;
-      sameFigure = λ s k before x during w a c. same-figure k s before x during w a c;
-      mostReached = most-reached;
-      mostLargest = most-largest;
-      mostBounds = λ s k xs before x during after h l w q.
+      every_moment = every-moment;
+      same_figure = λ s k before x during w a c. same-figure k s before x during w a c;
+      most_reached = most-reached;
+      most_largest = most-largest;
+      most_bounds = λ s k xs before x during after h l w q.
           omega (arith, bounded_of k s before x during h l w.waits q, most-largest s k xs before x during after w q);
-      largestSum = largest-sum;
-      largestNone = largest-none;
-      largestFirst = largest-first;
-      begunNone = begun-none;
-      begunMore = begun_more;
-      begunSame = begun-same;
-      unendedOne = unended-one;
-      unendedNone = unended-none;
-      fewerUnbounded = fewer-unbounded;
-      firstNone = first-none;
-      firstIs = first-is;
-      seenBounded = λ s k xs h l q. seen-bounded s k h l xs q;
-      workedMet = worked.met;
-      workedNoisy = worked.noisy;
-      workedRaised = worked.raised;
-      workedStale = worked.stale;
-      workedMidway = worked.midway;
-      workedOff = worked.off;
+      largest_sum = largest_sum;
+      largest_none = largest-none;
+      largest_first = largest-first;
+      begun_none = begun-none;
+      begun_more = begun_more;
+      begun_same = begun-same;
+      unended_one = unended-one;
+      unended_none = unended-none;
+      fewer_unbounded = fewer_unbounded;
+      first_none = first-none;
+      first_is = first-is;
+      seen_bounded = λ s k xs h l q. seen-bounded s k h l xs q;
+      worked_met = worked.met;
+      worked_noisy = worked.noisy;
+      worked_raised = worked.raised;
+      worked_stale = worked.stale;
+      worked_midway = worked.midway;
+      worked_off = worked.off;
     }

@@ -1,10 +1,10 @@
 // The figures of all waits of a source of the AT91 controller: the largest bound, the waits that begin, and those without a bound.
 ghost use Rattle.std.specs.Prelude.{◌≡◌};
 ghost use Rattle.words.specs.Choice.{pick};
-ghost use Rattle.aic_bounds.specs.Bounds.{boundOf};
+ghost use Rattle.aic_bounds.specs.Bounds.{bound_of};
 ghost use Rattle.aic_bounds.specs.Over.{bounds, better, loses};
-ghost use Rattle.aic_bounds.specs.Following.{boundBy};
-ghost use Rattle.aic_bounds.specs.Figures.{noFigures, figuresWith, largestNow, unendedNow};
+ghost use Rattle.aic_bounds.specs.Following.{bound_by};
+ghost use Rattle.aic_bounds.specs.Figures.{no_figures, figures_with, largest_now, unended_now};
 
 use super::{Bound, Marks};
 use aic_record::Aic;
@@ -22,7 +22,7 @@ pub struct Figures {
 
 // Before any step.
 pub fn no_figures() -> Figures
-    ensures { result ≡ noFigures }
+    ensures { result ≡ no_figures }
 {
     let none = super::idle(0);
     let first = super::idle(0);
@@ -38,7 +38,7 @@ pub fn no_figures() -> Figures
 // The figures of source k after the n-th step: how it stands after it is w, the step brought m, and the record after it is t. A count that would pass
 // 4,294,967,295 stays there.
 pub fn figures_after(k: u32, w: u32, n: u32, f: Figures, m: Marks, t: Aic) -> Figures
-    ensures { result ≡ figuresWith n f (boundBy k w n f.bound m t) }
+    ensures { result ≡ figures_with n f (bound_by k w n f.bound m t) }
 {
     let b = super::bound_after(k, w, n, f.bound, m, t);
     figures_with(n, f, b)
@@ -46,21 +46,21 @@ pub fn figures_after(k: u32, w: u32, n: u32, f: Figures, m: Marks, t: Aic) -> Fi
 
 // The wait with the largest bound, that which stands among them.
 pub fn largest_now(f: Figures) -> Bound
-    ensures { result ≡ largestNow f }
+    ensures { result ≡ largest_now f }
 {
     better(f.largest, f.bound)
 }
 
 // The waits that have not ended.
 pub fn unended_now(f: Figures) -> u32
-    ensures { result ≡ unendedNow f }
+    ensures { result ≡ unended_now f }
 {
     words::one_if(1 < f.bound.wait)
 }
 
 // The bound so far: handlers.
 pub fn bound_of(b: Bound) -> u64
-    ensures { result ≡ boundOf b }
+    ensures { result ≡ bound_of b }
 {
     b.pending as u64
         + b.edges as u64
@@ -79,7 +79,7 @@ pub fn has_bound(b: Bound) -> bool
 
 // The figures after the n-th step, by which b is observed of the wait that stands.
 pub fn figures_with(n: u32, f: Figures, b: Bound) -> Figures
-    ensures { result ≡ figuresWith n f b }
+    ensures { result ≡ figures_with n f b }
 {
     let largest = better_if(b.wait < 2, f.largest, f.bound);
     let begun = super::add(f.begun, words::one_if((f.bound.wait < 2) & (1 < b.wait)));

@@ -1,18 +1,18 @@
 // The bound of a wait of one source of the AT91 controller, told apart by its six terms and moved on step by step.
 ghost use Rattle.std.specs.Prelude.{◌≡◌, Bool, not, ◌&&◌, ◌||◌, ◌+◌, ◌-◌, ◌<◌, leb};
 ghost use Rattle.words.specs.Choice.{pick};
-ghost use Rattle.words.specs.Counting.{one, anyBelow};
+ghost use Rattle.words.specs.Counting.{one, any_below};
 ghost use Rattle.words.specs.Word.{bit, word_of};
 ghost use Rattle.aic_record.specs.Mode.{priority, edge};
-ghost use Rattle.aic_record.specs.Sound.{sourceAt, levelAt};
+ghost use Rattle.aic_record.specs.Sound.{source_at, level_at};
 ghost use Rattle.aic_sources.specs.Pending.{active};
 ghost use Rattle.aic_registers.specs.Effects.{turns};
 ghost use Rattle.aic_runs.specs.Counted.{carries};
-ghost use Rattle.aic_runs.specs.Promises.{rivalOf};
+ghost use Rattle.aic_runs.specs.Promises.{rival_of};
 ghost use Rattle.aic_runs.specs.Turns.{held};
 ghost use Rattle.aic_waits.specs.Following.{capped};
 ghost use Rattle.aic_bounds.specs.Bounds.{idle, fresh};
-ghost use Rattle.aic_bounds.specs.Following.{dues, plus, grownBy, boundBy, noMarks, hotLast, writeMarks, lineMarks, marksBy};
+ghost use Rattle.aic_bounds.specs.Following.{dues, plus, grown_by, bound_by, no_marks, hot_last, write_marks, line_marks, marks_by};
 
 pub mod figures;
 
@@ -50,7 +50,7 @@ pub struct Marks {
 // The bound of source k after the n-th step: how it stands after it is w, the step brought m, and the record after it is t. A count that would pass
 // 4,294,967,295 stays there.
 pub fn bound_after(k: u32, w: u32, n: u32, b: Bound, m: Marks, t: Aic) -> Bound
-    ensures { result ≡ boundBy k w n b m t }
+    ensures { result ≡ bound_by k w n b m t }
 {
     if w < 2 {
         return idle(w);
@@ -103,7 +103,7 @@ fn fresh(k: u32, t: Aic) -> Bound
 
 // A wait that goes on, to the record t.
 fn grown(w: u32, b: Bound, n: u32, m: Marks, t: Aic) -> Bound
-    ensures { result ≡ grownBy w b n m t }
+    ensures { result ≡ grown_by w b n m t }
 {
     let enabled = words::meet(b.rivals, t.enabled);
     let on = words::join(b.on, enabled);
@@ -168,7 +168,7 @@ fn is_carried(s: Aic, k: u32) -> bool
 
 // Whether source i is ahead of source k, and not fast.
 fn is_rival(s: Aic, k: u32, i: u32) -> bool
-    ensures { result ≡ rivalOf s k i }
+    ensures { result ≡ rival_of s k i }
 {
     let p = aic_record::priority_of(aic_record::mode_at(s, k));
     let q = aic_record::priority_of(aic_record::mode_at(s, i));
@@ -177,7 +177,7 @@ fn is_rival(s: Aic, k: u32, i: u32) -> bool
 
 // The sources ahead of source k that are not fast.
 fn rival_word(s: Aic, k: u32) -> u32
-    ensures { result ≡ word_of 32 (rivalOf s k) }
+    ensures { result ≡ word_of 32 (rival_of s k) }
 {
     let mut w: u32 = 0;
     let mut i: u32 = 0;
@@ -190,7 +190,7 @@ fn rival_word(s: Aic, k: u32) -> u32
 
 // Whether the entry in slot d is at the priority of its source or above.
 fn is_over(s: Aic, d: u32, j: u32) -> bool
-    ensures { result ≡ leb (priority s j) (levelAt s d) }
+    ensures { result ≡ leb (priority s j) (level_at s d) }
 {
     aic_record::priority_of(aic_record::mode_at(s, j)) <= aic_record::level_at(s, d) as u32
 }
@@ -224,7 +224,7 @@ fn due_word(s: Aic) -> u32
 
 // What the step x brings to the record s that it meets; ok says that it is carried out.
 pub fn marks_of(s: Aic, x: Step, ok: bool) -> Marks
-    ensures { result ≡ marksBy ok s x }
+    ensures { result ≡ marks_by ok s x }
 {
     match x {
         Step::Read(offset) => no_marks(),
@@ -235,7 +235,7 @@ pub fn marks_of(s: Aic, x: Step, ok: bool) -> Marks
 
 // What a step brings that is refused.
 pub fn no_marks() -> Marks
-    ensures { result ≡ noMarks }
+    ensures { result ≡ no_marks }
 {
     Marks {
         edges: 0,
@@ -247,7 +247,7 @@ pub fn no_marks() -> Marks
 }
 
 fn write_marks(s: Aic, o: u32, v: u32, ok: bool) -> Marks
-    ensures { result ≡ writeMarks ok s o v }
+    ensures { result ≡ write_marks ok s o v }
 {
     let commands = either(
         ok & (o == aic_registers::map::ISCR),
@@ -269,7 +269,7 @@ fn write_marks(s: Aic, o: u32, v: u32, ok: bool) -> Marks
 }
 
 fn line_marks(s: Aic, k: u32, l: u32, ok: bool) -> Marks
-    ensures { result ≡ lineMarks ok s k l }
+    ensures { result ≡ line_marks ok s k l }
 {
     let rises = ok & turns_active(s, k, l == 1);
     let edge = is_edge(s, k);
@@ -286,7 +286,7 @@ fn line_marks(s: Aic, k: u32, l: u32, ok: bool) -> Marks
 
 // The source of the last entry, that of the first slot where none is open.
 fn last_source(s: Aic) -> u32
-    ensures { result ≡ sourceAt s (s.depth - 1) }
+    ensures { result ≡ source_at s (s.depth - 1) }
 {
     let depth = s.depth;
     if depth == 0 {
@@ -297,7 +297,7 @@ fn last_source(s: Aic) -> u32
 
 // Source j alone, if it is level-sensitive and its line is active; source 0 is a mark's.
 fn hot_word(s: Aic, j: u32) -> u32
-    ensures { result ≡ word_of 32 (hotLast s j) }
+    ensures { result ≡ word_of 32 (hot_last s j) }
 {
     words::with_bit(0, j, (j != 0) & !is_edge(s, j) & is_active(s, j))
 }

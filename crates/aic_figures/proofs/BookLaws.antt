@@ -11,10 +11,10 @@ use lib.ListN.{get_or, set, length, length-set}
 use lib.Seq.{get_or-set_other, get_or-set_same}
 use borrow.Author.Tests.{eq-eqb, ne_eqb}
 use Rattle.words.specs.Choice.{pick}
-use Rattle.words.specs.Word.{bit, withBit, either, both, without}
+use Rattle.words.specs.Word.{bit, with_bit, either, both, without}
 use Rattle.words.proofs.ChoiceLaws.{pick_true, pick-false}
 use Rattle.words.proofs.WordLaws.{bit-cleared, bit-none, bit-either, bit-both, bit-without, either_lt}
-use Rattle.aic_figures.specs.Book.{Put, settledAt}
+use Rattle.aic_figures.specs.Book.{Put, settled_at}
 
 -- ---- one law for a store
 
@@ -60,7 +60,7 @@ still at h some left old new i l b d = d.inside i l ∙ sym (pick-false (h i) (o
     off false y e = refl
 
 pub done_more : (at : ℕ) (h : ℕ → ℕ) (some left next : ℕ) (old new : List ℕ) (i v : ℕ) → at + 32 ≤ length old → i < 32 → bit some i ≡ true
-    → next ≡ withBit left i false → v ≡ h i → Done at h some left old new → Done at h some next old (set new (at + i) v)
+    → next ≡ with_bit left i false → v ≡ h i → Done at h some left old new → Done at h some next old (set new (at + i) v)
 done_more at h some left next old new i v m l b e f d =
     record {
       size = length-set new (at + i) v ∙ d.size;
@@ -100,7 +100,7 @@ done_more at h some left next old new i v m l b e f d =
         (same (bit some j) (bit left j) ∙ ap (λ (c : Bool). bit some j && not c) (ap (λ (c : Bool). bit left j && not c) (sym (ne_eqb j i q)) ∙ sym (kept j n)))
 
 -- what is left is some of it
-pub within : (some left next i : ℕ) → next ≡ withBit left i false → ((j : ℕ) → j < 32 → bit left j ≡ true → bit some j ≡ true)
+pub within : (some left next i : ℕ) → next ≡ with_bit left i false → ((j : ℕ) → j < 32 → bit left j ≡ true → bit some j ≡ true)
     → (j : ℕ) → j < 32 → bit next j ≡ true → bit some j ≡ true
 within some left next i e w j n b = w j n (first (bit left j) (eqb j i) (sym (ap (λ (x : ℕ). bit x j) e ∙ bit-cleared left i j n) ∙ b))
   where
@@ -110,13 +110,13 @@ within some left next i e w j n b = w j n (first (bit left j) (eqb j i) (sym (ap
 
 -- ---- a wait that ends
 
-pub settled-still : (h : ℕ → ℕ) (some left : ℕ) (old new : List ℕ) (i : ℕ) → i < 32 → bit left i ≡ true → Done 96 h some left old new → settledAt new i ≡ settledAt old i
+pub settled-still : (h : ℕ → ℕ) (some left : ℕ) (old new : List ℕ) (i : ℕ) → i < 32 → bit left i ≡ true → Done 96 h some left old new → settled_at new i ≡ settled_at old i
 settled-still h some left old new i l b d =
     rw (still 96 h some left old new i l b d, d.outside 2 (inl (omega arith)), d.outside (64 + i) (inl (omega (arith, l))))
 
 -- ---- those that wait
 
-pub waits-from : (asks by asked waiting others m d r : ℕ) → others ≡ withBit asks by false → m ≡ both others waiting → d ≡ without others asked → r ≡ either m d
+pub waits-from : (asks by asked waiting others m d r : ℕ) → others ≡ with_bit asks by false → m ≡ both others waiting → d ≡ without others asked → r ≡ either m d
     → ((i : ℕ) → i < 32 → bit r i ≡ ((bit asks i && not (eqb i by)) && (bit waiting i || not (bit asked i)))) × (r < 2 ^ 32)
 waits-from asks by asked waiting others m d r e f g h = ((λ i l. at i l), subst (λ (x : ℕ). x < 2 ^ 32) (sym h) (either_lt m d))
   where

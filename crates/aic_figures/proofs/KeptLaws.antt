@@ -13,21 +13,21 @@ use borrow.Author.Tests.{eq-eqb, ne_eqb, eqb-true, lt-ltb, le-ltb, ltb-true, ltb
 use Rattle.words.specs.Choice.{pick}
 use Rattle.words.specs.Counting.{one}
 use Rattle.words.specs.Word.{bit, word_of}
-use Rattle.words.proofs.ArrayLaws.{zeros-getD}
-use Rattle.words.proofs.ChoiceLaws.{pick_true, pick-false, pick-cases}
-use Rattle.words.proofs.CountingLaws.{one-le}
+use Rattle.words.proofs.ArrayLaws.{zeros_get_d}
+use Rattle.words.proofs.ChoiceLaws.{pick_true, pick-false, pick_cases}
+use Rattle.words.proofs.CountingLaws.{one_le}
 use Rattle.words.proofs.TruthLaws.{told, clash}
-use Rattle.words.proofs.WordLaws.{bit-wordOf, bit-none}
+use Rattle.words.proofs.WordLaws.{bit-word_of, bit-none}
 use Rattle.steps.specs.declared.Step.{Step}
 use Rattle.aic_record.specs.declared.Aic.{Aic}
 use Rattle.aic_sources.specs.Normal.{waiting}
 use Rattle.aic.specs.Model.{step}
-use Rattle.aic_runs.specs.Counted.{startedBy, startsOf, startsOther}
-use Rattle.aic_waits.specs.Figures.{waitNext, waitAfter, isOpen, entriesNow}
-use Rattle.aic_waits.specs.Following.{Figures, capped, noFigures, followed}
+use Rattle.aic_runs.specs.Counted.{started_by, starts_of, starts_other}
+use Rattle.aic_waits.specs.Figures.{wait_next, wait_after, is_open, entries_now}
+use Rattle.aic_waits.specs.Following.{Figures, capped, no_figures, followed}
 use Rattle.aic_waits.proofs.FigureLaws.{capped_is}
 use Rattle.aic_waits.proofs.RunLaws.{whole-followed, started-followed, wait-followed, waited-followed, entries-followed}
-use Rattle.aic_figures.specs.Book.{Kept, Put, Moved, settledAt}
+use Rattle.aic_figures.specs.Book.{Kept, Put, Moved, settled_at}
 
 -- ---- how it stands with one source: the number w before, v after a step; what the book has of it, a wait's beginning b, the most m, and starts n, k
 
@@ -39,8 +39,8 @@ pub data Way (w : ℕ) (asks own any : Bool) (v : ℕ) : Type 0 where
   rests : asks ≡ true → own ≡ false → w ≡ 1 → v ≡ 1 → Way w asks own any v
   goes : asks ≡ true → own ≡ false → 1 < w → v ≡ w + one any → Way w asks own any v
 
-pub way : (w : ℕ) (asks own any : Bool) → Way w asks own any (waitNext w asks own (any && not own))
-unfolding waitNext pick
+pub way : (w : ℕ) (asks own any : Bool) → Way w asks own any (wait_next w asks own (any && not own))
+unfolding wait_next pick
 way w false own any = ends refl refl
 way w true true any = starts refl refl refl
 way w true false any = go (ℕ_discrete w 0) (ℕ_discrete w 1)
@@ -56,28 +56,28 @@ way w true false any = go (ℕ_discrete w 0) (ℕ_discrete w 1)
         rw (ne_eqb w 0 z)
         (goes refl refl (omega (arith, z, o)) (ap (λ (b : Bool). w + one (b && (any && not false))) (lt-ltb 1 w (omega (arith, z, o))) ∙ ap (λ (b : Bool). w + one b) (and_so any)))
 
-since-began : (w b n : ℕ) → b + w ≡ n + 2 → 1 < w → w - 2 ≡ n - b
-since-began w b n e l = omega (arith, e, l)
+since_began : (w b n : ℕ) → b + w ≡ n + 2 → 1 < w → w - 2 ≡ n - b
+since_began w b n e l = omega (arith, e, l)
 
 max-more : (m a b : ℕ) → a ≤ b → max (max m a) b ≡ max m b
 max-more m a b l = omega (arith, l)
 
 module _ (w : ℕ) (asks own any : Bool) (v : ℕ) where
   -- it asks
-  pub asks-then : Way w asks own any v → asks ≡ ltb 0 v
-  asks-then (ends a e) = a ∙ sym (le-ltb 0 v (omega (arith, e)))
-  asks-then (starts a o e) = a ∙ sym (lt-ltb 0 v (omega (arith, e)))
-  asks-then (begins a o z e) = a ∙ sym (lt-ltb 0 v (omega (arith, e)))
-  asks-then (rests a o z e) = a ∙ sym (lt-ltb 0 v (omega (arith, e)))
-  asks-then (goes a o z e) = a ∙ sym (lt-ltb 0 v (omega (arith, z, e)))
+  pub asks_then : Way w asks own any v → asks ≡ ltb 0 v
+  asks_then (ends a e) = a ∙ sym (le-ltb 0 v (omega (arith, e)))
+  asks_then (starts a o e) = a ∙ sym (lt-ltb 0 v (omega (arith, e)))
+  asks_then (begins a o z e) = a ∙ sym (lt-ltb 0 v (omega (arith, e)))
+  asks_then (rests a o z e) = a ∙ sym (lt-ltb 0 v (omega (arith, e)))
+  asks_then (goes a o z e) = a ∙ sym (lt-ltb 0 v (omega (arith, z, e)))
 
   -- it waits
-  pub waits-then : Way w asks own any v → ((asks && not own) && (ltb 1 w || not (ltb 0 w))) ≡ ltb 1 v
-  waits-then (ends a e) = rw (a, le-ltb 1 v (omega (arith, e)))
-  waits-then (starts a o e) = rw (a, o, le-ltb 1 v (omega (arith, e)))
-  waits-then (begins a o z e) = rw (a, o, le-ltb 1 w (omega (arith, z)), le-ltb 0 w (omega (arith, z)), lt-ltb 1 v (omega (arith, e)))
-  waits-then (rests a o z e) = rw (a, o, le-ltb 1 w (omega (arith, z)), lt-ltb 0 w (omega (arith, z)), le-ltb 1 v (omega (arith, e)))
-  waits-then (goes a o z e) = rw (a, o, lt-ltb 1 w z, lt-ltb 1 v (omega (arith, z, e)))
+  pub waits_then : Way w asks own any v → ((asks && not own) && (ltb 1 w || not (ltb 0 w))) ≡ ltb 1 v
+  waits_then (ends a e) = rw (a, le-ltb 1 v (omega (arith, e)))
+  waits_then (starts a o e) = rw (a, o, le-ltb 1 v (omega (arith, e)))
+  waits_then (begins a o z e) = rw (a, o, le-ltb 1 w (omega (arith, z)), le-ltb 0 w (omega (arith, z)), lt-ltb 1 v (omega (arith, e)))
+  waits_then (rests a o z e) = rw (a, o, le-ltb 1 w (omega (arith, z)), lt-ltb 0 w (omega (arith, z)), le-ltb 1 v (omega (arith, e)))
+  waits_then (goes a o z e) = rw (a, o, lt-ltb 1 w z, lt-ltb 1 v (omega (arith, z, e)))
 
   -- its wait began
   pub began_then : Way w asks own any v → (b n k : ℕ) → k ≡ n + one any → (1 < w → b + w ≡ n + 2) → 1 < v
@@ -90,39 +90,39 @@ module _ (w : ℕ) (asks own any : Bool) (v : ℕ) where
   began_then (goes a o z e) b n k f g l = rw (lt-ltb 1 v l, lt-ltb 1 w z) (omega (arith, e, f, g z))
 
   -- the most of its waits
-  pub waited-then : Way w asks own any v → (m b n : ℕ) → (1 < w → b + w ≡ n + 2)
+  pub waited_then : Way w asks own any v → (m b n : ℕ) → (1 < w → b + w ≡ n + 2)
       → max (max m (w - 2)) (v - 2) ≡ max (pick (ltb 1 w && not (ltb 1 v)) (max m (n - b)) m) (v - 2)
   unfolding pick
-  waited-then (ends a e) m b n g = ended (dec_lt 1 w)
+  waited_then (ends a e) m b n g = ended (dec_lt 1 w)
     where
       ended : Dec (1 < w) → max (max m (w - 2)) (v - 2) ≡ max (pick (ltb 1 w && not (ltb 1 v)) (max m (n - b)) m) (v - 2)
-      ended (yes l) = rw (lt-ltb 1 w l, le-ltb 1 v (omega (arith, e))) (ap (λ (k : ℕ). max (max m k) (v - 2)) (since-began w b n (g l) l))
+      ended (yes l) = rw (lt-ltb 1 w l, le-ltb 1 v (omega (arith, e))) (ap (λ (k : ℕ). max (max m k) (v - 2)) (since_began w b n (g l) l))
       ended (no q) = rw (le-ltb 1 w (omega (arith, q))) (omega (arith, e, q))
-  waited-then (starts a o e) m b n g = ended (dec_lt 1 w)
+  waited_then (starts a o e) m b n g = ended (dec_lt 1 w)
     where
       ended : Dec (1 < w) → max (max m (w - 2)) (v - 2) ≡ max (pick (ltb 1 w && not (ltb 1 v)) (max m (n - b)) m) (v - 2)
-      ended (yes l) = rw (lt-ltb 1 w l, le-ltb 1 v (omega (arith, e))) (ap (λ (k : ℕ). max (max m k) (v - 2)) (since-began w b n (g l) l))
+      ended (yes l) = rw (lt-ltb 1 w l, le-ltb 1 v (omega (arith, e))) (ap (λ (k : ℕ). max (max m k) (v - 2)) (since_began w b n (g l) l))
       ended (no q) = rw (le-ltb 1 w (omega (arith, q))) (omega (arith, e, q))
-  waited-then (begins a o z e) m b n g = rw (le-ltb 1 w (omega (arith, z))) (omega (arith, z, e))
-  waited-then (rests a o z e) m b n g = rw (le-ltb 1 w (omega (arith, z))) (omega (arith, z, e))
-  waited-then (goes a o z e) m b n g = rw (lt-ltb 1 w z, lt-ltb 1 v (omega (arith, z, e))) (max-more m (w - 2) (v - 2) (omega (arith, e, one-le any)))
+  waited_then (begins a o z e) m b n g = rw (le-ltb 1 w (omega (arith, z))) (omega (arith, z, e))
+  waited_then (rests a o z e) m b n g = rw (le-ltb 1 w (omega (arith, z))) (omega (arith, z, e))
+  waited_then (goes a o z e) m b n g = rw (lt-ltb 1 w z, lt-ltb 1 v (omega (arith, z, e))) (max-more m (w - 2) (v - 2) (omega (arith, e, one_le any)))
 
   pub way-most : Way w asks own any v → v ≤ w + 2
   way-most (ends a e) = omega (arith, e)
   way-most (starts a o e) = omega (arith, e)
   way-most (begins a o z e) = omega (arith, e)
   way-most (rests a o z e) = omega (arith, e)
-  way-most (goes a o z e) = omega (arith, e, one-le any)
+  way-most (goes a o z e) = omega (arith, e, one_le any)
 
 -- ---- all sources
 
 module _ (f : Figures) (s : Aic) (n : ℕ) (x : Step) (old new : List ℕ) (small : n < 4294967290) (h : Kept f s n old)
-    (m : Moved (startedBy s x) (word_of 32 (waiting (step s x).aic)) (step s x).aic old new) where
+    (m : Moved (started_by s x) (word_of 32 (waiting (step s x).aic)) (step s x).aic old new) where
   abbrev t : Aic
   t = (step s x).aic
 
   abbrev by : ℕ
-  by = startedBy s x
+  by = started_by s x
 
   abbrev w : ℕ → ℕ
   w i = get_or f.wait i 0
@@ -136,41 +136,41 @@ module _ (f : Figures) (s : Aic) (n : ℕ) (x : Step) (old new : List ℕ) (smal
         go (yes q) = omega (arith, h.began i l q, h.few)
         go (no q) = omega (arith, q)
 
-    this : Way (w i) (waiting t i) (startsOf i s x) (ltb by 32) (waitAfter i (w i) s x)
-    unfolding startsOf startsOther
+    this : Way (w i) (waiting t i) (starts_of i s x) (ltb by 32) (wait_after i (w i) s x)
+    unfolding starts_of starts_other
     this = way (w i) (waiting t i) (eqb i by) (ltb by 32)
 
-    pub after : get_or (followed f s x).wait i 0 ≡ waitAfter i (w i) s x
+    pub after : get_or (followed f s x).wait i 0 ≡ wait_after i (w i) s x
     after = wait-followed f s x h.whole i l ∙ sym (capped_is _ (omega (arith, way-most _ _ _ _ _ this, w-most, small)))
 
-    started-small : get_or f.started i 0 + one (startsOf i s x) ≤ n + 1
-    started-small = omega (arith, h.fewer i l, one-le (startsOf i s x))
+    started_small : get_or f.started i 0 + one (starts_of i s x) ≤ n + 1
+    started_small = omega (arith, h.fewer i l, one_le (starts_of i s x))
 
-    pub started-after : get_or (followed f s x).started i 0 ≡ get_or f.started i 0 + one (startsOf i s x)
-    started-after = started-followed f s x h.whole i l ∙ sym (capped_is _ (omega (arith, started-small, small)))
+    pub started-after : get_or (followed f s x).started i 0 ≡ get_or f.started i 0 + one (starts_of i s x)
+    started-after = started-followed f s x h.whole i l ∙ sym (capped_is _ (omega (arith, started_small, small)))
 
-    own_put : get_or new (32 + i) 0 ≡ get_or f.started i 0 + one (startsOf i s x)
-    unfolding startsOf pick
+    own_put : get_or new (32 + i) 0 ≡ get_or f.started i 0 + one (starts_of i s x)
+    unfolding starts_of pick
     own_put = m.started i l ∙ go (eqb i by)
       where
         go : (b : Bool) → pick b (capped (get_or old (32 + i) 0 + 1)) (get_or old (32 + i) 0) ≡ get_or f.started i 0 + one b
         go true = rw (h.started i l) (sym (capped_is _ (omega (arith, h.fewer i l, small))))
         go false = rw (h.started i l) (omega arith)
 
-    pub waited-after : get_or (followed f s x).waited i 0 ≡ max (get_or f.waited i 0) (waitAfter i (w i) s x - 2)
+    pub waited-after : get_or (followed f s x).waited i 0 ≡ max (get_or f.waited i 0) (wait_after i (w i) s x - 2)
     waited-after =
         waited-followed f s x h.whole i l
         ∙ ap (λ (k : ℕ). max (get_or f.waited i 0) (k - 2)) (sym (capped_is _ (omega (arith, way-most _ _ _ _ _ this, w-most, small))))
 
     asks-is : bit (word_of 32 (waiting t)) i ≡ waiting t i
-    asks-is = bit-wordOf 32 (waiting t) i l
+    asks-is = bit-word_of 32 (waiting t) i l
 
-    new-waits : bit (get_or new 1 0) i ≡ ltb 1 (waitAfter i (w i) s x)
-    unfolding startsOf
+    new-waits : bit (get_or new 1 0) i ≡ ltb 1 (wait_after i (w i) s x)
+    unfolding starts_of
     new-waits =
         m.waits i l
         ∙ ap₂ (λ (a b : Bool). (a && not (eqb i by)) && b) asks-is (ap₂ (λ (a b : Bool). a || not b) (h.waits i l) (h.asks i l))
-        ∙ waits-then _ _ _ _ _ this
+        ∙ waits_then _ _ _ _ _ this
 
   new-starts : get_or new 2 0 ≡ get_or old 2 0 + one (ltb by 32)
   unfolding pick
@@ -185,37 +185,37 @@ module _ (f : Figures) (s : Aic) (n : ℕ) (x : Step) (old new : List ℕ) (smal
       record {
         size = m.size ∙ h.size;
         whole = whole-followed f s x h.whole;
-        asks = λ i l. ap (λ (k : ℕ). bit k i) m.asked ∙ asks-is i l ∙ asks-then _ _ _ _ _ (this i l) ∙ ap (ltb 0) (sym (after i l));
+        asks = λ i l. ap (λ (k : ℕ). bit k i) m.asked ∙ asks-is i l ∙ asks_then _ _ _ _ _ (this i l) ∙ ap (ltb 0) (sym (after i l));
         waits = λ i l. new-waits i l ∙ ap (ltb 1) (sym (after i l));
-        few = omega (arith, new-starts, one-le (ltb by 32), h.few);
+        few = omega (arith, new-starts, one_le (ltb by 32), h.few);
         started = λ i l. own_put i l ∙ sym (started-after i l);
-        fewer = λ i l. omega (arith, started-after i l, started-small i l);
+        fewer = λ i l. omega (arith, started-after i l, started_small i l);
         began = λ i l q. began-is i l q;
         waited = λ i l. waited-is i l;
-        entries = λ i l. m.entries i l ∙ ap (λ (k : ℕ). max k (entriesNow t i)) (h.entries i l) ∙ sym (entries-followed f s x h.whole i l);
-        deep = λ i l o. omega (arith, entries-followed f s x h.whole i l, open-now i o);
+        entries = λ i l. m.entries i l ∙ ap (λ (k : ℕ). max k (entries_now t i)) (h.entries i l) ∙ sym (entries-followed f s x h.whole i l);
+        deep = λ i l o. omega (arith, entries-followed f s x h.whole i l, open_now i o);
       }
     where
-      open-now : (i : ℕ) → isOpen t i ≡ true → entriesNow t i ≡ t.depth
-      open-now i o = sym (pick_true 0 o)
+      open_now : (i : ℕ) → is_open t i ≡ true → entries_now t i ≡ t.depth
+      open_now i o = sym (pick_true 0 o)
 
       began-is : (i : ℕ) → i < 32 → 1 < get_or (followed f s x).wait i 0 → get_or new (64 + i) 0 + get_or (followed f s x).wait i 0 ≡ get_or new 2 0 + 2
       began-is i l q =
           rw (after i l)
-          (ap (λ (k : ℕ). k + waitAfter i (w i) s x) (m.began i l ∙ ap₂ (λ (a b : Bool). pick (a && not b) (get_or new 2 0) (get_or old (64 + i) 0)) (new-waits i l) (h.waits i l))
+          (ap (λ (k : ℕ). k + wait_after i (w i) s x) (m.began i l ∙ ap₂ (λ (a b : Bool). pick (a && not b) (get_or new 2 0) (get_or old (64 + i) 0)) (new-waits i l) (h.waits i l))
           ∙ began_then _ _ _ _ _ (this i l) (get_or old (64 + i) 0) (get_or old 2 0) (get_or new 2 0) new-starts (h.began i l) (subst (λ (k : ℕ). 1 < k) (after i l) q))
 
       waited-is : (i : ℕ) → i < 32 → get_or (followed f s x).waited i 0 ≡ max (get_or new (96 + i) 0) (get_or (followed f s x).wait i 0 - 2)
       waited-is i l =
-          waited-after i l ∙ ap (λ (k : ℕ). max k (waitAfter i (w i) s x - 2)) (h.waited i l)
-          ∙ waited-then _ _ _ _ _ (this i l) (get_or old (96 + i) 0) (get_or old (64 + i) 0) (get_or old 2 0) (h.began i l)
+          waited-after i l ∙ ap (λ (k : ℕ). max k (wait_after i (w i) s x - 2)) (h.waited i l)
+          ∙ waited_then _ _ _ _ _ (this i l) (get_or old (96 + i) 0) (get_or old (64 + i) 0) (get_or old 2 0) (h.began i l)
           ∙ ap₂ (λ (j k : ℕ). max j (k - 2))
-          (sym (m.waited i l ∙ ap₂ (λ (a b : Bool). pick (a && not b) (settledAt old i) (get_or old (96 + i) 0)) (h.waits i l) (new-waits i l))) (sym (after i l))
+          (sym (m.waited i l ∙ ap₂ (λ (a b : Bool). pick (a && not b) (settled_at old i) (get_or old (96 + i) 0)) (h.waits i l) (new-waits i l))) (sym (after i l))
 
 -- ---- a step after which the same sources ask, and no entry has opened
 
 module _ (f : Figures) (s : Aic) (n : ℕ) (x : Step) (book : List ℕ) (h : Kept f s n book) (asks : ℕ) (same : asks ≡ get_or book 0 0)
-    (none : startedBy s x ≡ 32) (shut : (step s x).aic.depth ≤ s.depth) (less : (i : ℕ) → isOpen (step s x).aic i ≡ true → isOpen s i ≡ true) where
+    (none : started_by s x ≡ 32) (shut : (step s x).aic.depth ≤ s.depth) (less : (i : ℕ) → is_open (step s x).aic i ≡ true → is_open s i ≡ true) where
   abbrev u : Aic
   u = (step s x).aic
 
@@ -229,7 +229,7 @@ module _ (f : Figures) (s : Aic) (n : ℕ) (x : Step) (book : List ℕ) (h : Kep
   off true = refl
   off false = refl
 
-  pub moved_none : Moved (startedBy s x) asks u book book
+  pub moved_none : Moved (started_by s x) asks u book book
   unfolding pick
   moved_none =
       record {
@@ -239,57 +239,57 @@ module _ (f : Figures) (s : Aic) (n : ℕ) (x : Step) (book : List ℕ) (h : Kep
         starts = rw none;
         started = λ i l. rw (none, ne_eqb i 32 (λ q. absurd (omega (arith, q, l))));
         began = λ i l. pick-false (get_or book 2 0) (off (bit (get_or book 1 0) i));
-        waited = λ i l. pick-false (settledAt book i) (off (bit (get_or book 1 0) i));
-        entries = λ i l. entries-same i l (told (isOpen u i));
+        waited = λ i l. pick-false (settled_at book i) (off (bit (get_or book 1 0) i));
+        entries = λ i l. entries-same i l (told (is_open u i));
       }
     where
-      waits-same : (i : ℕ) → i < 32 → bit (get_or book 1 0) i ≡ ((bit asks i && not (eqb i (startedBy s x))) && (bit (get_or book 1 0) i || not (bit (get_or book 0 0) i)))
+      waits-same : (i : ℕ) → i < 32 → bit (get_or book 1 0) i ≡ ((bit asks i && not (eqb i (started_by s x))) && (bit (get_or book 1 0) i || not (bit (get_or book 0 0) i)))
       waits-same i l =
           rw (none, ne_eqb i 32 (λ q. absurd (omega (arith, q, l))), same)
           (stays (bit (get_or book 0 0) i) (bit (get_or book 1 0) i) (λ b. h.asks i l ∙ lt-ltb 0 (get_or f.wait i 0) (omega (arith, ltb-true 1 (get_or f.wait i 0) (sym (h.waits i l) ∙ b)))))
 
-      entries-same : (i : ℕ) → i < 32 → (isOpen u i ≡ true) ⊎ (isOpen u i ≡ false) → get_or book (128 + i) 0 ≡ max (get_or book (128 + i) 0) (entriesNow u i)
+      entries-same : (i : ℕ) → i < 32 → (is_open u i ≡ true) ⊎ (is_open u i ≡ false) → get_or book (128 + i) 0 ≡ max (get_or book (128 + i) 0) (entries_now u i)
       entries-same i l (inl o) = rw o (omega (arith, h.entries i l, h.deep i l (less i o), shut))
       entries-same i l (inr o) = rw o (omega arith)
 
 -- ---- the book at the start, and at the end
 
-pub kept-first : (s : Aic) → s.depth ≡ 0 → Kept noFigures s 0 (replicate 160 0)
-unfolding isOpen
+pub kept-first : (s : Aic) → s.depth ≡ 0 → Kept no_figures s 0 (replicate 160 0)
+unfolding is_open
 kept-first s z =
     record {
       size = length-replicate {A = ℕ} 160 0;
       whole = (length-replicate {A = ℕ} 32 0, length-replicate {A = ℕ} 32 0, length-replicate {A = ℕ} 32 0, length-replicate {A = ℕ} 32 0);
-      asks = λ i l. ap (λ (w : ℕ). bit w i) (zeros-getD 160 0) ∙ bit-none i ∙ ap (ltb 0) (sym (zeros-getD 32 i));
-      waits = λ i l. ap (λ (w : ℕ). bit w i) (zeros-getD 160 1) ∙ bit-none i ∙ ap (ltb 1) (sym (zeros-getD 32 i));
-      few = omega (arith, zeros-getD 160 2);
-      started = λ i l. zeros-getD 160 (32 + i) ∙ sym (zeros-getD 32 i);
-      fewer = λ i l. omega (arith, zeros-getD 32 i);
-      began = λ i l q. absurd (omega (arith, zeros-getD 32 i, q));
-      waited = λ i l. omega (arith, zeros-getD 32 i, zeros-getD 160 (96 + i));
-      entries = λ i l. zeros-getD 160 (128 + i) ∙ sym (zeros-getD 32 i);
+      asks = λ i l. ap (λ (w : ℕ). bit w i) (zeros_get_d 160 0) ∙ bit-none i ∙ ap (ltb 0) (sym (zeros_get_d 32 i));
+      waits = λ i l. ap (λ (w : ℕ). bit w i) (zeros_get_d 160 1) ∙ bit-none i ∙ ap (ltb 1) (sym (zeros_get_d 32 i));
+      few = omega (arith, zeros_get_d 160 2);
+      started = λ i l. zeros_get_d 160 (32 + i) ∙ sym (zeros_get_d 32 i);
+      fewer = λ i l. omega (arith, zeros_get_d 32 i);
+      began = λ i l q. absurd (omega (arith, zeros_get_d 32 i, q));
+      waited = λ i l. omega (arith, zeros_get_d 32 i, zeros_get_d 160 (96 + i));
+      entries = λ i l. zeros_get_d 160 (128 + i) ∙ sym (zeros_get_d 32 i);
       deep = λ i l o. omega (arith, z);
     }
 
-same-list : (a b : List ℕ) → length a ≡ 32 → length b ≡ 32 → ((i : ℕ) → i < 32 → get_or a i 0 ≡ get_or b i 0) → a ≡ b
-same-list a b n m f = ext_get_or 0 a b (n ∙ sym m) (λ i l. f i (omega (arith, n, l)))
+same_list : (a b : List ℕ) → length a ≡ 32 → length b ≡ 32 → ((i : ℕ) → i < 32 → get_or a i 0 ≡ get_or b i 0) → a ≡ b
+same_list a b n m f = ext_get_or 0 a b (n ∙ sym m) (λ i l. f i (omega (arith, n, l)))
 
 module _ (f : Figures) (s : Aic) (n : ℕ) (book last : List ℕ) (h : Kept f s n book)
-    (p : Put 96 (λ i. pick (bit (get_or book 1 0) i) (settledAt book i) (get_or book (96 + i) 0)) book last) where
+    (p : Put 96 (λ i. pick (bit (get_or book 1 0) i) (settled_at book i) (get_or book (96 + i) 0)) book last) where
   -- the most of the waits, with those that stand
   settled : (i : ℕ) → i < 32 → get_or last (96 + i) 0 ≡ get_or f.waited i 0
   unfolding pick
   settled i l = p.inside i l ∙ go (dec_lt 1 (get_or f.wait i 0)) ∙ sym (h.waited i l)
     where
-      go : Dec (1 < get_or f.wait i 0) → pick (bit (get_or book 1 0) i) (settledAt book i) (get_or book (96 + i) 0) ≡ max (get_or book (96 + i) 0) (get_or f.wait i 0 - 2)
-      go (yes q) = rw (h.waits i l, lt-ltb 1 (get_or f.wait i 0) q) (ap (max (get_or book (96 + i) 0)) (sym (since-began (get_or f.wait i 0) (get_or book (64 + i) 0) (get_or book 2 0) (h.began i l q) q)))
+      go : Dec (1 < get_or f.wait i 0) → pick (bit (get_or book 1 0) i) (settled_at book i) (get_or book (96 + i) 0) ≡ max (get_or book (96 + i) 0) (get_or f.wait i 0 - 2)
+      go (yes q) = rw (h.waits i l, lt-ltb 1 (get_or f.wait i 0) q) (ap (max (get_or book (96 + i) 0)) (sym (since_began (get_or f.wait i 0) (get_or book (64 + i) 0) (get_or book 2 0) (h.began i l q) q)))
       go (no q) = rw (h.waits i l, le-ltb 1 (get_or f.wait i 0) (omega (arith, q))) (omega (arith, q))
 
   pub figures-told : (a b c : List ℕ) → length a ≡ 32 → length b ≡ 32 → length c ≡ 32 → ((i : ℕ) → i < 32 → get_or a i 0 ≡ get_or last (32 + i) 0)
       → ((i : ℕ) → i < 32 → get_or b i 0 ≡ get_or last (96 + i) 0) → ((i : ℕ) → i < 32 → get_or c i 0 ≡ get_or last (128 + i) 0)
       → (a ≡ f.started) × (b ≡ f.waited) × (c ≡ f.entries)
   figures-told a b c la lb lc ea eb ec = (
-    same-list a f.started la h.whole.0 (λ i l. ea i l ∙ p.outside (32 + i) (inl (omega (arith, l))) ∙ h.started i l),
-    same-list b f.waited lb h.whole.2 (λ i l. eb i l ∙ settled i l),
-    same-list c f.entries lc h.whole.3 (λ i l. ec i l ∙ p.outside (128 + i) (inr (omega arith)) ∙ h.entries i l),
+    same_list a f.started la h.whole.0 (λ i l. ea i l ∙ p.outside (32 + i) (inl (omega (arith, l))) ∙ h.started i l),
+    same_list b f.waited lb h.whole.2 (λ i l. eb i l ∙ settled i l),
+    same_list c f.entries lc h.whole.3 (λ i l. ec i l ∙ p.outside (128 + i) (inr (omega arith)) ∙ h.entries i l),
   )

@@ -9,25 +9,25 @@ use native.Mathlib.Decide.{ℕ_discrete, dec_lt}
 use lib.Dec.{eqb, ltb, leb}
 use borrow.Author.Tests.{eqb-true, eq-eqb, leb-true, lt-ltb, le-ltb, ltb-true, ltb-false}
 use Rattle.words.specs.Choice.{pick}
-use Rattle.words.specs.Counting.{one, countBelow}
-use Rattle.words.specs.Word.{bit, word_of, either, both, without, withBit}
-use Rattle.words.proofs.ChoiceLaws.{pick-cases}
-use Rattle.words.proofs.CountingLaws.{count-le, count_same}
-use Rattle.words.proofs.HopLaws.{hop-here, hop-other}
+use Rattle.words.specs.Counting.{one, count_below}
+use Rattle.words.specs.Word.{bit, word_of, either, both, without, with_bit}
+use Rattle.words.proofs.ChoiceLaws.{pick_cases}
+use Rattle.words.proofs.CountingLaws.{count_le, count_same}
+use Rattle.words.proofs.HopLaws.{hop_here, hop-other}
 use Rattle.words.proofs.TruthLaws.{and_left, and_right}
-use Rattle.words.proofs.WordLaws.{bit-none, bit-some, bit-either, bit-both, bit-without, either_lt, both-lt, without-lt, same_word, one-eqb}
+use Rattle.words.proofs.WordLaws.{bit-none, bit-some, bit-either, bit-both, bit-without, either_lt, both_lt, without_lt, same_word, one-eqb}
 use Rattle.aic_record.specs.declared.Aic.{Aic}
 use Rattle.aic_waits.specs.Following.{capped}
 use Rattle.aic_waits.proofs.FigureLaws.{capped_is}
 use Rattle.aic_bounds.specs.declared.Bound.{Bound}
 use Rattle.aic_bounds.specs.declared.Marks.{Marks}
-use Rattle.aic_bounds.specs.Bounds.{idle, rivalsOf, enabledOf, fresh, boundOf}
-use Rattle.aic_bounds.specs.Following.{dues, plus, grownBy, boundBy}
+use Rattle.aic_bounds.specs.Bounds.{idle, rivals_of, enabled_of, fresh, bound_of}
+use Rattle.aic_bounds.specs.Following.{dues, plus, grown_by, bound_by}
 use Rattle.aic_bounds.specs.Over.{bounds, better, loses}
-use Rattle.aic_bounds.proofs.WordLaws.{due-sum, by-idle, by-fresh, by-grown}
+use Rattle.aic_bounds.proofs.WordLaws.{due_sum, by-idle, by-fresh, by-grown}
 use Rattle.aic_bounds.specs.declared.figures.Figures.{Figures}
-use Rattle.aic_bounds.specs.Figures.{figuresWith}
-use Rattle.aic_figures.specs.WaitsBook.{row_of, figuresIn, rowAfter, isQuiet, gained, Small}
+use Rattle.aic_bounds.specs.Figures.{figures_with}
+use Rattle.aic_figures.specs.WaitsBook.{row_of, figures_in, row_after, is_quiet, gained, Small}
 
 -- ---- numbers and words
 
@@ -41,20 +41,20 @@ below_two w b e = go (dec_lt 1 w) ∙ ap not (sym e)
 
 pub capped-most : (n : ℕ) → capped n ≤ 4294967295
 unfolding capped
-capped-most n = pick-cases (λ r. r ≤ 4294967295) (leb n 4294967295) (λ e. omega (arith, leb-true n 4294967295 e)) (λ e. omega arith)
+capped-most n = pick_cases (λ r. r ≤ 4294967295) (leb n 4294967295) (λ e. omega (arith, leb-true n 4294967295 e)) (λ e. omega arith)
 
 capped-none : (n : ℕ) → n ≤ 4294967295 → capped (n + 0) ≡ n
 capped-none n l = sym (capped_is (n + 0) (omega (arith, l))) ∙ omega arith
 
 shared-none : (a b : ℕ) → ((k : ℕ) → k < 32 → (bit a k && bit b k) ≡ false) → both a b ≡ 0
-shared-none a b n = bit-some 32 (both a b) (both-lt a b) (λ k l. bit-both a b k l ∙ n k l)
+shared-none a b n = bit-some 32 (both a b) (both_lt a b) (λ k l. bit-both a b k l ∙ n k l)
 
-count_none : countBelow 32 (bit 0) ≡ 0
-unfolding countBelow bit
+count_none : count_below 32 (bit 0) ≡ 0
+unfolding count_below bit
 count_none = refl
 
 pub plus_none : (n a b : ℕ) → n ≤ 4294967295 → both a b ≡ 0 → plus n a b ≡ n
-plus_none n a b l z = ap (λ (w : ℕ). capped (n + countBelow 32 (bit w))) z ∙ ap (λ (c : ℕ). capped (n + c)) count_none ∙ capped-none n l
+plus_none n a b l z = ap (λ (w : ℕ). capped (n + count_below 32 (bit w))) z ∙ ap (λ (c : ℕ). capped (n + c)) count_none ∙ capped-none n l
 
 -- nobody is brought anything
 pub plus-nobody : (n a b : ℕ) → n ≤ 4294967295 → a ≡ 0 → n ≡ plus n a b
@@ -73,16 +73,16 @@ joined a b s z = same_word 32 (either a b) a (either_lt a b) (omega (arith, s)) 
     go false false e = refl
 
 pub none_left : (a b : ℕ) → ((k : ℕ) → k < 32 → (bit a k && not (bit b k)) ≡ false) → without a b ≡ 0
-none_left a b n = bit-some 32 (without a b) (without-lt a b) (λ k l. bit-without a b k l ∙ n k l)
+none_left a b n = bit-some 32 (without a b) (without_lt a b) (λ k l. bit-without a b k l ∙ n k l)
 
 -- ---- the three ways of a step
 
 pub by_cases : (P : Bound → Type 0) (k w n : ℕ) (b : Bound) (m : Marks) (t : Aic) → (w < 2 → P (idle w)) → (2 ≤ w → b.wait < 2 → P (fresh k t))
-    → (2 ≤ w → 2 ≤ b.wait → P (grownBy w b n m t)) → P (boundBy k w n b m t)
-unfolding boundBy
+    → (2 ≤ w → 2 ≤ b.wait → P (grown_by w b n m t)) → P (bound_by k w n b m t)
+unfolding bound_by
 by_cases P k w n b m t p q r =
-    pick-cases P (ltb w 2) (λ e. p (ltb-true w 2 e))
-    (λ e. pick-cases P (ltb b.wait 2) (λ d. q (ltb-false w 2 e) (ltb-true b.wait 2 d)) (λ d. r (ltb-false w 2 e) (ltb-false b.wait 2 d)))
+    pick_cases P (ltb w 2) (λ e. p (ltb-true w 2 e))
+    (λ e. pick_cases P (ltb b.wait 2) (λ d. q (ltb-false w 2 e) (ltb-true b.wait 2 d)) (λ d. r (ltb-false w 2 e) (ltb-false b.wait 2 d)))
 
 -- ---- the row
 
@@ -92,78 +92,78 @@ module _ (k w n : ℕ) (m : Marks) (t : Aic) (f : Figures) where
 
   -- a wait that ends, and none
   row_ends : (was : Bool) → was ≡ ltb 1 f.bound.wait → ltb f.bound.wait 2 ≡ not was → ltb w 2 ≡ true → ltb 1 w ≡ false
-      → row_of (figuresWith n f (idle w)) ≡ row_of (figuresWith n (figuresIn was (row_of f)) (idle 0))
-  unfolding figuresWith pick better bounds boundOf loses
-  row_ends true e p q g = rw (q, p, sym e) (go (eqb f.bound.broke 0 && ltb (boundOf f.largest) (boundOf f.bound)) _ _ _)
+      → row_of (figures_with n f (idle w)) ≡ row_of (figures_with n (figures_in was (row_of f)) (idle 0))
+  unfolding figures_with pick better bounds bound_of loses
+  row_ends true e p q g = rw (q, p, sym e) (go (eqb f.bound.broke 0 && ltb (bound_of f.largest) (bound_of f.bound)) _ _ _)
     where
       go : (x : Bool) (o u r : ℕ) → row_of (record { bound = idle w; largest = pick x f.bound f.largest; begun = o; unbounded = u; first = r })
-          ≡ row_of (record { bound = idle 0; largest = pick x (figuresIn true (row_of f)).bound (figuresIn true (row_of f)).largest; begun = o; unbounded = u; first = r })
+          ≡ row_of (record { bound = idle 0; largest = pick x (figures_in true (row_of f)).bound (figures_in true (row_of f)).largest; begun = o; unbounded = u; first = r })
       go true o u r = refl
       go false o u r = refl
   row_ends false e p q g = rw (q, p, g, sym e)
 
   -- a wait that goes on, and one that begins
-  row-grows : ltb f.bound.wait 2 ≡ false → ltb w 2 ≡ false
-      → row_of (figuresWith n f (grownBy w f.bound n m t)) ≡ row_of (figuresWith n (figuresIn true (row_of f)) (grownBy 2 (figuresIn true (row_of f)).bound n m t))
-  unfolding figuresWith pick loses
-  row-grows p q = rw (q, p)
+  row_grows : ltb f.bound.wait 2 ≡ false → ltb w 2 ≡ false
+      → row_of (figures_with n f (grown_by w f.bound n m t)) ≡ row_of (figures_with n (figures_in true (row_of f)) (grown_by 2 (figures_in true (row_of f)).bound n m t))
+  unfolding figures_with pick loses
+  row_grows p q = rw (q, p)
 
-  row-begins : ltb f.bound.wait 2 ≡ true → row_of (figuresWith n f (fresh k t)) ≡ row_of (figuresWith n (figuresIn false (row_of f)) (fresh k t))
-  unfolding figuresWith pick loses
+  row-begins : ltb f.bound.wait 2 ≡ true → row_of (figures_with n f (fresh k t)) ≡ row_of (figures_with n (figures_in false (row_of f)) (fresh k t))
+  unfolding figures_with pick loses
   row-begins p = rw p
 
   -- a row that has no wait then
-  none : (was : Bool) → idle 0 ≡ boundBy k 0 n (figuresIn was (row_of f)).bound m t
-  none was = by-idle k 0 n (figuresIn was (row_of f)).bound m t (omega arith) refl
+  none : (was : Bool) → idle 0 ≡ bound_by k 0 n (figures_in was (row_of f)).bound m t
+  none was = by-idle k 0 n (figures_in was (row_of f)).bound m t (omega arith) refl
 
-  idle-row : f.bound.wait < 2 → w < 2 → f.bound ≡ idle f.bound.wait → Small f → row_of (figuresWith n f (idle w)) ≡ row_of f
-  unfolding figuresWith pick better bounds loses
+  idle-row : f.bound.wait < 2 → w < 2 → f.bound ≡ idle f.bound.wait → Small f → row_of (figures_with n f (idle w)) ≡ row_of f
+  unfolding figures_with pick better bounds loses
   idle-row p q e s =
       rw (lt-ltb w 2 q, lt-ltb f.bound.wait 2 p, le-ltb 1 f.bound.wait (omega (arith, p)), le-ltb 1 w (omega (arith, q)), capped-none f.begun s.6, and-false (eqb f.bound.broke 0), capped-none f.unbounded s.7)
       (ap (λ (c : Bound). row_of (record { bound = c; largest = f.largest; begun = f.begun; unbounded = f.unbounded; first = f.first })) (sym e))
 
-  pub row-then : (was is : Bool) → was ≡ ltb 1 f.bound.wait → is ≡ ltb 1 w
-      → row_of (figuresWith n f (boundBy k w n f.bound m t)) ≡ rowAfter k was is n m t (row_of f)
-  row-then was is e g = row-ways was is e g (below_two f.bound.wait was e) (below_two w is g)
+  pub row_then : (was is : Bool) → was ≡ ltb 1 f.bound.wait → is ≡ ltb 1 w
+      → row_of (figures_with n f (bound_by k w n f.bound m t)) ≡ row_after k was is n m t (row_of f)
+  row_then was is e g = row_ways was is e g (below_two f.bound.wait was e) (below_two w is g)
     where
-      row-ways : (was is : Bool) → was ≡ ltb 1 f.bound.wait → is ≡ ltb 1 w → ltb f.bound.wait 2 ≡ not was → ltb w 2 ≡ not is
-          → row_of (figuresWith n f (boundBy k w n f.bound m t)) ≡ rowAfter k was is n m t (row_of f)
-      row-ways true true e g p q =
-          ap (λ (c : Bound). row_of (figuresWith n f c)) (sym (by-grown k w n f.bound m t (ltb-false w 2 q) (ltb-false f.bound.wait 2 p) refl)) ∙ row-grows p q
-          ∙ unfold rowAfter pick in (ap (λ (c : Bound). row_of (figuresWith n (figuresIn true (row_of f)) c)) (by-grown k 2 n (figuresIn true (row_of f)).bound m t (omega arith) (omega arith) refl))
-      row-ways false true e g p q =
-          ap (λ (c : Bound). row_of (figuresWith n f c)) (sym (by-fresh k w n f.bound m t (ltb-false w 2 q) (ltb-true f.bound.wait 2 p) refl)) ∙ row-begins p
-          ∙ unfold rowAfter pick in (ap (λ (c : Bound). row_of (figuresWith n (figuresIn false (row_of f)) c)) (by-fresh k 2 n (figuresIn false (row_of f)).bound m t (omega arith) (omega arith) refl))
-      row-ways true false e g p q =
-          ap (λ (c : Bound). row_of (figuresWith n f c)) (sym (by-idle k w n f.bound m t (ltb-true w 2 q) refl)) ∙ row_ends true e p q (sym g)
-          ∙ unfold rowAfter pick in (ap (λ (c : Bound). row_of (figuresWith n (figuresIn true (row_of f)) c)) (none true))
-      row-ways false false e g p q =
-          ap (λ (c : Bound). row_of (figuresWith n f c)) (sym (by-idle k w n f.bound m t (ltb-true w 2 q) refl)) ∙ row_ends false e p q (sym g)
-          ∙ unfold rowAfter pick in (ap (λ (c : Bound). row_of (figuresWith n (figuresIn false (row_of f)) c)) (none false))
+      row_ways : (was is : Bool) → was ≡ ltb 1 f.bound.wait → is ≡ ltb 1 w → ltb f.bound.wait 2 ≡ not was → ltb w 2 ≡ not is
+          → row_of (figures_with n f (bound_by k w n f.bound m t)) ≡ row_after k was is n m t (row_of f)
+      row_ways true true e g p q =
+          ap (λ (c : Bound). row_of (figures_with n f c)) (sym (by-grown k w n f.bound m t (ltb-false w 2 q) (ltb-false f.bound.wait 2 p) refl)) ∙ row_grows p q
+          ∙ unfold row_after pick in (ap (λ (c : Bound). row_of (figures_with n (figures_in true (row_of f)) c)) (by-grown k 2 n (figures_in true (row_of f)).bound m t (omega arith) (omega arith) refl))
+      row_ways false true e g p q =
+          ap (λ (c : Bound). row_of (figures_with n f c)) (sym (by-fresh k w n f.bound m t (ltb-false w 2 q) (ltb-true f.bound.wait 2 p) refl)) ∙ row-begins p
+          ∙ unfold row_after pick in (ap (λ (c : Bound). row_of (figures_with n (figures_in false (row_of f)) c)) (by-fresh k 2 n (figures_in false (row_of f)).bound m t (omega arith) (omega arith) refl))
+      row_ways true false e g p q =
+          ap (λ (c : Bound). row_of (figures_with n f c)) (sym (by-idle k w n f.bound m t (ltb-true w 2 q) refl)) ∙ row_ends true e p q (sym g)
+          ∙ unfold row_after pick in (ap (λ (c : Bound). row_of (figures_with n (figures_in true (row_of f)) c)) (none true))
+      row_ways false false e g p q =
+          ap (λ (c : Bound). row_of (figures_with n f c)) (sym (by-idle k w n f.bound m t (ltb-true w 2 q) refl)) ∙ row_ends false e p q (sym g)
+          ∙ unfold row_after pick in (ap (λ (c : Bound). row_of (figures_with n (figures_in false (row_of f)) c)) (none false))
 
   -- one that neither waited nor waits has nothing to move
-  pub row-rests : f.bound.wait < 2 → w < 2 → f.bound ≡ idle f.bound.wait → Small f → row_of (figuresWith n f (boundBy k w n f.bound m t)) ≡ row_of f
-  row-rests p q e s = ap (λ (c : Bound). row_of (figuresWith n f c)) (sym (by-idle k w n f.bound m t q refl)) ∙ idle-row p q e s
+  pub row_rests : f.bound.wait < 2 → w < 2 → f.bound ≡ idle f.bound.wait → Small f → row_of (figures_with n f (bound_by k w n f.bound m t)) ≡ row_of f
+  row_rests p q e s = ap (λ (c : Bound). row_of (figures_with n f c)) (sym (by-idle k w n f.bound m t q refl)) ∙ idle-row p q e s
 
   -- ---- what is kept of a source
 
-  pub stands-asks : ltb 0 (boundBy k w n f.bound m t).wait ≡ ltb 0 w
-  stands-asks = by_cases (λ c. ltb 0 c.wait ≡ ltb 0 w) k w n f.bound m t (λ l. refl) (λ l o. sym (lt-ltb 0 w (omega (arith, l)))) (λ l o. refl)
+  pub stands_asks : ltb 0 (bound_by k w n f.bound m t).wait ≡ ltb 0 w
+  stands_asks = by_cases (λ c. ltb 0 c.wait ≡ ltb 0 w) k w n f.bound m t (λ l. refl) (λ l o. sym (lt-ltb 0 w (omega (arith, l)))) (λ l o. refl)
 
-  pub stands-waits : ltb 1 (boundBy k w n f.bound m t).wait ≡ ltb 1 w
+  pub stands-waits : ltb 1 (bound_by k w n f.bound m t).wait ≡ ltb 1 w
   stands-waits = by_cases (λ c. ltb 1 c.wait ≡ ltb 1 w) k w n f.bound m t (λ l. refl) (λ l o. sym (lt-ltb 1 w (omega (arith, l)))) (λ l o. refl)
 
-  pub rests-then : (boundBy k w n f.bound m t).wait < 2 → boundBy k w n f.bound m t ≡ idle (boundBy k w n f.bound m t).wait
-  rests-then =
+  pub rests_then : (bound_by k w n f.bound m t).wait < 2 → bound_by k w n f.bound m t ≡ idle (bound_by k w n f.bound m t).wait
+  rests_then =
       by_cases (λ c. c.wait < 2 → c ≡ idle c.wait) k w n f.bound m t (λ l p. refl) (λ l o p. absurd (omega (arith, p))) (λ l o p. absurd (omega (arith, l, p)))
 
-  pub seen-then : without (both (boundBy k w n f.bound m t).rivals t.enabled) (boundBy k w n f.bound m t).on ≡ 0
-  seen-then =
+  pub seen_then : without (both (bound_by k w n f.bound m t).rivals t.enabled) (bound_by k w n f.bound m t).on ≡ 0
+  seen_then =
       by_cases (λ c. without (both c.rivals t.enabled) c.on ≡ 0) k w n f.bound m t
       (λ l. none_left (both 0 t.enabled) 0 (λ i q. rw (bit-both 0 t.enabled i q, bit-none i)))
-      (λ l o. none_left (both (rivalsOf k t) t.enabled) (enabledOf (rivalsOf k t) t) (λ i q. none (bit (both (rivalsOf k t) t.enabled) i)))
-      (λ l o. none_left (both f.bound.rivals t.enabled) (either f.bound.on (enabledOf f.bound.rivals t))
-      (λ i q. rw (bit-either f.bound.on (enabledOf f.bound.rivals t) i q) (covered (bit (both f.bound.rivals t.enabled) i) (bit f.bound.on i))))
+      (λ l o. none_left (both (rivals_of k t) t.enabled) (enabled_of (rivals_of k t) t) (λ i q. none (bit (both (rivals_of k t) t.enabled) i)))
+      (λ l o. none_left (both f.bound.rivals t.enabled) (either f.bound.on (enabled_of f.bound.rivals t))
+      (λ i q. rw (bit-either f.bound.on (enabled_of f.bound.rivals t) i q) (covered (bit (both f.bound.rivals t.enabled) i) (bit f.bound.on i))))
     where
       none : (x : Bool) → (x && not x) ≡ false
       none true = refl
@@ -174,19 +174,19 @@ module _ (k w n : ℕ) (m : Marks) (t : Aic) (f : Figures) where
       covered true false = refl
       covered false y = refl
 
-  pub small-then : Small f → Small (figuresWith n f (boundBy k w n f.bound m t))
-  unfolding figuresWith
-  small-then s =
+  pub small_then : Small f → Small (figures_with n f (bound_by k w n f.bound m t))
+  unfolding figures_with
+  small_then s =
       let c = by_cases Held k w n f.bound m t (λ l. (omega arith, omega arith, omega arith, omega arith, omega arith, omega arith))
       (λ l o. (
-        omega (arith, both-lt (rivalsOf k t) t.enabled),
-        omega (arith, due-sum (enabledOf (rivalsOf k t) t) t, count-le 32 (bit (both (enabledOf (rivalsOf k t) t) (word_of 32 (dues t))))),
+        omega (arith, both_lt (rivals_of k t) t.enabled),
+        omega (arith, due_sum (enabled_of (rivals_of k t) t) t, count_le 32 (bit (both (enabled_of (rivals_of k t) t) (word_of 32 (dues t))))),
         omega arith,
         omega arith,
         omega arith,
         omega arith,
       ))
-      (λ l o. (omega (arith, either_lt f.bound.on (enabledOf f.bound.rivals t)), capped-most _, capped-most _, capped-most _, capped-most _, capped-most _)) in
+      (λ l o. (omega (arith, either_lt f.bound.on (enabled_of f.bound.rivals t)), capped-most _, capped-most _, capped-most _, capped-most _, capped-most _)) in
       (c.0, c.1, c.2, c.3, c.4, c.5, capped-most _, capped-most _)
     where
       Held : Bound → Type 0
@@ -198,8 +198,8 @@ module _ (k w n : ℕ) (m : Marks) (t : Aic) (f : Figures) where
 
 -- it brought nothing to a source that waits, with these rivals and those of them that count, and the step that left it without a bound: none is first
 -- enabled, none that counts is brought anything, and a bound that holds goes on to hold
-unfoldable pub isStill : ℕ → ℕ → ℕ → ℕ → Marks → Bool
-isStill enabled rivals on broke m =
+unfoldable pub is_still : ℕ → ℕ → ℕ → ℕ → Marks → Bool
+is_still enabled rivals on broke m =
     eqb (without (both rivals enabled) on) 0 && eqb (both on m.edges) 0 && eqb (both on m.commands) 0 && eqb (both on m.turns) 0 && eqb (both on m.closed) 0
     && not (eqb broke 0 && m.rewrote)
 
@@ -232,9 +232,9 @@ module _ (enabled rivals on broke : ℕ) (m : Marks) where
   abbrev c₅ : Bool
   c₅ = not (eqb broke 0 && m.rewrote)
 
-  still-brings : isStill enabled rivals on broke m ≡ true → Nothing enabled rivals on broke m
-  unfolding isStill
-  still-brings q =
+  still_brings : is_still enabled rivals on broke m ≡ true → Nothing enabled rivals on broke m
+  unfolding is_still
+  still_brings q =
       let p₄ = and_left ((((c₀ && c₁) && c₂) && c₃) && c₄) c₅ q in
       let p₃ = and_left (((c₀ && c₁) && c₂) && c₃) c₄ p₄ in
       let p₂ = and_left ((c₀ && c₁) && c₂) c₃ p₃ in
@@ -248,8 +248,8 @@ module _ (enabled rivals on broke : ℕ) (m : Marks) where
       )
 
   -- a step that brings nothing at all
-  pub quiet-still : isQuiet m ≡ true → without (both rivals enabled) on ≡ 0 → isStill enabled rivals on broke m ≡ true
-  unfolding isQuiet isStill
+  pub quiet-still : is_quiet m ≡ true → without (both rivals enabled) on ≡ 0 → is_still enabled rivals on broke m ≡ true
+  unfolding is_quiet is_still
   quiet-still q e =
       let q₃ = and_left (((d₀ && d₁) && d₂) && d₃) (not m.rewrote) q in
       let q₂ = and_left ((d₀ && d₁) && d₂) d₃ q₃ in
@@ -282,15 +282,15 @@ module _ (enabled rivals on broke : ℕ) (m : Marks) where
 -- ---- a step that moves nothing
 
 module _ (k n : ℕ) (m : Marks) (t : Aic) (f : Figures) (s : Small f)
-    (q : isStill t.enabled f.bound.rivals f.bound.on f.bound.broke m ≡ true) (r : f.bound.wait < 2 → f.bound ≡ idle f.bound.wait) where
+    (q : is_still t.enabled f.bound.rivals f.bound.on f.bound.broke m ≡ true) (r : f.bound.wait < 2 → f.bound ≡ idle f.bound.wait) where
   brings : Nothing t.enabled f.bound.rivals f.bound.on f.bound.broke m
-  brings = still-brings t.enabled f.bound.rivals f.bound.on f.bound.broke m q
+  brings = still_brings t.enabled f.bound.rivals f.bound.on f.bound.broke m q
 
-  grown-same : grownBy f.bound.wait f.bound n m t ≡ f.bound
+  grown-same : grown_by f.bound.wait f.bound n m t ≡ f.bound
   grown-same =
       rw (
-        joined f.bound.on (enabledOf f.bound.rivals t) s.0 brings.0,
-        sym (plus-nobody f.bound.pending (without (enabledOf f.bound.rivals t) f.bound.on) (word_of 32 (dues t)) s.1 brings.0),
+        joined f.bound.on (enabled_of f.bound.rivals t) s.0 brings.0,
+        sym (plus-nobody f.bound.pending (without (enabled_of f.bound.rivals t) f.bound.on) (word_of 32 (dues t)) s.1 brings.0),
         plus_none f.bound.edges f.bound.on m.edges s.2 brings.1,
         plus_none f.bound.commands f.bound.on m.commands s.3 brings.2,
         plus_none f.bound.turns f.bound.on m.turns s.4 brings.3,
@@ -298,12 +298,12 @@ module _ (k n : ℕ) (m : Marks) (t : Aic) (f : Figures) (s : Small f)
         brings.5,
       ) (unfold pick in refl)
 
-  bound-same : boundBy k f.bound.wait n f.bound m t ≡ f.bound
+  bound-same : bound_by k f.bound.wait n f.bound m t ≡ f.bound
   bound-same =
       by_cases (λ c. c ≡ f.bound) k f.bound.wait n f.bound m t (λ l. sym (r l)) (λ l o. absurd (omega (arith, l, o))) (λ l o. grown-same)
 
-  figures-same : figuresWith n f f.bound ≡ f
-  unfolding figuresWith loses
+  figures-same : figures_with n f f.bound ≡ f
+  unfolding figures_with loses
   figures-same =
       rw (largest-is (dec_lt 1 f.bound.wait), begun-is, lost (eqb f.bound.broke 0), capped-none f.unbounded s.7) (unfold pick in refl)
     where
@@ -322,37 +322,37 @@ module _ (k n : ℕ) (m : Marks) (t : Aic) (f : Figures) (s : Small f)
           either_way (yes l) = rw (le-ltb f.bound.wait 2 (omega (arith, l)))
           either_way (no o) = rw (le-ltb 1 f.bound.wait (omega (arith, o)), and-false (ltb f.bound.wait 2))
 
-  pub nothing-moves : figuresWith n f (boundBy k f.bound.wait n f.bound m t) ≡ f
-  nothing-moves = ap (figuresWith n f) bound-same ∙ figures-same
+  pub nothing_moves : figures_with n f (bound_by k f.bound.wait n f.bound m t) ≡ f
+  nothing_moves = ap (figures_with n f) bound-same ∙ figures-same
 
 -- ---- a wait that goes on, with no rival enabled for the first time and no mode rewritten
 
 module _ (k n : ℕ) (m : Marks) (t : Aic) (f : Figures) (s : Small f) (covers : without (both f.bound.rivals t.enabled) f.bound.on ≡ 0) (steady : m.rewrote ≡ false)
     (e : true ≡ ltb 1 f.bound.wait) where
-  waits-on : 2 ≤ f.bound.wait
-  waits-on = omega (arith, ltb-true 1 f.bound.wait (sym e))
+  waits_on : 2 ≤ f.bound.wait
+  waits_on = omega (arith, ltb-true 1 f.bound.wait (sym e))
 
-  bound-gains : grownBy f.bound.wait f.bound n m t ≡ (gained f m).bound
+  bound-gains : grown_by f.bound.wait f.bound n m t ≡ (gained f m).bound
   bound-gains =
       rw (
-        joined f.bound.on (enabledOf f.bound.rivals t) s.0 covers,
-        sym (plus-nobody f.bound.pending (without (enabledOf f.bound.rivals t) f.bound.on) (word_of 32 (dues t)) s.1 covers),
+        joined f.bound.on (enabled_of f.bound.rivals t) s.0 covers,
+        sym (plus-nobody f.bound.pending (without (enabled_of f.bound.rivals t) f.bound.on) (word_of 32 (dues t)) s.1 covers),
         steady,
         and-false (eqb f.bound.broke 0),
       ) (unfold pick in refl)
 
-  figures-gain : row_of (figuresWith n f (gained f m).bound) ≡ row_of (gained f m)
-  unfolding figuresWith loses pick
-  figures-gain = rw (le-ltb f.bound.wait 2 waits-on, capped-none f.begun s.6, lost (eqb f.bound.broke 0), capped-none f.unbounded s.7)
+  figures_gain : row_of (figures_with n f (gained f m).bound) ≡ row_of (gained f m)
+  unfolding figures_with loses pick
+  figures_gain = rw (le-ltb f.bound.wait 2 waits_on, capped-none f.begun s.6, lost (eqb f.bound.broke 0), capped-none f.unbounded s.7)
     where
       lost : (x : Bool) → (x && not x) ≡ false
       lost true = refl
       lost false = refl
 
-  pub row-gains : rowAfter k true true n m t (row_of f) ≡ row_of (gained f m)
+  pub row-gains : row_after k true true n m t (row_of f) ≡ row_of (gained f m)
   row-gains =
-      sym (row-then k f.bound.wait n m t f true true e e)
-      ∙ ap (λ (b : Bound). row_of (figuresWith n f b)) (sym (by-grown k f.bound.wait n f.bound m t waits-on waits-on refl) ∙ bound-gains) ∙ figures-gain
+      sym (row_then k f.bound.wait n m t f true true e e)
+      ∙ ap (λ (b : Bound). row_of (figures_with n f b)) (sym (by-grown k f.bound.wait n f.bound m t waits_on waits_on refl) ∙ bound-gains) ∙ figures_gain
 
 -- one for which none counts is brought nothing
 pub gains-none : (f : Figures) (m : Marks) → Small f → f.bound.on ≡ 0 → gained f m ≡ f
@@ -369,9 +369,9 @@ small-gains f m s = (s.0, s.1, capped-most _, capped-most _, capped-most _, capp
 
 -- ---- counted bit by bit
 
-capped-full : (n : ℕ) → 4294967295 ≤ n → capped n ≡ 4294967295
+capped_full : (n : ℕ) → 4294967295 ≤ n → capped n ≡ 4294967295
 unfolding capped
-capped-full n l = pick-cases (λ r. r ≡ 4294967295) (leb n 4294967295) (λ e. omega (arith, leb-true n 4294967295 e, l)) (λ e. refl)
+capped_full n l = pick_cases (λ r. r ≡ 4294967295) (leb n 4294967295) (λ e. omega (arith, leb-true n 4294967295 e, l)) (λ e. refl)
 
 capped-twice : (a b : ℕ) → capped (capped a + b) ≡ capped (a + b)
 capped-twice a b = go (dec_lt a 4294967295)
@@ -379,10 +379,10 @@ capped-twice a b = go (dec_lt a 4294967295)
     go : Dec (a < 4294967295) → capped (capped a + b) ≡ capped (a + b)
     go (yes l) = ap (λ (x : ℕ). capped (x + b)) (sym (capped_is a (omega (arith, l))))
     go (no l) =
-        ap (λ (x : ℕ). capped (x + b)) (capped-full a (omega (arith, l))) ∙ capped-full (4294967295 + b) (omega arith) ∙ sym (capped-full (a + b) (omega (arith, l)))
+        ap (λ (x : ℕ). capped (x + b)) (capped_full a (omega (arith, l))) ∙ capped_full (4294967295 + b) (omega arith) ∙ sym (capped_full (a + b) (omega (arith, l)))
 
 pub one-top : (n on i : ℕ) → n ≡ 4294967295 → n ≡ capped (n + one (bit on i))
-one-top n on i e = e ∙ sym (capped-full (n + one (bit on i)) (omega (arith, e)))
+one-top n on i e = e ∙ sym (capped_full (n + one (bit on i)) (omega (arith, e)))
 
 pub one-is : (n on i : ℕ) → n ≤ 4294967295 → (n ≡ 4294967295 → ⊥) → n + on / 2 ^ i % 2 ≡ capped (n + one (bit on i))
 unfolding bit
@@ -391,12 +391,12 @@ one-is n on i l d =
     capped_is (n + on / 2 ^ i % 2) (omega (arith, l, d, x)) ∙ ap (λ (y : ℕ). capped (n + y)) (sym (one-eqb (on / 2 ^ i % 2) x))
 
 -- one number passes that did not
-count-one : (n : ℕ) (p q : ℕ → Bool) (i : ℕ) → i < n → p i ≡ false → ((k : ℕ) → k < n → (k ≡ i → ⊥) → q k ≡ p k) → countBelow n q ≡ countBelow n p + one (q i)
-unfolding countBelow
+count-one : (n : ℕ) (p q : ℕ → Bool) (i : ℕ) → i < n → p i ≡ false → ((k : ℕ) → k < n → (k ≡ i → ⊥) → q k ≡ p k) → count_below n q ≡ count_below n p + one (q i)
+unfolding count_below
 count-one zero p q i l z h = absurd (omega (arith, l))
 count-one (suc n) p q i l z h = go (ℕ_discrete i n) (λ m. count-one n p q i m z (λ k y. h k (omega (arith, y))))
   where
-    go : Dec (i ≡ n) → (i < n → countBelow n q ≡ countBelow n p + one (q i)) → countBelow n q + one (q n) ≡ countBelow n p + one (p n) + one (q i)
+    go : Dec (i ≡ n) → (i < n → count_below n q ≡ count_below n p + one (q i)) → count_below n q + one (q n) ≡ count_below n p + one (p n) + one (q i)
     go (yes e) more =
         let c = count_same n q p (λ k m. h k (omega (arith, m)) (λ x. omega (arith, x, m, e))) in
         let y : one (q i) ≡ one (q n) = ap (λ (k : ℕ). one (q k)) e in
@@ -408,10 +408,10 @@ count-one (suc n) p q i l z h = go (ℕ_discrete i n) (λ m. count-one n p q i m
         omega (arith, c, x)
 
 -- one of the sources of w after another
-pub plus-bit : (n on w left i : ℕ) {next : ℕ} → i < 32 → bit w i ≡ true → bit left i ≡ true → next ≡ withBit left i false
+pub plus-bit : (n on w left i : ℕ) {next : ℕ} → i < 32 → bit w i ≡ true → bit left i ≡ true → next ≡ with_bit left i false
     → capped (plus n on (without w left) + one (bit on i)) ≡ plus n on (without w next)
 plus-bit n on w left i {next} l y b e =
-    capped-twice (n + countBelow 32 p) (one (bit on i)) ∙ ap capped (let c = count-one 32 p q i l here there in let d : one (q i) ≡ one (bit on i) = ap one new in omega (arith, c, d))
+    capped-twice (n + count_below 32 p) (one (bit on i)) ∙ ap capped (let c = count-one 32 p q i l here there in let d : one (q i) ≡ one (bit on i) = ap one new in omega (arith, c, d))
   where
     p : ℕ → Bool
     p = bit (both on (without w left))
@@ -426,20 +426,20 @@ plus-bit n on w left i {next} l y b e =
     here = at left i l ∙ ap₂ (λ (x y : Bool). bit on i && (x && not y)) y b ∙ and-false (bit on i)
 
     new : q i ≡ bit on i
-    new = at next i l ∙ ap₂ (λ (x y : Bool). bit on i && (x && not y)) y (ap (λ (v : ℕ). bit v i) e ∙ hop-here left i l) ∙ and-true (bit on i)
+    new = at next i l ∙ ap₂ (λ (x y : Bool). bit on i && (x && not y)) y (ap (λ (v : ℕ). bit v i) e ∙ hop_here left i l) ∙ and-true (bit on i)
 
     there : (k : ℕ) → k < 32 → (k ≡ i → ⊥) → q k ≡ p k
     there k m d = at next k m ∙ ap (λ (x : Bool). bit on k && (bit w k && not x)) (ap (λ (v : ℕ). bit v k) e ∙ hop-other left i k m d) ∙ sym (at left k m)
 
-pub plus-none-yet : (n on w : ℕ) → n ≤ 4294967295 → n ≡ plus n on (without w w)
-plus-none-yet n on w l = sym (plus_none n on (without w w) l (shared-none on (without w w) (λ k m. ap (λ (x : Bool). bit on k && x) (bit-without w w k m ∙ off (bit w k)) ∙ and-false (bit on k))))
+pub plus-none_yet : (n on w : ℕ) → n ≤ 4294967295 → n ≡ plus n on (without w w)
+plus-none_yet n on w l = sym (plus_none n on (without w w) l (shared-none on (without w w) (λ k m. ap (λ (x : Bool). bit on k && x) (bit-without w w k m ∙ off (bit w k)) ∙ and-false (bit on k))))
   where
     off : (x : Bool) → (x && not x) ≡ false
     off true = refl
     off false = refl
 
-pub plus-last : (n on w left : ℕ) → left ≡ 0 → plus n on (without w left) ≡ plus n on w
-plus-last n on w left z = ap (λ (c : ℕ). capped (n + c)) (count_same 32 (bit (both on (without w left))) (bit (both on w)) same)
+pub plus_last : (n on w left : ℕ) → left ≡ 0 → plus n on (without w left) ≡ plus n on w
+plus_last n on w left z = ap (λ (c : ℕ). capped (n + c)) (count_same 32 (bit (both on (without w left))) (bit (both on w)) same)
   where
     all : (x y : Bool) → y ≡ false → (x && not y) ≡ x
     all true y e = rw e
@@ -452,9 +452,9 @@ plus-last n on w left z = ap (λ (c : ℕ). capped (n + c)) (count_same 32 (bit 
 
 -- ---- of the function
 
-pub row_from : (k : ℕ) (was is : Bool) (n : ℕ) (m : Marks) (t : Aic) (row : List ℕ) {f g : Figures} {w : ℕ} {b : Bound} {r : List ℕ} → f ≡ figuresIn was row → w ≡ pick is 2 0
-    → b ≡ boundBy k w n f.bound m t → g ≡ figuresWith n f b → r ≡ row_of g → r ≡ rowAfter k was is n m t row
-unfolding rowAfter
+pub row_from : (k : ℕ) (was is : Bool) (n : ℕ) (m : Marks) (t : Aic) (row : List ℕ) {f g : Figures} {w : ℕ} {b : Bound} {r : List ℕ} → f ≡ figures_in was row → w ≡ pick is 2 0
+    → b ≡ bound_by k w n f.bound m t → g ≡ figures_with n f b → r ≡ row_of g → r ≡ row_after k was is n m t row
+unfolding row_after
 row_from k was is n m t row {f} {g} {w} ef ew eb eg er =
-    er ∙ ap row_of (eg ∙ ap (λ (v : Bound). figuresWith n f v) eb ∙ ap (λ (v : ℕ). figuresWith n f (boundBy k v n f.bound m t)) ew
-    ∙ ap (λ (v : Figures). figuresWith n v (boundBy k (pick is 2 0) n v.bound m t)) ef)
+    er ∙ ap row_of (eg ∙ ap (λ (v : Bound). figures_with n f v) eb ∙ ap (λ (v : ℕ). figures_with n f (bound_by k v n f.bound m t)) ew
+    ∙ ap (λ (v : Figures). figures_with n v (bound_by k (pick is 2 0) n v.bound m t)) ef)

@@ -7,9 +7,9 @@ use Rattle.aic_record.specs.declared.Aic.{Aic}
 use Rattle.aic_bounds.specs.declared.Bound.{Bound}
 use Rattle.aic_bounds.specs.declared.Marks.{Marks}
 use Rattle.aic_bounds.specs.Bounds.{idle}
-use Rattle.aic_bounds.specs.Following.{plus, boundBy}
+use Rattle.aic_bounds.specs.Following.{plus, bound_by}
 use Rattle.aic_bounds.specs.declared.figures.Figures.{Figures}
-use Rattle.aic_bounds.specs.Figures.{figuresWith, largestNow, unendedNow}
+use Rattle.aic_bounds.specs.Figures.{figures_with, largest_now, unended_now}
 
 -- ---- a row
 
@@ -22,15 +22,15 @@ row_of f =
     ∷ f.begun ∷ f.unbounded ∷ f.first ∷ []
 
 -- a wait, or none
-abbrev pub standsIf : Bool → ℕ
-standsIf waits = pick waits 2 0
+abbrev pub stands_if : Bool → ℕ
+stands_if waits = pick waits 2 0
 
 -- the figures that a row tells of a source that waits, or does not
-abbrev pub figuresIn : Bool → List ℕ → Figures
-figuresIn waits row =
+abbrev pub figures_in : Bool → List ℕ → Figures
+figures_in waits row =
     record {
       bound = record {
-        wait = standsIf waits;
+        wait = stands_if waits;
         rivals = get_or row 0 0;
         on = get_or row 1 0;
         pending = get_or row 2 0;
@@ -59,24 +59,24 @@ figuresIn waits row =
     }
 
 -- the row of source k after the n-th step, by whether it waited and whether it waits then
-unfoldable pub rowAfter : ℕ → Bool → Bool → ℕ → Marks → Aic → List ℕ → List ℕ
-rowAfter k was is n m t row = row_of (figuresWith n (figuresIn was row) (boundBy k (standsIf is) n (figuresIn was row).bound m t))
+unfoldable pub row_after : ℕ → Bool → Bool → ℕ → Marks → Aic → List ℕ → List ℕ
+row_after k was is n m t row = row_of (figures_with n (figures_in was row) (bound_by k (stands_if is) n (figures_in was row).bound m t))
 
 -- what is told of a source in the end: waits that began, have not ended, have no bound, the first step by which one has none, the terms of the largest
-unfoldable pub numbersOf : Figures → List ℕ
-numbersOf f =
-    f.begun ∷ unendedNow f ∷ f.unbounded ∷ f.first ∷ (largestNow f).pending ∷ (largestNow f).edges ∷ (largestNow f).commands ∷ (largestNow f).turns
-    ∷ (largestNow f).closed ∷ (largestNow f).remembered ∷ []
+unfoldable pub numbers_of : Figures → List ℕ
+numbers_of f =
+    f.begun ∷ unended_now f ∷ f.unbounded ∷ f.first ∷ (largest_now f).pending ∷ (largest_now f).edges ∷ (largest_now f).commands ∷ (largest_now f).turns
+    ∷ (largest_now f).closed ∷ (largest_now f).remembered ∷ []
 
 -- ---- the book
 
 -- number j of source i: each number has a column
-abbrev pub cellIn : List (List ℕ) → ℕ → ℕ → ℕ
-cellIn book j i = get_or (get_or book j []) i 0
+abbrev pub cell_in : List (List ℕ) → ℕ → ℕ → ℕ
+cell_in book j i = get_or (get_or book j []) i 0
 
 -- the row of source i
 unfoldable pub row_at : List (List ℕ) → ℕ → List ℕ
-row_at book i = made 18 (λ j. cellIn book j i)
+row_at book i = made 18 (λ j. cell_in book j i)
 
 -- 19 columns of 32 numbers
 abbrev pub Columns : List (List ℕ) → Type 0
@@ -84,7 +84,7 @@ Columns book = (length book ≡ 19) × ((j : ℕ) → j < 19 → length (get_or 
 
 -- a word of the last column: 0 the sources that are pending, enabled and not fast, 1 those that wait, 2 those that were enabled at the last look
 abbrev pub word_in : List (List ℕ) → ℕ → ℕ
-word_in book j = cellIn book 18 j
+word_in book j = cell_in book 18 j
 
 -- counts and words that have 32 bits
 abbrev pub Small : Figures → Type 0
@@ -107,8 +107,8 @@ pub record Kept (f : ℕ → Figures) (book : List (List ℕ)) : Type 0 where
 -- ---- a step
 
 -- it brought nothing
-unfoldable pub isQuiet : Marks → Bool
-isQuiet m = eqb m.edges 0 && eqb m.commands 0 && eqb m.turns 0 && eqb m.closed 0 && not m.rewrote
+unfoldable pub is_quiet : Marks → Bool
+is_quiet m = eqb m.edges 0 && eqb m.commands 0 && eqb m.turns 0 && eqb m.closed 0 && not m.rewrote
 
 -- the figures of a source that waits on, by what a step brings to those that count
 abbrev pub gained : Figures → Marks → Figures
@@ -141,7 +141,7 @@ pub record Stands (f : ℕ → Figures) (book : List (List ℕ)) : Type 0 where
 -- some numbers are anew, number j of source i g j i, and all others are as they were
 pub record Cells (some : ℕ → ℕ → Bool) (g : ℕ → ℕ → ℕ) (old new : List (List ℕ)) : Type 0 where
   pub size : Columns new
-  pub each : (j i : ℕ) → j < 19 → i < 32 → cellIn new j i ≡ pick (some j i) (g j i) (cellIn old j i)
+  pub each : (j i : ℕ) → j < 19 → i < 32 → cell_in new j i ≡ pick (some j i) (g j i) (cell_in old j i)
 
 -- the rows of some sources are anew, and all others are as they were
 pub record Rows (h : ℕ → List ℕ) (some : ℕ) (old new : List (List ℕ)) : Type 0 where
@@ -162,4 +162,4 @@ pub record Moved (by asks n : ℕ) (m : Marks) (t : Aic) (old new : List (List �
   pub waits : (i : ℕ) → i < 32 → bit (word_in new 1) i ≡ ((bit asks i && not (eqb i by)) && (bit (word_in old 1) i || not (bit (word_in old 0) i)))
   pub enabled : word_in new 2 ≡ t.enabled
   pub rows : (i : ℕ) → i < 32 → row_at new i
-      ≡ pick (bit (word_in old 1) i || bit (word_in new 1) i) (rowAfter i (bit (word_in old 1) i) (bit (word_in new 1) i) n m t (row_at old i)) (row_at old i)
+      ≡ pick (bit (word_in old 1) i || bit (word_in new 1) i) (row_after i (bit (word_in old 1) i) (bit (word_in new 1) i) n m t (row_at old i)) (row_at old i)

@@ -10,9 +10,9 @@ ghost use Rattle.aic_record.specs.Sound.{sound};
 ghost use Rattle.aic_sources.specs.Normal.{waiting};
 ghost use Rattle.aic.specs.Model.{step};
 ghost use Rattle.aic_room.specs.Room.{Laid};
-ghost use Rattle.aic_waits.specs.Figures.{entriesNow};
-ghost use Rattle.aic_waits.specs.Following.{Figures, capped, noFigures, startedFrom, followed};
-ghost use Rattle.aic_figures.specs.Book.{Kept, Put, Moved, settledAt};
+ghost use Rattle.aic_waits.specs.Figures.{entries_now};
+ghost use Rattle.aic_waits.specs.Following.{Figures, capped, no_figures, started_from, followed};
+ghost use Rattle.aic_figures.specs.Book.{Kept, Put, Moved, settled_at};
 
 pub mod waits;
 
@@ -62,7 +62,7 @@ fn less(a: u32, b: u32) -> u32
 // The wait of source i ends.
 fn settle(book: &mut Book, i: u32)
     requires { i < 32 }
-    ensures { book.new ≡ set book.old (96 + i) (settledAt book.old i) }
+    ensures { book.new ≡ set book.old (96 + i) (settled_at book.old i) }
 {
     let k = i as usize;
     let n = less(book[STARTS], book[BEGAN + k]);
@@ -72,7 +72,7 @@ fn settle(book: &mut Book, i: u32)
 
 // The waits of some sources end.
 fn settle_all(book: &mut Book, some: u32)
-    ensures { length book.old ≡ 160 → Put 96 (λ i. pick (bit some i) (settledAt book.old i) (get_or book.old (96 + i) 0)) book.old book.new }
+    ensures { length book.old ≡ 160 → Put 96 (λ i. pick (bit some i) (settled_at book.old i) (get_or book.old (96 + i) 0)) book.old book.new }
 {
     let mut left = some;
     while left != 0 {
@@ -99,7 +99,7 @@ fn begin_all(book: &mut Book, some: u32)
 
 // The source of the entry above so many, 32 where there is none or it is a mark.
 pub(crate) fn started_from(room: &Room, before: u32) -> u32
-    ensures { (t : Aic) → sound t ≡ true → Laid t room.now → result ≡ startedFrom before t }
+    ensures { (t : Aic) → sound t ≡ true → Laid t room.now → result ≡ started_from before t }
 {
     if room[aic_room::layout::DEPTH] <= before {
         return 32;
@@ -126,7 +126,7 @@ fn see(book: &mut Book, k: u32, depth: u32)
 
 // Whoever is open has seen all entries that are.
 fn deepen<'a>(book: &'a mut Book, room: &'a Room)
-    ensures { (t : Aic) → sound t ≡ true → Laid t room.now → length book.old ≡ 160 → Put 128 (λ i. max (get_or book.old (128 + i) 0) (entriesNow t i)) book.old book.new }
+    ensures { (t : Aic) → sound t ≡ true → Laid t room.now → length book.old ≡ 160 → Put 128 (λ i. max (get_or book.old (128 + i) 0) (entries_now t i)) book.old book.new }
 {
     let depth = room[aic_room::layout::DEPTH];
     if 8 < depth {
@@ -169,7 +169,7 @@ pub(crate) fn waits_after(asks: u32, by: u32, asked: u32, waiting: u32) -> u32
 
 // The book after a step after which other sources ask, or an entry is open that was not.
 fn move_on<'a>(book: &'a mut Book, room: &'a Room, before: u32, asks: u32)
-    ensures { (t : Aic) → sound t ≡ true → Laid t room.now → length book.old ≡ 160 → Moved (startedFrom before t) asks t book.old book.new }
+    ensures { (t : Aic) → sound t ≡ true → Laid t room.now → length book.old ≡ 160 → Moved (started_from before t) asks t book.old book.new }
 {
     let by = started_from(room, before);
     let waiting = book[WAITING];
@@ -201,7 +201,7 @@ pub fn follow<'a>(book: &'a mut Book, room: &'a Room, before: u32)
 
 // The book of a run that has no step yet.
 pub fn start() -> Book
-    ensures { (s : Aic) → s.depth ≡ 0 → Kept noFigures s 0 result }
+    ensures { (s : Aic) → s.depth ≡ 0 → Kept no_figures s 0 result }
 {
     [0; 160]
 }

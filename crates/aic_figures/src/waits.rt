@@ -9,18 +9,18 @@ ghost use Rattle.trace.specs.Turns.{step_of};
 ghost use Rattle.aic_record.specs.declared.Aic.{Aic};
 ghost use Rattle.aic_record.specs.Promises.{Shaped};
 ghost use Rattle.aic_record.specs.Mode.{edge};
-ghost use Rattle.aic_record.specs.Sound.{sourceAt, sound};
-ghost use Rattle.aic_sources.specs.Pending.{activeAt, active};
+ghost use Rattle.aic_record.specs.Sound.{source_at, sound};
+ghost use Rattle.aic_sources.specs.Pending.{active_at, active};
 ghost use Rattle.aic_registers.specs.Map.{eoicr};
 ghost use Rattle.aic_registers.specs.Effects.{turns};
 ghost use Rattle.aic.specs.Model.{step};
 ghost use Rattle.aic_room.specs.Room.{Laid};
-ghost use Rattle.aic_waits.specs.Following.{capped, startedFrom};
-ghost use Rattle.aic_bounds.specs.Following.{plus, noMarks, hotLast, writeMarks, lineMarks, marksBy};
+ghost use Rattle.aic_waits.specs.Following.{capped, started_from};
+ghost use Rattle.aic_bounds.specs.Following.{plus, no_marks, hot_last, write_marks, line_marks, marks_by};
 ghost use Rattle.aic_bounds.specs.declared.figures.Figures.{Figures};
-ghost use Rattle.aic_bounds.specs.Figures.{noFigures};
-ghost use Rattle.aic_figures.specs.Waits.{waitsNow, followed};
-ghost use Rattle.aic_figures.specs.WaitsBook.{row_of, figuresIn, rowAfter, numbersOf, cellIn, row_at, Columns, word_in, Kept, isQuiet, gained, Stands, Rows, Cells, Worded, Moved};
+ghost use Rattle.aic_bounds.specs.Figures.{no_figures};
+ghost use Rattle.aic_figures.specs.Waits.{waits_now, followed};
+ghost use Rattle.aic_figures.specs.WaitsBook.{row_of, figures_in, row_after, numbers_of, cell_in, row_at, Columns, word_in, Kept, is_quiet, gained, Stands, Rows, Cells, Worded, Moved};
 
 mod bounds;
 
@@ -57,7 +57,7 @@ const CLOSED: usize = 6;
 
 // What a step brings if it is carried out, from the room that it meets: its kind and its numbers are those of a turn.
 pub fn marks(room: &Room, kind: u32, x: u32, y: u32) -> Marks
-    ensures { (s : Aic) → sound s ≡ true → Laid s room.now → result ≡ marksBy true s (step_of kind x y) }
+    ensures { (s : Aic) → sound s ≡ true → Laid s room.now → result ≡ marks_by true s (step_of kind x y) }
 {
     if kind == trace::READ {
         return no_marks();
@@ -70,14 +70,14 @@ pub fn marks(room: &Room, kind: u32, x: u32, y: u32) -> Marks
 
 // What a step brings that is refused.
 pub fn no_marks() -> Marks
-    ensures { result ≡ noMarks }
+    ensures { result ≡ no_marks }
 {
     aic_bounds::no_marks()
 }
 
 // A write of v at the offset o.
 fn write_marks(room: &Room, o: u32, v: u32) -> Marks
-    ensures { (s : Aic) → sound s ≡ true → Laid s room.now → result ≡ writeMarks true s o v }
+    ensures { (s : Aic) → sound s ≡ true → Laid s room.now → result ≡ write_marks true s o v }
 {
     let commands = aic_bounds::either(
         o == map::ISCR,
@@ -96,7 +96,7 @@ fn write_marks(room: &Room, o: u32, v: u32) -> Marks
 
 // The source whose handler a write at the offset o closes while its line is active.
 fn closed_hot(room: &Room, o: u32) -> u32
-    ensures { (s : Aic) → sound s ≡ true → Laid s room.now → result ≡ pick (eqb o eoicr && not (eqb s.depth 0)) (word_of 32 (hotLast s (sourceAt s (s.depth - 1)))) 0 }
+    ensures { (s : Aic) → sound s ≡ true → Laid s room.now → result ≡ pick (eqb o eoicr && not (eqb s.depth 0)) (word_of 32 (hot_last s (source_at s (s.depth - 1)))) 0 }
 {
     let depth = room[aic_room::layout::DEPTH];
     if (o == map::EOICR) & (depth != 0) {
@@ -107,7 +107,7 @@ fn closed_hot(room: &Room, o: u32) -> u32
 
 // The source of the last of so many entries.
 fn last_source(room: &Room, depth: u32) -> u32
-    ensures { (result < 32) × ((s : Aic) → sound s ≡ true → Laid s room.now → depth ≡ s.depth → (depth ≡ 0 → ⊥) → result ≡ sourceAt s (s.depth - 1)) }
+    ensures { (result < 32) × ((s : Aic) → sound s ≡ true → Laid s room.now → depth ≡ s.depth → (depth ≡ 0 → ⊥) → result ≡ source_at s (s.depth - 1)) }
 {
     if depth == 0 {
         return 0;
@@ -118,14 +118,14 @@ fn last_source(room: &Room, depth: u32) -> u32
 // Source j alone, if it is level-sensitive and its line is active; source 0 is a mark's.
 fn hot_word(room: &Room, j: u32) -> u32
     requires { j < 32 }
-    ensures { (s : Aic) → Laid s room.now → result ≡ word_of 32 (hotLast s j) }
+    ensures { (s : Aic) → Laid s room.now → result ≡ word_of 32 (hot_last s j) }
 {
     words::with_bit(0, j, (j != 0) & !is_edge(room, j) & is_active(room, j))
 }
 
 // The line of source k goes to the level l.
 fn line_marks(room: &Room, k: u32, l: u32) -> Marks
-    ensures { (s : Aic) → Laid s room.now → result ≡ lineMarks true s k l }
+    ensures { (s : Aic) → Laid s room.now → result ≡ line_marks true s k l }
 {
     if 31 < k {
         return no_marks();
@@ -153,7 +153,7 @@ fn is_edge(room: &Room, k: u32) -> bool
 // Whether a line that is high, or low, is at the active level of source k.
 fn is_active_at(room: &Room, k: u32, high: bool) -> bool
     requires { k < 32 }
-    ensures { (s : Aic) → Laid s room.now → result ≡ activeAt s k high }
+    ensures { (s : Aic) → Laid s room.now → result ≡ active_at s k high }
 {
     if words::has(room[aic_room::layout::LOW], k) {
         return !high;
@@ -180,7 +180,7 @@ fn turns_active(room: &Room, k: u32, high: bool) -> bool
 
 // The figures of a row, of a source that waits or does not.
 fn figures_of(row: [u32; 18], waits: bool) -> Figures
-    ensures { result ≡ figuresIn waits row }
+    ensures { result ≡ figures_in waits row }
 {
     let wait = aic_bounds::either(waits, 2, 0);
     let bound = Bound {
@@ -255,7 +255,7 @@ fn row_after(
     row: [u32; 18],
 ) -> [u32; 18]
     requires { k < 32 }
-    ensures { (t : Aic) → sound t ≡ true → Laid t room.now → result ≡ rowAfter k was is n m t row }
+    ensures { (t : Aic) → sound t ≡ true → Laid t room.now → result ≡ row_after k was is n m t row }
 {
     let f = figures_of(row, was);
     let w = aic_bounds::either(is, 2, 0);
@@ -292,7 +292,7 @@ fn put_row(book: &mut Book, k: u32, row: [u32; 18])
 // The row of source k after the n-th step, by whether it waited and whether it waits then.
 fn move_row<'a>(book: &'a mut Book, room: &'a Room, k: u32, was: bool, is: bool, n: u32, m: Marks)
     requires { k < 32 }
-    ensures { (t : Aic) → sound t ≡ true → Laid t room.now → Columns book.old → Rows (λ i. rowAfter k was is n m t (row_at book.old k)) (2 ^ k) book.old book.new }
+    ensures { (t : Aic) → sound t ≡ true → Laid t room.now → Columns book.old → Rows (λ i. row_after k was is n m t (row_at book.old k)) (2 ^ k) book.old book.new }
 {
     let row = row_at(book, k);
     let next = row_after(room, k, was, is, n, m, row);
@@ -301,7 +301,7 @@ fn move_row<'a>(book: &'a mut Book, room: &'a Room, k: u32, was: bool, is: bool,
 
 // The rows of some sources, by whether they waited before the n-th step and wait after it.
 fn move_rows<'a>(book: &'a mut Book, room: &'a Room, some: u32, was: u32, is: u32, n: u32, m: Marks)
-    ensures { (t : Aic) → sound t ≡ true → Laid t room.now → Columns book.old → Rows (λ i. rowAfter i (bit was i) (bit is i) n m t (row_at book.old i)) some book.old book.new }
+    ensures { (t : Aic) → sound t ≡ true → Laid t room.now → Columns book.old → Rows (λ i. row_after i (bit was i) (bit is i) n m t (row_at book.old i)) some book.old book.new }
 {
     let mut left = some;
     while left != 0 {
@@ -327,7 +327,7 @@ fn one_more(n: u32, on: u32, i: u32) -> u32
 // One more in column j for each source for which source i counts.
 fn bump(book: &mut Book, j: usize, i: u32)
     requires { (j < 18) × (i < 32) }
-    ensures { Columns book.old → Cells (λ a b. eqb a j) (λ a b. capped (cellIn book.old j b + one (bit (cellIn book.old 1 b) i))) book.old book.new }
+    ensures { Columns book.old → Cells (λ a b. eqb a j) (λ a b. capped (cell_in book.old j b + one (bit (cell_in book.old 1 b) i))) book.old book.new }
 {
     let mut k: usize = 0;
     while k < 32 {
@@ -340,7 +340,7 @@ fn bump(book: &mut Book, j: usize, i: u32)
 // In column j as many more for each source as of these count for it.
 fn grow(book: &mut Book, j: usize, w: u32)
     requires { (1 < j) × (j < 18) }
-    ensures { Columns book.old → ((i : ℕ) → i < 32 → cellIn book.old j i ≤ 4294967295) → Cells (λ a b. eqb a j) (λ a b. plus (cellIn book.old j b) (cellIn book.old 1 b) w) book.old book.new }
+    ensures { Columns book.old → ((i : ℕ) → i < 32 → cell_in book.old j i ≤ 4294967295) → Cells (λ a b. eqb a j) (λ a b. plus (cell_in book.old j b) (cell_in book.old 1 b) w) book.old book.new }
 {
     let mut left = w;
     while left != 0 {
@@ -367,7 +367,7 @@ fn grow_all(book: &mut Book, some: u32, m: Marks)
 
 // The rows after a step that enables no source and rewrites no mode: waits end, those that go on are brought something, others begin.
 fn move_steady<'a>(book: &'a mut Book, room: &'a Room, was: u32, is: u32, n: u32, m: Marks)
-    ensures { (f : ℕ → Figures) (t : Aic) → sound t ≡ true → Laid t room.now → Kept f book.old → was ≡ word_in book.old 1 → t.enabled ≡ word_in book.old 2 → m.rewrote ≡ false → Rows (λ i. rowAfter i (bit was i) (bit is i) n m t (row_at book.old i)) (either was is) book.old book.new }
+    ensures { (f : ℕ → Figures) (t : Aic) → sound t ≡ true → Laid t room.now → Kept f book.old → was ≡ word_in book.old 1 → t.enabled ≡ word_in book.old 2 → m.rewrote ≡ false → Rows (λ i. row_after i (bit was i) (bit is i) n m t (row_at book.old i)) (either was is) book.old book.new }
 {
     move_rows(book, room, words::drop_bits(was, is), was, is, n, m);
     grow_all(book, words::meet(was, is), m);
@@ -376,7 +376,7 @@ fn move_steady<'a>(book: &'a mut Book, room: &'a Room, was: u32, is: u32, n: u32
 
 // The rows of those that waited before the n-th step or wait after it.
 fn move_all<'a>(book: &'a mut Book, room: &'a Room, was: u32, is: u32, n: u32, m: Marks)
-    ensures { (f : ℕ → Figures) (t : Aic) → sound t ≡ true → Laid t room.now → Kept f book.old → was ≡ word_in book.old 1 → Rows (λ i. rowAfter i (bit was i) (bit is i) n m t (row_at book.old i)) (either was is) book.old book.new }
+    ensures { (f : ℕ → Figures) (t : Aic) → sound t ≡ true → Laid t room.now → Kept f book.old → was ≡ word_in book.old 1 → Rows (λ i. row_after i (bit was i) (bit is i) n m t (row_at book.old i)) (either was is) book.old book.new }
 {
     if (room[aic_room::layout::ENABLED] == book[WORDS][ENABLED]) & !m.rewrote {
         move_steady(book, room, was, is, n, m);
@@ -396,7 +396,7 @@ fn put_words(book: &mut Book, asks: u32, is: u32, enabled: u32)
 
 // The book after a step that may have moved something.
 fn move_on<'a>(book: &'a mut Book, room: &'a Room, before: u32, asks: u32, n: u32, m: Marks)
-    ensures { (f : ℕ → Figures) (t : Aic) → sound t ≡ true → Laid t room.now → Kept f book.old → Moved (startedFrom before t) asks n m t book.old book.new }
+    ensures { (f : ℕ → Figures) (t : Aic) → sound t ≡ true → Laid t room.now → Kept f book.old → Moved (started_from before t) asks n m t book.old book.new }
 {
     let by = super::started_from(room, before);
     let was = book[WORDS][WAITING];
@@ -407,7 +407,7 @@ fn move_on<'a>(book: &'a mut Book, room: &'a Room, before: u32, asks: u32, n: u3
 
 // Whether a step brought nothing.
 fn is_quiet(m: Marks) -> bool
-    ensures { result ≡ isQuiet m }
+    ensures { result ≡ is_quiet m }
 {
     (m.edges == 0) & (m.commands == 0) & (m.turns == 0) & (m.closed == 0) & !m.rewrote
 }
@@ -430,7 +430,7 @@ pub fn follow<'a>(book: &'a mut Book, room: &'a Room, before: u32, n: u32, m: Ma
 
 // The book of a run that has no step yet.
 pub fn start() -> Book
-    ensures { Kept (λ k. noFigures) result }
+    ensures { Kept (λ k. no_figures) result }
 {
     let column = [0u32; 32];
     [column; 19]
@@ -439,14 +439,14 @@ pub fn start() -> Book
 // The figures of source k, but for how many handlers were started in a wait.
 fn figures_at(book: &Book, k: u32) -> Figures
     requires { k < 32 }
-    ensures { (f : ℕ → Figures) → Kept f book.now → numbersOf result ≡ numbersOf (f k) }
+    ensures { (f : ℕ → Figures) → Kept f book.now → numbers_of result ≡ numbers_of (f k) }
 {
     figures_of(row_at(book, k), words::has(book[WORDS][WAITING], k))
 }
 
 // What is told of a source in the end.
 fn numbers_of(f: Figures) -> [u32; 10]
-    ensures { result ≡ numbersOf f }
+    ensures { result ≡ numbers_of f }
 {
     let b = aic_bounds::figures::largest_now(f);
     [
@@ -465,7 +465,7 @@ fn numbers_of(f: Figures) -> [u32; 10]
 
 // The same of all sources.
 fn table_of(book: &Book) -> [[u32; 10]; 32]
-    ensures { (length result ≡ 32) × ((f : ℕ → Figures) → Kept f book.now → (k : ℕ) → k < 32 → get_or result k [] ≡ numbersOf (f k)) }
+    ensures { (length result ≡ 32) × ((f : ℕ → Figures) → Kept f book.now → (k : ℕ) → k < 32 → get_or result k [] ≡ numbers_of (f k)) }
 {
     let row = [0u32; 10];
     let mut out = [row; 32];
@@ -494,7 +494,7 @@ fn column(table: &[[u32; 10]; 32], j: usize) -> [u32; 32]
 
 // The figures in the book, that of a wait that stands among the bounds.
 pub fn waits_in(book: &Book) -> Waits
-    ensures { (f : ℕ → Figures) → Kept f book.now → result ≡ waitsNow f }
+    ensures { (f : ℕ → Figures) → Kept f book.now → result ≡ waits_now f }
 {
     let table = table_of(book);
     let begun = column(&table, 0);

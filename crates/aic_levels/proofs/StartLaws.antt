@@ -16,9 +16,9 @@ use Rattle.aic_sources.specs.Normal.{waiting}
 use Rattle.aic.specs.declared.Begun.{Begun}
 use Rattle.aic.specs.Model as aic
 use Rattle.aic_levels.specs.declared.Levels.{Levels}
-use Rattle.aic_levels.specs.Levels.{levelWord, any_of, levelsOf}
+use Rattle.aic_levels.specs.Levels.{level_word, any_of, levels_of}
 use Rattle.aic_levels.specs.Model.{start}
-use Rattle.aic_levels.proofs.LevelLaws.{level-bit, level-lt, any-bit, any-lt}
+use Rattle.aic_levels.proofs.LevelLaws.{level-bit, level_lt, any-bit, any_lt}
 
 -- a source that is not enabled does not wait
 pub idle : (s : Aic) (k : ℕ) → bit s.enabled k ≡ false → waiting s k ≡ false
@@ -26,23 +26,23 @@ unfolding waiting asking
 idle s k e = ap (λ (b : Bool). (pending s k && b) && not (fast s k)) e ∙ ap (λ (b : Bool). b && not (fast s k)) (and-false (pending s k))
 
 -- with none enabled every word is 0, and the byte is
-pub none-enabled : (s : Aic) → s.enabled ≡ 0 → (p : ℕ) → levelWord s p ≡ 0
-none-enabled s e p =
-    bit-some 32 (levelWord s p) (level-lt s p)
+pub none_enabled : (s : Aic) → s.enabled ≡ 0 → (p : ℕ) → level_word s p ≡ 0
+none_enabled s e p =
+    bit-some 32 (level_word s p) (level_lt s p)
     (λ k l. level-bit s p k l ∙ ap (λ (b : Bool). b && eqb (priority s k) p) (idle s k (ap (λ (w : ℕ). bit w k) e ∙ bit-none k)))
 
 pub none_any : (s : Aic) → s.enabled ≡ 0 → any_of s ≡ 0
-none_any s e = bit-some 8 (any_of s) (any-lt s) (λ p l. any-bit s p l ∙ ap not (eq-eqb (levelWord s p) 0 (none-enabled s e p)))
+none_any s e = bit-some 8 (any_of s) (any_lt s) (λ p l. any-bit s p l ∙ ap not (eq-eqb (level_word s p) 0 (none_enabled s e p)))
 
 -- so all are 0 after reset
-pub reset-levels : (external lines : ℕ) → levelsOf (reset external lines) ≡ record { words = replicate 8 0; any = 0 }
-unfolding levelsOf reset
+pub reset-levels : (external lines : ℕ) → levels_of (reset external lines) ≡ record { words = replicate 8 0; any = 0 }
+unfolding levels_of reset
 reset-levels external lines =
     let s : Aic = reset external lines in
-    rw (none-enabled s refl 0, none-enabled s refl 1, none-enabled s refl 2, none-enabled s refl 3, none-enabled s refl 4, none-enabled s refl 5, none-enabled s refl 6, none-enabled s refl 7, none_any s refl) refl
+    rw (none_enabled s refl 0, none_enabled s refl 1, none_enabled s refl 2, none_enabled s refl 3, none_enabled s refl 4, none_enabled s refl 5, none_enabled s refl 6, none_enabled s refl 7, none_any s refl) refl
 
 -- the start of a record, with words and a byte that are all 0
-start-levels : (external lines : ℕ) → record { words = replicate 8 0; any = 0 } ≡ levelsOf (aic.start external lines).aic
+start-levels : (external lines : ℕ) → record { words = replicate 8 0; any = 0 } ≡ levels_of (aic.start external lines).aic
 unfolding aic.start
 start-levels external lines = sym (reset-levels external lines)
 

@@ -11,7 +11,7 @@ use Rattle.words.specs.Choice.{pick}
 use Rattle.words.specs.Counting.{upto}
 use Rattle.words.specs.Word.{bit}
 use Rattle.words.proofs.TruthLaws.{and_left, and_right}
-use Rattle.aic_levels.specs.Levels.{highestOf}
+use Rattle.aic_levels.specs.Levels.{highest_of}
 
 -- the test passes at each entry and its place, the first place being i
 unfoldable every : (ℕ → ℕ → Bool) → ℕ → List ℕ → Bool
@@ -27,8 +27,8 @@ every-after f (x ∷ xs) i t (suc k) l =
     ap (λ (n : ℕ). f n (get_or xs k 0)) (add-suc i k ∙ sym (suc-add i k)) ∙ every-after f xs (suc i) (and_right (f i x) (every f (suc i) xs) t) k (le_of_suc-le-suc l)
 
 -- and at each entry of the whole table
-every-at : (f : ℕ → ℕ → Bool) (xs : List ℕ) → every f 0 xs ≡ true → (k : ℕ) → k < length xs → f k (get_or xs k 0) ≡ true
-every-at f xs t k l = ap (λ (n : ℕ). f n (get_or xs k 0)) (sym (zero-add k)) ∙ every-after f xs 0 t k l
+every_at : (f : ℕ → ℕ → Bool) (xs : List ℕ) → every f 0 xs ≡ true → (k : ℕ) → k < length xs → f k (get_or xs k 0) ≡ true
+every_at f xs t k l = ap (λ (n : ℕ). f n (get_or xs k 0)) (sym (zero-add k)) ∙ every-after f xs 0 t k l
 
 -- ---- the table of the highest levels
 
@@ -38,13 +38,13 @@ table = 255 ∷ 0 ∷ (replicate 2 1 ++ replicate 4 2 ++ replicate 8 3 ++ replic
 
 -- an entry is the highest level of its place
 unfoldable lists : ℕ → ℕ → Bool
-lists b x = eqb x (highestOf b)
+lists b x = eqb x (highest_of b)
 
 -- computed once, over all 256
 whole : every lists 0 table ≡ true
-unfolding every lists highestOf upto pick bit
+unfolding every lists highest_of upto pick bit
 whole = refl
 
-pub listed : (b : ℕ) → b < 256 → get_or table b 0 ≡ highestOf b
+pub listed : (b : ℕ) → b < 256 → get_or table b 0 ≡ highest_of b
 unfolding lists
-listed b l = eqb-true (get_or table b 0) (highestOf b) (every-at lists table whole b l)
+listed b l = eqb-true (get_or table b 0) (highest_of b) (every_at lists table whole b l)

@@ -3,12 +3,12 @@ ghost use Rattle.std.specs.Prelude.{◌≡◌, true, not, ◌&&◌, eqb, get_or}
 ghost use Rattle.words.specs.Counting.{all_below};
 ghost use Rattle.words.specs.Word.{bit, word_of};
 ghost use Rattle.aic_record.specs.declared.Aic.{Aic};
-ghost use Rattle.aic_record.specs.Passes.{floorOver};
+ghost use Rattle.aic_record.specs.Passes.{floor_over};
 ghost use Rattle.aic_record.specs.Sound.{sound};
 ghost use Rattle.aic_sources.specs.Normal.{waiting};
-ghost use Rattle.aic_sources.specs.Search.{rank, leastOf};
-ghost use Rattle.aic_levels.specs.Levels.{highestOf, agrees};
-ghost use Rattle.aic_levels.specs.Model.{start, outputsWith};
+ghost use Rattle.aic_sources.specs.Search.{rank, least_of};
+ghost use Rattle.aic_levels.specs.Levels.{highest_of, agrees};
+ghost use Rattle.aic_levels.specs.Model.{start, outputs_with};
 
 use aic::Signals;
 use aic_record::Aic;
@@ -43,14 +43,14 @@ pub struct Answer {
 
 // The highest level of the byte, 255 if it has none.
 pub fn highest(b: u8) -> u8
-    ensures { result ≡ highestOf b }
+    ensures { result ≡ highest_of b }
 {
     table::HIGHEST[b as usize]
 }
 
 // The least priority above a level, if it is one.
 fn floor_over(level: u8) -> u32
-    ensures { result ≡ floorOver level }
+    ensures { result ≡ floor_over level }
 {
     if level == aic_record::NO_LEVEL {
         return 0;
@@ -60,7 +60,7 @@ fn floor_over(level: u8) -> u32
 
 // The least priority above the level of the last entry; with eight entries open 8, which no source has.
 pub fn least(level: &[u8; 8], depth: u32) -> u32
-    ensures { (s : Aic) → s.level ≡ level.now → s.depth ≡ depth → result ≡ leastOf s }
+    ensures { (s : Aic) → s.level ≡ level.now → s.depth ≡ depth → result ≡ least_of s }
 {
     if depth == 0 {
         return 0;
@@ -155,7 +155,7 @@ pub fn start(external: u32, lines: u32) -> Begun
 // The outputs of a record with levels that agree with it.
 fn outputs_agreed(s: Aic, l: Levels) -> Signals
     requires { (sound s && agrees s l) ≡ true }
-    ensures { result ≡ outputsWith s l }
+    ensures { result ≡ outputs_with s l }
 {
     let clear = !words::has(s.debug, 1);
     let some = !words::is_clean(least(&s.level, s.depth), l.any as u32);
@@ -169,7 +169,7 @@ fn outputs_agreed(s: Aic, l: Levels) -> Signals
 
 // The outputs; 12 and nothing else where the record is not sound or the levels are not its own.
 pub fn outputs(s: Aic, l: Levels) -> Signals
-    ensures { result ≡ outputsWith s l }
+    ensures { result ≡ outputs_with s l }
 {
     if aic_record::is_sound(s) & agrees(s, l) {
         return outputs_agreed(s, l);

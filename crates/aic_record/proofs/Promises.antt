@@ -11,10 +11,10 @@ use lib.ListN.{get_or, replicate}
 use borrow.Author.Tests.{eqb-true, eq-eqb}
 use Rattle.words.specs.Counting.{one}
 use Rattle.words.specs.Word.{bit, word_of, both}
-use Rattle.words.proofs.WordLaws.{bit-none, one-eqb, wordOf-same}
+use Rattle.words.proofs.WordLaws.{bit-none, one-eqb, word_of-same}
 use Rattle.aic_record.specs.declared.Aic.{Aic}
 use Rattle.aic_record.specs.Record.{reset}
-use Rattle.aic_record.specs.Mode.{type_of, keptMode, modeAt, priority, kind, edge}
+use Rattle.aic_record.specs.Mode.{type_of, kept_mode, mode_at, priority, kind, edge}
 use Rattle.aic_record.specs.Promises.{Rules, Fresh, Setters, Promises}
 use Rattle.aic_record.proofs.SoundLaws.{below_none, below_next, sound-is, is-sound, nothing-fits, rising}
 
@@ -41,27 +41,27 @@ low_bits v =
     three : (a b x y z : ℕ) → a ≡ x * 4 + b → b ≡ y * 2 + z → a ≡ x * 4 + y * 2 + z
     three a b x y z p q = omega arith
 
-type-bits : (v : ℕ) → v / 32 % 4 ≡ one (bit v 6) * 2 + one (bit v 5)
+type_bits : (v : ℕ) → v / 32 % 4 ≡ one (bit v 6) * 2 + one (bit v 5)
 unfolding bit
-type-bits v = rw (digit (v / 64), digit (v / 32)) (omega arith)
+type_bits v = rw (digit (v / 64), digit (v / 32)) (omega arith)
 
-kept-is : (v : ℕ) → keptMode v ≡ both v 0x67
+kept-is : (v : ℕ) → kept_mode v ≡ both v 0x67
 unfolding both
-kept-is v = rw (low_bits v, type-bits v) (sym (masked (bit v))) ∙ wordOf-same 32 (λ k. bit 0x67 k && bit v k) (λ k. bit v k && bit 0x67 k) (λ k l. and_comm (bit 0x67 k) (bit v k))
+kept-is v = rw (low_bits v, type_bits v) (sym (masked (bit v))) ∙ word_of-same 32 (λ k. bit 0x67 k && bit v k) (λ k. bit v k && bit 0x67 k) (λ k l. and_comm (bit 0x67 k) (bit v k))
 
 edge-is : (s : Aic) (k : ℕ) → (edge s k ≡ true) ↔ ((kind s k ≡ 1) ⊎ (kind s k ≡ 3))
 unfolding edge kind
-edge-is s k = (λ e. odd (ℕ_discrete (kind s k) 1) (eqb-true (type_of (modeAt s k) % 2) 1 e), ⊎_elim one three)
+edge-is s k = (λ e. odd (ℕ_discrete (kind s k) 1) (eqb-true (type_of (mode_at s k) % 2) 1 e), ⊎_elim one three)
   where
-    odd : Dec (kind s k ≡ 1) → type_of (modeAt s k) % 2 ≡ 1 → (kind s k ≡ 1) ⊎ (kind s k ≡ 3)
+    odd : Dec (kind s k ≡ 1) → type_of (mode_at s k) % 2 ≡ 1 → (kind s k ≡ 1) ⊎ (kind s k ≡ 3)
     odd (yes e) h = inl e
     odd (no d) h = inr (omega arith)
 
     one : kind s k ≡ 1 → edge s k ≡ true
-    one e = eq-eqb (type_of (modeAt s k) % 2) 1 (omega arith)
+    one e = eq-eqb (type_of (mode_at s k) % 2) 1 (omega arith)
 
     three : kind s k ≡ 3 → edge s k ≡ true
-    three e = eq-eqb (type_of (modeAt s k) % 2) 1 (omega arith)
+    three e = eq-eqb (type_of (mode_at s k) % 2) 1 (omega arith)
 
 reset-rules : (external lines : ℕ) → Rules (reset external lines)
 unfolding reset
@@ -89,7 +89,7 @@ fresh external lines =
       modes = zeros 32;
       vectors = zeros 32;
       slots = λ i. (zeros 8 i, zeros 8 i);
-      noneOpen = refl;
+      none_open = refl;
       nothing = refl;
     }
 
@@ -112,20 +112,20 @@ pub kept : Promises
 unfolding reset priority kind
 kept =
     record {
-      resetIs = fresh;
-      nothingIs = refl;
+      reset_is = fresh;
+      nothing_is = refl;
       setters = setters;
-      modeIs = λ s k. refl;
-      slotIs = λ s i. (refl, refl);
-      belowIs = λ level. (below_none level, below_next level);
-      fieldsAre = λ v. (refl, refl);
-      priorityIs = λ s k. refl;
-      kindIs = λ s k. refl;
-      keptIs = kept-is;
-      edgeIs = edge-is;
-      keptFields = λ v. (omega arith, omega arith);
+      mode_is = λ s k. refl;
+      slot_is = λ s i. (refl, refl);
+      below_is = λ level. (below_none level, below_next level);
+      fields_are = λ v. (refl, refl);
+      priority_is = λ s k. refl;
+      kind_is = λ s k. refl;
+      kept_is = kept-is;
+      edge_is = edge-is;
+      kept_fields = λ v. (omega arith, omega arith);
       sound_is = λ s. (sound-is s, is-sound s);
       rising = λ s ok. rising s (sound-is s ok);
-      resetSound = λ external lines. is-sound (reset external lines) (reset-rules external lines);
-      resetShaped = λ external lines. (refl, refl, refl, refl);
+      reset_sound = λ external lines. is-sound (reset external lines) (reset-rules external lines);
+      reset_shaped = λ external lines. (refl, refl, refl, refl);
     }

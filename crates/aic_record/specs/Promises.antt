@@ -3,9 +3,9 @@ use Rattle.std.specs.Prelude.{ℕ, ◌+◌, ◌/◌, ◌%◌, ◌≤◌, ◌<◌
 use Rattle.words.specs.Word.{bit, both}
 use Rattle.aic_record.specs.declared.Aic.{Aic}
 use Rattle.aic_record.specs.declared.Seen.{Seen}
-use Rattle.aic_record.specs.Record.{withLines, withEnabled, withMemory, withForced, withSpurious, withDebug, withMode, withVector, withHandlers, withSeen, nothingSeen, reset}
-use Rattle.aic_record.specs.Mode.{priorityOf, type_of, keptMode, modeAt, priority, kind, edge}
-use Rattle.aic_record.specs.Sound.{sourceAt, levelAt, levelBelow, sound}
+use Rattle.aic_record.specs.Record.{with_lines, with_enabled, with_memory, with_forced, with_spurious, with_debug, with_mode, with_vector, with_handlers, with_seen, nothing_seen, reset}
+use Rattle.aic_record.specs.Mode.{priority_of, type_of, kept_mode, mode_at, priority, kind, edge}
+use Rattle.aic_record.specs.Sound.{source_at, level_at, level_below, sound}
 
 -- the arrays of a record have the lengths that the language gives them; a list in a definition has any length
 abbrev pub Shaped : Aic → Type 0
@@ -35,23 +35,23 @@ pub record Rules (s : Aic) : Type 0 where
   -- at most eight entries are open
   pub entries : s.depth ≤ 8
   -- each is a mark, of source 0, or a handler of one of the sources 1 to 31
-  pub sources : (i : ℕ) → i < s.depth → sourceAt s i ≤ 31
+  pub sources : (i : ℕ) → i < s.depth → source_at s i ≤ 31
   -- a mark has the level of the entry below it, or no level if there is none
-  pub marks : (i : ℕ) → i < s.depth → sourceAt s i ≡ 0 → levelAt s i ≡ levelBelow s.level i
+  pub marks : (i : ℕ) → i < s.depth → source_at s i ≡ 0 → level_at s i ≡ level_below s.level i
   -- a handler is at a level of at most 7
-  pub levels : (i : ℕ) → i < s.depth → sourceAt s i ≢ 0 → levelAt s i ≤ 7
+  pub levels : (i : ℕ) → i < s.depth → source_at s i ≢ 0 → level_at s i ≤ 7
   -- and that is strictly above the level of the entry below it, if that has one
-  pub above : (i : ℕ) → i < s.depth → sourceAt s i ≢ 0 → Over (levelBelow s.level i) (levelAt s i)
+  pub above : (i : ℕ) → i < s.depth → source_at s i ≢ 0 → Over (level_below s.level i) (level_at s i)
   -- an unused slot holds 0
-  pub unused : (i : ℕ) → s.depth ≤ i → i < 8 → (sourceAt s i ≡ 0) × (levelAt s i ≡ 0)
+  pub unused : (i : ℕ) → s.depth ≤ i → i < 8 → (source_at s i ≡ 0) × (level_at s i ≡ 0)
   -- a level source remembers nothing
   pub memory : (k : ℕ) → k < 32 → edge s k ≡ false → bit s.memory k ≡ false
   -- a stored mode has none of the bits that a write drops
-  pub modes : (k : ℕ) → k < 32 → keptMode (modeAt s k) ≡ modeAt s k
+  pub modes : (k : ℕ) → k < 32 → kept_mode (mode_at s k) ≡ mode_at s k
   -- of debug control no bit but the mask and protect mode is stored (02, 9/12)
   pub debug : s.debug < 4
   -- what is remembered fits; protect mode is bit 0 of debug control (02, 9/12)
-  pub seen : SeenFits (bit s.debug 0) s.seen (levelBelow s.level s.depth) s.depth
+  pub seen : SeenFits (bit s.debug 0) s.seen (level_below s.level s.depth) s.depth
   -- source 0 is not forced
   pub forced : bit s.forced 0 ≡ false
 
@@ -62,60 +62,60 @@ pub record Fresh (external lines : ℕ) (s : Aic) : Type 0 where
   pub modes : (k : ℕ) → get_or s.mode k 0 ≡ 0
   pub vectors : (k : ℕ) → get_or s.vector k 0 ≡ 0
   pub slots : (i : ℕ) → (get_or s.source i 0 ≡ 0) × (get_or s.level i 0 ≡ 0)
-  pub noneOpen : s.depth ≡ 0
-  pub nothing : s.seen ≡ nothingSeen
+  pub none_open : s.depth ≡ 0
+  pub nothing : s.seen ≡ nothing_seen
 
 -- the record with one of its parts put anew: each other part is as it was
 pub record Setters (s : Aic) : Type 0 where
-  pub lines : (w : ℕ) → withLines s w
+  pub lines : (w : ℕ) → with_lines s w
       ≡ record { external = s.external; lines = w; enabled = s.enabled; memory = s.memory; forced = s.forced; spurious = s.spurious; debug = s.debug; mode = s.mode; vector = s.vector; source = s.source; level = s.level; depth = s.depth; seen = s.seen }
-  pub enabled : (w : ℕ) → withEnabled s w
+  pub enabled : (w : ℕ) → with_enabled s w
       ≡ record { external = s.external; lines = s.lines; enabled = w; memory = s.memory; forced = s.forced; spurious = s.spurious; debug = s.debug; mode = s.mode; vector = s.vector; source = s.source; level = s.level; depth = s.depth; seen = s.seen }
-  pub memory : (w : ℕ) → withMemory s w
+  pub memory : (w : ℕ) → with_memory s w
       ≡ record { external = s.external; lines = s.lines; enabled = s.enabled; memory = w; forced = s.forced; spurious = s.spurious; debug = s.debug; mode = s.mode; vector = s.vector; source = s.source; level = s.level; depth = s.depth; seen = s.seen }
-  pub forced : (w : ℕ) → withForced s w
+  pub forced : (w : ℕ) → with_forced s w
       ≡ record { external = s.external; lines = s.lines; enabled = s.enabled; memory = s.memory; forced = w; spurious = s.spurious; debug = s.debug; mode = s.mode; vector = s.vector; source = s.source; level = s.level; depth = s.depth; seen = s.seen }
-  pub spurious : (w : ℕ) → withSpurious s w
+  pub spurious : (w : ℕ) → with_spurious s w
       ≡ record { external = s.external; lines = s.lines; enabled = s.enabled; memory = s.memory; forced = s.forced; spurious = w; debug = s.debug; mode = s.mode; vector = s.vector; source = s.source; level = s.level; depth = s.depth; seen = s.seen }
-  pub debug : (w : ℕ) → withDebug s w
+  pub debug : (w : ℕ) → with_debug s w
       ≡ record { external = s.external; lines = s.lines; enabled = s.enabled; memory = s.memory; forced = s.forced; spurious = s.spurious; debug = w; mode = s.mode; vector = s.vector; source = s.source; level = s.level; depth = s.depth; seen = s.seen }
-  pub mode : (l : List ℕ) → withMode s l
+  pub mode : (l : List ℕ) → with_mode s l
       ≡ record { external = s.external; lines = s.lines; enabled = s.enabled; memory = s.memory; forced = s.forced; spurious = s.spurious; debug = s.debug; mode = l; vector = s.vector; source = s.source; level = s.level; depth = s.depth; seen = s.seen }
-  pub vector : (l : List ℕ) → withVector s l
+  pub vector : (l : List ℕ) → with_vector s l
       ≡ record { external = s.external; lines = s.lines; enabled = s.enabled; memory = s.memory; forced = s.forced; spurious = s.spurious; debug = s.debug; mode = s.mode; vector = l; source = s.source; level = s.level; depth = s.depth; seen = s.seen }
-  pub handlers : (sources levels : List ℕ) (n : ℕ) → withHandlers s sources levels n
+  pub handlers : (sources levels : List ℕ) (n : ℕ) → with_handlers s sources levels n
       ≡ record { external = s.external; lines = s.lines; enabled = s.enabled; memory = s.memory; forced = s.forced; spurious = s.spurious; debug = s.debug; mode = s.mode; vector = s.vector; source = sources; level = levels; depth = n; seen = s.seen }
-  pub seen : (n : Seen) → withSeen s n
+  pub seen : (n : Seen) → with_seen s n
       ≡ record { external = s.external; lines = s.lines; enabled = s.enabled; memory = s.memory; forced = s.forced; spurious = s.spurious; debug = s.debug; mode = s.mode; vector = s.vector; source = s.source; level = s.level; depth = s.depth; seen = n }
 
 pub record Promises : Type 0 where
   -- reset, field by field (01, AIC, Configuration)
-  pub resetIs : (external lines : ℕ) → Fresh external lines (reset external lines)
+  pub reset_is : (external lines : ℕ) → Fresh external lines (reset external lines)
   -- nothing remembered: all is 0 (02, 9/12)
-  pub nothingIs : nothingSeen ≡ record { what = 0; source = 0; level = 0; vector = 0 }
+  pub nothing_is : nothing_seen ≡ record { what = 0; source = 0; level = 0; vector = 0 }
   -- each part put anew, field by field
   pub setters : (s : Aic) → Setters s
   -- the mode of source k, and the source and the level in slot i of the entries; past the end of an array 0
-  pub modeIs : (s : Aic) (k : ℕ) → modeAt s k ≡ get_or s.mode k 0
-  pub slotIs : (s : Aic) (i : ℕ) → (sourceAt s i ≡ get_or s.source i 0) × (levelAt s i ≡ get_or s.level i 0)
+  pub mode_is : (s : Aic) (k : ℕ) → mode_at s k ≡ get_or s.mode k 0
+  pub slot_is : (s : Aic) (i : ℕ) → (source_at s i ≡ get_or s.source i 0) × (level_at s i ≡ get_or s.level i 0)
   -- the level below slot 0 is none, and that below slot i + 1 is the level in slot i (02, 3/12)
-  pub belowIs : (level : List ℕ) → (levelBelow level 0 ≡ 255) × ((i : ℕ) → levelBelow level (i + 1) ≡ get_or level i 0)
+  pub below_is : (level : List ℕ) → (level_below level 0 ≡ 255) × ((i : ℕ) → level_below level (i + 1) ≡ get_or level i 0)
   -- of a mode bits 2:0 are the priority and bits 6:5 the type (01, AIC, Mode; 003, 27.8.3)
-  pub fieldsAre : (v : ℕ) → (priorityOf v ≡ v % 8) × (type_of v ≡ v / 32 % 4)
+  pub fields_are : (v : ℕ) → (priority_of v ≡ v % 8) × (type_of v ≡ v / 32 % 4)
   -- a source has those of its stored mode
-  pub priorityIs : (s : Aic) (k : ℕ) → priority s k ≡ get_or s.mode k 0 % 8
-  pub kindIs : (s : Aic) (k : ℕ) → kind s k ≡ get_or s.mode k 0 / 32 % 4
+  pub priority_is : (s : Aic) (k : ℕ) → priority s k ≡ get_or s.mode k 0 % 8
+  pub kind_is : (s : Aic) (k : ℕ) → kind s k ≡ get_or s.mode k 0 / 32 % 4
   -- a written mode is stored with these five bits alone, 2:0 and 6:5, which are the bits of 0x67 (01, AIC, Mode)
-  pub keptIs : (v : ℕ) → keptMode v ≡ both v 0x67
+  pub kept_is : (v : ℕ) → kept_mode v ≡ both v 0x67
   -- a source is edge-triggered exactly if its type is 1 or 3 (01, AIC, Mode; 003, 27.8.3)
-  pub edgeIs : (s : Aic) (k : ℕ) → (edge s k ≡ true) ↔ ((kind s k ≡ 1) ⊎ (kind s k ≡ 3))
+  pub edge_is : (s : Aic) (k : ℕ) → (edge s k ≡ true) ↔ ((kind s k ≡ 1) ⊎ (kind s k ≡ 3))
   -- a mode that is stored has the priority and the type that were written (01, AIC, Mode; 003, 27.8.3)
-  pub keptFields : (v : ℕ) → (priorityOf (keptMode v) ≡ priorityOf v) × (type_of (keptMode v) ≡ type_of v)
+  pub kept_fields : (v : ℕ) → (priority_of (kept_mode v) ≡ priority_of v) × (type_of (kept_mode v) ≡ type_of v)
   -- a record is sound exactly if it keeps each rule (01, AIC, A sound record)
   pub sound_is : (s : Aic) → (sound s ≡ true) ↔ Rules s
   -- so of any two handlers, whatever marks are between, the one opened later is at the higher level (02, 3/12)
-  pub rising : (s : Aic) → sound s ≡ true → (i j : ℕ) → i < j → j < s.depth → sourceAt s i ≢ 0 → sourceAt s j ≢ 0 → levelAt s i < levelAt s j
+  pub rising : (s : Aic) → sound s ≡ true → (i j : ℕ) → i < j → j < s.depth → source_at s i ≢ 0 → source_at s j ≢ 0 → level_at s i < level_at s j
   -- reset is sound, whichever sources are external and wherever the lines stand (01, AIC, Configuration)
-  pub resetSound : (external lines : ℕ) → sound (reset external lines) ≡ true
+  pub reset_sound : (external lines : ℕ) → sound (reset external lines) ≡ true
   -- its arrays have their lengths
-  pub resetShaped : (external lines : ℕ) → Shaped (reset external lines)
+  pub reset_shaped : (external lines : ℕ) → Shaped (reset external lines)

@@ -2,11 +2,11 @@
 ghost use Rattle.std.specs.Prelude.{◌≡◌, not, ◌&&◌, ◌||◌, eqb, get_or, set};
 ghost use Rattle.words.specs.Choice.{pick};
 ghost use Rattle.words.specs.Counting.{all_below};
-ghost use Rattle.aic_record.specs.Mode.{priorityOf, type_of, keptMode, edge_of, modeAt};
-ghost use Rattle.aic_record.specs.Record.{withLines, withEnabled, withMemory, withForced, withSpurious, withDebug, withMode, withVector, withHandlers, withSeen};
-ghost use Rattle.aic_record.specs.Record.{reset, nothingSeen};
-ghost use Rattle.aic_record.specs.Sound.{sourceAt, levelAt, levelBelow, over, entryFits, seenFits, sound};
-ghost use Rattle.aic_record.specs.Passes.{floorOver, slotSound, modeSound};
+ghost use Rattle.aic_record.specs.Mode.{priority_of, type_of, kept_mode, edge_of, mode_at};
+ghost use Rattle.aic_record.specs.Record.{with_lines, with_enabled, with_memory, with_forced, with_spurious, with_debug, with_mode, with_vector, with_handlers, with_seen};
+ghost use Rattle.aic_record.specs.Record.{reset, nothing_seen};
+ghost use Rattle.aic_record.specs.Sound.{source_at, level_at, level_below, over, entry_fits, seen_fits, sound};
+ghost use Rattle.aic_record.specs.Passes.{floor_over, slot_sound, mode_sound};
 
 pub mod last;
 
@@ -64,7 +64,7 @@ pub fn reset_to(external: u32, lines: u32) -> Aic
 
 // Nothing remembered.
 pub fn nothing_seen() -> Seen
-    ensures { result ≡ nothingSeen }
+    ensures { result ≡ nothing_seen }
 {
     Seen {
         what: 0,
@@ -77,7 +77,7 @@ pub fn nothing_seen() -> Seen
 // ---- the record with one part put anew
 
 pub fn with_lines(s: Aic, w: u32) -> Aic
-    ensures { result ≡ withLines s w }
+    ensures { result ≡ with_lines s w }
 {
     let mut t = s;
     t.lines = w;
@@ -85,7 +85,7 @@ pub fn with_lines(s: Aic, w: u32) -> Aic
 }
 
 pub fn with_enabled(s: Aic, w: u32) -> Aic
-    ensures { result ≡ withEnabled s w }
+    ensures { result ≡ with_enabled s w }
 {
     let mut t = s;
     t.enabled = w;
@@ -93,7 +93,7 @@ pub fn with_enabled(s: Aic, w: u32) -> Aic
 }
 
 pub fn with_memory(s: Aic, w: u32) -> Aic
-    ensures { result ≡ withMemory s w }
+    ensures { result ≡ with_memory s w }
 {
     let mut t = s;
     t.memory = w;
@@ -101,7 +101,7 @@ pub fn with_memory(s: Aic, w: u32) -> Aic
 }
 
 pub fn with_forced(s: Aic, w: u32) -> Aic
-    ensures { result ≡ withForced s w }
+    ensures { result ≡ with_forced s w }
 {
     let mut t = s;
     t.forced = w;
@@ -109,7 +109,7 @@ pub fn with_forced(s: Aic, w: u32) -> Aic
 }
 
 pub fn with_spurious(s: Aic, v: u32) -> Aic
-    ensures { result ≡ withSpurious s v }
+    ensures { result ≡ with_spurious s v }
 {
     let mut t = s;
     t.spurious = v;
@@ -117,7 +117,7 @@ pub fn with_spurious(s: Aic, v: u32) -> Aic
 }
 
 pub fn with_debug(s: Aic, v: u32) -> Aic
-    ensures { result ≡ withDebug s v }
+    ensures { result ≡ with_debug s v }
 {
     let mut t = s;
     t.debug = v;
@@ -125,7 +125,7 @@ pub fn with_debug(s: Aic, v: u32) -> Aic
 }
 
 pub fn with_seen(s: Aic, n: Seen) -> Aic
-    ensures { result ≡ withSeen s n }
+    ensures { result ≡ with_seen s n }
 {
     let mut t = s;
     t.seen = n;
@@ -134,7 +134,7 @@ pub fn with_seen(s: Aic, n: Seen) -> Aic
 
 // The mode of source k put anew. Past the last source nothing changes.
 pub fn put_mode(s: Aic, k: u32, m: u8) -> Aic
-    ensures { result ≡ withMode s (set s.mode k m) }
+    ensures { result ≡ with_mode s (set s.mode k m) }
 {
     if 32 <= k {
         return s;
@@ -147,7 +147,7 @@ pub fn put_mode(s: Aic, k: u32, m: u8) -> Aic
 
 // The vector of source k put anew. Past the last source nothing changes.
 pub fn put_vector(s: Aic, k: u32, v: u32) -> Aic
-    ensures { result ≡ withVector s (set s.vector k v) }
+    ensures { result ≡ with_vector s (set s.vector k v) }
 {
     if 32 <= k {
         return s;
@@ -160,7 +160,7 @@ pub fn put_vector(s: Aic, k: u32, v: u32) -> Aic
 
 // Slot i of the open entries put anew, a handler or a mark, and how many are open. Past the last slot nothing is stored.
 pub fn put_handler(s: Aic, i: u32, source: u8, level: u8, depth: u32) -> Aic
-    ensures { result ≡ withHandlers s (set s.source i source) (set s.level i level) depth }
+    ensures { result ≡ with_handlers s (set s.source i source) (set s.level i level) depth }
 {
     let mut t = s;
     t.depth = depth;
@@ -176,7 +176,7 @@ pub fn put_handler(s: Aic, i: u32, source: u8, level: u8, depth: u32) -> Aic
 // ---- what stands in an array, 0 past its end
 
 pub fn mode_at(s: Aic, k: u32) -> u8
-    ensures { result ≡ modeAt s k }
+    ensures { result ≡ mode_at s k }
 {
     if 32 <= k {
         return 0;
@@ -196,7 +196,7 @@ pub fn vector_at(s: Aic, k: u32) -> u32
 }
 
 pub fn source_at(s: Aic, i: u32) -> u8
-    ensures { result ≡ sourceAt s i }
+    ensures { result ≡ source_at s i }
 {
     if 8 <= i {
         return 0;
@@ -206,7 +206,7 @@ pub fn source_at(s: Aic, i: u32) -> u8
 }
 
 pub fn level_at(s: Aic, i: u32) -> u8
-    ensures { result ≡ levelAt s i }
+    ensures { result ≡ level_at s i }
 {
     if 8 <= i {
         return 0;
@@ -217,7 +217,7 @@ pub fn level_at(s: Aic, i: u32) -> u8
 
 // The level of the last entry, or no level if there is none.
 pub fn last_level(s: Aic) -> u8
-    ensures { result ≡ levelBelow s.level s.depth }
+    ensures { result ≡ level_below s.level s.depth }
 {
     let depth = s.depth;
     if depth == 0 {
@@ -228,7 +228,7 @@ pub fn last_level(s: Aic) -> u8
 
 // The least priority above the level of the last entry.
 pub fn floor_of(s: Aic) -> u32
-    ensures { result ≡ floorOver (levelBelow s.level s.depth) }
+    ensures { result ≡ floor_over (level_below s.level s.depth) }
 {
     let level = last_level(s);
     if level == NO_LEVEL {
@@ -241,7 +241,7 @@ pub fn floor_of(s: Aic) -> u32
 
 // Bits 2:0, the priority.
 pub fn priority_of(mode: u8) -> u32
-    ensures { result ≡ priorityOf mode }
+    ensures { result ≡ priority_of mode }
 {
     (mode % 8) as u32
 }
@@ -255,7 +255,7 @@ pub fn type_of(mode: u32) -> u32
 
 // The bits of a written mode that are kept.
 pub fn kept_of(mode: u32) -> u8
-    ensures { result ≡ keptMode mode }
+    ensures { result ≡ kept_mode mode }
 {
     (mode / 32 % 4 * 32 + mode % 8) as u8
 }
@@ -278,7 +278,7 @@ fn is_over(below: u8, level: u8) -> bool
 
 // Whether an entry may stand over one of the level `below`: a mark at that level, a handler above it.
 fn entry_fits(below: u8, source: u8, level: u8) -> bool
-    ensures { result ≡ entryFits below source level }
+    ensures { result ≡ entry_fits below source level }
 {
     if source == 0 {
         return level == below;
@@ -288,7 +288,7 @@ fn entry_fits(below: u8, source: u8, level: u8) -> bool
 
 // Whether a slot of the entries is as it should be: used over an entry of the level `below`, or not used.
 fn slot_sound(used: bool, below: u8, source: u8, level: u8) -> bool
-    ensures { result ≡ pick used (entryFits below source level) (eqb source 0 && eqb level 0) }
+    ensures { result ≡ pick used (entry_fits below source level) (eqb source 0 && eqb level 0) }
 {
     if used {
         return entry_fits(below, source, level);
@@ -298,7 +298,7 @@ fn slot_sound(used: bool, below: u8, source: u8, level: u8) -> bool
 
 // Whether each of the eight slots is as it should be, where `depth` of them are used.
 fn slots_sound(source: [u8; 8], level: [u8; 8], depth: u32) -> bool
-    ensures { result ≡ all_below 8 (slotSound source level depth) }
+    ensures { result ≡ all_below 8 (slot_sound source level depth) }
 {
     let mut ok = true;
     let mut below = NO_LEVEL;
@@ -314,14 +314,14 @@ fn slots_sound(source: [u8; 8], level: [u8; 8], depth: u32) -> bool
 
 // Whether a mode has no dropped bit, and its source remembers an edge only if it is edge-triggered.
 fn mode_sound(mode: u8, remembered: bool) -> bool
-    ensures { result ≡ ((edge_of mode || not remembered) && eqb (keptMode mode) mode) }
+    ensures { result ≡ ((edge_of mode || not remembered) && eqb (kept_mode mode) mode) }
 {
     (edge_of(mode) | !remembered) & (kept_of(mode as u32) == mode)
 }
 
 // The same of all 32 sources.
 fn modes_sound(mode: &[u8; 32], memory: u32) -> bool
-    ensures { result ≡ all_below 32 (modeSound mode.now memory) }
+    ensures { result ≡ all_below 32 (mode_sound mode.now memory) }
 {
     let mut ok = true;
     let mut k: u32 = 0;
@@ -336,7 +336,7 @@ fn modes_sound(mode: &[u8; 32], memory: u32) -> bool
 // Whether this may be remembered over a last entry of the level `below`, with `depth` entries open: nothing outside protect mode, and a source
 // only at a level above that entry's and with room for its handler.
 fn seen_fits(on: bool, n: Seen, below: u8, depth: u32) -> bool
-    ensures { result ≡ seenFits on n below depth }
+    ensures { result ≡ seen_fits on n below depth }
 {
     let source = n.source;
     let level = n.level;

@@ -1,11 +1,11 @@
 // What writes and line steps do to the record.
 ghost use Rattle.std.specs.Prelude.{◌≡◌, true, ◌&&◌, eqb};
 ghost use Rattle.words.specs.Choice.{pick};
-ghost use Rattle.words.specs.Word.{withBit};
-ghost use Rattle.aic_record.specs.Record.{withMemory};
+ghost use Rattle.words.specs.Word.{with_bit};
+ghost use Rattle.aic_record.specs.Record.{with_memory};
 ghost use Rattle.aic_record.specs.Mode.{type_of, kind, edge};
 ghost use Rattle.aic_registers.specs.Handlers.{forgotten};
-ghost use Rattle.aic_registers.specs.Effects.{moded, setBy, clearedBy, debugBy, forcedBy, turns, moved};
+ghost use Rattle.aic_registers.specs.Effects.{moded, set_by, cleared_by, debug_by, forced_by, turns, moved};
 
 use super::handlers::forget;
 use aic_record::Aic;
@@ -30,7 +30,7 @@ pub(crate) fn write_mode(s: Aic, k: u32, v: u32) -> Aic
 
 // A set command to each source whose bit is 1. It acts on edge sources only.
 pub(crate) fn set_memory(s: Aic, v: u32) -> Aic
-    ensures { result ≡ setBy s v }
+    ensures { result ≡ set_by s v }
 {
     aic_record::with_memory(
         s,
@@ -40,7 +40,7 @@ pub(crate) fn set_memory(s: Aic, v: u32) -> Aic
 
 // A clear command to each source whose bit is 1. It acts on edge sources only.
 pub(crate) fn clear_memory(s: Aic, v: u32) -> Aic
-    ensures { result ≡ clearedBy s v }
+    ensures { result ≡ cleared_by s v }
 {
     aic_record::with_memory(
         s,
@@ -50,7 +50,7 @@ pub(crate) fn clear_memory(s: Aic, v: u32) -> Aic
 
 // A write of debug control. Without protect mode what is remembered is forgotten.
 pub(crate) fn write_debug(s: Aic, v: u32) -> Aic
-    ensures { result ≡ debugBy s v }
+    ensures { result ≡ debug_by s v }
 {
     let t = aic_record::with_debug(s, words::keep(2, v));
     if words::has(v, 0) {
@@ -61,7 +61,7 @@ pub(crate) fn write_debug(s: Aic, v: u32) -> Aic
 
 // Each source whose bit is 1 is forced to the fast side, save source 0.
 pub(crate) fn force(s: Aic, v: u32) -> Aic
-    ensures { result ≡ forcedBy s v }
+    ensures { result ≡ forced_by s v }
 {
     aic_record::with_forced(s, words::join(s.forced, words::drop_bits(v, 1)))
 }
@@ -77,7 +77,7 @@ fn turns_active(s: Aic, k: u32, high: bool) -> bool
 
 // The record with the edge remembered that a line step makes, if it makes one.
 fn remember(s: Aic, k: u32, high: bool) -> Aic
-    ensures { result ≡ pick (edge s k && turns s k high) (withMemory s (withBit s.memory k true)) s }
+    ensures { result ≡ pick (edge s k && turns s k high) (with_memory s (with_bit s.memory k true)) s }
 {
     let edge = aic_record::edge_of(aic_record::mode_at(s, k));
     if edge & turns_active(s, k, high) {

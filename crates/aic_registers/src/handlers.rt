@@ -2,7 +2,7 @@
 ghost use Rattle.std.specs.Prelude.{◌≡◌, ◌≤◌, ◌<◌, eqb};
 ghost use Rattle.words.specs.Choice.{pick};
 ghost use Rattle.aic_record.specs.Mode.{priority};
-ghost use Rattle.aic_registers.specs.Handlers.{answered, forgotten, spent, startedAt, marked, ended, vectorAt, ivrTaken, sourceSeen, noneSeen, ivrLooked, ivrRead, begun, ivrWritten, fastSpent, fvrRead, current};
+ghost use Rattle.aic_registers.specs.Handlers.{answered, forgotten, spent, started_at, marked, ended, vector_at, ivr_taken, source_seen, none_seen, ivr_looked, ivr_read, begun, ivr_written, fast_spent, fvr_read, current};
 
 use super::{Answer, answer_of};
 use aic_record::{Aic, Seen};
@@ -27,7 +27,7 @@ fn spend(s: Aic, k: u32) -> Aic
 // Source k starts at a level: a handler is opened, and its memory is cleared if it is edge-triggered.
 fn start_at(s: Aic, k: u8, level: u8) -> Aic
     requires { s.depth ≤ 8 }
-    ensures { result ≡ startedAt s k level }
+    ensures { result ≡ started_at s k level }
 {
     let depth = s.depth;
     aic_record::put_handler(spend(s, k as u32), depth, k, level, depth + 1)
@@ -47,7 +47,7 @@ pub(crate) fn end_last(s: Aic) -> Aic
 // Source k starts at the priority that it has now, and its vector is answered.
 fn start_now(s: Aic, k: u32) -> Answer
     requires { (s.depth ≤ 8) × (k < 32) }
-    ensures { result ≡ answered (startedAt s k (priority s k)) (vectorAt s k) }
+    ensures { result ≡ answered (started_at s k (priority s k)) (vector_at s k) }
 {
     let now = aic_record::priority_of(aic_record::mode_at(s, k));
     answer_of(start_at(s, k as u8, now as u8), aic_record::vector_at(s, k))
@@ -68,7 +68,7 @@ fn open_mark(s: Aic) -> Aic
 // A read of IVR outside protect mode.
 fn take_ivr(s: Aic) -> Answer
     requires { s.depth ≤ 8 }
-    ensures { result ≡ ivrTaken s }
+    ensures { result ≡ ivr_taken s }
 {
     let k = aic_sources::chosen_source(s);
     if k < 32 {
@@ -81,7 +81,7 @@ fn take_ivr(s: Aic) -> Answer
 // What is remembered of source k: its priority and its vector are those that it has now.
 fn seen_of(s: Aic, k: u32) -> Seen
     requires { k < 32 }
-    ensures { result ≡ sourceSeen s k }
+    ensures { result ≡ source_seen s k }
 {
     let level = aic_record::priority_of(aic_record::mode_at(s, k));
     let vector = aic_record::vector_at(s, k);
@@ -95,7 +95,7 @@ fn seen_of(s: Aic, k: u32) -> Seen
 
 // What is remembered where no source is selected.
 fn none_seen() -> Seen
-    ensures { result ≡ noneSeen }
+    ensures { result ≡ none_seen }
 {
     Seen {
         what: 2,
@@ -107,7 +107,7 @@ fn none_seen() -> Seen
 
 // A read of IVR in protect mode.
 fn look_ivr(s: Aic) -> Answer
-    ensures { result ≡ ivrLooked s }
+    ensures { result ≡ ivr_looked s }
 {
     let k = aic_sources::chosen_source(s);
     if k < 32 {
@@ -122,7 +122,7 @@ fn look_ivr(s: Aic) -> Answer
 // A read of IVR. Debug control's mask plays no part in it.
 pub(crate) fn read_ivr(s: Aic) -> Answer
     requires { s.depth ≤ 8 }
-    ensures { result ≡ ivrRead s }
+    ensures { result ≡ ivr_read s }
 {
     if words::has(s.debug, 0) {
         return look_ivr(s);
@@ -133,7 +133,7 @@ pub(crate) fn read_ivr(s: Aic) -> Answer
 // What is remembered is opened: a handler of the source at the level that was remembered, else a mark.
 fn open_seen(s: Aic) -> Aic
     requires { s.depth ≤ 8 }
-    ensures { result ≡ pick (eqb s.seen.what 1) (startedAt s s.seen.source s.seen.level) (marked s) }
+    ensures { result ≡ pick (eqb s.seen.what 1) (started_at s s.seen.source s.seen.level) (marked s) }
 {
     let seen = s.seen;
     if seen.what == 1 {
@@ -157,7 +157,7 @@ fn begin_seen(s: Aic) -> Aic
 // A write of IVR. Outside protect mode it does nothing.
 pub(crate) fn write_ivr(s: Aic) -> Aic
     requires { s.depth ≤ 8 }
-    ensures { result ≡ ivrWritten s }
+    ensures { result ≡ ivr_written s }
 {
     if words::has(s.debug, 0) {
         return begin_seen(s);
@@ -167,7 +167,7 @@ pub(crate) fn write_ivr(s: Aic) -> Aic
 
 // The memory of source 0 is cleared if that is edge-triggered and no source is forced.
 fn spend_fast(s: Aic) -> Aic
-    ensures { result ≡ fastSpent s }
+    ensures { result ≡ fast_spent s }
 {
     if s.forced == 0 {
         return spend(s, 0);
@@ -177,7 +177,7 @@ fn spend_fast(s: Aic) -> Aic
 
 // A read of FVR. Debug control's mask plays no part in it.
 pub(crate) fn read_fvr(s: Aic) -> Answer
-    ensures { result ≡ fvrRead s }
+    ensures { result ≡ fvr_read s }
 {
     if aic_sources::fast_asks(s) {
         return answer_of(spend_fast(s), aic_record::vector_at(s, 0));

@@ -1,6 +1,6 @@
 // What a read of each register answers, and what a write of each does, where nothing refuses it.
 ghost use Rattle.std.specs.Prelude.{◌≡◌, ◌≤◌};
-ghost use Rattle.aic_registers.specs.Registers.{stored, readAt, writtenAt};
+ghost use Rattle.aic_registers.specs.Registers.{stored, read_at, written_at};
 
 use super::effects::{clear_memory, force, set_memory, write_debug, write_mode};
 use super::handlers::{current_source, end_last, read_fvr, read_ivr, write_ivr};
@@ -32,7 +32,7 @@ fn read_stored(s: Aic, offset: u32) -> u32
 // A read of a register that may be read: the two vectors change the record, the others do not.
 pub fn read_at(s: Aic, offset: u32) -> Answer
     requires { s.depth ≤ 8 }
-    ensures { result ≡ readAt s offset }
+    ensures { result ≡ read_at s offset }
 {
     match offset {
         map::IVR => read_ivr(s),
@@ -44,7 +44,7 @@ pub fn read_at(s: Aic, offset: u32) -> Answer
 // A write of a register that takes the value.
 pub fn write_at(s: Aic, offset: u32, v: u32) -> Aic
     requires { s.depth ≤ 8 }
-    ensures { result ≡ writtenAt s offset v }
+    ensures { result ≡ written_at s offset v }
 {
     if offset < map::SVR {
         return write_mode(s, offset / 4, v);

@@ -11,41 +11,41 @@ use lib.ListN.{length, get_or}
 use lib.Seq.{ext_get_or}
 use Rattle.aic_record.specs.declared.Aic.{Aic}
 use Rattle.aic_record.specs.declared.Seen.{Seen}
-use Rattle.aic_record.specs.Sound.{levelBelow, sound}
+use Rattle.aic_record.specs.Sound.{level_below, sound}
 use Rattle.aic_record.proofs.SoundLaws.{below_none, below_next}
 use Rattle.aic_record.proofs.SoundLaws.{sound-is, seen-sound}
 use Rattle.rooms.proofs.PartLaws.{flat-length}
-use Rattle.aic_levels.specs.Levels.{levelWord, any_of}
-use Rattle.aic_room.specs.Room.{parts, sizes, laid, roomOf, Laid}
-use Rattle.aic_room.proofs.CellLaws.{sized, cell-is, external-is, lines-is, enabled-is, memory-is, forced-is, spurious-is, debug-is, depth_is, seen-what-is, seen-source-is, seen-level-is, seen-vector-is, source_is, level-is, mode-is, vector-is}
+use Rattle.aic_levels.specs.Levels.{level_word, any_of}
+use Rattle.aic_room.specs.Room.{parts, sizes, laid, room_of, Laid}
+use Rattle.aic_room.proofs.CellLaws.{sized, cell-is, external-is, lines-is, enabled-is, memory-is, forced-is, spurious-is, debug-is, depth_is, seen_what-is, seen_source-is, seen_level-is, seen_vector-is, source_is, level-is, mode-is, vector-is}
 
 module _ (a : Aic) (ok : sound a ≡ true) where
   mode_small : (k : ℕ) → k < 32 → get_or a.mode k 0 < 256
   mode_small k l = omega (arith, (sound-is a ok).modes k l)
 
-  source-small : (i : ℕ) → i < 8 → get_or a.source i 0 < 256
-  source-small i l = go (dec_lt i a.depth)
+  source_small : (i : ℕ) → i < 8 → get_or a.source i 0 < 256
+  source_small i l = go (dec_lt i a.depth)
     where
       go : Dec (i < a.depth) → get_or a.source i 0 < 256
       go (yes m) = omega (arith, (sound-is a ok).sources i m)
       go (no m) = omega (arith, ((sound-is a ok).unused i (omega arith) l).0)
 
   -- the level of a mark is that of the entry below it
-  used : (i : ℕ) → i < 8 → levelBelow a.level i < 256 → i < a.depth → Dec (get_or a.source i 0 ≡ 0) → get_or a.level i 0 < 256
+  used : (i : ℕ) → i < 8 → level_below a.level i < 256 → i < a.depth → Dec (get_or a.source i 0 ≡ 0) → get_or a.level i 0 < 256
   used i l b m (yes e) = omega (arith, (sound-is a ok).marks i m e, b)
   used i l b m (no d) = omega (arith, (sound-is a ok).levels i m d)
 
-  slot : (i : ℕ) → i < 8 → levelBelow a.level i < 256 → Dec (i < a.depth) → get_or a.level i 0 < 256
+  slot : (i : ℕ) → i < 8 → level_below a.level i < 256 → Dec (i < a.depth) → get_or a.level i 0 < 256
   slot i l b (yes m) = used i l b m (ℕ_discrete (get_or a.source i 0) 0)
   slot i l b (no m) = omega (arith, ((sound-is a ok).unused i (omega arith) l).1)
 
-  level-small : (i : ℕ) → i < 8 → get_or a.level i 0 < 256
-  level-small zero l = slot 0 l (omega (arith, below_none a.level)) (dec_lt 0 a.depth)
-  level-small (suc i) l =
-      slot (suc i) l (subst (λ (n : ℕ). n < 256) (sym (ap (levelBelow a.level) (sym (add-one i)) ∙ below_next a.level i)) (level-small i (omega arith))) (dec_lt (suc i) a.depth)
+  level_small : (i : ℕ) → i < 8 → get_or a.level i 0 < 256
+  level_small zero l = slot 0 l (omega (arith, below_none a.level)) (dec_lt 0 a.depth)
+  level_small (suc i) l =
+      slot (suc i) l (subst (λ (n : ℕ). n < 256) (sym (ap (level_below a.level) (sym (add-one i)) ∙ below_next a.level i)) (level_small i (omega arith))) (dec_lt (suc i) a.depth)
 
-  pub seen-small : (a.seen.source < 256) × (a.seen.level < 256)
-  seen-small = go (ℕ_discrete a.seen.what 1)
+  pub seen_small : (a.seen.source < 256) × (a.seen.level < 256)
+  seen_small = go (ℕ_discrete a.seen.what 1)
     where
       go : Dec (a.seen.what ≡ 1) → (a.seen.source < 256) × (a.seen.level < 256)
       go (yes e) = let f = seen-sound a ok in (omega (arith, (f.source e).1), omega (arith, (f.level e).0))
@@ -56,9 +56,9 @@ module _ (a : Aic) (ok : sound a ≡ true) where
     pub seen-told : (s l : ℕ) → s ≡ get_or room 9 0 % 256 → l ≡ get_or room 10 0 % 256
         → ◌≡◌ {A = Seen} (record { what = get_or room 8 0; source = s; level = l; vector = get_or room 11 0 }) a.seen
     seen-told s l e f =
-        let x : s ≡ a.seen.source = e ∙ ap (λ (w : ℕ). w % 256) (seen-source-is h) ∙ mod-eq_of_lt seen-small.0 in
-        let y : l ≡ a.seen.level = f ∙ ap (λ (w : ℕ). w % 256) (seen-level-is h) ∙ mod-eq_of_lt seen-small.1 in
-        rw (x, y, seen-what-is h, seen-vector-is h)
+        let x : s ≡ a.seen.source = e ∙ ap (λ (w : ℕ). w % 256) (seen_source-is h) ∙ mod-eq_of_lt seen_small.0 in
+        let y : l ≡ a.seen.level = f ∙ ap (λ (w : ℕ). w % 256) (seen_level-is h) ∙ mod-eq_of_lt seen_small.1 in
+        rw (x, y, seen_what-is h, seen_vector-is h)
 
     -- the tables
     pub modes-told : (r : List ℕ) → length r ≡ 32 → ((k : ℕ) → k < 32 → get_or r k 0 ≡ get_or room (64 + k) 0 % 256) → r ≡ a.mode
@@ -72,12 +72,12 @@ module _ (a : Aic) (ok : sound a ≡ true) where
     pub sources-told : (r : List ℕ) → length r ≡ 8 → ((k : ℕ) → k < 8 → get_or r k 0 ≡ get_or room (40 + k) 0 % 256) → r ≡ a.source
     sources-told r n f =
         ext_get_or 0 r a.source (n ∙ sym h.shaped.2)
-        (λ k l. let m : k < 8 = omega (arith, n, l) in f k m ∙ ap (λ (w : ℕ). w % 256) (source_is h k m) ∙ mod-eq_of_lt (source-small k m))
+        (λ k l. let m : k < 8 = omega (arith, n, l) in f k m ∙ ap (λ (w : ℕ). w % 256) (source_is h k m) ∙ mod-eq_of_lt (source_small k m))
 
     pub levels-told : (r : List ℕ) → length r ≡ 8 → ((k : ℕ) → k < 8 → get_or r k 0 ≡ get_or room (48 + k) 0 % 256) → r ≡ a.level
     levels-told r n f =
         ext_get_or 0 r a.level (n ∙ sym h.shaped.3)
-        (λ k l. let m : k < 8 = omega (arith, n, l) in f k m ∙ ap (λ (w : ℕ). w % 256) (level-is h k m) ∙ mod-eq_of_lt (level-small k m))
+        (λ k l. let m : k < 8 = omega (arith, n, l) in f k m ∙ ap (λ (w : ℕ). w % 256) (level-is h k m) ∙ mod-eq_of_lt (level_small k m))
 
     pub record-told : (mo ve so le : List ℕ) (se : Seen) → mo ≡ a.mode → ve ≡ a.vector → so ≡ a.source → le ≡ a.level → se ≡ a.seen
         → ◌≡◌ {A = Aic} (record { external = get_or room 15 0; lines = get_or room 1 0; enabled = get_or room 2 0; memory = get_or room 3 0; forced = get_or room 4 0; spurious = get_or room 5 0; debug = get_or room 6 0; mode = mo; vector = ve; source = so; level = le; depth = get_or room 7 0; seen = se }) a
@@ -88,8 +88,8 @@ module _ (a : Aic) (ok : sound a ≡ true) where
 
 -- it has 2,048 words
 pub room-length : {a : Aic} {room : List ℕ} → Laid a room → length room ≡ 2048
-unfolding laid roomOf
-room-length {a} h = ap (λ (l : List ℕ). length l) h.words ∙ flat-length (parts a (levelWord a) (any_of a)) sizes (sized a (levelWord a) (any_of a) h.shaped)
+unfolding laid room_of
+room-length {a} h = ap (λ (l : List ℕ). length l) h.words ∙ flat-length (parts a (level_word a) (any_of a)) sizes (sized a (level_word a) (any_of a) h.shaped)
 
 -- the four words after the single ones are 0
 pub spare-is : {a : Aic} {room : List ℕ} → Laid a room → (i : ℕ) → i < 4 → get_or room (20 + i) 0 ≡ 0
@@ -108,7 +108,7 @@ one-record a b r h k =
     let le : a.level ≡ b.level = same 8 h.shaped.3 k.shaped.3 (λ i l. sym (level-is h i l) ∙ level-is k i l) in
     told mo ve so le (sym (external-is h) ∙ external-is k) (sym (lines-is h) ∙ lines-is k) (sym (enabled-is h) ∙ enabled-is k) (sym (memory-is h) ∙ memory-is k)
     (sym (forced-is h) ∙ forced-is k) (sym (spurious-is h) ∙ spurious-is k) (sym (debug-is h) ∙ debug-is k) (sym (depth_is h) ∙ depth_is k)
-    (sym (seen-what-is h) ∙ seen-what-is k) (sym (seen-source-is h) ∙ seen-source-is k) (sym (seen-level-is h) ∙ seen-level-is k) (sym (seen-vector-is h) ∙ seen-vector-is k)
+    (sym (seen_what-is h) ∙ seen_what-is k) (sym (seen_source-is h) ∙ seen_source-is k) (sym (seen_level-is h) ∙ seen_level-is k) (sym (seen_vector-is h) ∙ seen_vector-is k)
   where
     same : {xs ys : List ℕ} (n : ℕ) → length xs ≡ n → length ys ≡ n → ((i : ℕ) → i < n → get_or xs i 0 ≡ get_or ys i 0) → xs ≡ ys
     same {xs} {ys} n p q f = ext_get_or 0 xs ys (p ∙ sym q) (λ i l. f i (omega (arith, l, p)))

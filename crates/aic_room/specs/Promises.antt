@@ -2,7 +2,7 @@
 use Rattle.std.specs.Prelude.{ℕ, ◌+◌, ◌<◌, ◌≡◌, List, length, get_or}
 use Rattle.aic_record.specs.declared.Aic.{Aic}
 use Rattle.aic_record.specs.Promises.{Shaped}
-use Rattle.aic_levels.specs.Levels.{levelWord, any_of, highestOf}
+use Rattle.aic_levels.specs.Levels.{level_word, any_of, highest_of}
 use Rattle.aic_room.specs.Room.{Laid}
 
 pub record Promises : Type 0 where
@@ -14,9 +14,9 @@ pub record Promises : Type 0 where
   pub stands : (a : Aic) → Shaped a → (r : List ℕ) × Laid a r
   pub size : (a : Aic) (r : List ℕ) → Laid a r → (length r ≡ 2048) × (get_or r 0 0 ≡ 0)
   -- in it stand the word of each level, their byte, and the table of the highest levels (02, 5/12)
-  pub levels : (a : Aic) (r : List ℕ) (p : ℕ) → Laid a r → p < 8 → get_or r (24 + p) 0 ≡ levelWord a p
+  pub levels : (a : Aic) (r : List ℕ) (p : ℕ) → Laid a r → p < 8 → get_or r (24 + p) 0 ≡ level_word a p
   pub byte : (a : Aic) (r : List ℕ) → Laid a r → get_or r 12 0 ≡ any_of a
-  pub table : (a : Aic) (r : List ℕ) (b : ℕ) → Laid a r → b < 256 → get_or r (256 + b) 0 ≡ highestOf b
+  pub table : (a : Aic) (r : List ℕ) (b : ℕ) → Laid a r → b < 256 → get_or r (256 + b) 0 ≡ highest_of b
   -- words that nothing needs are 0: four after the single words, eight before the modes, 128 after the vectors, and all after the table
   pub spare : (a : Aic) (r : List ℕ) (i : ℕ) → Laid a r → i < 4 → get_or r (20 + i) 0 ≡ 0
   pub before : (a : Aic) (r : List ℕ) (i : ℕ) → Laid a r → i < 8 → get_or r (56 + i) 0 ≡ 0

@@ -2,11 +2,11 @@
 // the lines; in `handlers` the entries and the vectors.
 ghost use Rattle.std.specs.Prelude.{◌≡◌, true, false, not, ◌&&◌, ◌<◌, eqb};
 ghost use Rattle.words.specs.Choice.{pick};
-ghost use Rattle.words.specs.Word.{withBit};
+ghost use Rattle.words.specs.Word.{with_bit};
 ghost use Rattle.aic_record.specs.declared.Aic.{Aic};
 ghost use Rattle.aic_record.specs.Mode.{type_of, kind, edge};
-ghost use Rattle.aic_record.specs.Record.{withSpurious};
-ghost use Rattle.aic_registers.specs.Effects.{moded, vectored, enabledBy, disabledBy, setBy, clearedBy, debugBy, forcedBy, unforcedBy, turns, moved};
+ghost use Rattle.aic_record.specs.Record.{with_spurious};
+ghost use Rattle.aic_registers.specs.Effects.{moded, vectored, enabled_by, disabled_by, set_by, cleared_by, debug_by, forced_by, unforced_by, turns, moved};
 ghost use Rattle.aic_room.specs.Room.{Laid};
 
 use super::layout::{
@@ -18,7 +18,7 @@ use rooms::Room;
 
 // IECR: each source whose bit is 1 is enabled.
 pub(crate) fn enable(room: &mut Room, v: u32)
-    ensures { (a : Aic) → Laid a room.old → Laid (enabledBy a v) room.new }
+    ensures { (a : Aic) → Laid a room.old → Laid (enabled_by a v) room.new }
 {
     let w = words::join(room[ENABLED], v);
     super::layout::put_enabled(room, w);
@@ -27,7 +27,7 @@ pub(crate) fn enable(room: &mut Room, v: u32)
 
 // IDCR: each source whose bit is 1 is disabled.
 pub(crate) fn disable(room: &mut Room, v: u32)
-    ensures { (a : Aic) → Laid a room.old → Laid (disabledBy a v) room.new }
+    ensures { (a : Aic) → Laid a room.old → Laid (disabled_by a v) room.new }
 {
     let w = words::drop_bits(room[ENABLED], v);
     super::layout::put_enabled(room, w);
@@ -36,7 +36,7 @@ pub(crate) fn disable(room: &mut Room, v: u32)
 
 // ICCR: the memory of each source whose bit is 1 is cleared. It acts on edge sources only.
 pub(crate) fn clear(room: &mut Room, v: u32)
-    ensures { (a : Aic) → Laid a room.old → Laid (clearedBy a v) room.new }
+    ensures { (a : Aic) → Laid a room.old → Laid (cleared_by a v) room.new }
 {
     let w = words::drop_bits(room[MEMORY], words::meet(v, room[EDGES]));
     room[MEMORY] = w;
@@ -45,7 +45,7 @@ pub(crate) fn clear(room: &mut Room, v: u32)
 
 // ISCR: the memory of each source whose bit is 1 is set. It acts on edge sources only.
 pub(crate) fn set(room: &mut Room, v: u32)
-    ensures { (a : Aic) → Laid a room.old → Laid (setBy a v) room.new }
+    ensures { (a : Aic) → Laid a room.old → Laid (set_by a v) room.new }
 {
     let w = words::join(room[MEMORY], words::meet(v, room[EDGES]));
     room[MEMORY] = w;
@@ -54,7 +54,7 @@ pub(crate) fn set(room: &mut Room, v: u32)
 
 // FFER: each source whose bit is 1 is forced to the fast side, save source 0.
 pub(crate) fn force(room: &mut Room, v: u32)
-    ensures { (a : Aic) → Laid a room.old → Laid (forcedBy a v) room.new }
+    ensures { (a : Aic) → Laid a room.old → Laid (forced_by a v) room.new }
 {
     let w = words::join(room[FORCED], words::drop_bits(v, 1));
     super::layout::put_forced(room, w);
@@ -63,7 +63,7 @@ pub(crate) fn force(room: &mut Room, v: u32)
 
 // FFDR: each source whose bit is 1 is forced no longer.
 pub(crate) fn unforce(room: &mut Room, v: u32)
-    ensures { (a : Aic) → Laid a room.old → Laid (unforcedBy a v) room.new }
+    ensures { (a : Aic) → Laid a room.old → Laid (unforced_by a v) room.new }
 {
     let w = words::drop_bits(room[FORCED], v);
     super::layout::put_forced(room, w);
@@ -74,7 +74,7 @@ pub(crate) fn unforce(room: &mut Room, v: u32)
 
 // SPU.
 pub(crate) fn write_spurious(room: &mut Room, v: u32)
-    ensures { (a : Aic) → Laid a room.old → Laid (withSpurious a v) room.new }
+    ensures { (a : Aic) → Laid a room.old → Laid (with_spurious a v) room.new }
 {
     room[SPURIOUS] = v;
 }
@@ -89,7 +89,7 @@ pub(crate) fn write_vector(room: &mut Room, k: u32, v: u32)
 
 // DCR. Without protect mode what is remembered is forgotten.
 pub(crate) fn write_debug(room: &mut Room, v: u32)
-    ensures { (a : Aic) → Laid a room.old → Laid (debugBy a v) room.new }
+    ensures { (a : Aic) → Laid a room.old → Laid (debug_by a v) room.new }
 {
     let w = words::keep(2, v);
     room[DEBUG] = w;
@@ -104,7 +104,7 @@ pub(crate) fn write_debug(room: &mut Room, v: u32)
 // The memory after a write of the mode of source k: one that alters the type clears it.
 fn forget_other_type(room: &Room, k: u32, v: u32) -> u32
     requires { k < 32 }
-    ensures { (a : Aic) → Laid a room.now → result ≡ pick (not (eqb (kind a k) (type_of v))) (withBit a.memory k false) a.memory }
+    ensures { (a : Aic) → Laid a room.now → result ≡ pick (not (eqb (kind a k) (type_of v))) (with_bit a.memory k false) a.memory }
 {
     if aic_record::type_of(room[MODE + k as usize]) != aic_record::type_of(v) {
         return words::with_bit(room[MEMORY], k, false);
@@ -148,7 +148,7 @@ fn rises(room: &Room, k: u32, high: bool) -> bool
 // The memory after the line of source k goes to a level: an edge source that turns active is remembered.
 fn remember(room: &Room, k: u32, high: bool) -> u32
     requires { k < 32 }
-    ensures { (a : Aic) → Laid a room.now → result ≡ pick (edge a k && turns a k high) (withBit a.memory k true) a.memory }
+    ensures { (a : Aic) → Laid a room.now → result ≡ pick (edge a k && turns a k high) (with_bit a.memory k true) a.memory }
 {
     if rises(room, k, high) {
         return words::with_bit(room[MEMORY], k, true);

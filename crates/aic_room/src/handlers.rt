@@ -3,11 +3,11 @@ ghost use Rattle.std.specs.Prelude.{◌≡◌, true, ◌-◌, ◌<◌, ◌≤◌
 ghost use Rattle.words.specs.Choice.{pick};
 ghost use Rattle.aic_record.specs.declared.Aic.{Aic};
 ghost use Rattle.aic_record.specs.Mode.{priority};
-ghost use Rattle.aic_record.specs.Sound.{levelBelow, over, sound};
-ghost use Rattle.aic_sources.specs.Fast.{fastAsks, fiq};
+ghost use Rattle.aic_record.specs.Sound.{level_below, over, sound};
+ghost use Rattle.aic_sources.specs.Fast.{fast_asks, fiq};
 ghost use Rattle.aic_sources.specs.Normal.{above, candidates, chosen, irq};
-ghost use Rattle.aic_registers.specs.Handlers.{answered, spent, opened, startedAt, marked, ended, vectorAt, ivrTaken, ivrLooked, ivrRead, begun, ivrWritten, fastSpent, fvrRead, current};
-ghost use Rattle.aic_levels.specs.Levels.{any_of, highestOf};
+ghost use Rattle.aic_registers.specs.Handlers.{answered, spent, opened, started_at, marked, ended, vector_at, ivr_taken, ivr_looked, ivr_read, begun, ivr_written, fast_spent, fvr_read, current};
+ghost use Rattle.aic_levels.specs.Levels.{any_of, highest_of};
 ghost use Rattle.aic_room.specs.Room.{Laid, Gives};
 
 use super::layout::{
@@ -33,7 +33,7 @@ fn last_of(entries: u32) -> usize
 
 // The level of the entry below entry i, 255 if there is none.
 fn level_below(room: &Room, i: u32) -> u32
-    ensures { (a : Aic) → Laid a room.now → i ≤ 8 → result ≡ levelBelow a.level i }
+    ensures { (a : Aic) → Laid a room.now → i ≤ 8 → result ≡ level_below a.level i }
 {
     if i == 0 {
         return 255;
@@ -61,7 +61,7 @@ fn may_start(room: &Room, p: u32) -> bool
 
 // The highest level that has any source, 255 if none has.
 fn highest(room: &Room) -> u32
-    ensures { (a : Aic) → Laid a room.now → result ≡ highestOf (any_of a) }
+    ensures { (a : Aic) → Laid a room.now → result ≡ highest_of (any_of a) }
 {
     room[TABLE + (room[ANY] % 256) as usize]
 }
@@ -92,7 +92,7 @@ fn normal_asks(room: &Room) -> bool
 
 // Whether some fast source is pending and enabled: source 0, or a forced one.
 fn fast_asks(room: &Room) -> bool
-    ensures { (a : Aic) → Laid a room.now → result ≡ fastAsks a }
+    ensures { (a : Aic) → Laid a room.now → result ≡ fast_asks a }
 {
     words::meet(super::layout::pending(room), room[FAST]) != 0
 }
@@ -140,7 +140,7 @@ fn open_entry(room: &mut Room, k: u32, level: u32)
 // Source k starts at a level: a handler is opened, and its memory is cleared if it is edge-triggered.
 fn start_at(room: &mut Room, k: u32, level: u32)
     requires { k < 32 }
-    ensures { (a : Aic) → Laid a room.old → a.depth < 8 → Laid (startedAt a k level) room.new }
+    ensures { (a : Aic) → Laid a room.old → a.depth < 8 → Laid (started_at a k level) room.new }
 {
     spend(room, k);
     open_entry(room, k, level);
@@ -189,7 +189,7 @@ pub(crate) fn current(room: &Room) -> u32
 // Source k starts at the priority that it has now, and its vector is answered.
 fn start_now(room: &mut Room, k: u32) -> u32
     requires { k < 32 }
-    ensures { (a : Aic) → Laid a room.old → a.depth < 8 → Gives (answered (startedAt a k (priority a k)) (vectorAt a k)) room.new result }
+    ensures { (a : Aic) → Laid a room.old → a.depth < 8 → Gives (answered (started_at a k (priority a k)) (vector_at a k)) room.new result }
 {
     let level = room[MODE + k as usize] % 8;
     let vector = room[VECTOR + k as usize];
@@ -199,7 +199,7 @@ fn start_now(room: &mut Room, k: u32) -> u32
 
 // Outside protect mode: the candidate that is ahead of all others starts; without one SPU, and a mark is opened.
 fn take_ivr(room: &mut Room) -> u32
-    ensures { (a : Aic) → Laid a room.old → Gives (ivrTaken a) room.new result }
+    ensures { (a : Aic) → Laid a room.old → Gives (ivr_taken a) room.new result }
 {
     let k = chosen(room);
     if k < 32 {
@@ -212,7 +212,7 @@ fn take_ivr(room: &mut Room) -> u32
 
 // In protect mode: the same is answered, and only remembered.
 fn look_ivr(room: &mut Room) -> u32
-    ensures { (a : Aic) → Laid a room.old → Gives (ivrLooked a) room.new result }
+    ensures { (a : Aic) → Laid a room.old → Gives (ivr_looked a) room.new result }
 {
     let k = chosen(room);
     if k < 32 {
@@ -228,7 +228,7 @@ fn look_ivr(room: &mut Room) -> u32
 
 // A read of IVR. Debug control's mask plays no part in it.
 pub(crate) fn read_ivr(room: &mut Room) -> u32
-    ensures { (a : Aic) → Laid a room.old → Gives (ivrRead a) room.new result }
+    ensures { (a : Aic) → Laid a room.old → Gives (ivr_read a) room.new result }
 {
     if words::has(room[DEBUG], 0) {
         return look_ivr(room);
@@ -240,7 +240,7 @@ pub(crate) fn read_ivr(room: &mut Room) -> u32
 
 // What is remembered is opened: a handler of the source at the level that was remembered, else a mark.
 fn open_seen(room: &mut Room)
-    ensures { (a : Aic) → sound a ≡ true → Laid a room.old → Laid (pick (eqb a.seen.what 1) (startedAt a a.seen.source a.seen.level) (marked a)) room.new }
+    ensures { (a : Aic) → sound a ≡ true → Laid a room.old → Laid (pick (eqb a.seen.what 1) (started_at a a.seen.source a.seen.level) (marked a)) room.new }
 {
     if room[SEEN] == 1 {
         let k = room[SEEN_SOURCE] % 32;
@@ -264,7 +264,7 @@ fn begin_seen(room: &mut Room)
 
 // A write of IVR. Outside protect mode it does nothing.
 pub(crate) fn write_ivr(room: &mut Room)
-    ensures { (a : Aic) → sound a ≡ true → Laid a room.old → Laid (ivrWritten a) room.new }
+    ensures { (a : Aic) → sound a ≡ true → Laid a room.old → Laid (ivr_written a) room.new }
 {
     if words::has(room[DEBUG], 0) {
         begin_seen(room);
@@ -275,7 +275,7 @@ pub(crate) fn write_ivr(room: &mut Room)
 
 // The memory of source 0 is cleared if that is edge-triggered and no source is forced.
 fn spend_fast(room: &mut Room)
-    ensures { (a : Aic) → Laid a room.old → Laid (fastSpent a) room.new }
+    ensures { (a : Aic) → Laid a room.old → Laid (fast_spent a) room.new }
 {
     if room[FORCED] == 0 {
         spend(room, 0);
@@ -284,7 +284,7 @@ fn spend_fast(room: &mut Room)
 
 // A read of FVR: vector 0, whichever fast source asks; SPU if none does.
 pub(crate) fn read_fvr(room: &mut Room) -> u32
-    ensures { (a : Aic) → Laid a room.old → Gives (fvrRead a) room.new result }
+    ensures { (a : Aic) → Laid a room.old → Gives (fvr_read a) room.new result }
 {
     if fast_asks(room) {
         let vector = room[VECTOR];

@@ -2,16 +2,16 @@
 // words of its levels are renewed.
 ghost use Rattle.std.specs.Prelude.{◌≡◌, true, not, ℕ, ◌+◌, ◌%◌, ◌<◌, ◌≤◌, eqb, length, get_or, set};
 ghost use Rattle.words.specs.Counting.{upto};
-ghost use Rattle.words.specs.Word.{word_of, both, withBit};
+ghost use Rattle.words.specs.Word.{word_of, both, with_bit};
 ghost use Rattle.rooms.specs.Parts.{stored};
 ghost use Rattle.aic_record.specs.declared.Aic.{Aic};
 ghost use Rattle.aic_record.specs.Promises.{Shaped};
-ghost use Rattle.aic_record.specs.Record.{withEnabled, withForced, withMode, withHandlers, withSeen};
-ghost use Rattle.aic_record.specs.Sound.{levelBelow, sound};
-ghost use Rattle.aic_sources.specs.Pending.{pendingWord};
+ghost use Rattle.aic_record.specs.Record.{with_enabled, with_forced, with_mode, with_handlers, with_seen};
+ghost use Rattle.aic_record.specs.Sound.{level_below, sound};
+ghost use Rattle.aic_sources.specs.Pending.{pending_word};
 ghost use Rattle.aic_sources.specs.Normal.{waiting};
-ghost use Rattle.aic_levels.specs.Levels.{highestOf};
-ghost use Rattle.aic_room.specs.Room.{classWord, Laid, Stale, StaleAt, Tabled, worded, keptBeside};
+ghost use Rattle.aic_levels.specs.Levels.{highest_of};
+ghost use Rattle.aic_room.specs.Room.{class_word, Laid, Stale, StaleAt, Tabled, worded, kept_beside};
 
 use aic_record::{Aic, Seen};
 use rooms::Room;
@@ -88,7 +88,7 @@ pub const TABLE: usize = 256;
 
 // The pending sources: an edge source by its memory, a level source by its line.
 pub fn pending(room: &Room) -> u32
-    ensures { (a : Aic) → Stale a room.now → result ≡ pendingWord a }
+    ensures { (a : Aic) → Stale a room.now → result ≡ pending_word a }
 {
     let active = aic_sources::active_word(room[LOW], room[LINES]);
     aic_sources::blend(room[EDGES], room[MEMORY], active)
@@ -153,7 +153,7 @@ pub(crate) fn renew_level(room: &mut Room, p: u32)
 
 // The enabled sources, with the words of both sides.
 pub fn put_enabled(room: &mut Room, enabled: u32)
-    ensures { (a : Aic) → Stale a room.old → Stale (withEnabled a enabled) room.new }
+    ensures { (a : Aic) → Stale a room.old → Stale (with_enabled a enabled) room.new }
 {
     let fast = words::join(1, room[FORCED]);
     room[ENABLED] = enabled;
@@ -163,7 +163,7 @@ pub fn put_enabled(room: &mut Room, enabled: u32)
 
 // The forced sources, with the words of both sides.
 pub fn put_forced(room: &mut Room, forced: u32)
-    ensures { (a : Aic) → Stale a room.old → Stale (withForced a forced) room.new }
+    ensures { (a : Aic) → Stale a room.old → Stale (with_forced a forced) room.new }
 {
     let enabled = room[ENABLED];
     let fast = words::join(1, forced);
@@ -176,7 +176,7 @@ pub fn put_forced(room: &mut Room, forced: u32)
 
 // What is remembered.
 pub fn put_seen(room: &mut Room, what: u32, source: u32, level: u32, vector: u32)
-    ensures { (a : Aic) → Laid a room.old → Laid (withSeen a (record { what = what; source = source; level = level; vector = vector })) room.new }
+    ensures { (a : Aic) → Laid a room.old → Laid (with_seen a (record { what = what; source = source; level = level; vector = vector })) room.new }
 {
     room[SEEN] = what;
     room[SEEN_SOURCE] = source;
@@ -187,7 +187,7 @@ pub fn put_seen(room: &mut Room, what: u32, source: u32, level: u32, vector: u32
 // Slot i of the open entries, a handler or a mark, how many are open, and the level of the last.
 pub(crate) fn put_entry(room: &mut Room, i: u32, source: u32, level: u32, depth: u32, last: u32)
     requires { i < 8 }
-    ensures { (a : Aic) → Laid a room.old → last ≡ levelBelow (set a.level i level) depth → Laid (withHandlers a (set a.source i source) (set a.level i level) depth) room.new }
+    ensures { (a : Aic) → Laid a room.old → last ≡ level_below (set a.level i level) depth → Laid (with_handlers a (set a.source i source) (set a.level i level) depth) room.new }
 {
     room[SOURCE + i as usize] = source;
     room[LEVEL + i as usize] = level;
@@ -199,7 +199,7 @@ pub(crate) fn put_entry(room: &mut Room, i: u32, source: u32, level: u32, depth:
 
 // Source k is in the class of priority p and in no other.
 fn put_class(room: &mut Room, k: u32, p: u32)
-    ensures { room.new ≡ upto (λ l q. set l (32 + q) (withBit (get_or l (32 + q) 0) k (eqb q p))) room.old 8 }
+    ensures { room.new ≡ upto (λ l q. set l (32 + q) (with_bit (get_or l (32 + q) 0) k (eqb q p))) room.old 8 }
 {
     let mut q: u32 = 0;
     while q < 8 {
@@ -213,7 +213,7 @@ fn put_class(room: &mut Room, k: u32, p: u32)
 // The mode of source k. The levels are to be renewed.
 pub(crate) fn put_mode(room: &mut Room, k: u32, mode: u32)
     requires { k < 32 }
-    ensures { (a : Aic) → Stale a room.old → Stale (withMode a (set a.mode k mode)) room.new }
+    ensures { (a : Aic) → Stale a room.old → Stale (with_mode a (set a.mode k mode)) room.new }
 {
     room[MODE + k as usize] = mode;
     let edges = words::with_bit(room[EDGES], k, words::has(mode, 5));
@@ -270,7 +270,7 @@ fn lay_eight<'a>(room: &'a mut Room, at: usize, bytes: &'a [u8; 8])
 
 // The sources of priority p.
 fn class_word(mode: &[u8; 32], p: u32) -> u32
-    ensures { result ≡ classWord mode.now p }
+    ensures { result ≡ class_word mode.now p }
 {
     let mut w: u32 = 0;
     let mut k: u32 = 0;
@@ -284,7 +284,7 @@ fn class_word(mode: &[u8; 32], p: u32) -> u32
 
 // The sources of each priority.
 fn lay_classes<'a>(room: &'a mut Room, mode: &'a [u8; 32])
-    ensures { room.new ≡ stored 32 (classWord mode.now) room.old 8 }
+    ensures { room.new ≡ stored 32 (class_word mode.now) room.old 8 }
 {
     let mut p: u32 = 0;
     while p < 8 {
@@ -296,7 +296,7 @@ fn lay_classes<'a>(room: &'a mut Room, mode: &'a [u8; 32])
 
 // The table of the highest levels.
 fn lay_table(room: &mut Room)
-    ensures { room.new ≡ stored 256 highestOf room.old 256 }
+    ensures { room.new ≡ stored 256 highest_of room.old 256 }
 {
     let mut b: usize = 0;
     while b < 256 {
@@ -345,7 +345,7 @@ fn lay_words(room: &mut Room, a: Aic)
 
 // The level of the last entry, 255 if none is open.
 fn last_of(level: &[u8; 8], depth: u32) -> u32
-    ensures { length level.now ≡ 8 → result ≡ levelBelow level.now depth }
+    ensures { length level.now ≡ 8 → result ≡ level_below level.now depth }
 {
     if depth == 0 {
         return 255;
@@ -359,7 +359,7 @@ fn last_of(level: &[u8; 8], depth: u32) -> u32
 
 // The single words that the record determines.
 fn lay_kept(room: &mut Room, a: Aic)
-    ensures { Shaped a → room.new ≡ keptBeside a room.old }
+    ensures { Shaped a → room.new ≡ kept_beside a room.old }
 {
     let mode = a.mode;
     let level = a.level;

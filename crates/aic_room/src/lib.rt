@@ -2,7 +2,7 @@
 ghost use Rattle.std.specs.Prelude.{◌≡◌, true, ◌≤◌};
 ghost use Rattle.aic_record.specs.declared.Aic.{Aic};
 ghost use Rattle.aic_record.specs.Sound.{sound};
-ghost use Rattle.aic_registers.specs.Registers.{outputBits, stored, readAt, writtenAt};
+ghost use Rattle.aic_registers.specs.Registers.{output_bits, stored, read_at, written_at};
 ghost use Rattle.aic.specs.Model.{read, write, line, step, outputs};
 ghost use Rattle.rooms.specs.Reply.{told};
 ghost use Rattle.trace.specs.Turns.{step_of};
@@ -24,7 +24,7 @@ use rooms::Room;
 
 // CISR: bit 0 is FIQ, bit 1 IRQ.
 fn output_bits(room: &Room) -> u32
-    ensures { (a : Aic) → Laid a room.now → result ≡ outputBits a }
+    ensures { (a : Aic) → Laid a room.now → result ≡ output_bits a }
 {
     let fast = words::one_if(handlers::is_fiq(room));
     let normal = words::one_if(handlers::is_irq(room));
@@ -55,7 +55,7 @@ fn read_stored(room: &Room, offset: u32) -> u32
 
 // A read of a register that may be read.
 fn read_at(room: &mut Room, offset: u32) -> u32
-    ensures { (a : Aic) → Laid a room.old → a.depth ≤ 8 → Gives (readAt a offset) room.new result }
+    ensures { (a : Aic) → Laid a room.old → a.depth ≤ 8 → Gives (read_at a offset) room.new result }
 {
     match offset {
         map::IVR => handlers::read_ivr(room),
@@ -66,7 +66,7 @@ fn read_at(room: &mut Room, offset: u32) -> u32
 
 // A write of a register that takes the value.
 fn write_at(room: &mut Room, offset: u32, v: u32)
-    ensures { (a : Aic) → sound a ≡ true → Laid a room.old → Laid (writtenAt a offset v) room.new }
+    ensures { (a : Aic) → sound a ≡ true → Laid a room.old → Laid (written_at a offset v) room.new }
 {
     if offset < map::SVR {
         effects::write_mode(room, offset / 4, v);

@@ -4,8 +4,8 @@ ghost use Rattle.rooms.specs.Reply.{told};
 ghost use Rattle.aic_record.specs.declared.Aic.{Aic};
 ghost use Rattle.aic_record.specs.Sound.{sound};
 ghost use Rattle.aic.specs.Model as aic;
-ghost use Rattle.aic_levels.specs.Levels.{levelsOf, agrees};
-ghost use Rattle.aic_levels.specs.Model.{stepWith};
+ghost use Rattle.aic_levels.specs.Levels.{levels_of, agrees};
+ghost use Rattle.aic_levels.specs.Model.{step_with};
 ghost use Rattle.aic_room.specs.Room.{Laid};
 ghost use Rattle.aic_room.specs.Reply.{Done};
 
@@ -17,7 +17,7 @@ use steps::Step;
 
 // A step; 12 where the record is not sound or the levels are not its own, and then both are as they were.
 pub fn step(s: Aic, l: Levels, x: Step) -> Answer
-    ensures { result ≡ stepWith s l x }
+    ensures { result ≡ step_with s l x }
 {
     if aic_record::is_sound(s) & aic_levels::agrees(s, l) {
         return step_agreed(s, l, x);
@@ -33,7 +33,7 @@ pub fn step(s: Aic, l: Levels, x: Step) -> Answer
 // A step of a sound record with levels that agree with it. Those of the room are the same, so nothing is taken from them.
 fn step_agreed(s: Aic, l: Levels, x: Step) -> Answer
     requires { (sound s && agrees s l) ≡ true }
-    ensures { result ≡ stepWith s l x }
+    ensures { result ≡ step_with s l x }
 {
     let mut room = super::layout::lay(s);
     let reply = step_in(&mut room, x);
@@ -73,7 +73,7 @@ fn words_in(room: &Room) -> [u32; 8]
 
 // The levels in a room.
 fn levels_in(room: &Room) -> Levels
-    ensures { (a : Aic) → Laid a room.now → result ≡ levelsOf a }
+    ensures { (a : Aic) → Laid a room.now → result ≡ levels_of a }
 {
     let words = words_in(room);
     Levels {

@@ -12,33 +12,33 @@ use Rattle.words.specs.Choice.{pick}
 use Rattle.words.specs.Counting.{one}
 use Rattle.words.specs.Word.{bit}
 use Rattle.words.proofs.TruthLaws.{clash, told}
-use Rattle.words.proofs.CountingLaws.{one-le}
-use Rattle.words.proofs.WordLaws.{bit-either, bit-both, bit-withBit, bit-cleared-if, bit-put-if}
+use Rattle.words.proofs.CountingLaws.{one_le}
+use Rattle.words.proofs.WordLaws.{bit-either, bit-both, bit-with_bit, bit-cleared_if, bit-put_if}
 use Rattle.steps.specs.declared.Step.{Step}
 use Rattle.steps.specs.declared.Step.TheVariants.{Read, Write, Line}
 use Rattle.aic_record.specs.declared.Aic.{Aic}
-use Rattle.aic_record.specs.Record.{nothingSeen, withMemory, withDebug, withSeen}
+use Rattle.aic_record.specs.Record.{nothing_seen, with_memory, with_debug, with_seen}
 use Rattle.aic_record.specs.declared.Seen.{Seen}
 use mathlib.Core.List.{List}
-use Rattle.aic_record.specs.Mode.{priorityOf, priority, kind, edge}
-use Rattle.aic_record.specs.Sound.{sourceAt, levelBelow, protects, sound}
+use Rattle.aic_record.specs.Mode.{priority_of, priority, kind, edge}
+use Rattle.aic_record.specs.Sound.{source_at, level_below, protects, sound}
 use Rattle.aic_record.specs.Promises.{Shaped}
 use Rattle.aic_record.proofs.SoundLaws.{sound-is, seen-sound}
-use Rattle.aic_sources.specs.Pending.{activeLow, activeAt, active, pending, edgeWord}
+use Rattle.aic_sources.specs.Pending.{active_low, active_at, active, pending, edge_word}
 use Rattle.aic_sources.specs.Normal.{candidate, candidates, chosen}
-use Rattle.aic_sources.proofs.HandlerLaws.{candidate-waits, waiting-is, candidate-room, candidate-source}
+use Rattle.aic_sources.proofs.HandlerLaws.{candidate-waits, waiting-is, candidate-room, candidate_source}
 use Rattle.aic_sources.proofs.OrderLaws.{chosen_is}
 use Rattle.aic_registers.specs.Map.{ivr, iscr, eoicr}
-use Rattle.aic_registers.specs.Handlers.{opened, startedAt, closedLast, sourceSeen, noneSeen}
-use Rattle.aic_registers.specs.Effects.{setBy, turns, moved}
+use Rattle.aic_registers.specs.Handlers.{opened, started_at, closed_last, source_seen, none_seen}
+use Rattle.aic_registers.specs.Effects.{set_by, turns, moved}
 use Rattle.aic.specs.Model.{step}
 use Rattle.aic.proofs.HandlerLaws.{started-is, moved-is}
-use Rattle.aic.proofs.StepKindLaws.{withStore, kinds}
-use Rattle.aic_runs.specs.Counted.{starts, recalls, startsOf, rises, edges, commands, rewrites}
-use Rattle.aic_runs.proofs.CountedLaws.{plain-start, write-start, line-start, no_start, look-start, take-chosen, mark-chosen, none_of, begin-source, begin-none, close-close, set-command, line-rise, mode-rewrite, forcing-rewrite}
+use Rattle.aic.proofs.StepKindLaws.{with_store, kinds}
+use Rattle.aic_runs.specs.Counted.{starts, recalls, starts_of, rises, edges, commands, rewrites}
+use Rattle.aic_runs.proofs.CountedLaws.{plain-start, write-start, line-start, no_start, look-start, take-chosen, mark-chosen, none_of, begin_source, begin-none, close_close, set_command, line_rise, mode-rewrite, forcing-rewrite}
 use Rattle.aic_runs.proofs.StepLaws.{unseen}
-use Rattle.aic_runs.specs.Turns.{closesOf, closesHot, gains, due}
-use Rattle.aic_runs.proofs.HeldLaws.{heldIn, held_in, held-push, held-pop, not-held, candidate-tops}
+use Rattle.aic_runs.specs.Turns.{closes_of, closes_hot, gains, due}
+use Rattle.aic_runs.proofs.HeldLaws.{held_in, held_in_lem, held-push, held_pop, not-held, candidate_tops}
 
 -- ---- truth values: e edge-triggered, m its memory, a its line active, h held
 
@@ -61,7 +61,7 @@ spent-held false m false h = refl
 
 one_set : (m a b : Bool) → one (m || (a && b)) ≤ one m + one a
 one_set true a b = omega arith
-one_set false true b = omega (arith, one-le b)
+one_set false true b = omega (arith, one_le b)
 one_set false false b = omega arith
 
 commanded-more : (e m a h v w : Bool) → one (by e (m || (v && w)) a h) ≤ one (by e m a h) + pick e (0 + one v) 0
@@ -77,23 +77,23 @@ turned_more true false true false h = omega arith
 turned_more true false false true h = omega arith
 turned_more true false false false h = omega arith
 turned_more false m true true h = omega arith
-turned_more false m true false h = omega (arith, one-le (not h))
+turned_more false m true false h = omega (arith, one_le (not h))
 turned_more false m false true h = omega arith
 turned_more false m false false h = omega arith
 
 -- the truth value of what source i is due, from its parts
-abbrev heldBy : Aic → ℕ → Bool
-heldBy s i = heldIn s.source s.level s.depth (priority s i) i
+abbrev held_by : Aic → ℕ → Bool
+held_by s i = held_in s.source s.level s.depth (priority s i) i
 
 -- source i is due a start
 unfoldable pub ready : Aic → ℕ → Bool
-ready s i = by (edge s i) (bit s.memory i) (active s i) (heldBy s i)
+ready s i = by (edge s i) (bit s.memory i) (active s i) (held_by s i)
 
 pub ready-due : (s : Aic) (i : ℕ) → i ≢ 0 → due s i ≡ one (ready s i)
 unfolding due ready pending pick
-ready-due s i z = rw (held_in s i z) (ap one (go (edge s i)))
+ready-due s i z = rw (held_in_lem s i z) (ap one (go (edge s i)))
   where
-    go : (e : Bool) → (pick e (bit s.memory i) (active s i) && (e || not (heldBy s i))) ≡ by e (bit s.memory i) (active s i) (heldBy s i)
+    go : (e : Bool) → (pick e (bit s.memory i) (active s i) && (e || not (held_by s i))) ≡ by e (bit s.memory i) (active s i) (held_by s i)
     go true = and-true (bit s.memory i)
     go false = refl
 
@@ -114,7 +114,7 @@ due-chosen s ok c =
     f = (chosen_is s c).fit
 
     below : (d : ℕ) → d < s.depth → get_or s.source d 0 ≡ chosen s → get_or s.level d 0 < priority s (chosen s)
-    below d l e = candidate-tops s (chosen s) (sound-is s ok) f d l (λ z. omega (arith, candidate-source s (chosen s) f))
+    below d l e = candidate_tops s (chosen s) (sound-is s ok) f d l (λ z. omega (arith, candidate_source s (chosen s) f))
 
 -- parts that change nothing
 less_by : (e m a h c g : Bool) → one (by e (m && not c) a (h || g)) ≤ one (by e m a h)
@@ -184,10 +184,10 @@ two_none true true = refl
 two_none true false = refl
 two_none false d = omega arith
 
-two-fair : (d : Bool) → two true d true ≡ 1
+two_fair : (d : Bool) → two true d true ≡ 1
 unfolding two pick
-two-fair true = refl
-two-fair false = refl
+two_fair true = refl
+two_fair false = refl
 
 two-stale : (d : Bool) → two false d true ≡ one d + 1
 unfolding two pick
@@ -211,7 +211,7 @@ claim-none s i e = ap (two (eqb s.seen.level (priority s i)) (ready s i)) e ∙ 
 claim-same : (s u : Aic) (i : ℕ) → u.seen ≡ s.seen → u.mode ≡ s.mode → claim u i ≡ two (eqb s.seen.level (priority s i)) (ready u i) (recalls i s)
 unfolding claim recalls priority
 claim-same s u i e m =
-    ap₂ (λ (n : Seen) (ms : List ℕ). two (eqb n.level (priorityOf (get_or ms i 0))) (ready u i) (eqb n.what 1 && eqb i n.source)) e m
+    ap₂ (λ (n : Seen) (ms : List ℕ). two (eqb n.level (priority_of (get_or ms i 0))) (ready u i) (eqb n.what 1 && eqb i n.source)) e m
 
 recalled : (s : Aic) (i : ℕ) → s.seen.what ≡ 1 → i ≡ s.seen.source → recalls i s ≡ true
 unfolding recalls
@@ -221,229 +221,229 @@ recalls-none : (s : Aic) (i : ℕ) → s.seen.what ≢ 1 → recalls i s ≡ fal
 unfolding recalls
 recalls-none s i w = rw (ne_eqb s.seen.what 1 w)
 
-claim-fair : (s : Aic) (i : ℕ) → s.seen.what ≡ 1 → i ≡ s.seen.source → eqb s.seen.level (priority s i) ≡ true → claim s i ≡ 1
+claim_fair : (s : Aic) (i : ℕ) → s.seen.what ≡ 1 → i ≡ s.seen.source → eqb s.seen.level (priority s i) ≡ true → claim s i ≡ 1
 unfolding claim
-claim-fair s i w q e = ap₂ (λ (f c : Bool). two f (ready s i) c) e (recalled s i w q) ∙ two-fair (ready s i)
+claim_fair s i w q e = ap₂ (λ (f c : Bool). two f (ready s i) c) e (recalled s i w q) ∙ two_fair (ready s i)
 
 claim-stale : (s : Aic) (i : ℕ) → s.seen.what ≡ 1 → i ≡ s.seen.source → eqb s.seen.level (priority s i) ≡ false → claim s i ≡ one (ready s i) + 1
 unfolding claim
 claim-stale s i w q e = ap₂ (λ (f c : Bool). two f (ready s i) c) e (recalled s i w q) ∙ two-stale (ready s i)
 
 -- what is remembered does not alter what a source is due
-due-seen : (s : Aic) (i : ℕ) (n : Seen) → ready (withSeen s n) i ≡ ready s i
-unfolding ready edge kind active activeAt activeLow priority
+due-seen : (s : Aic) (i : ℕ) (n : Seen) → ready (with_seen s n) i ≡ ready s i
+unfolding ready edge kind active active_at active_low priority
 due-seen s i n = refl
 
-claim-looked : (s : Aic) (i : ℕ) → i ≡ chosen s → ready s i ≡ true → claim (withSeen s (sourceSeen s (chosen s))) i ≡ 1
-claim-looked s i q d = claim-fair (withSeen s (sourceSeen s (chosen s))) i refl q (unfold priority in (eq-eqb (priority s (chosen s)) (priority s i) (ap (priority s) (sym q))))
+claim-looked : (s : Aic) (i : ℕ) → i ≡ chosen s → ready s i ≡ true → claim (with_seen s (source_seen s (chosen s))) i ≡ 1
+claim-looked s i q d = claim_fair (with_seen s (source_seen s (chosen s))) i refl q (unfold priority in (eq-eqb (priority s (chosen s)) (priority s i) (ap (priority s) (sym q))))
 
-started-seen : (s : Aic) (k p : ℕ) → (startedAt s k p).seen ≡ s.seen
+started-seen : (s : Aic) (k p : ℕ) → (started_at s k p).seen ≡ s.seen
 started-seen s k p = rw (started-is s k p)
 
-started-mode : (s : Aic) (k p : ℕ) → (startedAt s k p).mode ≡ s.mode
-started-mode s k p = rw (started-is s k p)
+started_mode : (s : Aic) (k p : ℕ) → (started_at s k p).mode ≡ s.mode
+started_mode s k p = rw (started-is s k p)
 
 moved-seen : (s : Aic) (k : ℕ) (high : Bool) → (moved s k high).seen ≡ s.seen
 moved-seen s k high = rw (moved-is s k high)
 
-moved-mode : (s : Aic) (k : ℕ) (high : Bool) → (moved s k high).mode ≡ s.mode
-moved-mode s k high = rw (moved-is s k high)
+moved_mode : (s : Aic) (k : ℕ) (high : Bool) → (moved s k high).mode ≡ s.mode
+moved_mode s k high = rw (moved-is s k high)
 
 module _ (s : Aic) (i : ℕ) (small : i < 32) (normal : i ≢ 0) (h : Shaped s) where
   abbrev Paid : Step → Aic → Type 0
-  Paid x t = closesHot i s x ≡ false → one (ready t i) + one (startsOf i s x) ≤ one (ready s i) + gains i s x
+  Paid x t = closes_hot i s x ≡ false → one (ready t i) + one (starts_of i s x) ≤ one (ready s i) + gains i s x
 
   -- a step that starts nothing and after which i is due no more
-  no-more : (x : Step) (t : Aic) → startsOf i s x ≡ false → one (ready t i) ≤ one (ready s i) → Paid x t
+  no-more : (x : Step) (t : Aic) → starts_of i s x ≡ false → one (ready t i) ≤ one (ready s i) → Paid x t
   no-more x t n l c = rw n (omega arith)
 
   -- ---- a start
 
-  after-start : (k p : ℕ) → s.depth < 8 → ready (startedAt s k p) i
-      ≡ by (edge s i) (bit s.memory i && not (eqb i k && edge s k)) (active s i) (heldBy s i || (eqb k i && leb (priority s i) p))
-  unfolding ready edge kind active activeAt activeLow priority
+  after-start : (k p : ℕ) → s.depth < 8 → ready (started_at s k p) i
+      ≡ by (edge s i) (bit s.memory i && not (eqb i k && edge s k)) (active s i) (held_by s i || (eqb k i && leb (priority s i) p))
+  unfolding ready edge kind active active_at active_low priority
   after-start k p room =
       rw (
         started-is s k p,
-        bit-cleared-if s.memory k (edge s k) i small,
+        bit-cleared_if s.memory k (edge s k) i small,
         held-push s.source s.level s.depth (priority s i) i k p (omega (arith, h.2)) (omega (arith, h.3)),
       )
 
   -- of i itself at its priority: it is due nothing more
-  start-mine : (p : ℕ) → s.depth < 8 → p ≡ priority s i → one (ready (startedAt s i p) i) ≡ 0
-  start-mine p room e =
-      rw (after-start i p room, eq-eqb i i refl, le-leb (priority s i) p (omega arith)) (spent-held (edge s i) (bit s.memory i) (active s i) (heldBy s i))
+  start_mine : (p : ℕ) → s.depth < 8 → p ≡ priority s i → one (ready (started_at s i p) i) ≡ 0
+  start_mine p room e =
+      rw (after-start i p room, eq-eqb i i refl, le-leb (priority s i) p (omega arith)) (spent-held (edge s i) (bit s.memory i) (active s i) (held_by s i))
 
   -- of any source at any level: i is due no more than before
-  start-any : (k p : ℕ) → s.depth < 8 → one (ready (startedAt s k p) i) ≤ one (ready s i)
+  start_any : (k p : ℕ) → s.depth < 8 → one (ready (started_at s k p) i) ≤ one (ready s i)
   unfolding ready
-  start-any k p room =
+  start_any k p room =
       rw (after-start k p room)
-      (less_by (edge s i) (bit s.memory i) (active s i) (heldBy s i) (eqb i k && edge s k) (eqb k i && leb (priority s i) p))
+      (less_by (edge s i) (bit s.memory i) (active s i) (held_by s i) (eqb i k && edge s k) (eqb k i && leb (priority s i) p))
 
-  taken : sound s ≡ true → protects s ≡ false → candidates s ≡ true → Paid (Read ivr) (startedAt s (chosen s) (priority s (chosen s)))
-  unfolding startsOf
+  taken : sound s ≡ true → protects s ≡ false → candidates s ≡ true → Paid (Read ivr) (started_at s (chosen s) (priority s (chosen s)))
+  unfolding starts_of
   taken ok out c k = rw (take-chosen s ok out) (go (ℕ_discrete i (chosen s)))
     where
       room : s.depth < 8
       room = candidate-room s (chosen s) (chosen_is s c).fit
 
-      go : Dec (i ≡ chosen s) → one (ready (startedAt s (chosen s) (priority s (chosen s))) i) + one (eqb i (chosen s)) ≤ one (ready s i) + gains i s (Read ivr)
+      go : Dec (i ≡ chosen s) → one (ready (started_at s (chosen s) (priority s (chosen s))) i) + one (eqb i (chosen s)) ≤ one (ready s i) + gains i s (Read ivr)
       go (yes q) =
           let d : ready s i ≡ true = ap (ready s) q ∙ due-chosen s ok c in
-          let e : startedAt s (chosen s) (priority s (chosen s)) ≡ startedAt s i (priority s i) = ap (λ (j : ℕ). startedAt s j (priority s j)) (sym q) in
-          rw (eq-eqb i (chosen s) q, d, e) (omega (arith, start-mine (priority s i) room refl))
-      go (no q) = rw (ne_eqb i (chosen s) q) (omega (arith, start-any (chosen s) (priority s (chosen s)) room))
+          let e : started_at s (chosen s) (priority s (chosen s)) ≡ started_at s i (priority s i) = ap (λ (j : ℕ). started_at s j (priority s j)) (sym q) in
+          rw (eq-eqb i (chosen s) q, d, e) (omega (arith, start_mine (priority s i) room refl))
+      go (no q) = rw (ne_eqb i (chosen s) q) (omega (arith, start_any (chosen s) (priority s (chosen s)) room))
 
   -- ---- a mark, a close
 
-  after-mark : s.depth < 8 → ready (opened s 0 (levelBelow s.level s.depth)) i ≡ ready s i
-  unfolding ready opened edge kind active activeAt activeLow priority
+  after-mark : s.depth < 8 → ready (opened s 0 (level_below s.level s.depth)) i ≡ ready s i
+  unfolding ready opened edge kind active active_at active_low priority
   after-mark l =
       rw (
-        held-push s.source s.level s.depth (priority s i) i 0 (levelBelow s.level s.depth) (omega (arith, h.2)) (omega (arith, h.3)),
+        held-push s.source s.level s.depth (priority s i) i 0 (level_below s.level s.depth) (omega (arith, h.2)) (omega (arith, h.3)),
         ne_eqb 0 i (λ e. normal (sym e)),
-        or-none (heldBy s i) (leb (priority s i) (levelBelow s.level s.depth)),
+        or-none (held_by s i) (leb (priority s i) (level_below s.level s.depth)),
       )
 
-  marked : sound s ≡ true → protects s ≡ false → candidates s ≡ false → s.depth < 8 → Paid (Read ivr) (opened s 0 (levelBelow s.level s.depth))
+  marked : sound s ≡ true → protects s ≡ false → candidates s ≡ false → s.depth < 8 → Paid (Read ivr) (opened s 0 (level_below s.level s.depth))
   marked ok out n l = no-more (Read ivr) _ (none_of s (Read ivr) (mark-chosen s ok out n) i small) (omega (arith, ap one (after-mark l)))
 
   abbrev popped : Bool
-  popped = heldIn (set s.source (s.depth - 1) 0) (set s.level (s.depth - 1) 0) (s.depth - 1) (priority s i) i
+  popped = held_in (set s.source (s.depth - 1) 0) (set s.level (s.depth - 1) 0) (s.depth - 1) (priority s i) i
 
-  after-close : ready (closedLast s) i ≡ by (edge s i) (bit s.memory i) (active s i) popped
-  unfolding ready closedLast edge kind active activeAt activeLow priority
-  after-close = refl
+  after_close : ready (closed_last s) i ≡ by (edge s i) (bit s.memory i) (active s i) popped
+  unfolding ready closed_last edge kind active active_at active_low priority
+  after_close = refl
 
-  cold : (v : ℕ) → sound s ≡ true → s.depth ≢ 0 → closesHot i s (Write eoicr v) ≡ false → sourceAt s (s.depth - 1) ≡ i → (not (edge s i) && active s i) ≡ false
-  unfolding closesHot closesOf
-  cold v ok d c q = rw (close-close s v ok d, ne_eqb i 0 normal, eq-eqb (sourceAt s (s.depth - 1)) i q) at c
+  cold : (v : ℕ) → sound s ≡ true → s.depth ≢ 0 → closes_hot i s (Write eoicr v) ≡ false → source_at s (s.depth - 1) ≡ i → (not (edge s i) && active s i) ≡ false
+  unfolding closes_hot closes_of
+  cold v ok d c q = rw (close_close s v ok d, ne_eqb i 0 normal, eq-eqb (source_at s (s.depth - 1)) i q) at c
 
-  closed : (v : ℕ) → sound s ≡ true → s.depth ≢ 0 → Paid (Write eoicr v) (closedLast s)
+  closed : (v : ℕ) → sound s ≡ true → s.depth ≢ 0 → Paid (Write eoicr v) (closed_last s)
   unfolding ready
-  closed v ok d c = no-more (Write eoicr v) (closedLast s) (no_start s (Write eoicr v) (write-start s eoicr v (omega arith)) i small) (go (ℕ_discrete (sourceAt s (s.depth - 1)) i)) c
+  closed v ok d c = no-more (Write eoicr v) (closed_last s) (no_start s (Write eoicr v) (write-start s eoicr v (omega arith)) i small) (go (ℕ_discrete (source_at s (s.depth - 1)) i)) c
     where
-      go : Dec (sourceAt s (s.depth - 1) ≡ i) → one (ready (closedLast s) i) ≤ one (by (edge s i) (bit s.memory i) (active s i) (heldBy s i))
-      go (yes q) = rw after-close (quiet_by (edge s i) (bit s.memory i) (active s i) popped (heldBy s i) (cold v ok d c q))
+      go : Dec (source_at s (s.depth - 1) ≡ i) → one (ready (closed_last s) i) ≤ one (by (edge s i) (bit s.memory i) (active s i) (held_by s i))
+      go (yes q) = rw after_close (quiet_by (edge s i) (bit s.memory i) (active s i) popped (held_by s i) (cold v ok d c q))
       go (no q) =
           let z : suc (s.depth - 1) ≡ s.depth = omega arith in
-          let r : popped ≡ heldBy s i = held-pop s.source s.level (s.depth - 1) (priority s i) i q ∙ ap (λ (m : ℕ). heldIn s.source s.level m (priority s i) i) z in
-          rw (after-close, r) (omega arith)
+          let r : popped ≡ held_by s i = held_pop s.source s.level (s.depth - 1) (priority s i) i q ∙ ap (λ (m : ℕ). held_in s.source s.level m (priority s i) i) z in
+          rw (after_close, r) (omega arith)
 
   -- ---- a set command, a line step
 
-  after-command : (v : ℕ) → ready (setBy s v) i ≡ by (edge s i) (bit s.memory i || (bit v i && bit (edgeWord s) i)) (active s i) (heldBy s i)
-  unfolding ready setBy edge kind active activeAt activeLow priority
-  after-command v = rw (bit-either s.memory _ i small, bit-both v _ i small)
+  after_command : (v : ℕ) → ready (set_by s v) i ≡ by (edge s i) (bit s.memory i || (bit v i && bit (edge_word s) i)) (active s i) (held_by s i)
+  unfolding ready set_by edge kind active active_at active_low priority
+  after_command v = rw (bit-either s.memory _ i small, bit-both v _ i small)
 
-  commanded : (v : ℕ) → sound s ≡ true → Paid (Write iscr v) (setBy s v)
+  commanded : (v : ℕ) → sound s ≡ true → Paid (Write iscr v) (set_by s v)
   unfolding ready gains edges rises
   commanded v ok c =
-      rw (after-command v, no_start s (Write iscr v) (write-start s iscr v (omega arith)) i small, set-command s v i ok)
-      (omega (arith, commanded-more (edge s i) (bit s.memory i) (active s i) (heldBy s i) (bit v i) (bit (edgeWord s) i)))
+      rw (after_command v, no_start s (Write iscr v) (write-start s iscr v (omega arith)) i small, set_command s v i ok)
+      (omega (arith, commanded-more (edge s i) (bit s.memory i) (active s i) (held_by s i) (bit v i) (bit (edge_word s) i)))
 
   after-move : (k l : ℕ) → ready (moved s k (eqb l 1)) i
-      ≡ by (edge s i) (bit s.memory i || (eqb i k && (edge s k && turns s k (eqb l 1)))) (activeAt s i (pick (eqb i k) (eqb l 1) (bit s.lines i))) (heldBy s i)
-  unfolding ready edge kind active activeAt activeLow priority
-  after-move k l = rw (moved-is s k (eqb l 1), bit-put-if s.memory k (edge s k && turns s k (eqb l 1)) i small, bit-withBit s.lines k (eqb l 1) i small)
+      ≡ by (edge s i) (bit s.memory i || (eqb i k && (edge s k && turns s k (eqb l 1)))) (active_at s i (pick (eqb i k) (eqb l 1) (bit s.lines i))) (held_by s i)
+  unfolding ready edge kind active active_at active_low priority
+  after-move k l = rw (moved-is s k (eqb l 1), bit-put_if s.memory k (edge s k && turns s k (eqb l 1)) i small, bit-with_bit s.lines k (eqb l 1) i small)
 
-  move-mine : (l : ℕ) → one (ready (moved s i (eqb l 1)) i) ≤ one (ready s i) + pick (edge s i) (one (turns s i (eqb l 1) && edge s i) + 0) (one (turns s i (eqb l 1)))
+  move_mine : (l : ℕ) → one (ready (moved s i (eqb l 1)) i) ≤ one (ready s i) + pick (edge s i) (one (turns s i (eqb l 1) && edge s i) + 0) (one (turns s i (eqb l 1)))
   unfolding ready turns pick
-  move-mine l =
-      rw (after-move i l, eq-eqb i i refl) (turned_more (edge s i) (bit s.memory i) (activeAt s i (eqb l 1)) (active s i) (heldBy s i))
+  move_mine l =
+      rw (after-move i l, eq-eqb i i refl) (turned_more (edge s i) (bit s.memory i) (active_at s i (eqb l 1)) (active s i) (held_by s i))
 
   move-other : (k l : ℕ) → i ≢ k → one (ready (moved s k (eqb l 1)) i) + 0 ≤ one (ready s i) + 0
   unfolding ready active pick
   move-other k l q =
-      rw (after-move k l, ne_eqb i k q) (still-by (edge s i) (bit s.memory i) (activeAt s i (bit s.lines i)) (heldBy s i) (edge s k && turns s k (eqb l 1)))
+      rw (after-move k l, ne_eqb i k q) (still-by (edge s i) (bit s.memory i) (active_at s i (bit s.lines i)) (held_by s i) (edge s k && turns s k (eqb l 1)))
 
   turned : (k l : ℕ) → sound s ≡ true → k < 32 → l ≤ 1 → Paid (Line k l) (moved s k (eqb l 1))
   unfolding gains edges commands
   turned k l ok m n c =
-      rw (no_start s (Line k l) (line-start s k l) i small, line-rise s k l i ok m n) (go (ℕ_discrete i k))
+      rw (no_start s (Line k l) (line-start s k l) i small, line_rise s k l i ok m n) (go (ℕ_discrete i k))
     where
       go : Dec (i ≡ k) → one (ready (moved s k (eqb l 1)) i) + 0 ≤ one (ready s i) + pick (edge s i) (one ((eqb i k && turns s k (eqb l 1)) && edge s i) + 0) (one (eqb i k && turns s k (eqb l 1)))
-      go (yes q) = rw (sym q, eq-eqb i i refl) (omega (arith, move-mine l))
+      go (yes q) = rw (sym q, eq-eqb i i refl) (omega (arith, move_mine l))
       go (no q) = rw (ne_eqb i k q, pick-none (edge s i)) (move-other k l q)
 
   -- ---- with what is remembered
 
   abbrev Claimed : Step → Aic → Type 0
-  Claimed x u = closesHot i s x ≡ false → claim u i + one (startsOf i s x) ≤ claim s i + gains i s x
+  Claimed x u = closes_hot i s x ≡ false → claim u i + one (starts_of i s x) ≤ claim s i + gains i s x
 
   -- where the same is remembered, and i is not or is not started
-  as_before : (x : Step) (u : Aic) → u.seen ≡ s.seen → u.mode ≡ s.mode → (recalls i s ≡ false) ⊎ (startsOf i s x ≡ false) → Paid x u → Claimed x u
+  as_before : (x : Step) (u : Aic) → u.seen ≡ s.seen → u.mode ≡ s.mode → (recalls i s ≡ false) ⊎ (starts_of i s x ≡ false) → Paid x u → Claimed x u
   unfolding claim
   as_before x u e m q p c =
-      rw (claim-same s u i e m) (same-two (eqb s.seen.level (priority s i)) (recalls i s) (ready s i) (ready u i) (startsOf i s x) (gains i s x) q (p c))
+      rw (claim-same s u i e m) (same-two (eqb s.seen.level (priority s i)) (recalls i s) (ready s i) (ready u i) (starts_of i s x) (gains i s x) q (p c))
 
   -- where i is not remembered after the step, nor started
-  forgets : (x : Step) (u : Aic) → recalls i u ≡ false → startsOf i s x ≡ false → one (ready u i) ≤ one (ready s i) → Claimed x u
+  forgets : (x : Step) (u : Aic) → recalls i u ≡ false → starts_of i s x ≡ false → one (ready u i) ≤ one (ready s i) → Claimed x u
   forgets x u e n l c = rw (claim-none u i e, n) (omega (arith, claim-low s i))
 
-  looked : sound s ≡ true → protects s ≡ true → candidates s ≡ true → Claimed (Read ivr) (withSeen s (sourceSeen s (chosen s)))
+  looked : sound s ≡ true → protects s ≡ true → candidates s ≡ true → Claimed (Read ivr) (with_seen s (source_seen s (chosen s)))
   looked ok on c k = go (ℕ_discrete i (chosen s)) k
     where
-      quiet : startsOf i s (Read ivr) ≡ false
+      quiet : starts_of i s (Read ivr) ≡ false
       quiet = no_start s (Read ivr) (look-start s on) i small
 
-      go : Dec (i ≡ chosen s) → Claimed (Read ivr) (withSeen s (sourceSeen s (chosen s)))
+      go : Dec (i ≡ chosen s) → Claimed (Read ivr) (with_seen s (source_seen s (chosen s)))
       go (yes q) k =
           let d : ready s i ≡ true = ap (ready s) q ∙ due-chosen s ok c in
-          let f : claim (withSeen s (sourceSeen s (chosen s))) i ≡ 1 = claim-looked s i q d in
+          let f : claim (with_seen s (source_seen s (chosen s))) i ≡ 1 = claim-looked s i q d in
           rw (quiet, f) (omega (arith, claim-low s i, ap one d))
-      go (no q) k = forgets (Read ivr) (withSeen s (sourceSeen s (chosen s))) (unfold recalls in (ne_eqb i (chosen s) q)) quiet (omega (arith, ap one (due-seen s i (sourceSeen s (chosen s))))) k
+      go (no q) k = forgets (Read ivr) (with_seen s (source_seen s (chosen s))) (unfold recalls in (ne_eqb i (chosen s) q)) quiet (omega (arith, ap one (due-seen s i (source_seen s (chosen s))))) k
 
-  begun : (v : ℕ) → sound s ≡ true → protects s ≡ true → s.seen.what ≡ 1 → Claimed (Write ivr v) (withSeen (startedAt s s.seen.source s.seen.level) nothingSeen)
-  unfolding startsOf
-  begun v ok on w k = rw (begin-source s v ok on w, claim-none after i (unfold recalls in refl), due-seen (startedAt s s.seen.source s.seen.level) i nothingSeen) (go (ℕ_discrete i s.seen.source) (told (eqb s.seen.level (priority s i))))
+  begun : (v : ℕ) → sound s ≡ true → protects s ≡ true → s.seen.what ≡ 1 → Claimed (Write ivr v) (with_seen (started_at s s.seen.source s.seen.level) nothing_seen)
+  unfolding starts_of
+  begun v ok on w k = rw (begin_source s v ok on w, claim-none after i (unfold recalls in refl), due-seen (started_at s s.seen.source s.seen.level) i nothing_seen) (go (ℕ_discrete i s.seen.source) (told (eqb s.seen.level (priority s i))))
     where
       after : Aic
-      after = withSeen (startedAt s s.seen.source s.seen.level) nothingSeen
+      after = with_seen (started_at s s.seen.source s.seen.level) nothing_seen
 
       room : s.depth < 8
       room = (seen-sound s ok).room w
 
       go : Dec (i ≡ s.seen.source) → (eqb s.seen.level (priority s i) ≡ true) ⊎ (eqb s.seen.level (priority s i) ≡ false)
-          → one (ready (startedAt s s.seen.source s.seen.level) i) + one (eqb i s.seen.source) ≤ claim s i + gains i s (Write ivr v)
+          → one (ready (started_at s s.seen.source s.seen.level) i) + one (eqb i s.seen.source) ≤ claim s i + gains i s (Write ivr v)
       go (yes q) (inl e) =
-          let z : one (ready (startedAt s s.seen.source s.seen.level) i) ≡ 0 =
-          ap (λ (j : ℕ). one (ready (startedAt s j s.seen.level) i)) (sym q) ∙ start-mine s.seen.level room (eqb-true s.seen.level (priority s i) e) in
-          rw (z, eq-eqb i s.seen.source q) (omega (arith, claim-fair s i w q e))
+          let z : one (ready (started_at s s.seen.source s.seen.level) i) ≡ 0 =
+          ap (λ (j : ℕ). one (ready (started_at s j s.seen.level) i)) (sym q) ∙ start_mine s.seen.level room (eqb-true s.seen.level (priority s i) e) in
+          rw (z, eq-eqb i s.seen.source q) (omega (arith, claim_fair s i w q e))
       go (yes q) (inr e) =
-          rw (eq-eqb i s.seen.source q) (omega (arith, claim-stale s i w q e, start-any s.seen.source s.seen.level room))
-      go (no q) e = rw (ne_eqb i s.seen.source q) (omega (arith, claim-low s i, start-any s.seen.source s.seen.level room))
+          rw (eq-eqb i s.seen.source q) (omega (arith, claim-stale s i w q e, start_any s.seen.source s.seen.level room))
+      go (no q) e = rw (ne_eqb i s.seen.source q) (omega (arith, claim-low s i, start_any s.seen.source s.seen.level room))
 
-  pub claim-law : (x : Step) → rewrites s x ≡ false → Claimed x (step s x).aic
-  unfolding ready edge kind active activeAt activeLow priority opened closedLast setBy
-  claim-law =
+  pub claim_law : (x : Step) → rewrites s x ≡ false → Claimed x (step s x).aic
+  unfolding ready edge kind active active_at active_low priority opened closed_last set_by
+  claim_law =
       kinds s (λ x u. rewrites s x ≡ false → Claimed x u)
       (record {
         still = λ x p r. let n = no_start s x (plain-start s x p) i small in as_before x s refl refl (inr n) (no-more x s n (omega arith));
         store = λ o v e u m vs ok p q l r.
             let n = no_start s (Write o v) (plain-start s (Write o v) p) i small in
-            as_before (Write o v) (withStore s e u m vs) refl refl (inr n) (no-more (Write o v) (withStore s e u m vs) n (omega arith));
+            as_before (Write o v) (with_store s e u m vs) refl refl (inr n) (no-more (Write o v) (with_store s e u m vs) n (omega arith));
         drop = λ o v m ok p l r.
-            forgets (Write o v) (withSeen (withDebug s m) nothingSeen) (unfold recalls in refl) (no_start s (Write o v) (plain-start s (Write o v) p) i small) (omega arith);
+            forgets (Write o v) (with_seen (with_debug s m) nothing_seen) (unfold recalls in refl) (no_start s (Write o v) (plain-start s (Write o v) p) i small) (omega arith);
         fall = λ x w ok p f r.
             let n = no_start s x (plain-start s x p) i small in
-            as_before x (withMemory s w) refl refl (inr n) (no-more x (withMemory s w) n (fallen (edge s i) (bit s.memory i) (bit w i) (active s i) (heldBy s i) (f i small)));
+            as_before x (with_memory s w) refl refl (inr n) (no-more x (with_memory s w) n (fallen (edge s i) (bit s.memory i) (bit w i) (active s i) (held_by s i) (f i small)));
         remode = λ o k v ok e l r. clash (mode-rewrite s o k v ok e l) r;
         reforce = λ o v f ok e z r. clash (forcing-rewrite s o v ok e) r;
         take = λ ok out c r.
-            as_before (Read ivr) (startedAt s (chosen s) (priority s (chosen s))) (started-seen s (chosen s) (priority s (chosen s))) (started-mode s (chosen s) (priority s (chosen s)))
+            as_before (Read ivr) (started_at s (chosen s) (priority s (chosen s))) (started-seen s (chosen s) (priority s (chosen s))) (started_mode s (chosen s) (priority s (chosen s)))
             (inl (recalls-none s i (λ w. omega (arith, unseen s ok out)))) (taken ok out c);
         mark = λ ok out n l r.
-            as_before (Read ivr) (opened s 0 (levelBelow s.level s.depth)) refl refl (inr (none_of s (Read ivr) (mark-chosen s ok out n) i small)) (marked ok out n l);
+            as_before (Read ivr) (opened s 0 (level_below s.level s.depth)) refl refl (inr (none_of s (Read ivr) (mark-chosen s ok out n) i small)) (marked ok out n l);
         look = λ ok on c r. looked ok on c;
-        lookNone = λ ok on n r. forgets (Read ivr) (withSeen s noneSeen) (unfold recalls in refl) (no_start s (Read ivr) (look-start s on) i small) (omega arith);
+        look_none = λ ok on n r. forgets (Read ivr) (with_seen s none_seen) (unfold recalls in refl) (no_start s (Read ivr) (look-start s on) i small) (omega arith);
         begin = λ v ok on w r. begun v ok on w;
-        beginMark = λ v ok on z w l r.
-            forgets (Write ivr v) (withSeen (opened s 0 (levelBelow s.level s.depth)) nothingSeen) (unfold recalls in refl)
+        begin_mark = λ v ok on z w l r.
+            forgets (Write ivr v) (with_seen (opened s 0 (level_below s.level s.depth)) nothing_seen) (unfold recalls in refl)
             (none_of s (Write ivr v) (begin-none s v ok on w) i small) (omega (arith, ap one (after-mark l)));
-        close = λ v ok d r. as_before (Write eoicr v) (closedLast s) refl refl (inr (no_start s (Write eoicr v) (write-start s eoicr v (omega arith)) i small)) (closed v ok d);
-        command = λ v ok r. as_before (Write iscr v) (setBy s v) refl refl (inr (no_start s (Write iscr v) (write-start s iscr v (omega arith)) i small)) (commanded v ok);
+        close = λ v ok d r. as_before (Write eoicr v) (closed_last s) refl refl (inr (no_start s (Write eoicr v) (write-start s eoicr v (omega arith)) i small)) (closed v ok d);
+        command = λ v ok r. as_before (Write iscr v) (set_by s v) refl refl (inr (no_start s (Write iscr v) (write-start s iscr v (omega arith)) i small)) (commanded v ok);
         move = λ k l ok m n r.
-            as_before (Line k l) (moved s k (eqb l 1)) (moved-seen s k (eqb l 1)) (moved-mode s k (eqb l 1)) (inr (no_start s (Line k l) (line-start s k l) i small)) (turned k l ok m n);
+            as_before (Line k l) (moved s k (eqb l 1)) (moved-seen s k (eqb l 1)) (moved_mode s k (eqb l 1)) (inr (no_start s (Line k l) (line-start s k l) i small)) (turned k l ok m n);
       })

@@ -22,17 +22,17 @@ use Rattle.aic_sources.proofs.HandlerLaws.{waiting-is}
 use Rattle.aic_sources.proofs.OrderLaws.{chosen_none}
 use Rattle.aic_registers.specs.Effects.{turns}
 use Rattle.aic.specs.Model.{step}
-use Rattle.aic_runs.specs.Counted.{carried, takes, begins, starts, startedBy, levelOf, recalls, carries, startsOf, startsOther, strays, closes, rises, edges, commands, rewrites, steady, waits}
+use Rattle.aic_runs.specs.Counted.{carried, takes, begins, starts, started_by, level_of, recalls, carries, starts_of, starts_other, strays, closes, rises, edges, commands, rewrites, steady, waits}
 use Rattle.aic_runs.specs.Tables.{Counts}
-use Rattle.aic_runs.proofs.CountedLaws.{begins-is, chosen-room, read-close, line-close}
+use Rattle.aic_runs.proofs.CountedLaws.{begins-is, chosen-room, read_close, line_close}
 
 done : (s : Aic) (x : Step) → carried s x ≡ true → (step s x).refusal ≡ 0
 unfolding carried
 done s x h = eqb-true (step s x).refusal 0 h
 
-carry-out : (s : Aic) (x : Step) → (step s x).refusal ≡ 0 → carried s x ≡ true
+carry_out : (s : Aic) (x : Step) → (step s x).refusal ≡ 0 → carried s x ≡ true
 unfolding carried
-carry-out s x h = eq-eqb (step s x).refusal 0 h
+carry_out s x h = eq-eqb (step s x).refusal 0 h
 
 -- ---- starts
 
@@ -73,12 +73,12 @@ start-says s x h = go (or-either (takes s x) (begins s x) (and_left (takes s x |
     go (inl t) = let r = takes-says s x t in (inl (r.0, r.2), r.1, room)
     go (inr b) = let w = begins-says s x b in let i = begins-is s x b in (inr (w.0, w.1, i.1, i.2), w.2, room)
 
-starts-if : (s : Aic) (x : Step) → Starting s x → (step s x).refusal ≡ 0 → s.depth < 8 → starts s x ≡ true
+starts_if : (s : Aic) (x : Step) → Starting s x → (step s x).refusal ≡ 0 → s.depth < 8 → starts s x ≡ true
 unfolding starts takes begins
-starts-if s x (inl (e, out)) r l = rw e (and_both (or_left false (and_both (and_both (carry-out s (Read 0x100) (rw e at r)) refl) (ap not out))) (lt-ltb s.depth 8 l))
-starts-if s x (inr (v, e, on, d)) r l =
+starts_if s x (inl (e, out)) r l = rw e (and_both (or_left false (and_both (and_both (carry_out s (Read 0x100) (rw e at r)) refl) (ap not out))) (lt-ltb s.depth 8 l))
+starts_if s x (inr (v, e, on, d)) r l =
     rw e
-    (and_both (or_right false (and_both (and_both (and_both (carry-out s (Write 0x100 v) (rw e at r)) refl) on) (ap not (ne_eqb s.seen.what 0 d))))
+    (and_both (or_right false (and_both (and_both (and_both (carry_out s (Write 0x100 v) (rw e at r)) refl) on) (ap not (ne_eqb s.seen.what 0 d))))
     (lt-ltb s.depth 8 l))
 
 -- outside protect mode a start is a read, in it a write
@@ -97,20 +97,20 @@ start-begins s x h on =
 takes_none : (s : Aic) (x : Step) → protects s ≡ true → takes s x ≡ false
 takes_none s x on = not-holds (takes s x) (λ t. clash on (takes-says s x t).2)
 
-start-chosen : (s : Aic) (x : Step) → starts s x ≡ true → protects s ≡ false → (startedBy s x ≡ chosen s) × (levelOf s x ≡ priority s (chosen s))
-unfolding startedBy levelOf
+start-chosen : (s : Aic) (x : Step) → starts s x ≡ true → protects s ≡ false → (started_by s x ≡ chosen s) × (level_of s x ≡ priority s (chosen s))
+unfolding started_by level_of
 start-chosen s x h out = (sym (pick_true _ (start-takes s x h out)), sym (pick_true _ (start-takes s x h out)))
 
-start_seen : (s : Aic) (x : Step) → starts s x ≡ true → protects s ≡ true → s.seen.what ≡ 1 → (startedBy s x ≡ s.seen.source) × (levelOf s x ≡ s.seen.level)
-unfolding startedBy levelOf pick
+start_seen : (s : Aic) (x : Step) → starts s x ≡ true → protects s ≡ true → s.seen.what ≡ 1 → (started_by s x ≡ s.seen.source) × (level_of s x ≡ s.seen.level)
+unfolding started_by level_of pick
 start_seen s x h on w = rw (takes_none s x on, start-begins s x h on, eq-eqb s.seen.what 1 w) (refl, refl)
 
-start-mark : (s : Aic) (x : Step) → starts s x ≡ true → protects s ≡ true → s.seen.what ≢ 1 → startedBy s x ≡ 32
-unfolding startedBy pick
+start-mark : (s : Aic) (x : Step) → starts s x ≡ true → protects s ≡ true → s.seen.what ≢ 1 → started_by s x ≡ 32
+unfolding started_by pick
 start-mark s x h on d = rw (takes_none s x on, ne_eqb s.seen.what 1 d, and-false (begins s x))
 
-start_none : (s : Aic) (x : Step) → starts s x ≡ false → startedBy s x ≡ 32
-unfolding starts startedBy pick
+start_none : (s : Aic) (x : Step) → starts s x ≡ false → started_by s x ≡ 32
+unfolding starts started_by pick
 start_none s x h = go (takes s x) refl (begins s x) refl (eqb s.seen.what 1) refl (told (candidates s))
   where
     full : (takes s x || begins s x) ≡ true → s.depth < 8 → ⊥
@@ -146,12 +146,12 @@ carry-says k s = (
   λ (w, d). and_both (eq-eqb s.seen.what 1 w) (ap not (ne_eqb k s.seen.source d)),
 )
 
-stray-says : (t : ℕ → Bool) (k : ℕ) (s : Aic) (x : Step) → (strays t k s x ≡ true) ↔ ((startsOther k s x ≡ true) × (t (startedBy s x) ≡ false))
+stray-says : (t : ℕ → Bool) (k : ℕ) (s : Aic) (x : Step) → (strays t k s x ≡ true) ↔ ((starts_other k s x ≡ true) × (t (started_by s x) ≡ false))
 unfolding strays
 stray-says t k s x = (
   λ h. (
-    and_left (startsOther k s x) (not (t (startedBy s x))) h,
-    not-true (t (startedBy s x)) (and_right (startsOther k s x) (not (t (startedBy s x))) h),
+    and_left (starts_other k s x) (not (t (started_by s x))) h,
+    not-true (t (started_by s x)) (and_right (starts_other k s x) (not (t (started_by s x))) h),
   ),
   λ (o, f). and_both o (ap not f),
 )
@@ -160,8 +160,8 @@ stray-says t k s x = (
 
 close-says : (s : Aic) (x : Step) → closes s x ≡ true → (v : ℕ) × (x ≡ Write 0x130 v) × ((step s x).refusal ≡ 0) × (s.depth ≢ 0)
 unfolding closes
-close-says s (Read o) h = clash h (read-close s o)
-close-says s (Line k l) h = clash h (line-close s k l)
+close-says s (Read o) h = clash h (read_close s o)
+close-says s (Line k l) h = clash h (line_close s k l)
 close-says s (Write o v) h =
     let w = and_left (carried s (Write o v) && eqb o 0x130) (not (eqb s.depth 0)) h in (
       v,
@@ -172,7 +172,7 @@ close-says s (Write o v) h =
 
 closes_if : (s : Aic) (x : Step) (v : ℕ) → x ≡ Write 0x130 v → (step s x).refusal ≡ 0 → s.depth ≢ 0 → closes s x ≡ true
 unfolding closes
-closes_if s x v e r d = rw e (and_both (and_both (carry-out s (Write 0x130 v) (rw e at r)) refl) (ap not (ne_eqb s.depth 0 d)))
+closes_if s x v e r d = rw e (and_both (and_both (carry_out s (Write 0x130 v) (rw e at r)) refl) (ap not (ne_eqb s.depth 0 d)))
 
 -- ---- edges
 
@@ -193,9 +193,9 @@ edge-says i s (Line k l) h =
       and_right (a && eqb i k && turns s k (eqb l 1)) (edge s i) h,
     )
 
-edges-if : (i : ℕ) (s : Aic) (x : Step) (l : ℕ) → x ≡ Line i l → (step s x).refusal ≡ 0 → turns s i (eqb l 1) ≡ true → edge s i ≡ true → edges i s x ≡ true
+edges_if : (i : ℕ) (s : Aic) (x : Step) (l : ℕ) → x ≡ Line i l → (step s x).refusal ≡ 0 → turns s i (eqb l 1) ≡ true → edge s i ≡ true → edges i s x ≡ true
 unfolding edges rises
-edges-if i s x l e r t g = rw e (and_both (and_both (and_both (carry-out s (Line i l) (rw e at r)) (eq-eqb i i refl)) t) g)
+edges_if i s x l e r t g = rw e (and_both (and_both (and_both (carry_out s (Line i l) (rw e at r)) (eq-eqb i i refl)) t) g)
 
 -- ---- set commands
 
@@ -211,9 +211,9 @@ command-says i s (Write o v) h =
       and_right (carried s (Write o v) && eqb o 0x12C) (bit v i) h,
     )
 
-commands-if : (i : ℕ) (s : Aic) (x : Step) (v : ℕ) → x ≡ Write 0x12C v → (step s x).refusal ≡ 0 → bit v i ≡ true → commands i s x ≡ true
+commands_if : (i : ℕ) (s : Aic) (x : Step) (v : ℕ) → x ≡ Write 0x12C v → (step s x).refusal ≡ 0 → bit v i ≡ true → commands i s x ≡ true
 unfolding commands
-commands-if i s x v e r b = rw e (and_both (and_both (carry-out s (Write 0x12C v) (rw e at r)) refl) b)
+commands_if i s x v e r b = rw e (and_both (and_both (carry_out s (Write 0x12C v) (rw e at r)) refl) b)
 
 -- ---- rewrites
 
@@ -226,10 +226,10 @@ rewriting o h =
     (or-either (ltb o 0x80) (eqb o 0x140) g)) (λ (c : eqb o 0x144 ≡ true). inr (inr (eqb-true o 0x144 c)))
     (or-either (ltb o 0x80 || eqb o 0x140) (eqb o 0x144) h)
 
-rewriting-if : (o : ℕ) → Rewriting o → (ltb o 0x80 || eqb o 0x140 || eqb o 0x144) ≡ true
-rewriting-if o (inl l) = or_left (eqb o 0x144) (or_left (eqb o 0x140) (lt-ltb o 0x80 l))
-rewriting-if o (inr (inl e)) = or_left (eqb o 0x144) (or_right (ltb o 0x80) (eq-eqb o 0x140 e))
-rewriting-if o (inr (inr e)) = or_right (ltb o 0x80 || eqb o 0x140) (eq-eqb o 0x144 e)
+rewriting_if : (o : ℕ) → Rewriting o → (ltb o 0x80 || eqb o 0x140 || eqb o 0x144) ≡ true
+rewriting_if o (inl l) = or_left (eqb o 0x144) (or_left (eqb o 0x140) (lt-ltb o 0x80 l))
+rewriting_if o (inr (inl e)) = or_left (eqb o 0x144) (or_right (ltb o 0x80) (eq-eqb o 0x140 e))
+rewriting_if o (inr (inr e)) = or_right (ltb o 0x80 || eqb o 0x140) (eq-eqb o 0x144 e)
 
 rewrite-says : (s : Aic) (x : Step) → rewrites s x ≡ true → (o : ℕ) × (v : ℕ) × (x ≡ Write o v) × ((step s x).refusal ≡ 0) × Rewriting o
 unfolding rewrites
@@ -243,9 +243,9 @@ rewrite-says s (Write o v) h = (
   rewriting o (and_right (carried s (Write o v)) (ltb o 0x80 || eqb o 0x140 || eqb o 0x144) h),
 )
 
-rewrites-if : (s : Aic) (x : Step) (o v : ℕ) → x ≡ Write o v → (step s x).refusal ≡ 0 → Rewriting o → rewrites s x ≡ true
+rewrites_if : (s : Aic) (x : Step) (o v : ℕ) → x ≡ Write o v → (step s x).refusal ≡ 0 → Rewriting o → rewrites s x ≡ true
 unfolding rewrites
-rewrites-if s x o v e r w = rw e (and_both (carry-out s (Write o v) (rw e at r)) (rewriting-if o w))
+rewrites_if s x o v e r w = rw e (and_both (carry_out s (Write o v) (rw e at r)) (rewriting_if o w))
 
 -- ---- waiting
 
@@ -260,28 +260,28 @@ unfolding waits waiting asking
 waits_if k s x p e f t = and_both (and_both (and_both p e) (ap not f)) t
 
 pub counts_of : (s : Aic) (x : Step) → Counts s x
-unfolding startsOf startsOther steady
+unfolding starts_of starts_other steady
 counts_of s x =
     record {
-      start = (start-says s x, λ h. starts-if s x h.0 h.1 h.2);
-      startChosen = start-chosen s x;
-      startSeen = start_seen s x;
-      startMark = start-mark s x;
-      startNone = start_none s x;
+      start = (start-says s x, λ h. starts_if s x h.0 h.1 h.2);
+      start_chosen = start-chosen s x;
+      start_seen = start_seen s x;
+      start_mark = start-mark s x;
+      start_none = start_none s x;
       recall = λ i. recall-says i s;
       carry = λ k. carry-says k s;
-      start_of = λ i. (eqb-true i (startedBy s x), eq-eqb i (startedBy s x));
-      startOther = λ k. (
+      start_of = λ i. (eqb-true i (started_by s x), eq-eqb i (started_by s x));
+      start_other = λ k. (
         λ h. (
-          ltb-true (startedBy s x) 32 (and_left (ltb (startedBy s x) 32) (not (eqb k (startedBy s x))) h),
-          eqb-false k (startedBy s x) (not-true (eqb k (startedBy s x)) (and_right (ltb (startedBy s x) 32) (not (eqb k (startedBy s x))) h)),
+          ltb-true (started_by s x) 32 (and_left (ltb (started_by s x) 32) (not (eqb k (started_by s x))) h),
+          eqb-false k (started_by s x) (not-true (eqb k (started_by s x)) (and_right (ltb (started_by s x) 32) (not (eqb k (started_by s x))) h)),
         ),
-        λ (l, d). and_both (lt-ltb (startedBy s x) 32 l) (ap not (ne_eqb k (startedBy s x) d)),
+        λ (l, d). and_both (lt-ltb (started_by s x) 32 l) (ap not (ne_eqb k (started_by s x) d)),
       );
       stray = λ t k. stray-says t k s x;
       close = (close-says s x, λ (v, e, r, d). closes_if s x v e r d);
-      edgeIn = λ i. (edge-says i s x, λ (l, e, r, t, g). edges-if i s x l e r t g);
-      command = λ i. (command-says i s x, λ (v, e, r, b). commands-if i s x v e r b);
-      rewrite = (λ h. rewrite-says s x (not-false (rewrites s x) h), λ (o, v, e, r, w). ap not (rewrites-if s x o v e r w));
+      edge_in = λ i. (edge-says i s x, λ (l, e, r, t, g). edges_if i s x l e r t g);
+      command = λ i. (command-says i s x, λ (v, e, r, b). commands_if i s x v e r b);
+      rewrite = (λ h. rewrite-says s x (not-false (rewrites s x) h), λ (o, v, e, r, w). ap not (rewrites_if s x o v e r w));
       waiting = λ k. (waits-says k s x, λ (p, e, f, t). waits_if k s x p e f t);
     }

@@ -17,9 +17,9 @@ use Rattle.aic_runs.specs.Runs.{run}
 pub run_sound : (s : Aic) (xs : List Step) → Shaped s → sound s ≡ true → sound (run s xs) ≡ true
 unfolding run
 run_sound s [] h ok = ok
-run_sound s (x ∷ xs) h ok = run_sound (step s x).aic xs ((Controller.kept).stepShaped s x h) ((Controller.kept).stepSound s x h ok)
+run_sound s (x ∷ xs) h ok = run_sound (step s x).aic xs ((Controller.kept).step_shaped s x h) ((Controller.kept).step_sound s x h ok)
 
-pub never-twelve : (s : Aic) (x : Step) → sound s ≡ true → (step s x).refusal ≢ unsound
-never-twelve s (Read o) ok e = clash ok (((Controller.kept).readNumbers s o).twelve.0 e)
-never-twelve s (Write o v) ok e = clash ok (((Controller.kept).writeNumbers s o v).twelve.0 e)
-never-twelve s (Line k l) ok e = clash ok (((Controller.kept).lineNumbers s k l).twelve.0 e)
+pub never_twelve : (s : Aic) (x : Step) → sound s ≡ true → (step s x).refusal ≢ unsound
+never_twelve s (Read o) ok e = clash ok (((Controller.kept).read_numbers s o).twelve.0 e)
+never_twelve s (Write o v) ok e = clash ok (((Controller.kept).write_numbers s o v).twelve.0 e)
+never_twelve s (Line k l) ok e = clash ok (((Controller.kept).line_numbers s k l).twelve.0 e)

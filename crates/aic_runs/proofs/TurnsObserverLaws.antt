@@ -11,25 +11,25 @@ use Rattle.words.specs.Choice.{pick}
 use Rattle.words.specs.Counting.{one}
 use Rattle.words.specs.Word.{bit}
 use Rattle.words.proofs.TruthLaws.{and_left, and_right, and_both, clash}
-use Rattle.words.proofs.CountingLaws.{any_some, some-any, one-le}
+use Rattle.words.proofs.CountingLaws.{any_some, some_any, one_le}
 use Rattle.steps.specs.declared.Step.{Step}
 use Rattle.steps.specs.declared.Step.TheVariants.{Read, Write, Line}
 use Rattle.aic_record.specs.declared.Aic.{Aic}
 use Rattle.aic_record.specs.Mode.{priority, edge}
-use Rattle.aic_record.specs.Sound.{sourceAt, levelAt}
+use Rattle.aic_record.specs.Sound.{source_at, level_at}
 use Rattle.aic_sources.specs.Pending.{active, pending}
 use Rattle.aic_registers.specs.Effects.{turns}
 use Rattle.aic.specs.Model.{step}
 use Rattle.aic_runs.specs.Counted.{carried, closes, rises}
 use Rattle.aic_runs.proofs.Promises as Runs
-use Rattle.aic_runs.specs.Turns.{closesOf, closesHot, cool, gains, gained, held, due}
+use Rattle.aic_runs.specs.Turns.{closes_of, closes_hot, cool, gains, gained, held, due}
 use Rattle.aic_runs.specs.TurnsTables.{Counts, Dues, Gathers}
 
 -- ---- closes
 
-close-says : (i : ℕ) (s : Aic) (x : Step) → closesOf i s x ≡ true
+close-says : (i : ℕ) (s : Aic) (x : Step) → closes_of i s x ≡ true
     → (v : ℕ) × (x ≡ Write 0x130 v) × ((step s x).refusal ≡ 0) × (s.depth ≢ 0) × (i ≢ 0) × (get_or s.source (s.depth - 1) 0 ≡ i)
-unfolding closesOf
+unfolding closes_of
 close-says i s x h =
     let w = and_left (closes s x && not (eqb i 0)) _ h in
     let r = ((Runs.kept).counts s x).close.0 (and_left (closes s x) _ w) in (
@@ -38,23 +38,23 @@ close-says i s x h =
       r.2,
       r.3,
       eqb-false i 0 (not-true (eqb i 0) (and_right (closes s x) _ w)),
-      eqb-true (sourceAt s (s.depth - 1)) i (and_right (closes s x && not (eqb i 0)) _ h),
+      eqb-true (source_at s (s.depth - 1)) i (and_right (closes s x && not (eqb i 0)) _ h),
     )
 
 closes_if : (i : ℕ) (s : Aic) (x : Step)
-    → ((v : ℕ) × (x ≡ Write 0x130 v) × ((step s x).refusal ≡ 0) × (s.depth ≢ 0) × (i ≢ 0) × (get_or s.source (s.depth - 1) 0 ≡ i)) → closesOf i s x ≡ true
-unfolding closesOf
+    → ((v : ℕ) × (x ≡ Write 0x130 v) × ((step s x).refusal ≡ 0) × (s.depth ≢ 0) × (i ≢ 0) × (get_or s.source (s.depth - 1) 0 ≡ i)) → closes_of i s x ≡ true
+unfolding closes_of
 closes_if i s x (v, e, r, d, z, q) =
-    and_both (and_both (((Runs.kept).counts s x).close.1 (v, e, r, d)) (ap not (ne_eqb i 0 z))) (eq-eqb (sourceAt s (s.depth - 1)) i q)
+    and_both (and_both (((Runs.kept).counts s x).close.1 (v, e, r, d)) (ap not (ne_eqb i 0 z))) (eq-eqb (source_at s (s.depth - 1)) i q)
 
-hot-says : (i : ℕ) (s : Aic) (x : Step) → (closesHot i s x ≡ true) ↔ ((closesOf i s x ≡ true) × (edge s i ≡ false) × (active s i ≡ true))
-unfolding closesHot
+hot-says : (i : ℕ) (s : Aic) (x : Step) → (closes_hot i s x ≡ true) ↔ ((closes_of i s x ≡ true) × (edge s i ≡ false) × (active s i ≡ true))
+unfolding closes_hot
 hot-says i s x = (
   λ h.
-      let w = and_left (closesOf i s x && not (edge s i)) (active s i) h in (
-        and_left (closesOf i s x) _ w,
-        not-true (edge s i) (and_right (closesOf i s x) _ w),
-        and_right (closesOf i s x && not (edge s i)) (active s i) h,
+      let w = and_left (closes_of i s x && not (edge s i)) (active s i) h in (
+        and_left (closes_of i s x) _ w,
+        not-true (edge s i) (and_right (closes_of i s x) _ w),
+        and_right (closes_of i s x && not (edge s i)) (active s i) h,
       ),
   λ (c, e, a). and_both (and_both c (ap not e)) a,
 )
@@ -75,20 +75,20 @@ turn-says i s (Line k l) h =
       rw e (and_right (a && eqb i k) (turns s k (eqb l 1)) h),
     )
 
-turns-if : (i : ℕ) (s : Aic) (x : Step) (l : ℕ) → x ≡ Line i l → (step s x).refusal ≡ 0 → turns s i (eqb l 1) ≡ true → rises i s x ≡ true
+turns_if : (i : ℕ) (s : Aic) (x : Step) (l : ℕ) → x ≡ Line i l → (step s x).refusal ≡ 0 → turns s i (eqb l 1) ≡ true → rises i s x ≡ true
 unfolding rises carried
-turns-if i s x l e r t = rw e (and_both (and_both (eq-eqb (step s (Line i l)).refusal 0 (rw e at r)) (eq-eqb i i refl)) t)
+turns_if i s x l e r t = rw e (and_both (and_both (eq-eqb (step s (Line i l)).refusal 0 (rw e at r)) (eq-eqb i i refl)) t)
 
 pub counts_of : (i : ℕ) (s : Aic) (x : Step) → Counts i s x
 unfolding cool gains pick
 counts_of i s x =
     record {
-      closeOf = (close-says i s x, closes_if i s x);
+      close_of = (close-says i s x, closes_if i s x);
       hot = hot-says i s x;
-      coolIs = (not-true (closesHot i s x), λ h. ap not h);
-      turn = (turn-says i s x, λ (l, e, r, t). turns-if i s x l e r t);
-      gainsEdge = λ e. rw e;
-      gainsLevel = λ e. rw e;
+      cool_is = (not-true (closes_hot i s x), λ h. ap not h);
+      turn = (turn-says i s x, λ (l, e, r, t). turns_if i s x l e r t);
+      gains_edge = λ e. rw e;
+      gains_level = λ e. rw e;
     }
 
 -- ---- what is due
@@ -97,19 +97,19 @@ held-says : (i : ℕ) (s : Aic) → held s i ≡ true
     → (d : ℕ) × (d < s.depth) × (i ≢ 0) × (get_or s.source d 0 ≡ i) × (priority s i ≤ get_or s.level d 0)
 unfolding held
 held-says i s h =
-    let r = any_some s.depth (λ d. eqb (sourceAt s d) i && leb (priority s i) (levelAt s d)) (and_right (not (eqb i 0)) _ h) in (
+    let r = any_some s.depth (λ d. eqb (source_at s d) i && leb (priority s i) (level_at s d)) (and_right (not (eqb i 0)) _ h) in (
       r.0,
       r.1,
       eqb-false i 0 (not-true (eqb i 0) (and_left (not (eqb i 0)) _ h)),
-      eqb-true (sourceAt s r.0) i (and_left (eqb (sourceAt s r.0) i) _ r.2),
-      leb-true (priority s i) (levelAt s r.0) (and_right (eqb (sourceAt s r.0) i) _ r.2),
+      eqb-true (source_at s r.0) i (and_left (eqb (source_at s r.0) i) _ r.2),
+      leb-true (priority s i) (level_at s r.0) (and_right (eqb (source_at s r.0) i) _ r.2),
     )
 
-held-if : (i : ℕ) (s : Aic) (d : ℕ) → d < s.depth → i ≢ 0 → get_or s.source d 0 ≡ i → priority s i ≤ get_or s.level d 0 → held s i ≡ true
+held_if : (i : ℕ) (s : Aic) (d : ℕ) → d < s.depth → i ≢ 0 → get_or s.source d 0 ≡ i → priority s i ≤ get_or s.level d 0 → held s i ≡ true
 unfolding held
-held-if i s d l z e p =
+held_if i s d l z e p =
     and_both (ap not (ne_eqb i 0 z))
-    (some-any s.depth (λ d. eqb (sourceAt s d) i && leb (priority s i) (levelAt s d)) d l (and_both (eq-eqb (sourceAt s d) i e) (le-leb (priority s i) (levelAt s d) p)))
+    (some_any s.depth (λ d. eqb (source_at s d) i && leb (priority s i) (level_at s d)) d l (and_both (eq-eqb (source_at s d) i e) (le-leb (priority s i) (level_at s d) p)))
 
 due_edge : (i : ℕ) (s : Aic) → edge s i ≡ true → due s i ≡ one (bit s.memory i)
 unfolding due pending pick
@@ -124,19 +124,19 @@ due-one i s e = rw e (λ h. go (active s i) (held s i) h, λ (a, h). rw (a, h))
     go true false q = (refl, refl)
     go false h q = absurd (omega arith)
 
-due-small : (i : ℕ) (s : Aic) → due s i ≤ 1
+due_small : (i : ℕ) (s : Aic) → due s i ≤ 1
 unfolding due
-due-small i s = one-le (pending s i && (edge s i || not (held s i)))
+due_small i s = one_le (pending s i && (edge s i || not (held s i)))
 
-pub dues-of : (i : ℕ) (s : Aic) → Dues i s
-dues-of i s =
+pub dues_of : (i : ℕ) (s : Aic) → Dues i s
+dues_of i s =
     record {
-      heldIs = (held-says i s, λ (d, l, z, e, p). held-if i s d l z e p);
-      dueEdge = due_edge i s;
-      dueOne = due-one i s;
-      dueSmall = due-small i s;
+      held_is = (held-says i s, λ (d, l, z, e, p). held_if i s d l z e p);
+      due_edge = due_edge i s;
+      due_one = due-one i s;
+      due_small = due_small i s;
     }
 
 pub gathered : Gathers
 unfolding gained
-gathered = record { gainedNone = λ i s. refl; gainedMore = λ i s x xs. refl; coolOf = λ s t xs. unfold cool in (λ h. h, λ h. h) }
+gathered = record { gained_none = λ i s. refl; gained_more = λ i s x xs. refl; cool_of = λ s t xs. unfold cool in (λ h. h, λ h. h) }

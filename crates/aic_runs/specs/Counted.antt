@@ -4,7 +4,7 @@ use Rattle.words.specs.Choice.{pick}
 use Rattle.words.specs.Word.{bit}
 use Rattle.steps.specs.declared.Step.{Step}
 use Rattle.steps.specs.declared.Step.TheVariants.{Read, Write, Line}
-use Rattle.steps.specs.Refusals.{carriedOut}
+use Rattle.steps.specs.Refusals.{carried_out}
 use Rattle.aic_record.specs.declared.Aic.{Aic}
 use Rattle.aic_record.specs.Mode.{priority, edge}
 use Rattle.aic_record.specs.Sound.{protects}
@@ -15,7 +15,7 @@ use Rattle.aic.specs.Model.{step}
 
 -- the controller refuses nothing of the step (01, Numbers)
 unfoldable pub carried : Aic → Step → Bool
-carried s x = eqb (step s x).refusal carriedOut
+carried s x = eqb (step s x).refusal carried_out
 
 -- a read of IVR outside protect mode that is carried out (01, AIC, Normal side)
 unfoldable pub takes : Aic → Step → Bool
@@ -36,12 +36,12 @@ starts s x = (takes s x || begins s x) && ltb s.depth 8
 
 -- the source whose handler the step starts, 32 where it opens a mark or nothing: a read starts the candidate ahead of all others, a write in
 -- protect mode the source that is remembered (01, AIC, Normal side; 02, 9/12; 003, 27.7.3.1 and 27.7.5)
-unfoldable pub startedBy : Aic → Step → ℕ
-startedBy s x = pick (takes s x) (chosen s) (pick (begins s x && eqb s.seen.what 1) s.seen.source 32)
+unfoldable pub started_by : Aic → Step → ℕ
+started_by s x = pick (takes s x) (chosen s) (pick (begins s x && eqb s.seen.what 1) s.seen.source 32)
 
 -- and at which level: at its priority then, or at the level that is remembered (02, 9/12)
-unfoldable pub levelOf : Aic → Step → ℕ
-levelOf s x = pick (takes s x) (priority s (chosen s)) s.seen.level
+unfoldable pub level_of : Aic → Step → ℕ
+level_of s x = pick (takes s x) (priority s (chosen s)) s.seen.level
 
 -- source i is remembered; a source other than k is (02, 9/12)
 unfoldable pub recalls : ℕ → Aic → Bool
@@ -51,16 +51,16 @@ unfoldable pub carries : ℕ → Aic → Bool
 carries k s = eqb s.seen.what 1 && not (eqb k s.seen.source)
 
 -- a start of source i
-unfoldable pub startsOf : ℕ → Aic → Step → Bool
-startsOf i s x = eqb i (startedBy s x)
+unfoldable pub starts_of : ℕ → Aic → Step → Bool
+starts_of i s x = eqb i (started_by s x)
 
 -- a start of another source than k
-unfoldable pub startsOther : ℕ → Aic → Step → Bool
-startsOther k s x = ltb (startedBy s x) 32 && not (startsOf k s x)
+unfoldable pub starts_other : ℕ → Aic → Step → Bool
+starts_other k s x = ltb (started_by s x) 32 && not (starts_of k s x)
 
 -- a start of another source than k that does not pass a test
 unfoldable pub strays : (ℕ → Bool) → ℕ → Aic → Step → Bool
-strays t k s x = startsOther k s x && not (t (startedBy s x))
+strays t k s x = starts_other k s x && not (t (started_by s x))
 
 -- a close that finds an entry open, mark or handler: a write of EOICR, of any value (01, AIC, Normal side; 02, 3/12; 003, 27.8.15)
 unfoldable pub closes : Aic → Step → Bool

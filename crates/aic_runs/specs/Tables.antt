@@ -1,7 +1,7 @@
 -- What each count says of a step, what is gathered over a run, and the worked runs, down to offsets, bits and fields.
 use Rattle.std.specs.Prelude.{ℕ, suc, ◌+◌, ◌*◌, ◌^◌, ◌<◌, ◌≡◌, Bool, true, false, ◌&&◌, List, [], ◌∷◌, ◌++◌, ◌↔◌, ◌≢◌, ◌⊎◌, eqb}
 use Rattle.words.specs.Choice.{pick}
-use Rattle.words.specs.Counting.{one, sumBelow}
+use Rattle.words.specs.Counting.{one, sum_below}
 use Rattle.words.specs.Word.{bit}
 use Rattle.steps.specs.declared.Step.{Step}
 use Rattle.steps.specs.declared.Step.TheVariants.{Read, Write, Line}
@@ -13,9 +13,9 @@ use Rattle.aic_sources.specs.Fast.{fast}
 use Rattle.aic_sources.specs.Normal.{chosen}
 use Rattle.aic_registers.specs.Effects.{turns}
 use Rattle.aic.specs.Model.{step}
-use Rattle.aic_runs.specs.Counted.{starts, startedBy, levelOf, recalls, carries, startsOf, startsOther, strays, closes, edges, commands, steady, waits}
-use Rattle.aic_runs.specs.Runs.{run, count, always, EachStart, owed, received, sumOver}
-use Rattle.aic_runs.specs.Worked.{tower, crowded, outset, wait, stale, staleWait}
+use Rattle.aic_runs.specs.Counted.{starts, started_by, level_of, recalls, carries, starts_of, starts_other, strays, closes, edges, commands, steady, waits}
+use Rattle.aic_runs.specs.Runs.{run, count, always, EachStart, owed, received, sum_over}
+use Rattle.aic_runs.specs.Worked.{tower, crowded, outset, wait, stale, stale_wait}
 
 -- what a step x counts as in the record s that it meets; refused, it counts as nothing (demand 3; 01, AIC, Pending and Normal side)
 pub record Counts (s : Aic) (x : Step) : Type 0 where
@@ -25,24 +25,24 @@ pub record Counts (s : Aic) (x : Step) : Type 0 where
       ↔ ((((x ≡ Read 0x100) × (bit s.debug 0 ≡ false)) ⊎ ((v : ℕ) × (x ≡ Write 0x100 v) × (bit s.debug 0 ≡ true) × (s.seen.what ≢ 0)))
       × ((step s x).refusal ≡ 0) × (s.depth < 8))
   -- outside it is of the candidate ahead of all others, at its priority then; where a mark is opened the source is 32, which is none
-  pub startChosen : starts s x ≡ true → bit s.debug 0 ≡ false → (startedBy s x ≡ chosen s) × (levelOf s x ≡ priority s (chosen s))
+  pub start_chosen : starts s x ≡ true → bit s.debug 0 ≡ false → (started_by s x ≡ chosen s) × (level_of s x ≡ priority s (chosen s))
   -- in the mode it is of the source that is remembered, at the level that is remembered; where "none" is, it opens a mark
-  pub startSeen : starts s x ≡ true → bit s.debug 0 ≡ true → s.seen.what ≡ 1 → (startedBy s x ≡ s.seen.source) × (levelOf s x ≡ s.seen.level)
-  pub startMark : starts s x ≡ true → bit s.debug 0 ≡ true → s.seen.what ≢ 1 → startedBy s x ≡ 32
+  pub start_seen : starts s x ≡ true → bit s.debug 0 ≡ true → s.seen.what ≡ 1 → (started_by s x ≡ s.seen.source) × (level_of s x ≡ s.seen.level)
+  pub start_mark : starts s x ≡ true → bit s.debug 0 ≡ true → s.seen.what ≢ 1 → started_by s x ≡ 32
   -- and a step that is no start starts no source
-  pub startNone : starts s x ≡ false → startedBy s x ≡ 32
+  pub start_none : starts s x ≡ false → started_by s x ≡ 32
   -- source i is remembered, and a source other than k is (02, 9/12)
   pub recall : (i : ℕ) → (recalls i s ≡ true) ↔ ((s.seen.what ≡ 1) × (i ≡ s.seen.source))
   pub carry : (k : ℕ) → (carries k s ≡ true) ↔ ((s.seen.what ≡ 1) × (k ≢ s.seen.source))
   -- a start of source i, and of another than source k
-  pub start_of : (i : ℕ) → (startsOf i s x ≡ true) ↔ (i ≡ startedBy s x)
-  pub startOther : (k : ℕ) → (startsOther k s x ≡ true) ↔ ((startedBy s x < 32) × (k ≢ startedBy s x))
+  pub start_of : (i : ℕ) → (starts_of i s x ≡ true) ↔ (i ≡ started_by s x)
+  pub start_other : (k : ℕ) → (starts_other k s x ≡ true) ↔ ((started_by s x < 32) × (k ≢ started_by s x))
   -- and of one that does not pass a test
-  pub stray : (t : ℕ → Bool) (k : ℕ) → (strays t k s x ≡ true) ↔ ((startsOther k s x ≡ true) × (t (startedBy s x) ≡ false))
+  pub stray : (t : ℕ → Bool) (k : ℕ) → (strays t k s x ≡ true) ↔ ((starts_other k s x ≡ true) × (t (started_by s x) ≡ false))
   -- a close: a write of EOICR, of any value, that finds an entry open, mark or handler (02, 3/12; 003, 27.8.15)
   pub close : (closes s x ≡ true) ↔ ((v : ℕ) × (x ≡ Write 0x130 v) × ((step s x).refusal ≡ 0) × (s.depth ≢ 0))
   -- an edge of source i: its line turns active, and it is edge-triggered
-  pub edgeIn : (i : ℕ) → (edges i s x ≡ true)
+  pub edge_in : (i : ℕ) → (edges i s x ≡ true)
       ↔ ((l : ℕ) × (x ≡ Line i l) × ((step s x).refusal ≡ 0) × (turns s i (eqb l 1) ≡ true) × (edge s i ≡ true))
   -- a set command to source i: a write of the set register whose bit i is 1 (003, 27.8.14)
   pub command : (i : ℕ) → (commands i s x ≡ true) ↔ ((v : ℕ) × (x ≡ Write 0x12C v) × ((step s x).refusal ≡ 0) × (bit v i ≡ true))
@@ -55,41 +55,41 @@ pub record Counts (s : Aic) (x : Step) : Type 0 where
 
 -- what a run is, and what is gathered over it, each step in the record that it meets
 pub record Gathers : Type 1 where
-  pub runNone : (s : Aic) → run s [] ≡ s
-  pub runMore : (s : Aic) (x : Step) (xs : List Step) → run s (x ∷ xs) ≡ run (step s x).aic xs
+  pub run_none : (s : Aic) → run s [] ≡ s
+  pub run_more : (s : Aic) (x : Step) (xs : List Step) → run s (x ∷ xs) ≡ run (step s x).aic xs
   -- how many steps pass a test, and whether all do
-  pub countNone : (t : Aic → Step → Bool) (s : Aic) → count t s [] ≡ 0
-  pub countMore : (t : Aic → Step → Bool) (s : Aic) (x : Step) (xs : List Step) → count t s (x ∷ xs) ≡ one (t s x) + count t (step s x).aic xs
-  pub alwaysNone : (t : Aic → Step → Bool) (s : Aic) → always t s [] ≡ true
-  pub alwaysMore : (t : Aic → Step → Bool) (s : Aic) (x : Step) (xs : List Step) → always t s (x ∷ xs) ≡ (t s x && always t (step s x).aic xs)
+  pub count_none : (t : Aic → Step → Bool) (s : Aic) → count t s [] ≡ 0
+  pub count_more : (t : Aic → Step → Bool) (s : Aic) (x : Step) (xs : List Step) → count t s (x ∷ xs) ≡ one (t s x) + count t (step s x).aic xs
+  pub always_none : (t : Aic → Step → Bool) (s : Aic) → always t s [] ≡ true
+  pub always_more : (t : Aic → Step → Bool) (s : Aic) (x : Step) (xs : List Step) → always t s (x ∷ xs) ≡ (t s x && always t (step s x).aic xs)
   -- P holds of each source that is started
-  pub eachMore : (P : ℕ → Type 0) (s : Aic) (x : Step) (xs : List Step)
-      → EachStart P s (x ∷ xs) ↔ ((startedBy s x < 32 → P (startedBy s x)) × EachStart P (step s x).aic xs)
+  pub each_more : (P : ℕ → Type 0) (s : Aic) (x : Step) (xs : List Step)
+      → EachStart P s (x ∷ xs) ↔ ((started_by s x < 32 → P (started_by s x)) × EachStart P (step s x).aic xs)
   -- a source is owed one start while it is pending; it receives its edges and the set commands to it
-  pub owedIs : (s : Aic) (i : ℕ) → owed s i ≡ one (pending s i)
-  pub receivedIs : (i : ℕ) (s : Aic) (xs : List Step) → received i s xs ≡ count (edges i) s xs + count (commands i) s xs
+  pub owed_is : (s : Aic) (i : ℕ) → owed s i ≡ one (pending s i)
+  pub received_is : (i : ℕ) (s : Aic) (xs : List Step) → received i s xs ≡ count (edges i) s xs + count (commands i) s xs
   -- a sum over those of the 32 sources that pass a test
-  pub sum_is : (t : ℕ → Bool) (f : ℕ → ℕ) → sumOver t f ≡ sumBelow 32 (λ i. pick (t i) (f i) 0)
+  pub sum_is : (t : ℕ → Bool) (f : ℕ → ℕ) → sum_over t f ≡ sum_below 32 (λ i. pick (t i) (f i) 0)
 
 -- the four worked runs, step by step
 pub record Steps : Type 0 where
   -- source n + 1 is made edge-triggered at priority n (0x60 is type 3), enabled, has an edge and is started
-  pub towerNone : tower 0 ≡ []
-  pub towerMore : (n : ℕ) → tower (suc n)
+  pub tower_none : tower 0 ≡ []
+  pub tower_more : (n : ℕ) → tower (suc n)
       ≡ tower n ++ (Write ((n + 1) * 4) (0x60 + n) ∷ Write 0x120 (2 ^ (n + 1)) ∷ Line (n + 1) 1 ∷ Read 0x100 ∷ [])
   -- eight reads of IVR; then source 1 is made edge-triggered at priority 7, enabled, and has an edge
-  pub crowdedIs : crowded
+  pub crowded_is : crowded
       ≡ run (reset 0 0)
       (Read 0x100 ∷ Read 0x100 ∷ Read 0x100 ∷ Read 0x100 ∷ Read 0x100 ∷ Read 0x100 ∷ Read 0x100 ∷ Read 0x100 ∷ Write 0x04 0x67 ∷ Write 0x120 0x002 ∷ Line 1 1 ∷ [])
   -- sources 4, 6 and 9 are made edge-triggered at priorities 5, 4 and 3, and enabled; 4 and 9 have an edge
-  pub outsetIs : outset
+  pub outset_is : outset
       ≡ run (reset 0 0)
       (Write 0x10 0x65 ∷ Write 0x120 0x010 ∷ Write 0x18 0x64 ∷ Write 0x120 0x040 ∷ Write 0x24 0x63 ∷ Write 0x120 0x200 ∷ Line 4 1 ∷ Line 9 1 ∷ [])
-  pub waitIs : wait
+  pub wait_is : wait
       ≡ Read 0x100 ∷ Line 6 1 ∷ Line 6 1 ∷ Read 0x100 ∷ Write 0x130 0 ∷ Write 0x130 0 ∷ Read 0x100 ∷ Write 0x130 0 ∷ Write 0x130 0 ∷ Write 0x12C 0x50 ∷ Read 0x101
       ∷ Read 0x100 ∷ Write 0x130 0 ∷ Read 0x100 ∷ []
   -- sources 2 and 9 are made edge-triggered at priorities 1 and 3, and enabled; in protect mode source 2 has an edge and is looked at, then 9 has one
-  pub staleIs : stale
+  pub stale_is : stale
       ≡ run (reset 0 0)
       (Write 0x08 0x61 ∷ Write 0x120 0x004 ∷ Write 0x24 0x63 ∷ Write 0x120 0x200 ∷ Write 0x138 1 ∷ Line 2 1 ∷ Read 0x100 ∷ Line 9 1 ∷ [])
-  pub staleWaitIs : staleWait ≡ Write 0x100 0 ∷ Write 0x130 0 ∷ Read 0x100 ∷ Line 9 0 ∷ []
+  pub stale_wait_is : stale_wait ≡ Write 0x100 0 ∷ Write 0x130 0 ∷ Read 0x100 ∷ Line 9 0 ∷ []

@@ -1,27 +1,27 @@
 -- What is counted where sources ahead may be level-sensitive (02, 12/12), each step in the record that it meets.
 use Rattle.std.specs.Prelude.{ℕ, ◌+◌, ◌-◌, ◌<◌, ◌≡◌, Bool, true, not, ◌&&◌, ◌||◌, List, [], ◌∷◌, eqb, leb}
 use Rattle.words.specs.Choice.{pick}
-use Rattle.words.specs.Counting.{one, anyBelow}
+use Rattle.words.specs.Counting.{one, any_below}
 use Rattle.steps.specs.declared.Step.{Step}
 use Rattle.aic_record.specs.declared.Aic.{Aic}
 use Rattle.aic_record.specs.Mode.{priority, edge}
-use Rattle.aic_record.specs.Sound.{sourceAt, levelAt}
+use Rattle.aic_record.specs.Sound.{source_at, level_at}
 use Rattle.aic_sources.specs.Pending.{active, pending}
 use Rattle.aic.specs.Model.{step}
 use Rattle.aic_runs.specs.Counted.{closes, rises, edges, commands}
 use Rattle.aic_runs.specs.Runs.{always}
 
 -- a close of a handler of source i; an entry of source 0 is a mark, and no handler (02, 12/12 and 3/12)
-unfoldable pub closesOf : ℕ → Aic → Step → Bool
-closesOf i s x = closes s x && not (eqb i 0) && eqb (sourceAt s (s.depth - 1)) i
+unfoldable pub closes_of : ℕ → Aic → Step → Bool
+closes_of i s x = closes s x && not (eqb i 0) && eqb (source_at s (s.depth - 1)) i
 
 -- source i is level-sensitive, and its line is active at the moment one of its handlers is closed (02, 12/12)
-unfoldable pub closesHot : ℕ → Aic → Step → Bool
-closesHot i s x = closesOf i s x && not (edge s i) && active s i
+unfoldable pub closes_hot : ℕ → Aic → Step → Bool
+closes_hot i s x = closes_of i s x && not (edge s i) && active s i
 
 -- the step closes no handler of source i so
 unfoldable pub cool : ℕ → Aic → Step → Bool
-cool i s x = not (closesHot i s x)
+cool i s x = not (closes_hot i s x)
 
 -- of every source that passes a test: if it is level-sensitive, its line is inactive at the moment one of its handlers is closed (02, 12/12)
 abbrev pub Cool : Aic → (ℕ → Bool) → List Step → Type 0
@@ -38,7 +38,7 @@ gained i s (x ∷ xs) = gains i s x + gained i (step s x).aic xs
 
 -- a handler of source i is open at its priority or above: source i cannot be started over it (01, AIC, Normal side; 003, 27.7.3.1)
 unfoldable pub held : Aic → ℕ → Bool
-held s i = not (eqb i 0) && anyBelow s.depth (λ d. eqb (sourceAt s d) i && leb (priority s i) (levelAt s d))
+held s i = not (eqb i 0) && any_below s.depth (λ d. eqb (source_at s d) i && leb (priority s i) (level_at s d))
 
 -- what source i is due: one start while it is pending, a level-sensitive one only while it is not held; closed with its line inactive, a handler of
 -- it leaves nothing to start (01, AIC, Pending; 02, 12/12)

@@ -42,5 +42,5 @@ unfoldable pub stale : Aic
 stale = run (reset 0 0) (ready 2 1 ++ (ready 9 3 ++ (Write dcr 1 ∷ Line 2 1 ∷ Read ivr ∷ Line 9 1 ∷ [])))
 
 -- the write starts source 2, though 9 is ahead of it; after its close 9 is looked at, and waits on: the edge that it remembers stays when its line falls
-unfoldable pub staleWait : List Step
-staleWait = Write ivr 0 ∷ Write eoicr 0 ∷ Read ivr ∷ Line 9 0 ∷ []
+unfoldable pub stale_wait : List Step
+stale_wait = Write ivr 0 ∷ Write eoicr 0 ∷ Read ivr ∷ Line 9 0 ∷ []

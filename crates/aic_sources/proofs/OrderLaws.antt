@@ -7,13 +7,13 @@ use native.Mathlib.Omega.{arith}
 use native.Mathlib.Decide.{ℕ_discrete, dec_lt}
 use lib.Dec.{eqb, ltb}
 use borrow.Author.Tests.{ltb-true, ltb-false}
-use Rattle.words.specs.Counting.{lowestBelow}
+use Rattle.words.specs.Counting.{lowest_below}
 use Rattle.words.proofs.TruthLaws.{and_left, and_right, and_both, clash, told}
-use Rattle.words.proofs.CountingLaws.{any_some, some-any, any-fails, Lowest, lowest-found}
+use Rattle.words.proofs.CountingLaws.{any_some, some_any, any_fails, Lowest, lowest_found}
 use Rattle.words.proofs.OrderLaws.{lower-is, is-lower, Ranks, never, through, either, one_way, others-is, is-others}
 use Rattle.aic_record.specs.declared.Aic.{Aic}
 use Rattle.aic_record.specs.Mode.{priority}
-use Rattle.aic_record.specs.Sound.{noLevel, levelBelow, over}
+use Rattle.aic_record.specs.Sound.{no_level, level_below, over}
 use Rattle.aic_sources.specs.Normal.{waiting, above, candidate, ahead, foremost, candidates, chosen}
 
 -- ---- "ahead" between numbers
@@ -47,14 +47,14 @@ turned (inr (e, l)) = inr (sym e, l)
 ranks : (s : Aic) → Ranks (priority s) (ahead s)
 ranks s = record { is = λ a b h. turned (ahead-is s a b h); so = λ a b h. is-ahead s a b (turned h) }
 
-pub ahead-irreflexive : (s : Aic) (a : ℕ) → ahead s a a ≡ false
-ahead-irreflexive s = never (ranks s)
+pub ahead_irreflexive : (s : Aic) (a : ℕ) → ahead s a a ≡ false
+ahead_irreflexive s = never (ranks s)
 
-pub ahead-transitive : (s : Aic) (a b c : ℕ) → ahead s a b ≡ true → ahead s b c ≡ true → ahead s a c ≡ true
-ahead-transitive s = through (ranks s)
+pub ahead_transitive : (s : Aic) (a b c : ℕ) → ahead s a b ≡ true → ahead s b c ≡ true → ahead s a c ≡ true
+ahead_transitive s = through (ranks s)
 
-pub ahead-total : (s : Aic) (a b : ℕ) → a ≢ b → (ahead s a b ≡ true) ⊎ (ahead s b a ≡ true)
-ahead-total s = either (ranks s)
+pub ahead_total : (s : Aic) (a b : ℕ) → a ≢ b → (ahead s a b ≡ true) ⊎ (ahead s b a ≡ true)
+ahead_total s = either (ranks s)
 
 -- ---- the candidate ahead of all others
 
@@ -104,7 +104,7 @@ module _ (s : Aic) (n : ℕ) where
 
   passes : {j : ℕ} → Foremost s n j → ahead s n j ≡ true → (i : ℕ) → i < n → candidate s i ≡ true → Dec (i ≡ j) → ahead s n i ≡ true
   passes f a i l c (yes e) = rw e a
-  passes {j} f a i l c (no d) = ahead-transitive s n j i a (f.first i l c d)
+  passes {j} f a i l c (no d) = ahead_transitive s n j i a (f.first i l c d)
 
 -- there is one, where there is a candidate
 leading : (s : Aic) (n : ℕ) → ((i : ℕ) → i < n → candidate s i ≡ false) ⊎ ((j : ℕ) × Foremost s n j)
@@ -119,28 +119,28 @@ leading s (suc n) = go (leading s n) (told (candidate s n))
     go (inr (j, f)) (inl c) =
         ⊎_elim (λ (a : ahead s j n ≡ true). inr (j, stays-first s n f (λ _. a)))
         (λ (a : ahead s n j ≡ true). inr (n, comes-first s n c (λ i l d. passes s n f a i l d (ℕ_discrete i j))))
-        (ahead-total s j n (omega (arith, f.below)))
+        (ahead_total s j n (omega (arith, f.below)))
 
 -- with a candidate, the chosen source is the one ahead of all others
 pub chosen_is : (s : Aic) → candidates s ≡ true → Foremost s 32 (chosen s)
 unfolding candidates chosen
 chosen_is s h = go (leading s 32)
   where
-    low : Lowest (foremost s) 32 (lowestBelow 32 (foremost s))
-    low = lowest-found 32 (foremost s)
+    low : Lowest (foremost s) 32 (lowest_below 32 (foremost s))
+    low = lowest_found 32 (foremost s)
 
-    go : ((i : ℕ) → i < 32 → candidate s i ≡ false) ⊎ ((j : ℕ) × Foremost s 32 j) → Foremost s 32 (lowestBelow 32 (foremost s))
+    go : ((i : ℕ) → i < 32 → candidate s i ≡ false) ⊎ ((j : ℕ) × Foremost s 32 j) → Foremost s 32 (lowest_below 32 (foremost s))
     go (inl e) = let r = any_some 32 (candidate s) h in clash r.2 (e r.0 r.1)
-    go (inr (j, f)) = more (dec_lt (lowestBelow 32 (foremost s)) 32)
+    go (inr (j, f)) = more (dec_lt (lowest_below 32 (foremost s)) 32)
       where
-        more : Dec (lowestBelow 32 (foremost s) < 32) → Foremost s 32 (lowestBelow 32 (foremost s))
+        more : Dec (lowest_below 32 (foremost s) < 32) → Foremost s 32 (lowest_below 32 (foremost s))
         more (yes l) = foremost-is s _ l (low.found l)
         more (no l) = clash (is-foremost s j f) (low.before j (omega (arith, f.below)))
 
 -- and no other source is
 pub chosen-one : (s : Aic) (j : ℕ) → Foremost s 32 j → chosen s ≡ j
 unfolding candidates
-chosen-one s j f = go (chosen_is s (some-any 32 (candidate s) j f.below f.fit)) (ℕ_discrete (chosen s) j)
+chosen-one s j f = go (chosen_is s (some_any 32 (candidate s) j f.below f.fit)) (ℕ_discrete (chosen s) j)
   where
     go : Foremost s 32 (chosen s) → Dec (chosen s ≡ j) → chosen s ≡ j
     go g (yes e) = e
@@ -150,22 +150,22 @@ chosen-one s j f = go (chosen_is s (some-any 32 (candidate s) j f.below f.fit)) 
 -- without a candidate it is 32
 pub chosen_none : (s : Aic) → candidates s ≡ false → chosen s ≡ 32
 unfolding candidates chosen foremost
-chosen_none s h = go (dec_lt (lowestBelow 32 (foremost s)) 32)
+chosen_none s h = go (dec_lt (lowest_below 32 (foremost s)) 32)
   where
-    low : Lowest (foremost s) 32 (lowestBelow 32 (foremost s))
-    low = lowest-found 32 (foremost s)
+    low : Lowest (foremost s) 32 (lowest_below 32 (foremost s))
+    low = lowest_found 32 (foremost s)
 
-    go : Dec (lowestBelow 32 (foremost s) < 32) → lowestBelow 32 (foremost s) ≡ 32
-    go (yes l) = clash (and_left (candidate s _) _ (low.found l)) (any-fails 32 (candidate s) h _ l)
+    go : Dec (lowest_below 32 (foremost s) < 32) → lowest_below 32 (foremost s) ≡ 32
+    go (yes l) = clash (and_left (candidate s _) _ (low.found l)) (any_fails 32 (candidate s) h _ l)
     go (no l) = omega (arith, low.within)
 
 -- ---- a source that waits, candidate or not, is chosen or the chosen one is ahead of it
 
-above-lt : (s : Aic) (p q : ℕ) → above s p ≡ true → above s q ≡ false → q < p
+above_lt : (s : Aic) (p q : ℕ) → above s p ≡ true → above s q ≡ false → q < p
 unfolding above over
-above-lt s p q = go (ltb s.depth 8) (eqb (levelBelow s.level s.depth) noLevel)
+above_lt s p q = go (ltb s.depth 8) (eqb (level_below s.level s.depth) no_level)
   where
-    go : (r t : Bool) → (r && (t || ltb (levelBelow s.level s.depth) p)) ≡ true → (r && (t || ltb (levelBelow s.level s.depth) q)) ≡ false → q < p
+    go : (r t : Bool) → (r && (t || ltb (level_below s.level s.depth) p)) ≡ true → (r && (t || ltb (level_below s.level s.depth) q)) ≡ false → q < p
     go true true h k = clash refl k
     go true false h k = omega (arith, ltb-true, ltb-false)
     go false t h k = clash h refl
@@ -177,4 +177,4 @@ chosen-ahead s k l w h d = go (chosen_is s h) (told (above s (priority s k)))
     go : Foremost s 32 (chosen s) → (above s (priority s k) ≡ true) ⊎ (above s (priority s k) ≡ false) → ahead s (chosen s) k ≡ true
     go f (inl a) = f.first k l (and_both w a) (λ e. d (sym e))
     go f (inr a) =
-        is-ahead s (chosen s) k (inl (above-lt s (priority s (chosen s)) (priority s k) (and_right (waiting s (chosen s)) _ f.fit) a))
+        is-ahead s (chosen s) k (inl (above_lt s (priority s (chosen s)) (priority s k) (and_right (waiting s (chosen s)) _ f.fit) a))

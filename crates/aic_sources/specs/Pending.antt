@@ -6,16 +6,16 @@ use Rattle.aic_record.specs.declared.Aic.{Aic}
 use Rattle.aic_record.specs.Mode.{kind, edge}
 
 -- low is the active level of an external source of type 0 or 1, high that of any other (01, AIC, Mode; 003, 27.8.3)
-unfoldable pub activeLow : Aic → ℕ → Bool
-activeLow s k = bit s.external k && ltb (kind s k) 2
+unfoldable pub active_low : Aic → ℕ → Bool
+active_low s k = bit s.external k && ltb (kind s k) 2
 
 -- a line that is high, or low, is at the active level of source k
-unfoldable pub activeAt : Aic → ℕ → Bool → Bool
-activeAt s k high = pick (activeLow s k) (not high) high
+unfoldable pub active_at : Aic → ℕ → Bool → Bool
+active_at s k high = pick (active_low s k) (not high) high
 
 -- the line of source k is at its active level
 unfoldable pub active : Aic → ℕ → Bool
-active s k = activeAt s k (bit s.lines k)
+active s k = active_at s k (bit s.lines k)
 
 -- an edge source while its memory is set, a level source while its line is at the active level (01, AIC, Pending)
 unfoldable pub pending : Aic → ℕ → Bool
@@ -26,9 +26,9 @@ unfoldable pub asking : Aic → ℕ → Bool
 asking s k = pending s k && bit s.enabled k
 
 -- IPR: the word of the pending sources, enabled or not (003, 27.8.8)
-unfoldable pub pendingWord : Aic → ℕ
-pendingWord s = word_of 32 (pending s)
+unfoldable pub pending_word : Aic → ℕ
+pending_word s = word_of 32 (pending s)
 
 -- the word of the edge-triggered sources
-unfoldable pub edgeWord : Aic → ℕ
-edgeWord s = word_of 32 (edge s)
+unfoldable pub edge_word : Aic → ℕ
+edge_word s = word_of 32 (edge s)

@@ -3,10 +3,10 @@ ghost use Rattle.std.specs.Prelude.{◌≡◌, not, ◌+◌, ◌*◌};
 ghost use Rattle.words.specs.Choice.{pick};
 ghost use Rattle.words.specs.Counting.{one};
 ghost use Rattle.words.specs.Word.{bit, word_of};
-ghost use Rattle.aic_sources.specs.Pending.{activeAt, asking, pendingWord, edgeWord};
-ghost use Rattle.aic_sources.specs.Fast.{fast, fastAsks, fiq};
+ghost use Rattle.aic_sources.specs.Pending.{active_at, asking, pending_word, edge_word};
+ghost use Rattle.aic_sources.specs.Fast.{fast, fast_asks, fiq};
 ghost use Rattle.aic_sources.specs.Normal.{chosen, irq};
-ghost use Rattle.aic_sources.specs.Search.{modeWord, leastOf, Found};
+ghost use Rattle.aic_sources.specs.Search.{mode_word, least_of, Found};
 
 use aic_record::Aic;
 
@@ -21,7 +21,7 @@ fn mode_bit(mode: u8, j: u32) -> bool
 
 // Bit j of each of the 32 modes.
 pub fn mode_word(mode: &[u8; 32], j: u32) -> u32
-    ensures { result ≡ modeWord mode.now j }
+    ensures { result ≡ mode_word mode.now j }
 {
     let mut w: u32 = 0;
     let mut k: u32 = 0;
@@ -49,14 +49,14 @@ pub fn active_word(low: u32, lines: u32) -> u32
 
 // The edge-triggered sources: bit 5 of a mode tells them.
 pub fn edge_word(s: Aic) -> u32
-    ensures { result ≡ edgeWord s }
+    ensures { result ≡ edge_word s }
 {
     mode_word(&s.mode, 5)
 }
 
 // The pending sources. Bit 6 of a mode tells the types whose active level is high even of an external source.
 pub fn pending_word(s: Aic) -> u32
-    ensures { result ≡ pendingWord s }
+    ensures { result ≡ pending_word s }
 {
     let low = words::drop_bits(s.external, mode_word(&s.mode, 6));
     blend(edge_word(s), s.memory, active_word(low, s.lines))
@@ -64,7 +64,7 @@ pub fn pending_word(s: Aic) -> u32
 
 // Whether a line that is high, or low, is at the active level of source k.
 pub fn is_active_at(s: Aic, k: u32, high: bool) -> bool
-    ensures { result ≡ activeAt s k high }
+    ensures { result ≡ active_at s k high }
 {
     let kind = aic_record::type_of(aic_record::mode_at(s, k) as u32);
     let low = words::has(s.external, k) & (kind < 2);
@@ -124,14 +124,14 @@ fn search(waiting: u32, mode: &[u8; 32], least: u32) -> u32
 // Whether some fast source is pending and enabled.
 fn fast_among(s: Aic, asks: u32) -> bool
     requires { asks ≡ word_of 32 (asking s) }
-    ensures { result ≡ fastAsks s }
+    ensures { result ≡ fast_asks s }
 {
     words::meet(fast_word(s), asks) != 0
 }
 
 // The least priority that may start: with eight entries open 8, which no source has.
 fn least_of(s: Aic) -> u32
-    ensures { result ≡ leastOf s }
+    ensures { result ≡ least_of s }
 {
     if 8 <= s.depth {
         return 8;
@@ -151,7 +151,7 @@ fn chosen_among(s: Aic, asks: u32) -> u32
 
 // Whether some fast source is pending and enabled.
 pub fn fast_asks(s: Aic) -> bool
-    ensures { result ≡ fastAsks s }
+    ensures { result ≡ fast_asks s }
 {
     fast_among(s, asking_word(s))
 }

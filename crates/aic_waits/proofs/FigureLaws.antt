@@ -8,16 +8,16 @@ use borrow.Author.Tests.{le-leb, lt-leb, ne_eqb}
 use Rattle.words.specs.Choice.{pick}
 use Rattle.words.specs.Counting.{one}
 use Rattle.words.specs.Word.{word_of, either, both, without}
-use Rattle.words.proofs.WordLaws.{bit-wordOf, wordOf-same}
+use Rattle.words.proofs.WordLaws.{bit-word_of, word_of-same}
 use Rattle.aic_record.specs.declared.Aic.{Aic}
-use Rattle.aic_record.specs.Sound.{sourceAt}
-use Rattle.aic_sources.specs.Pending.{asking, pendingWord}
+use Rattle.aic_record.specs.Sound.{source_at}
+use Rattle.aic_sources.specs.Pending.{asking, pending_word}
 use Rattle.aic_sources.specs.Fast.{fast}
 use Rattle.aic_sources.specs.Normal.{waiting}
 use Rattle.aic_sources.proofs.PendingLaws.{fast-by}
 use Rattle.aic_sources.proofs.SideLaws.{asks-from}
-use Rattle.aic_waits.specs.Figures.{waitNext}
-use Rattle.aic_waits.specs.Following.{capped, startedFrom}
+use Rattle.aic_waits.specs.Figures.{wait_next}
+use Rattle.aic_waits.specs.Following.{capped, started_from}
 
 pub capped_is : (n : ℕ) → n ≤ 4294967295 → n ≡ capped n
 unfolding capped pick
@@ -37,40 +37,40 @@ more-none n t l e = let h : n ≡ n + one t = rw e (omega arith) in rw (sym h) (
 
 -- ---- how it stands with a source
 
-pub wait-ended : (w : ℕ) (waits own other : Bool) → not waits ≡ true → ◌≡◌ {A = ℕ} 0 (capped (waitNext w waits own other))
-unfolding waitNext capped pick
+pub wait-ended : (w : ℕ) (waits own other : Bool) → not waits ≡ true → ◌≡◌ {A = ℕ} 0 (capped (wait_next w waits own other))
+unfolding wait_next capped pick
 wait-ended w waits own other e = rw e
 
-pub wait-started : (w : ℕ) (waits own other : Bool) → not waits ≡ false → own ≡ true → ◌≡◌ {A = ℕ} 1 (capped (waitNext w waits own other))
-unfolding waitNext capped pick
-wait-started w waits own other e f = rw (e, f)
+pub wait_started : (w : ℕ) (waits own other : Bool) → not waits ≡ false → own ≡ true → ◌≡◌ {A = ℕ} 1 (capped (wait_next w waits own other))
+unfolding wait_next capped pick
+wait_started w waits own other e f = rw (e, f)
 
-pub wait-begun : (w : ℕ) (waits own other : Bool) → not waits ≡ false → own ≡ false → w ≡ 0 → ◌≡◌ {A = ℕ} 2 (capped (waitNext w waits own other))
-unfolding waitNext capped pick
+pub wait-begun : (w : ℕ) (waits own other : Bool) → not waits ≡ false → own ≡ false → w ≡ 0 → ◌≡◌ {A = ℕ} 2 (capped (wait_next w waits own other))
+unfolding wait_next capped pick
 wait-begun w waits own other e f z = rw (e, f, z)
 
-pub wait-on : (w : ℕ) (waits own other : Bool) (r : ℕ) → not waits ≡ false → own ≡ false → (w ≡ 0 → ⊥) → r ≡ capped (w + one (ltb 1 w && other)) → r ≡ capped (waitNext w waits own other)
-unfolding waitNext pick
-wait-on w waits own other r e f z g = rw (e, f, ne_eqb w 0 z) g
+pub wait_on : (w : ℕ) (waits own other : Bool) (r : ℕ) → not waits ≡ false → own ≡ false → (w ≡ 0 → ⊥) → r ≡ capped (w + one (ltb 1 w && other)) → r ≡ capped (wait_next w waits own other)
+unfolding wait_next pick
+wait_on w waits own other r e f z g = rw (e, f, ne_eqb w 0 z) g
 
 -- ---- words
 
-pub waits-from : (s : Aic) (p a f r : ℕ) → p ≡ pendingWord s → a ≡ both p s.enabled → f ≡ either 1 s.forced → r ≡ without a f → r ≡ word_of 32 (waiting s)
+pub waits-from : (s : Aic) (p a f r : ℕ) → p ≡ pending_word s → a ≡ both p s.enabled → f ≡ either 1 s.forced → r ≡ without a f → r ≡ word_of 32 (waiting s)
 unfolding waiting without
 waits-from s p a f r e g h i =
     i ∙ ap₂ without (asks-from s p a e g) (h ∙ fast-by s)
-    ∙ wordOf-same 32 _ (waiting s) (λ k l. ap₂ (λ (x y : Bool). x && not y) (bit-wordOf 32 (asking s) k l) (bit-wordOf 32 (fast s) k l))
+    ∙ word_of-same 32 _ (waiting s) (λ k l. ap₂ (λ (x y : Bool). x && not y) (bit-word_of 32 (asking s) k l) (bit-word_of 32 (fast s) k l))
 
 -- ---- what the entries tell
 
-pub none_more : (d : ℕ) (t : Aic) → t.depth ≤ d → 32 ≡ startedFrom d t
-unfolding startedFrom pick
+pub none_more : (d : ℕ) (t : Aic) → t.depth ≤ d → 32 ≡ started_from d t
+unfolding started_from pick
 none_more d t l = rw (le-leb t.depth d l)
 
-pub mark-more : (d : ℕ) (t : Aic) (k : ℕ) → d < t.depth → k ≡ sourceAt t d → k ≡ 0 → 32 ≡ startedFrom d t
-unfolding startedFrom pick
+pub mark-more : (d : ℕ) (t : Aic) (k : ℕ) → d < t.depth → k ≡ source_at t d → k ≡ 0 → 32 ≡ started_from d t
+unfolding started_from pick
 mark-more d t k l e z = rw (lt-leb t.depth d l, sym e, z)
 
-pub some_more : (d : ℕ) (t : Aic) (k : ℕ) → d < t.depth → k ≡ sourceAt t d → (k ≡ 0 → ⊥) → k ≡ startedFrom d t
-unfolding startedFrom pick
+pub some_more : (d : ℕ) (t : Aic) (k : ℕ) → d < t.depth → k ≡ source_at t d → (k ≡ 0 → ⊥) → k ≡ started_from d t
+unfolding started_from pick
 some_more d t k l e z = rw (lt-leb t.depth d l, sym e, ne_eqb k 0 z)

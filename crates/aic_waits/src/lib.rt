@@ -4,15 +4,15 @@ ghost use Rattle.std.specs.Prelude.{◌≡◌, ◌+◌, ◌<◌};
 ghost use Rattle.words.specs.Counting.{one};
 ghost use Rattle.words.specs.Word.{word_of};
 ghost use Rattle.aic_sources.specs.Normal.{waiting};
-ghost use Rattle.aic_waits.specs.Figures.{waitNext};
-ghost use Rattle.aic_waits.specs.Following.{capped, startedFrom, standsBy};
+ghost use Rattle.aic_waits.specs.Figures.{wait_next};
+ghost use Rattle.aic_waits.specs.Following.{capped, started_from, stands_by};
 
 use aic_record::Aic;
 
 // How it stands with source i after a step, by how it stood, from the record after it and how many entries were open before it.
 pub fn stands(w: u32, i: u32, before: u32, t: Aic) -> u32
     requires { i < 32 }
-    ensures { result ≡ standsBy (startedFrom before t) t w i }
+    ensures { result ≡ stands_by (started_from before t) t w i }
 {
     let by = started_from(before, t);
     let own = i == by;
@@ -23,7 +23,7 @@ pub fn stands(w: u32, i: u32, before: u32, t: Aic) -> u32
 
 // The source whose handler was opened since `before` entries were open, 32 if none was.
 fn started_from(before: u32, t: Aic) -> u32
-    ensures { result ≡ startedFrom before t }
+    ensures { result ≡ started_from before t }
 {
     if t.depth <= before {
         return 32;
@@ -45,7 +45,7 @@ fn waiting_word(s: Aic) -> u32
 
 // How it stands with a source after a step: whether it is pending, enabled and not fast then, and whether the step started it, or another.
 fn wait_next(w: u32, waits: bool, own: bool, other: bool) -> u32
-    ensures { result ≡ capped (waitNext w waits own other) }
+    ensures { result ≡ capped (wait_next w waits own other) }
 {
     if !waits {
         return 0;

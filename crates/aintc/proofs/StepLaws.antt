@@ -6,9 +6,9 @@ use Rattle.rooms.specs.Reply.{Reply}
 use Rattle.aintc_record.specs.declared.Aintc.{Aintc}
 use Rattle.aintc_registers.specs.declared.Answer.{Answer}
 use Rattle.aintc_registers.specs.Model.{step}
-use Rattle.aintc_room.specs.Reply.{replyOf}
+use Rattle.aintc_room.specs.Reply.{reply_of}
 
-pub answer-told : (s : Aintc) (p : ℕ) (x : Step) (n v : ℕ) {q : Reply} (t : Aintc) → q ≡ replyOf (step s p x) → n ≡ q.0 → v ≡ q.1 → t ≡ (step s p x).aintc
+pub answer-told : (s : Aintc) (p : ℕ) (x : Step) (n v : ℕ) {q : Reply} (t : Aintc) → q ≡ reply_of (step s p x) → n ≡ q.0 → v ≡ q.1 → t ≡ (step s p x).aintc
     → ◌≡◌ {A = Answer} (record { refusal = n; value = v; aintc = t }) (step s p x)
 answer-told s p x n v t e f g i =
     ap (λ (a : Aintc). record { refusal = n; value = v; aintc = a }) i

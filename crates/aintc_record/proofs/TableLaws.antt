@@ -5,5 +5,5 @@ use Prim.Native.Nat.{ℕ, ◌≤◌}
 use native.Mathlib.Omega.{arith}
 use lib.ListN.{length, get_or, get_or-eq_default}
 
-pub past-getD : (l : List ℕ) (n i : ℕ) → length l ≡ n → n ≤ i → ◌≡◌ {A = ℕ} 0 (get_or l i 0)
-past-getD l n i e h = sym (get_or-eq_default l 0 (omega arith))
+pub past_get_d : (l : List ℕ) (n i : ℕ) → length l ≡ n → n ≤ i → ◌≡◌ {A = ℕ} 0 (get_or l i 0)
+past_get_d l n i e h = sym (get_or-eq_default l 0 (omega arith))

@@ -5,44 +5,44 @@ use Rattle.aintc_record.specs.declared.Aintc.{Aintc}
 use Rattle.aintc_record.specs.declared.Chosen.{Chosen}
 
 -- the lines at other levels (000, 4.5.12)
-abbrev pub withLines : Aintc → List ℕ → Aintc
-withLines s ws = record { lines = ws; soft = s.soft; masks = s.masks; routes = s.routes; threshold = s.threshold; revision = s.revision; guarded = s.guarded; autoidle = s.autoidle; turbo = s.turbo; funcidle = s.funcidle; irq = s.irq; fiq = s.fiq }
+abbrev pub with_lines : Aintc → List ℕ → Aintc
+with_lines s ws = record { lines = ws; soft = s.soft; masks = s.masks; routes = s.routes; threshold = s.threshold; revision = s.revision; guarded = s.guarded; autoidle = s.autoidle; turbo = s.turbo; funcidle = s.funcidle; irq = s.irq; fiq = s.fiq }
 
 -- other soft interrupts (000, 4.5.16)
-abbrev pub withSoft : Aintc → List ℕ → Aintc
-withSoft s ws = record { lines = s.lines; soft = ws; masks = s.masks; routes = s.routes; threshold = s.threshold; revision = s.revision; guarded = s.guarded; autoidle = s.autoidle; turbo = s.turbo; funcidle = s.funcidle; irq = s.irq; fiq = s.fiq }
+abbrev pub with_soft : Aintc → List ℕ → Aintc
+with_soft s ws = record { lines = s.lines; soft = ws; masks = s.masks; routes = s.routes; threshold = s.threshold; revision = s.revision; guarded = s.guarded; autoidle = s.autoidle; turbo = s.turbo; funcidle = s.funcidle; irq = s.irq; fiq = s.fiq }
 
 -- other masks (000, 4.5.13)
-abbrev pub withMasks : Aintc → List ℕ → Aintc
-withMasks s ws = record { lines = s.lines; soft = s.soft; masks = ws; routes = s.routes; threshold = s.threshold; revision = s.revision; guarded = s.guarded; autoidle = s.autoidle; turbo = s.turbo; funcidle = s.funcidle; irq = s.irq; fiq = s.fiq }
+abbrev pub with_masks : Aintc → List ℕ → Aintc
+with_masks s ws = record { lines = s.lines; soft = s.soft; masks = ws; routes = s.routes; threshold = s.threshold; revision = s.revision; guarded = s.guarded; autoidle = s.autoidle; turbo = s.turbo; funcidle = s.funcidle; irq = s.irq; fiq = s.fiq }
 
 -- other routes (000, 4.5.20)
-abbrev pub withRoutes : Aintc → List ℕ → Aintc
-withRoutes s bs = record { lines = s.lines; soft = s.soft; masks = s.masks; routes = bs; threshold = s.threshold; revision = s.revision; guarded = s.guarded; autoidle = s.autoidle; turbo = s.turbo; funcidle = s.funcidle; irq = s.irq; fiq = s.fiq }
+abbrev pub with_routes : Aintc → List ℕ → Aintc
+with_routes s bs = record { lines = s.lines; soft = s.soft; masks = s.masks; routes = bs; threshold = s.threshold; revision = s.revision; guarded = s.guarded; autoidle = s.autoidle; turbo = s.turbo; funcidle = s.funcidle; irq = s.irq; fiq = s.fiq }
 
 -- another threshold (000, 4.5.11)
-abbrev pub withThreshold : Aintc → ℕ → Aintc
-withThreshold s v = record { lines = s.lines; soft = s.soft; masks = s.masks; routes = s.routes; threshold = v; revision = s.revision; guarded = s.guarded; autoidle = s.autoidle; turbo = s.turbo; funcidle = s.funcidle; irq = s.irq; fiq = s.fiq }
+abbrev pub with_threshold : Aintc → ℕ → Aintc
+with_threshold s v = record { lines = s.lines; soft = s.soft; masks = s.masks; routes = s.routes; threshold = v; revision = s.revision; guarded = s.guarded; autoidle = s.autoidle; turbo = s.turbo; funcidle = s.funcidle; irq = s.irq; fiq = s.fiq }
 
 -- another revision code (000, 4.5.1)
-abbrev pub withRevision : Aintc → ℕ → Aintc
-withRevision s v = record { lines = s.lines; soft = s.soft; masks = s.masks; routes = s.routes; threshold = s.threshold; revision = v; guarded = s.guarded; autoidle = s.autoidle; turbo = s.turbo; funcidle = s.funcidle; irq = s.irq; fiq = s.fiq }
+abbrev pub with_revision : Aintc → ℕ → Aintc
+with_revision s v = record { lines = s.lines; soft = s.soft; masks = s.masks; routes = s.routes; threshold = s.threshold; revision = v; guarded = s.guarded; autoidle = s.autoidle; turbo = s.turbo; funcidle = s.funcidle; irq = s.irq; fiq = s.fiq }
 
 -- unprivileged accesses barred or not (000, 4.5.7)
-abbrev pub withGuarded : Aintc → Bool → Aintc
-withGuarded s t = record { lines = s.lines; soft = s.soft; masks = s.masks; routes = s.routes; threshold = s.threshold; revision = s.revision; guarded = t; autoidle = s.autoidle; turbo = s.turbo; funcidle = s.funcidle; irq = s.irq; fiq = s.fiq }
+abbrev pub with_guarded : Aintc → Bool → Aintc
+with_guarded s t = record { lines = s.lines; soft = s.soft; masks = s.masks; routes = s.routes; threshold = s.threshold; revision = s.revision; guarded = t; autoidle = s.autoidle; turbo = s.turbo; funcidle = s.funcidle; irq = s.irq; fiq = s.fiq }
 
 -- another AUTOIDLE: kept, no effect (000, 4.5.2)
-abbrev pub withAutoidle : Aintc → Bool → Aintc
-withAutoidle s t = record { lines = s.lines; soft = s.soft; masks = s.masks; routes = s.routes; threshold = s.threshold; revision = s.revision; guarded = s.guarded; autoidle = t; turbo = s.turbo; funcidle = s.funcidle; irq = s.irq; fiq = s.fiq }
+abbrev pub with_autoidle : Aintc → Bool → Aintc
+with_autoidle s t = record { lines = s.lines; soft = s.soft; masks = s.masks; routes = s.routes; threshold = s.threshold; revision = s.revision; guarded = s.guarded; autoidle = t; turbo = s.turbo; funcidle = s.funcidle; irq = s.irq; fiq = s.fiq }
 
 -- another TURBO and another FUNCIDLE: kept, no effect (000, 4.5.8)
-abbrev pub withIdle : Aintc → Bool → Bool → Aintc
-withIdle s t u = record { lines = s.lines; soft = s.soft; masks = s.masks; routes = s.routes; threshold = s.threshold; revision = s.revision; guarded = s.guarded; autoidle = s.autoidle; turbo = t; funcidle = u; irq = s.irq; fiq = s.fiq }
+abbrev pub with_idle : Aintc → Bool → Bool → Aintc
+with_idle s t u = record { lines = s.lines; soft = s.soft; masks = s.masks; routes = s.routes; threshold = s.threshold; revision = s.revision; guarded = s.guarded; autoidle = s.autoidle; turbo = t; funcidle = u; irq = s.irq; fiq = s.fiq }
 
 -- other ones chosen for IRQ and for FIQ (000, 4.3.1.2.3)
-abbrev pub withSides : Aintc → Chosen → Chosen → Aintc
-withSides s a b = record { lines = s.lines; soft = s.soft; masks = s.masks; routes = s.routes; threshold = s.threshold; revision = s.revision; guarded = s.guarded; autoidle = s.autoidle; turbo = s.turbo; funcidle = s.funcidle; irq = a; fiq = b }
+abbrev pub with_sides : Aintc → Chosen → Chosen → Aintc
+with_sides s a b = record { lines = s.lines; soft = s.soft; masks = s.masks; routes = s.routes; threshold = s.threshold; revision = s.revision; guarded = s.guarded; autoidle = s.autoidle; turbo = s.turbo; funcidle = s.funcidle; irq = a; fiq = b }
 
 -- the one chosen for FIQ, where f, or for IRQ (000, 4.5.4 and 4.5.5)
 unfoldable pub side : Aintc → Bool → Chosen
@@ -53,8 +53,8 @@ abbrev pub nobody : Chosen
 nobody = record { active = false; number = 0; priority = 0 }
 
 -- input k is chosen at priority p (000, 4.3.1.2.3)
-abbrev pub chosenAt : ℕ → ℕ → Chosen
-chosenAt k p = record { active = true; number = k; priority = p }
+abbrev pub chosen_at : ℕ → ℕ → Chosen
+chosen_at k p = record { active = true; number = k; priority = p }
 
 -- what a reset leaves, with the lines at these levels: all masked, none soft, all of priority 0 to IRQ, no threshold, none chosen (000, figures 4-7 to 4-25), and revision 0 (K5)
 unfoldable pub reset : List ℕ → Aintc

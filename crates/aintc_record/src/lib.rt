@@ -1,8 +1,8 @@
 // The AINTC's record: its registers, its line levels and the two chosen inputs (000, chapter 4).
 ghost use Rattle.std.specs.Prelude.{◌≡◌, get_or};
-ghost use Rattle.aintc_record.specs.Route.{priorityOf};
+ghost use Rattle.aintc_record.specs.Route.{priority_of};
 ghost use Rattle.aintc_record.specs.Record.{nobody, side, reset, blank};
-ghost use Rattle.aintc_record.specs.Bounds.{chosenBounded, bounded};
+ghost use Rattle.aintc_record.specs.Bounds.{chosen_bounded, bounded};
 
 // The input that is chosen for an output, with the priority that it had then. While none is, both numbers are 0.
 #[derive(Drop)]
@@ -129,7 +129,7 @@ pub fn side_of(s: Aintc, fast: bool) -> Chosen
 
 // The priority of an input whose route is the byte b: 0 is the highest.
 pub fn priority_of(b: u8) -> u8
-    ensures { result ≡ priorityOf b }
+    ensures { result ≡ priority_of b }
 {
     b / 2
 }
@@ -138,7 +138,7 @@ pub fn priority_of(b: u8) -> u8
 
 // Whether the one chosen for an output is within its bounds.
 fn chosen_bounded(c: Chosen) -> bool
-    ensures { result ≡ chosenBounded c }
+    ensures { result ≡ chosen_bounded c }
 {
     if c.active {
         return (c.number <= 127) & (c.priority <= 127);

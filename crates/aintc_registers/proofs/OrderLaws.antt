@@ -6,7 +6,7 @@ use mathlib.Core.Logic.{◌≢◌, ◌⊎◌, inl, inr}
 use native.Mathlib.Omega.{arith}
 use native.Mathlib.Decide.{ℕ_discrete, dec_lt}
 use Rattle.words.proofs.TruthLaws.{and_left, and_right, and_both, clash}
-use Rattle.words.proofs.CountingLaws.{Lowest, lowest-found}
+use Rattle.words.proofs.CountingLaws.{Lowest, lowest_found}
 use Rattle.words.proofs.OrderLaws.{lower-is, is-lower, Ranks, never, through, either, one_way, others-is, is-others}
 use Rattle.aintc_record.specs.declared.Aintc.{Aintc}
 use Rattle.aintc_record.specs.Route.{priority}
@@ -40,14 +40,14 @@ lt-before s a b l h = go (dec_lt (priority s a) (priority s b))
 ranks : (s : Aintc) → Ranks (priority s) (λ a b. before s b a)
 ranks s = record { is = λ a b. before-is s b a; so = λ a b. is-before s b a }
 
-pub before-irreflexive : (s : Aintc) (a : ℕ) → before s a a ≡ false
-before-irreflexive s = never (ranks s)
+pub before_irreflexive : (s : Aintc) (a : ℕ) → before s a a ≡ false
+before_irreflexive s = never (ranks s)
 
-pub before-transitive : (s : Aintc) (a b c : ℕ) → before s a b ≡ true → before s b c ≡ true → before s a c ≡ true
-before-transitive s a b c h g = through (ranks s) c b a g h
+pub before_transitive : (s : Aintc) (a b c : ℕ) → before s a b ≡ true → before s b c ≡ true → before s a c ≡ true
+before_transitive s a b c h g = through (ranks s) c b a g h
 
-pub before-total : (s : Aintc) (a b : ℕ) → a ≢ b → (before s a b ≡ true) ⊎ (before s b a ≡ true)
-before-total s a b d = either (ranks s) b a (λ e. d (sym e))
+pub before_total : (s : Aintc) (a b : ℕ) → a ≢ b → (before s a b ≡ true) ⊎ (before s b a ≡ true)
+before_total s a b d = either (ranks s) b a (λ e. d (sym e))
 
 -- ---- the one before all others
 
@@ -63,7 +63,7 @@ module _ (s : Aintc) (f : Bool) where
 
   low : Lowest (foremost s f) 128 (first s f)
   unfolding first
-  low = lowest-found 128 (foremost s f)
+  low = lowest_found 128 (foremost s f)
 
   -- there is only one
   same_first : (a b : ℕ) → First s f a → First s f b → Dec (a ≡ b) → a ≡ b

@@ -10,25 +10,25 @@ use borrow.Author.Tests.{leb-true, leb-false, le-leb}
 use lib.Dec.{eqb, leb}
 use lib.ListN.{get_or}
 use Rattle.words.specs.Choice.{pick}
-use Rattle.words.specs.Counting.{one, upto, lowestBelow}
-use Rattle.words.specs.Word.{bit, withBit}
-use Rattle.words.proofs.ChoiceLaws.{pick_true, pick-false, pick-cases}
-use Rattle.words.proofs.HopLaws.{lowest-before, hop-here, hop-other}
+use Rattle.words.specs.Counting.{one, upto, lowest_below}
+use Rattle.words.specs.Word.{bit, with_bit}
+use Rattle.words.proofs.ChoiceLaws.{pick_true, pick-false, pick_cases}
+use Rattle.words.proofs.HopLaws.{lowest-before, hop_here, hop-other}
 use Rattle.words.proofs.TruthLaws.{and_left, and_right, and_both, clash, not-holds}
-use Rattle.words.proofs.WordLaws.{bit-none, bit-wordOf}
+use Rattle.words.proofs.WordLaws.{bit-none, bit-word_of}
 use Rattle.aintc_record.specs.declared.Aintc.{Aintc}
-use Rattle.aintc_record.specs.Route.{priorityOf, routeOf, priority, routed}
+use Rattle.aintc_record.specs.Route.{priority_of, route_of, priority, routed}
 use Rattle.aintc_registers.specs.declared.choice.Best.{Best}
-use Rattle.aintc_registers.specs.Inputs.{unmasked, pending, eligible, openWord}
+use Rattle.aintc_registers.specs.Inputs.{unmasked, pending, eligible, open_word}
 use Rattle.aintc_registers.specs.Order.{first}
 use Rattle.aintc_registers.specs.Promises.{NoneEligible, First}
-use Rattle.aintc_registers.specs.Search.{turned, wordSearched, searched}
-use Rattle.aintc_registers.proofs.InputLaws.{passes-limit}
+use Rattle.aintc_registers.specs.Search.{turned, word_searched, searched}
+use Rattle.aintc_registers.proofs.InputLaws.{passes_limit}
 use Rattle.aintc_registers.proofs.OrderLaws.{lt-before, first_one, first-none}
 
 -- a number below n + 1 is n or below it
-upto-last : (j n : ℕ) → j < suc n → (j ≡ n) ⊎ (j < n)
-upto-last j n q = eq-or-lt_of_le (omega arith)
+upto_last : (j n : ℕ) → j < suc n → (j ≡ n) ⊎ (j < n)
+upto_last j n q = eq-or-lt_of_le (omega arith)
 
 -- a word of none: no turn takes anything
 idle-turn : (x : Best) (t : Bool) (k route q : ℕ) → t ≡ false → x ≡ turned x t k route q
@@ -47,14 +47,14 @@ idle-turns w base routes q x (suc n) h =
     idle-turns w base routes q x n (λ j l. h j (omega arith))
     ∙ idle-turn (upto (turns w base routes q) x n) (bit w n) (base + n) (get_or routes (base + n) 0) q (h n (omega arith))
 
-pub word_none : (w base : ℕ) (routes : List ℕ) (q : ℕ) (x : Best) → w ≡ 0 → x ≡ wordSearched w base routes q x
-unfolding wordSearched
+pub word_none : (w base : ℕ) (routes : List ℕ) (q : ℕ) (x : Best) → w ≡ 0 → x ≡ word_searched w base routes q x
+unfolding word_searched
 word_none w base routes q x e = idle-turns w base routes q x 32 (λ j l. ap (λ (v : ℕ). bit v j) e ∙ bit-none j)
 
 -- from one that waits to the next: the turn of the lowest, then the search through the others
-module _ (w base : ℕ) (routes : List ℕ) (q : ℕ) (x : Best) (i : ℕ) (e : i ≡ lowestBelow 32 (bit w)) (l : i < 32) (b : bit w i ≡ true) where
+module _ (w base : ℕ) (routes : List ℕ) (q : ℕ) (x : Best) (i : ℕ) (e : i ≡ lowest_below 32 (bit w)) (l : i < 32) (b : bit w i ≡ true) where
   abbrev rest : ℕ
-  rest = withBit w i false
+  rest = with_bit w i false
 
   abbrev next : Best
   next = turned x true (base + i) (get_or routes (base + i) 0) q
@@ -70,7 +70,7 @@ module _ (w base : ℕ) (routes : List ℕ) (q : ℕ) (x : Best) (i : ℕ) (e : 
   unfolding upto
   there =
       idle-turns rest base routes q next i before-rest
-      ∙ idle-turn (upto (turns rest base routes q) next i) (bit rest i) (base + i) (get_or routes (base + i) 0) q (hop-here w i l)
+      ∙ idle-turn (upto (turns rest base routes q) next i) (bit rest i) (base + i) (get_or routes (base + i) 0) q (hop_here w i l)
 
   after : (n : ℕ) → i < n → n ≤ 32 → upto (turns rest base routes q) next n ≡ upto (turns w base routes q) x n
   unfolding upto
@@ -79,15 +79,15 @@ module _ (w base : ℕ) (routes : List ℕ) (q : ℕ) (x : Best) (i : ℕ) (e : 
       ⊎_elim
       (λ (p : i ≡ n). subst (λ (k : ℕ). upto (turns rest base routes q) next (suc k) ≡ upto (turns w base routes q) x (suc k)) p (sym there ∙ here))
       (λ (p : i < n). ap₂ (λ (y : Best) (t : Bool). turned y t (base + n) (get_or routes (base + n) 0) q) (after n p (omega arith)) (hop-other w i n (omega arith) (λ y. omega arith)))
-      (upto-last i n m)
+      (upto_last i n m)
 
-  pub word-hop : wordSearched rest base routes q next ≡ wordSearched w base routes q x
-  unfolding wordSearched
+  pub word-hop : word_searched rest base routes q next ≡ word_searched w base routes q x
+  unfolding word_searched
   word-hop = after 32 l (omega arith)
 
 -- the two ways out of a turn
-module _ (x : Best) (waits h : Bool) (k route q p : ℕ) (ep : p ≡ priorityOf route) (eh : h ≡ eqb (routeOf route) q) where
-  test : (waits && h && leb p x.limit) ≡ (waits && eqb (routeOf route) q && leb (priorityOf route) x.limit)
+module _ (x : Best) (waits h : Bool) (k route q p : ℕ) (ep : p ≡ priority_of route) (eh : h ≡ eqb (route_of route) q) where
+  test : (waits && h && leb p x.limit) ≡ (waits && eqb (route_of route) q && leb (priority_of route) x.limit)
   test = ap₂ (λ (b : Bool) (n : ℕ). waits && b && leb n x.limit) eh ep
 
   pub turn-taken : (waits && h && leb p x.limit) ≡ true → record { number = k; limit = p } ≡ turned x waits k route q
@@ -137,7 +137,7 @@ module _ (waits : ℕ → Bool) (rank : ℕ → ℕ) (top : ℕ) where
     where
       others : (j : ℕ) → j < suc n → may j ≡ true → rank n * 128 + j ≤ rank j * 128 + n
       others j q m =
-          ⊎_elim (λ (p : j ≡ n). omega (arith, ap rank p)) (λ (p : j < n). omega (arith, limit-each n x (omega arith) found j p m)) (upto-last j n q)
+          ⊎_elim (λ (p : j ≡ n). omega (arith, ap rank p)) (λ (p : j < n). omega (arith, limit-each n x (omega arith) found j p m)) (upto_last j n q)
 
   -- the next input is passed over
   passed : (n : ℕ) (x : Best) → n < 128 → Found n x → (waits n ≡ true → x.limit < rank n) → Found (suc n) x
@@ -148,7 +148,7 @@ module _ (waits : ℕ → Bool) (rank : ℕ → ℕ) (top : ℕ) where
           ⊎_elim
           (λ (p : j ≡ n). ap may p ∙ not-holds (may n) (λ m. omega (arith, h (and_left (waits n) _ m), may-top n m, y.limit)))
           (λ (p : j < n). y.each j p)
-          (upto-last j n q)
+          (upto_last j n q)
   passed n x b (inr y) h = inr (record { within = omega (arith, y.within); limit = y.limit; fit = y.fit; each = others })
     where
       others : (j : ℕ) → j < suc n → may j ≡ true → rank x.number * 128 + j ≤ rank j * 128 + x.number
@@ -156,12 +156,12 @@ module _ (waits : ℕ → Bool) (rank : ℕ → ℕ) (top : ℕ) where
           ⊎_elim
           (λ (p : j ≡ n). omega (arith, ap rank p, h (and_left (waits n) _ (ap may (sym p) ∙ m)), y.limit))
           (λ (p : j < n). y.each j p m)
-          (upto-last j n q)
+          (upto_last j n q)
 
   -- a turn
-  turn-found : (n : ℕ) (x : Best) → n < 128 → Found n x → Found (suc n) (pick (waits n && leb (rank n) x.limit) (record { number = n; limit = rank n }) x)
-  turn-found n x b found =
-      pick-cases (Found (suc n)) (waits n && leb (rank n) x.limit)
+  turn_found : (n : ℕ) (x : Best) → n < 128 → Found n x → Found (suc n) (pick (waits n && leb (rank n) x.limit) (record { number = n; limit = rank n }) x)
+  turn_found n x b found =
+      pick_cases (Found (suc n)) (waits n && leb (rank n) x.limit)
       (λ t. taken n x b found (and_left (waits n) _ t) (leb-true (rank n) x.limit (and_right (waits n) _ t)))
       (λ t. passed n x b found (λ w. leb-false (rank n) x.limit (ap (λ (u : Bool). u && leb (rank n) x.limit) (sym w) ∙ t)))
 
@@ -181,22 +181,22 @@ module _ (s : Aintc) (f : Bool) (inputs : ℕ → Bool) where
   unfolding turned priority routed
   turn_is w n i x e = rw e
 
-  turns-found : (w n : ℕ) (x : Best) → n < 4 → ((i : ℕ) → i < 32 → bit w i ≡ inputs (32 * n + i)) → Found waiting (priority s) top (32 * n) x
+  turns_found : (w n : ℕ) (x : Best) → n < 4 → ((i : ℕ) → i < 32 → bit w i ≡ inputs (32 * n + i)) → Found waiting (priority s) top (32 * n) x
       → (i : ℕ) → i ≤ 32 → Found waiting (priority s) top (32 * n + i) (upto (turns w (32 * n) s.routes (one f)) x i)
   unfolding upto
-  turns-found w n x b h found zero l = let e : 32 * n ≡ 32 * n + 0 = omega arith in subst (λ (m : ℕ). Found waiting (priority s) top m x) e found
-  turns-found w n x b h found (suc i) l =
+  turns_found w n x b h found zero l = let e : 32 * n ≡ 32 * n + 0 = omega arith in subst (λ (m : ℕ). Found waiting (priority s) top m x) e found
+  turns_found w n x b h found (suc i) l =
       let y = upto (turns w (32 * n) s.routes (one f)) x i in
       let e : suc (32 * n + i) ≡ 32 * n + suc i = omega arith in
       subst (λ (m : ℕ). Found waiting (priority s) top m (turns w (32 * n) s.routes (one f) y i)) e
       (subst (Found waiting (priority s) top (suc (32 * n + i))) (sym (turn_is w n i y (h i (omega arith))))
-      (turn-found waiting (priority s) top (32 * n + i) y (omega arith) (turns-found w n x b h found i (omega arith))))
+      (turn_found waiting (priority s) top (32 * n + i) y (omega arith) (turns_found w n x b h found i (omega arith))))
 
   -- a word of them
-  pub word-found : (w n : ℕ) (x : Best) → n < 4 → ((i : ℕ) → i < 32 → bit w i ≡ inputs (32 * n + i)) → Found waiting (priority s) top (32 * n) x
-      → Found waiting (priority s) top (32 * n + 32) (wordSearched w (32 * n) s.routes (one f) x)
-  unfolding wordSearched
-  word-found w n x b h found = turns-found w n x b h found 32 (omega arith)
+  pub word_found : (w n : ℕ) (x : Best) → n < 4 → ((i : ℕ) → i < 32 → bit w i ≡ inputs (32 * n + i)) → Found waiting (priority s) top (32 * n) x
+      → Found waiting (priority s) top (32 * n + 32) (word_searched w (32 * n) s.routes (one f) x)
+  unfolding word_searched
+  word_found w n x b h found = turns_found w n x b h found 32 (omega arith)
 
   -- where no other input is eligible: none is and the search ends with 128, or one is first and it ends with that
   module _ (only : (k : ℕ) → k < 128 → (waiting k && leb (priority s k) top) ≡ eligible s f k) (x : Best) where
@@ -211,39 +211,39 @@ module _ (s : Aintc) (f : Bool) (inputs : ℕ → Bool) where
           others = λ j l c d. lt-before s x.number j y.within (omega (arith, y.each j l (only j l ∙ c)));
         }
 
-    pub found-cases : Found waiting (priority s) top 128 x → (NoneEligible s f × (x.number ≡ 128)) ⊎ (First s f x.number × (x.limit ≡ priority s x.number))
-    found-cases = ⊎_elim (λ (y : Nobody waiting (priority s) top 128 x). inl (none-by y, y.none)) (λ (y : Leader waiting (priority s) top 128 x). inr (first_by y, y.limit))
+    pub found_cases : Found waiting (priority s) top 128 x → (NoneEligible s f × (x.number ≡ 128)) ⊎ (First s f x.number × (x.limit ≡ priority s x.number))
+    found_cases = ⊎_elim (λ (y : Nobody waiting (priority s) top 128 x). inl (none-by y, y.none)) (λ (y : Leader waiting (priority s) top 128 x). inr (first_by y, y.limit))
 
 -- ---- the search through all of them
 
 module _ (s : Aintc) (f : Bool) where
   may-is : (k : ℕ) → k < 128 → (waiting s f (unmasked s) k && leb (priority s k) (top s f (unmasked s))) ≡ eligible s f k
   unfolding eligible pending
-  may-is k l = ap (λ (b : Bool). waiting s f (unmasked s) k && b) (passes-limit s (priority s k))
+  may-is k l = ap (λ (b : Bool). waiting s f (unmasked s) k && b) (passes_limit s (priority s k))
 
-  open-bit : (n i : ℕ) → i < 32 → bit (openWord s n) i ≡ unmasked s (32 * n + i)
-  unfolding openWord
-  open-bit n i l = bit-wordOf 32 (λ j. unmasked s (32 * n + j)) i l
+  open-bit : (n i : ℕ) → i < 32 → bit (open_word s n) i ≡ unmasked s (32 * n + i)
+  unfolding open_word
+  open-bit n i l = bit-word_of 32 (λ j. unmasked s (32 * n + j)) i l
 
-  words-found : (n : ℕ) → n ≤ 4
-      → Found (waiting s f (unmasked s)) (priority s) (s.threshold - 1) (32 * n) (upto (λ x m. wordSearched (openWord s m) (32 * m) s.routes (one f) x) (record { number = 128; limit = s.threshold - 1 }) n)
+  words_found : (n : ℕ) → n ≤ 4
+      → Found (waiting s f (unmasked s)) (priority s) (s.threshold - 1) (32 * n) (upto (λ x m. word_searched (open_word s m) (32 * m) s.routes (one f) x) (record { number = 128; limit = s.threshold - 1 }) n)
   unfolding upto
-  words-found zero l = inl (record { none = refl; limit = refl; each = λ j l. absurd (omega arith) })
-  words-found (suc n) l =
-      let y = upto (λ x m. wordSearched (openWord s m) (32 * m) s.routes (one f) x) (record { number = 128; limit = s.threshold - 1 }) n in
+  words_found zero l = inl (record { none = refl; limit = refl; each = λ j l. absurd (omega arith) })
+  words_found (suc n) l =
+      let y = upto (λ x m. word_searched (open_word s m) (32 * m) s.routes (one f) x) (record { number = 128; limit = s.threshold - 1 }) n in
       let e : 32 * n + 32 ≡ 32 * suc n = omega arith in
-      subst (λ (m : ℕ). Found (waiting s f (unmasked s)) (priority s) (s.threshold - 1) m (wordSearched (openWord s n) (32 * n) s.routes (one f) y)) e
-      (word-found s f (unmasked s) (openWord s n) n y (omega arith) (open-bit n) (words-found n (omega arith)))
+      subst (λ (m : ℕ). Found (waiting s f (unmasked s)) (priority s) (s.threshold - 1) m (word_searched (open_word s n) (32 * n) s.routes (one f) y)) e
+      (word_found s f (unmasked s) (open_word s n) n y (omega arith) (open-bit n) (words_found n (omega arith)))
 
-  searched-found : Found (waiting s f (unmasked s)) (priority s) (s.threshold - 1) 128 (searched s f)
+  searched_found : Found (waiting s f (unmasked s)) (priority s) (s.threshold - 1) 128 (searched s f)
   unfolding searched
-  searched-found = words-found 4 (omega arith)
+  searched_found = words_found 4 (omega arith)
 
-  pub search-cases : (NoneEligible s f × ((searched s f).number ≡ 128)) ⊎ (First s f (searched s f).number × ((searched s f).limit ≡ priority s (searched s f).number))
-  search-cases = found-cases s f (unmasked s) may-is (searched s f) searched-found
+  pub search_cases : (NoneEligible s f × ((searched s f).number ≡ 128)) ⊎ (First s f (searched s f).number × ((searched s f).limit ≡ priority s (searched s f).number))
+  search_cases = found_cases s f (unmasked s) may-is (searched s f) searched_found
 
   pub searched-first : (searched s f).number ≡ first s f
-  searched-first = go search-cases
+  searched-first = go search_cases
     where
       go : (NoneEligible s f × ((searched s f).number ≡ 128)) ⊎ (First s f (searched s f).number × ((searched s f).limit ≡ priority s (searched s f).number))
           → (searched s f).number ≡ first s f
@@ -251,8 +251,8 @@ module _ (s : Aintc) (f : Bool) where
       go (inr (x, e)) = sym (first_one s f (searched s f).number x)
 
   -- so there is a first one, or none is eligible
-  pub first-cases : (NoneEligible s f × (first s f ≡ 128)) ⊎ First s f (first s f)
-  first-cases = go search-cases
+  pub first_cases : (NoneEligible s f × (first s f ≡ 128)) ⊎ First s f (first s f)
+  first_cases = go search_cases
     where
       go : (NoneEligible s f × ((searched s f).number ≡ 128)) ⊎ (First s f (searched s f).number × ((searched s f).limit ≡ priority s (searched s f).number))
           → (NoneEligible s f × (first s f ≡ 128)) ⊎ First s f (first s f)
@@ -260,8 +260,8 @@ module _ (s : Aintc) (f : Bool) where
       go (inr (x, e)) = inr (subst (First s f) searched-first x)
 
   -- the four words, as the code goes through them
-  pub search-from : (q t a b c d : ℕ) (x y z r : Best) → q ≡ one f → t ≡ s.threshold - 1 → a ≡ openWord s 0 → x ≡ wordSearched a 0 s.routes q (record { number = 128; limit = t })
-      → b ≡ openWord s 1 → y ≡ wordSearched b 32 s.routes q x → c ≡ openWord s 2 → z ≡ wordSearched c 64 s.routes q y → d ≡ openWord s 3
-      → r ≡ wordSearched d 96 s.routes q z → r ≡ searched s f
+  pub search-from : (q t a b c d : ℕ) (x y z r : Best) → q ≡ one f → t ≡ s.threshold - 1 → a ≡ open_word s 0 → x ≡ word_searched a 0 s.routes q (record { number = 128; limit = t })
+      → b ≡ open_word s 1 → y ≡ word_searched b 32 s.routes q x → c ≡ open_word s 2 → z ≡ word_searched c 64 s.routes q y → d ≡ open_word s 3
+      → r ≡ word_searched d 96 s.routes q z → r ≡ searched s f
   unfolding searched upto
   search-from q t a b c d x y z r eq et ea ex eb ey ec ez ed er = rw (er, ed, ez, ec, ey, eb, ex, ea, et, eq) refl

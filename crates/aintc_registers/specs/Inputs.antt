@@ -26,9 +26,9 @@ unfoldable pub eligible : Aintc → Bool → ℕ → Bool
 eligible s f k = pending s f k && passes s (priority s k)
 
 -- word n of the inputs that are raised and not masked (000, 4.3.1.2.1)
-unfoldable pub openWord : Aintc → ℕ → ℕ
-openWord s n = word_of 32 (λ i. unmasked s (32 * n + i))
+unfoldable pub open_word : Aintc → ℕ → ℕ
+open_word s n = word_of 32 (λ i. unmasked s (32 * n + i))
 
 -- PENDING_FIQn, where f, or PENDING_IRQn (000, 4.5.18 and 4.5.19)
-unfoldable pub pendingWord : Aintc → Bool → ℕ → ℕ
-pendingWord s f n = word_of 32 (λ i. pending s f (32 * n + i))
+unfoldable pub pending_word : Aintc → Bool → ℕ → ℕ
+pending_word s f n = word_of 32 (λ i. pending s f (32 * n + i))

@@ -15,11 +15,11 @@ abbrev pub sysstatus : ℕ
 sysstatus = 0x14
 
 -- the active numbers, the agreement bits
-abbrev pub sirIrq : ℕ
-sirIrq = 0x40
+abbrev pub sir_irq : ℕ
+sir_irq = 0x40
 
-abbrev pub sirFiq : ℕ
-sirFiq = 0x44
+abbrev pub sir_fiq : ℕ
+sir_fiq = 0x44
 
 abbrev pub control : ℕ
 control = 0x48
@@ -32,11 +32,11 @@ abbrev pub idle : ℕ
 idle = 0x50
 
 -- the active priorities, the threshold
-abbrev pub irqPriority : ℕ
-irqPriority = 0x60
+abbrev pub irq_priority : ℕ
+irq_priority = 0x60
 
-abbrev pub fiqPriority : ℕ
-fiqPriority = 0x64
+abbrev pub fiq_priority : ℕ
+fiq_priority = 0x64
 
 abbrev pub threshold : ℕ
 threshold = 0x68
@@ -49,23 +49,23 @@ itr = 0x80
 abbrev pub mir : ℕ
 mir = 0x84
 
-abbrev pub mirClear : ℕ
-mirClear = 0x88
+abbrev pub mir_clear : ℕ
+mir_clear = 0x88
 
-abbrev pub mirSet : ℕ
-mirSet = 0x8C
+abbrev pub mir_set : ℕ
+mir_set = 0x8C
 
-abbrev pub isrSet : ℕ
-isrSet = 0x90
+abbrev pub isr_set : ℕ
+isr_set = 0x90
 
-abbrev pub isrClear : ℕ
-isrClear = 0x94
+abbrev pub isr_clear : ℕ
+isr_clear = 0x94
 
-abbrev pub pendingIrq : ℕ
-pendingIrq = 0x98
+abbrev pub pending_irq : ℕ
+pending_irq = 0x98
 
-abbrev pub pendingFiq : ℕ
-pendingFiq = 0x9C
+abbrev pub pending_fiq : ℕ
+pending_fiq = 0x9C
 
 -- the routes of the 128 inputs; from `past` on there is nothing
 abbrev pub ilr : ℕ
@@ -81,36 +81,36 @@ row_of o = pick (ltb o itr) o (pick (ltb o ilr) (itr + o % 0x20) (pick (ltb o pa
 
 -- what the registers of each row allow: the access letters of figures 4-6 to 4-25; MIR takes writes, though its figure says R, since
 -- the text says so (000, 4.4.1)
-unfoldable pub rowAccess : ℕ → Access
-rowAccess r =
+unfoldable pub row_access : ℕ → Access
+row_access r =
     pick (eqb r revision) ReadWrite
     (pick (eqb r sysconfig) ReadWrite
     (pick (eqb r sysstatus) ReadOnly
-    (pick (eqb r sirIrq) ReadOnly
-    (pick (eqb r sirFiq) ReadOnly
+    (pick (eqb r sir_irq) ReadOnly
+    (pick (eqb r sir_fiq) ReadOnly
     (pick (eqb r control) WriteOnly
     (pick (eqb r protection) ReadWrite
     (pick (eqb r idle) ReadWrite
-    (pick (eqb r irqPriority) ReadOnly
-    (pick (eqb r fiqPriority) ReadOnly
+    (pick (eqb r irq_priority) ReadOnly
+    (pick (eqb r fiq_priority) ReadOnly
     (pick (eqb r threshold) ReadWrite
     (pick (eqb r itr) ReadOnly
     (pick (eqb r mir) ReadWrite
-    (pick (eqb r mirClear) WriteOnly
-    (pick (eqb r mirSet) WriteOnly
-    (pick (eqb r isrSet) ReadWrite
-    (pick (eqb r isrClear) WriteOnly
-    (pick (eqb r pendingIrq) ReadOnly
-    (pick (eqb r pendingFiq) ReadOnly
+    (pick (eqb r mir_clear) WriteOnly
+    (pick (eqb r mir_set) WriteOnly
+    (pick (eqb r isr_set) ReadWrite
+    (pick (eqb r isr_clear) WriteOnly
+    (pick (eqb r pending_irq) ReadOnly
+    (pick (eqb r pending_fiq) ReadOnly
     (pick (eqb r ilr) ReadWrite NoRegister)))))))))))))))))))
 
 -- what the register at an aligned offset allows (000, table 4-3)
 unfoldable pub access : ℕ → Access
-access o = rowAccess (row_of o)
+access o = row_access (row_of o)
 
 -- which bank a register of a bank is in, and which input a route is of (000, table 4-3: 0x80 + 0x20 * n, 0x100 + 4 * m)
-abbrev pub bankOf : ℕ → ℕ
-bankOf o = (o - itr) / 0x20
+abbrev pub bank_of : ℕ → ℕ
+bank_of o = (o - itr) / 0x20
 
 abbrev pub input_of : ℕ → ℕ
 input_of o = (o - ilr) / 4

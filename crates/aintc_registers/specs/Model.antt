@@ -5,14 +5,14 @@ use Rattle.steps.specs.declared.Access.{Access}
 use Rattle.steps.specs.declared.Access.TheVariants.{NoRegister, ReadOnly, WriteOnly, ReadWrite}
 use Rattle.steps.specs.declared.Step.{Step}
 use Rattle.steps.specs.declared.Step.TheVariants.{Read, Write, Line}
-use Rattle.steps.specs.Refusals.{carriedOut, beyond, unsound, unprivileged, readRefusal, writeRefusal, lineRefusal}
+use Rattle.steps.specs.Refusals.{carried_out, beyond, unsound, unprivileged, read_refusal, write_refusal, line_refusal}
 use Rattle.aintc_record.specs.declared.Aintc.{Aintc}
 use Rattle.aintc_record.specs.Record.{reset}
 use Rattle.aintc_registers.specs.Settle.{settle, sound}
 use Rattle.aintc_registers.specs.declared.Answer.{Answer}
-use Rattle.aintc_registers.specs.Effects.{writtenAt, moved}
+use Rattle.aintc_registers.specs.Effects.{written_at, moved}
 use Rattle.aintc_registers.specs.Map.{protection, access}
-use Rattle.aintc_registers.specs.Registers.{answered, refused, readAt}
+use Rattle.aintc_registers.specs.Registers.{answered, refused, read_at}
 use Rattle.aintc_registers.specs.declared.model.Begun.{Begun}
 use Rattle.aintc_registers.specs.declared.model.Signals.{Signals}
 
@@ -22,7 +22,7 @@ within nth value = false
 
 -- what a reset leaves, with the lines low: no start is refused (02, 2/12)
 unfoldable pub start : Begun
-start = record { refusal = carriedOut; aintc = reset (replicate 4 0) }
+start = record { refusal = carried_out; aintc = reset (replicate 4 0) }
 
 -- ---- privilege: 1 is privileged, 0 is not
 
@@ -39,29 +39,29 @@ barred guarded p o = eqb p 0 && eqb (o % 4) 0 && is_register (access o) && (guar
 
 -- the checks in their order: 12, 6 for the privilege, 13, then those of the read or the write; of these 1 and 2 come before 13, since a
 -- barred access is aligned and of a register (02, 2/12)
-unfoldable pub accessNumber : Bool → ℕ → Bool → ℕ → ℕ
-accessNumber sound p bars rest = pick sound (pick (leb p 1) (pick bars unprivileged rest) beyond) unsound
+unfoldable pub access_number : Bool → ℕ → Bool → ℕ → ℕ
+access_number sound p bars rest = pick sound (pick (leb p 1) (pick bars unprivileged rest) beyond) unsound
 
 -- by which number a read, a write or a line step is refused, 0 for none; no value is refused, and lines 0 to 127 are the inputs
 -- (01, Numbers; 02, 2/12)
-unfoldable pub readNumber : Aintc → ℕ → ℕ → ℕ
-readNumber s p o = accessNumber (sound s) p (barred s.guarded p o) (readRefusal true o (access o))
+unfoldable pub read_number : Aintc → ℕ → ℕ → ℕ
+read_number s p o = access_number (sound s) p (barred s.guarded p o) (read_refusal true o (access o))
 
-unfoldable pub writeNumber : Aintc → ℕ → ℕ → ℕ
-writeNumber s p o = accessNumber (sound s) p (barred s.guarded p o) (writeRefusal true o (access o) carriedOut)
+unfoldable pub write_number : Aintc → ℕ → ℕ → ℕ
+write_number s p o = access_number (sound s) p (barred s.guarded p o) (write_refusal true o (access o) carried_out)
 
-unfoldable pub lineNumber : Aintc → ℕ → ℕ → ℕ
-lineNumber s k l = lineRefusal (sound s) 128 k l
+unfoldable pub line_number : Aintc → ℕ → ℕ → ℕ
+line_number s k l = line_refusal (sound s) 128 k l
 
 -- a read changes nothing; after a write and after a line step each output with none chosen takes its first (000, 4.3.1.2.3)
 unfoldable pub read : Aintc → ℕ → ℕ → Answer
-read s p o = pick (eqb (readNumber s p o) carriedOut) (answered s (readAt s o)) (refused s (readNumber s p o))
+read s p o = pick (eqb (read_number s p o) carried_out) (answered s (read_at s o)) (refused s (read_number s p o))
 
 unfoldable pub write : Aintc → ℕ → ℕ → ℕ → Answer
-write s p o v = pick (eqb (writeNumber s p o) carriedOut) (answered (settle (writtenAt s o v)) 0) (refused s (writeNumber s p o))
+write s p o v = pick (eqb (write_number s p o) carried_out) (answered (settle (written_at s o v)) 0) (refused s (write_number s p o))
 
 unfoldable pub line : Aintc → ℕ → ℕ → Answer
-line s k l = pick (eqb (lineNumber s k l) carriedOut) (answered (settle (moved s k (eqb l 1))) 0) (refused s (lineNumber s k l))
+line s k l = pick (eqb (line_number s k l) carried_out) (answered (settle (moved s k (eqb l 1))) 0) (refused s (line_number s k l))
 
 -- a step of a recorded trace; a line step has no privilege (02, 2/12)
 abbrev pub step : Aintc → ℕ → Step → Answer
@@ -73,5 +73,5 @@ step s p (Line k l) = line s k l
 unfoldable pub outputs : Aintc → Signals
 outputs s =
     pick (sound s)
-    (record { refusal = carriedOut; irq = s.irq.active; fiq = s.fiq.active; number = s.irq.number })
+    (record { refusal = carried_out; irq = s.irq.active; fiq = s.fiq.active; number = s.irq.number })
     (record { refusal = unsound; irq = false; fiq = false; number = 0 })

@@ -1,6 +1,6 @@
 -- Which input is before which, and the eligible one that is before all others (000, 4.3.1.2.3).
 use Rattle.std.specs.Prelude.{ℕ, Bool, not, ◌&&◌, ◌||◌, eqb, ltb}
-use Rattle.words.specs.Counting.{anyBelow, all_below, lowestBelow}
+use Rattle.words.specs.Counting.{any_below, all_below, lowest_below}
 use Rattle.aintc_record.specs.declared.Aintc.{Aintc}
 use Rattle.aintc_record.specs.Route.{priority}
 use Rattle.aintc_registers.specs.Inputs.{eligible}
@@ -15,8 +15,8 @@ foremost s f k = eligible s f k && all_below 128 (λ j. not (eligible s f j) || 
 
 -- some input is eligible (000, 4.3.1.2.3)
 unfoldable pub some : Aintc → Bool → Bool
-some s f = anyBelow 128 (eligible s f)
+some s f = any_below 128 (eligible s f)
 
 -- the eligible input that is before all others, 128 where there is none (000, 4.3.1.2.3)
 unfoldable pub first : Aintc → Bool → ℕ
-first s f = lowestBelow 128 (foremost s f)
+first s f = lowest_below 128 (foremost s f)

@@ -3,10 +3,10 @@
 ghost use Rattle.std.specs.Prelude.{◌≡◌, ◌-◌, ◌%◌, ◌≤◌, ◌<◌, eqb};
 ghost use Rattle.words.specs.Counting.{one};
 ghost use Rattle.words.specs.Word.{bit};
-ghost use Rattle.aintc_registers.specs.Inputs.{openWord};
+ghost use Rattle.aintc_registers.specs.Inputs.{open_word};
 ghost use Rattle.aintc_registers.specs.Order.{first};
-ghost use Rattle.aintc_registers.specs.Search.{routeWord, turned, wordSearched, searched};
-ghost use Rattle.aintc_registers.specs.Settle.{sideQuiet, sound};
+ghost use Rattle.aintc_registers.specs.Search.{route_word, turned, word_searched, searched};
+ghost use Rattle.aintc_registers.specs.Settle.{side_quiet, sound};
 
 use aintc_record::Aintc;
 
@@ -14,7 +14,7 @@ use aintc_record::Aintc;
 
 // Word n of the inputs that are raised, by their line or by a soft interrupt, and not masked.
 fn open_word(s: Aintc, n: u32) -> u32
-    ensures { result ≡ openWord s n }
+    ensures { result ≡ open_word s n }
 {
     let raised = words::join(aintc_record::line_word(s, n), aintc_record::soft_word(s, n));
     words::drop_bits(raised, aintc_record::mask_word(s, n))
@@ -40,7 +40,7 @@ fn is_routed(route: u8, side: u8) -> bool
 // The inputs from `base` on whose output is `side`, 32 of them as a word.
 pub fn route_word(routes: &[u8; 128], base: u32, side: u8) -> u32
     requires { base ≤ 96 }
-    ensures { result ≡ routeWord routes.now base side }
+    ensures { result ≡ route_word routes.now base side }
 {
     let mut w: u32 = 0;
     let mut i: u32 = 0;
@@ -79,7 +79,7 @@ fn turn(x: Best, waits: bool, k: u32, route: u8, side: u8) -> Best
 // The search through the 32 inputs from `base` on, of which the word w waits: from one that waits to the next.
 fn search_word(w: u32, base: u32, routes: &[u8; 128], side: u8, x: Best) -> Best
     requires { base ≤ 96 }
-    ensures { result ≡ wordSearched w base routes.now side x }
+    ensures { result ≡ word_searched w base routes.now side x }
 {
     let mut best = x;
     let mut left = w;
@@ -130,7 +130,7 @@ fn first_of(s: Aintc, fast: bool) -> u32
 
 // Whether an output with none chosen has none that is eligible.
 fn side_quiet(s: Aintc, fast: bool) -> bool
-    ensures { result ≡ sideQuiet s fast }
+    ensures { result ≡ side_quiet s fast }
 {
     let chosen = aintc_record::side_of(s, fast);
     if chosen.active {

@@ -1,6 +1,6 @@
 // The register map: offsets under the maker's names, and what each register allows.
 ghost use Rattle.std.specs.Prelude.{◌≡◌};
-ghost use Rattle.aintc_registers.specs.Map.{row_of, rowAccess, access};
+ghost use Rattle.aintc_registers.specs.Map.{row_of, row_access, access};
 
 use steps::Access;
 
@@ -67,7 +67,7 @@ pub fn row_of(offset: u32) -> u32
 
 // What the registers of a row allow, in the order of the maker's table.
 fn row_access(row: u32) -> Access
-    ensures { result ≡ rowAccess row }
+    ensures { result ≡ row_access row }
 {
     match row {
         REVISION => Access::ReadWrite,

@@ -6,26 +6,26 @@ use native.Mathlib.Omega.{arith}
 use lib.Dec.{eqb}
 use lib.ListN.{length, get_or, get_or-replicate}
 use Rattle.words.specs.Word.{bit}
-use Rattle.words.proofs.WordLaws.{bit-wordOf}
+use Rattle.words.proofs.WordLaws.{bit-word_of}
 use Rattle.aintc_record.specs.declared.Aintc.{Aintc}
-use Rattle.aintc_record.specs.Route.{routeAt, routeOf, priorityOf, priority}
-use Rattle.aintc_registers.specs.Search.{routeWord}
-use Rattle.aintc_room.specs.Room.{priorityWord, laid, Laid}
+use Rattle.aintc_record.specs.Route.{route_at, route_of, priority_of, priority}
+use Rattle.aintc_registers.specs.Search.{route_word}
+use Rattle.aintc_room.specs.Room.{priority_word, laid, Laid}
 use Rattle.aintc_room.specs.Promises.{Promises}
 use Rattle.aintc_room.proofs.CellLaws.{cell-is, kind-is, part-is, fiqs-is, bits_is}
 use Rattle.aintc_room.proofs.RecordLaws.{room-length, rest-is, one-record}
 
 module _ (a : Aintc) (r : List ℕ) (h : Laid a r) where
-  pub fiq-bit : (n i : ℕ) → n < 4 → i < 32 → bit (get_or r (28 + n) 0) i ≡ eqb (routeOf (routeAt a (32 * n + i))) 1
-  unfolding routeWord
-  fiq-bit n i l m = ap (λ (w : ℕ). bit w i) (fiqs-is h n l) ∙ bit-wordOf 32 (λ j. eqb (routeOf (get_or a.routes (32 * n + j) 0)) 1) i m
+  pub fiq-bit : (n i : ℕ) → n < 4 → i < 32 → bit (get_or r (28 + n) 0) i ≡ eqb (route_of (route_at a (32 * n + i))) 1
+  unfolding route_word
+  fiq-bit n i l m = ap (λ (w : ℕ). bit w i) (fiqs-is h n l) ∙ bit-word_of 32 (λ j. eqb (route_of (get_or a.routes (32 * n + j) 0)) 1) i m
 
   pub priority-bit : (b n i : ℕ) → b < 7 → n < 4 → i < 32 → bit (get_or r (32 + (4 * b + n)) 0) i ≡ bit (priority a (32 * n + i)) b
-  unfolding priorityWord priority
+  unfolding priority_word priority
   priority-bit b n i k l m =
       let p : (4 * b + n) % 4 ≡ n = omega (arith, l) in
       let q : (4 * b + n) / 4 ≡ b = omega (arith, l) in
-      ap (λ (w : ℕ). bit w i) (bits_is h (4 * b + n) (omega (arith, k, l))) ∙ bit-wordOf 32 (λ j. bit (priorityOf (get_or a.routes (32 * ((4 * b + n) % 4) + j) 0)) ((4 * b + n) / 4)) i m
+      ap (λ (w : ℕ). bit w i) (bits_is h (4 * b + n) (omega (arith, k, l))) ∙ bit-word_of 32 (λ j. bit (priority_of (get_or a.routes (32 * ((4 * b + n) % 4) + j) 0)) ((4 * b + n) / 4)) i m
       ∙ rw (p, q)
 
 pub kept : Promises

@@ -19,7 +19,7 @@ use Rattle.aintc_record.specs.Promises.{Bounds}
 use Rattle.aintc_record.specs.Record.{side}
 use Rattle.aintc_registers.specs.Settle.{sound}
 use Rattle.aintc_registers.proofs.Promises as choice-promises
-use Rattle.aintc_room.specs.Room.{parts, sizes, laid, Laid, chosenFrom}
+use Rattle.aintc_room.specs.Room.{parts, sizes, laid, Laid, chosen_from}
 use Rattle.aintc_room.proofs.CellLaws.{sized, part-is, threshold-is, revision-is, guarded-is, autoidle-is, turbo-is, funcidle-is, active-is, number_is, priority-is, lines-is, soft-is, masks-is, route-is}
 
 -- a bit of the record from its word
@@ -44,7 +44,7 @@ bounds a ok false = (((choice-promises.kept).sound_is a).0 ok).irq
 
 module _ (a : Aintc) (ok : sound a ≡ true) {room : List ℕ} (h : Laid a room) where
   pub chosen-told : (f : Bool) (c : Chosen)
-      → c ≡ record { active = eqb (get_or room (chosenFrom f) 0) 1; number = get_or room (chosenFrom f + 1) 0 % 256; priority = get_or room (chosenFrom f + 2) 0 % 256 } → c ≡ side a f
+      → c ≡ record { active = eqb (get_or room (chosen_from f) 0) 1; number = get_or room (chosen_from f + 1) 0 % 256; priority = get_or room (chosen_from f + 2) 0 % 256 } → c ≡ side a f
   chosen-told f c e =
       let b = small (side a f) (bounds a ok f) in
       e ∙ made (flag _ _ (active-is h f)) (ap (λ (w : ℕ). w % 256) (number_is h f) ∙ mod-eq_of_lt b.0) (ap (λ (w : ℕ). w % 256) (priority-is h f) ∙ mod-eq_of_lt b.1)

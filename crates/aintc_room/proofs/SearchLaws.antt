@@ -15,28 +15,28 @@ use lib.ListN.{get_or}
 use lib.Pow.{pow_pos, shr-shr}
 use Rattle.words.specs.Array.{bit_at}
 use Rattle.words.specs.Choice.{pick}
-use Rattle.words.specs.Counting.{one, anyBelow}
+use Rattle.words.specs.Counting.{one, any_below}
 use Rattle.words.specs.Word.{bit, word_of, either, both, without}
 use Rattle.words.proofs.ChoiceLaws.{pick_true, pick-false}
-use Rattle.words.proofs.CountingLaws.{any_some, some-any, any-fails, any_none}
-use Rattle.words.proofs.TruthLaws.{and_left, and_right, and_both, or_left, or_right, or-neither, clash, told}
-use Rattle.words.proofs.WordLaws.{bit-mod, bit-wordOf, wordOf-same, bit-and, bit_not, bit-either, bit_past, bit-none, either_lt, some-bit}
+use Rattle.words.proofs.CountingLaws.{any_some, some_any, any_fails, any_none}
+use Rattle.words.proofs.TruthLaws.{and_left, and_right, and_both, or_left, or_right, or_neither, clash, told}
+use Rattle.words.proofs.WordLaws.{bit_mod, bit-word_of, word_of-same, bit-and, bit_not, bit-either, bit_past, bit-none, either_lt, some-bit}
 use Rattle.aintc_record.specs.declared.Aintc.{Aintc}
-use Rattle.aintc_record.specs.Route.{routeOf, priorityOf, priority, routed}
+use Rattle.aintc_record.specs.Route.{route_of, priority_of, priority, routed}
 use Rattle.aintc_record.proofs.RecordLaws.{priority-fits}
-use Rattle.aintc_registers.specs.Inputs.{unmasked, pending, openWord, pendingWord}
+use Rattle.aintc_registers.specs.Inputs.{unmasked, pending, open_word, pending_word}
 use Rattle.aintc_registers.specs.Order.{before}
-use Rattle.aintc_registers.specs.Search.{routeWord}
+use Rattle.aintc_registers.specs.Search.{route_word}
 use Rattle.aintc_registers.proofs.InputLaws.{open-from, pending-from}
 use Rattle.aintc_registers.proofs.Promises as choice-promises
-use Rattle.aintc_room.specs.Room.{priorityWord, Laid}
+use Rattle.aintc_room.specs.Room.{priority_word, Laid}
 use Rattle.aintc_room.proofs.CellLaws.{lines-is, soft-is, masks-is, fiqs-is, bits_is}
 use Rattle.aintc_room.proofs.Promises.{priority-bit}
 use Rattle.aintc_room.specs.First.{held, halves, SomeOf, FirstOf, HighestOf}
 
 -- ---- the words of what is pending
 
-pub open_in : {a : Aintc} {room : List ℕ} → Laid a room → (n j r : ℕ) → n < 4 → j ≡ either (get_or room (16 + n) 0) (get_or room (20 + n) 0) → r ≡ without j (get_or room (24 + n) 0) → r ≡ openWord a n
+pub open_in : {a : Aintc} {room : List ℕ} → Laid a room → (n j r : ℕ) → n < 4 → j ≡ either (get_or room (16 + n) 0) (get_or room (20 + n) 0) → r ≡ without j (get_or room (24 + n) 0) → r ≡ open_word a n
 open_in {a} {room} h n j r l ej er = open-from a n _ _ _ j r (lines-is h n l) (soft-is h n l) ej (masks-is h n l) er
 
 -- what asks for FIQ does not ask for IRQ
@@ -47,19 +47,19 @@ not-fiq x = go (ℕ_discrete (x % 2) 1)
     go (yes e) = ap not (eq-eqb (x % 2) 1 e) ∙ sym (ne_eqb (x % 2) 0 (omega (arith, e)))
     go (no d) = ap not (ne_eqb (x % 2) 1 d) ∙ sym (eq-eqb (x % 2) 0 (omega (arith, d)))
 
-without-fiqs : (routes : List ℕ) (base o : ℕ) → without o (routeWord routes base 1) ≡ both o (routeWord routes base 0)
-unfolding without both routeWord
-without-fiqs routes base o =
-    wordOf-same 32 (λ k. bit o k && not (bit (word_of 32 (λ i. eqb (routeOf (get_or routes (base + i) 0)) 1)) k)) (λ k. bit o k && bit (word_of 32 (λ i. eqb (routeOf (get_or routes (base + i) 0)) 0)) k)
+without_fiqs : (routes : List ℕ) (base o : ℕ) → without o (route_word routes base 1) ≡ both o (route_word routes base 0)
+unfolding without both route_word
+without_fiqs routes base o =
+    word_of-same 32 (λ k. bit o k && not (bit (word_of 32 (λ i. eqb (route_of (get_or routes (base + i) 0)) 1)) k)) (λ k. bit o k && bit (word_of 32 (λ i. eqb (route_of (get_or routes (base + i) 0)) 0)) k)
     (λ k l. ap (λ (t : Bool). bit o k && t)
-    (ap not (bit-wordOf 32 (λ i. eqb (routeOf (get_or routes (base + i) 0)) 1) k l) ∙ not-fiq (get_or routes (base + k) 0) ∙ sym (bit-wordOf 32 (λ i. eqb (routeOf (get_or routes (base + i) 0)) 0) k l)))
+    (ap not (bit-word_of 32 (λ i. eqb (route_of (get_or routes (base + i) 0)) 1) k l) ∙ not-fiq (get_or routes (base + k) 0) ∙ sym (bit-word_of 32 (λ i. eqb (route_of (get_or routes (base + i) 0)) 0) k l)))
 
-module _ {a : Aintc} {room : List ℕ} (h : Laid a room) (n o r : ℕ) (l : n < 4) (eo : o ≡ openWord a n) where
-  pub pending-fast : (f : Bool) → f ≡ true → r ≡ both o (get_or room (28 + n) 0) → r ≡ pendingWord a f n
+module _ {a : Aintc} {room : List ℕ} (h : Laid a room) (n o r : ℕ) (l : n < 4) (eo : o ≡ open_word a n) where
+  pub pending-fast : (f : Bool) → f ≡ true → r ≡ both o (get_or room (28 + n) 0) → r ≡ pending_word a f n
   pending-fast f e er = pending-from a f n 1 o _ r (sym (ap one e)) eo refl (er ∙ ap (both o) (fiqs-is h n l))
 
-  pub pending-slow : (f : Bool) → f ≡ false → r ≡ without o (get_or room (28 + n) 0) → r ≡ pendingWord a f n
-  pending-slow f e er = pending-from a f n 0 o _ r (sym (ap one e)) eo refl (er ∙ ap (without o) (fiqs-is h n l) ∙ without-fiqs a.routes (32 * n) o)
+  pub pending_slow : (f : Bool) → f ≡ false → r ≡ without o (get_or room (28 + n) 0) → r ≡ pending_word a f n
+  pending_slow f e er = pending-from a f n 0 o _ r (sym (ap one e)) eo refl (er ∙ ap (without o) (fiqs-is h n l) ∙ without_fiqs a.routes (32 * n) o)
 
 -- ---- four words
 
@@ -95,10 +95,10 @@ module _ (w x y z : ℕ) where
       off = sym (any-bit (k % 32) (omega arith)) ∙ ap (λ (u : ℕ). bit u (k % 32)) (sym e ∙ o) ∙ bit-none (k % 32)
 
       at : (n : ℕ) → n < 4 → bit (nth w x y z n) (k % 32) ≡ false
-      at zero m = (or-neither (bit w (k % 32)) (bit x (k % 32)) (or-neither (bit w (k % 32) || bit x (k % 32)) _ off).0).0
-      at (suc zero) m = (or-neither (bit w (k % 32)) (bit x (k % 32)) (or-neither (bit w (k % 32) || bit x (k % 32)) _ off).0).1
-      at (suc (suc zero)) m = (or-neither (bit y (k % 32)) (bit z (k % 32)) (or-neither (bit w (k % 32) || bit x (k % 32)) _ off).1).0
-      at (suc (suc (suc zero))) m = (or-neither (bit y (k % 32)) (bit z (k % 32)) (or-neither (bit w (k % 32) || bit x (k % 32)) _ off).1).1
+      at zero m = (or_neither (bit w (k % 32)) (bit x (k % 32)) (or_neither (bit w (k % 32) || bit x (k % 32)) _ off).0).0
+      at (suc zero) m = (or_neither (bit w (k % 32)) (bit x (k % 32)) (or_neither (bit w (k % 32) || bit x (k % 32)) _ off).0).1
+      at (suc (suc zero)) m = (or_neither (bit y (k % 32)) (bit z (k % 32)) (or_neither (bit w (k % 32) || bit x (k % 32)) _ off).1).0
+      at (suc (suc (suc zero))) m = (or_neither (bit y (k % 32)) (bit z (k % 32)) (or_neither (bit w (k % 32) || bit x (k % 32)) _ off).1).1
       at (suc (suc (suc (suc n)))) m = absurd (omega (arith, m))
 
   -- one is held where not all are
@@ -148,7 +148,7 @@ pair-bit a b r l e i m = go (dec_lt i 32)
     go (yes u) =
         let q : i / 32 ≡ 0 = omega (arith, u) in
         let s : i % 32 ≡ i = omega (arith, u) in
-        sym (bit-mod r 32 i u) ∙ ap (λ (w : ℕ). bit w i) low ∙ sym (ap₂ (λ (n j : ℕ). bit (half_at a b n) j) q s)
+        sym (bit_mod r 32 i u) ∙ ap (λ (w : ℕ). bit w i) low ∙ sym (ap₂ (λ (n j : ℕ). bit (half_at a b n) j) q s)
     go (no u) =
         let q : i / 32 ≡ 1 = omega (arith, u, m) in
         let s : i ≡ 32 + i % 32 = omega (arith, u, m) in
@@ -196,22 +196,22 @@ none-halves x y ex ey k l = at (k / 64) (omega (arith, l))
     at (suc zero) m = ap (λ (w : ℕ). bit w (k % 64)) ey ∙ bit-none (k % 64)
     at (suc (suc n)) m = absurd (omega (arith, m))
 
-in-half : (x y n i : ℕ) → n < 2 → i < 64 → bit (half_at x y n) i ≡ true → SomeOf (halves x y)
-in-half x y n i m l t =
+in_half : (x y n i : ℕ) → n < 2 → i < 64 → bit (half_at x y n) i ≡ true → SomeOf (halves x y)
+in_half x y n i m l t =
     let q : (64 * n + i) / 64 ≡ n = omega (arith, l) in
     let r : (64 * n + i) % 64 ≡ i = omega (arith, l) in
     (64 * n + i, omega (arith, m, l), ap₂ (λ (u v : ℕ). bit (half_at x y u) v) q r ∙ t)
 
-pub any-halves : (x y : ℕ) → x < 2 ^ 64 → y < 2 ^ 64 → (not (eqb x 0) || not (eqb y 0)) ≡ anyBelow 128 (halves x y)
+pub any-halves : (x y : ℕ) → x < 2 ^ 64 → y < 2 ^ 64 → (not (eqb x 0) || not (eqb y 0)) ≡ any_below 128 (halves x y)
 any-halves x y lx ly = go (ℕ_discrete x 0) (ℕ_discrete y 0)
   where
-    found : SomeOf (halves x y) → anyBelow 128 (halves x y) ≡ true
-    found (k, l, e) = some-any 128 (halves x y) k l e
+    found : SomeOf (halves x y) → any_below 128 (halves x y) ≡ true
+    found (k, l, e) = some_any 128 (halves x y) k l e
 
-    go : Dec (x ≡ 0) → Dec (y ≡ 0) → (not (eqb x 0) || not (eqb y 0)) ≡ anyBelow 128 (halves x y)
+    go : Dec (x ≡ 0) → Dec (y ≡ 0) → (not (eqb x 0) || not (eqb y 0)) ≡ any_below 128 (halves x y)
     go (yes p) (yes q) = ap₂ (λ (s t : Bool). not s || not t) (eq-eqb x 0 p) (eq-eqb y 0 q) ∙ sym (any_none 128 (halves x y) (none-halves x y p q))
-    go (no p) _ = or_left _ (ap not (ne_eqb x 0 p)) ∙ sym (found (let b = some-bit 64 x lx p in in-half x y 0 b.0 (omega arith) b.1 b.2))
-    go (yes p) (no q) = or_right (not (eqb x 0)) (ap not (ne_eqb y 0 q)) ∙ sym (found (let b = some-bit 64 y ly q in in-half x y 1 b.0 (omega arith) b.1 b.2))
+    go (no p) _ = or_left _ (ap not (ne_eqb x 0 p)) ∙ sym (found (let b = some-bit 64 x lx p in in_half x y 0 b.0 (omega arith) b.1 b.2))
+    go (yes p) (no q) = or_right (not (eqb x 0)) (ap not (ne_eqb y 0 q)) ∙ sym (found (let b = some-bit 64 y ly q in in_half x y 1 b.0 (omega arith) b.1 b.2))
 
 -- ---- the highest
 
@@ -231,8 +231,8 @@ highest-bit w r l d e =
     }
 
 -- of two halves, a higher one being 0
-pub highest-in : (x y n r k : ℕ) → n < 2 → HighestOf (bit (half_at x y n)) 64 r → (n < 1 → y ≡ 0) → k ≡ 64 * n + r → HighestOf (halves x y) 128 k
-highest-in x y n r k l h o e =
+pub highest_in : (x y n r k : ℕ) → n < 2 → HighestOf (bit (half_at x y n)) 64 r → (n < 1 → y ≡ 0) → k ≡ 64 * n + r → HighestOf (halves x y) 128 k
+highest_in x y n r k l h o e =
     let q : k / 64 ≡ n = omega (arith, e, h.within) in
     let s : k % 64 ≡ r = omega (arith, e, h.within) in
     record {
@@ -305,8 +305,8 @@ module _ (s : Aintc) (p q t : ℕ → Bool) (k : ℕ) (h : Least s p q (suc k)) 
   low : (i j : ℕ) → i < 128 → j < 128 → q i ≡ true → p j ≡ true → part i / 2 ≤ part j / 2
   low i j l m f g = omega (arith, h.lowest i j l m f g, half i, half j)
 
-  in-too : (i j : ℕ) → i < 128 → j < 128 → q i ≡ true → p j ≡ true → part j / 2 ≤ part i / 2 → q j ≡ true
-  in-too i j l m f g o = h.whole i j l m f g (omega (arith, o, half i, half j))
+  in_too : (i j : ℕ) → i < 128 → j < 128 → q i ≡ true → p j ≡ true → part j / 2 ≤ part i / 2 → q j ≡ true
+  in_too i j l m f g o = h.whole i j l m f g (omega (arith, o, half i, half j))
 
   -- some have the bit 0
   pub least-some : SomeOf t → Least s p t k
@@ -316,7 +316,7 @@ module _ (s : Aintc) (p q t : ℕ → Bool) (k : ℕ) (h : Least s p q (suc k)) 
         among = λ i l f. h.among i l (kept_in i l f);
         lowest = λ i j l m f g. omega (arith, low i j l m (kept_in i l f) g, even i l f);
         whole = λ i j l m f g u. let v : part j / 2 ≤ part i / 2 = omega (arith, u) in
-            stays j m (in-too i j l m (kept_in i l f) g v) (omega (arith, u, even i l f, low i j l m (kept_in i l f) g));
+            stays j m (in_too i j l m (kept_in i l f) g v) (omega (arith, u, even i l f, low i j l m (kept_in i l f) g));
       }
 
   -- none has
@@ -326,22 +326,22 @@ module _ (s : Aintc) (p q t : ℕ → Bool) (k : ℕ) (h : Least s p q (suc k)) 
         some = h.some;
         among = h.among;
         lowest = λ i j l m f g. under i j l m f g (dec_lt (part i / 2) (part j / 2));
-        whole = λ i j l m f g u. in-too i j l m f g (omega (arith, u));
+        whole = λ i j l m f g u. in_too i j l m f g (omega (arith, u));
       }
     where
       under : (i j : ℕ) → i < 128 → j < 128 → q i ≡ true → p j ≡ true → Dec (part i / 2 < part j / 2) → part i ≤ part j
       under i j l m f g (yes u) = omega (arith, u)
       under i j l m f g (no u) =
           let v : part j / 2 ≤ part i / 2 = omega (arith, u) in
-          omega (arith, low i j l m f g, v, odd j m (in-too i j l m f g v) (o j m))
+          omega (arith, low i j l m f g, v, odd j m (in_too i j l m f g v) (o j m))
 
 -- the highest of those of the lowest priority is the first
-pub first-least : (s : Aintc) (p q : ℕ → Bool) (k : ℕ) → Least s p q 0 → HighestOf q 128 k → FirstOf s p k
-first-least s p q k h t =
+pub first_least : (s : Aintc) (p q : ℕ → Bool) (k : ℕ) → Least s p q 0 → HighestOf q 128 k → FirstOf s p k
+first_least s p q k h t =
     record {
       within = t.within;
       fit = h.among k t.within t.fit;
-      others = λ j l e d. ((choice-promises.kept).beforeIs s k j).1 (which j l e d (dec_lt (priority s k) (priority s j)));
+      others = λ j l e d. ((choice-promises.kept).before_is s k j).1 (which j l e d (dec_lt (priority s k) (priority s j)));
     }
   where
     which : (j : ℕ) → j < 128 → p j ≡ true → j ≢ k → Dec (priority s k < priority s j) → (priority s k < priority s j) ⊎ ((priority s k ≡ priority s j) × (j < k))
@@ -358,21 +358,21 @@ module _ {s : Aintc} {room : List ℕ} (h : Laid s room) (k : ℕ) (l : k < 7) (
     (eu : (i : ℕ) → i < 64 → bit u i ≡ bit_at (get_or room (32 + (4 * k + 0)) 0 ∷ get_or room (32 + (4 * k + 1)) 0 ∷ []) i)
     (ev : (i : ℕ) → i < 64 → bit v i ≡ bit_at (get_or room (32 + (4 * k + 2)) 0 ∷ get_or room (32 + (4 * k + 3)) 0 ∷ []) i)
     (ex : (i : ℕ) → i < 64 → bit x i ≡ (bit low i && not (bit u i))) (ey : (i : ℕ) → i < 64 → bit y i ≡ (bit high i && not (bit v i))) where
-  by-half : (n : ℕ) → n < 2 → (j : ℕ) → j < 64 → bit (half_at x y n) j ≡ (bit (half_at low high n) j && not (bit (half_at u v n) j))
-  by-half zero m j r = ex j r
-  by-half (suc zero) m j r = ey j r
-  by-half (suc (suc n)) m j r = absurd (omega (arith, m))
+  by_half : (n : ℕ) → n < 2 → (j : ℕ) → j < 64 → bit (half_at x y n) j ≡ (bit (half_at low high n) j && not (bit (half_at u v n) j))
+  by_half zero m j r = ex j r
+  by_half (suc zero) m j r = ey j r
+  by_half (suc (suc n)) m j r = absurd (omega (arith, m))
 
   -- those of which bit k of the priority is 0
   narrowed : (i : ℕ) → i < 128 → halves x y i ≡ (halves low high i && not (bit (priority s i) k))
   narrowed i m =
       let e : 32 * (i / 32) + i % 32 ≡ i = omega arith in
-      by-half (i / 64) (omega (arith, m)) (i % 64) (omega arith)
+      by_half (i / 64) (omega (arith, m)) (i % 64) (omega arith)
       ∙ ap (λ (t : Bool). halves low high i && not t)
       (halves-held _ _ _ _ u v eu ev i m ∙ held-is _ _ _ _ (λ n. get_or room (32 + (4 * k + n)) 0) refl refl refl refl i m
       ∙ priority-bit s room h k (i / 32) (i % 32) l (omega (arith, m)) (omega arith) ∙ ap (λ (n : ℕ). bit (priority s n) k) e)
 
-  module _ (p : ℕ → Bool) (g : Least s p (halves low high) (suc k)) (w : Bool) (ew : w ≡ anyBelow 128 (halves x y)) (low' high' : ℕ)
+  module _ (p : ℕ → Bool) (g : Least s p (halves low high) (suc k)) (w : Bool) (ew : w ≡ any_below 128 (halves x y)) (low' high' : ℕ)
       (el : low' ≡ pick w x low) (eh : high' ≡ pick w y high) where
     abbrev Now : ℕ → ℕ → Type 0
     Now a b = Least s p (halves a b) k
@@ -389,4 +389,4 @@ module _ {s : Aintc} {room : List ℕ} (h : Laid s room) (k : ℕ) (l : k < 7) (
             (least-some s p (halves low high) (halves x y) k g narrowed (any_some 128 (halves x y) (sym ew ∙ t)))
         go (inr t) =
             same low high (el ∙ sym (pick-false x t)) (eh ∙ sym (pick-false y t))
-            (least-none s p (halves low high) (halves x y) k g narrowed (any-fails 128 (halves x y) (sym ew ∙ t)))
+            (least-none s p (halves low high) (halves x y) k g narrowed (any_fails 128 (halves x y) (sym ew ∙ t)))

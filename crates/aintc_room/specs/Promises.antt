@@ -3,7 +3,7 @@ use Rattle.std.specs.Prelude.{ℕ, ◌+◌, ◌*◌, ◌<◌, ◌≡◌, Bool, L
 use Rattle.words.specs.Word.{bit}
 use Rattle.aintc_record.specs.declared.Aintc.{Aintc}
 use Rattle.aintc_record.specs.Promises.{Shaped}
-use Rattle.aintc_record.specs.Route.{routeAt, routeOf, priority}
+use Rattle.aintc_record.specs.Route.{route_at, route_of, priority}
 use Rattle.aintc_room.specs.Room.{Bytes, Laid}
 
 pub record Promises : Type 0 where
@@ -15,7 +15,7 @@ pub record Promises : Type 0 where
   pub stands : (a : Aintc) → Shaped a → Bytes a → (r : List ℕ) × Laid a r
   pub size : (a : Aintc) (r : List ℕ) → Laid a r → (length r ≡ 2048) × (get_or r 0 0 ≡ 3)
   -- bit i of word 28 + n tells whether input 32 n + i asks for FIQ (000, table 4-23)
-  pub fiqs : (a : Aintc) (r : List ℕ) (n i : ℕ) → Laid a r → n < 4 → i < 32 → bit (get_or r (28 + n) 0) i ≡ eqb (routeOf (routeAt a (32 * n + i))) 1
+  pub fiqs : (a : Aintc) (r : List ℕ) (n i : ℕ) → Laid a r → n < 4 → i < 32 → bit (get_or r (28 + n) 0) i ≡ eqb (route_of (route_at a (32 * n + i))) 1
   -- bit i of word 32 + 4 b + n is bit b of the priority of input 32 n + i (000, 4.3.1.2.2)
   pub bits : (a : Aintc) (r : List ℕ) (b n i : ℕ) → Laid a r → b < 7 → n < 4 → i < 32 → bit (get_or r (32 + (4 * b + n)) 0) i ≡ bit (priority a (32 * n + i)) b
   -- words 7, 11 and 15, which no number needs, are 0, and so are the 68 before the routes

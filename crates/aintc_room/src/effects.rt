@@ -2,11 +2,11 @@
 ghost use Rattle.std.specs.Prelude.{◌≡◌, true, ℕ, ◌+◌, ◌<◌, ◌≤◌, set};
 ghost use Rattle.rooms.specs.Parts.{stored};
 ghost use Rattle.aintc_record.specs.declared.Aintc.{Aintc};
-ghost use Rattle.aintc_record.specs.Record.{withRoutes, side, reset};
-ghost use Rattle.aintc_record.specs.Route.{routeByte};
+ghost use Rattle.aintc_record.specs.Record.{with_routes, side, reset};
+ghost use Rattle.aintc_record.specs.Route.{route_byte};
 ghost use Rattle.aintc_registers.specs.Settle.{settle, sound};
-ghost use Rattle.aintc_registers.specs.Effects.{released, agreed, configured, singleWritten, bankWritten, writtenAt, moved};
-ghost use Rattle.aintc_room.specs.Room.{Laid, withSide};
+ghost use Rattle.aintc_registers.specs.Effects.{released, agreed, configured, single_written, bank_written, written_at, moved};
+ghost use Rattle.aintc_room.specs.Room.{Laid, with_side};
 
 use super::layout::{
     AUTOIDLE, BITS, FIQS, FUNCIDLE, GUARDED, LINES, MASKS, REVISION, ROUTES, SOFT, THRESHOLD, TURBO,
@@ -20,7 +20,7 @@ use rooms::Room;
 
 // An output is freed where its agreement bit is written.
 fn release(room: &mut Room, agreed: bool, fast: bool)
-    ensures { (a : Aintc) → Laid a room.old → Laid (withSide a fast (released agreed (side a fast))) room.new }
+    ensures { (a : Aintc) → Laid a room.old → Laid (with_side a fast (released agreed (side a fast))) room.new }
 {
     let at = place_of(fast);
     if agreed {
@@ -77,7 +77,7 @@ fn configure(room: &mut Room, v: u32)
 
 // The registers that stand alone; nothing changes where there is none to write.
 fn write_single(room: &mut Room, offset: u32, v: u32)
-    ensures { (a : Aintc) → Laid a room.old → Laid (singleWritten a offset v) room.new }
+    ensures { (a : Aintc) → Laid a room.old → Laid (single_written a offset v) room.new }
 {
     match offset {
         map::CONTROL => agree(room, v),
@@ -104,7 +104,7 @@ fn write_single(room: &mut Room, offset: u32, v: u32)
 // The registers of bank n, by their row; nothing changes where there is none to write.
 fn write_bank(room: &mut Room, n: usize, row: u32, v: u32)
     requires { n < 4 }
-    ensures { (a : Aintc) → Laid a room.old → Laid (bankWritten a n row v) room.new }
+    ensures { (a : Aintc) → Laid a room.old → Laid (bank_written a n row v) room.new }
 {
     match row {
         map::MIR => {
@@ -132,7 +132,7 @@ fn write_bank(room: &mut Room, n: usize, row: u32, v: u32)
 
 // The route of input k; past the last one nothing changes.
 fn write_route(room: &mut Room, k: u32, v: u32)
-    ensures { (a : Aintc) → Laid a room.old → Laid (withRoutes a (set a.routes k (routeByte v))) room.new }
+    ensures { (a : Aintc) → Laid a room.old → Laid (with_routes a (set a.routes k (route_byte v))) room.new }
 {
     if 128 <= k {
         return;
@@ -142,7 +142,7 @@ fn write_route(room: &mut Room, k: u32, v: u32)
 
 // A write of a register that takes the value.
 pub(crate) fn write_at(room: &mut Room, offset: u32, v: u32)
-    ensures { (a : Aintc) → Laid a room.old → Laid (writtenAt a offset v) room.new }
+    ensures { (a : Aintc) → Laid a room.old → Laid (written_at a offset v) room.new }
 {
     if offset < map::ITR {
         write_single(room, offset, v);

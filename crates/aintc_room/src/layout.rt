@@ -4,9 +4,9 @@ ghost use Rattle.std.specs.Prelude.{◌≡◌, true, ℕ, ◌+◌, ◌*◌, ◌%
 ghost use Rattle.words.specs.Counting.{upto};
 ghost use Rattle.rooms.specs.Parts.{stored};
 ghost use Rattle.aintc_record.specs.declared.Aintc.{Aintc};
-ghost use Rattle.aintc_record.specs.Record.{withRoutes};
+ghost use Rattle.aintc_record.specs.Record.{with_routes};
 ghost use Rattle.aintc_registers.specs.Settle.{sound};
-ghost use Rattle.aintc_room.specs.Room.{fiqWord, priorityWord, bitsWord, Laid, Tabled, chosenPut, bitPut};
+ghost use Rattle.aintc_room.specs.Room.{fiq_word, priority_word, bits_word, Laid, Tabled, chosen_put, bit_put};
 
 use aintc_record::{Aintc, Chosen};
 use rooms::Room;
@@ -85,7 +85,7 @@ fn lay_routes<'a>(room: &'a mut Room, routes: &'a [u8; 128])
 
 // The inputs that ask for FIQ.
 fn lay_fiqs<'a>(room: &'a mut Room, routes: &'a [u8; 128])
-    ensures { room.new ≡ stored 28 (fiqWord routes.now) room.old 4 }
+    ensures { room.new ≡ stored 28 (fiq_word routes.now) room.old 4 }
 {
     let mut n: u32 = 0;
     while n < 4 {
@@ -98,7 +98,7 @@ fn lay_fiqs<'a>(room: &'a mut Room, routes: &'a [u8; 128])
 // Bit b of the priority of each input of word n.
 fn priority_word(routes: &[u8; 128], n: u32, b: u32) -> u32
     requires { n < 4 }
-    ensures { result ≡ priorityWord routes.now n b }
+    ensures { result ≡ priority_word routes.now n b }
 {
     let mut w: u32 = 0;
     let mut i: u32 = 0;
@@ -113,7 +113,7 @@ fn priority_word(routes: &[u8; 128], n: u32, b: u32) -> u32
 
 // The bits of the priorities.
 fn lay_bits<'a>(room: &'a mut Room, routes: &'a [u8; 128])
-    ensures { room.new ≡ stored 32 (bitsWord routes.now) room.old 28 }
+    ensures { room.new ≡ stored 32 (bits_word routes.now) room.old 28 }
 {
     let mut j: u32 = 0;
     while j < 28 {
@@ -144,7 +144,7 @@ fn tables_of(a: Aintc) -> Room
 // One that is chosen, from a place on.
 fn lay_chosen(room: &mut Room, at: usize, c: Chosen)
     requires { at ≤ 12 }
-    ensures { room.new ≡ chosenPut at c room.old }
+    ensures { room.new ≡ chosen_put at c room.old }
 {
     room[at] = words::one_if(c.active);
     room[at + 1] = c.number as u32;
@@ -253,7 +253,7 @@ pub fn record_of(room: &Room) -> Aintc
 // Bit i of the words of the priorities of word n is as p has its bits.
 fn put_bits(room: &mut Room, n: u32, i: u32, p: u32)
     requires { n < 4 }
-    ensures { room.new ≡ upto (bitPut n i p) room.old 7 }
+    ensures { room.new ≡ upto (bit_put n i p) room.old 7 }
 {
     let mut b: u32 = 0;
     while b < 7 {
@@ -267,7 +267,7 @@ fn put_bits(room: &mut Room, n: u32, i: u32, p: u32)
 // The route of input k, with its bits in the words that are kept beside the routes.
 pub(crate) fn put_route(room: &mut Room, k: u32, route: u32)
     requires { (k < 128) × (route < 256) }
-    ensures { (a : Aintc) → Laid a room.old → Laid (withRoutes a (set a.routes k route)) room.new }
+    ensures { (a : Aintc) → Laid a room.old → Laid (with_routes a (set a.routes k route)) room.new }
 {
     let n = k / 32;
     let i = k % 32;

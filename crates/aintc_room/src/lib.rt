@@ -4,9 +4,9 @@ ghost use Rattle.steps.specs.declared.Step.{Step};
 ghost use Rattle.aintc_record.specs.declared.Aintc.{Aintc};
 ghost use Rattle.aintc_record.specs.Record.{side};
 ghost use Rattle.aintc_registers.specs.Settle.{sound};
-ghost use Rattle.aintc_record.specs.Route.{routeAt, routeValue};
-ghost use Rattle.aintc_registers.specs.Registers.{shown, singleRead, bankRead, readAt};
-ghost use Rattle.aintc_registers.specs.Model.{is_register, barred, accessNumber, read, write, line, step, outputs};
+ghost use Rattle.aintc_record.specs.Route.{route_at, route_value};
+ghost use Rattle.aintc_registers.specs.Registers.{shown, single_read, bank_read, read_at};
+ghost use Rattle.aintc_registers.specs.Model.{is_register, barred, access_number, read, write, line, step, outputs};
 ghost use Rattle.rooms.specs.Reply.{told};
 ghost use Rattle.trace.specs.Turns.{step_of};
 ghost use Rattle.aintc_room.specs.Room.{Laid};
@@ -56,7 +56,7 @@ fn priority_shown(room: &Room, fast: bool) -> u32
 
 // The registers that stand alone; 0 where there is none to read.
 fn read_single(room: &Room, offset: u32) -> u32
-    ensures { (a : Aintc) → Laid a room.now → result ≡ singleRead a offset }
+    ensures { (a : Aintc) → Laid a room.now → result ≡ single_read a offset }
 {
     match offset {
         map::REVISION => room[REVISION],
@@ -76,7 +76,7 @@ fn read_single(room: &Room, offset: u32) -> u32
 // The registers of bank n, by their row; 0 where there is none to read.
 fn read_bank(room: &Room, n: usize, row: u32) -> u32
     requires { n < 4 }
-    ensures { (a : Aintc) → Laid a room.now → result ≡ bankRead a n row }
+    ensures { (a : Aintc) → Laid a room.now → result ≡ bank_read a n row }
 {
     match row {
         map::ITR => room[LINES + n],
@@ -90,7 +90,7 @@ fn read_bank(room: &Room, n: usize, row: u32) -> u32
 
 // The route of input k as its register shows it; 0 past the last one.
 fn read_route(room: &Room, k: u32) -> u32
-    ensures { (a : Aintc) → Laid a room.now → result ≡ routeValue (routeAt a k) }
+    ensures { (a : Aintc) → Laid a room.now → result ≡ route_value (route_at a k) }
 {
     if 128 <= k {
         return 0;
@@ -101,7 +101,7 @@ fn read_route(room: &Room, k: u32) -> u32
 
 // A read of a register that may be read.
 fn read_at(room: &Room, offset: u32) -> u32
-    ensures { (a : Aintc) → Laid a room.now → result ≡ readAt a offset }
+    ensures { (a : Aintc) → Laid a room.now → result ≡ read_at a offset }
 {
     if offset < map::ITR {
         return read_single(room, offset);
@@ -138,7 +138,7 @@ fn is_barred(guarded: bool, privilege: u32, offset: u32) -> bool
 // The checks of an access to a sound record in their order, 6, 13, then those of the read or the write itself; 1 and 2 of those come
 // before 13, since a barred access is aligned and of a register.
 fn access_number(privilege: u32, barred: bool, rest: u32) -> u32
-    ensures { result ≡ accessNumber true privilege barred rest }
+    ensures { result ≡ access_number true privilege barred rest }
 {
     if 1 < privilege {
         return steps::BEYOND;
@@ -151,7 +151,7 @@ fn access_number(privilege: u32, barred: bool, rest: u32) -> u32
 
 // By which number an access is refused, 0 for none, where `rest` is that of a privileged one. Privileged ones are asked for first.
 fn number(room: &Room, privilege: u32, offset: u32, rest: u32) -> u32
-    ensures { (a : Aintc) → Laid a room.now → result ≡ accessNumber true privilege (barred a.guarded privilege offset) rest }
+    ensures { (a : Aintc) → Laid a room.now → result ≡ access_number true privilege (barred a.guarded privilege offset) rest }
 {
     if privilege == 1 {
         return rest;

@@ -2,10 +2,10 @@
 ghost use Rattle.std.specs.Prelude.{◌≡◌, not, ◌&&◌, [], ◌∷◌, ◌≢◌, ℕ, ◌<◌};
 ghost use Rattle.words.specs.Array.{bit_at};
 ghost use Rattle.words.specs.Choice.{pick};
-ghost use Rattle.words.specs.Counting.{anyBelow};
+ghost use Rattle.words.specs.Counting.{any_below};
 ghost use Rattle.words.specs.Word.{bit, either};
 ghost use Rattle.aintc_record.specs.declared.Aintc.{Aintc};
-ghost use Rattle.aintc_registers.specs.Inputs.{openWord, pendingWord};
+ghost use Rattle.aintc_registers.specs.Inputs.{open_word, pending_word};
 ghost use Rattle.aintc_room.specs.Room.{Laid};
 ghost use Rattle.aintc_room.specs.First.{held, halves, SomeOf, FirstOf, HighestOf};
 
@@ -15,7 +15,7 @@ use rooms::Room;
 // Word n of the inputs that are raised, by their line or by a soft interrupt, and not masked.
 pub(crate) fn open_word(room: &Room, n: usize) -> u32
     requires { n < 4 }
-    ensures { (a : Aintc) → Laid a room.now → result ≡ openWord a n }
+    ensures { (a : Aintc) → Laid a room.now → result ≡ open_word a n }
 {
     words::drop_bits(
         words::join(room[LINES + n], room[SOFT + n]),
@@ -26,7 +26,7 @@ pub(crate) fn open_word(room: &Room, n: usize) -> u32
 // Word n of the inputs that are pending for FIQ, where `fast`, or for IRQ.
 pub(crate) fn pending_word(room: &Room, fast: bool, n: usize) -> u32
     requires { n < 4 }
-    ensures { (a : Aintc) → Laid a room.now → result ≡ pendingWord a fast n }
+    ensures { (a : Aintc) → Laid a room.now → result ≡ pending_word a fast n }
 {
     let open = open_word(room, n);
     let fiqs = room[FIQS + n];
@@ -61,7 +61,7 @@ fn drop_bits(a: u64, b: u64) -> u64
 
 // Whether two halves hold any input.
 fn holds(low: u64, high: u64) -> bool
-    ensures { result ≡ anyBelow 128 (halves low high) }
+    ensures { result ≡ any_below 128 (halves low high) }
 {
     (low != 0) | (high != 0)
 }

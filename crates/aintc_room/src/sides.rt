@@ -2,8 +2,8 @@
 ghost use Rattle.std.specs.Prelude.{◌≡◌, false, ℕ, ◌<◌, ◌≤◌};
 ghost use Rattle.aintc_record.specs.declared.Aintc.{Aintc};
 ghost use Rattle.aintc_record.specs.Record.{side};
-ghost use Rattle.aintc_registers.specs.Settle.{settledSide, settle};
-ghost use Rattle.aintc_room.specs.Room.{Laid, chosenFrom, withSide};
+ghost use Rattle.aintc_registers.specs.Settle.{settled_side, settle};
+ghost use Rattle.aintc_room.specs.Room.{Laid, chosen_from, with_side};
 ghost use Rattle.aintc_room.specs.First.{Leads, Alone};
 
 use super::layout::{FIQ, FIQS, IRQ, ROUTES, THRESHOLD};
@@ -12,7 +12,7 @@ use rooms::Room;
 
 // Where the one stands that is chosen for FIQ, where `fast`, or for IRQ.
 pub(crate) fn place_of(fast: bool) -> usize
-    ensures { (result ≡ chosenFrom fast) × (result ≤ 12) }
+    ensures { (result ≡ chosen_from fast) × (result ≤ 12) }
 {
     if fast {
         return FIQ;
@@ -23,7 +23,7 @@ pub(crate) fn place_of(fast: bool) -> usize
 // Input k, before all others that an output with none chosen may take, is chosen if the threshold lets its priority pass.
 fn take(room: &mut Room, fast: bool, k: u32)
     requires { k < 128 }
-    ensures { (a : Aintc) → Laid a room.old → (side a fast).active ≡ false → Leads a fast k → Laid (withSide a fast (settledSide a fast)) room.new }
+    ensures { (a : Aintc) → Laid a room.old → (side a fast).active ≡ false → Leads a fast k → Laid (with_side a fast (settled_side a fast)) room.new }
 {
     let at = place_of(fast);
     let priority = room[ROUTES + k as usize] / 2;
@@ -36,7 +36,7 @@ fn take(room: &mut Room, fast: bool, k: u32)
 
 // An output with none chosen takes its first.
 fn settle_side(room: &mut Room, fast: bool)
-    ensures { (a : Aintc) → Laid a room.old → Laid (withSide a fast (settledSide a fast)) room.new }
+    ensures { (a : Aintc) → Laid a room.old → Laid (with_side a fast (settled_side a fast)) room.new }
 {
     let at = place_of(fast);
     if room[at] != 0 {

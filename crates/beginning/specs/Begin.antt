@@ -1,13 +1,13 @@
 -- How a trace begins: its length, the controller's kind and the configuration, read in byte order (01, "House trace").
 use Rattle.std.specs.Prelude.{ℕ, zero, suc, ◌+◌, List, length, eqb, ltb}
 use Rattle.words.specs.Choice.{pick}
-use Rattle.steps.specs.Refusals.{carriedOut, unknown, misconfigured, tooLong}
-use Rattle.numbers.specs.Number.{numberAt}
+use Rattle.steps.specs.Refusals.{carried_out, unknown, misconfigured, too_long}
+use Rattle.numbers.specs.Number.{number_at}
 use Rattle.numbers.specs.declared.Number.{Number}
 use Rattle.numbers.specs.declared.Number.TheVariants.{Value, Refused}
 use Rattle.kinds.specs.declared.Configuration.{Configuration}
-use Rattle.kinds.specs.Kinds.{isKind, wanted, within}
-use Rattle.kinds.specs.Configuration.{noNumbers, with_number}
+use Rattle.kinds.specs.Kinds.{is_kind, wanted, within}
+use Rattle.kinds.specs.Configuration.{no_numbers, with_number}
 use Rattle.machine.specs.Machine.{blank, start}
 use Rattle.beginning.specs.declared.Setup.{Setup}
 use Rattle.beginning.specs.declared.Begun.{Begun}
@@ -19,45 +19,45 @@ longest = 65536
 -- ---- the configuration
 
 -- refused, with the offset of the number at fault
-abbrev pub refusedSetup : ℕ → ℕ → Setup
-refusedSetup refusal offset = record { refusal = refusal; place = offset; configuration = noNumbers }
+abbrev pub refused_setup : ℕ → ℕ → Setup
+refused_setup refusal offset = record { refusal = refusal; place = offset; configuration = no_numbers }
 
 -- accepted, with the place of the first step
-abbrev pub acceptedSetup : Configuration → ℕ → Setup
-acceptedSetup c at = record { refusal = carriedOut; place = at; configuration = c }
+abbrev pub accepted_setup : Configuration → ℕ → Setup
+accepted_setup c at = record { refusal = carried_out; place = at; configuration = c }
 
 -- the nth number stands at a place: 8 where it is damaged, 10 where it is beyond its limit, else the rest (01, House trace)
-abbrev pub byValue : ℕ → ℕ → Configuration → ℕ → (Configuration → ℕ → Setup) → Number → Setup
-byValue kind nth c at rest (Refused n p) = refusedSetup n p
-byValue kind nth c at rest (Value v next) = pick (within kind nth v) (rest (with_number c nth v) next) (refusedSetup misconfigured at)
+abbrev pub by_value : ℕ → ℕ → Configuration → ℕ → (Configuration → ℕ → Setup) → Number → Setup
+by_value kind nth c at rest (Refused n p) = refused_setup n p
+by_value kind nth c at rest (Value v next) = pick (within kind nth v) (rest (with_number c nth v) next) (refused_setup misconfigured at)
 
 -- so many numbers from the nth on, each checked as it is read (01, House trace)
-unfoldable pub setupFrom : ℕ → ℕ → ℕ → List ℕ → Configuration → ℕ → Setup
-setupFrom kind zero nth s c at = acceptedSetup c at
-setupFrom kind (suc left) nth s c at = byValue kind nth c at (setupFrom kind left (nth + 1) s) (numberAt s at)
+unfoldable pub setup_from : ℕ → ℕ → ℕ → List ℕ → Configuration → ℕ → Setup
+setup_from kind zero nth s c at = accepted_setup c at
+setup_from kind (suc left) nth s c at = by_value kind nth c at (setup_from kind left (nth + 1) s) (number_at s at)
 
 -- the whole configuration of a kind, from a place on
-unfoldable pub setupOf : ℕ → List ℕ → ℕ → Setup
-setupOf kind s at = setupFrom kind (wanted kind) 0 s noNumbers at
+unfoldable pub setup_of : ℕ → List ℕ → ℕ → Setup
+setup_of kind s at = setup_from kind (wanted kind) 0 s no_numbers at
 
 -- ---- the beginning
 
 -- no machine is started: its numbers are all 0 (01, House trace)
-abbrev pub notBegun : ℕ → ℕ → Begun
-notBegun refusal offset = record { refusal = refusal; place = offset; machine = blank }
+abbrev pub not_begun : ℕ → ℕ → Begun
+not_begun refusal offset = record { refusal = refusal; place = offset; machine = blank }
 
 -- the machine of a configuration, once all of it is accepted
-unfoldable pub bySetup : ℕ → Setup → Begun
-bySetup kind t =
-    pick (eqb t.refusal carriedOut)
-    (record { refusal = carriedOut; place = t.place; machine = start kind t.configuration })
-    (notBegun t.refusal t.place)
+unfoldable pub by_setup : ℕ → Setup → Begun
+by_setup kind t =
+    pick (eqb t.refusal carried_out)
+    (record { refusal = carried_out; place = t.place; machine = start kind t.configuration })
+    (not_begun t.refusal t.place)
 
 -- the number at the start of a trace is the controller's kind: 8 where it is damaged, 9 where there is no such kind (01, Numbers)
-abbrev pub byController : List ℕ → Number → Begun
-byController s (Refused n p) = notBegun n p
-byController s (Value kind next) = pick (isKind kind) (bySetup kind (setupOf kind s next)) (notBegun unknown 0)
+abbrev pub by_controller : List ℕ → Number → Begun
+by_controller s (Refused n p) = not_begun n p
+by_controller s (Value kind next) = pick (is_kind kind) (by_setup kind (setup_of kind s next)) (not_begun unknown 0)
 
 -- where the steps begin and with which machine, or the refusal with its offset; the length is checked before all else (01, House trace)
-unfoldable pub beginOf : List ℕ → Begun
-beginOf s = pick (ltb longest (length s)) (notBegun tooLong longest) (byController s (numberAt s 0))
+unfoldable pub begin_of : List ℕ → Begun
+begin_of s = pick (ltb longest (length s)) (not_begun too_long longest) (by_controller s (number_at s 0))

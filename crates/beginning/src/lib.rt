@@ -1,6 +1,6 @@
 // How a trace begins: the machine that it names, and where its steps begin (01, "House trace"; 02, 2/12).
 ghost use Rattle.std.specs.Prelude.{◌≡◌};
-ghost use Rattle.beginning.specs.Begin.{refusedSetup, setupOf, notBegun, bySetup, byController, beginOf};
+ghost use Rattle.beginning.specs.Begin.{refused_setup, setup_of, not_begun, by_setup, by_controller, begin_of};
 
 pub mod reports;
 
@@ -28,7 +28,7 @@ pub const LONGEST: usize = 65536;
 
 // Where the steps of a trace begin, and with which machine.
 pub fn begin(trace: &[u8]) -> Begun
-    ensures { result ≡ beginOf trace.now }
+    ensures { result ≡ begin_of trace.now }
 {
     if LONGEST < trace.len() {
         return not_begun(steps::TOO_LONG, LONGEST);
@@ -38,7 +38,7 @@ pub fn begin(trace: &[u8]) -> Begun
 
 // No machine was started: its numbers are all 0.
 fn not_begun(refusal: u32, offset: usize) -> Begun
-    ensures { result ≡ notBegun refusal offset }
+    ensures { result ≡ not_begun refusal offset }
 {
     let m = machine::record::empty();
     Begun {
@@ -50,7 +50,7 @@ fn not_begun(refusal: u32, offset: usize) -> Begun
 
 // The beginning of a trace whose controller's kind is the number n.
 fn by_controller(trace: &[u8], n: Number) -> Begun
-    ensures { result ≡ byController trace.now n }
+    ensures { result ≡ by_controller trace.now n }
 {
     match n {
         Number::Refused(refusal, p) => not_begun(refusal, p),
@@ -65,7 +65,7 @@ fn by_controller(trace: &[u8], n: Number) -> Begun
 
 // The machine of a configuration, once all of it is accepted.
 fn by_setup(kind: u32, t: Setup) -> Begun
-    ensures { result ≡ bySetup kind t }
+    ensures { result ≡ by_setup kind t }
 {
     if t.refusal != steps::CARRIED_OUT {
         return not_begun(t.refusal, t.place);
@@ -80,7 +80,7 @@ fn by_setup(kind: u32, t: Setup) -> Begun
 
 // The configuration of a kind of controller from a place on: each number is checked as it is read, the nth one, from 0, by its own limit.
 fn set_up(trace: &[u8], kind: u32, start: usize) -> Setup
-    ensures { result ≡ setupOf kind trace.now start }
+    ensures { result ≡ setup_of kind trace.now start }
 {
     let mut c = kinds::no_numbers();
     let mut at = start;
@@ -113,7 +113,7 @@ fn set_up(trace: &[u8], kind: u32, start: usize) -> Setup
 
 // A configuration that is refused.
 fn refused_setup(refusal: u32, offset: usize) -> Setup
-    ensures { result ≡ refusedSetup refusal offset }
+    ensures { result ≡ refused_setup refusal offset }
 {
     Setup {
         refusal,

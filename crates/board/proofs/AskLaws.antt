@@ -20,98 +20,98 @@ use Rattle.coreinterrupt.proofs.Promises.{kept as alone-kept}
 use Rattle.board_wires.specs.declared.Board.{Board}
 use Rattle.board_wires.specs.declared.Wire.{Wire}
 use Rattle.board_wires.specs.declared.Wire.TheVariants.{Nothing, Pin, Irq, Fiq}
-use Rattle.board_wires.specs.Chain.{chain as chainBelow}
+use Rattle.board_wires.specs.Chain.{chain as chain_below}
 use Rattle.board_wires.specs.Promises.{Raised, Alike}
-use Rattle.board_wires.specs.Wires.{wireOf, wireNumber, wireAt, pinOf, coreAt, activity, inputValue, wiredCore}
+use Rattle.board_wires.specs.Wires.{wire_of, wire_number, wire_at, pin_of, core_at, activity, input_value, wired_core}
 use Rattle.board_wires.proofs.Promises.{kept as wired}
 use Rattle.board.specs.Sound.{sound}
 use Rattle.board.proofs.SoundLaws.{sound-rules}
 use Rattle.board.specs.declared.record.Answer.{Answer}
 use Rattle.board.specs.declared.Reply.{Reply}
 use Rattle.board.specs.Record.{answered}
-use Rattle.board.specs.Model.{checked, isThere, read, silent, outputs, input, chain}
-use Rattle.board.proofs.AnswerLaws.{carried, stopped, is-there, through, reply-done}
-use Rattle.board.proofs.NumberLaws.{outputs-number}
+use Rattle.board.specs.Model.{checked, is_there, read, silent, outputs, input, chain}
+use Rattle.board.proofs.AnswerLaws.{carried, stopped, is_there_lem, through, reply-done}
+use Rattle.board.proofs.NumberLaws.{outputs_number}
 use Rattle.board.proofs.WiredLaws.{wired-sound}
 
 -- ---- a read
 
 pub read_is : (b : Board) (c o : ℕ) → sound b ≡ true → c < b.controllers
-    → read b c o ≡ record { refusal = (CoreInterrupt.read (wiredCore b c) o).refusal; value = (CoreInterrupt.read (wiredCore b c) o).value; board = b }
+    → read b c o ≡ record { refusal = (CoreInterrupt.read (wired_core b c) o).refusal; value = (CoreInterrupt.read (wired_core b c) o).value; board = b }
 unfolding read
 read_is b c o e l = go (ℕ_discrete R.refusal 0)
   where
     R : alone.Answer
-    R = CoreInterrupt.read (wiredCore b c) o
+    R = CoreInterrupt.read (wired_core b c) o
 
     n : ℕ
-    n = checked b (isThere b c) R.refusal
+    n = checked b (is_there b c) R.refusal
 
-    same : checked b (isThere b c) (CoreInterrupt.read (wiredCore b c) o).refusal ≡ (CoreInterrupt.read (wiredCore b c) o).refusal
-    same = through b (isThere b c) R.refusal e (is-there b c l)
+    same : checked b (is_there b c) (CoreInterrupt.read (wired_core b c) o).refusal ≡ (CoreInterrupt.read (wired_core b c) o).refusal
+    same = through b (is_there b c) R.refusal e (is_there_lem b c l)
 
-    go : Dec ((CoreInterrupt.read (wiredCore b c) o).refusal ≡ 0)
-        → read b c o ≡ record { refusal = (CoreInterrupt.read (wiredCore b c) o).refusal; value = (CoreInterrupt.read (wiredCore b c) o).value; board = b }
+    go : Dec ((CoreInterrupt.read (wired_core b c) o).refusal ≡ 0)
+        → read b c o ≡ record { refusal = (CoreInterrupt.read (wired_core b c) o).refusal; value = (CoreInterrupt.read (wired_core b c) o).value; board = b }
     go (yes z) = sym (carried b n (same ∙ z)) ∙ ap (λ (m : ℕ). record { refusal = m; value = R.value; board = b }) (sym z)
-    go (no z) = sym (stopped b n (answered b R.value) (λ q. z (sym same ∙ q))) ∙ rw same (ap (λ (m : ℕ). record { refusal = R.refusal; value = m; board = b }) (sym (ap (λ (a : alone.Answer). a.value) (alone-kept.refusedSame (wiredCore b c) (Read o) z))))
+    go (no z) = sym (stopped b n (answered b R.value) (λ q. z (sym same ∙ q))) ∙ rw same (ap (λ (m : ℕ). record { refusal = R.refusal; value = m; board = b }) (sym (ap (λ (a : alone.Answer). a.value) (alone-kept.refused_same (wired_core b c) (Read o) z))))
 
 -- ---- the outputs
 
-pub outputs-is : (b : Board) (c : ℕ) → sound b ≡ true → c < b.controllers → outputs b c ≡ CoreInterrupt.outputs (wiredCore b c)
+pub outputs-is : (b : Board) (c : ℕ) → sound b ≡ true → c < b.controllers → outputs b c ≡ CoreInterrupt.outputs (wired_core b c)
 unfolding outputs
-outputs-is b c e l = sym (pick_true (silent (checked b (isThere b c) 0)) (eq-eqb (checked b (isThere b c) 0) 0 (through b (isThere b c) 0 e (is-there b c l))))
+outputs-is b c e l = sym (pick_true (silent (checked b (is_there b c) 0)) (eq-eqb (checked b (is_there b c) 0) 0 (through b (is_there b c) 0 e (is_there_lem b c l))))
 
 pub outputs-refused : (b : Board) (c : ℕ) → (outputs b c).refusal ≢ 0 → outputs b c ≡ silent (outputs b c).refusal
 unfolding outputs
 outputs-refused b c d =
-    let n = outputs-number b c in
-    sym (pick-false (CoreInterrupt.outputs (wiredCore b c)) (ne_eqb (checked b (isThere b c) 0) 0 (λ z. d (n ∙ z)))) ∙ ap silent (sym n)
+    let n = outputs_number b c in
+    sym (pick-false (CoreInterrupt.outputs (wired_core b c)) (ne_eqb (checked b (is_there b c) 0) 0 (λ z. d (n ∙ z)))) ∙ ap silent (sym n)
 
 irq-shown : (b : Board) (c : ℕ) → sound b ≡ true → c < b.controllers → (outputs b c).irq ≡ activity b c false
 irq-shown b c e l =
-    ap (λ (s : Signals). s.irq) (outputs-is b c e l ∙ alone-kept.outputsSound (wiredCore b c) (wired-sound b c e l)) ∙ sym (wired.irqIs b c)
+    ap (λ (s : Signals). s.irq) (outputs-is b c e l ∙ alone-kept.outputs_sound (wired_core b c) (wired-sound b c e l)) ∙ sym (wired.irq_is b c)
 
 fiq-shown : (b : Board) (c : ℕ) → sound b ≡ true → c < b.controllers → (outputs b c).fiq ≡ activity b c true
 fiq-shown b c e l =
-    ap (λ (s : Signals). s.fiq) (outputs-is b c e l ∙ alone-kept.outputsSound (wiredCore b c) (wired-sound b c e l)) ∙ sym (wired.fiqIs b c)
+    ap (λ (s : Signals). s.fiq) (outputs-is b c e l ∙ alone-kept.outputs_sound (wired_core b c) (wired-sound b c e l)) ∙ sym (wired.fiq_is b c)
 
 module _ (b : Board) (c : ℕ) (e : sound b ≡ true) (l : c < b.controllers) where
-  pub irq-active : ((outputs b c).irq ≡ true) ↔ Raised (coreAt b c).irq (λ k. inputValue b c k)
-  irq-active = rw (irq-shown b c e l) (wired.irqActive b c ((sound-rules b e).controllers c l))
+  pub irq-active : ((outputs b c).irq ≡ true) ↔ Raised (core_at b c).irq (λ k. input_value b c k)
+  irq-active = rw (irq-shown b c e l) (wired.irq_active b c ((sound-rules b e).controllers c l))
 
-  pub fiq-active : ((outputs b c).fiq ≡ true) ↔ Raised (coreAt b c).fiq (λ k. inputValue b c (32 + k))
-  fiq-active = rw (fiq-shown b c e l) (wired.fiqActive b c ((sound-rules b e).controllers c l))
+  pub fiq-active : ((outputs b c).fiq ≡ true) ↔ Raised (core_at b c).fiq (λ k. input_value b c (32 + k))
+  fiq-active = rw (fiq-shown b c e l) (wired.fiq_active b c ((sound-rules b e).controllers c l))
 
   -- ---- the chain
 
-  pub chain-is : chain b c ≡ record { refusal = 0; value = chainBelow b c }
+  pub chain-is : chain b c ≡ record { refusal = 0; value = chain_below b c }
   unfolding chain
-  chain-is = reply-done (checked b (isThere b c) 0) (chainBelow b c) (through b (isThere b c) 0 e (is-there b c l))
+  chain-is = reply-done (checked b (is_there b c) 0) (chain_below b c) (through b (is_there b c) 0 e (is_there_lem b c l))
 
   -- ---- an input
 
   module _ (i : ℕ) (m : i < 40) where
-    pub input-is : input b c i ≡ record { refusal = 0; value = one (inputValue b c i) }
+    pub input-is : input b c i ≡ record { refusal = 0; value = one (input_value b c i) }
     unfolding input
     input-is =
-        reply-done (checked b (isThere b c && ltb i 40) 0) (one (inputValue b c i))
-        (through b (isThere b c && ltb i 40) 0 e (and_both (is-there b c l) (lt-ltb i 40 m)))
+        reply-done (checked b (is_there b c && ltb i 40) 0) (one (input_value b c i))
+        (through b (is_there b c && ltb i 40) 0 e (and_both (is_there_lem b c l) (lt-ltb i 40 m)))
 
-    value-is : (t : Bool) → inputValue b c i ≡ t → (input b c i).value ≡ one t
+    value-is : (t : Bool) → input_value b c i ≡ t → (input b c i).value ≡ one t
     value-is t h = ap (λ (r : Reply). r.value) input-is ∙ ap one h
 
-    pub value-nothing : wireAt b c i ≡ Nothing → (input b c i).value ≡ 0
-    value-nothing w = value-is false (wired.valueNothing b c i w)
+    pub value-nothing : wire_at b c i ≡ Nothing → (input b c i).value ≡ 0
+    value-nothing w = value-is false (wired.value_nothing b c i w)
 
     -- a pin that a wire of the board names is one of the 320
-    pin-below : (p : ℕ) → wireAt b c i ≡ Pin p → p < 320
+    pin-below : (p : ℕ) → wire_at b c i ≡ Pin p → p < 320
     pin-below p w = go (dec_lt p 320)
       where
         n : ℕ
         n = get_or b.wire (40 * c + i) 0
 
-        at : wireOf (get_or b.wire (40 * c + i) 0) ≡ Pin p
-        at = sym (wired.wireIs b c i (omega (arith, l, (sound-rules b e).counted)) m) ∙ w
+        at : wire_of (get_or b.wire (40 * c + i) 0) ≡ Pin p
+        at = sym (wired.wire_is b c i (omega (arith, l, (sound-rules b e).counted)) m) ∙ w
 
         kind : Wire → ℕ
         kind Nothing = 0
@@ -122,34 +122,34 @@ module _ (b : Board) (c : ℕ) (e : sound b ≡ true) (l : c < b.controllers) wh
         go : Dec (p < 320) → p < 320
         go (yes h) = h
         go (no h) =
-            let z : n ≡ 0 = sym (wired.numberBack n ((sound-rules b e).numbers c i l m)) ∙ ap wireNumber at ∙ wired.pinElse p (omega arith) in
-            let k : ◌≡◌ {A = ℕ} 0 1 = ap kind (sym wired.numberNothing.0 ∙ sym (ap wireOf z) ∙ at) in
+            let z : n ≡ 0 = sym (wired.number_back n ((sound-rules b e).numbers c i l m)) ∙ ap wire_number at ∙ wired.pin_else p (omega arith) in
+            let k : ◌≡◌ {A = ℕ} 0 1 = ap kind (sym wired.number_nothing.0 ∙ sym (ap wire_of z) ∙ at) in
             absurd (omega (arith, k))
 
-    level-one : (p : ℕ) → p < 320 → one (pinOf b p) ≡ get_or b.pin p 0
+    level-one : (p : ℕ) → p < 320 → one (pin_of b p) ≡ get_or b.pin p 0
     level-one p h = go (ℕ_discrete (get_or b.pin p 0) 1)
       where
-        go : Dec (get_or b.pin p 0 ≡ 1) → one (pinOf b p) ≡ get_or b.pin p 0
-        go (yes q) = ap one ((wired.pinIs b p).1 (h, q)) ∙ sym q
+        go : Dec (get_or b.pin p 0 ≡ 1) → one (pin_of b p) ≡ get_or b.pin p 0
+        go (yes q) = ap one ((wired.pin_is b p).1 (h, q)) ∙ sym q
         go (no q) =
             let z : get_or b.pin p 0 ≡ 0 = omega (arith, q, (sound-rules b e).pins p h) in
-            ap one (not-holds (pinOf b p) (λ t. q ((wired.pinIs b p).0 t).1)) ∙ sym z
+            ap one (not-holds (pin_of b p) (λ t. q ((wired.pin_is b p).0 t).1)) ∙ sym z
 
-    pub value-pin : (p : ℕ) → wireAt b c i ≡ Pin p → (input b c i).value ≡ get_or b.pin p 0
-    value-pin p w = value-is (pinOf b p) (wired.valuePin b c i p w) ∙ level-one p (pin-below p w)
+    pub value_pin : (p : ℕ) → wire_at b c i ≡ Pin p → (input b c i).value ≡ get_or b.pin p 0
+    value_pin p w = value-is (pin_of b p) (wired.value_pin b c i p w) ∙ level-one p (pin-below p w)
 
-    pub value-irq : (d : ℕ) → wireAt b c i ≡ Irq d → (input b c i).value ≡ one (outputs b d).irq
+    pub value-irq : (d : ℕ) → wire_at b c i ≡ Irq d → (input b c i).value ≡ one (outputs b d).irq
     value-irq d w =
         let k = ((sound-rules b e).lower c i d l m).0 w in
         value-is (outputs b d).irq
-        (same_test (inputValue b c i) (activity b d false) (λ h. ((wired.valueIrq b c i d w).0 h).1) (λ h. (wired.valueIrq b c i d w).1 (k, h))
+        (same_test (input_value b c i) (activity b d false) (λ h. ((wired.value_irq b c i d w).0 h).1) (λ h. (wired.value_irq b c i d w).1 (k, h))
         ∙ sym (irq-shown b d e (omega (arith, k, l))))
 
-    pub value-fiq : (d : ℕ) → wireAt b c i ≡ Fiq d → (input b c i).value ≡ one (outputs b d).fiq
+    pub value-fiq : (d : ℕ) → wire_at b c i ≡ Fiq d → (input b c i).value ≡ one (outputs b d).fiq
     value-fiq d w =
         let k = ((sound-rules b e).lower c i d l m).1 w in
         value-is (outputs b d).fiq
-        (same_test (inputValue b c i) (activity b d true) (λ h. ((wired.valueFiq b c i d w).0 h).1) (λ h. (wired.valueFiq b c i d w).1 (k, h))
+        (same_test (input_value b c i) (activity b d true) (λ h. ((wired.value_fiq b c i d w).0 h).1) (λ h. (wired.value_fiq b c i d w).1 (k, h))
         ∙ sym (fiq-shown b d e (omega (arith, k, l))))
 
 -- ---- boards that differ in the wires of unused inputs
@@ -157,7 +157,7 @@ module _ (b : Board) (c : ℕ) (e : sound b ≡ true) (l : c < b.controllers) wh
 pub unused-same : (x y : Board) → Alike x y → sound x ≡ true → sound y ≡ true → (c : ℕ) → c < x.controllers → c < y.controllers
     → (outputs x c ≡ outputs y c) × ((o : ℕ) → ((read x c o).refusal ≡ (read y c o).refusal) × ((read x c o).value ≡ (read y c o).value))
 unused-same x y a e f c l m =
-    let k = wired.unusedSame x y a c in (
+    let k = wired.unused_same x y a c in (
       outputs-is x c e l ∙ ap CoreInterrupt.outputs k ∙ sym (outputs-is y c f m),
       (λ o. (
         ap (λ (r : Answer). r.refusal) (read_is x c o e l) ∙ ap (λ (z : Core). (CoreInterrupt.read z o).refusal) k ∙ sym (ap (λ (r : Answer). r.refusal) (read_is y c o f m)),

@@ -11,7 +11,7 @@ use lib.ListN.{length-set}
 use lib.Seq.{get_or-set_same, get_or-set_other}
 use Rattle.words.specs.Choice.{pick}
 use Rattle.words.proofs.TruthLaws.{and_left, and_right}
-use Rattle.steps.specs.Refusals.{carriedOut, upward}
+use Rattle.steps.specs.Refusals.{carried_out, upward}
 use Rattle.coreinterrupt.specs.declared.Begun.{Begun}
 use Rattle.coreinterrupt.specs.declared.Core.{Core}
 use Rattle.coreinterrupt.specs.Model as CoreInterrupt
@@ -19,15 +19,15 @@ use Rattle.coreinterrupt.proofs.Promises.{kept as alone-kept}
 use Rattle.board_wires.specs.declared.Board.{Board}
 use Rattle.board_wires.specs.declared.Wire.{Wire}
 use Rattle.board_wires.specs.declared.Wire.TheVariants.{Nothing, Pin, Irq, Fiq}
-use Rattle.board_wires.specs.Wires.{wireOf, wireNumber, wireAt}
-use Rattle.board_wires.proofs.NumberLaws.{of-nothing, of-pin, of-irq, of-fiq, number-nothing, number-pin, number-irq, number-fiq, wire-there, no-input}
+use Rattle.board_wires.specs.Wires.{wire_of, wire_number, wire_at}
+use Rattle.board_wires.proofs.NumberLaws.{of-nothing, of_pin, of-irq, of-fiq, number-nothing, number_pin, number-irq, number-fiq, wire_there, no-input}
 use Rattle.board.specs.RecordPromises.{Shaped}
-use Rattle.board.specs.Record.{withController, withWire, withPin, answered}
+use Rattle.board.specs.Record.{with_controller, with_wire, with_pin, answered}
 use Rattle.board.specs.Sound.{low, sound, lower}
 use Rattle.board.proofs.RecordLaws.{core-put, core-other, core-more, wire-put, wire-other}
-use Rattle.board.proofs.SoundLaws.{sound-parts, sound-rules, lines-low, number-rule, pin-sound, wire-sound, controller-sound}
+use Rattle.board.proofs.SoundLaws.{sound-parts, sound-rules, lines-low, number_rule, pin-sound, wire-sound, controller-sound}
 use Rattle.board.specs.declared.record.Answer.{Answer}
-use Rattle.board.specs.Model.{checked, isThere, isNamed, upwardRefusal, add, connect, putPin}
+use Rattle.board.specs.Model.{checked, is_there, is_named, upward_refusal, add, connect, put_pin}
 use Rattle.board.specs.Tables.{Adds, Wires, Pins}
 use Rattle.board.proofs.AnswerLaws.{either_way, done, none-given, there-is}
 use Rattle.board.proofs.NumberLaws.{configured}
@@ -54,7 +54,7 @@ module _ (f i fl il : ℕ) where
   start-made e =
       let n = (configured f i fl il).0 e in
       ap (λ (x : Begun). x.core)
-      (alone-kept.startTaken f i fl il (limited f 8 (λ l. n (inl l))) (limited i 32 (λ l. n (inr (inl l)))) (limited fl 1 (λ l. n (inr (inr (inl l)))))
+      (alone-kept.start_taken f i fl il (limited f 8 (λ l. n (inl l))) (limited i 32 (λ l. n (inr (inl l)))) (limited fl 1 (λ l. n (inr (inr (inl l)))))
       (limited il 1 (λ l. n (inr (inr (inr l))))))
 
   made-low : (CoreInterrupt.start f i fl il).refusal ≡ 0 → low (CoreInterrupt.start f i fl il).core ≡ true
@@ -67,28 +67,28 @@ module _ (f i fl il : ℕ) where
   add-sound b e =
       either_way (λ (a : Answer). sound a.board ≡ true) b (checked b (ltb b.controllers 8) (CoreInterrupt.start f i fl il).refusal) _
       (λ z. let g = none-given b (ltb b.controllers 8) (CoreInterrupt.start f i fl il).refusal z in
-      controller-sound b (CoreInterrupt.start f i fl il).core e (ltb-true b.controllers 8 g.1.0) (alone-kept.startSound f i fl il) (made-low g.1.1))
+      controller-sound b (CoreInterrupt.start f i fl il).core e (ltb-true b.controllers 8 g.1.0) (alone-kept.start_sound f i fl il) (made-low g.1.1))
       e
 
-  pub add-shaped : (b : Board) → Shaped b → Shaped (add b f i fl il).board
-  unfolding add withController
-  add-shaped b s =
+  pub add_shaped : (b : Board) → Shaped b → Shaped (add b f i fl il).board
+  unfolding add with_controller
+  add_shaped b s =
       either_way (λ (a : Answer). Shaped a.board) b (checked b (ltb b.controllers 8) (CoreInterrupt.start f i fl il).refusal) _
       (λ _. (s.0, s.1, length-set b.core b.controllers (CoreInterrupt.start f i fl il).core ∙ s.2)) s
 
-  pub add-does : (b : Board) → Shaped b → (add b f i fl il).refusal ≡ 0 → Adds b made (add b f i fl il)
-  unfolding add withController
-  add-does b s z = rw d.0 (adds (none-given b (ltb b.controllers 8) (CoreInterrupt.start f i fl il).refusal d.1))
+  pub add_does : (b : Board) → Shaped b → (add b f i fl il).refusal ≡ 0 → Adds b made (add b f i fl il)
+  unfolding add with_controller
+  add_does b s z = rw d.0 (adds (none-given b (ltb b.controllers 8) (CoreInterrupt.start f i fl il).refusal d.1))
     where
       k : Core
       k = (CoreInterrupt.start f i fl il).core
 
-      d : (add b f i fl il ≡ answered (withController b (CoreInterrupt.start f i fl il).core) b.controllers)
+      d : (add b f i fl il ≡ answered (with_controller b (CoreInterrupt.start f i fl il).core) b.controllers)
           × (checked b (ltb b.controllers 8) (CoreInterrupt.start f i fl il).refusal ≡ 0)
-      d = done b (checked b (ltb b.controllers 8) (CoreInterrupt.start f i fl il).refusal) (answered (withController b (CoreInterrupt.start f i fl il).core) b.controllers) refl z
+      d = done b (checked b (ltb b.controllers 8) (CoreInterrupt.start f i fl il).refusal) (answered (with_controller b (CoreInterrupt.start f i fl il).core) b.controllers) refl z
 
       adds : (sound b ≡ true) × ((ltb b.controllers 8 ≡ true) × ((CoreInterrupt.start f i fl il).refusal ≡ 0))
-          → Adds b made (answered (withController b (CoreInterrupt.start f i fl il).core) b.controllers)
+          → Adds b made (answered (with_controller b (CoreInterrupt.start f i fl il).core) b.controllers)
       adds g =
           let l = ltb-true b.controllers 8 g.1.0 in
           record {
@@ -101,88 +101,88 @@ module _ (f i fl il : ℕ) where
             pins = refl;
           }
         where
-          nothing : (i : ℕ) → Dec (i < 40) → wireAt b b.controllers i ≡ Nothing
+          nothing : (i : ℕ) → Dec (i < 40) → wire_at b b.controllers i ≡ Nothing
           nothing i (yes m) =
               let l = ltb-true b.controllers 8 g.1.0 in
-              wire-there b.wire b.controllers i l m ∙ ap wireOf ((sound-rules b g.0).unwired b.controllers i (omega arith) l m) ∙ of-nothing
+              wire_there b.wire b.controllers i l m ∙ ap wire_of ((sound-rules b g.0).unwired b.controllers i (omega arith) l m) ∙ of-nothing
           nothing i (no m) = no-input b.wire b.controllers i (omega arith)
 
 -- ---- an input is wired
 
 -- the number of a wire that names what the board has stands for that wire
-named-number : (b : Board) (w : Wire) → sound b ≡ true → isNamed b w ≡ true → (wireOf (wireNumber w) ≡ w) × (wireNumber w < 337)
-unfolding isNamed
-named-number b Nothing s e = (ap wireOf number-nothing ∙ of-nothing, omega (arith, number-nothing))
-named-number b (Pin p) s e =
+named_number : (b : Board) (w : Wire) → sound b ≡ true → is_named b w ≡ true → (wire_of (wire_number w) ≡ w) × (wire_number w < 337)
+unfolding is_named
+named_number b Nothing s e = (ap wire_of number-nothing ∙ of-nothing, omega (arith, number-nothing))
+named_number b (Pin p) s e =
     let l = ltb-true p 320 e in
-    (ap wireOf (number-pin p l) ∙ of-pin p l, omega (arith, l, number-pin p l))
-named-number b (Irq d) s e =
+    (ap wire_of (number_pin p l) ∙ of_pin p l, omega (arith, l, number_pin p l))
+named_number b (Irq d) s e =
     let l : d < 8 = omega (arith, there-is b d e, (sound-parts b s).counted) in
-    (ap wireOf (number-irq d l) ∙ of-irq d l, omega (arith, l, number-irq d l))
-named-number b (Fiq d) s e =
+    (ap wire_of (number-irq d l) ∙ of-irq d l, omega (arith, l, number-irq d l))
+named_number b (Fiq d) s e =
     let l : d < 8 = omega (arith, there-is b d e, (sound-parts b s).counted) in
-    (ap wireOf (number-fiq d l) ∙ of-fiq d l, omega (arith, l, number-fiq d l))
+    (ap wire_of (number-fiq d l) ∙ of-fiq d l, omega (arith, l, number-fiq d l))
 
-upward-none : (c : ℕ) (w : Wire) → upwardRefusal c w ≡ 0 → lower c w ≡ true
-unfolding upwardRefusal pick
+upward-none : (c : ℕ) (w : Wire) → upward_refusal c w ≡ 0 → lower c w ≡ true
+unfolding upward_refusal pick
 upward-none c w = go (lower c w)
   where
-    go : (t : Bool) → pick t carriedOut upward ≡ 0 → t ≡ true
+    go : (t : Bool) → pick t carried_out upward ≡ 0 → t ≡ true
     go true e = refl
     go false e = absurd (omega arith)
 
 module _ (b : Board) (c i : ℕ) (w : Wire) where
   abbrev within : Bool
-  within = isThere b c && ltb i 40 && isNamed b w
+  within = is_there b c && ltb i 40 && is_named b w
 
   -- what the checks of a wire that is taken have let through
   record Taken : Type 0 where
     pub whole : sound b ≡ true
     pub there : c < b.controllers
     pub inside : i < 40
-    pub named : isNamed b w ≡ true
+    pub named : is_named b w ≡ true
     pub lowered : lower c w ≡ true
 
-  wire-taken : checked b within (upwardRefusal c w) ≡ 0 → Taken
+  wire-taken : checked b within (upward_refusal c w) ≡ 0 → Taken
   wire-taken z =
-      let g = none-given b within (upwardRefusal c w) z in
-      let h = and_left (isThere b c && ltb i 40) (isNamed b w) g.1.0 in
+      let g = none-given b within (upward_refusal c w) z in
+      let h = and_left (is_there b c && ltb i 40) (is_named b w) g.1.0 in
       record {
         whole = g.0;
-        there = there-is b c (and_left (isThere b c) (ltb i 40) h);
-        inside = ltb-true i 40 (and_right (isThere b c) (ltb i 40) h);
-        named = and_right (isThere b c && ltb i 40) (isNamed b w) g.1.0;
+        there = there-is b c (and_left (is_there b c) (ltb i 40) h);
+        inside = ltb-true i 40 (and_right (is_there b c) (ltb i 40) h);
+        named = and_right (is_there b c && ltb i 40) (is_named b w) g.1.0;
         lowered = upward-none c w g.1.1;
       }
 
   pub connect-sound : sound b ≡ true → sound (connect b c i w).board ≡ true
   unfolding connect
   connect-sound e =
-      either_way (λ (a : Answer). sound a.board ≡ true) b (checked b within (upwardRefusal c w)) _
+      either_way (λ (a : Answer). sound a.board ≡ true) b (checked b within (upward_refusal c w)) _
       (λ z. let t = wire-taken z in
-      let n = named-number b w e t.named in
-      wire-sound b c i w e t.inside (number-rule b.controllers c (wireNumber w) t.there n.1 (ap (lower c) n.0 ∙ t.lowered)))
+      let n = named_number b w e t.named in
+      wire-sound b c i w e t.inside (number_rule b.controllers c (wire_number w) t.there n.1 (ap (lower c) n.0 ∙ t.lowered)))
       e
 
-  pub connect-shaped : Shaped b → Shaped (connect b c i w).board
-  unfolding connect withWire
-  connect-shaped s =
-      either_way (λ (a : Answer). Shaped a.board) b (checked b within (upwardRefusal c w)) _
-      (λ _. (length-set b.wire (40 * c + i) (wireNumber w) ∙ s.0, s.1, s.2)) s
+  pub connect_shaped : Shaped b → Shaped (connect b c i w).board
+  unfolding connect with_wire
+  connect_shaped s =
+      either_way (λ (a : Answer). Shaped a.board) b (checked b within (upward_refusal c w)) _
+      (λ _. (length-set b.wire (40 * c + i) (wire_number w) ∙ s.0, s.1, s.2)) s
 
-  pub connect-does : Shaped b → (connect b c i w).refusal ≡ 0 → Wires b c i w (connect b c i w)
-  unfolding connect withWire
-  connect-does s z = rw d.0 (wires (wire-taken d.1))
+  pub connect_does : Shaped b → (connect b c i w).refusal ≡ 0 → Wires b c i w (connect b c i w)
+  unfolding connect with_wire
+  connect_does s z = rw d.0 (wires (wire-taken d.1))
     where
-      d : (connect b c i w ≡ answered (withWire b c i w) 0) × (checked b within (upwardRefusal c w) ≡ 0)
-      d = done b (checked b within (upwardRefusal c w)) (answered (withWire b c i w) 0) refl z
+      d : (connect b c i w ≡ answered (with_wire b c i w) 0) × (checked b within (upward_refusal c w) ≡ 0)
+      d = done b (checked b within (upward_refusal c w)) (answered (with_wire b c i w) 0) refl z
 
-      wires : Taken → Wires b c i w (answered (withWire b c i w) 0)
+      wires : Taken → Wires b c i w (answered (with_wire b c i w) 0)
       wires t =
           let l : c < 8 = omega (arith, t.there, (sound-parts b t.whole).counted) in
           record {
             value = refl;
-            new = wire-put b c i w l t.inside (omega (arith, l, t.inside, s.0)) ∙ (named-number b w t.whole t.named).0;
+            new = wire-put b c i w l t.inside (omega (arith, l, t.inside, s.0)) ∙ (named_number b w t.whole t.named).0;
             others = λ d j n. wire-other b c i w d j t.inside n;
             count = refl;
             pins = refl;
@@ -192,28 +192,28 @@ module _ (b : Board) (c i : ℕ) (w : Wire) where
 -- ---- a pin is put
 
 module _ (b : Board) (p l : ℕ) where
-  pub pin-put-sound : sound b ≡ true → sound (putPin b p l).board ≡ true
-  unfolding putPin
+  pub pin-put-sound : sound b ≡ true → sound (put_pin b p l).board ≡ true
+  unfolding put_pin
   pin-put-sound e =
       either_way (λ (a : Answer). sound a.board ≡ true) b (checked b (ltb p 320 && leb l 1) 0) _
       (λ z. pin-sound b p l e (leb-true l 1 (and_right (ltb p 320) (leb l 1) (none-given b (ltb p 320 && leb l 1) 0 z).1.0))) e
 
-  pub pin-shaped : Shaped b → Shaped (putPin b p l).board
-  unfolding putPin withPin
-  pin-shaped s =
+  pub pin_shaped : Shaped b → Shaped (put_pin b p l).board
+  unfolding put_pin with_pin
+  pin_shaped s =
       either_way (λ (a : Answer). Shaped a.board) b (checked b (ltb p 320 && leb l 1) 0) _ (λ _. (s.0, length-set b.pin p l ∙ s.1, s.2)) s
 
-  pub pin-does : Shaped b → (putPin b p l).refusal ≡ 0 → Pins b p l (putPin b p l)
-  unfolding putPin withPin
-  pin-does s z = rw d.0 pins
+  pub pin_does : Shaped b → (put_pin b p l).refusal ≡ 0 → Pins b p l (put_pin b p l)
+  unfolding put_pin with_pin
+  pin_does s z = rw d.0 pins
     where
-      d : (putPin b p l ≡ answered (withPin b p l) 0) × (checked b (ltb p 320 && leb l 1) 0 ≡ 0)
-      d = done b (checked b (ltb p 320 && leb l 1) 0) (answered (withPin b p l) 0) refl z
+      d : (put_pin b p l ≡ answered (with_pin b p l) 0) × (checked b (ltb p 320 && leb l 1) 0 ≡ 0)
+      d = done b (checked b (ltb p 320 && leb l 1) 0) (answered (with_pin b p l) 0) refl z
 
       below : p < 320
       below = ltb-true p 320 (and_left (ltb p 320) (leb l 1) (none-given b (ltb p 320 && leb l 1) 0 d.1).1.0)
 
-      pins : Pins b p l (answered (withPin b p l) 0)
+      pins : Pins b p l (answered (with_pin b p l) 0)
       pins =
           record {
             value = refl;

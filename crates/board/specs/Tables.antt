@@ -4,7 +4,7 @@ use Rattle.coreinterrupt.specs.declared.Core.{Core}
 use Rattle.board_wires.specs.declared.Board.{Board}
 use Rattle.board_wires.specs.declared.Wire.{Wire}
 use Rattle.board_wires.specs.declared.Wire.TheVariants.{Nothing, Pin, Irq, Fiq}
-use Rattle.board_wires.specs.Wires.{wireAt, coreAt}
+use Rattle.board_wires.specs.Wires.{wire_at, core_at}
 use Rattle.board.specs.Sound.{sound}
 use Rattle.board.specs.declared.record.Answer.{Answer}
 
@@ -70,17 +70,17 @@ pub record InputTable (b : Board) (c i n : ℕ) : Type 0 where
 pub record Adds (b : Board) (k : Core) (a : Answer) : Type 0 where
   pub value : a.value ≡ b.controllers
   pub count : a.board.controllers ≡ b.controllers + 1
-  pub new : coreAt a.board b.controllers ≡ k
-  pub unwired : (i : ℕ) → wireAt a.board b.controllers i ≡ Nothing
-  pub others : (c : ℕ) → c ≢ b.controllers → coreAt a.board c ≡ coreAt b c
+  pub new : core_at a.board b.controllers ≡ k
+  pub unwired : (i : ℕ) → wire_at a.board b.controllers i ≡ Nothing
+  pub others : (c : ℕ) → c ≢ b.controllers → core_at a.board c ≡ core_at b c
   pub wires : a.board.wire ≡ b.wire
   pub pins : a.board.pin ≡ b.pin
 
 -- input i of controller c is wired to w, and nothing else changes (02, 8/12)
 pub record Wires (b : Board) (c i : ℕ) (w : Wire) (a : Answer) : Type 0 where
   pub value : a.value ≡ 0
-  pub new : wireAt a.board c i ≡ w
-  pub others : (d j : ℕ) → (d ≢ c) ⊎ (j ≢ i) → wireAt a.board d j ≡ wireAt b d j
+  pub new : wire_at a.board c i ≡ w
+  pub others : (d j : ℕ) → (d ≢ c) ⊎ (j ≢ i) → wire_at a.board d j ≡ wire_at b d j
   pub count : a.board.controllers ≡ b.controllers
   pub pins : a.board.pin ≡ b.pin
   pub cores : a.board.core ≡ b.core

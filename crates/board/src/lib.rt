@@ -1,7 +1,7 @@
 // A board of up to eight CoreInterrupts by value: what is done to it and what it answers is defined in specs/Model.antt (02, 8/12).
 ghost use Rattle.std.specs.Prelude.{◌≡◌};
 ghost use Rattle.board.specs.Record.{empty};
-ghost use Rattle.board.specs.Model.{unlessRefused, replied, checked, isThere, isNamed, upwardRefusal, add, connect, putPin, read, write, silent, outputs, input, chain};
+ghost use Rattle.board.specs.Model.{unless_refused, replied, checked, is_there, is_named, upward_refusal, add, connect, put_pin, read, write, silent, outputs, input, chain};
 
 pub mod record;
 
@@ -18,7 +18,7 @@ pub struct Reply {
 
 // The answer a, or the refusal n with the board as it was.
 fn unless_refused(b: Board, n: u32, a: Answer) -> Answer
-    ensures { result ≡ unlessRefused b n a }
+    ensures { result ≡ unless_refused b n a }
 {
     if n == steps::CARRIED_OUT {
         return a;
@@ -59,14 +59,14 @@ fn checked(b: Board, within: bool, n: u32) -> u32
 
 // Whether controller c is one of this board.
 fn is_there(b: Board, c: u32) -> bool
-    ensures { result ≡ isThere b c }
+    ensures { result ≡ is_there b c }
 {
     c < b.controllers
 }
 
 // Whether the pin or the controller that a wire names is one of this board.
 fn is_named(b: Board, w: Wire) -> bool
-    ensures { result ≡ isNamed b w }
+    ensures { result ≡ is_named b w }
 {
     match w {
         Wire::Nothing => true,
@@ -78,7 +78,7 @@ fn is_named(b: Board, w: Wire) -> bool
 
 // 15 for a wire to the same or a higher number.
 fn upward_refusal(c: u32, w: Wire) -> u32
-    ensures { result ≡ upwardRefusal c w }
+    ensures { result ≡ upward_refusal c w }
 {
     if record::is_lower(c, w) {
         return steps::CARRIED_OUT;
@@ -128,7 +128,7 @@ pub fn connect(b: Board, c: u32, i: u32, w: Wire) -> Answer
 
 // Pin p is put to a level.
 pub fn put_pin(b: Board, p: u32, level: u32) -> Answer
-    ensures { result ≡ putPin b p level }
+    ensures { result ≡ put_pin b p level }
 {
     let n = checked(
         b,

@@ -1,7 +1,7 @@
 // The record of a board, what is answered with it, and which boards are sound: defined in specs/Record.antt and Sound.antt (02, 8/12).
 ghost use Rattle.std.specs.Prelude.{◌≡◌, ◌<◌, leb};
-ghost use Rattle.board.specs.Record.{answered, refused, withController, withCore, withWire, withPin};
-ghost use Rattle.board.specs.Sound.{low, zeroSide, zeroCore, coreRule, lower, wireRule, coresSound, wiresSound, pinsSound, sound};
+ghost use Rattle.board.specs.Record.{answered, refused, with_controller, with_core, with_wire, with_pin};
+ghost use Rattle.board.specs.Sound.{low, zero_side, zero_core, core_rule, lower, wire_rule, cores_sound, wires_sound, pins_sound, sound};
 
 use board_wires::{Board, Wire};
 use coreinterrupt::Core;
@@ -48,7 +48,7 @@ pub(crate) fn refusal_of(b: Board, n: u32) -> Answer
 
 pub(crate) fn with_controller(b: Board, k: Core) -> Board
     requires { b.controllers < 8 }
-    ensures { result ≡ withController b k }
+    ensures { result ≡ with_controller b k }
 {
     let mut d = b;
     let n = b.controllers;
@@ -59,7 +59,7 @@ pub(crate) fn with_controller(b: Board, k: Core) -> Board
 
 pub(crate) fn with_core(b: Board, c: u32, k: Core) -> Board
     requires { c < 8 }
-    ensures { result ≡ withCore b c k }
+    ensures { result ≡ with_core b c k }
 {
     let mut d = b;
     d.core[c as usize] = k;
@@ -67,7 +67,7 @@ pub(crate) fn with_core(b: Board, c: u32, k: Core) -> Board
 }
 
 pub(crate) fn with_wire(b: Board, c: u32, i: u32, w: Wire) -> Board
-    ensures { result ≡ withWire b c i w }
+    ensures { result ≡ with_wire b c i w }
 {
     let at = 40 * (c as usize) + i as usize;
     let n = board_wires::wire_number(w);
@@ -80,7 +80,7 @@ pub(crate) fn with_wire(b: Board, c: u32, i: u32, w: Wire) -> Board
 }
 
 pub(crate) fn with_pin(b: Board, p: u32, level: u8) -> Board
-    ensures { result ≡ withPin b p level }
+    ensures { result ≡ with_pin b p level }
 {
     let at = p as usize;
     if at < 320 {
@@ -102,21 +102,21 @@ fn is_low(k: Core) -> bool
 
 // Whether a side has zeros only.
 fn is_zero_side(s: Side) -> bool
-    ensures { result ≡ zeroSide s }
+    ensures { result ≡ zero_side s }
 {
     (s.count == 0) & ((s.level == 0) & ((s.inputs == 0) & ((s.soft == 0) & (s.enable == 0))))
 }
 
 // Whether a controller has zeros only.
 fn is_zero(k: Core) -> bool
-    ensures { result ≡ zeroCore k }
+    ensures { result ≡ zero_core k }
 {
     is_zero_side(k.fiq) & is_zero_side(k.irq)
 }
 
 // Whether the record may stand at number c of a board of n controllers.
 fn core_kept(n: u32, c: u32, k: Core) -> bool
-    ensures { result ≡ coreRule n c k }
+    ensures { result ≡ core_rule n c k }
 {
     if c < n {
         return coreinterrupt::is_sound(k) & is_low(k);
@@ -138,7 +138,7 @@ pub(crate) fn is_lower(c: u32, w: Wire) -> bool
 
 // Whether the number may stand for a wire of controller c of a board of n.
 fn wire_kept(n: u32, c: u32, w: u16) -> bool
-    ensures { result ≡ wireRule n c w }
+    ensures { result ≡ wire_rule n c w }
 {
     if c < n {
         return (w < 337) & is_lower(c, board_wires::wire_of(w));
@@ -148,7 +148,7 @@ fn wire_kept(n: u32, c: u32, w: u16) -> bool
 
 // Whether every controller keeps its rule. No early exit, here and below: a sound board is looked at whole anyhow.
 fn cores_kept(b: Board) -> bool
-    ensures { result ≡ coresSound b }
+    ensures { result ≡ cores_sound b }
 {
     let mut ok = true;
     let mut c: usize = 0;
@@ -161,7 +161,7 @@ fn cores_kept(b: Board) -> bool
 
 // Whether every wire keeps its rule.
 fn wires_kept(b: Board) -> bool
-    ensures { result ≡ wiresSound b }
+    ensures { result ≡ wires_sound b }
 {
     let mut ok = true;
     let mut k: usize = 0;
@@ -181,7 +181,7 @@ fn is_level(level: u8) -> bool
 
 // Whether every pin is at 0 or 1.
 fn pins_kept(b: Board) -> bool
-    ensures { result ≡ pinsSound b }
+    ensures { result ≡ pins_sound b }
 {
     let mut ok = true;
     let mut p: usize = 0;

@@ -11,20 +11,20 @@ use lib.Dec.{eqb}
 use borrow.Author.Tests.{lt-ltb, eq-eqb, ne_eqb, eqb-true}
 use Rattle.words.specs.Choice.{pick}
 use Rattle.words.proofs.ChoiceLaws.{pick_true}
-use Rattle.words.proofs.CountingLaws.{any_some, some-any, any_none, at-end}
+use Rattle.words.proofs.CountingLaws.{any_some, some_any, any_none, at_end}
 use Rattle.words.proofs.TruthLaws.{told}
 use Rattle.board_wires.specs.declared.Board.{Board}
 use Rattle.board_wires.specs.declared.Wire.{Wire}
 use Rattle.board_wires.specs.declared.Wire.TheVariants.{Nothing, Pin, Irq, Fiq}
-use Rattle.board_wires.specs.Wires.{wireIn}
-use Rattle.board_wires.specs.Chain.{leadsTo, feedsIn, feeds, longest, chains, chain, lowerOf}
+use Rattle.board_wires.specs.Wires.{wire_in}
+use Rattle.board_wires.specs.Chain.{leads_to, feeds_in, feeds, longest, chains, chain, lower_of}
 use Rattle.board_wires.specs.Promises.{Wired}
-use Rattle.board_wires.proofs.NumberLaws.{no-wire}
+use Rattle.board_wires.proofs.NumberLaws.{no_wire}
 
 -- a controller beyond the eight is wired to none
-pub feeds-none : (ws : List ℕ) (c d : ℕ) → 8 ≤ c → feedsIn ws c d ≡ false
-unfolding feedsIn leadsTo
-feeds-none ws c d l = any_none 40 (λ i. leadsTo (wireIn ws c i) d) (λ i m. rw (no-wire ws c i l))
+pub feeds-none : (ws : List ℕ) (c d : ℕ) → 8 ≤ c → feeds_in ws c d ≡ false
+unfolding feeds_in leads_to
+feeds-none ws c d l = any_none 40 (λ i. leads_to (wire_in ws c i) d) (λ i m. rw (no_wire ws c i l))
 
 -- what is told of the numbers below n is their chain
 pub chains-is : (b : Board) (n d : ℕ) → d < n → chains b n d ≡ chain b d
@@ -54,9 +54,9 @@ module _ (b : Board) (c : ℕ) where
   far l zero = refl
   far l (suc n) = rw (← far l n, feeds-none b.wire c n l)
 
-  pub all-chains : (most d n : ℕ) → d ≤ n → n ≤ d → n ≡ lowerOf c → most ≡ longest b (chains b c) c d → most ≡ chain b c
+  pub all-chains : (most d n : ℕ) → d ≤ n → n ≤ d → n ≡ lower_of c → most ≡ longest b (chains b c) c d → most ≡ chain b c
   unfolding chain
-  all-chains most d n l g e f = at-end (longest b (chains b c) c) d n l g f ∙ go (dec_lt c 8)
+  all-chains most d n l g e f = at_end (longest b (chains b c) c) d n l g f ∙ go (dec_lt c 8)
     where
       go : Dec (c < 8) → longest b (chains b c) c n ≡ longest b (chains b c) c c
       go (yes k) = ap (longest b (chains b c) c) (e ∙ sym (pick_true 0 (lt-ltb c 8 k)))
@@ -88,27 +88,27 @@ chain-most b c = longest-most b (chains b c) c c (λ d l. chains-most b c d)
 
 -- ---- which controllers count
 
-leads-to : (w : Wire) (d : ℕ) → leadsTo w d ≡ true → (w ≡ Irq d) ⊎ (w ≡ Fiq d)
-unfolding leadsTo
-leads-to Nothing d e = absurd (false≢true e)
-leads-to (Pin p) d e = absurd (false≢true e)
-leads-to (Irq k) d e = inl (ap Irq (eqb-true k d e))
-leads-to (Fiq k) d e = inr (ap Fiq (eqb-true k d e))
+leads_to_lem : (w : Wire) (d : ℕ) → leads_to w d ≡ true → (w ≡ Irq d) ⊎ (w ≡ Fiq d)
+unfolding leads_to
+leads_to_lem Nothing d e = absurd (false≢true e)
+leads_to_lem (Pin p) d e = absurd (false≢true e)
+leads_to_lem (Irq k) d e = inl (ap Irq (eqb-true k d e))
+leads_to_lem (Fiq k) d e = inr (ap Fiq (eqb-true k d e))
 
-to-leads : (w : Wire) (d : ℕ) → (w ≡ Irq d) ⊎ (w ≡ Fiq d) → leadsTo w d ≡ true
-unfolding leadsTo
+to-leads : (w : Wire) (d : ℕ) → (w ≡ Irq d) ⊎ (w ≡ Fiq d) → leads_to w d ≡ true
+unfolding leads_to
 to-leads w d (inl e) = rw (e, eq-eqb d d refl)
 to-leads w d (inr e) = rw (e, eq-eqb d d refl)
 
 feeds-wired : (b : Board) (c d : ℕ) → feeds b c d ≡ true → Wired b c d
-unfolding feedsIn
+unfolding feeds_in
 feeds-wired b c d e =
-    let r = any_some 40 (λ i. leadsTo (wireIn b.wire c i) d) e in
-    (r.0, r.1, leads-to (wireIn b.wire c r.0) d r.2)
+    let r = any_some 40 (λ i. leads_to (wire_in b.wire c i) d) e in
+    (r.0, r.1, leads_to_lem (wire_in b.wire c r.0) d r.2)
 
 pub wired-feeds : (b : Board) (c d : ℕ) → Wired b c d → feeds b c d ≡ true
-unfolding feedsIn
-wired-feeds b c d r = some-any 40 (λ i. leadsTo (wireIn b.wire c i) d) r.0 r.1 (to-leads (wireIn b.wire c r.0) d r.2)
+unfolding feeds_in
+wired-feeds b c d r = some_any 40 (λ i. leads_to (wire_in b.wire c i) d) r.0 r.1 (to-leads (wire_in b.wire c r.0) d r.2)
 
 -- one that feeds c counts with all below it
 longest-over : (b : Board) (g : ℕ → ℕ) (c n d : ℕ) → d < n → feeds b c d ≡ true → g d + 1 ≤ longest b g c n

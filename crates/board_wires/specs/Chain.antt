@@ -1,25 +1,25 @@
 -- The longest chain below a controller, by all its wires, those of unused inputs too (02, 8/12).
 use Rattle.std.specs.Prelude.{ℕ, zero, suc, ◌+◌, max, Bool, false, List, eqb, ltb}
 use Rattle.words.specs.Choice.{pick}
-use Rattle.words.specs.Counting.{anyBelow}
+use Rattle.words.specs.Counting.{any_below}
 use Rattle.board_wires.specs.declared.Board.{Board}
 use Rattle.board_wires.specs.declared.Wire.{Wire}
 use Rattle.board_wires.specs.declared.Wire.TheVariants.{Nothing, Pin, Irq, Fiq}
-use Rattle.board_wires.specs.Wires.{wireIn}
+use Rattle.board_wires.specs.Wires.{wire_in}
 
 -- the wire leads to an output of controller d
-unfoldable pub leadsTo : Wire → ℕ → Bool
-leadsTo Nothing d = false
-leadsTo (Pin p) d = false
-leadsTo (Irq e) d = eqb e d
-leadsTo (Fiq e) d = eqb e d
+unfoldable pub leads_to : Wire → ℕ → Bool
+leads_to Nothing d = false
+leads_to (Pin p) d = false
+leads_to (Irq e) d = eqb e d
+leads_to (Fiq e) d = eqb e d
 
 -- some input of controller c, used or not, is wired to an output of d (02, 8/12)
-unfoldable pub feedsIn : List ℕ → ℕ → ℕ → Bool
-feedsIn ws c d = anyBelow 40 (λ i. leadsTo (wireIn ws c i) d)
+unfoldable pub feeds_in : List ℕ → ℕ → ℕ → Bool
+feeds_in ws c d = any_below 40 (λ i. leads_to (wire_in ws c i) d)
 
 abbrev pub feeds : Board → ℕ → ℕ → Bool
-feeds b c d = feedsIn b.wire c d
+feeds b c d = feeds_in b.wire c d
 
 -- of the controllers below n that controller c is wired to, one more than the longest of their chains, as g tells them; 0 where there is none
 unfoldable pub longest : Board → (ℕ → ℕ) → ℕ → ℕ → ℕ
@@ -36,5 +36,5 @@ unfoldable pub chain : Board → ℕ → ℕ
 chain b c = longest b (chains b c) c c
 
 -- the numbers that controller c may be wired to are those below this one; a number beyond the 8 has no wire
-abbrev pub lowerOf : ℕ → ℕ
-lowerOf c = pick (ltb c 8) c 0
+abbrev pub lower_of : ℕ → ℕ
+lower_of c = pick (ltb c 8) c 0

@@ -1,13 +1,13 @@
 // The longest chain below a controller, counted in controllers (02, 8/12).
 ghost use Rattle.std.specs.Prelude.{◌≡◌, ◌<◌, ◌≤◌, ◌+◌};
 ghost use Rattle.words.specs.Choice.{pick};
-ghost use Rattle.board_wires.specs.Chain.{leadsTo, feedsIn, feeds, lowerOf, chain};
+ghost use Rattle.board_wires.specs.Chain.{leads_to, feeds_in, feeds, lower_of, chain};
 
 use super::{Board, Wire};
 
 // Whether a wire leads to an output of controller d.
 fn leads(w: Wire, d: u32) -> bool
-    ensures { result ≡ leadsTo w d }
+    ensures { result ≡ leads_to w d }
 {
     match w {
         Wire::Nothing => false,
@@ -19,7 +19,7 @@ fn leads(w: Wire, d: u32) -> bool
 
 // Whether some input of controller c, used or not, is wired to an output of d, in the lent table of wires.
 fn is_fed_in(wire: &[u16; 320], c: u32, d: u32) -> bool
-    ensures { result ≡ feedsIn wire.now c d }
+    ensures { result ≡ feeds_in wire.now c d }
 {
     let mut on = false;
     let mut i: u32 = 0;
@@ -50,7 +50,7 @@ fn counted(on: bool, n: u32) -> u32
 
 // The numbers that controller c may be wired to are those below this one: c, and none beyond the eight.
 pub(crate) fn lower(c: u32) -> u32
-    ensures { (result ≡ lowerOf c) × (result ≤ c) × (result < 8) }
+    ensures { (result ≡ lower_of c) × (result ≤ c) × (result < 8) }
 {
     if c < 8 {
         return c;

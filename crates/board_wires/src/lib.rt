@@ -1,7 +1,7 @@
 // The wires of a board of CoreInterrupts: its record, and what is read there of wires, pins and controllers (02, 8/12).
 ghost use Rattle.std.specs.Prelude.{◌≡◌, ◌<◌, ◌≤◌, ◌+◌, ltb};
 ghost use Rattle.words.specs.Choice.{pick};
-ghost use Rattle.board_wires.specs.Wires.{wireOf, wireNumber, wireIn, pinIn, coreAt, inputsOf, place_of};
+ghost use Rattle.board_wires.specs.Wires.{wire_of, wire_number, wire_in, pin_in, core_at, inputs_of, place_of};
 
 pub mod chain;
 pub mod pair;
@@ -31,7 +31,7 @@ pub struct Board {
 
 // The wire that a number of the record stands for.
 pub fn wire_of(w: u16) -> Wire
-    ensures { result ≡ wireOf w }
+    ensures { result ≡ wire_of w }
 {
     let n = w as u32;
     if n == 0 {
@@ -62,7 +62,7 @@ fn number_from(base: u16, limit: u32, n: u32) -> u16
 
 // The number of a wire in the record; that of nothing for a pin or a controller beyond its limit.
 pub fn wire_number(w: Wire) -> u16
-    ensures { result ≡ wireNumber w }
+    ensures { result ≡ wire_number w }
 {
     match w {
         Wire::Nothing => 0,
@@ -74,7 +74,7 @@ pub fn wire_number(w: Wire) -> u16
 
 // The wire of input i of controller c in the lent table of wires: the loops copy no board.
 pub(crate) fn wire_in(wire: &[u16; 320], c: u32, i: u32) -> Wire
-    ensures { result ≡ wireIn wire.now c i }
+    ensures { result ≡ wire_in wire.now c i }
 {
     if c < 8 {
         if i < 40 {
@@ -87,7 +87,7 @@ pub(crate) fn wire_in(wire: &[u16; 320], c: u32, i: u32) -> Wire
 
 // Whether pin p is high, in the lent table of pins.
 pub(crate) fn pin_in(pin: &[u8; 320], p: u32) -> bool
-    ensures { result ≡ pinIn pin.now p }
+    ensures { result ≡ pin_in pin.now p }
 {
     if p < 320 {
         let k = p as usize;
@@ -98,7 +98,7 @@ pub(crate) fn pin_in(pin: &[u8; 320], p: u32) -> bool
 
 // Controller c as the record holds it; one with no sources beyond the eight.
 pub fn core_at(b: Board, c: u32) -> Core
-    ensures { result ≡ coreAt b c }
+    ensures { result ≡ core_at b c }
 {
     if c < 8 {
         let k = c as usize;
@@ -112,7 +112,7 @@ pub fn core_at(b: Board, c: u32) -> Core
 
 // How many inputs a side has.
 pub(crate) fn inputs(fast: bool) -> u32
-    ensures { (result ≡ inputsOf fast) × (result ≤ 32) }
+    ensures { (result ≡ inputs_of fast) × (result ≤ 32) }
 {
     if fast {
         return coreinterrupt::FIQ_LIMIT;

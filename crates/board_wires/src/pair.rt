@@ -2,8 +2,8 @@
 // the inputs of its controller: the two call each other (02, 8/12; 01). They end because a wire is followed only to a lower number, whatever the record holds;
 // controller c takes at most 2 ^ c activities, itself among them, so the highest of eight takes 128.
 ghost use Rattle.std.specs.Prelude.{◌≡◌};
-ghost use Rattle.board_wires.specs.Wires.{wired, inputValue, wiredCore};
-ghost use Rattle.board_wires.specs.Pair.{tells, withTold, valuesIn, lined, linedCore, values, activities};
+ghost use Rattle.board_wires.specs.Wires.{wired, input_value, wired_core};
+ghost use Rattle.board_wires.specs.Pair.{tells, with_told, values_in, lined, lined_core, values, activities};
 
 use super::{Board, Wire, chain};
 use coreinterrupt::Core;
@@ -56,7 +56,7 @@ fn carried(pin: &[u8; 320], t: Told, c: u32, w: Wire) -> bool
 
 // The values of the inputs of a side of controller c, in the lent tables of wires and pins.
 fn values_in<'a>(wire: &'a [u16; 320], pin: &'a [u8; 320], t: Told, c: u32, fast: bool) -> u32
-    ensures { result ≡ valuesIn wire.now pin.now (tells t) c fast }
+    ensures { result ≡ values_in wire.now pin.now (tells t) c fast }
 {
     let n = super::inputs(fast);
     let mut w: u32 = 0;
@@ -71,14 +71,14 @@ fn values_in<'a>(wire: &'a [u16; 320], pin: &'a [u8; 320], t: Told, c: u32, fast
 
 // The same of the board.
 fn values_by(b: Board, t: Told, c: u32, fast: bool) -> u32
-    ensures { result ≡ valuesIn b.wire b.pin (tells t) c fast }
+    ensures { result ≡ values_in b.wire b.pin (tells t) c fast }
 {
     values_in(&b.wire, &b.pin, t, c, fast)
 }
 
 // What was told, and the activities of controller d besides.
 fn with_told(t: Told, d: u32, a: Activities) -> Told
-    ensures { result ≡ withTold t d a }
+    ensures { result ≡ with_told t d a }
 {
     Told {
         irq: words::with_bit(t.irq, d, a.irq),
@@ -102,7 +102,7 @@ fn lined(s: Side, w: u32, n: u32) -> Side
 }
 
 fn lined_core(k: Core, v: Inputs) -> Core
-    ensures { result ≡ linedCore k v }
+    ensures { result ≡ lined_core k v }
 {
     Core {
         fiq: lined(k.fiq, v.fiq, coreinterrupt::FIQ_LIMIT),
@@ -149,7 +149,7 @@ pub(crate) fn activity(b: Board, c: u32) -> Activities
 
 // Controller c with the wired values as its lines.
 pub fn wired_core(b: Board, c: u32) -> Core
-    ensures { result ≡ wiredCore b c }
+    ensures { result ≡ wired_core b c }
 {
     let v = values(b, c);
     lined_core(super::core_at(b, c), v)
@@ -157,7 +157,7 @@ pub fn wired_core(b: Board, c: u32) -> Core
 
 // The value of input i of controller c.
 pub fn input_value(b: Board, c: u32, i: u32) -> bool
-    ensures { result ≡ inputValue b c i }
+    ensures { result ≡ input_value b c i }
 {
     let v = values(b, c);
     if i < coreinterrupt::IRQ_LIMIT {

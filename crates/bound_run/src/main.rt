@@ -1,7 +1,7 @@
 // Prints the waits of a source over the trace on standard input, each with its bound: the argument is the number of the source. Where there are none to be
 // listed, the trace cannot be read or the lines not be written, one line on standard error says so.
 ghost use Rattle.std.specs.Prelude.{◌≡◌, List, ℕ, ◌≤◌, length};
-ghost use Rattle.trace_bounds.specs.Listing.{boundText};
+ghost use Rattle.trace_bounds.specs.Listing.{bound_text};
 
 // One byte more is read than a trace may have, so that a longer one is told apart.
 fn main() {
@@ -43,7 +43,7 @@ fn tell(what: &[u8]) {
 // A buffer that all such lines fit.
 fn room() -> [u8; 1940334]
     ensures value { 1940334 ≡ length result }
-    ensures any { (s : List ℕ) (k : ℕ) → length (boundText s k) ≤ length result }
+    ensures any { (s : List ℕ) (k : ℕ) → length (bound_text s k) ≤ length result }
 {
     [0; 1940334]
 }

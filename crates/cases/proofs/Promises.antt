@@ -1,20 +1,20 @@
 -- The promises of the worked cases, kept.
 use mathlib.Core.Path.{refl}
 use Rattle.cases.specs.Cases.{starred}
-use Rattle.cases.specs.Cheats.{aicModel, coreModel, cicModel, aintcModel, indexedModel}
+use Rattle.cases.specs.Cheats.{aic_model, core_model, cic_model, aintc_model, indexed_model}
 use Rattle.cases.specs.Promises.{Promises}
-use Rattle.cases.proofs.CaseLaws.{cases-hold}
-use Rattle.cases.proofs.CheatLaws.{no-cheat, aic-moves, core-moves, cic-moves, aintc-moves, indexed-moves}
+use Rattle.cases.proofs.CaseLaws.{cases_hold}
+use Rattle.cases.proofs.CheatLaws.{no_cheat, aic_moves, core_moves, cic_moves, aintc_moves, indexed_moves}
 
 pub kept : Promises
 unfolding starred
 kept =
     record {
-      casesHold = cases-hold;
+      cases_hold = cases_hold;
       fourteen = refl;
-      aicHonest = λ m. no-cheat aicModel m _ _ _ _ aic-moves;
-      coreHonest = λ m. no-cheat coreModel m _ _ _ _ core-moves;
-      cicHonest = λ m. no-cheat cicModel m _ _ _ _ cic-moves;
-      aintcHonest = λ p known m. no-cheat (aintcModel p) m _ _ _ _ (aintc-moves p known);
-      indexedHonest = λ m. no-cheat indexedModel m _ _ _ _ indexed-moves;
+      aic_honest = λ m. no_cheat aic_model m _ _ _ _ aic_moves;
+      core_honest = λ m. no_cheat core_model m _ _ _ _ core_moves;
+      cic_honest = λ m. no_cheat cic_model m _ _ _ _ cic_moves;
+      aintc_honest = λ p known m. no_cheat (aintc_model p) m _ _ _ _ (aintc_moves p known);
+      indexed_honest = λ m. no_cheat indexed_model m _ _ _ _ indexed_moves;
     }

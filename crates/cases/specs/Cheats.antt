@@ -2,7 +2,7 @@
 use Rattle.std.specs.Prelude.{ℕ, ◌≡◌, ◌≢◌}
 use Rattle.steps.specs.declared.Step.{Step}
 use Rattle.steps.specs.declared.Step.TheVariants.{Read}
-use Rattle.steps.specs.Refusals.{carriedOut}
+use Rattle.steps.specs.Refusals.{carried_out}
 use Rattle.aic_record.specs.declared.Aic.{Aic}
 use Rattle.aic.specs.Model as Aic
 use Rattle.coreinterrupt.specs.declared.Core.{Core}
@@ -25,23 +25,23 @@ abbrev pub Model : Type 0 → Type 0
 Model R = R → Step → Outcome R
 
 -- the five models of the definitions
-unfoldable pub aicModel : Model Aic
-aicModel s x = record { refusal = (Aic.step s x).refusal; value = (Aic.step s x).value; left = (Aic.step s x).aic }
+unfoldable pub aic_model : Model Aic
+aic_model s x = record { refusal = (Aic.step s x).refusal; value = (Aic.step s x).value; left = (Aic.step s x).aic }
 
-unfoldable pub coreModel : Model Core
-coreModel c x =
+unfoldable pub core_model : Model Core
+core_model c x =
     record { refusal = (CoreInterrupt.step c x).refusal; value = (CoreInterrupt.step c x).value; left = (CoreInterrupt.step c x).core }
 
-unfoldable pub cicModel : Model Cic
-cicModel c x = record { refusal = (Cic.step c x).refusal; value = (Cic.step c x).value; left = (Cic.step c x).cic }
+unfoldable pub cic_model : Model Cic
+cic_model c x = record { refusal = (Cic.step c x).refusal; value = (Cic.step c x).value; left = (Cic.step c x).cic }
 
 -- the AINTC's where every access has privilege p (02, 2/12)
-unfoldable pub aintcModel : ℕ → Model Aintc
-aintcModel p s x = record { refusal = (Aintc.step s p x).refusal; value = (Aintc.step s p x).value; left = (Aintc.step s p x).aintc }
+unfoldable pub aintc_model : ℕ → Model Aintc
+aintc_model p s x = record { refusal = (Aintc.step s p x).refusal; value = (Aintc.step s p x).value; left = (Aintc.step s p x).aintc }
 
 -- the CIC's with prioritised indices (02, 6/12)
-unfoldable pub indexedModel : Model Prioritised
-indexedModel p x =
+unfoldable pub indexed_model : Model Prioritised
+indexed_model p x =
     record { refusal = (Indexed.step p x).refusal; value = (Indexed.step p x).value; left = (Indexed.step p x).prioritised }
 
 -- it keeps a contract that says: every answer is the definition's
@@ -50,7 +50,7 @@ Keeps {R} m definition = (r : R) (x : Step) → m r x ≡ definition r x
 
 -- it refuses everything
 abbrev pub RefusesAll : {R : Type 0} → Model R → Type 0
-RefusesAll {R} m = (r : R) (x : Step) → (m r x).refusal ≢ carriedOut
+RefusesAll {R} m = (r : R) (x : Step) → (m r x).refusal ≢ carried_out
 
 -- it answers one constant to every read
 abbrev pub AnswersOne : {R : Type 0} → Model R → Type 0
@@ -66,7 +66,7 @@ StopsAfterOne m r = (x y : Step) → (m (m r x).left y).left ≡ (m r x).left
 
 -- it is none of these
 pub record NoCheat {R : Type 0} (m : Model R) (begun : R) : Type 0 where
-  pub carriesOut : RefusesAll m → ⊥
-  pub answersMore : AnswersOne m → ⊥
+  pub carries_out : RefusesAll m → ⊥
+  pub answers_more : AnswersOne m → ⊥
   pub moves : NeverMoves m → ⊥
-  pub goesOn : StopsAfterOne m begun → ⊥
+  pub goes_on : StopsAfterOne m begun → ⊥

@@ -7,10 +7,10 @@ use Rattle.cic_record.specs.declared.Answer.{Answer}
 use Rattle.cic_record.specs.declared.Cic.{Cic}
 use Rattle.cic_room.specs.Room.{Frame, Laid}
 use Rattle.cic_room.proofs.Promises as of-laid
-use Rattle.cic_room.specs.Reply.{replyOf, Done}
+use Rattle.cic_room.specs.Reply.{reply_of, Done}
 
 -- the answer that is put together from a reply and a record
-pub answer-is : (x : Answer) {r : Reply} {d : Cic} → r ≡ replyOf x → d ≡ x.cic → ◌≡◌ {A = Answer} (record { refusal = r.0; value = r.1; cic = d }) x
+pub answer-is : (x : Answer) {r : Reply} {d : Cic} → r ≡ reply_of x → d ≡ x.cic → ◌≡◌ {A = Answer} (record { refusal = r.0; value = r.1; cic = d }) x
 answer-is x e f = ap₂ (λ (p : Reply) (d : Cic). record { refusal = p.0; value = p.1; cic = d }) e f
 
 -- nothing changed in the room: the record is the one that was laid into it

@@ -5,10 +5,10 @@ use mathlib.Core.Logic.{◌≢◌}
 use Prim.Native.Nat.{ℕ}
 use borrow.Author.Tests.{eqb-true}
 use lib.Dec.{eqb}
-use Rattle.words.proofs.ChoiceLaws.{pick-cases}
+use Rattle.words.proofs.ChoiceLaws.{pick_cases}
 use Rattle.steps.specs.declared.Step.{Step}
 use Rattle.steps.specs.declared.Step.TheVariants.{Read, Write, Line}
-use Rattle.steps.specs.Refusals.{carriedOut, readRefusal, writeRefusal, lineRefusal}
+use Rattle.steps.specs.Refusals.{carried_out, read_refusal, write_refusal, line_refusal}
 use Rattle.steps.specs.Tables.{ReadTable, WriteTable, LineTable}
 use Rattle.steps.proofs.Promises as checks
 use Rattle.cic_record.specs.declared.Answer.{Answer}
@@ -17,112 +17,112 @@ use Rattle.cic_record.specs.Kinds.{system}
 use Rattle.cic_record.specs.Promises.{Shaped}
 use Rattle.cic_record.specs.Record.{refused, answered}
 use Rattle.cic_record.specs.Sound.{sound}
-use Rattle.cic_registers.specs.Map.{registerAt, access}
-use Rattle.cic_registers.specs.Registers.{value_of, writtenTo}
-use Rattle.cic_registers.proofs.WrittenLaws.{value-number, sound-written, shaped-written}
-use Rattle.cic_registers.specs.Model.{refusalAt, readAs, writeAs, moved, lineAs, stepAs, read, write, line, step}
+use Rattle.cic_registers.specs.Map.{register_at, access}
+use Rattle.cic_registers.specs.Registers.{value_of, written_to}
+use Rattle.cic_registers.proofs.WrittenLaws.{value_number, sound-written, shaped-written}
+use Rattle.cic_registers.specs.Model.{refusal_at, read_as, write_as, moved, line_as, step_as, read, write, line, step}
 use Rattle.cic.specs.Promises.{Promises}
-use Rattle.cic.proofs.LineLaws.{moved-sound, moved-shaped, line-moves, line-bits, clears-high, index-clears-high}
-use Rattle.cic.proofs.MapLaws.{the-map, the-limits}
+use Rattle.cic.proofs.LineLaws.{moved-sound, moved_shaped, line_moves, line_bits, clears-high, index_clears-high}
+use Rattle.cic.proofs.MapLaws.{the-map, the_limits}
 use Rattle.cic.proofs.ReadLaws.{reads_of}
-use Rattle.cic.proofs.StepLaws.{its-number, its-record}
-use Rattle.cic.proofs.WriteLaws.{writes-of}
+use Rattle.cic.proofs.StepLaws.{its_number, its-record}
+use Rattle.cic.proofs.WriteLaws.{writes_of}
 
 -- ---- the tables
 
-read-numbers : (c : Cic) (offset : ℕ) → ReadTable (sound c) offset (access c offset) (read c offset).refusal
-unfolding readAs
-read-numbers c offset =
-    subst (ReadTable (sound c) offset (access c offset)) (sym (its-number c (readRefusal (sound c) offset (access c offset)) (answered c (value_of c (registerAt offset))) refl))
+read_numbers : (c : Cic) (offset : ℕ) → ReadTable (sound c) offset (access c offset) (read c offset).refusal
+unfolding read_as
+read_numbers c offset =
+    subst (ReadTable (sound c) offset (access c offset)) (sym (its_number c (read_refusal (sound c) offset (access c offset)) (answered c (value_of c (register_at offset))) refl))
     ((checks.kept).reads (sound c) offset (access c offset))
 
-write-numbers : (c : Cic) (offset v : ℕ) → WriteTable (sound c) offset (access c offset) (refusalAt c offset v) (write c offset v).refusal
-unfolding writeAs
-write-numbers c offset v =
-    subst (WriteTable (sound c) offset (access c offset) (refusalAt c offset v))
-    (sym (its-number c (writeRefusal (sound c) offset (access c offset) (refusalAt c offset v)) (answered (writtenTo c (registerAt offset) v) 0) refl))
-    ((checks.kept).writes (sound c) offset (access c offset) (refusalAt c offset v) (value-number c (registerAt offset) v))
+write_numbers : (c : Cic) (offset v : ℕ) → WriteTable (sound c) offset (access c offset) (refusal_at c offset v) (write c offset v).refusal
+unfolding write_as
+write_numbers c offset v =
+    subst (WriteTable (sound c) offset (access c offset) (refusal_at c offset v))
+    (sym (its_number c (write_refusal (sound c) offset (access c offset) (refusal_at c offset v)) (answered (written_to c (register_at offset) v) 0) refl))
+    ((checks.kept).writes (sound c) offset (access c offset) (refusal_at c offset v) (value_number c (register_at offset) v))
 
-line-numbers : (c : Cic) (s level : ℕ) → LineTable (sound c) c.systems s level (line c s level).refusal
-unfolding lineAs
-line-numbers c s level =
-    subst (LineTable (sound c) c.systems s level) (sym (its-number c (lineRefusal (sound c) c.systems s level) (answered (moved c (system s) (eqb level 1)) 0) refl))
+line_numbers : (c : Cic) (s level : ℕ) → LineTable (sound c) c.systems s level (line c s level).refusal
+unfolding line_as
+line_numbers c s level =
+    subst (LineTable (sound c) c.systems s level) (sym (its_number c (line_refusal (sound c) c.systems s level) (answered (moved c (system s) (eqb level 1)) 0) refl))
     ((checks.kept).lines (sound c) c.systems s level)
 
 -- ---- refused steps
 
-refused-same : (c : Cic) (s : Step) → (step c s).refusal ≢ carriedOut → step c s ≡ refused c (step c s).refusal
-unfolding stepAs readAs writeAs lineAs
-refused-same c (Read offset) d = its-record c (readRefusal (sound c) offset (access c offset)) (answered c (value_of c (registerAt offset))) refl d
+refused-same : (c : Cic) (s : Step) → (step c s).refusal ≢ carried_out → step c s ≡ refused c (step c s).refusal
+unfolding step_as read_as write_as line_as
+refused-same c (Read offset) d = its-record c (read_refusal (sound c) offset (access c offset)) (answered c (value_of c (register_at offset))) refl d
 refused-same c (Write offset v) d =
-    its-record c (writeRefusal (sound c) offset (access c offset) (refusalAt c offset v)) (answered (writtenTo c (registerAt offset) v) 0) refl d
-refused-same c (Line s level) d = its-record c (lineRefusal (sound c) c.systems s level) (answered (moved c (system s) (eqb level 1)) 0) refl d
+    its-record c (write_refusal (sound c) offset (access c offset) (refusal_at c offset v)) (answered (written_to c (register_at offset) v) 0) refl d
+refused-same c (Line s level) d = its-record c (line_refusal (sound c) c.systems s level) (answered (moved c (system s) (eqb level 1)) 0) refl d
 
 write-value : (c : Cic) (offset v : ℕ) → (write c offset v).value ≡ 0
-unfolding writeAs
+unfolding write_as
 write-value c offset v =
-    pick-cases (λ (a : Answer). a.value ≡ 0) (eqb (writeRefusal (sound c) offset (access c offset) (refusalAt c offset v)) carriedOut) (λ _. refl) (λ _. refl)
+    pick_cases (λ (a : Answer). a.value ≡ 0) (eqb (write_refusal (sound c) offset (access c offset) (refusal_at c offset v)) carried_out) (λ _. refl) (λ _. refl)
 
 line-value : (c : Cic) (s level : ℕ) → (line c s level).value ≡ 0
-unfolding lineAs
-line-value c s level = pick-cases (λ (a : Answer). a.value ≡ 0) (eqb (lineRefusal (sound c) c.systems s level) carriedOut) (λ _. refl) (λ _. refl)
+unfolding line_as
+line-value c s level = pick_cases (λ (a : Answer). a.value ≡ 0) (eqb (line_refusal (sound c) c.systems s level) carried_out) (λ _. refl) (λ _. refl)
 
 -- ---- a sound record stays sound, and every array at its length
 
 write-sound : (c : Cic) (offset v : ℕ) → sound c ≡ true → sound (write c offset v).cic ≡ true
-unfolding writeAs
+unfolding write_as
 write-sound c offset v e =
-    let n = writeRefusal (sound c) offset (access c offset) (refusalAt c offset v) in
-    pick-cases (λ (a : Answer). sound a.cic ≡ true) (eqb n carriedOut)
-    (λ t. sound-written c (registerAt offset) v e
-    (((checks.kept).writes (sound c) offset (access c offset) (refusalAt c offset v) (value-number c (registerAt offset) v)).none.0 (eqb-true n carriedOut t)).1.1.1)
+    let n = write_refusal (sound c) offset (access c offset) (refusal_at c offset v) in
+    pick_cases (λ (a : Answer). sound a.cic ≡ true) (eqb n carried_out)
+    (λ t. sound-written c (register_at offset) v e
+    (((checks.kept).writes (sound c) offset (access c offset) (refusal_at c offset v) (value_number c (register_at offset) v)).none.0 (eqb-true n carried_out t)).1.1.1)
     (λ _. e)
 
 line-sound : (c : Cic) (s level : ℕ) → sound c ≡ true → sound (line c s level).cic ≡ true
-unfolding lineAs
+unfolding line_as
 line-sound c s level e =
-    let n = lineRefusal (sound c) c.systems s level in
-    pick-cases (λ (a : Answer). sound a.cic ≡ true) (eqb n carriedOut)
-    (λ t. moved-sound c s (eqb level 1) e (((checks.kept).lines (sound c) c.systems s level).none.0 (eqb-true n carriedOut t)).1.0) (λ _. e)
+    let n = line_refusal (sound c) c.systems s level in
+    pick_cases (λ (a : Answer). sound a.cic ≡ true) (eqb n carried_out)
+    (λ t. moved-sound c s (eqb level 1) e (((checks.kept).lines (sound c) c.systems s level).none.0 (eqb-true n carried_out t)).1.0) (λ _. e)
 
 read_same : (c : Cic) (o : ℕ) → (read c o).cic ≡ c
-unfolding readAs
-read_same c o = pick-cases (λ (a : Answer). a.cic ≡ c) (eqb (readRefusal (sound c) o (access c o)) carriedOut) (λ _. refl) (λ _. refl)
+unfolding read_as
+read_same c o = pick_cases (λ (a : Answer). a.cic ≡ c) (eqb (read_refusal (sound c) o (access c o)) carried_out) (λ _. refl) (λ _. refl)
 
 pub step-sound : (c : Cic) (x : Step) → sound c ≡ true → sound (step c x).cic ≡ true
-unfolding stepAs
+unfolding step_as
 step-sound c (Read o) e = ap sound (read_same c o) ∙ e
 step-sound c (Write o v) e = write-sound c o v e
 step-sound c (Line s l) e = line-sound c s l e
 
-step-shaped : (c : Cic) (x : Step) → Shaped c → Shaped (step c x).cic
-unfolding stepAs writeAs lineAs
-step-shaped c (Read o) h = subst Shaped (sym (read_same c o)) h
-step-shaped c (Write o v) h =
-    pick-cases (λ (a : Answer). Shaped a.cic) (eqb (writeRefusal (sound c) o (access c o) (refusalAt c o v)) carriedOut) (λ _. shaped-written c (registerAt o) v h) (λ _. h)
-step-shaped c (Line s l) h =
-    pick-cases (λ (a : Answer). Shaped a.cic) (eqb (lineRefusal (sound c) c.systems s l) carriedOut) (λ _. moved-shaped c s (eqb l 1) h) (λ _. h)
+step_shaped : (c : Cic) (x : Step) → Shaped c → Shaped (step c x).cic
+unfolding step_as write_as line_as
+step_shaped c (Read o) h = subst Shaped (sym (read_same c o)) h
+step_shaped c (Write o v) h =
+    pick_cases (λ (a : Answer). Shaped a.cic) (eqb (write_refusal (sound c) o (access c o) (refusal_at c o v)) carried_out) (λ _. shaped-written c (register_at o) v h) (λ _. h)
+step_shaped c (Line s l) h =
+    pick_cases (λ (a : Answer). Shaped a.cic) (eqb (line_refusal (sound c) c.systems s l) carried_out) (λ _. moved_shaped c s (eqb l 1) h) (λ _. h)
 
 pub kept : Promises
-unfolding stepAs
+unfolding step_as
 kept =
     record {
-      stepIs = λ c. (λ o. refl, λ o v. refl, λ s l. refl);
-      stepSound = step-sound;
-      stepShaped = step-shaped;
-      refusedSame = refused-same;
-      writeValue = write-value;
-      lineValue = line-value;
-      readSame = read_same;
-      readNumbers = read-numbers;
-      writeNumbers = write-numbers;
-      lineNumbers = line-numbers;
+      step_is = λ c. (λ o. refl, λ o v. refl, λ s l. refl);
+      step_sound = step-sound;
+      step_shaped = step_shaped;
+      refused_same = refused-same;
+      write_value = write-value;
+      line_value = line-value;
+      read_same = read_same;
+      read_numbers = read_numbers;
+      write_numbers = write_numbers;
+      line_numbers = line_numbers;
       map = the-map;
-      limits = the-limits;
+      limits = the_limits;
       reads = reads_of;
-      writes = λ c v h ok. writes-of c h ok v;
-      lineMoves = line-moves;
-      lineBits = λ c s l h ok there low. line-bits c s l ok there low h;
-      clearsHigh = λ c s v h ok there high. clears-high c s h ok there high v;
-      indexClearsHigh = index-clears-high;
+      writes = λ c v h ok. writes_of c h ok v;
+      line_moves = line_moves;
+      line_bits = λ c s l h ok there low. line_bits c s l ok there low h;
+      clears_high = λ c s v h ok there high. clears-high c s h ok there high v;
+      index_clears_high = index_clears-high;
     }

@@ -5,7 +5,7 @@ ghost use Rattle.cic_record.specs.Sound.{within, sound};
 ghost use Rattle.cic_record.specs.Start.{start};
 ghost use Rattle.cic_registers.specs.Hosts.{asserted, outputs};
 ghost use Rattle.rooms.specs.Reply.{told};
-ghost use Rattle.cic_registers.specs.Model.{readAs, writeAs, lineAs, stepAs, read, write, line, step};
+ghost use Rattle.cic_registers.specs.Model.{read_as, write_as, line_as, step_as, read, write, line, step};
 
 use cic_record::{Answer, Begun, Cic, Host, Signals};
 use steps::Step;
@@ -109,7 +109,7 @@ fn answer_with(r: u64, c: Cic) -> Answer
 
 fn read_in(c: Cic, offset: u32) -> Answer
     requires { sound c ≡ true }
-    ensures { result ≡ readAs true c offset }
+    ensures { result ≡ read_as true c offset }
 {
     let room = cic_room::transfer::lay(c, false);
     let r = cic_room::read(&room, offset);
@@ -118,7 +118,7 @@ fn read_in(c: Cic, offset: u32) -> Answer
 
 fn write_in(c: Cic, offset: u32, value: u32) -> Answer
     requires { sound c ≡ true }
-    ensures { result ≡ writeAs true c offset value }
+    ensures { result ≡ write_as true c offset value }
 {
     let mut room = cic_room::transfer::lay(c, false);
     let r = cic_room::write(&mut room, offset, value);
@@ -127,7 +127,7 @@ fn write_in(c: Cic, offset: u32, value: u32) -> Answer
 
 fn line_in(c: Cic, number: u32, level: u32) -> Answer
     requires { sound c ≡ true }
-    ensures { result ≡ lineAs true c number level }
+    ensures { result ≡ line_as true c number level }
 {
     let mut room = cic_room::transfer::lay(c, false);
     let r = cic_room::line(&mut room, number, level);
@@ -136,7 +136,7 @@ fn line_in(c: Cic, number: u32, level: u32) -> Answer
 
 fn step_in(c: Cic, s: Step) -> Answer
     requires { sound c ≡ true }
-    ensures { result ≡ stepAs true c s }
+    ensures { result ≡ step_as true c s }
 {
     match s {
         Step::Read(offset) => read_in(c, offset),

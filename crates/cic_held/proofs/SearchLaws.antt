@@ -9,30 +9,30 @@ use borrow.Author.Tests.{lt-ltb, ltb-true}
 use lib.Dec.{eqb, ltb}
 use lib.ListN.{get_or}
 use Rattle.words.specs.Array.{bit_at, rest_at}
-use Rattle.words.specs.Counting.{lowestBelow}
+use Rattle.words.specs.Counting.{lowest_below}
 use Rattle.words.specs.Word.{bit, both, kept}
-use Rattle.words.proofs.ArrayLaws.{bitAt-word, rest-ltb}
-use Rattle.words.proofs.CountingLaws.{some-any, any_none, Lowest, lowest-found, lowest-one, lowest-same}
+use Rattle.words.proofs.ArrayLaws.{bit_at_word, rest-ltb}
+use Rattle.words.proofs.CountingLaws.{some_any, any_none, Lowest, lowest_found, lowest-one, lowest-same}
 use Rattle.words.proofs.ShiftLaws.{bit-gone}
 use Rattle.words.proofs.TruthLaws.{and_left, and_right, clash, not-holds}
 use Rattle.words.proofs.WordLaws.{bit-both, bit_kept}
 use Rattle.cic_record.specs.declared.Channel.{Channel}
-use Rattle.cic_record.specs.Kinds.{system, channelIn}
-use Rattle.cic_registers.proofs.ScanLaws.{bit-of-left}
+use Rattle.cic_record.specs.Kinds.{system, channel_in}
+use Rattle.cic_registers.proofs.ScanLaws.{bit_of-left}
 use Rattle.cic_held.specs.declared.indices.Found.{Found}
-use Rattle.cic_held.specs.Search.{lit, pendingOf, first_of, has_of, lookedOf, foundOf}
+use Rattle.cic_held.specs.Search.{lit, pending_of, first_of, has_of, looked_of, found_of}
 
 -- ---- the lowest that passes
 
 -- n passes and none before it does
-pub found_here : (p : ℕ → Bool) (n i : ℕ) → i < n → ((j : ℕ) → j < i → p j ≡ false) → p i ≡ true → i ≡ lowestBelow n p
+pub found_here : (p : ℕ → Bool) (n i : ℕ) → i < n → ((j : ℕ) → j < i → p j ≡ false) → p i ≡ true → i ≡ lowest_below n p
 found_here p n i l b h =
-    lowest-one p n i (lowestBelow n p) (record { within = omega arith; before = b; found = λ _. h }) (lowest-found n p)
+    lowest-one p n i (lowest_below n p) (record { within = omega arith; before = b; found = λ _. h }) (lowest_found n p)
 
 -- none passes
-pub found_nowhere : (p : ℕ → Bool) (n : ℕ) → ((j : ℕ) → j < n → p j ≡ false) → n ≡ lowestBelow n p
+pub found_nowhere : (p : ℕ → Bool) (n : ℕ) → ((j : ℕ) → j < n → p j ≡ false) → n ≡ lowest_below n p
 found_nowhere p n b =
-    lowest-one p n n (lowestBelow n p) (record { within = omega arith; before = b; found = λ l. absurd (omega (arith, l)) }) (lowest-found n p)
+    lowest-one p n n (lowest_below n p) (record { within = omega arith; before = b; found = λ l. absurd (omega (arith, l)) }) (lowest_found n p)
 
 -- ---- one word
 
@@ -48,7 +48,7 @@ none_left w i q e b j l = go (dec_lt j i)
 
 -- the test of the code at bit i, whatever it says
 pub looks : (w left i : ℕ) {q is t : Bool} → left ≡ w / 2 ^ i → is ≡ q → (eqb (left % 2) 1 && is) ≡ t → (bit w i && q) ≡ t
-looks w left i e f g = ap₂ (λ (a b : Bool). a && b) (sym (bit-of-left w left i e)) (sym f) ∙ g
+looks w left i e f g = ap₂ (λ (a b : Bool). a && b) (sym (bit_of-left w left i e)) (sym f) ∙ g
 
 regroup : (a b d e : Bool) → (((a && b) && d) && e) ≡ (d && (a && (b && e)))
 regroup true true true e = refl
@@ -60,98 +60,98 @@ regroup false b false e = refl
 
 module _ (n : ℕ) (status enable channel : List ℕ) (k : Channel) where
   -- system interrupt 32 * j + i is configured and pending in channel k
-  abbrev pub pendingAt : ℕ → ℕ → Bool
-  pendingAt j i = ltb (32 * j + i) n && pendingOf status enable channel k (32 * j + i)
+  abbrev pub pending_at : ℕ → ℕ → Bool
+  pending_at j i = ltb (32 * j + i) n && pending_of status enable channel k (32 * j + i)
 
   -- word j as the code looks at it
   abbrev pub word_at : ℕ → ℕ
   word_at j = kept (rest_at n j) (both (get_or status j 0) (get_or enable j 0))
 
   -- the bits of word j, those beyond the systems dropped, are the system interrupts from 32 * j on
-  of_word : (j i : ℕ) → i < 32 → lit channel (32 * j) (word_at j) k i ≡ pendingAt j i
+  of_word : (j i : ℕ) → i < 32 → lit channel (32 * j) (word_at j) k i ≡ pending_at j i
   of_word j i l =
-      let of = eqb (channelIn channel (system (32 * j + i))).0 k.0 in
+      let of = eqb (channel_in channel (system (32 * j + i))).0 k.0 in
       ap (λ (b : Bool). b && of)
       (bit_kept (rest_at n j) (both (get_or status j 0) (get_or enable j 0)) i
       ∙ ap₂ (λ (a b : Bool). a && b)
-      (bit-both (get_or status j 0) (get_or enable j 0) i l ∙ ap₂ (λ (a b : Bool). a && b) (sym (bitAt-word status j i l)) (sym (bitAt-word enable j i l)))
+      (bit-both (get_or status j 0) (get_or enable j 0) i l ∙ ap₂ (λ (a b : Bool). a && b) (sym (bit_at_word status j i l)) (sym (bit_at_word enable j i l)))
       (rest-ltb n j i))
       ∙ regroup (bit_at status (32 * j + i)) (bit_at enable (32 * j + i)) (ltb (32 * j + i) n) of
 
   -- the lowest bit that passes is that of the lowest system interrupt of the word that is pending in the channel
-  pub word-lowest : (j base w : ℕ) {r : ℕ} → base ≡ 32 * j → w ≡ word_at j → r ≡ lowestBelow 32 (lit channel base w k) → Lowest (pendingAt j) 32 r
-  word-lowest j base w b v e =
-      rw (e ∙ ap₂ (λ (x y : ℕ). lowestBelow 32 (lit channel x y k)) b v ∙ lowest-same 32 (lit channel (32 * j) (word_at j) k) (pendingAt j) (of_word j)) (lowest-found 32 (pendingAt j))
+  pub word_lowest : (j base w : ℕ) {r : ℕ} → base ≡ 32 * j → w ≡ word_at j → r ≡ lowest_below 32 (lit channel base w k) → Lowest (pending_at j) 32 r
+  word_lowest j base w b v e =
+      rw (e ∙ ap₂ (λ (x y : ℕ). lowest_below 32 (lit channel x y k)) b v ∙ lowest-same 32 (lit channel (32 * j) (word_at j) k) (pending_at j) (of_word j)) (lowest_found 32 (pending_at j))
 
   -- ---- all words
 
   -- no system interrupt before word j is pending in the channel
   abbrev pub NoneBefore : ℕ → Type 0
-  NoneBefore j = (s : ℕ) → s < 32 * j → s < n → pendingOf status enable channel k s ≡ false
+  NoneBefore j = (s : ℕ) → s < 32 * j → s < n → pending_of status enable channel k s ≡ false
 
   -- a system interrupt of word j fails as its bit does
-  in-word : (j i : ℕ) → 32 * j + i < n → pendingAt j i ≡ false → pendingOf status enable channel k (32 * j + i) ≡ false
-  in-word j i l e = ap (λ (t : Bool). t && pendingOf status enable channel k (32 * j + i)) (sym (lt-ltb (32 * j + i) n l)) ∙ e
+  in_word : (j i : ℕ) → 32 * j + i < n → pending_at j i ≡ false → pending_of status enable channel k (32 * j + i) ≡ false
+  in_word j i l e = ap (λ (t : Bool). t && pending_of status enable channel k (32 * j + i)) (sym (lt-ltb (32 * j + i) n l)) ∙ e
 
   -- the same before bit i of word j, where no lower bit passes
-  before-bit : (j i : ℕ) → NoneBefore j → ((m : ℕ) → m < i → pendingAt j m ≡ false) → (s : ℕ) → s < 32 * j + i → s < n
-      → pendingOf status enable channel k s ≡ false
+  before-bit : (j i : ℕ) → NoneBefore j → ((m : ℕ) → m < i → pending_at j m ≡ false) → (s : ℕ) → s < 32 * j + i → s < n
+      → pending_of status enable channel k s ≡ false
   before-bit j i none low s l m = go (dec_lt s (32 * j))
     where
-      go : Dec (s < 32 * j) → pendingOf status enable channel k s ≡ false
+      go : Dec (s < 32 * j) → pending_of status enable channel k s ≡ false
       go (yes b) = none s b m
       go (no b) =
           let at : 32 * j + (s - 32 * j) ≡ s = omega (arith, b) in
-          ap (pendingOf status enable channel k) (sym at) ∙ in-word j (s - 32 * j) (omega (arith, b, m)) (low (s - 32 * j) (omega (arith, b, l)))
+          ap (pending_of status enable channel k) (sym at) ∙ in_word j (s - 32 * j) (omega (arith, b, m)) (low (s - 32 * j) (omega (arith, b, l)))
 
   -- the words before j have none
   words-none : (j : ℕ) → NoneBefore j → (m : ℕ) → m < j → has_of n status enable channel k m ≡ false
   unfolding has_of
-  words-none j none m l = any_none 32 (pendingAt m) (λ i b. not-holds (pendingAt m i) (λ e. taken i b e))
+  words-none j none m l = any_none 32 (pending_at m) (λ i b. not-holds (pending_at m i) (λ e. taken i b e))
     where
-      taken : (i : ℕ) → i < 32 → pendingAt m i ≡ true → ⊥
+      taken : (i : ℕ) → i < 32 → pending_at m i ≡ true → ⊥
       taken i b e =
-          let p = pendingOf status enable channel k (32 * m + i) in
+          let p = pending_of status enable channel k (32 * m + i) in
           let t = ltb (32 * m + i) n in
           clash (and_right t p e) (none (32 * m + i) (omega (arith, b, l)) (ltb-true (32 * m + i) n (and_left t p e)))
 
-  word-has : (j i : ℕ) → Lowest (pendingAt j) 32 i → i < 32 → has_of n status enable channel k j ≡ true
+  word_has : (j i : ℕ) → Lowest (pending_at j) 32 i → i < 32 → has_of n status enable channel k j ≡ true
   unfolding has_of
-  word-has j i low l = some-any 32 (pendingAt j) i l (low.found l)
+  word_has j i low l = some_any 32 (pending_at j) i l (low.found l)
 
   -- the words looked at where it is found in word j, whose number is below that of the words
-  pub looked-word : (j : ℕ) → 32 * j < n → NoneBefore j → has_of n status enable channel k j ≡ true → j + 1 ≡ lookedOf n status enable channel k
-  unfolding lookedOf
-  looked-word j l none has =
-      let first : j ≡ lowestBelow ((n + 31) / 32) (has_of n status enable channel k) = found_here (has_of n status enable channel k) ((n + 31) / 32) j (omega (arith, l)) (words-none j none) has in
+  pub looked_word : (j : ℕ) → 32 * j < n → NoneBefore j → has_of n status enable channel k j ≡ true → j + 1 ≡ looked_of n status enable channel k
+  unfolding looked_of
+  looked_word j l none has =
+      let first : j ≡ lowest_below ((n + 31) / 32) (has_of n status enable channel k) = found_here (has_of n status enable channel k) ((n + 31) / 32) j (omega (arith, l)) (words-none j none) has in
       omega (arith, first, l)
 
   -- and where it is found in none of them
-  pub looked-no-word : (j : ℕ) → n ≤ 32 * j → 32 * j < n + 32 → NoneBefore j → j ≡ lookedOf n status enable channel k
-  unfolding lookedOf
-  looked-no-word j a b none =
-      let nowhere : (n + 31) / 32 ≡ lowestBelow ((n + 31) / 32) (has_of n status enable channel k) = found_nowhere (has_of n status enable channel k) ((n + 31) / 32) (λ m l. words-none j none m (omega (arith, l, b))) in
+  pub looked_no_word : (j : ℕ) → n ≤ 32 * j → 32 * j < n + 32 → NoneBefore j → j ≡ looked_of n status enable channel k
+  unfolding looked_of
+  looked_no_word j a b none =
+      let nowhere : (n + 31) / 32 ≡ lowest_below ((n + 31) / 32) (has_of n status enable channel k) = found_nowhere (has_of n status enable channel k) ((n + 31) / 32) (λ m l. words-none j none m (omega (arith, l, b))) in
       omega (arith, nowhere, a, b)
 
   -- it is found in word j
-  pub found_word : (j i : ℕ) → Lowest (pendingAt j) 32 i → i < 32 → NoneBefore j
-      → ◌≡◌ {A = Found} (record { index = 32 * j + i; words = j + 1 }) (foundOf n status enable channel k)
-  unfolding foundOf first_of
+  pub found_word : (j i : ℕ) → Lowest (pending_at j) 32 i → i < 32 → NoneBefore j
+      → ◌≡◌ {A = Found} (record { index = 32 * j + i; words = j + 1 }) (found_of n status enable channel k)
+  unfolding found_of first_of
   found_word j i low l none =
-      let p = pendingOf status enable channel k in
+      let p = pending_of status enable channel k in
       let there = ltb-true (32 * j + i) n (and_left (ltb (32 * j + i) n) (p (32 * j + i)) (low.found l)) in
       ap₂ (λ (a b : ℕ). record { index = a; words = b })
       (found_here p n (32 * j + i) there (λ s b. before-bit j i none low.before s b (omega (arith, there, b))) (and_right (ltb (32 * j + i) n) (p (32 * j + i)) (low.found l)))
-      (looked-word j (omega (arith, there)) none (word-has j i low l))
+      (looked_word j (omega (arith, there)) none (word_has j i low l))
 
   -- one word more that has none
-  pub word_none : (j i : ℕ) → Lowest (pendingAt j) 32 i → 32 ≤ i → NoneBefore j → NoneBefore (j + 1)
+  pub word_none : (j i : ℕ) → Lowest (pending_at j) 32 i → 32 ≤ i → NoneBefore j → NoneBefore (j + 1)
   word_none j i low l none s b m = before-bit j i none low.before s (omega (arith, b, l)) m
 
   -- it is found in none of them
-  pub found-no-word : (j : ℕ) → n ≤ 32 * j → 32 * j < n + 32 → NoneBefore j
-      → ◌≡◌ {A = Found} (record { index = n; words = j }) (foundOf n status enable channel k)
-  unfolding foundOf first_of
-  found-no-word j l m none =
-      ap₂ (λ (a b : ℕ). record { index = a; words = b }) (found_nowhere (pendingOf status enable channel k) n (λ s b. none s (omega (arith, b, l)) b))
-      (looked-no-word j l m none)
+  pub found_no_word : (j : ℕ) → n ≤ 32 * j → 32 * j < n + 32 → NoneBefore j
+      → ◌≡◌ {A = Found} (record { index = n; words = j }) (found_of n status enable channel k)
+  unfolding found_of first_of
+  found_no_word j l m none =
+      ap₂ (λ (a b : ℕ). record { index = a; words = b }) (found_nowhere (pending_of status enable channel k) n (λ s b. none s (omega (arith, b, l)) b))
+      (looked_no_word j l m none)

@@ -1,10 +1,10 @@
 // Which system interrupt a prioritised index of the CIC names, and how many status words the search for it looks at (02, 6/12 and 10/12; 001, 1.3.5).
 ghost use Rattle.std.specs.Prelude.{◌≡◌, ◌||◌, ◌<◌, ◌≤◌, eqb};
-ghost use Rattle.words.specs.Counting.{lowestBelow};
-ghost use Rattle.cic_record.specs.Kinds.{channelIn, hostIn};
-ghost use Rattle.cic_held.specs.Looked.{foundOver};
+ghost use Rattle.words.specs.Counting.{lowest_below};
+ghost use Rattle.cic_record.specs.Kinds.{channel_in, host_in};
+ghost use Rattle.cic_held.specs.Looked.{found_over};
 ghost use Rattle.cic_held.specs.Order.{leads};
-ghost use Rattle.cic_held.specs.Search.{lit, foundOf, turn_of};
+ghost use Rattle.cic_held.specs.Search.{lit, found_of, turn_of};
 
 use cic_record::{Channel, Cic, Host, System};
 
@@ -21,7 +21,7 @@ pub struct Found {
 // Whether the channel of a system interrupt is k.
 fn is_of(channel: &[u8; 1024], s: System, k: Channel) -> bool
     requires { s.0 < 1024 }
-    ensures { result ≡ eqb (channelIn channel.now s).0 k.0 }
+    ensures { result ≡ eqb (channel_in channel.now s).0 k.0 }
 {
     let of = cic_registers::hosts::channel_in(channel, s);
     of.0 == k.0
@@ -30,7 +30,7 @@ fn is_of(channel: &[u8; 1024], s: System, k: Channel) -> bool
 // The lowest bit of w whose system interrupt, base + i for bit i, is of channel k; 32 where there is none. A word of 0 takes no turn.
 fn first_of(channel: &[u8; 1024], base: u16, w: u32, k: Channel) -> u32
     requires { base ≤ 992 }
-    ensures { result ≡ lowestBelow 32 (lit channel.now base w k) }
+    ensures { result ≡ lowest_below 32 (lit channel.now base w k) }
 {
     let mut left = w;
     let mut i: u16 = 0;
@@ -54,7 +54,7 @@ fn search<'a>(
     k: Channel,
 ) -> Found
     requires { systems ≤ 1024 }
-    ensures { result ≡ foundOf systems status.now enable.now channel.now k }
+    ensures { result ≡ found_of systems status.now enable.now channel.now k }
 {
     let mut rest = systems;
     let mut base: u16 = 0;
@@ -82,7 +82,7 @@ fn search<'a>(
 // Whether an index is over channel k: the global one over all, that of host h over those mapped to it.
 fn asks(host: &[u8; 256], every: bool, h: Host, k: Channel) -> bool
     requires { k.0 < 256 }
-    ensures { result ≡ (every || eqb (hostIn host.now k).0 h.0) }
+    ensures { result ≡ (every || eqb (host_in host.now k).0 h.0) }
 {
     let to = cic_registers::hosts::host_in(host, k);
     every | (to.0 == h.0)
@@ -98,7 +98,7 @@ fn turn<'a>(
     k: Channel,
 ) -> Found
     requires { systems ≤ 1024 }
-    ensures { result ≡ turn_of asked systems (foundOf systems status.now enable.now channel.now k) }
+    ensures { result ≡ turn_of asked systems (found_of systems status.now enable.now channel.now k) }
 {
     if asked {
         return search(systems, status, enable, channel, k);
@@ -113,7 +113,7 @@ fn turn<'a>(
 // including the first that has one.
 pub fn look(c: Cic, every: bool, h: Host) -> Found
     requires { (c.systems ≤ 1024) × (c.channels ≤ 256) }
-    ensures { result ≡ foundOver c (leads c every h) }
+    ensures { result ≡ found_over c (leads c every h) }
 {
     let systems = c.systems;
     let channels = c.channels;

@@ -2,7 +2,7 @@
 ghost use Rattle.std.specs.Prelude.{◌≡◌, ◌&&◌, ◌-◌, ◌≤◌, eqb, ltb, get_or};
 ghost use Rattle.words.specs.Counting.{all_below};
 ghost use Rattle.cic_record.specs.Kinds.{system};
-ghost use Rattle.cic_held.specs.Held.{prioritised, nothingHeld, wordHeld, within, entrySound, heldSound, sound, start};
+ghost use Rattle.cic_held.specs.Held.{prioritised, nothing_held, word_held, within, entry_sound, held_sound, sound, start};
 
 pub mod indices;
 
@@ -52,7 +52,7 @@ pub fn within(nth: u32, value: u32) -> bool
 
 // Nothing is held.
 pub fn nothing_held(choice: u32, hold: u32) -> Held
-    ensures { result ≡ nothingHeld choice hold }
+    ensures { result ≡ nothing_held choice hold }
 {
     Held {
         choice: choice,
@@ -95,7 +95,7 @@ pub fn start(systems: u32, channels: u32, hosts: u32, revision: u32, choice: u32
 
 // Whether what is held, where something may be, is nothing, none or a configured system interrupt; else whether it is nothing.
 fn entry_sound(systems: u32, may: bool, x: u16) -> bool
-    ensures { result ≡ entrySound systems may x }
+    ensures { result ≡ entry_sound systems may x }
 {
     if may {
         return (x as u64) <= (systems as u64) + 1;
@@ -105,7 +105,7 @@ fn entry_sound(systems: u32, may: bool, x: u16) -> bool
 
 // Whether what is held for each host is sound. No early exit, as over the words of a CIC.
 fn hosts_sound(m: &[u16; 256], systems: u32, hosts: u32, hold: u32) -> bool
-    ensures { result ≡ all_below 256 (λ k. entrySound systems (ltb k hosts && eqb hold 1) (get_or m.now k 0)) }
+    ensures { result ≡ all_below 256 (λ k. entry_sound systems (ltb k hosts && eqb hold 1) (get_or m.now k 0)) }
 {
     let mut ok = true;
     let mut k: usize = 0;
@@ -118,7 +118,7 @@ fn hosts_sound(m: &[u16; 256], systems: u32, hosts: u32, hold: u32) -> bool
 
 // Whether what is held beside a CIC keeps every rule.
 fn held_sound(c: Cic, h: Held) -> bool
-    ensures { result ≡ heldSound c h }
+    ensures { result ≡ held_sound c h }
 {
     let systems = c.systems;
     let hosts = c.hosts;
@@ -145,7 +145,7 @@ fn system_held(x: u16) -> System
 
 // The word that is held.
 pub fn word_held(x: u16) -> u32
-    ensures { result ≡ wordHeld x }
+    ensures { result ≡ word_held x }
 {
     if x == 1 {
         return indices::NONE;

@@ -9,7 +9,7 @@ use lib.ListN.{get_or, set}
 use lib.Seq.{get_or-set_other}
 use Rattle.words.specs.Word.{bit}
 use Rattle.words.proofs.TruthLaws.{told, clash}
-use Rattle.cic_held.specs.Held.{freedHosts}
+use Rattle.cic_held.specs.Held.{freed_hosts}
 use Rattle.cic_held.proofs.Promises as of-held
 
 -- a hold ends exactly if E, else it stays as it was
@@ -30,10 +30,10 @@ set_other xs n h d = get_or-set_other xs n h 0 0 d
 -- ---- a word of hosts
 
 -- the hold of host h ends exactly if it is of this word and its bit is 1
-pub freed : (k v : ℕ) (h : ℕ) (xs : List ℕ) → Decided ((h / 32 ≡ k) × (bit v (h % 32) ≡ true)) (get_or (freedHosts k v xs) h 0) (get_or xs h 0)
+pub freed : (k v : ℕ) (h : ℕ) (xs : List ℕ) → Decided ((h / 32 ≡ k) × (bit v (h % 32) ≡ true)) (get_or (freed_hosts k v xs) h 0) (get_or xs h 0)
 freed k v h xs = go (ℕ_discrete (h / 32) k) (told (bit v (h % 32)))
   where
-    go : Dec (h / 32 ≡ k) → (bit v (h % 32) ≡ true) ⊎ (bit v (h % 32) ≡ false) → Decided ((h / 32 ≡ k) × (bit v (h % 32) ≡ true)) (get_or (freedHosts k v xs) h 0) (get_or xs h 0)
-    go (yes e) (inl t) = ended (e, t) ((of-held.kept).freedEnds k v xs h e t)
-    go (yes e) (inr f) = let d : (h / 32 ≡ k) × (bit v (h % 32) ≡ true) → ⊥ = λ x. clash x.1 f in stayed d ((of-held.kept).freedStays k v xs h d)
-    go (no n) t = let d : (h / 32 ≡ k) × (bit v (h % 32) ≡ true) → ⊥ = λ x. n x.0 in stayed d ((of-held.kept).freedStays k v xs h d)
+    go : Dec (h / 32 ≡ k) → (bit v (h % 32) ≡ true) ⊎ (bit v (h % 32) ≡ false) → Decided ((h / 32 ≡ k) × (bit v (h % 32) ≡ true)) (get_or (freed_hosts k v xs) h 0) (get_or xs h 0)
+    go (yes e) (inl t) = ended (e, t) ((of-held.kept).freed_ends k v xs h e t)
+    go (yes e) (inr f) = let d : (h / 32 ≡ k) × (bit v (h % 32) ≡ true) → ⊥ = λ x. clash x.1 f in stayed d ((of-held.kept).freed_stays k v xs h d)
+    go (no n) t = let d : (h / 32 ≡ k) × (bit v (h % 32) ≡ true) → ⊥ = λ x. n x.0 in stayed d ((of-held.kept).freed_stays k v xs h d)

@@ -8,11 +8,11 @@ use borrow.Author.Tests.{eq-eqb}
 use lib.ListN.{get_or}
 use Rattle.words.proofs.ChoiceLaws.{pick_true, pick-false}
 use Rattle.words.proofs.TruthLaws.{told}
-use Rattle.steps.specs.Refusals.{carriedOut}
+use Rattle.steps.specs.Refusals.{carried_out}
 use Rattle.cic_record.specs.declared.Cic.{Cic}
 use Rattle.cic_record.specs.declared.Host.{Host}
 use Rattle.cic_record.specs.declared.Signals.{Signals}
-use Rattle.cic_record.specs.Kinds.{hostNumber}
+use Rattle.cic_record.specs.Kinds.{host_number}
 use Rattle.cic_record.specs.Sound as cic-sound
 use Rattle.cic_registers.specs.Hosts as hosts
 use Rattle.cic_held.specs.Order.{index_of}
@@ -27,45 +27,45 @@ use Rattle.cic_indexed.proofs.SoundLaws.{sound-cic}
 use Rattle.cic_indexed.specs.Promises.{Promises}
 use Rattle.cic_indexed.specs.Tables.{Names}
 use Rattle.cic_indexed.proofs.CicLaws.{lines, off, reads-elsewhere, writes-elsewhere}
-use Rattle.cic_indexed.proofs.IndexLaws.{global-read, host-read, global-write, host-write, global-holds, host-holds, global-held, host-held, global-shows, host-shows, control-reads, control-off, control-on, control-again}
+use Rattle.cic_indexed.proofs.IndexLaws.{global-read, host-read, global-write, host-write, global-holds, host-holds, global-held, host-held, global-shows, host-shows, control-reads, control-off, control_on, control_again}
 use Rattle.cic_indexed.proofs.KeptLaws.{step-sound}
-use Rattle.cic_indexed.proofs.ModeLaws.{choice-stays, mode-turns}
-use Rattle.cic_indexed.proofs.NumberLaws.{read-numbers, write-numbers, line-numbers, refused-same, write-value, line-value}
+use Rattle.cic_indexed.proofs.ModeLaws.{choice_stays, mode-turns}
+use Rattle.cic_indexed.proofs.NumberLaws.{read_numbers, write_numbers, line_numbers, refused-same, write-value, line-value}
 use Rattle.cic_indexed.proofs.PlaceLaws.{map-off, map_on}
-use Rattle.cic_indexed.proofs.StayLaws.{host-stays, global-stays}
-use Rattle.cic_indexed.proofs.WriteLaws.{writes-leave, host-ends, global-ends}
+use Rattle.cic_indexed.proofs.StayLaws.{host_stays, global_stays}
+use Rattle.cic_indexed.proofs.WriteLaws.{writes_leave, host-ends, global-ends}
 
 -- ---- indices that are not held
 
-global-index : (c : Cic) (h : Host) → cic-sound.sound c ≡ true → Names c (Meets c) (index_of c true h)
-global-index c h e =
+global_index : (c : Cic) (h : Host) → cic-sound.sound c ≡ true → Names c (Meets c) (index_of c true h)
+global_index c h e =
     record {
-      none = (of-indices.kept).globalNone c h e;
-      some = (of-indices.kept).globalSome c h e;
-      meets = (of-indices.kept).globalNames c h e;
-      first = (of-indices.kept).globalFirst c h e;
+      none = (of-indices.kept).global_none c h e;
+      some = (of-indices.kept).global_some c h e;
+      meets = (of-indices.kept).global_names c h e;
+      first = (of-indices.kept).global_first c h e;
     }
 
-host-index : (c : Cic) (h : Host) → cic-sound.sound c ≡ true → Names c (MeetsFor c h) (index_of c false h)
-host-index c h e =
+host_index : (c : Cic) (h : Host) → cic-sound.sound c ≡ true → Names c (MeetsFor c h) (index_of c false h)
+host_index c h e =
     record {
-      none = (of-indices.kept).hostNone c h e;
-      some = (of-indices.kept).hostSome c h e;
-      meets = (of-indices.kept).hostNames c h e;
-      first = (of-indices.kept).hostFirst c h e;
+      none = (of-indices.kept).host_none c h e;
+      some = (of-indices.kept).host_some c h e;
+      meets = (of-indices.kept).host_names c h e;
+      first = (of-indices.kept).host_first c h e;
     }
 
-global-names : (p : Prioritised) → sound p ≡ true → p.held.choice ≡ 1 → p.held.global ≡ 0 → Names p.cic (Meets p.cic) (read p 0x080).value
-global-names p e c z =
+global_names : (p : Prioritised) → sound p ≡ true → p.held.choice ≡ 1 → p.held.global ≡ 0 → Names p.cic (Meets p.cic) (read p 0x080).value
+global_names p e c z =
     subst (Names p.cic (Meets p.cic)) (pick_true _ (eq-eqb p.held.global 0 z) ∙ sym (ap (λ (a : Answer). a.value) (global-read p e c)))
-    (global-index p.cic (hostNumber 0) (sound-cic p e))
+    (global_index p.cic (host_number 0) (sound-cic p e))
 
-host-names : (p : Prioritised) (h : ℕ) → sound p ≡ true → p.held.choice ≡ 1 → h < p.cic.hosts → get_or p.held.host h 0 ≡ 0
-    → Names p.cic (MeetsFor p.cic (hostNumber h)) (read p (0x900 + 4 * h)).value
-host-names p h e c l z =
-    subst (Names p.cic (MeetsFor p.cic (hostNumber h)))
+host_names : (p : Prioritised) (h : ℕ) → sound p ≡ true → p.held.choice ≡ 1 → h < p.cic.hosts → get_or p.held.host h 0 ≡ 0
+    → Names p.cic (MeetsFor p.cic (host_number h)) (read p (0x900 + 4 * h)).value
+host_names p h e c l z =
+    subst (Names p.cic (MeetsFor p.cic (host_number h)))
     (pick_true _ (eq-eqb (get_or p.held.host h 0) 0 z) ∙ sym (ap (λ (a : Answer). a.value) (host-read p e c h l)))
-    (host-index p.cic (hostNumber h) (sound-cic p e))
+    (host_index p.cic (host_number h) (sound-cic p e))
 
 -- ---- outputs
 
@@ -78,64 +78,64 @@ unfolding outputs
 outputs-unsound p e = sym (pick-false (hosts.shown p.cic) e)
 
 -- those of a sound record are carried out
-outputs-done : (p : Prioritised) → sound p ≡ true → (outputs p).refusal ≡ carriedOut
+outputs-done : (p : Prioritised) → sound p ≡ true → (outputs p).refusal ≡ carried_out
 unfolding outputs hosts.shown
 outputs-done p e = ap (λ (s : Signals). s.refusal) (sym (pick_true _ e))
 
-outputs-twelve : (p : Prioritised) → ((outputs p).refusal ≡ 12) ↔ (sound p ≡ false)
-outputs-twelve p = (λ e. go e (told (sound p)), λ f. ap (λ (s : Signals). s.refusal) (outputs-unsound p f))
+outputs_twelve : (p : Prioritised) → ((outputs p).refusal ≡ 12) ↔ (sound p ≡ false)
+outputs_twelve p = (λ e. go e (told (sound p)), λ f. ap (λ (s : Signals). s.refusal) (outputs-unsound p f))
   where
     go : (outputs p).refusal ≡ 12 → (sound p ≡ true) ⊎ (sound p ≡ false) → sound p ≡ false
     go e (inl t) = absurd (omega (arith, e, outputs-done p t))
     go e (inr f) = f
 
-start-sound : (systems channels hosts revision choice : ℕ) → (start systems channels hosts revision choice).refusal ≡ carriedOut
+start-sound : (systems channels hosts revision choice : ℕ) → (start systems channels hosts revision choice).refusal ≡ carried_out
     → sound (start systems channels hosts revision choice).prioritised ≡ true
-start-sound s k h r c e = (of-held.kept).startSound s k h r c (((of-held.kept).startTaken s k h r c).0 e)
+start-sound s k h r c e = (of-held.kept).start_sound s k h r c (((of-held.kept).start_taken s k h r c).0 e)
 
 pub kept : Promises
 kept =
     record {
-      stepIs = λ p. (λ o. refl, λ o v. refl, λ s l. refl);
+      step_is = λ p. (λ o. refl, λ o v. refl, λ s l. refl);
       off = off;
-      mapOff = map-off;
+      map_off = map-off;
       lines = lines;
-      readsElsewhere = reads-elsewhere;
-      writesElsewhere = λ p o v e a b w. writes-elsewhere p o e a b w v;
-      choiceStays = choice-stays;
-      modeTurns = mode-turns;
-      writesLeave = writes-leave;
+      reads_elsewhere = reads-elsewhere;
+      writes_elsewhere = λ p o v e a b w. writes-elsewhere p o e a b w v;
+      choice_stays = choice_stays;
+      mode_turns = mode-turns;
+      writes_leave = writes_leave;
       map = map_on;
-      readNumbers = read-numbers;
-      writeNumbers = write-numbers;
-      lineNumbers = line-numbers;
-      refusedSame = refused-same;
-      writeValue = write-value;
-      lineValue = line-value;
-      stepSound = step-sound;
-      startSound = start-sound;
-      globalNames = global-names;
-      hostNames = host-names;
-      globalHeld = global-held;
-      hostHeld = host-held;
-      globalHolds = global-holds;
-      hostHolds = host-holds;
-      globalShows = global-shows;
-      hostShows = host-shows;
-      globalWritten = λ p v e c. global-write p e c v;
-      hostWritten = λ p h v e c l. host-write p e c h l v;
-      hostEnds = host-ends;
-      globalEnds = global-ends;
-      hostStays = host-stays;
-      globalStays = global-stays;
-      controlReads = control-reads;
-      controlOff = control-off;
-      controlOn = control-on;
-      controlAgain = control-again;
-      outputsSound = outputs-sound;
-      outputsUnsound = outputs-unsound;
-      outputsTwelve = outputs-twelve;
-      answeredIs = λ p v. (refl, refl, refl);
-      refusedIs = λ p n. (refl, refl, refl);
-      besideIs = λ h a. (refl, refl, refl, refl);
+      read_numbers = read_numbers;
+      write_numbers = write_numbers;
+      line_numbers = line_numbers;
+      refused_same = refused-same;
+      write_value = write-value;
+      line_value = line-value;
+      step_sound = step-sound;
+      start_sound = start-sound;
+      global_names = global_names;
+      host_names = host_names;
+      global_held = global-held;
+      host_held = host-held;
+      global_holds = global-holds;
+      host_holds = host-holds;
+      global_shows = global-shows;
+      host_shows = host-shows;
+      global_written = λ p v e c. global-write p e c v;
+      host_written = λ p h v e c l. host-write p e c h l v;
+      host_ends = host-ends;
+      global_ends = global-ends;
+      host_stays = host_stays;
+      global_stays = global_stays;
+      control_reads = control-reads;
+      control_off = control-off;
+      control_on = control_on;
+      control_again = control_again;
+      outputs_sound = outputs-sound;
+      outputs_unsound = outputs-unsound;
+      outputs_twelve = outputs_twelve;
+      answered_is = λ p v. (refl, refl, refl);
+      refused_is = λ p n. (refl, refl, refl);
+      beside_is = λ h a. (refl, refl, refl, refl);
     }

@@ -8,10 +8,10 @@ use Rattle.steps.specs.declared.Step.TheVariants.{Write}
 use Rattle.cic_record.specs.declared.Cic.{Cic}
 use Rattle.cic_record.specs.Kinds.{system}
 use Rattle.cic_registers.specs.Map.{access}
-use Rattle.cic_held.specs.Order.{comesBefore}
+use Rattle.cic_held.specs.Order.{comes_before}
 use Rattle.cic_held.specs.declared.Held.{Held}
 use Rattle.cic_held.specs.declared.Prioritised.{Prioritised}
-use Rattle.cic_indexed.specs.Registers.{own_at, accessOf}
+use Rattle.cic_indexed.specs.Registers.{own_at, access_of}
 
 -- ---- which system interrupt an index names (02, 6/12; 001, 1.3.5)
 
@@ -22,7 +22,7 @@ pub record Names (c : Cic) (Meets : ℕ → Type 0) (word : ℕ) : Type 0 where
   pub some : (word ≢ 0x80000000) ↔ ((s : ℕ) × Meets s)
   -- it is then the number of one that does, and no other that does comes before it (02, 6/12; 001, 1.3.5)
   pub meets : word ≢ 0x80000000 → Meets word
-  pub first : word ≢ 0x80000000 → (s : ℕ) → Meets s → comesBefore c (system s) (system word) ≡ false
+  pub first : word ≢ 0x80000000 → (s : ℕ) → Meets s → comes_before c (system s) (system word) ≡ false
 
 -- ---- which writes of v at the offset o end a hold (001, 1.3.5 and 2.2.2)
 
@@ -52,12 +52,12 @@ Turns held x =
 -- ---- the registers (001, table 2-1)
 
 -- what the register at an offset may be used for
-abbrev pub accessAt : Prioritised → ℕ → Access
-accessAt p o = accessOf p o (own_at p o)
+abbrev pub access_at : Prioritised → ℕ → Access
+access_at p o = access_of p o (own_at p o)
 
 -- where the choice is on: control, the global index, and an index for each host (001, 2.2.2, 2.2.10 and 2.2.17); else the CIC's
 pub record MapTable (p : Prioritised) : Type 0 where
-  pub control : accessAt p 0x004 ≡ ReadWrite
-  pub globalIndex : accessAt p 0x080 ≡ ReadWrite
-  pub hostIndex : (h : ℕ) → h < 256 → ((accessAt p (0x900 + 4 * h) ≡ ReadWrite) ↔ (h < p.cic.hosts)) × ((accessAt p (0x900 + 4 * h) ≡ NoRegister) ↔ (p.cic.hosts ≤ h))
-  pub elsewhere : (o : ℕ) → o ≢ 0x004 → o ≢ 0x080 → (o < 0x900) ⊎ (0xD00 ≤ o) → accessAt p o ≡ access p.cic o
+  pub control : access_at p 0x004 ≡ ReadWrite
+  pub global_index : access_at p 0x080 ≡ ReadWrite
+  pub host_index : (h : ℕ) → h < 256 → ((access_at p (0x900 + 4 * h) ≡ ReadWrite) ↔ (h < p.cic.hosts)) × ((access_at p (0x900 + 4 * h) ≡ NoRegister) ↔ (p.cic.hosts ≤ h))
+  pub elsewhere : (o : ℕ) → o ≢ 0x004 → o ≢ 0x080 → (o < 0x900) ⊎ (0xD00 ≤ o) → access_at p o ≡ access p.cic o

@@ -1,7 +1,7 @@
 // The CIC with prioritised indices: which registers only it has, and the definitions of its steps with what is promised of them
 // (02, 6/12; 001, 2.2.2, 2.2.10 and 2.2.17). The code of the steps stands in indexed_room, and by value in cic_prioritised.
 ghost use Rattle.std.specs.Prelude.{◌≡◌, get_or};
-ghost use Rattle.cic_indexed.specs.Registers.{hostAccess};
+ghost use Rattle.cic_indexed.specs.Registers.{host_access};
 
 use cic_held::{Held, Prioritised};
 use cic_record::Host;
@@ -18,7 +18,7 @@ pub enum Own {
 
 // What the index of a host may be used for: there is none beyond the configured hosts.
 pub fn host_access(p: Prioritised, h: Host) -> Access
-    ensures { result ≡ hostAccess p h.0 }
+    ensures { result ≡ host_access p h.0 }
 {
     if (h.0 as u32) < p.cic.hosts {
         return Access::ReadWrite;

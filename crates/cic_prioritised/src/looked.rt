@@ -4,7 +4,7 @@ ghost use Rattle.cic_held.specs.Held.{sound};
 ghost use Rattle.cic_indexed.specs.declared.Own.TheVariants.{GlobalIndex, HostIndex};
 ghost use Rattle.cic_indexed.specs.Registers.{own_at};
 ghost use Rattle.cic_indexed.specs.Model.{read};
-ghost use Rattle.cic_prioritised.specs.Looking.{looked, foundNow, lookedFrom, lookAs, lookAt};
+ghost use Rattle.cic_prioritised.specs.Looking.{looked, found_now, looked_from, look_as, look_at};
 
 use cic_held::Prioritised;
 use cic_held::indices::Found;
@@ -23,7 +23,7 @@ pub struct Looked {
 // What a read of the register at an offset would answer, and the words that a search for it, channel by channel, looks at: 0 where the read would be
 // refused, where the index is held, and where the register is no index. Nothing is read: the record stays as it is, and nothing is held.
 pub fn look_at(p: Prioritised, offset: u32) -> Looked
-    ensures { result ≡ lookAt p offset }
+    ensures { result ≡ look_at p offset }
 {
     if cic_held::is_sound(p) {
         return look_sound(p, offset);
@@ -34,7 +34,7 @@ pub fn look_at(p: Prioritised, offset: u32) -> Looked
 // The same of a sound record.
 fn look_sound(p: Prioritised, offset: u32) -> Looked
     requires { sound p ≡ true }
-    ensures { result ≡ lookAs true p offset (own_at p offset) }
+    ensures { result ≡ look_as true p offset (own_at p offset) }
 {
     match indexed_room::own::own_at(p.held.choice, offset) {
         Own::Elsewhere => look_other(p, offset),
@@ -47,7 +47,7 @@ fn look_sound(p: Prioritised, offset: u32) -> Looked
 // A register that is no index: nothing is searched for.
 fn look_other(p: Prioritised, offset: u32) -> Looked
     requires { sound p ≡ true }
-    ensures { result ≡ lookedFrom (read p offset) 0 }
+    ensures { result ≡ looked_from (read p offset) 0 }
 {
     let a = super::step_sound(p, Step::Read(offset));
     answer(a.refusal, a.value, 0)
@@ -56,7 +56,7 @@ fn look_other(p: Prioritised, offset: u32) -> Looked
 // The global index.
 fn look_global(p: Prioritised, offset: u32) -> Looked
     requires { sound p ≡ true }
-    ensures { result ≡ lookAs true p offset GlobalIndex }
+    ensures { result ≡ look_as true p offset GlobalIndex }
 {
     let n = steps::read_refusal(true, offset, Access::ReadWrite);
     if n != steps::CARRIED_OUT {
@@ -69,7 +69,7 @@ fn look_global(p: Prioritised, offset: u32) -> Looked
 // The index of host interrupt h.
 fn look_host(p: Prioritised, offset: u32, h: Host) -> Looked
     requires { sound p ≡ true }
-    ensures { result ≡ lookAs true p offset (HostIndex h) }
+    ensures { result ≡ look_as true p offset (HostIndex h) }
 {
     let n = steps::read_refusal(true, offset, cic_indexed::host_access(p, h));
     if n != steps::CARRIED_OUT {
@@ -83,7 +83,7 @@ fn look_host(p: Prioritised, offset: u32, h: Host) -> Looked
 // The word of an index, and the words looked at for it: none where it is held as x.
 fn look_now(c: Cic, x: u16, every: bool, h: Host) -> Found
     requires { (c.systems ≤ 1024) × (c.channels ≤ 256) }
-    ensures { result ≡ foundNow c x every h }
+    ensures { result ≡ found_now c x every h }
 {
     if x == 0 {
         return cic_held::indices::look(c, every, h);

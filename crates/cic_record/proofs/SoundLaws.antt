@@ -7,28 +7,28 @@ use native.Mathlib.Omega.{arith}
 use borrow.Author.Tests.{lt-ltb, le-ltb, leb-true, le-leb}
 use lib.Dec.{eqb, ltb, leb}
 use lib.ListN.{get_or, length}
-use Rattle.words.specs.Array.{cleanBelow}
+use Rattle.words.specs.Array.{clean_below}
 use Rattle.words.specs.Choice.{pick}
 use Rattle.words.specs.Counting.{all_below}
 use Rattle.words.proofs.ChoiceLaws.{pick_true, pick-false}
-use Rattle.words.proofs.CountingLaws.{all-none-yet, all_more, all_same, all-add}
+use Rattle.words.proofs.CountingLaws.{all-none_yet, all_more, all_same, all-add}
 use Rattle.words.proofs.TruthLaws.{and_left, and_right, and_both}
 use Rattle.cic_record.specs.declared.Cic.{Cic}
-use Rattle.cic_record.specs.Sound.{between, within, numbersSound, entrySound}
+use Rattle.cic_record.specs.Sound.{between, within, numbers_sound, entry_sound}
 
 -- the entries in use are below the limit and the rest is 0
 pub map-split : (m : List ℕ) (n limit : ℕ) → n ≤ length m
-    → (all_below n (λ i. ltb (get_or m i 0) limit) && all_below (length m - n) (λ i. eqb (get_or m (n + i) 0) 0)) ≡ all_below (length m) (entrySound n limit m)
-unfolding entrySound
+    → (all_below n (λ i. ltb (get_or m i 0) limit) && all_below (length m - n) (λ i. eqb (get_or m (n + i) 0) 0)) ≡ all_below (length m) (entry_sound n limit m)
+unfolding entry_sound
 map-split m n limit l =
     ap₂ (λ (a b : Bool). a && b)
-    (all_same n (λ i. ltb (get_or m i 0) limit) (entrySound n limit m) (λ i h. pick_true (eqb (get_or m i 0) 0) (lt-ltb i n h)))
-    (all_same (length m - n) (λ i. eqb (get_or m (n + i) 0) 0) (λ i. entrySound n limit m (n + i)) (λ i h. pick-false (ltb (get_or m (n + i) 0) limit) (le-ltb (n + i) n (omega arith))))
-    ∙ sym (all-add n (length m - n) (entrySound n limit m)) ∙ ap (λ (k : ℕ). all_below k (entrySound n limit m)) (omega arith)
+    (all_same n (λ i. ltb (get_or m i 0) limit) (entry_sound n limit m) (λ i h. pick_true (eqb (get_or m i 0) 0) (lt-ltb i n h)))
+    (all_same (length m - n) (λ i. eqb (get_or m (n + i) 0) 0) (λ i. entry_sound n limit m (n + i)) (λ i h. pick-false (ltb (get_or m (n + i) 0) limit) (le-ltb (n + i) n (omega arith))))
+    ∙ sym (all-add n (length m - n) (entry_sound n limit m)) ∙ ap (λ (k : ℕ). all_below k (entry_sound n limit m)) (omega arith)
 
 -- a loop over the bytes from n on
 pub clear-start : (n : ℕ) (p : ℕ → Bool) → true ≡ all_below (n - n) p
-clear-start n p = all-none-yet p ∙ ap (λ (k : ℕ). all_below k p) (omega arith)
+clear-start n p = all-none_yet p ∙ ap (λ (k : ℕ). all_below k p) (omega arith)
 
 pub clear-more : (m : List ℕ) (n i : ℕ) {o q : Bool} → n ≤ i → o ≡ all_below (i - n) (λ j. eqb (get_or m (n + j) 0) 0) → q ≡ eqb (get_or m i 0) 0
     → (o && q) ≡ all_below (i + 1 - n) (λ j. eqb (get_or m (n + j) 0) 0)
@@ -37,28 +37,28 @@ clear-more m n i l e f =
     ∙ ap (λ (k : ℕ). all_below k (λ j. eqb (get_or m (n + j) 0) 0)) (omega arith)
 
 -- a whole array looked at: its length is the number of words
-pub whole : (m n : ℕ) (ws : List ℕ) {o : Bool} → length ws ≡ m → o ≡ cleanBelow (length ws) n ws → o ≡ cleanBelow m n ws
-whole m n ws e f = f ∙ ap (λ (k : ℕ). cleanBelow k n ws) e
+pub whole : (m n : ℕ) (ws : List ℕ) {o : Bool} → length ws ≡ m → o ≡ clean_below (length ws) n ws → o ≡ clean_below m n ws
+whole m n ws e f = f ∙ ap (λ (k : ℕ). clean_below k n ws) e
 
-pub whole-map : (m n limit : ℕ) (es : List ℕ) {o : Bool} → length es ≡ m → o ≡ all_below (length es) (entrySound n limit es) → o ≡ all_below m (entrySound n limit es)
-whole-map m n limit es e f = f ∙ ap (λ (k : ℕ). all_below k (entrySound n limit es)) e
+pub whole-map : (m n limit : ℕ) (es : List ℕ) {o : Bool} → length es ≡ m → o ≡ all_below (length es) (entry_sound n limit es) → o ≡ all_below m (entry_sound n limit es)
+whole-map m n limit es e f = f ∙ ap (λ (k : ℕ). all_below k (entry_sound n limit es)) e
 
 -- ---- the ranges of the counts
 
 pub between-both : (lowest highest n : ℕ) → between lowest highest n ≡ true → (lowest ≤ n) × (n ≤ highest)
 between-both lowest highest n e = (leb-true lowest n (and_left (leb lowest n) (leb n highest) e), leb-true n highest (and_right (leb lowest n) (leb n highest) e))
 
-pub within-systems : (n : ℕ) → within 0 n ≡ true → (1 ≤ n) × (n ≤ 1024)
+pub within_systems : (n : ℕ) → within 0 n ≡ true → (1 ≤ n) × (n ≤ 1024)
 unfolding within pick
-within-systems n e = between-both 1 1024 n e
+within_systems n e = between-both 1 1024 n e
 
-pub within-channels : (n : ℕ) → within 1 n ≡ true → (1 ≤ n) × (n ≤ 256)
+pub within_channels : (n : ℕ) → within 1 n ≡ true → (1 ≤ n) × (n ≤ 256)
 unfolding within pick
-within-channels n e = between-both 1 256 n e
+within_channels n e = between-both 1 256 n e
 
-pub within-hosts : (n : ℕ) → within 2 n ≡ true → (1 ≤ n) × (n ≤ 256)
+pub within_hosts : (n : ℕ) → within 2 n ≡ true → (1 ≤ n) × (n ≤ 256)
 unfolding within pick
-within-hosts n e = between-both 1 256 n e
+within_hosts n e = between-both 1 256 n e
 
 pub systems-within : (n : ℕ) → (1 ≤ n) × (n ≤ 1024) → within 0 n ≡ true
 unfolding within pick
@@ -79,14 +79,14 @@ pub record Counts (c : Cic) : Type 0 where
   pub hosts : (1 ≤ c.hosts) × (c.hosts ≤ 256)
   pub global : leb c.global 1 ≡ true
 
-pub numbers-counts : (c : Cic) → numbersSound c ≡ true → Counts c
-unfolding numbersSound
+pub numbers-counts : (c : Cic) → numbers_sound c ≡ true → Counts c
+unfolding numbers_sound
 numbers-counts c e =
     let a = and_right (within 0 c.systems) (within 1 c.channels && (within 2 c.hosts && leb c.global 1)) e in
     let b = and_right (within 1 c.channels) (within 2 c.hosts && leb c.global 1) a in
     record {
-      systems = within-systems c.systems (and_left (within 0 c.systems) (within 1 c.channels && (within 2 c.hosts && leb c.global 1)) e);
-      channels = within-channels c.channels (and_left (within 1 c.channels) (within 2 c.hosts && leb c.global 1) a);
-      hosts = within-hosts c.hosts (and_left (within 2 c.hosts) (leb c.global 1) b);
+      systems = within_systems c.systems (and_left (within 0 c.systems) (within 1 c.channels && (within 2 c.hosts && leb c.global 1)) e);
+      channels = within_channels c.channels (and_left (within 1 c.channels) (within 2 c.hosts && leb c.global 1) a);
+      hosts = within_hosts c.hosts (and_left (within 2 c.hosts) (leb c.global 1) b);
       global = and_right (within 2 c.hosts) (leb c.global 1) b;
     }

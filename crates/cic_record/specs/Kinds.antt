@@ -10,24 +10,24 @@ abbrev pub system : ℕ → System
 system n = record { 0 = n }
 
 -- channel number n
-abbrev pub channelNumber : ℕ → Channel
-channelNumber n = record { 0 = n }
+abbrev pub channel_number : ℕ → Channel
+channel_number n = record { 0 = n }
 
 -- host interrupt number n
-abbrev pub hostNumber : ℕ → Host
-hostNumber n = record { 0 = n }
+abbrev pub host_number : ℕ → Host
+host_number n = record { 0 = n }
 
 -- the channel of a system interrupt in a channel map (001, 1.3.3)
-abbrev pub channelIn : List ℕ → System → Channel
-channelIn channel s = channelNumber (get_or channel s.0 0)
+abbrev pub channel_in : List ℕ → System → Channel
+channel_in channel s = channel_number (get_or channel s.0 0)
 
 -- the host interrupt that a channel is mapped to in a host map (001, 1.3.4)
-abbrev pub hostIn : List ℕ → Channel → Host
-hostIn host k = hostNumber (get_or host k.0 0)
+abbrev pub host_in : List ℕ → Channel → Host
+host_in host k = host_number (get_or host k.0 0)
 
 -- the same in the maps of a record
-abbrev pub channelOf : Cic → System → Channel
-channelOf c s = channelIn c.channel s
+abbrev pub channel_of : Cic → System → Channel
+channel_of c s = channel_in c.channel s
 
-abbrev pub hostOf : Cic → Channel → Host
-hostOf c k = hostIn c.host k
+abbrev pub host_of : Cic → Channel → Host
+host_of c k = host_in c.host k

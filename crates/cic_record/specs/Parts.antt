@@ -1,6 +1,6 @@
 -- The configured numbers of a record, and the answer of a step without its record.
 use Rattle.std.specs.Prelude.{ℕ}
-use Rattle.steps.specs.Refusals.{carriedOut}
+use Rattle.steps.specs.Refusals.{carried_out}
 use Rattle.cic_record.specs.declared.Answer.{Answer}
 use Rattle.cic_record.specs.declared.Cic.{Cic}
 use Rattle.cic_record.specs.declared.Reply.{Reply}
@@ -15,9 +15,9 @@ abbrev pub answer_of : Reply → Cic → Answer
 answer_of r c = record { refusal = r.refusal; value = r.value; cic = c }
 
 -- the reply of a step that is refused: its number and the value 0 (01, Numbers)
-abbrev pub refusedReply : ℕ → Reply
-refusedReply n = record { refusal = n; value = 0 }
+abbrev pub refused_reply : ℕ → Reply
+refused_reply n = record { refusal = n; value = 0 }
 
 -- the reply of a step that is carried out, with its value
-abbrev pub answeredReply : ℕ → Reply
-answeredReply v = record { refusal = carriedOut; value = v }
+abbrev pub answered_reply : ℕ → Reply
+answered_reply v = record { refusal = carried_out; value = v }

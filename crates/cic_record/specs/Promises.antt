@@ -1,12 +1,12 @@
 -- What is promised of the record: its numbers, the start, which records are sound, and each of its parts put anew.
 use Rattle.std.specs.Prelude.{true, false, List, ◌↔◌, ◌⊎◌, ◌≡◌, ℕ, ◌+◌, ◌*◌, ◌<◌, ◌≤◌, get_or, length, replicate}
 use Rattle.words.specs.Word.{bit}
-use Rattle.steps.specs.Refusals.{carriedOut, misconfigured}
+use Rattle.steps.specs.Refusals.{carried_out, misconfigured}
 use Rattle.cic_record.specs.declared.Channel.{Channel}
 use Rattle.cic_record.specs.declared.Cic.{Cic}
 use Rattle.cic_record.specs.declared.System.{System}
-use Rattle.cic_record.specs.Kinds.{system, channelNumber, hostNumber, channelOf, hostOf}
-use Rattle.cic_record.specs.Record.{withGlobal, withLines, withStatus, withEnable, withChannel, withHost, withAllow, begun, answered, refused}
+use Rattle.cic_record.specs.Kinds.{system, channel_number, host_number, channel_of, host_of}
+use Rattle.cic_record.specs.Record.{with_global, with_lines, with_status, with_enable, with_channel, with_host, with_allow, begun, answered, refused}
 use Rattle.cic_record.specs.Sound.{within, sound}
 use Rattle.cic_record.specs.Start.{fresh, start}
 
@@ -40,8 +40,8 @@ pub record Rules (c : Cic) : Type 0 where
   pub channels : (s : ℕ) → s < c.systems → get_or c.channel s 0 < c.channels
   pub hosts : (k : ℕ) → k < c.channels → get_or c.host k 0 < c.hosts
   -- every map byte beyond the counts is 0
-  pub spareChannels : (s : ℕ) → c.systems ≤ s → s < 1024 → get_or c.channel s 0 ≡ 0
-  pub spareHosts : (k : ℕ) → c.channels ≤ k → k < 256 → get_or c.host k 0 ≡ 0
+  pub spare_channels : (s : ℕ) → c.systems ≤ s → s < 1024 → get_or c.channel s 0 ≡ 0
+  pub spare_hosts : (k : ℕ) → c.channels ≤ k → k < 256 → get_or c.host k 0 ≡ 0
   -- no line, status or enable bit beyond the systems is set, and no host enable beyond the hosts
   pub lines : NoneFrom c.systems 32 c.lines
   pub status : NoneFrom c.systems 32 c.status
@@ -53,42 +53,42 @@ pub record Promises : Type 0 where
   pub configuration : (nth value : ℕ) → (within nth value ≡ true)
       ↔ (((nth ≡ 0) × ((1 ≤ value) × (value ≤ 1024))) ⊎ (((nth ≡ 1) × ((1 ≤ value) × (value ≤ 256))) ⊎ (((nth ≡ 2) × ((1 ≤ value) × (value ≤ 256))) ⊎ (nth ≡ 3))))
   -- a start is carried out exactly if the counts are in their ranges, whatever the revision (01, CIC, configuration)
-  pub startTaken : (systems channels hosts revision : ℕ) → ((start systems channels hosts revision).refusal ≡ carriedOut) ↔ InRange systems channels hosts
-  pub startIs : (systems channels hosts revision : ℕ) → InRange systems channels hosts
-      → start systems channels hosts revision ≡ begun carriedOut (fresh systems channels hosts revision)
+  pub start_taken : (systems channels hosts revision : ℕ) → ((start systems channels hosts revision).refusal ≡ carried_out) ↔ InRange systems channels hosts
+  pub start_is : (systems channels hosts revision : ℕ) → InRange systems channels hosts
+      → start systems channels hosts revision ≡ begun carried_out (fresh systems channels hosts revision)
   -- else it answers 10 and a record of zeros (01, Numbers)
-  pub startRefused : (systems channels hosts revision : ℕ) → (InRange systems channels hosts → ⊥)
+  pub start_refused : (systems channels hosts revision : ℕ) → (InRange systems channels hosts → ⊥)
       → start systems channels hosts revision ≡ begun misconfigured (fresh 0 0 0 0)
   -- of such a record the four numbers are given, the lines low and all registers 0 (01, CIC, configuration)
-  pub freshIs : (systems channels hosts revision : ℕ)
+  pub fresh_is : (systems channels hosts revision : ℕ)
       → Holds (fresh systems channels hosts revision) systems channels hosts revision 0
       (replicate 32 0) (replicate 32 0) (replicate 32 0) (replicate 1024 0) (replicate 256 0) (replicate 8 0)
   -- a record that a start hands out is sound, and its arrays have their lengths (01, CIC, a sound record)
-  pub startSound : (systems channels hosts revision : ℕ) → InRange systems channels hosts
+  pub start_sound : (systems channels hosts revision : ℕ) → InRange systems channels hosts
       → (sound (start systems channels hosts revision).cic ≡ true) × Shaped (start systems channels hosts revision).cic
   -- a record is sound exactly if it keeps each rule (01, CIC, a sound record)
   pub sound_is : (c : Cic) → (sound c ≡ true) ↔ Rules c
   -- a system interrupt's channel is its byte of the channel map, a channel's host its byte of the host map (001, 1.3.3 and 1.3.4)
-  pub channelIs : (c : Cic) (s : System) → (channelOf c s).0 ≡ get_or c.channel s.0 0
-  pub hostIs : (c : Cic) (k : Channel) → (hostOf c k).0 ≡ get_or c.host k.0 0
+  pub channel_is : (c : Cic) (s : System) → (channel_of c s).0 ≡ get_or c.channel s.0 0
+  pub host_is : (c : Cic) (k : Channel) → (host_of c k).0 ≡ get_or c.host k.0 0
   -- the three kinds of number (01, CIC)
-  pub numbered : (n : ℕ) → ((system n).0 ≡ n) × ((channelNumber n).0 ≡ n) × ((hostNumber n).0 ≡ n)
+  pub numbered : (n : ℕ) → ((system n).0 ≡ n) × ((channel_number n).0 ≡ n) × ((host_number n).0 ≡ n)
   -- a record with one part put anew has every other part as it was
-  pub globalPut : (c : Cic) (x : ℕ)
-      → Holds (withGlobal c x) c.systems c.channels c.hosts c.revision x c.lines c.status c.enable c.channel c.host c.allow
-  pub linesPut : (c : Cic) (x : List ℕ)
-      → Holds (withLines c x) c.systems c.channels c.hosts c.revision c.global x c.status c.enable c.channel c.host c.allow
-  pub statusPut : (c : Cic) (x : List ℕ)
-      → Holds (withStatus c x) c.systems c.channels c.hosts c.revision c.global c.lines x c.enable c.channel c.host c.allow
-  pub enablePut : (c : Cic) (x : List ℕ)
-      → Holds (withEnable c x) c.systems c.channels c.hosts c.revision c.global c.lines c.status x c.channel c.host c.allow
-  pub channelPut : (c : Cic) (x : List ℕ)
-      → Holds (withChannel c x) c.systems c.channels c.hosts c.revision c.global c.lines c.status c.enable x c.host c.allow
-  pub hostPut : (c : Cic) (x : List ℕ)
-      → Holds (withHost c x) c.systems c.channels c.hosts c.revision c.global c.lines c.status c.enable c.channel x c.allow
-  pub allowPut : (c : Cic) (x : List ℕ)
-      → Holds (withAllow c x) c.systems c.channels c.hosts c.revision c.global c.lines c.status c.enable c.channel c.host x
+  pub global_put : (c : Cic) (x : ℕ)
+      → Holds (with_global c x) c.systems c.channels c.hosts c.revision x c.lines c.status c.enable c.channel c.host c.allow
+  pub lines_put : (c : Cic) (x : List ℕ)
+      → Holds (with_lines c x) c.systems c.channels c.hosts c.revision c.global x c.status c.enable c.channel c.host c.allow
+  pub status_put : (c : Cic) (x : List ℕ)
+      → Holds (with_status c x) c.systems c.channels c.hosts c.revision c.global c.lines x c.enable c.channel c.host c.allow
+  pub enable_put : (c : Cic) (x : List ℕ)
+      → Holds (with_enable c x) c.systems c.channels c.hosts c.revision c.global c.lines c.status x c.channel c.host c.allow
+  pub channel_put : (c : Cic) (x : List ℕ)
+      → Holds (with_channel c x) c.systems c.channels c.hosts c.revision c.global c.lines c.status c.enable x c.host c.allow
+  pub host_put : (c : Cic) (x : List ℕ)
+      → Holds (with_host c x) c.systems c.channels c.hosts c.revision c.global c.lines c.status c.enable c.channel x c.allow
+  pub allow_put : (c : Cic) (x : List ℕ)
+      → Holds (with_allow c x) c.systems c.channels c.hosts c.revision c.global c.lines c.status c.enable c.channel c.host x
   -- what a start hands out, what a step answers that is carried out, and one that is refused: the value 0 and the same record (01, Numbers)
-  pub begunIs : (n : ℕ) (c : Cic) → ((begun n c).refusal ≡ n) × ((begun n c).cic ≡ c)
-  pub answeredIs : (c : Cic) (v : ℕ) → ((answered c v).refusal ≡ carriedOut) × ((answered c v).value ≡ v) × ((answered c v).cic ≡ c)
-  pub refusedIs : (c : Cic) (n : ℕ) → ((refused c n).refusal ≡ n) × ((refused c n).value ≡ 0) × ((refused c n).cic ≡ c)
+  pub begun_is : (n : ℕ) (c : Cic) → ((begun n c).refusal ≡ n) × ((begun n c).cic ≡ c)
+  pub answered_is : (c : Cic) (v : ℕ) → ((answered c v).refusal ≡ carried_out) × ((answered c v).value ≡ v) × ((answered c v).cic ≡ c)
+  pub refused_is : (c : Cic) (n : ℕ) → ((refused c n).refusal ≡ n) × ((refused c n).value ≡ 0) × ((refused c n).cic ≡ c)

@@ -1,6 +1,6 @@
 -- What a configuration number may be, and which records are sound (01, CIC).
 use Rattle.std.specs.Prelude.{Bool, ◌&&◌, List, ℕ, eqb, ltb, leb, get_or}
-use Rattle.words.specs.Array.{cleanBelow}
+use Rattle.words.specs.Array.{clean_below}
 use Rattle.words.specs.Choice.{pick}
 use Rattle.words.specs.Counting.{all_below}
 use Rattle.cic_record.specs.declared.Cic.{Cic}
@@ -18,23 +18,23 @@ within nth value =
     (eqb nth 3)))
 
 -- the counts are in their ranges and global enable is 0 or 1 (01, CIC, a sound record)
-unfoldable pub numbersSound : Cic → Bool
-numbersSound c = within 0 c.systems && (within 1 c.channels && (within 2 c.hosts && leb c.global 1))
+unfoldable pub numbers_sound : Cic → Bool
+numbers_sound c = within 0 c.systems && (within 1 c.channels && (within 2 c.hosts && leb c.global 1))
 
 -- no line, status or enable bit beyond the systems is set, and no host enable beyond the hosts (01, CIC, a sound record)
-unfoldable pub wordsSound : Cic → Bool
-wordsSound c =
-    cleanBelow 32 c.systems c.lines && (cleanBelow 32 c.systems c.status
-    && (cleanBelow 32 c.systems c.enable && cleanBelow 8 c.hosts c.allow))
+unfoldable pub words_sound : Cic → Bool
+words_sound c =
+    clean_below 32 c.systems c.lines && (clean_below 32 c.systems c.status
+    && (clean_below 32 c.systems c.enable && clean_below 8 c.hosts c.allow))
 
 -- entry i of the map m is below the limit if it is one of the n entries in use, else 0
-unfoldable pub entrySound : ℕ → ℕ → List ℕ → ℕ → Bool
-entrySound n limit m i = pick (ltb i n) (ltb (get_or m i 0) limit) (eqb (get_or m i 0) 0)
+unfoldable pub entry_sound : ℕ → ℕ → List ℕ → ℕ → Bool
+entry_sound n limit m i = pick (ltb i n) (ltb (get_or m i 0) limit) (eqb (get_or m i 0) 0)
 
 -- each system has one of the channels and each channel one of the hosts; all bytes beyond the counts are 0 (01, CIC, a sound record)
-unfoldable pub mapsSound : Cic → Bool
-mapsSound c = all_below 1024 (entrySound c.systems c.channels c.channel) && all_below 256 (entrySound c.channels c.hosts c.host)
+unfoldable pub maps_sound : Cic → Bool
+maps_sound c = all_below 1024 (entry_sound c.systems c.channels c.channel) && all_below 256 (entry_sound c.channels c.hosts c.host)
 
 -- a sound record (01, CIC, a sound record)
 unfoldable pub sound : Cic → Bool
-sound c = numbersSound c && (wordsSound c && mapsSound c)
+sound c = numbers_sound c && (words_sound c && maps_sound c)

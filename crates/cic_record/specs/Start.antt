@@ -1,7 +1,7 @@
 -- The start: all registers 0 and all lines low (01, CIC, configuration).
 use Rattle.std.specs.Prelude.{Bool, ◌&&◌, ℕ, replicate}
 use Rattle.words.specs.Choice.{pick}
-use Rattle.steps.specs.Refusals.{carriedOut, misconfigured}
+use Rattle.steps.specs.Refusals.{carried_out, misconfigured}
 use Rattle.cic_record.specs.declared.Begun.{Begun}
 use Rattle.cic_record.specs.declared.Cic.{Cic}
 use Rattle.cic_record.specs.Record.{begun}
@@ -31,4 +31,4 @@ configured systems channels hosts revision = within 0 systems && (within 1 chann
 -- a number beyond its limit is refused by 10, with a record of zeros (01, CIC, configuration; 01, Numbers)
 unfoldable pub start : ℕ → ℕ → ℕ → ℕ → Begun
 start systems channels hosts revision =
-    pick (configured systems channels hosts revision) (begun carriedOut (fresh systems channels hosts revision)) (begun misconfigured (fresh 0 0 0 0))
+    pick (configured systems channels hosts revision) (begun carried_out (fresh systems channels hosts revision)) (begun misconfigured (fresh 0 0 0 0))

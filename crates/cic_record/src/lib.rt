@@ -1,9 +1,9 @@
 // The CIC's record, its three kinds of number, the start, and which records are sound (01, CIC).
 ghost use Rattle.std.specs.Prelude.{◌≡◌, true, false, ◌&&◌, ◌+◌, ◌-◌, ◌≤◌, eqb, ltb, leb, get_or, length};
-ghost use Rattle.words.specs.Array.{cleanBelow};
+ghost use Rattle.words.specs.Array.{clean_below};
 ghost use Rattle.words.specs.Counting.{all_below};
 ghost use Rattle.cic_record.specs.Record.{refused};
-ghost use Rattle.cic_record.specs.Sound.{between, within, wordsSound, entrySound, mapsSound, sound};
+ghost use Rattle.cic_record.specs.Sound.{between, within, words_sound, entry_sound, maps_sound, sound};
 ghost use Rattle.cic_record.specs.Start.{fresh, configured, start};
 
 // A system interrupt, a channel and a host interrupt count three separate things: none can be passed for another.
@@ -172,7 +172,7 @@ pub fn after_word(n: u32) -> u32
 
 // Whether no bit from n on is set. No early exit, here and below, so that the loops can be vectorised.
 fn words_clean(n: u32, ws: &[u32]) -> bool
-    ensures { result ≡ cleanBelow (length ws.now) n ws.now }
+    ensures { result ≡ clean_below (length ws.now) n ws.now }
 {
     let mut ok = true;
     let mut left = n;
@@ -230,7 +230,7 @@ fn bytes_clear(m: &[u8], n: usize) -> bool
 // Whether each of the n entries in use is below the limit and the others are 0.
 fn map_sound(m: &[u8], n: usize, limit: u32) -> bool
     requires { n ≤ length m.now }
-    ensures { result ≡ all_below (length m.now) (entrySound n limit m.now) }
+    ensures { result ≡ all_below (length m.now) (entry_sound n limit m.now) }
 {
     bytes_under(m, n, limit) & bytes_clear(m, n)
 }
@@ -244,7 +244,7 @@ fn numbers_sound(systems: u32, channels: u32, hosts: u32, global: u32) -> bool
 
 // Whether no bit beyond the counts is set.
 fn words_sound(c: Cic) -> bool
-    ensures { result ≡ wordsSound c }
+    ensures { result ≡ words_sound c }
 {
     let systems = c.systems;
     let hosts = c.hosts;
@@ -257,7 +257,7 @@ fn words_sound(c: Cic) -> bool
 // Whether both maps are sound, of a record whose counts are in their ranges.
 fn maps_sound(c: Cic) -> bool
     requires { (c.systems ≤ 1024) × (c.channels ≤ 256) }
-    ensures { result ≡ mapsSound c }
+    ensures { result ≡ maps_sound c }
 {
     let systems = c.systems as usize;
     let channels = c.channels;

@@ -9,7 +9,7 @@ use borrow.Author.Tests.{lt-ltb, le-ltb}
 use Rattle.words.specs.Choice.{pick}
 use Rattle.steps.specs.declared.Access.{Access}
 use Rattle.steps.specs.declared.Access.TheVariants.{NoRegister, ReadOnly, WriteOnly, ReadWrite}
-use Rattle.cic_registers.specs.Map.{ifAny}
+use Rattle.cic_registers.specs.Map.{if_any}
 
 -- 0 where there is no register
 there : Access → ℕ
@@ -25,22 +25,22 @@ differ e = go (ap there e)
     go : ◌≡◌ {A = ℕ} 1 0 → ⊥
     go e = omega arith
 
-pub is-there : (first n : ℕ) → first < n → ifAny first n ≡ ReadWrite
+pub is_there : (first n : ℕ) → first < n → if_any first n ≡ ReadWrite
 unfolding pick
-is-there first n l = ap (λ (t : Bool). pick t ReadWrite NoRegister) (lt-ltb first n l)
+is_there first n l = ap (λ (t : Bool). pick t ReadWrite NoRegister) (lt-ltb first n l)
 
-pub is-absent : (first n : ℕ) → n ≤ first → ifAny first n ≡ NoRegister
+pub is-absent : (first n : ℕ) → n ≤ first → if_any first n ≡ NoRegister
 unfolding pick
 is-absent first n l = ap (λ (t : Bool). pick t ReadWrite NoRegister) (le-ltb first n l)
 
 -- both, exactly
-pub there-if : (first n : ℕ) → ((ifAny first n ≡ ReadWrite) ↔ (first < n)) × ((ifAny first n ≡ NoRegister) ↔ (n ≤ first))
-there-if first n = ((λ e. go e (dec_lt first n), is-there first n), (λ e. back e (dec_lt first n), is-absent first n))
+pub there_if : (first n : ℕ) → ((if_any first n ≡ ReadWrite) ↔ (first < n)) × ((if_any first n ≡ NoRegister) ↔ (n ≤ first))
+there_if first n = ((λ e. go e (dec_lt first n), is_there first n), (λ e. back e (dec_lt first n), is-absent first n))
   where
-    go : ifAny first n ≡ ReadWrite → Dec (first < n) → first < n
+    go : if_any first n ≡ ReadWrite → Dec (first < n) → first < n
     go e (yes l) = l
     go e (no g) = absurd (differ (sym e ∙ is-absent first n (omega arith)))
 
-    back : ifAny first n ≡ NoRegister → Dec (first < n) → n ≤ first
-    back e (yes l) = absurd (differ (sym (is-there first n l) ∙ e))
+    back : if_any first n ≡ NoRegister → Dec (first < n) → n ≤ first
+    back e (yes l) = absurd (differ (sym (is_there first n l) ∙ e))
     back e (no g) = omega arith

@@ -6,30 +6,30 @@ use Rattle.words.specs.Choice.{pick}
 use Rattle.words.proofs.ChoiceLaws.{pick-ap}
 use Rattle.steps.specs.declared.Access.{Access}
 use Rattle.steps.specs.declared.Access.TheVariants.{NoRegister, ReadOnly, WriteOnly, ReadWrite}
-use Rattle.steps.specs.Refusals.{absent, unreadable, readAccess}
-use Rattle.cic_record.specs.Parts.{refusedReply, answeredReply}
-use Rattle.cic_registers.specs.Map.{ifAny}
-use Rattle.cic_registers.specs.Access.{replyBy}
+use Rattle.steps.specs.Refusals.{absent, unreadable, read_access}
+use Rattle.cic_record.specs.Parts.{refused_reply, answered_reply}
+use Rattle.cic_registers.specs.Map.{if_any}
+use Rattle.cic_registers.specs.Access.{reply_by}
 
 -- ---- a register that allows a
 
-pub absent-read : {a : Access} (v : ℕ) → a ≡ NoRegister → refusedReply absent ≡ replyBy (readAccess a) v
+pub absent-read : {a : Access} (v : ℕ) → a ≡ NoRegister → refused_reply absent ≡ reply_by (read_access a) v
 unfolding pick
-absent-read v e = sym (ap (λ (x : Access). replyBy (readAccess x) v) e)
+absent-read v e = sym (ap (λ (x : Access). reply_by (read_access x) v) e)
 
-pub unreadable-read : {a : Access} (v : ℕ) → a ≡ WriteOnly → refusedReply unreadable ≡ replyBy (readAccess a) v
+pub unreadable-read : {a : Access} (v : ℕ) → a ≡ WriteOnly → refused_reply unreadable ≡ reply_by (read_access a) v
 unfolding pick
-unreadable-read v e = sym (ap (λ (x : Access). replyBy (readAccess x) v) e)
+unreadable-read v e = sym (ap (λ (x : Access). reply_by (read_access x) v) e)
 
-pub only-read : {a : Access} (v : ℕ) → a ≡ ReadOnly → answeredReply v ≡ replyBy (readAccess a) v
+pub only-read : {a : Access} (v : ℕ) → a ≡ ReadOnly → answered_reply v ≡ reply_by (read_access a) v
 unfolding pick
-only-read v e = sym (ap (λ (x : Access). replyBy (readAccess x) v) e)
+only-read v e = sym (ap (λ (x : Access). reply_by (read_access x) v) e)
 
-pub plain-read : {a : Access} (v : ℕ) → a ≡ ReadWrite → answeredReply v ≡ replyBy (readAccess a) v
+pub plain-read : {a : Access} (v : ℕ) → a ≡ ReadWrite → answered_reply v ≡ reply_by (read_access a) v
 unfolding pick
-plain-read v e = sym (ap (λ (x : Access). replyBy (readAccess x) v) e)
+plain-read v e = sym (ap (λ (x : Access). reply_by (read_access x) v) e)
 
 -- a register of a group, by the code's test that it is there
-pub group-read : (first n : ℕ) {a : Access} (v : ℕ) → a ≡ ifAny first n → pick (ltb first n) (answeredReply v) (refusedReply absent) ≡ replyBy (readAccess a) v
+pub group-read : (first n : ℕ) {a : Access} (v : ℕ) → a ≡ if_any first n → pick (ltb first n) (answered_reply v) (refused_reply absent) ≡ reply_by (read_access a) v
 unfolding pick
-group-read first n v e = sym (ap (λ (x : Access). replyBy (readAccess x) v) e ∙ pick-ap (λ (x : Access). replyBy (readAccess x) v) (ltb first n) ReadWrite NoRegister)
+group-read first n v e = sym (ap (λ (x : Access). reply_by (read_access x) v) e ∙ pick-ap (λ (x : Access). reply_by (read_access x) v) (ltb first n) ReadWrite NoRegister)

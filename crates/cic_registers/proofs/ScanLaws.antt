@@ -8,19 +8,19 @@ use native.Mathlib.Omega.{arith}
 use borrow.Author.Tests.{eq-eqb, ne_eqb, lt-ltb, ltb-true}
 use lib.Dec.{eqb, ltb}
 use lib.ListN.{length, get_or, get_or-eq_default}
-use Rattle.words.specs.Array.{bit_at, withBitAt, rest_at}
+use Rattle.words.specs.Array.{bit_at, with_bit_at, rest_at}
 use Rattle.words.specs.Choice.{pick}
-use Rattle.words.specs.Counting.{anyBelow, countBelow, lowestBelow}
+use Rattle.words.specs.Counting.{any_below, count_below, lowest_below}
 use Rattle.words.specs.Word.{bit, both, kept}
-use Rattle.words.proofs.ArrayLaws.{bitAt-withBitAt, bitAt-word, rest-ltb}
-use Rattle.words.proofs.CountingLaws.{count_same, any-more, any-add, any_same, any_some, some-any, lowest-same}
-use Rattle.words.proofs.TruthLaws.{and_left, and_right, and_both, clash, same_test, eqb-iff}
+use Rattle.words.proofs.ArrayLaws.{bit_at-with_bit_at, bit_at_word, rest-ltb}
+use Rattle.words.proofs.CountingLaws.{count_same, any-more, any-add, any_same, any_some, some_any, lowest-same}
+use Rattle.words.proofs.TruthLaws.{and_left, and_right, and_both, clash, same_test, eqb_iff}
 use Rattle.words.proofs.WordLaws.{bit-none, bit-both, bit_kept}
-use Rattle.steps.specs.Refusals.{carriedOut}
+use Rattle.steps.specs.Refusals.{carried_out}
 use Rattle.cic_record.specs.declared.Cic.{Cic}
 use Rattle.cic_record.specs.declared.Host.{Host}
 use Rattle.cic_record.specs.declared.Signals.{Signals}
-use Rattle.cic_record.specs.Kinds.{system, hostNumber, channelIn, hostIn}
+use Rattle.cic_record.specs.Kinds.{system, host_number, channel_in, host_in}
 use Rattle.cic_registers.specs.Hosts.{raises, asserted, shown}
 use Rattle.cic_registers.specs.Scan.{goes}
 
@@ -34,10 +34,10 @@ set-bit false true = refl
 set-bit false false = refl
 
 -- a host is marked
-pub marked : (ws ws' : List ℕ) (on x y h : ℕ) → y / 32 < length ws → on ≡ 1 → y ≡ x → ws' ≡ withBitAt ws y true → bit_at ws' h ≡ (bit_at ws h || (eqb on 1 && eqb x h))
+pub marked : (ws ws' : List ℕ) (on x y h : ℕ) → y / 32 < length ws → on ≡ 1 → y ≡ x → ws' ≡ with_bit_at ws y true → bit_at ws' h ≡ (bit_at ws h || (eqb on 1 && eqb x h))
 marked ws ws' on x y h l o e s =
-    ap (λ (v : List ℕ). bit_at v h) s ∙ bitAt-withBitAt ws y true h l ∙ set-bit (eqb h y) (bit_at ws h)
-    ∙ ap (λ (b : Bool). bit_at ws h || b) (eqb-iff h y x h (λ p. sym (p ∙ e)) (λ p. sym (e ∙ p)) ∙ sym (ap (λ (b : Bool). b && eqb x h) (eq-eqb on 1 o)))
+    ap (λ (v : List ℕ). bit_at v h) s ∙ bit_at-with_bit_at ws y true h l ∙ set-bit (eqb h y) (bit_at ws h)
+    ∙ ap (λ (b : Bool). bit_at ws h || b) (eqb_iff h y x h (λ p. sym (p ∙ e)) (λ p. sym (e ∙ p)) ∙ sym (ap (λ (b : Bool). b && eqb x h) (eq-eqb on 1 o)))
 
 -- or passed over
 pub passed : (b : Bool) (on : ℕ) (q : Bool) → (on ≡ 1 → ⊥) → b ≡ (b || (eqb on 1 && q))
@@ -45,20 +45,20 @@ passed b on q n = sym (ap (λ (t : Bool). b || (t && q)) (ne_eqb on 1 n) ∙ or-
 
 -- ---- one bit more
 
-pub grown : (p : ℕ → Bool) (i : ℕ) (o o₀ o' q : Bool) → o' ≡ (o || q) → q ≡ p i → o ≡ (o₀ || anyBelow i p) → o' ≡ (o₀ || anyBelow (i + 1) p)
+pub grown : (p : ℕ → Bool) (i : ℕ) (o o₀ o' q : Bool) → o' ≡ (o || q) → q ≡ p i → o ≡ (o₀ || any_below i p) → o' ≡ (o₀ || any_below (i + 1) p)
 grown p i o o₀ o' q e f g =
-    e ∙ ap₂ (λ (a b : Bool). a || b) g f ∙ or_assoc o₀ (anyBelow i p) (p i) ∙ ap (λ (b : Bool). o₀ || b) (any-more p i refl refl)
+    e ∙ ap₂ (λ (a b : Bool). a || b) g f ∙ or_assoc o₀ (any_below i p) (p i) ∙ ap (λ (b : Bool). o₀ || b) (any-more p i refl refl)
 
 -- the lowest bit of what is left of w
-pub bit-of-left : (w left i : ℕ) → left ≡ w / 2 ^ i → eqb (left % 2) 1 ≡ bit w i
+pub bit_of-left : (w left i : ℕ) → left ≡ w / 2 ^ i → eqb (left % 2) 1 ≡ bit w i
 unfolding bit
-bit-of-left w left i e = ap (λ (n : ℕ). eqb (n % 2) 1) e
+bit_of-left w left i e = ap (λ (n : ℕ). eqb (n % 2) 1) e
 
 -- ---- one word more
 
 -- system interrupt s is configured and raises h
 abbrev pub counts : Cic → ℕ → ℕ → Bool
-counts c h s = ltb s c.systems && raises c (hostNumber h) (system s)
+counts c h s = ltb s c.systems && raises c (host_number h) (system s)
 
 regroup : (a b d e : Bool) → (((a && b) && d) && e) ≡ (d && (a && (b && e)))
 regroup true true true e = refl
@@ -73,21 +73,21 @@ of_word : (c : Cic) (k h i : ℕ) → i < 32
     → goes c.channel c.host (32 * k) (kept (rest_at c.systems k) (both (get_or c.status k 0) (get_or c.enable k 0))) h i ≡ counts c h (32 * k + i)
 unfolding raises
 of_word c k h i l =
-    let to = eqb (hostIn c.host (channelIn c.channel (system (32 * k + i)))).0 h in
+    let to = eqb (host_in c.host (channel_in c.channel (system (32 * k + i)))).0 h in
     ap (λ (b : Bool). b && to)
     (bit_kept (rest_at c.systems k) (both (get_or c.status k 0) (get_or c.enable k 0)) i
     ∙ ap₂ (λ (a b : Bool). a && b)
-    (bit-both (get_or c.status k 0) (get_or c.enable k 0) i l ∙ ap₂ (λ (a b : Bool). a && b) (sym (bitAt-word c.status k i l)) (sym (bitAt-word c.enable k i l)))
+    (bit-both (get_or c.status k 0) (get_or c.enable k 0) i l ∙ ap₂ (λ (a b : Bool). a && b) (sym (bit_at_word c.status k i l)) (sym (bit_at_word c.enable k i l)))
     (rest-ltb c.systems k i))
     ∙ regroup (bit_at c.status (32 * k + i)) (bit_at c.enable (32 * k + i)) (ltb (32 * k + i) c.systems) to
 
 pub word_more : (c : Cic) (k h base w : ℕ) (o o' : Bool) → base ≡ 32 * k → w ≡ kept (rest_at c.systems k) (both (get_or c.status k 0) (get_or c.enable k 0))
-    → o' ≡ (o || anyBelow 32 (goes c.channel c.host base w h)) → o ≡ anyBelow (32 * k) (counts c h) → o' ≡ anyBelow (32 * (k + 1)) (counts c h)
+    → o' ≡ (o || any_below 32 (goes c.channel c.host base w h)) → o ≡ any_below (32 * k) (counts c h) → o' ≡ any_below (32 * (k + 1)) (counts c h)
 word_more c k h base w o o' b v e f =
-    e ∙ ap₂ (λ (x y : ℕ). o || anyBelow 32 (goes c.channel c.host x y h)) b v
+    e ∙ ap₂ (λ (x y : ℕ). o || any_below 32 (goes c.channel c.host x y h)) b v
     ∙ ap₂ (λ (x y : Bool). x || y) f
     (any_same 32 (goes c.channel c.host (32 * k) (kept (rest_at c.systems k) (both (get_or c.status k 0) (get_or c.enable k 0))) h) (λ i. counts c h (32 * k + i)) (of_word c k h))
-    ∙ sym (any-add (32 * k) 32 (counts c h)) ∙ ap (λ (n : ℕ). anyBelow n (counts c h)) (omega arith)
+    ∙ sym (any-add (32 * k) 32 (counts c h)) ∙ ap (λ (n : ℕ). any_below n (counts c h)) (omega arith)
 
 -- ---- all words
 
@@ -97,50 +97,50 @@ unfolding bit_at
 past_end ws s e l = ap (λ (w : ℕ). bit w (s % 32)) (get_or-eq_default ws 0 (omega arith)) ∙ bit-none (s % 32)
 
 -- those of the 1,024 that are configured are the configured ones
-pub all_words : (c : Cic) (h : ℕ) → length c.status ≡ 32 → anyBelow 1024 (counts c h) ≡ anyBelow c.systems (λ s. raises c (hostNumber h) (system s))
+pub all_words : (c : Cic) (h : ℕ) → length c.status ≡ 32 → any_below 1024 (counts c h) ≡ any_below c.systems (λ s. raises c (host_number h) (system s))
 unfolding raises
-all_words c h len = same_test (anyBelow 1024 (counts c h)) (anyBelow c.systems (λ s. raises c (hostNumber h) (system s))) there back
+all_words c h len = same_test (any_below 1024 (counts c h)) (any_below c.systems (λ s. raises c (host_number h) (system s))) there back
   where
-    there : anyBelow 1024 (counts c h) ≡ true → anyBelow c.systems (λ s. raises c (hostNumber h) (system s)) ≡ true
+    there : any_below 1024 (counts c h) ≡ true → any_below c.systems (λ s. raises c (host_number h) (system s)) ≡ true
     there e =
         let r = any_some 1024 (counts c h) e in
-        some-any c.systems (λ s. raises c (hostNumber h) (system s)) r.0 (ltb-true r.0 c.systems (and_left (ltb r.0 c.systems) (raises c (hostNumber h) (system r.0)) r.2))
-        (and_right (ltb r.0 c.systems) (raises c (hostNumber h) (system r.0)) r.2)
+        some_any c.systems (λ s. raises c (host_number h) (system s)) r.0 (ltb-true r.0 c.systems (and_left (ltb r.0 c.systems) (raises c (host_number h) (system r.0)) r.2))
+        (and_right (ltb r.0 c.systems) (raises c (host_number h) (system r.0)) r.2)
 
-    inside : (s : ℕ) → raises c (hostNumber h) (system s) ≡ true → Dec (s < 1024) → s < 1024
+    inside : (s : ℕ) → raises c (host_number h) (system s) ≡ true → Dec (s < 1024) → s < 1024
     inside s e (yes p) = p
     inside s e (no p) =
-        clash (and_left (bit_at c.status s) (bit_at c.enable s && eqb (hostIn c.host (channelIn c.channel (system s))).0 h) e) (past_end c.status s len (omega arith))
+        clash (and_left (bit_at c.status s) (bit_at c.enable s && eqb (host_in c.host (channel_in c.channel (system s))).0 h) e) (past_end c.status s len (omega arith))
 
-    back : anyBelow c.systems (λ s. raises c (hostNumber h) (system s)) ≡ true → anyBelow 1024 (counts c h) ≡ true
+    back : any_below c.systems (λ s. raises c (host_number h) (system s)) ≡ true → any_below 1024 (counts c h) ≡ true
     back e =
-        let r = any_some c.systems (λ s. raises c (hostNumber h) (system s)) e in
-        some-any 1024 (counts c h) r.0 (inside r.0 r.2 (dec_lt r.0 1024)) (and_both (lt-ltb r.0 c.systems r.1) r.2)
+        let r = any_some c.systems (λ s. raises c (host_number h) (system s)) e in
+        some_any 1024 (counts c h) r.0 (inside r.0 r.2 (dec_lt r.0 1024)) (and_both (lt-ltb r.0 c.systems r.1) r.2)
 
 -- ---- the asserted hosts
 
-pub not-global : (c : Cic) (h : Host) → (c.global ≡ 1 → ⊥) → asserted c h ≡ false
+pub not_global : (c : Cic) (h : Host) → (c.global ≡ 1 → ⊥) → asserted c h ≡ false
 unfolding asserted
-not-global c h n = ap (λ (t : Bool). t && (bit_at c.allow h.0 && anyBelow c.systems (λ s. raises c h (system s)))) (ne_eqb c.global 1 n)
+not_global c h n = ap (λ (t : Bool). t && (bit_at c.allow h.0 && any_below c.systems (λ s. raises c h (system s)))) (ne_eqb c.global 1 n)
 
-pub with-global : (c : Cic) (h : Host) {r : Bool} → c.global ≡ 1 → r ≡ (bit_at c.allow h.0 && anyBelow c.systems (λ s. raises c h (system s))) → r ≡ asserted c h
+pub with_global : (c : Cic) (h : Host) {r : Bool} → c.global ≡ 1 → r ≡ (bit_at c.allow h.0 && any_below c.systems (λ s. raises c h (system s))) → r ≡ asserted c h
 unfolding asserted
-with-global c h e f = f ∙ sym (ap (λ (t : Bool). t && (bit_at c.allow h.0 && anyBelow c.systems (λ s. raises c h (system s)))) (eq-eqb c.global 1 e))
+with_global c h e f = f ∙ sym (ap (λ (t : Bool). t && (bit_at c.allow h.0 && any_below c.systems (λ s. raises c h (system s)))) (eq-eqb c.global 1 e))
 
 -- a host that is not enabled
 pub not-allowed : (c : Cic) (h : Host) → bit_at c.allow h.0 ≡ false → asserted c h ≡ false
 unfolding asserted
-not-allowed c h e = ap (λ (t : Bool). eqb c.global 1 && (t && anyBelow c.systems (λ s. raises c h (system s)))) e ∙ and-false (eqb c.global 1)
+not-allowed c h e = ap (λ (t : Bool). eqb c.global 1 && (t && any_below c.systems (λ s. raises c h (system s)))) e ∙ and-false (eqb c.global 1)
 
 -- there is no host from 256 on
-pub no-host : (c : Cic) (h : Host) → length c.allow ≡ 8 → 256 ≤ h.0 → asserted c h ≡ false
+pub no_host : (c : Cic) (h : Host) → length c.allow ≡ 8 → 256 ≤ h.0 → asserted c h ≡ false
 unfolding bit_at
-no-host c h e l = not-allowed c h (ap (λ (w : ℕ). bit w (h.0 % 32)) (get_or-eq_default c.allow 0 (omega arith)) ∙ bit-none (h.0 % 32))
+no_host c h e l = not-allowed c h (ap (λ (w : ℕ). bit w (h.0 % 32)) (get_or-eq_default c.allow 0 (omega arith)) ∙ bit-none (h.0 % 32))
 
 -- the count and the lowest of words that hold the asserted hosts
-pub shown-words : (c : Cic) (ws : List ℕ) (n low : ℕ) → ((h : ℕ) → h < 256 → bit_at ws h ≡ asserted c (hostNumber h)) → n ≡ countBelow 256 (bit_at ws) → low ≡ lowestBelow 256 (bit_at ws)
-    → ◌≡◌ {A = Signals} (record { refusal = carriedOut; hosts = n; lowest = low }) (shown c)
+pub shown_words : (c : Cic) (ws : List ℕ) (n low : ℕ) → ((h : ℕ) → h < 256 → bit_at ws h ≡ asserted c (host_number h)) → n ≡ count_below 256 (bit_at ws) → low ≡ lowest_below 256 (bit_at ws)
+    → ◌≡◌ {A = Signals} (record { refusal = carried_out; hosts = n; lowest = low }) (shown c)
 unfolding shown
-shown-words c ws n low h e f =
-    ap₂ (λ (a b : ℕ). record { refusal = carriedOut; hosts = a; lowest = b })
-    (e ∙ count_same 256 (bit_at ws) (λ k. asserted c (hostNumber k)) h) (f ∙ lowest-same 256 (bit_at ws) (λ k. asserted c (hostNumber k)) h)
+shown_words c ws n low h e f =
+    ap₂ (λ (a b : ℕ). record { refusal = carried_out; hosts = a; lowest = b })
+    (e ∙ count_same 256 (bit_at ws) (λ k. asserted c (host_number k)) h) (f ∙ lowest-same 256 (bit_at ws) (λ k. asserted c (host_number k)) h)

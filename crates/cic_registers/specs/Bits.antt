@@ -4,17 +4,17 @@ use Rattle.words.specs.Array.{rest_at}
 use Rattle.words.specs.Word.{either, without, kept}
 
 -- word k as it is read
-unfoldable pub wordRead : ℕ → List ℕ → ℕ → ℕ
-wordRead n ws k = kept (rest_at n k) (get_or ws k 0)
+unfoldable pub word_read : ℕ → List ℕ → ℕ → ℕ
+word_read n ws k = kept (rest_at n k) (get_or ws k 0)
 
 -- each bit written as 1 sets its own bit
-unfoldable pub bitsSet : ℕ → List ℕ → ℕ → ℕ → List ℕ
-bitsSet n ws k v = set ws k (either (get_or ws k 0) (kept (rest_at n k) v))
+unfoldable pub bits_set : ℕ → List ℕ → ℕ → ℕ → List ℕ
+bits_set n ws k v = set ws k (either (get_or ws k 0) (kept (rest_at n k) v))
 
 -- each bit written as 1 clears its own bit
-unfoldable pub bitsCleared : List ℕ → ℕ → ℕ → List ℕ
-bitsCleared ws k v = set ws k (without (get_or ws k 0) v)
+unfoldable pub bits_cleared : List ℕ → ℕ → ℕ → List ℕ
+bits_cleared ws k v = set ws k (without (get_or ws k 0) v)
 
 -- the word is replaced
-unfoldable pub wordReplaced : ℕ → List ℕ → ℕ → ℕ → List ℕ
-wordReplaced n ws k v = set ws k (kept (rest_at n k) v)
+unfoldable pub word_replaced : ℕ → List ℕ → ℕ → ℕ → List ℕ
+word_replaced n ws k v = set ws k (kept (rest_at n k) v)

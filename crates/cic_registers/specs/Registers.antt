@@ -1,13 +1,13 @@
 -- What each register answers, which values it refuses, and what a write does (01, CIC, registers; 001, 2.2.1 to 2.2.18).
 use Rattle.std.specs.Prelude.{Bool, true, false, ℕ, ◌%◌, ltb}
-use Rattle.words.specs.Array.{withBitAt}
+use Rattle.words.specs.Array.{with_bit_at}
 use Rattle.words.specs.Choice.{pick}
 use Rattle.words.specs.Word.{both}
-use Rattle.steps.specs.Refusals.{carriedOut, beyond}
+use Rattle.steps.specs.Refusals.{carried_out, beyond}
 use Rattle.cic_record.specs.declared.Cic.{Cic}
-use Rattle.cic_record.specs.Record.{withGlobal, withStatus, withEnable, withChannel, withHost, withAllow}
-use Rattle.cic_registers.specs.Maps.{mapRead, mapTaken, mapPut}
-use Rattle.cic_registers.specs.Bits.{wordRead, bitsSet, bitsCleared, wordReplaced}
+use Rattle.cic_record.specs.Record.{with_global, with_status, with_enable, with_channel, with_host, with_allow}
+use Rattle.cic_registers.specs.Maps.{map_read, map_taken, map_put}
+use Rattle.cic_registers.specs.Bits.{word_read, bits_set, bits_cleared, word_replaced}
 use Rattle.cic_registers.specs.declared.layout.Register.{Register}
 use Rattle.cic_registers.specs.declared.layout.Register.TheVariants.{Nothing, Revision, GlobalEnable, StatusIndexSet, StatusIndexClear, EnableIndexSet, EnableIndexClear, HostIndexSet, HostIndexClear, RawSet, EnabledClear, EnableSet, EnableClear, ChannelMap, HostMap, HostEnable}
 
@@ -22,52 +22,52 @@ value_of c EnableIndexSet = 0
 value_of c EnableIndexClear = 0
 value_of c HostIndexSet = 0
 value_of c HostIndexClear = 0
-value_of c (RawSet k) = wordRead c.systems c.status k
-value_of c (EnabledClear k) = both (wordRead c.systems c.status k) (wordRead c.systems c.enable k)
-value_of c (EnableSet k) = wordRead c.systems c.enable k
-value_of c (EnableClear k) = wordRead c.systems c.enable k
-value_of c (ChannelMap k) = mapRead c.systems c.channel k
-value_of c (HostMap k) = mapRead c.channels c.host k
-value_of c (HostEnable k) = wordRead c.hosts c.allow k
+value_of c (RawSet k) = word_read c.systems c.status k
+value_of c (EnabledClear k) = both (word_read c.systems c.status k) (word_read c.systems c.enable k)
+value_of c (EnableSet k) = word_read c.systems c.enable k
+value_of c (EnableClear k) = word_read c.systems c.enable k
+value_of c (ChannelMap k) = map_read c.systems c.channel k
+value_of c (HostMap k) = map_read c.channels c.host k
+value_of c (HostEnable k) = word_read c.hosts c.allow k
 
 -- 6 unless the test holds
 abbrev pub unless : Bool → ℕ
-unless test = pick test carriedOut beyond
+unless test = pick test carried_out beyond
 
 -- the number by which a written value is refused, 0 where it is not: an index is compared whole (01, CIC, registers)
-unfoldable pub valueRefusal : Cic → Register → ℕ → ℕ
-valueRefusal c Nothing v = carriedOut
-valueRefusal c Revision v = carriedOut
-valueRefusal c GlobalEnable v = carriedOut
-valueRefusal c StatusIndexSet v = unless (ltb v c.systems)
-valueRefusal c StatusIndexClear v = unless (ltb v c.systems)
-valueRefusal c EnableIndexSet v = unless (ltb v c.systems)
-valueRefusal c EnableIndexClear v = unless (ltb v c.systems)
-valueRefusal c HostIndexSet v = unless (ltb v c.hosts)
-valueRefusal c HostIndexClear v = unless (ltb v c.hosts)
-valueRefusal c (RawSet k) v = carriedOut
-valueRefusal c (EnabledClear k) v = carriedOut
-valueRefusal c (EnableSet k) v = carriedOut
-valueRefusal c (EnableClear k) v = carriedOut
-valueRefusal c (ChannelMap k) v = unless (mapTaken c.systems c.channels k v)
-valueRefusal c (HostMap k) v = unless (mapTaken c.channels c.hosts k v)
-valueRefusal c (HostEnable k) v = carriedOut
+unfoldable pub value_refusal : Cic → Register → ℕ → ℕ
+value_refusal c Nothing v = carried_out
+value_refusal c Revision v = carried_out
+value_refusal c GlobalEnable v = carried_out
+value_refusal c StatusIndexSet v = unless (ltb v c.systems)
+value_refusal c StatusIndexClear v = unless (ltb v c.systems)
+value_refusal c EnableIndexSet v = unless (ltb v c.systems)
+value_refusal c EnableIndexClear v = unless (ltb v c.systems)
+value_refusal c HostIndexSet v = unless (ltb v c.hosts)
+value_refusal c HostIndexClear v = unless (ltb v c.hosts)
+value_refusal c (RawSet k) v = carried_out
+value_refusal c (EnabledClear k) v = carried_out
+value_refusal c (EnableSet k) v = carried_out
+value_refusal c (EnableClear k) v = carried_out
+value_refusal c (ChannelMap k) v = unless (map_taken c.systems c.channels k v)
+value_refusal c (HostMap k) v = unless (map_taken c.channels c.hosts k v)
+value_refusal c (HostEnable k) v = carried_out
 
 -- the record after a write that is carried out (01, CIC, registers; 001, 2.2)
-unfoldable pub writtenTo : Cic → Register → ℕ → Cic
-writtenTo c Nothing v = c
-writtenTo c Revision v = c
-writtenTo c GlobalEnable v = withGlobal c (v % 2)
-writtenTo c StatusIndexSet v = withStatus c (withBitAt c.status v true)
-writtenTo c StatusIndexClear v = withStatus c (withBitAt c.status v false)
-writtenTo c EnableIndexSet v = withEnable c (withBitAt c.enable v true)
-writtenTo c EnableIndexClear v = withEnable c (withBitAt c.enable v false)
-writtenTo c HostIndexSet v = withAllow c (withBitAt c.allow v true)
-writtenTo c HostIndexClear v = withAllow c (withBitAt c.allow v false)
-writtenTo c (RawSet k) v = withStatus c (bitsSet c.systems c.status k v)
-writtenTo c (EnabledClear k) v = withStatus c (bitsCleared c.status k v)
-writtenTo c (EnableSet k) v = withEnable c (bitsSet c.systems c.enable k v)
-writtenTo c (EnableClear k) v = withEnable c (bitsCleared c.enable k v)
-writtenTo c (ChannelMap k) v = withChannel c (mapPut c.systems k v c.channel)
-writtenTo c (HostMap k) v = withHost c (mapPut c.channels k v c.host)
-writtenTo c (HostEnable k) v = withAllow c (wordReplaced c.hosts c.allow k v)
+unfoldable pub written_to : Cic → Register → ℕ → Cic
+written_to c Nothing v = c
+written_to c Revision v = c
+written_to c GlobalEnable v = with_global c (v % 2)
+written_to c StatusIndexSet v = with_status c (with_bit_at c.status v true)
+written_to c StatusIndexClear v = with_status c (with_bit_at c.status v false)
+written_to c EnableIndexSet v = with_enable c (with_bit_at c.enable v true)
+written_to c EnableIndexClear v = with_enable c (with_bit_at c.enable v false)
+written_to c HostIndexSet v = with_allow c (with_bit_at c.allow v true)
+written_to c HostIndexClear v = with_allow c (with_bit_at c.allow v false)
+written_to c (RawSet k) v = with_status c (bits_set c.systems c.status k v)
+written_to c (EnabledClear k) v = with_status c (bits_cleared c.status k v)
+written_to c (EnableSet k) v = with_enable c (bits_set c.systems c.enable k v)
+written_to c (EnableClear k) v = with_enable c (bits_cleared c.enable k v)
+written_to c (ChannelMap k) v = with_channel c (map_put c.systems k v c.channel)
+written_to c (HostMap k) v = with_host c (map_put c.channels k v c.host)
+written_to c (HostEnable k) v = with_allow c (word_replaced c.hosts c.allow k v)

@@ -1,8 +1,8 @@
 // Which host interrupts of a CIC are asserted, how many, and the lowest of them (01, CIC, outputs).
 ghost use Rattle.std.specs.Prelude.{◌≡◌, true, false, ◌&&◌, ◌||◌, ℕ, ◌<◌, ◌≤◌, eqb, length};
-ghost use Rattle.words.specs.Array.{bit_at, withBitAt};
-ghost use Rattle.words.specs.Counting.{anyBelow, countBelow, lowestBelow};
-ghost use Rattle.cic_record.specs.Kinds.{system, hostNumber, channelIn, hostIn};
+ghost use Rattle.words.specs.Array.{bit_at, with_bit_at};
+ghost use Rattle.words.specs.Counting.{any_below, count_below, lowest_below};
+ghost use Rattle.cic_record.specs.Kinds.{system, host_number, channel_in, host_in};
 ghost use Rattle.cic_registers.specs.Hosts.{raises, asserted, shown, outputs};
 ghost use Rattle.cic_registers.specs.Scan.{goes};
 
@@ -18,7 +18,7 @@ fn wide(b: u8) -> u16
 // The channel of a system interrupt in a lent channel map: the scan copies no record.
 pub fn channel_in(channel: &[u8; 1024], s: System) -> Channel
     requires { s.0 < 1024 }
-    ensures { (result ≡ channelIn channel.now s) × (result.0 < 256) }
+    ensures { (result ≡ channel_in channel.now s) × (result.0 < 256) }
 {
     let at = s.0 as usize;
     Channel(wide(channel[at]))
@@ -27,7 +27,7 @@ pub fn channel_in(channel: &[u8; 1024], s: System) -> Channel
 // The host interrupt that a channel is mapped to in a lent host map.
 pub fn host_in(host: &[u8; 256], k: Channel) -> Host
     requires { k.0 < 256 }
-    ensures { (result ≡ hostIn host.now k) × (result.0 < 256) }
+    ensures { (result ≡ host_in host.now k) × (result.0 < 256) }
 {
     let at = k.0 as usize;
     Host(wide(host[at]))
@@ -36,7 +36,7 @@ pub fn host_in(host: &[u8; 256], k: Channel) -> Host
 // Marks a host beside those marked already.
 fn mark(out: &mut [u32; 8], h: Host)
     requires { h.0 < 256 }
-    ensures { out.new ≡ withBitAt out.old h.0 true }
+    ensures { out.new ≡ with_bit_at out.old h.0 true }
 {
     let at = (h.0 / 32) as usize;
     let bit = (h.0 % 32) as u32;
@@ -47,7 +47,7 @@ fn mark(out: &mut [u32; 8], h: Host)
 fn visit<'a>(channel: &'a [u8; 1024], host: &'a [u8; 256], s: System, on: u32, out: &mut [u32; 8])
     requires s_bound { s.0 < 1024 }
     requires out_len { length out.old ≡ 8 }
-    ensures bits { (h : ℕ) → bit_at out.new h ≡ (bit_at out.old h || (eqb on 1 && eqb (hostIn host.now (channelIn channel.now s)).0 h)) }
+    ensures bits { (h : ℕ) → bit_at out.new h ≡ (bit_at out.old h || (eqb on 1 && eqb (host_in host.now (channel_in channel.now s)).0 h)) }
     ensures long { length out.new ≡ 8 }
 {
     if on == 1 {
@@ -60,7 +60,7 @@ fn visit<'a>(channel: &'a [u8; 1024], host: &'a [u8; 256], s: System, on: u32, o
 fn scan<'a>(channel: &'a [u8; 1024], host: &'a [u8; 256], base: u16, w: u32, out: &mut [u32; 8])
     requires base_bound { base ≤ 992 }
     requires out_len { length out.old ≡ 8 }
-    ensures bits { (h : ℕ) → bit_at out.new h ≡ (bit_at out.old h || anyBelow 32 (goes channel.now host.now base w h)) }
+    ensures bits { (h : ℕ) → bit_at out.new h ≡ (bit_at out.old h || any_below 32 (goes channel.now host.now base w h)) }
     ensures long { length out.new ≡ 8 }
 {
     let mut left = w;
@@ -74,7 +74,7 @@ fn scan<'a>(channel: &'a [u8; 1024], host: &'a [u8; 256], base: u16, w: u32, out
 
 // The hosts that some configured system interrupt raises. Bits beyond the configured systems are dropped, so this holds of every record.
 fn raised_hosts(c: Cic) -> [u32; 8]
-    ensures { (h : ℕ) → bit_at result h ≡ anyBelow c.systems (λ s. raises c (hostNumber h) (system s)) }
+    ensures { (h : ℕ) → bit_at result h ≡ any_below c.systems (λ s. raises c (host_number h) (system s)) }
 {
     let mut out = [0u32; 8];
     let mut rest = c.systems;
@@ -105,7 +105,7 @@ fn shared(a: [u32; 8], b: [u32; 8]) -> [u32; 8]
 
 // The asserted hosts, one bit for each.
 pub fn asserted_hosts(c: Cic) -> [u32; 8]
-    ensures { (h : ℕ) → h < 256 → bit_at result h ≡ asserted c (hostNumber h) }
+    ensures { (h : ℕ) → h < 256 → bit_at result h ≡ asserted c (host_number h) }
 {
     let global = c.global;
     if global != 1 {
@@ -118,7 +118,7 @@ pub fn asserted_hosts(c: Cic) -> [u32; 8]
 
 // How many bits are set.
 pub fn count_of(ws: [u32; 8]) -> u32
-    ensures { result ≡ countBelow 256 (bit_at ws) }
+    ensures { result ≡ count_below 256 (bit_at ws) }
 {
     let mut sum: u32 = 0;
     let mut k: usize = 0;
@@ -131,7 +131,7 @@ pub fn count_of(ws: [u32; 8]) -> u32
 
 // The lowest bit that is set, 256 where none is.
 pub fn lowest_of(ws: [u32; 8]) -> u32
-    ensures { result ≡ lowestBelow 256 (bit_at ws) }
+    ensures { result ≡ lowest_below 256 (bit_at ws) }
 {
     let mut k: u32 = 0;
     while k < 8 {

@@ -1,6 +1,6 @@
 // The CIC's register map: which register stands at an offset (001, table 2-1). What it may be used for is defined beside it.
 ghost use Rattle.std.specs.Prelude.{◌≡◌};
-ghost use Rattle.cic_registers.specs.Map.{singleAt, registerAt};
+ghost use Rattle.cic_registers.specs.Map.{single_at, register_at};
 
 // The registers of 001, table 2-1, in its order; a register of a group with its number in the group.
 #[derive(Drop)]
@@ -25,7 +25,7 @@ pub enum Register {
 
 // The register at an offset below 0x200.
 fn single_at(offset: u32) -> Register
-    ensures { result ≡ singleAt offset }
+    ensures { result ≡ single_at offset }
 {
     match offset {
         0x000 => Register::Revision,
@@ -42,7 +42,7 @@ fn single_at(offset: u32) -> Register
 
 // The register at an offset, which is taken to be a multiple of 4.
 pub fn register_at(offset: u32) -> Register
-    ensures { result ≡ registerAt offset }
+    ensures { result ≡ register_at offset }
 {
     if offset < 0x200 {
         return single_at(offset);

@@ -47,5 +47,5 @@ words_more P out k x l h p i m = go (ℕ_discrete i k)
     go (no o) = subst (P i) (sym (get_or-set_other out k i x 0 o)) (h i (omega (arith, m, o)))
 
 -- the same words by another function
-pub copied-as : {at n : ℕ} {f g : ℕ → ℕ} {old new : List ℕ} → ((k : ℕ) → k < n → f k ≡ g k) → Copied at n f old new → Copied at n g old new
-copied-as e c = record { long = c.long; table = record { holds = λ k l. c.table.holds k l ∙ e k l }; others = c.others }
+pub copied_as : {at n : ℕ} {f g : ℕ → ℕ} {old new : List ℕ} → ((k : ℕ) → k < n → f k ≡ g k) → Copied at n f old new → Copied at n g old new
+copied_as e c = record { long = c.long; table = record { holds = λ k l. c.table.holds k l ∙ e k l }; others = c.others }

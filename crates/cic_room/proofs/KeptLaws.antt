@@ -8,31 +8,31 @@ use native.Mathlib.Omega.{arith}
 use lib.Dec.{eqb}
 use lib.ListN.{length, get_or, set}
 use lib.Seq.{get_or-set_other}
-use Rattle.words.specs.Array.{withBitAt}
+use Rattle.words.specs.Array.{with_bit_at}
 use Rattle.words.specs.Counting.{one}
-use Rattle.words.specs.Word.{withBit}
+use Rattle.words.specs.Word.{with_bit}
 use Rattle.words.proofs.ChoiceLaws.{pick_true, pick-false}
 use Rattle.words.proofs.TruthLaws.{told}
 use Rattle.cic_record.specs.declared.Cic.{Cic}
-use Rattle.cic_room.specs.Room.{Frame, permitted, someWord, shownWord}
-use Rattle.cic_room.specs.Tables.{Held, Tables, Beside, channelAt, hostAt, loadBy, Counted, Dim}
-use Rattle.cic_room.proofs.TableLaws.{held-raised, held-busy, held-active, held-ofChannel, held-ofHost, put-raised, put-busy, put-active, put-ofChannel, put-ofHost, put_same, put_other}
-use Rattle.cic_room.proofs.ShownLaws.{tables-as, some-put, some-others}
+use Rattle.cic_room.specs.Room.{Frame, permitted, some_word, shown_word}
+use Rattle.cic_room.specs.Tables.{Held, Tables, Beside, channel_at, host_at, load_by, Counted, Dim}
+use Rattle.cic_room.proofs.TableLaws.{held-raised, held-busy, held-active, held-of_channel, held-of_host, put-raised, put-busy, put-active, put-of_channel, put-of_host, put_same, put_other}
+use Rattle.cic_room.proofs.ShownLaws.{tables_as, some-put, some-others}
 
 -- ---- where anything is kept
 
 module _ {f : Frame} {c : Cic} {ws room : List ℕ} where
-  pub counted-on : f.kept ≡ true → Counted f c ws room → Beside (permitted c) (λ k. get_or ws k 0) (loadBy (channelAt c) ws) (loadBy (hostAt c) ws) room
-  counted-on e u =
-      tables-as (λ k _. sym (pick_true 0 e)) (λ k _. sym (pick_true 0 e)) (λ k _. sym (pick_true 0 e)) (λ k _. sym (pick_true 0 e)) (λ k _. sym (pick_true 0 e)) (λ k _. sym (pick_true 0 e)) u.kept
+  pub counted_on : f.kept ≡ true → Counted f c ws room → Beside (permitted c) (λ k. get_or ws k 0) (load_by (channel_at c) ws) (load_by (host_at c) ws) room
+  counted_on e u =
+      tables_as (λ k _. sym (pick_true 0 e)) (λ k _. sym (pick_true 0 e)) (λ k _. sym (pick_true 0 e)) (λ k _. sym (pick_true 0 e)) (λ k _. sym (pick_true 0 e)) (λ k _. sym (pick_true 0 e)) u.kept
 
-  pub on-counted : f.kept ≡ true → Held f c room → length ws ≡ 32 → Beside (permitted c) (λ k. get_or ws k 0) (loadBy (channelAt c) ws) (loadBy (hostAt c) ws) room → Counted f c ws room
+  pub on-counted : f.kept ≡ true → Held f c room → length ws ≡ 32 → Beside (permitted c) (λ k. get_or ws k 0) (load_by (channel_at c) ws) (load_by (host_at c) ws) room → Counted f c ws room
   on-counted e h l t =
       record {
         held = h;
         long = l;
         kept =
-            tables-as (λ k _. pick_true 0 e) (λ k _. pick_true 0 e) (λ k _. pick_true 0 e) (λ k _. pick_true 0 e) (λ k _. pick_true 0 e)
+            tables_as (λ k _. pick_true 0 e) (λ k _. pick_true 0 e) (λ k _. pick_true 0 e) (λ k _. pick_true 0 e) (λ k _. pick_true 0 e)
             (λ k _. pick_true 0 e) t;
       }
 
@@ -42,7 +42,7 @@ Bare f room = (f.kept ≡ false) × Tables (λ _. 0) (λ _. 0) (λ _. 0) (λ _. 
 
 pub bare_of : {f : Frame} {c : Cic} {ws room : List ℕ} → f.kept ≡ false → Counted f c ws room → Bare f room
 bare_of e u =
-    (e, tables-as (λ k _. sym (pick-false _ e)) (λ k _. sym (pick-false _ e)) (λ k _. sym (pick-false _ e)) (λ k _. sym (pick-false _ e)) (λ k _. sym (pick-false _ e)) (λ k _. sym (pick-false _ e)) u.kept)
+    (e, tables_as (λ k _. sym (pick-false _ e)) (λ k _. sym (pick-false _ e)) (λ k _. sym (pick-false _ e)) (λ k _. sym (pick-false _ e)) (λ k _. sym (pick-false _ e)) (λ k _. sym (pick-false _ e)) u.kept)
 
 pub of_bare : {f : Frame} {c : Cic} {room : List ℕ} (ws : List ℕ) → Held f c room → length ws ≡ 32 → Bare f room → Counted f c ws room
 of_bare ws h l b =
@@ -51,7 +51,7 @@ of_bare ws h l b =
       held = h;
       long = l;
       kept =
-          tables-as (λ k _. pick-false _ e) (λ k _. pick-false _ e) (λ k _. pick-false _ e) (λ k _. pick-false _ e) (λ k _. pick-false _ e)
+          tables_as (λ k _. pick-false _ e) (λ k _. pick-false _ e) (λ k _. pick-false _ e) (λ k _. pick-false _ e) (λ k _. pick-false _ e)
           (λ k _. pick-false _ e) b.1;
     }
 
@@ -61,14 +61,14 @@ dim-bare e u =
       held = u.held;
       long = u.long;
       kept =
-          tables-as (λ k _. sym (pick-false _ e) ∙ pick-false _ e) (λ k _. refl) (λ k _. refl) (λ k _. refl) (λ k _. refl) (λ k _. refl) u.kept;
+          tables_as (λ k _. sym (pick-false _ e) ∙ pick-false _ e) (λ k _. refl) (λ k _. refl) (λ k _. refl) (λ k _. refl) (λ k _. refl) u.kept;
     }
 
 -- what is shown is still to be worked out anew
-pub dim-on : {f : Frame} {c : Cic} {ws room : List ℕ} → f.kept ≡ true → (u : Dim f c ws room)
-    → Tables u.numbers (someWord (loadBy (hostAt c) ws)) (someWord (loadBy (channelAt c) ws)) (λ k. get_or ws k 0) (loadBy (channelAt c) ws) (loadBy (hostAt c) ws) room
-dim-on e u =
-    tables-as (λ k _. sym (pick_true 0 e)) (λ k _. sym (pick_true 0 e)) (λ k _. sym (pick_true 0 e)) (λ k _. sym (pick_true 0 e)) (λ k _. sym (pick_true 0 e)) (λ k _. sym (pick_true 0 e)) u.kept
+pub dim_on : {f : Frame} {c : Cic} {ws room : List ℕ} → f.kept ≡ true → (u : Dim f c ws room)
+    → Tables u.numbers (some_word (load_by (host_at c) ws)) (some_word (load_by (channel_at c) ws)) (λ k. get_or ws k 0) (load_by (channel_at c) ws) (load_by (host_at c) ws) room
+dim_on e u =
+    tables_as (λ k _. sym (pick_true 0 e)) (λ k _. sym (pick_true 0 e)) (λ k _. sym (pick_true 0 e)) (λ k _. sym (pick_true 0 e)) (λ k _. sym (pick_true 0 e)) (λ k _. sym (pick_true 0 e)) u.kept
 
 -- a word of the room says which
 pub kept-told : {f : Frame} {c : Cic} {room : List ℕ} → Held f c room → (get_or room 6 0 ≡ 0 → ⊥) → f.kept ≡ true
@@ -88,16 +88,16 @@ bare-told {f} h n = go (told f.kept)
 -- ---- the number of a host and its bit
 
 pub renumbered : (p : ℕ → Bool) {f : Frame} {c : Cic} {a u g : ℕ → ℕ} (y : ℕ → ℕ) (room room' : List ℕ) (h x : ℕ) (t : Bool) → h < 256 → x ≡ y h → ((j : ℕ) → (j ≡ h → ⊥) → g j ≡ y j)
-    → t ≡ not (eqb x 0) → room' ≡ set (set room (768 + h) x) (24 + h / 32) (withBit (get_or (set room (768 + h) x) (24 + h / 32) 0) (h % 32) t) → Held f c room → Beside p a u g room
-    → Held f c room' × Tables (shownWord p g) (someWord y) (someWord u) a u y room'
+    → t ≡ not (eqb x 0) → room' ≡ set (set room (768 + h) x) (24 + h / 32) (with_bit (get_or (set room (768 + h) x) (24 + h / 32) 0) (h % 32) t) → Held f c room → Beside p a u g room
+    → Held f c room' × Tables (shown_word p g) (some_word y) (some_word u) a u y room'
 renumbered p {f} {c} {a} {u} {g} y room room' h x t l e o d r k b =
-    subst (λ (s : List ℕ). Held f c s × Tables (shownWord p g) (someWord y) (someWord u) a u y s) (sym r) (
-      held-raised (h / 32) _ w (held-ofHost h x l k),
-      put-raised (h / 32) _ (someWord y) w
-          (ap (λ (z : ℕ). withBit z (h % 32) t) (get_or-set_other room (768 + h) (24 + h / 32) x 0 (λ q. absurd (omega (arith, q, l))) ∙ b.raised.holds (h / 32) w)
+    subst (λ (s : List ℕ). Held f c s × Tables (shown_word p g) (some_word y) (some_word u) a u y s) (sym r) (
+      held-raised (h / 32) _ w (held-of_host h x l k),
+      put-raised (h / 32) _ (some_word y) w
+          (ap (λ (z : ℕ). with_bit z (h % 32) t) (get_or-set_other room (768 + h) (24 + h / 32) x 0 (λ q. absurd (omega (arith, q, l))) ∙ b.raised.holds (h / 32) w)
           ∙ some-put g y h t (d ∙ ap (λ (z : ℕ). not (eqb z 0)) e) o)
           (λ j _ n. some-others g y h o j n)
-          (put-ofHost h x y l e (λ j _ n. o j n) b),
+          (put-of_host h x y l e (λ j _ n. o j n) b),
     )
   where
     w : h / 32 < 8
@@ -107,15 +107,15 @@ renumbered p {f} {c} {a} {u} {g} y room room' h x t l e o d r k b =
 
 pub turned : (p : ℕ → Bool) {f : Frame} {c : Cic} {g : ℕ → ℕ} (ws : List ℕ) (u u' : ℕ → ℕ) (room r2 r3 : List ℕ) (s k x : ℕ) (t on : Bool) → s < 1024 → k < 256 → length ws ≡ 32 → x ≡ u' k
     → ((j : ℕ) → (j ≡ k → ⊥) → u j ≡ u' j) → t ≡ not (eqb x 0)
-    → r2 ≡ set (set room (512 + k) x) (32 + k / 32) (withBit (get_or (set room (512 + k) x) (32 + k / 32) 0) (k % 32) t)
-    → r3 ≡ set r2 (160 + s / 32) (withBit (get_or r2 (160 + s / 32) 0) (s % 32) on) → Held f c room → Beside p (λ i. get_or ws i 0) u g room
-    → Held f c r3 × Beside p (λ i. get_or (withBitAt ws s on) i 0) u' g r3
-unfolding withBitAt
+    → r2 ≡ set (set room (512 + k) x) (32 + k / 32) (with_bit (get_or (set room (512 + k) x) (32 + k / 32) 0) (k % 32) t)
+    → r3 ≡ set r2 (160 + s / 32) (with_bit (get_or r2 (160 + s / 32) 0) (s % 32) on) → Held f c room → Beside p (λ i. get_or ws i 0) u g room
+    → Held f c r3 × Beside p (λ i. get_or (with_bit_at ws s on) i 0) u' g r3
+unfolding with_bit_at
 turned p {f} {c} {g} ws u u' room r2 r3 s k x t on l m long e o d e2 e3 h b =
-    subst (λ (r : List ℕ). Held f c r × Beside p (λ i. get_or (withBitAt ws s on) i 0) u' g r) (sym e3) (
+    subst (λ (r : List ℕ). Held f c r × Beside p (λ i. get_or (with_bit_at ws s on) i 0) u' g r) (sym e3) (
       held-active (s / 32) _ (omega (arith, l)) two.0,
       put-active (s / 32) _ _ (omega (arith, l))
-          (ap (λ (w : ℕ). withBit w (s % 32) on) (two.1.active.holds (s / 32) (omega (arith, l))) ∙ put_same ws (s / 32) _ 32 long (omega (arith, l)))
+          (ap (λ (w : ℕ). with_bit w (s % 32) on) (two.1.active.holds (s / 32) (omega (arith, l))) ∙ put_same ws (s / 32) _ 32 long (omega (arith, l)))
           (λ j _ n. put_other ws (s / 32) _ j n)
           two.1,
     )
@@ -126,12 +126,12 @@ turned p {f} {c} {g} ws u u' room r2 r3 s k x t on l m long e o d e2 e3 h b =
     two : Held f c r2 × Beside p (λ i. get_or ws i 0) u' g r2
     two =
         subst (λ (r : List ℕ). Held f c r × Beside p (λ i. get_or ws i 0) u' g r) (sym e2) (
-          held-busy (k / 32) _ q (held-ofChannel k x m h),
-          put-busy (k / 32) _ (someWord u') q
-              (ap (λ (z : ℕ). withBit z (k % 32) t) (get_or-set_other room (512 + k) (32 + k / 32) x 0 (λ i. absurd (omega (arith, i, m))) ∙ b.busy.holds (k / 32) q)
+          held-busy (k / 32) _ q (held-of_channel k x m h),
+          put-busy (k / 32) _ (some_word u') q
+              (ap (λ (z : ℕ). with_bit z (k % 32) t) (get_or-set_other room (512 + k) (32 + k / 32) x 0 (λ i. absurd (omega (arith, i, m))) ∙ b.busy.holds (k / 32) q)
               ∙ some-put u u' k t (d ∙ ap (λ (z : ℕ). not (eqb z 0)) e) o)
               (λ j _ n. some-others u u' k o j n)
-              (put-ofChannel k x u' m e (λ j _ n. o j n) b),
+              (put-of_channel k x u' m e (λ j _ n. o j n) b),
         )
 
 -- a test that is turned round

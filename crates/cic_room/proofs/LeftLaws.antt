@@ -8,14 +8,14 @@ use native.Mathlib.Omega.{arith}
 use borrow.Author.Tests.{eq-eqb, ne_eqb}
 use lib.Dec.{eqb}
 use lib.ListN.{get_or, set}
-use Rattle.words.specs.Array.{bit_at, withBitAt}
+use Rattle.words.specs.Array.{bit_at, with_bit_at}
 use Rattle.words.specs.Choice.{pick}
-use Rattle.words.specs.Counting.{countBelow, lowestBelow}
-use Rattle.words.specs.Word.{bit, either, without, withBit}
-use Rattle.words.proofs.ArrayLaws.{bitAt-word}
-use Rattle.words.proofs.CountingLaws.{lowest-found}
+use Rattle.words.specs.Counting.{count_below, lowest_below}
+use Rattle.words.specs.Word.{bit, either, without, with_bit}
+use Rattle.words.proofs.ArrayLaws.{bit_at_word}
+use Rattle.words.proofs.CountingLaws.{lowest_found}
 use Rattle.words.proofs.TruthLaws.{clash}
-use Rattle.words.proofs.WordLaws.{bit-either, bit-without, bit-withBit, bit-none, same_word, some-bit}
+use Rattle.words.proofs.WordLaws.{bit-either, bit-without, bit-with_bit, bit-none, same_word, some-bit}
 use Rattle.cic_room.proofs.LoadLaws.{count-one-more}
 
 -- two truth values differ
@@ -50,16 +50,16 @@ left-none left a b l m e f = same_word 32 a b l m (λ j i. go (bit a j) (bit b j
     go false false p = refl
 
 -- the lowest bit of a word that is not 0
-pub lowest-in : (w i : ℕ) → w < 2 ^ 32 → (w ≡ 0 → ⊥) → i ≡ lowestBelow 32 (bit w) → (i < 32) × (bit w i ≡ true)
-lowest-in w i l n e = go (dec_lt i 32)
+pub lowest_in : (w i : ℕ) → w < 2 ^ 32 → (w ≡ 0 → ⊥) → i ≡ lowest_below 32 (bit w) → (i < 32) × (bit w i ≡ true)
+lowest_in w i l n e = go (dec_lt i 32)
   where
     go : Dec (i < 32) → (i < 32) × (bit w i ≡ true)
-    go (yes m) = (m, ap (bit w) e ∙ (lowest-found 32 (bit w)).found (omega (arith, m, e)))
-    go (no m) = let s = some-bit 32 w l n in clash s.2 ((lowest-found 32 (bit w)).before s.0 (omega (arith, m, e, s.1)))
+    go (yes m) = (m, ap (bit w) e ∙ (lowest_found 32 (bit w)).found (omega (arith, m, e)))
+    go (no m) = let s = some-bit 32 w l n in clash s.2 ((lowest_found 32 (bit w)).before s.0 (omega (arith, m, e, s.1)))
 
 -- the system interrupt is not as the new word says
 pub was-not : (ws : List ℕ) (left b k i : ℕ) → i < 32 → Left left (get_or ws k 0) b → bit left i ≡ true → bit_at ws (32 * k + i) ≡ not (bit b i)
-was-not ws left b k i l f e = bitAt-word ws k i l ∙ go (bit (get_or ws k 0) i) (bit b i) (sym (f i l) ∙ e)
+was-not ws left b k i l f e = bit_at_word ws k i l ∙ go (bit (get_or ws k 0) i) (bit b i) (sym (f i l) ∙ e)
   where
     go : (x y : Bool) → differs x y ≡ true → x ≡ not y
     go true y p = sym p
@@ -67,17 +67,17 @@ was-not ws left b k i l f e = bitAt-word ws k i l ∙ go (bit (get_or ws k 0) i)
     go false false p = p
 
 -- its word after it
-pub word-put : (ws ws' : List ℕ) (k i s : ℕ) (t : Bool) → i < 32 → s ≡ 32 * k + i → ws' ≡ withBitAt ws s t → ws' ≡ set ws k (withBit (get_or ws k 0) i t)
-unfolding withBitAt
+pub word-put : (ws ws' : List ℕ) (k i s : ℕ) (t : Bool) → i < 32 → s ≡ 32 * k + i → ws' ≡ with_bit_at ws s t → ws' ≡ set ws k (with_bit (get_or ws k 0) i t)
+unfolding with_bit_at
 word-put ws ws' k i s t l e f =
     let d : s / 32 ≡ k = omega (arith, e, l) in
     let r : s % 32 ≡ i = omega (arith, e, l) in
-    f ∙ ap₂ (λ (x y : ℕ). set ws x (withBit (get_or ws x 0) y t)) d r
+    f ∙ ap₂ (λ (x y : ℕ). set ws x (with_bit (get_or ws x 0) y t)) d r
 
 -- one bit less is left
-pub left_less : (left a b i : ℕ) → i < 32 → Left left a b → Left (withBit left i false) (withBit a i (bit b i)) b
+pub left_less : (left a b i : ℕ) → i < 32 → Left left a b → Left (with_bit left i false) (with_bit a i (bit b i)) b
 unfolding pick
-left_less left a b i l f j m = bit-withBit left i false j m ∙ go (ℕ_discrete j i) ∙ sym (ap (λ (x : Bool). differs x (bit b j)) (bit-withBit a i (bit b i) j m))
+left_less left a b i l f j m = bit-with_bit left i false j m ∙ go (ℕ_discrete j i) ∙ sym (ap (λ (x : Bool). differs x (bit b j)) (bit-with_bit a i (bit b i) j m))
   where
     none : (x : Bool) → differs x x ≡ false
     none true = refl
@@ -92,11 +92,11 @@ left_less left a b i l f j m = bit-withBit left i false j m ∙ go (ℕ_discrete
         ∙ sym (ap (λ (x : Bool). differs (pick x (bit b i) (bit a j)) (bit b j)) (ne_eqb j i e))
 
 -- so the bits that are left get fewer
-pub fewer-left : (left i w : ℕ) → i < 32 → bit left i ≡ true → w ≡ withBit left i false → countBelow 32 (bit w) < countBelow 32 (bit left)
+pub fewer-left : (left i w : ℕ) → i < 32 → bit left i ≡ true → w ≡ with_bit left i false → count_below 32 (bit w) < count_below 32 (bit left)
 unfolding pick
 fewer-left left i w l e f =
-    let c = count-one-more 32 (bit (withBit left i false)) (bit left) i l
-    (bit-withBit left i false i l ∙ ap (λ (x : Bool). pick x false (bit left i)) (eq-eqb i i refl)) e
-    (λ j m n. sym (bit-withBit left i false j m ∙ ap (λ (x : Bool). pick x false (bit left j)) (ne_eqb j i n))) in
-    let g : countBelow 32 (bit w) ≡ countBelow 32 (bit (withBit left i false)) = ap (λ (x : ℕ). countBelow 32 (bit x)) f in
+    let c = count-one-more 32 (bit (with_bit left i false)) (bit left) i l
+    (bit-with_bit left i false i l ∙ ap (λ (x : Bool). pick x false (bit left i)) (eq-eqb i i refl)) e
+    (λ j m n. sym (bit-with_bit left i false j m ∙ ap (λ (x : Bool). pick x false (bit left j)) (ne_eqb j i n))) in
+    let g : count_below 32 (bit w) ≡ count_below 32 (bit (with_bit left i false)) = ap (λ (x : ℕ). count_below 32 (bit x)) f in
     omega (arith, c, g)

@@ -6,10 +6,10 @@ use native.Mathlib.Omega.{arith}
 use lib.ListN.{get_or, set}
 use Rattle.words.specs.Word.{both}
 use Rattle.cic_record.specs.declared.Cic.{Cic}
-use Rattle.cic_record.specs.Record.{withGlobal, withLines, withStatus, withEnable, withAllow}
-use Rattle.cic_room.specs.Room.{Frame, Laid, permitted, shownWord}
-use Rattle.cic_room.specs.Tables.{hostAt, loadBy, Counted, Standing, Stale, Dim}
-use Rattle.cic_room.proofs.TableLaws.{put-global, put-lines, put-status, put-enable, put-allow, kept-global, kept-lines, kept-status, kept-enable, kept-allow, put_other}
+use Rattle.cic_record.specs.Record.{with_global, with_lines, with_status, with_enable, with_allow}
+use Rattle.cic_room.specs.Room.{Frame, Laid, permitted, shown_word}
+use Rattle.cic_room.specs.Tables.{host_at, load_by, Counted, Standing, Stale, Dim}
+use Rattle.cic_room.proofs.TableLaws.{put_global, put_lines, put-status, put_enable, put_allow, kept_global, kept_lines, kept-status, kept_enable, kept_allow, put_other}
 use Rattle.cic_room.proofs.RoomLaws.{standing, laid_of}
 
 -- ---- what stands in single words and in words of tables
@@ -48,30 +48,30 @@ module _ {f : Frame} {c : Cic} {room : List ℕ} (h : Laid f c room) where
   -- ---- a store
 
   -- what is kept does not go by the lines
-  pub laid-lines : (k w : ℕ) → k < 32 → Laid f (withLines c (set c.lines k w)) (set room (64 + k) w)
-  laid-lines k w l =
+  pub laid_lines : (k w : ℕ) → k < 32 → Laid f (with_lines c (set c.lines k w)) (set room (64 + k) w)
+  laid_lines k w l =
       let u = s.counted in
-      laid_of (record { active = s.active; counted = record { held = put-lines k w l u.held; long = u.long; kept = kept-lines k w l u.kept }; words = s.words })
+      laid_of (record { active = s.active; counted = record { held = put_lines k w l u.held; long = u.long; kept = kept_lines k w l u.kept }; words = s.words })
 
   -- what is shown goes by the enables of hosts
-  pub dim-global : (w : ℕ) → Dim f (withGlobal c w) s.active (set room 5 w)
-  dim-global w =
+  pub dim_global : (w : ℕ) → Dim f (with_global c w) s.active (set room 5 w)
+  dim_global w =
       let u = s.counted in
-      record { held = put-global w u.held; long = u.long; numbers = shownWord (permitted c) (loadBy (hostAt c) s.active); kept = kept-global w u.kept }
+      record { held = put_global w u.held; long = u.long; numbers = shown_word (permitted c) (load_by (host_at c) s.active); kept = kept_global w u.kept }
 
-  pub dim-allow : (k w : ℕ) → k < 8 → Dim f (withAllow c (set c.allow k w)) s.active (set room (16 + k) w)
-  dim-allow k w l =
+  pub dim_allow : (k w : ℕ) → k < 8 → Dim f (with_allow c (set c.allow k w)) s.active (set room (16 + k) w)
+  dim_allow k w l =
       let u = s.counted in
-      record { held = put-allow k w l u.held; long = u.long; numbers = shownWord (permitted c) (loadBy (hostAt c) s.active); kept = kept-allow k w l u.kept }
+      record { held = put_allow k w l u.held; long = u.long; numbers = shown_word (permitted c) (load_by (host_at c) s.active); kept = kept_allow k w l u.kept }
 
-  pub lit-global : (w : ℕ) (room' : List ℕ) → Counted f (withGlobal c w) s.active room' → Laid f (withGlobal c w) room'
-  lit-global w room' u = laid_of (record { active = s.active; counted = u; words = s.words })
+  pub lit_global : (w : ℕ) (room' : List ℕ) → Counted f (with_global c w) s.active room' → Laid f (with_global c w) room'
+  lit_global w room' u = laid_of (record { active = s.active; counted = u; words = s.words })
 
-  pub lit-allow : (k w : ℕ) (room' : List ℕ) → Counted f (withAllow c (set c.allow k w)) s.active room' → Laid f (withAllow c (set c.allow k w)) room'
-  lit-allow k w room' u = laid_of (record { active = s.active; counted = u; words = s.words })
+  pub lit_allow : (k w : ℕ) (room' : List ℕ) → Counted f (with_allow c (set c.allow k w)) s.active room' → Laid f (with_allow c (set c.allow k w)) room'
+  lit_allow k w room' u = laid_of (record { active = s.active; counted = u; words = s.words })
 
   -- one word of what is kept is to be renewed
-  pub stale-status : (k w : ℕ) → k < 32 → Stale f (withStatus c (set c.status k w)) k (set room (96 + k) w)
+  pub stale-status : (k w : ℕ) → k < 32 → Stale f (with_status c (set c.status k w)) k (set room (96 + k) w)
   stale-status k w l =
       let u = s.counted in
       record {
@@ -80,11 +80,11 @@ module _ {f : Frame} {c : Cic} {room : List ℕ} (h : Laid f c room) where
         others = λ i m o. s.words i m ∙ ap (λ (x : ℕ). both x (get_or c.enable i 0)) (put_other c.status k w i o);
       }
 
-  pub stale-enable : (k w : ℕ) → k < 32 → Stale f (withEnable c (set c.enable k w)) k (set room (128 + k) w)
-  stale-enable k w l =
+  pub stale_enable : (k w : ℕ) → k < 32 → Stale f (with_enable c (set c.enable k w)) k (set room (128 + k) w)
+  stale_enable k w l =
       let u = s.counted in
       record {
         active = s.active;
-        counted = record { held = put-enable k w l u.held; long = u.long; kept = kept-enable k w l u.kept };
+        counted = record { held = put_enable k w l u.held; long = u.long; kept = kept_enable k w l u.kept };
         others = λ i m o. s.words i m ∙ ap (both (get_or c.status i 0)) (put_other c.enable k w i o);
       }

@@ -7,8 +7,8 @@ use native.Mathlib.Omega.{arith}
 use lib.ListN.{length, get_or, set, length-set}
 use lib.Seq.{get_or-set_same, get_or-set_other}
 use Rattle.cic_record.specs.declared.Cic.{Cic}
-use Rattle.cic_record.specs.Record.{withGlobal, withLines, withStatus, withEnable, withChannel, withHost, withAllow}
-use Rattle.cic_registers.specs.Maps.{mapRead}
+use Rattle.cic_record.specs.Record.{with_global, with_lines, with_status, with_enable, with_channel, with_host, with_allow}
+use Rattle.cic_registers.specs.Maps.{map_read}
 use Rattle.cic_room.specs.Room.{Frame, cells}
 use Rattle.cic_room.specs.Tables.{Table, Held, Tables}
 
@@ -33,8 +33,8 @@ module _ {room : List ℕ} {at n : ℕ} {f : ℕ → ℕ} where
       go j i (no p) = get_or-set_other room (at + k) (at + j) v 0 (λ q. p (omega (arith, q))) ∙ h.holds j i ∙ o j i p
 
   -- the same words by another function
-  pub table-as : {g : ℕ → ℕ} → ((k : ℕ) → k < n → f k ≡ g k) → Table room at n f → Table room at n g
-  table-as e t = record { holds = λ k l. t.holds k l ∙ e k l }
+  pub table_as : {g : ℕ → ℕ} → ((k : ℕ) → k < n → f k ≡ g k) → Table room at n f → Table room at n g
+  table_as e t = record { holds = λ k l. t.holds k l ∙ e k l }
 
 -- a list with one number put anew
 pub put_same : (ws : List ℕ) (k v n : ℕ) → length ws ≡ n → k < n → v ≡ get_or (set ws k v) k 0
@@ -125,8 +125,8 @@ held-active k v l h =
       words = before (160 + k) v (omega (arith, l)) h.words;
     }
 
-pub held-ofChannel : {f : Frame} {c : Cic} {room : List ℕ} (k v : ℕ) → k < 256 → Held f c room → Held f c (set room (512 + k) v)
-held-ofChannel k v l h =
+pub held-of_channel : {f : Frame} {c : Cic} {room : List ℕ} (k v : ℕ) → k < 256 → Held f c room → Held f c (set room (512 + k) v)
+held-of_channel k v l h =
     record {
       framed = h.framed;
       shaped = h.shaped;
@@ -145,8 +145,8 @@ held-ofChannel k v l h =
       words = before (512 + k) v (omega (arith, l)) h.words;
     }
 
-pub held-ofHost : {f : Frame} {c : Cic} {room : List ℕ} (k v : ℕ) → k < 256 → Held f c room → Held f c (set room (768 + k) v)
-held-ofHost k v l h =
+pub held-of_host : {f : Frame} {c : Cic} {room : List ℕ} (k v : ℕ) → k < 256 → Held f c room → Held f c (set room (768 + k) v)
+held-of_host k v l h =
     record {
       framed = h.framed;
       shaped = h.shaped;
@@ -167,40 +167,40 @@ held-ofHost k v l h =
 
 -- ---- and the other way round
 
-pub kept-global : {n r b a u g : ℕ → ℕ} {room : List ℕ} (v : ℕ) → Tables n r b a u g room → Tables n r b a u g (set room 5 v)
-kept-global v t =
+pub kept_global : {n r b a u g : ℕ → ℕ} {room : List ℕ} (v : ℕ) → Tables n r b a u g room → Tables n r b a u g (set room 5 v)
+kept_global v t =
     record {
       long = simp length-set t.long;
       shown = before 5 v (omega arith) t.shown;
       raised = before 5 v (omega arith) t.raised;
       busy = before 5 v (omega arith) t.busy;
       active = before 5 v (omega arith) t.active;
-      ofChannel = before 5 v (omega arith) t.ofChannel;
-      ofHost = before 5 v (omega arith) t.ofHost;
+      of_channel = before 5 v (omega arith) t.of_channel;
+      of_host = before 5 v (omega arith) t.of_host;
     }
 
-pub kept-allow : {n r b a u g : ℕ → ℕ} {room : List ℕ} (k v : ℕ) → k < 8 → Tables n r b a u g room → Tables n r b a u g (set room (16 + k) v)
-kept-allow k v l t =
+pub kept_allow : {n r b a u g : ℕ → ℕ} {room : List ℕ} (k v : ℕ) → k < 8 → Tables n r b a u g room → Tables n r b a u g (set room (16 + k) v)
+kept_allow k v l t =
     record {
       long = simp length-set t.long;
       shown = after (16 + k) v (omega (arith, l)) t.shown;
       raised = before (16 + k) v (omega (arith, l)) t.raised;
       busy = before (16 + k) v (omega (arith, l)) t.busy;
       active = before (16 + k) v (omega (arith, l)) t.active;
-      ofChannel = before (16 + k) v (omega (arith, l)) t.ofChannel;
-      ofHost = before (16 + k) v (omega (arith, l)) t.ofHost;
+      of_channel = before (16 + k) v (omega (arith, l)) t.of_channel;
+      of_host = before (16 + k) v (omega (arith, l)) t.of_host;
     }
 
-pub kept-lines : {n r b a u g : ℕ → ℕ} {room : List ℕ} (k v : ℕ) → k < 32 → Tables n r b a u g room → Tables n r b a u g (set room (64 + k) v)
-kept-lines k v l t =
+pub kept_lines : {n r b a u g : ℕ → ℕ} {room : List ℕ} (k v : ℕ) → k < 32 → Tables n r b a u g room → Tables n r b a u g (set room (64 + k) v)
+kept_lines k v l t =
     record {
       long = simp length-set t.long;
       shown = after (64 + k) v (omega (arith, l)) t.shown;
       raised = after (64 + k) v (omega (arith, l)) t.raised;
       busy = after (64 + k) v (omega (arith, l)) t.busy;
       active = before (64 + k) v (omega (arith, l)) t.active;
-      ofChannel = before (64 + k) v (omega (arith, l)) t.ofChannel;
-      ofHost = before (64 + k) v (omega (arith, l)) t.ofHost;
+      of_channel = before (64 + k) v (omega (arith, l)) t.of_channel;
+      of_host = before (64 + k) v (omega (arith, l)) t.of_host;
     }
 
 pub kept-status : {n r b a u g : ℕ → ℕ} {room : List ℕ} (k v : ℕ) → k < 32 → Tables n r b a u g room → Tables n r b a u g (set room (96 + k) v)
@@ -211,44 +211,44 @@ kept-status k v l t =
       raised = after (96 + k) v (omega (arith, l)) t.raised;
       busy = after (96 + k) v (omega (arith, l)) t.busy;
       active = before (96 + k) v (omega (arith, l)) t.active;
-      ofChannel = before (96 + k) v (omega (arith, l)) t.ofChannel;
-      ofHost = before (96 + k) v (omega (arith, l)) t.ofHost;
+      of_channel = before (96 + k) v (omega (arith, l)) t.of_channel;
+      of_host = before (96 + k) v (omega (arith, l)) t.of_host;
     }
 
-pub kept-enable : {n r b a u g : ℕ → ℕ} {room : List ℕ} (k v : ℕ) → k < 32 → Tables n r b a u g room → Tables n r b a u g (set room (128 + k) v)
-kept-enable k v l t =
+pub kept_enable : {n r b a u g : ℕ → ℕ} {room : List ℕ} (k v : ℕ) → k < 32 → Tables n r b a u g room → Tables n r b a u g (set room (128 + k) v)
+kept_enable k v l t =
     record {
       long = simp length-set t.long;
       shown = after (128 + k) v (omega (arith, l)) t.shown;
       raised = after (128 + k) v (omega (arith, l)) t.raised;
       busy = after (128 + k) v (omega (arith, l)) t.busy;
       active = before (128 + k) v (omega (arith, l)) t.active;
-      ofChannel = before (128 + k) v (omega (arith, l)) t.ofChannel;
-      ofHost = before (128 + k) v (omega (arith, l)) t.ofHost;
+      of_channel = before (128 + k) v (omega (arith, l)) t.of_channel;
+      of_host = before (128 + k) v (omega (arith, l)) t.of_host;
     }
 
-pub kept-host : {n r b a u g : ℕ → ℕ} {room : List ℕ} (k v : ℕ) → k < 64 → Tables n r b a u g room → Tables n r b a u g (set room (192 + k) v)
-kept-host k v l t =
+pub kept_host : {n r b a u g : ℕ → ℕ} {room : List ℕ} (k v : ℕ) → k < 64 → Tables n r b a u g room → Tables n r b a u g (set room (192 + k) v)
+kept_host k v l t =
     record {
       long = simp length-set t.long;
       shown = after (192 + k) v (omega (arith, l)) t.shown;
       raised = after (192 + k) v (omega (arith, l)) t.raised;
       busy = after (192 + k) v (omega (arith, l)) t.busy;
       active = after (192 + k) v (omega (arith, l)) t.active;
-      ofChannel = before (192 + k) v (omega (arith, l)) t.ofChannel;
-      ofHost = before (192 + k) v (omega (arith, l)) t.ofHost;
+      of_channel = before (192 + k) v (omega (arith, l)) t.of_channel;
+      of_host = before (192 + k) v (omega (arith, l)) t.of_host;
     }
 
-pub kept-channel : {n r b a u g : ℕ → ℕ} {room : List ℕ} (k v : ℕ) → k < 256 → Tables n r b a u g room → Tables n r b a u g (set room (256 + k) v)
-kept-channel k v l t =
+pub kept_channel : {n r b a u g : ℕ → ℕ} {room : List ℕ} (k v : ℕ) → k < 256 → Tables n r b a u g room → Tables n r b a u g (set room (256 + k) v)
+kept_channel k v l t =
     record {
       long = simp length-set t.long;
       shown = after (256 + k) v (omega (arith, l)) t.shown;
       raised = after (256 + k) v (omega (arith, l)) t.raised;
       busy = after (256 + k) v (omega (arith, l)) t.busy;
       active = after (256 + k) v (omega (arith, l)) t.active;
-      ofChannel = before (256 + k) v (omega (arith, l)) t.ofChannel;
-      ofHost = before (256 + k) v (omega (arith, l)) t.ofHost;
+      of_channel = before (256 + k) v (omega (arith, l)) t.of_channel;
+      of_host = before (256 + k) v (omega (arith, l)) t.of_host;
     }
 
 -- ---- a store to what is kept
@@ -262,8 +262,8 @@ put-shown k v _ l same others t =
       raised = before (7 + k) v (omega (arith, l)) t.raised;
       busy = before (7 + k) v (omega (arith, l)) t.busy;
       active = before (7 + k) v (omega (arith, l)) t.active;
-      ofChannel = before (7 + k) v (omega (arith, l)) t.ofChannel;
-      ofHost = before (7 + k) v (omega (arith, l)) t.ofHost;
+      of_channel = before (7 + k) v (omega (arith, l)) t.of_channel;
+      of_host = before (7 + k) v (omega (arith, l)) t.of_host;
     }
 
 pub put-raised : {n r b a u g : ℕ → ℕ} {room : List ℕ} (k v : ℕ) (r' : ℕ → ℕ) → k < 8 → v ≡ r' k → ((j : ℕ) → j < 8 → (j ≡ k → ⊥) → r j ≡ r' j) → Tables n r b a u g room
@@ -275,8 +275,8 @@ put-raised k v _ l same others t =
       raised = here k v _ (omega (arith, t.long)) l same others t.raised;
       busy = before (24 + k) v (omega (arith, l)) t.busy;
       active = before (24 + k) v (omega (arith, l)) t.active;
-      ofChannel = before (24 + k) v (omega (arith, l)) t.ofChannel;
-      ofHost = before (24 + k) v (omega (arith, l)) t.ofHost;
+      of_channel = before (24 + k) v (omega (arith, l)) t.of_channel;
+      of_host = before (24 + k) v (omega (arith, l)) t.of_host;
     }
 
 pub put-busy : {n r b a u g : ℕ → ℕ} {room : List ℕ} (k v : ℕ) (b' : ℕ → ℕ) → k < 8 → v ≡ b' k → ((j : ℕ) → j < 8 → (j ≡ k → ⊥) → b j ≡ b' j) → Tables n r b a u g room
@@ -288,8 +288,8 @@ put-busy k v _ l same others t =
       raised = after (32 + k) v (omega (arith, l)) t.raised;
       busy = here k v _ (omega (arith, t.long)) l same others t.busy;
       active = before (32 + k) v (omega (arith, l)) t.active;
-      ofChannel = before (32 + k) v (omega (arith, l)) t.ofChannel;
-      ofHost = before (32 + k) v (omega (arith, l)) t.ofHost;
+      of_channel = before (32 + k) v (omega (arith, l)) t.of_channel;
+      of_host = before (32 + k) v (omega (arith, l)) t.of_host;
     }
 
 pub put-active : {n r b a u g : ℕ → ℕ} {room : List ℕ} (k v : ℕ) (a' : ℕ → ℕ) → k < 32 → v ≡ a' k → ((j : ℕ) → j < 32 → (j ≡ k → ⊥) → a j ≡ a' j) → Tables n r b a u g room
@@ -301,39 +301,39 @@ put-active k v _ l same others t =
       raised = after (160 + k) v (omega (arith, l)) t.raised;
       busy = after (160 + k) v (omega (arith, l)) t.busy;
       active = here k v _ (omega (arith, t.long)) l same others t.active;
-      ofChannel = before (160 + k) v (omega (arith, l)) t.ofChannel;
-      ofHost = before (160 + k) v (omega (arith, l)) t.ofHost;
+      of_channel = before (160 + k) v (omega (arith, l)) t.of_channel;
+      of_host = before (160 + k) v (omega (arith, l)) t.of_host;
     }
 
-pub put-ofChannel : {n r b a u g : ℕ → ℕ} {room : List ℕ} (k v : ℕ) (u' : ℕ → ℕ) → k < 256 → v ≡ u' k → ((j : ℕ) → j < 256 → (j ≡ k → ⊥) → u j ≡ u' j) → Tables n r b a u g room
+pub put-of_channel : {n r b a u g : ℕ → ℕ} {room : List ℕ} (k v : ℕ) (u' : ℕ → ℕ) → k < 256 → v ≡ u' k → ((j : ℕ) → j < 256 → (j ≡ k → ⊥) → u j ≡ u' j) → Tables n r b a u g room
     → Tables n r b a u' g (set room (512 + k) v)
-put-ofChannel k v _ l same others t =
+put-of_channel k v _ l same others t =
     record {
       long = simp length-set t.long;
       shown = after (512 + k) v (omega (arith, l)) t.shown;
       raised = after (512 + k) v (omega (arith, l)) t.raised;
       busy = after (512 + k) v (omega (arith, l)) t.busy;
       active = after (512 + k) v (omega (arith, l)) t.active;
-      ofChannel = here k v _ (omega (arith, t.long)) l same others t.ofChannel;
-      ofHost = before (512 + k) v (omega (arith, l)) t.ofHost;
+      of_channel = here k v _ (omega (arith, t.long)) l same others t.of_channel;
+      of_host = before (512 + k) v (omega (arith, l)) t.of_host;
     }
 
-pub put-ofHost : {n r b a u g : ℕ → ℕ} {room : List ℕ} (k v : ℕ) (g' : ℕ → ℕ) → k < 256 → v ≡ g' k → ((j : ℕ) → j < 256 → (j ≡ k → ⊥) → g j ≡ g' j) → Tables n r b a u g room
+pub put-of_host : {n r b a u g : ℕ → ℕ} {room : List ℕ} (k v : ℕ) (g' : ℕ → ℕ) → k < 256 → v ≡ g' k → ((j : ℕ) → j < 256 → (j ≡ k → ⊥) → g j ≡ g' j) → Tables n r b a u g room
     → Tables n r b a u g' (set room (768 + k) v)
-put-ofHost k v _ l same others t =
+put-of_host k v _ l same others t =
     record {
       long = simp length-set t.long;
       shown = after (768 + k) v (omega (arith, l)) t.shown;
       raised = after (768 + k) v (omega (arith, l)) t.raised;
       busy = after (768 + k) v (omega (arith, l)) t.busy;
       active = after (768 + k) v (omega (arith, l)) t.active;
-      ofChannel = after (768 + k) v (omega (arith, l)) t.ofChannel;
-      ofHost = here k v _ (omega (arith, t.long)) l same others t.ofHost;
+      of_channel = after (768 + k) v (omega (arith, l)) t.of_channel;
+      of_host = here k v _ (omega (arith, t.long)) l same others t.of_host;
     }
 
 -- ---- a store to the record
 
-cell_other : (f : Frame) (c : Cic) (v j : ℕ) → j < 7 → (j ≡ 5 → ⊥) → get_or (cells f c) j 0 ≡ get_or (cells f (withGlobal c v)) j 0
+cell_other : (f : Frame) (c : Cic) (v j : ℕ) → j < 7 → (j ≡ 5 → ⊥) → get_or (cells f c) j 0 ≡ get_or (cells f (with_global c v)) j 0
 cell_other f c v zero l o = refl
 cell_other f c v (suc zero) l o = refl
 cell_other f c v (suc (suc zero)) l o = refl
@@ -343,8 +343,8 @@ cell_other f c v (suc (suc (suc (suc (suc zero))))) l o = absurd (o refl)
 cell_other f c v (suc (suc (suc (suc (suc (suc zero)))))) l o = refl
 cell_other f c v (suc (suc (suc (suc (suc (suc (suc j))))))) l o = absurd (omega arith)
 
-pub put-global : {f : Frame} {c : Cic} {room : List ℕ} (v : ℕ) → Held f c room → Held f (withGlobal c v) (set room 5 v)
-put-global {f} {c} v h =
+pub put_global : {f : Frame} {c : Cic} {room : List ℕ} (v : ℕ) → Held f c room → Held f (with_global c v) (set room 5 v)
+put_global {f} {c} v h =
     record {
       framed = h.framed;
       shaped = h.shaped;
@@ -363,8 +363,8 @@ put-global {f} {c} v h =
       words = before 5 v (omega arith) h.words;
     }
 
-pub put-allow : {f : Frame} {c : Cic} {room : List ℕ} (k v : ℕ) → k < 8 → Held f c room → Held f (withAllow c (set c.allow k v)) (set room (16 + k) v)
-put-allow {c = c} k v l h =
+pub put_allow : {f : Frame} {c : Cic} {room : List ℕ} (k v : ℕ) → k < 8 → Held f c room → Held f (with_allow c (set c.allow k v)) (set room (16 + k) v)
+put_allow {c = c} k v l h =
     record {
       framed = h.framed;
       shaped = (h.shaped.0, h.shaped.1, h.shaped.2, h.shaped.3, h.shaped.4, simp length-set h.shaped.5);
@@ -383,8 +383,8 @@ put-allow {c = c} k v l h =
       words = before (16 + k) v (omega (arith, l)) h.words;
     }
 
-pub put-lines : {f : Frame} {c : Cic} {room : List ℕ} (k v : ℕ) → k < 32 → Held f c room → Held f (withLines c (set c.lines k v)) (set room (64 + k) v)
-put-lines {c = c} k v l h =
+pub put_lines : {f : Frame} {c : Cic} {room : List ℕ} (k v : ℕ) → k < 32 → Held f c room → Held f (with_lines c (set c.lines k v)) (set room (64 + k) v)
+put_lines {c = c} k v l h =
     record {
       framed = h.framed;
       shaped = (simp length-set h.shaped.0, h.shaped.1, h.shaped.2, h.shaped.3, h.shaped.4, h.shaped.5);
@@ -403,7 +403,7 @@ put-lines {c = c} k v l h =
       words = before (64 + k) v (omega (arith, l)) h.words;
     }
 
-pub put-status : {f : Frame} {c : Cic} {room : List ℕ} (k v : ℕ) → k < 32 → Held f c room → Held f (withStatus c (set c.status k v)) (set room (96 + k) v)
+pub put-status : {f : Frame} {c : Cic} {room : List ℕ} (k v : ℕ) → k < 32 → Held f c room → Held f (with_status c (set c.status k v)) (set room (96 + k) v)
 put-status {c = c} k v l h =
     record {
       framed = h.framed;
@@ -423,8 +423,8 @@ put-status {c = c} k v l h =
       words = before (96 + k) v (omega (arith, l)) h.words;
     }
 
-pub put-enable : {f : Frame} {c : Cic} {room : List ℕ} (k v : ℕ) → k < 32 → Held f c room → Held f (withEnable c (set c.enable k v)) (set room (128 + k) v)
-put-enable {c = c} k v l h =
+pub put_enable : {f : Frame} {c : Cic} {room : List ℕ} (k v : ℕ) → k < 32 → Held f c room → Held f (with_enable c (set c.enable k v)) (set room (128 + k) v)
+put_enable {c = c} k v l h =
     record {
       framed = h.framed;
       shaped = (h.shaped.0, h.shaped.1, simp length-set h.shaped.2, h.shaped.3, h.shaped.4, h.shaped.5);
@@ -443,9 +443,9 @@ put-enable {c = c} k v l h =
       words = before (128 + k) v (omega (arith, l)) h.words;
     }
 
-pub put-host : {f : Frame} {c : Cic} {room : List ℕ} (k v : ℕ) (m : List ℕ) → k < 64 → length m ≡ 256 → ((i : ℕ) → get_or m i 0 < 256) → v ≡ mapRead 256 m k
-    → ((j : ℕ) → j < 64 → (j ≡ k → ⊥) → mapRead 256 c.host j ≡ mapRead 256 m j) → Held f c room → Held f (withHost c m) (set room (192 + k) v)
-put-host k v m l long bytes same others h =
+pub put_host : {f : Frame} {c : Cic} {room : List ℕ} (k v : ℕ) (m : List ℕ) → k < 64 → length m ≡ 256 → ((i : ℕ) → get_or m i 0 < 256) → v ≡ map_read 256 m k
+    → ((j : ℕ) → j < 64 → (j ≡ k → ⊥) → map_read 256 c.host j ≡ map_read 256 m j) → Held f c room → Held f (with_host c m) (set room (192 + k) v)
+put_host k v m l long bytes same others h =
     record {
       framed = h.framed;
       shaped = (h.shaped.0, h.shaped.1, h.shaped.2, h.shaped.3, long, h.shaped.5);
@@ -464,9 +464,9 @@ put-host k v m l long bytes same others h =
       words = before (192 + k) v (omega (arith, l)) h.words;
     }
 
-pub put-channel : {f : Frame} {c : Cic} {room : List ℕ} (k v : ℕ) (m : List ℕ) → k < 256 → length m ≡ 1024 → ((i : ℕ) → get_or m i 0 < 256) → v ≡ mapRead 1024 m k
-    → ((j : ℕ) → j < 256 → (j ≡ k → ⊥) → mapRead 1024 c.channel j ≡ mapRead 1024 m j) → Held f c room → Held f (withChannel c m) (set room (256 + k) v)
-put-channel k v m l long bytes same others h =
+pub put_channel : {f : Frame} {c : Cic} {room : List ℕ} (k v : ℕ) (m : List ℕ) → k < 256 → length m ≡ 1024 → ((i : ℕ) → get_or m i 0 < 256) → v ≡ map_read 1024 m k
+    → ((j : ℕ) → j < 256 → (j ≡ k → ⊥) → map_read 1024 c.channel j ≡ map_read 1024 m j) → Held f c room → Held f (with_channel c m) (set room (256 + k) v)
+put_channel k v m l long bytes same others h =
     record {
       framed = h.framed;
       shaped = (h.shaped.0, h.shaped.1, h.shaped.2, long, h.shaped.4, h.shaped.5);

@@ -1,7 +1,7 @@
 -- What a loop that lays out a table leaves, and a room in which nothing is kept yet: no document says this.
 use Rattle.std.specs.Prelude.{ℕ, ◌+◌, ◌<◌, ◌≤◌, List, ◌⊎◌, ◌≡◌, get_or, length}
 use Rattle.cic_record.specs.declared.Cic.{Cic}
-use Rattle.cic_room.specs.Room.{Frame, activeWord}
+use Rattle.cic_room.specs.Room.{Frame, active_word}
 use Rattle.cic_room.specs.Tables.{Table, Tables, Counted}
 
 -- n words from a place on are put anew, and no others
@@ -18,4 +18,4 @@ Blank room = Tables (λ _. 0) (λ _. 0) (λ _. 0) (λ _. 0) (λ _. 0) (λ _. 0) 
 pub record Upto (f : Frame) (c : Cic) (k : ℕ) (room : List ℕ) : Type 0 where
   pub active : List ℕ
   pub counted : Counted f c active room
-  pub words : (i : ℕ) → i < k → get_or active i 0 ≡ activeWord c i
+  pub words : (i : ℕ) → i < k → get_or active i 0 ≡ active_word c i

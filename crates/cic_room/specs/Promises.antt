@@ -1,10 +1,10 @@
 -- What is promised of the layout: a record and its frame determine every word of the room, and what the kept words tell.
 use Rattle.std.specs.Prelude.{ℕ, ◌+◌, ◌*◌, ◌<◌, true, ◌&&◌, not, List, ◌≡◌, eqb, length, get_or}
 use Rattle.words.specs.Array.{bit_at}
-use Rattle.words.specs.Counting.{anyBelow, countBelow}
+use Rattle.words.specs.Counting.{any_below, count_below}
 use Rattle.words.specs.Word.{bit}
 use Rattle.cic_record.specs.declared.Cic.{Cic}
-use Rattle.cic_record.specs.Kinds.{system, hostNumber, channelOf}
+use Rattle.cic_record.specs.Kinds.{system, host_number, channel_of}
 use Rattle.cic_record.specs.Promises.{Shaped}
 use Rattle.cic_record.specs.Sound.{sound}
 use Rattle.cic_registers.specs.Hosts.{raises, shown}
@@ -23,13 +23,13 @@ pub record Promises : Type 0 where
       → bit (get_or r (160 + k) 0) j ≡ (bit_at c.status (32 * k + j) && bit_at c.enable (32 * k + j))
   -- of a sound record word 768 + h is how many configured system interrupts raise host h (01, CIC, outputs)
   pub counts : (f : Frame) (c : Cic) (r : List ℕ) (h : ℕ) → sound c ≡ true → Laid f c r → f.kept ≡ true → h < 256
-      → get_or r (768 + h) 0 ≡ countBelow c.systems (λ s. raises c (hostNumber h) (system s))
+      → get_or r (768 + h) 0 ≡ count_below c.systems (λ s. raises c (host_number h) (system s))
   -- and bit j of word 24 + k is set exactly if there is one for host 32 k + j (01, CIC, outputs)
   pub bits : (f : Frame) (c : Cic) (r : List ℕ) (k j : ℕ) → sound c ≡ true → Laid f c r → f.kept ≡ true → k < 8 → j < 32
-      → bit (get_or r (24 + k) 0) j ≡ anyBelow c.systems (λ s. raises c (hostNumber (32 * k + j)) (system s))
+      → bit (get_or r (24 + k) 0) j ≡ any_below c.systems (λ s. raises c (host_number (32 * k + j)) (system s))
   -- word 512 + k is how many active ones channel k has, and bit j of word 32 + k tells whether channel 32 k + j has any (001, 1.3.3)
   pub channels : (f : Frame) (c : Cic) (r : List ℕ) (k : ℕ) → Laid f c r → f.kept ≡ true → k < 256
-      → get_or r (512 + k) 0 ≡ countBelow 1024 (λ s. (bit_at c.status s && bit_at c.enable s) && eqb (channelOf c (system s)).0 k)
+      → get_or r (512 + k) 0 ≡ count_below 1024 (λ s. (bit_at c.status s && bit_at c.enable s) && eqb (channel_of c (system s)).0 k)
   pub busy : (f : Frame) (c : Cic) (r : List ℕ) (k j : ℕ) → Laid f c r → f.kept ≡ true → k < 8 → j < 32
       → bit (get_or r (32 + k) 0) j ≡ not (eqb (get_or r (512 + (32 * k + j)) 0) 0)
   -- of a sound record words 7 and 8 are how many hosts are asserted and the lowest of them (01, House trace)

@@ -1,11 +1,11 @@
 // What is kept beside the record, where anything is: the active system interrupts, how many of them each channel and each host has, which channels and hosts
 // have any, and what is shown of the hosts.
 ghost use Rattle.std.specs.Prelude.{◌≡◌, true, false, not, ◌&&◌, List, ℕ, ◌+◌, ◌*◌, ◌/◌, ◌%◌, ◌<◌, ◌≤◌, eqb, get_or, set};
-ghost use Rattle.words.specs.Array.{bit_at, withBitAt, byteOf};
-ghost use Rattle.words.specs.Counting.{countBelow, lowestBelow};
-ghost use Rattle.words.specs.Word.{bit, withBit, either, without};
+ghost use Rattle.words.specs.Array.{bit_at, with_bit_at, byte_of};
+ghost use Rattle.words.specs.Counting.{count_below, lowest_below};
+ghost use Rattle.words.specs.Word.{bit, with_bit, either, without};
 ghost use Rattle.cic_record.specs.declared.Cic.{Cic};
-ghost use Rattle.cic_room.specs.Room.{Frame, permitted, reached, someWord, shownWord};
+ghost use Rattle.cic_room.specs.Room.{Frame, permitted, reached, some_word, shown_word};
 ghost use Rattle.cic_room.specs.Tables.{Held, Tables, Beside, more, Counted, Standing, Stale, Taken, Dim, Rising, Move};
 
 use super::laid::{
@@ -20,7 +20,7 @@ use rooms::Room;
 // Whether a host has any.
 fn mark_raised(room: &mut Room, h: Host, on: bool)
     requires { h.0 < 256 }
-    ensures { room.new ≡ set room.old (24 + h.0 / 32) (withBit (get_or room.old (24 + h.0 / 32) 0) (h.0 % 32) on) }
+    ensures { room.new ≡ set room.old (24 + h.0 / 32) (with_bit (get_or room.old (24 + h.0 / 32) 0) (h.0 % 32) on) }
 {
     let at = RAISED + (h.0 / 32) as usize;
     let w = words::with_bit(room[at], (h.0 % 32) as u32, on);
@@ -30,7 +30,7 @@ fn mark_raised(room: &mut Room, h: Host, on: bool)
 // Whether a channel has any.
 fn mark_busy(room: &mut Room, k: Channel, on: bool)
     requires { k.0 < 256 }
-    ensures { room.new ≡ set room.old (32 + k.0 / 32) (withBit (get_or room.old (32 + k.0 / 32) 0) (k.0 % 32) on) }
+    ensures { room.new ≡ set room.old (32 + k.0 / 32) (with_bit (get_or room.old (32 + k.0 / 32) 0) (k.0 % 32) on) }
 {
     let at = BUSY + (k.0 / 32) as usize;
     let w = words::with_bit(room[at], (k.0 % 32) as u32, on);
@@ -40,7 +40,7 @@ fn mark_busy(room: &mut Room, k: Channel, on: bool)
 // Whether a system interrupt is active.
 fn mark_active(room: &mut Room, s: System, on: bool)
     requires { s.0 < 1024 }
-    ensures { room.new ≡ set room.old (160 + s.0 / 32) (withBit (get_or room.old (160 + s.0 / 32) 0) (s.0 % 32) on) }
+    ensures { room.new ≡ set room.old (160 + s.0 / 32) (with_bit (get_or room.old (160 + s.0 / 32) 0) (s.0 % 32) on) }
 {
     let at = ACTIVE + (s.0 / 32) as usize;
     let w = words::with_bit(room[at], (s.0 % 32) as u32, on);
@@ -61,7 +61,7 @@ fn is_permitted(room: &Room, h: Host) -> bool
 // The asserted hosts of word k: permitted, and with an active system interrupt.
 fn asserted_word(room: &Room, k: u32) -> u32
     requires { k < 8 }
-    ensures { (f : Frame) (c : Cic) (n b a u x g : ℕ → ℕ) → Held f c room.now → Tables n (someWord g) b a u x room.now → (j : ℕ) → j < 32 → bit result j ≡ reached (permitted c) g (32 * k + j) }
+    ensures { (f : Frame) (c : Cic) (n b a u x g : ℕ → ℕ) → Held f c room.now → Tables n (some_word g) b a u x room.now → (j : ℕ) → j < 32 → bit result j ≡ reached (permitted c) g (32 * k + j) }
 {
     if room[GLOBAL] != 1 {
         return 0;
@@ -71,7 +71,7 @@ fn asserted_word(room: &Room, k: u32) -> u32
 
 // How many hosts are asserted.
 fn count_asserted(room: &Room) -> u32
-    ensures { (f : Frame) (c : Cic) (n b a u x g : ℕ → ℕ) → Held f c room.now → Tables n (someWord g) b a u x room.now → result ≡ countBelow 256 (reached (permitted c) g) }
+    ensures { (f : Frame) (c : Cic) (n b a u x g : ℕ → ℕ) → Held f c room.now → Tables n (some_word g) b a u x room.now → result ≡ count_below 256 (reached (permitted c) g) }
 {
     let mut sum: u32 = 0;
     let mut k: u32 = 0;
@@ -85,7 +85,7 @@ fn count_asserted(room: &Room) -> u32
 // The lowest asserted host, 256 where none is, if there is none before word `from`.
 fn lowest_from(room: &Room, from: u32) -> u32
     requires { from ≤ 8 }
-    ensures { (f : Frame) (c : Cic) (n b a u x g : ℕ → ℕ) → Held f c room.now → Tables n (someWord g) b a u x room.now → ((h : ℕ) → h < 32 * from → reached (permitted c) g h ≡ false) → result ≡ lowestBelow 256 (reached (permitted c) g) }
+    ensures { (f : Frame) (c : Cic) (n b a u x g : ℕ → ℕ) → Held f c room.now → Tables n (some_word g) b a u x room.now → ((h : ℕ) → h < 32 * from → reached (permitted c) g h ≡ false) → result ≡ lowest_below 256 (reached (permitted c) g) }
 {
     let mut k = from;
     while k < 8 {
@@ -114,7 +114,7 @@ pub fn show_anew(room: &mut Room)
 // A host that had none has one now.
 fn admit(room: &mut Room, h: Host)
     requires { h.0 < 256 }
-    ensures { (f : Frame) (c : Cic) (r b a u x g y : ℕ → ℕ) → Rising g y h.0 → Held f c room.old → Tables (shownWord (permitted c) g) r b a u x room.old → Held f c room.new × Tables (shownWord (permitted c) y) r b a u x room.new }
+    ensures { (f : Frame) (c : Cic) (r b a u x g y : ℕ → ℕ) → Rising g y h.0 → Held f c room.old → Tables (shown_word (permitted c) g) r b a u x room.old → Held f c room.new × Tables (shown_word (permitted c) y) r b a u x room.new }
 {
     if !is_permitted(room, h) {
         return;
@@ -129,7 +129,7 @@ fn admit(room: &mut Room, h: Host)
 // A host that had one has none any more.
 fn dismiss(room: &mut Room, h: Host)
     requires { h.0 < 256 }
-    ensures { (f : Frame) (c : Cic) (b a u x g y : ℕ → ℕ) → Rising y g h.0 → Held f c room.old → Tables (shownWord (permitted c) g) (someWord y) b a u x room.old → Held f c room.new × Tables (shownWord (permitted c) y) (someWord y) b a u x room.new }
+    ensures { (f : Frame) (c : Cic) (b a u x g y : ℕ → ℕ) → Rising y g h.0 → Held f c room.old → Tables (shown_word (permitted c) g) (some_word y) b a u x room.old → Held f c room.new × Tables (shown_word (permitted c) y) (some_word y) b a u x room.new }
 {
     if !is_permitted(room, h) {
         return;
@@ -181,7 +181,7 @@ fn take(room: &mut Room, h: Host, n: u32)
 // One that is not active becomes so.
 fn turn_on(room: &mut Room, s: System)
     requires { s.0 < 1024 }
-    ensures { (f : Frame) (c : Cic) (ws : List ℕ) → f.kept ≡ true → Counted f c ws room.old → bit_at ws s.0 ≡ false → Counted f c (withBitAt ws s.0 true) room.new }
+    ensures { (f : Frame) (c : Cic) (ws : List ℕ) → f.kept ≡ true → Counted f c ws room.old → bit_at ws s.0 ≡ false → Counted f c (with_bit_at ws s.0 true) room.new }
 {
     let k = channel_at(room, s);
     let h = host_at(room, k);
@@ -196,7 +196,7 @@ fn turn_on(room: &mut Room, s: System)
 // One that is active is so no longer.
 fn turn_off(room: &mut Room, s: System)
     requires { s.0 < 1024 }
-    ensures { (f : Frame) (c : Cic) (ws : List ℕ) → f.kept ≡ true → Counted f c ws room.old → bit_at ws s.0 ≡ true → Counted f c (withBitAt ws s.0 false) room.new }
+    ensures { (f : Frame) (c : Cic) (ws : List ℕ) → f.kept ≡ true → Counted f c ws room.old → bit_at ws s.0 ≡ true → Counted f c (with_bit_at ws s.0 false) room.new }
 {
     let k = channel_at(room, s);
     let h = host_at(room, k);
@@ -211,7 +211,7 @@ fn turn_off(room: &mut Room, s: System)
 // One that is not as `on` says becomes so.
 fn turn(room: &mut Room, s: System, on: bool)
     requires { s.0 < 1024 }
-    ensures { (f : Frame) (c : Cic) (ws : List ℕ) → f.kept ≡ true → Counted f c ws room.old → bit_at ws s.0 ≡ not on → Counted f c (withBitAt ws s.0 on) room.new }
+    ensures { (f : Frame) (c : Cic) (ws : List ℕ) → f.kept ≡ true → Counted f c ws room.old → bit_at ws s.0 ≡ not on → Counted f c (with_bit_at ws s.0 on) room.new }
 {
     if on {
         turn_on(room, s);

@@ -1,16 +1,16 @@
 // The CIC laid out in a room: where each number of its record stands, what each register and each line change there, and how what is kept beside the record
 // follows it. Every change leaves the frame as it is, so that a CIC with prioritised indices is changed by the same functions.
 ghost use Rattle.std.specs.Prelude.{◌≡◌, true, ◌*◌, ◌%◌, ◌<◌, ◌≤◌, set};
-ghost use Rattle.words.specs.Array.{withBitAt, rest_at, byteOf};
+ghost use Rattle.words.specs.Array.{with_bit_at, rest_at, byte_of};
 ghost use Rattle.words.specs.Word.{kept};
 ghost use Rattle.cic_record.specs.declared.Cic.{Cic};
-ghost use Rattle.cic_record.specs.Kinds.{channelOf, hostOf};
+ghost use Rattle.cic_record.specs.Kinds.{channel_of, host_of};
 ghost use Rattle.cic_record.specs.Sound.{sound};
-ghost use Rattle.cic_record.specs.Record.{withGlobal, withLines, withStatus, withEnable, withChannel, withHost, withAllow};
-ghost use Rattle.cic_registers.specs.Maps.{mapPut};
-ghost use Rattle.cic_registers.specs.Bits.{bitsSet, bitsCleared, wordReplaced};
+ghost use Rattle.cic_record.specs.Record.{with_global, with_lines, with_status, with_enable, with_channel, with_host, with_allow};
+ghost use Rattle.cic_registers.specs.Maps.{map_put};
+ghost use Rattle.cic_registers.specs.Bits.{bits_set, bits_cleared, word_replaced};
 ghost use Rattle.cic_registers.specs.Model.{moved};
-ghost use Rattle.cic_room.specs.Room.{Frame, Laid, activeWord};
+ghost use Rattle.cic_room.specs.Room.{Frame, Laid, active_word};
 ghost use Rattle.cic_room.specs.Tables.{Held};
 
 use cic_record::{Channel, Host, System};
@@ -80,7 +80,7 @@ pub const WORDS: usize = 1280;
 // Byte j of a word, the lowest being byte 0.
 pub(crate) fn byte_of(w: u32, j: u32) -> u16
     requires { j < 4 }
-    ensures { (result ≡ byteOf w j) × (result < 256) }
+    ensures { (result ≡ byte_of w j) × (result < 256) }
 {
     ((w >> (8 * j)) % 256) as u16
 }
@@ -88,7 +88,7 @@ pub(crate) fn byte_of(w: u32, j: u32) -> u16
 // The channel of a system interrupt.
 pub(crate) fn channel_at(room: &Room, s: System) -> Channel
     requires { s.0 < 1024 }
-    ensures { ((f : Frame) (c : Cic) → Held f c room.now → result ≡ channelOf c s) × (result.0 < 256) }
+    ensures { ((f : Frame) (c : Cic) → Held f c room.now → result ≡ channel_of c s) × (result.0 < 256) }
 {
     let n = s.0 as u32;
     Channel(byte_of(room[CHANNEL_MAP + (n / 4) as usize], n % 4))
@@ -97,7 +97,7 @@ pub(crate) fn channel_at(room: &Room, s: System) -> Channel
 // The host of a channel.
 pub(crate) fn host_at(room: &Room, k: Channel) -> Host
     requires { k.0 < 256 }
-    ensures { ((f : Frame) (c : Cic) → Held f c room.now → result ≡ hostOf c k) × (result.0 < 256) }
+    ensures { ((f : Frame) (c : Cic) → Held f c room.now → result ≡ host_of c k) × (result.0 < 256) }
 {
     let n = k.0 as u32;
     Host(byte_of(room[HOST_MAP + (n / 4) as usize], n % 4))
@@ -106,7 +106,7 @@ pub(crate) fn host_at(room: &Room, k: Channel) -> Host
 // The active system interrupts of word k, kept or not.
 pub(crate) fn active_word(room: &Room, k: u32) -> u32
     requires { k < 32 }
-    ensures { (f : Frame) (c : Cic) → Laid f c room.now → result ≡ activeWord c k }
+    ensures { (f : Frame) (c : Cic) → Laid f c room.now → result ≡ active_word c k }
 {
     words::meet(room[STATUS + k as usize], room[ENABLE + k as usize])
 }
@@ -127,7 +127,7 @@ fn rest_at(n: u32, k: u32) -> u32
 // Word k of the status bits.
 fn store_status(room: &mut Room, k: u32, w: u32)
     requires { k < 32 }
-    ensures { (f : Frame) (c : Cic) → Laid f c room.old → Laid f (withStatus c (set c.status k w)) room.new }
+    ensures { (f : Frame) (c : Cic) → Laid f c room.old → Laid f (with_status c (set c.status k w)) room.new }
 {
     room[STATUS + k as usize] = w;
     super::counts::renew_word(room, k);
@@ -136,7 +136,7 @@ fn store_status(room: &mut Room, k: u32, w: u32)
 // Word k of the enable bits.
 fn store_enable(room: &mut Room, k: u32, w: u32)
     requires { k < 32 }
-    ensures { (f : Frame) (c : Cic) → Laid f c room.old → Laid f (withEnable c (set c.enable k w)) room.new }
+    ensures { (f : Frame) (c : Cic) → Laid f c room.old → Laid f (with_enable c (set c.enable k w)) room.new }
 {
     room[ENABLE + k as usize] = w;
     super::counts::renew_word(room, k);
@@ -145,7 +145,7 @@ fn store_enable(room: &mut Room, k: u32, w: u32)
 // The status of a system interrupt is set or cleared.
 pub(crate) fn mark_status(room: &mut Room, s: System, on: bool)
     requires { s.0 < 1024 }
-    ensures { (f : Frame) (c : Cic) → Laid f c room.old → Laid f (withStatus c (withBitAt c.status s.0 on)) room.new }
+    ensures { (f : Frame) (c : Cic) → Laid f c room.old → Laid f (with_status c (with_bit_at c.status s.0 on)) room.new }
 {
     let n = s.0 as u32;
     let w = words::with_bit(room[STATUS + (n / 32) as usize], n % 32, on);
@@ -155,7 +155,7 @@ pub(crate) fn mark_status(room: &mut Room, s: System, on: bool)
 // A system interrupt is enabled or disabled.
 pub(crate) fn mark_enable(room: &mut Room, s: System, on: bool)
     requires { s.0 < 1024 }
-    ensures { (f : Frame) (c : Cic) → Laid f c room.old → Laid f (withEnable c (withBitAt c.enable s.0 on)) room.new }
+    ensures { (f : Frame) (c : Cic) → Laid f c room.old → Laid f (with_enable c (with_bit_at c.enable s.0 on)) room.new }
 {
     let n = s.0 as u32;
     let w = words::with_bit(room[ENABLE + (n / 32) as usize], n % 32, on);
@@ -165,7 +165,7 @@ pub(crate) fn mark_enable(room: &mut Room, s: System, on: bool)
 // Each 1 of v sets its bit of word k of the status.
 pub(crate) fn set_status(room: &mut Room, k: u32, v: u32)
     requires { k < 32 }
-    ensures { (f : Frame) (c : Cic) → Laid f c room.old → Laid f (withStatus c (bitsSet c.systems c.status k v)) room.new }
+    ensures { (f : Frame) (c : Cic) → Laid f c room.old → Laid f (with_status c (bits_set c.systems c.status k v)) room.new }
 {
     let new = words::keep(rest_at(room[SYSTEMS], k), v);
     let w = words::join(room[STATUS + k as usize], new);
@@ -175,7 +175,7 @@ pub(crate) fn set_status(room: &mut Room, k: u32, v: u32)
 // Each 1 of v clears it.
 pub(crate) fn clear_status(room: &mut Room, k: u32, v: u32)
     requires { k < 32 }
-    ensures { (f : Frame) (c : Cic) → Laid f c room.old → Laid f (withStatus c (bitsCleared c.status k v)) room.new }
+    ensures { (f : Frame) (c : Cic) → Laid f c room.old → Laid f (with_status c (bits_cleared c.status k v)) room.new }
 {
     let w = words::drop_bits(room[STATUS + k as usize], v);
     store_status(room, k, w);
@@ -184,7 +184,7 @@ pub(crate) fn clear_status(room: &mut Room, k: u32, v: u32)
 // Each 1 of v sets its bit of word k of the enables.
 pub(crate) fn set_enable(room: &mut Room, k: u32, v: u32)
     requires { k < 32 }
-    ensures { (f : Frame) (c : Cic) → Laid f c room.old → Laid f (withEnable c (bitsSet c.systems c.enable k v)) room.new }
+    ensures { (f : Frame) (c : Cic) → Laid f c room.old → Laid f (with_enable c (bits_set c.systems c.enable k v)) room.new }
 {
     let new = words::keep(rest_at(room[SYSTEMS], k), v);
     let w = words::join(room[ENABLE + k as usize], new);
@@ -194,7 +194,7 @@ pub(crate) fn set_enable(room: &mut Room, k: u32, v: u32)
 // Each 1 of v clears it.
 pub(crate) fn clear_enable(room: &mut Room, k: u32, v: u32)
     requires { k < 32 }
-    ensures { (f : Frame) (c : Cic) → Laid f c room.old → Laid f (withEnable c (bitsCleared c.enable k v)) room.new }
+    ensures { (f : Frame) (c : Cic) → Laid f c room.old → Laid f (with_enable c (bits_cleared c.enable k v)) room.new }
 {
     let w = words::drop_bits(room[ENABLE + k as usize], v);
     store_enable(room, k, w);
@@ -205,7 +205,7 @@ pub(crate) fn clear_enable(room: &mut Room, k: u32, v: u32)
 // The level of a line.
 fn put_line(room: &mut Room, s: System, high: bool)
     requires { s.0 < 1024 }
-    ensures { (f : Frame) (c : Cic) → Laid f c room.old → Laid f (withLines c (withBitAt c.lines s.0 high)) room.new }
+    ensures { (f : Frame) (c : Cic) → Laid f c room.old → Laid f (with_lines c (with_bit_at c.lines s.0 high)) room.new }
 {
     let n = s.0 as u32;
     let w = words::with_bit(room[LINES + (n / 32) as usize], n % 32, high);
@@ -227,7 +227,7 @@ pub(crate) fn move_line(room: &mut Room, s: System, high: bool)
 
 // Global enable.
 pub fn set_global(room: &mut Room, v: u32)
-    ensures { (f : Frame) (c : Cic) → Laid f c room.old → Laid f (withGlobal c (v % 2)) room.new }
+    ensures { (f : Frame) (c : Cic) → Laid f c room.old → Laid f (with_global c (v % 2)) room.new }
 {
     room[GLOBAL] = v % 2;
     super::counts::show_anew(room);
@@ -236,7 +236,7 @@ pub fn set_global(room: &mut Room, v: u32)
 // Word k of the host enables.
 fn store_allow(room: &mut Room, k: u32, w: u32)
     requires { k < 8 }
-    ensures { (f : Frame) (c : Cic) → Laid f c room.old → Laid f (withAllow c (set c.allow k w)) room.new }
+    ensures { (f : Frame) (c : Cic) → Laid f c room.old → Laid f (with_allow c (set c.allow k w)) room.new }
 {
     room[ALLOW + k as usize] = w;
     super::counts::show_anew(room);
@@ -245,7 +245,7 @@ fn store_allow(room: &mut Room, k: u32, w: u32)
 // A host is enabled or disabled.
 pub(crate) fn mark_host(room: &mut Room, h: Host, on: bool)
     requires { h.0 < 256 }
-    ensures { (f : Frame) (c : Cic) → Laid f c room.old → Laid f (withAllow c (withBitAt c.allow h.0 on)) room.new }
+    ensures { (f : Frame) (c : Cic) → Laid f c room.old → Laid f (with_allow c (with_bit_at c.allow h.0 on)) room.new }
 {
     let n = h.0 as u32;
     let w = words::with_bit(room[ALLOW + (n / 32) as usize], n % 32, on);
@@ -255,7 +255,7 @@ pub(crate) fn mark_host(room: &mut Room, h: Host, on: bool)
 // Word k of the host enables is replaced.
 pub(crate) fn replace_hosts(room: &mut Room, k: u32, v: u32)
     requires { k < 8 }
-    ensures { (f : Frame) (c : Cic) → Laid f c room.old → Laid f (withAllow c (wordReplaced c.hosts c.allow k v)) room.new }
+    ensures { (f : Frame) (c : Cic) → Laid f c room.old → Laid f (with_allow c (word_replaced c.hosts c.allow k v)) room.new }
 {
     let w = words::keep(rest_at(room[HOSTS], k), v);
     store_allow(room, k, w);
@@ -276,7 +276,7 @@ fn existing(rest: u32, v: u32) -> u32
 // The channels of four system interrupts, of a register that is there.
 pub(crate) fn write_channels(room: &mut Room, k: u32, v: u32)
     requires { k < 256 }
-    ensures { (f : Frame) (c : Cic) → sound c ≡ true → 4 * k < c.systems → Laid f c room.old → Laid f (withChannel c (mapPut c.systems k v c.channel)) room.new }
+    ensures { (f : Frame) (c : Cic) → sound c ≡ true → 4 * k < c.systems → Laid f c room.old → Laid f (with_channel c (map_put c.systems k v c.channel)) room.new }
 {
     let n = room[SYSTEMS];
     if n <= 4 * k {
@@ -295,7 +295,7 @@ pub(crate) fn write_channels(room: &mut Room, k: u32, v: u32)
 // The hosts of four channels, of a register that is there. Nothing is counted anew.
 pub(crate) fn write_hosts(room: &mut Room, k: u32, v: u32)
     requires { k < 64 }
-    ensures { (f : Frame) (c : Cic) → sound c ≡ true → 4 * k < c.channels → Laid f c room.old → Laid f (withHost c (mapPut c.channels k v c.host)) room.new }
+    ensures { (f : Frame) (c : Cic) → sound c ≡ true → 4 * k < c.channels → Laid f c room.old → Laid f (with_host c (map_put c.channels k v c.host)) room.new }
 {
     let n = room[CHANNELS];
     if n <= 4 * k {

@@ -3,7 +3,7 @@ ghost use Rattle.std.specs.Prelude.{◌≡◌, true, ℕ};
 ghost use Rattle.cic_record.specs.declared.Cic.{Cic};
 ghost use Rattle.cic_record.specs.Sound.{sound};
 ghost use Rattle.cic_registers.specs.Hosts.{outputs};
-ghost use Rattle.cic_registers.specs.Model.{readAs, writeAs, lineAs, stepAs};
+ghost use Rattle.cic_registers.specs.Model.{read_as, write_as, line_as, step_as};
 ghost use Rattle.rooms.specs.Reply.{told};
 ghost use Rattle.trace.specs.Turns.{step_of};
 ghost use Rattle.cic_room.specs.Room.{Frame, Laid};
@@ -21,7 +21,7 @@ use rooms::Room;
 
 // A read of the register at an offset. Nothing changes.
 pub fn read(room: &Room, offset: u32) -> u64
-    ensures { (f : Frame) (c : Cic) → sound c ≡ true → Laid f c room.now → Done f (readAs true c offset) room.now (told result) }
+    ensures { (f : Frame) (c : Cic) → sound c ≡ true → Laid f c room.now → Done f (read_as true c offset) room.now (told result) }
 {
     if offset % 4 != 0 {
         return rooms::refuse(steps::MISALIGNED);
@@ -31,7 +31,7 @@ pub fn read(room: &Room, offset: u32) -> u64
 
 // A write of the register at an offset.
 pub fn write(room: &mut Room, offset: u32, value: u32) -> u64
-    ensures { (f : Frame) (c : Cic) → sound c ≡ true → Laid f c room.old → Done f (writeAs true c offset value) room.new (told result) }
+    ensures { (f : Frame) (c : Cic) → sound c ≡ true → Laid f c room.old → Done f (write_as true c offset value) room.new (told result) }
 {
     if offset % 4 != 0 {
         return rooms::refuse(steps::MISALIGNED);
@@ -41,7 +41,7 @@ pub fn write(room: &mut Room, offset: u32, value: u32) -> u64
 
 // A line that goes to a level.
 pub fn line(room: &mut Room, number: u32, level: u32) -> u64
-    ensures { (f : Frame) (c : Cic) → sound c ≡ true → Laid f c room.old → Done f (lineAs true c number level) room.new (told result) }
+    ensures { (f : Frame) (c : Cic) → sound c ≡ true → Laid f c room.old → Done f (line_as true c number level) room.new (told result) }
 {
     if ((room[SYSTEMS] <= number) | (1024 <= number)) | (1 < level) {
         return rooms::refuse(steps::BEYOND);
@@ -52,7 +52,7 @@ pub fn line(room: &mut Room, number: u32, level: u32) -> u64
 
 // The step of a kind with its numbers.
 pub fn step(room: &mut Room, kind: u32, x: u32, y: u32) -> u64
-    ensures { (f : Frame) (c : Cic) → sound c ≡ true → Laid f c room.old → Done f (stepAs true c (step_of kind x y)) room.new (told result) }
+    ensures { (f : Frame) (c : Cic) → sound c ≡ true → Laid f c room.old → Done f (step_as true c (step_of kind x y)) room.new (told result) }
 {
     if kind == trace::READ {
         return read(room, x);

@@ -3,13 +3,13 @@ ghost use Rattle.std.specs.Prelude.{◌≡◌, true, ℕ, ◌%◌, ◌<◌, ◌�
 ghost use Rattle.words.specs.Choice.{pick};
 ghost use Rattle.steps.specs.Refusals.{absent};
 ghost use Rattle.cic_record.specs.declared.Cic.{Cic};
-ghost use Rattle.cic_record.specs.Parts.{answeredReply, refusedReply};
+ghost use Rattle.cic_record.specs.Parts.{answered_reply, refused_reply};
 ghost use Rattle.cic_record.specs.Sound.{sound};
-ghost use Rattle.cic_registers.specs.Map.{registerAt};
-ghost use Rattle.cic_registers.specs.Access.{readIn};
+ghost use Rattle.cic_registers.specs.Map.{register_at};
+ghost use Rattle.cic_registers.specs.Access.{read_in};
 ghost use Rattle.rooms.specs.Reply.{told};
 ghost use Rattle.cic_room.specs.Room.{Frame, Laid};
-ghost use Rattle.cic_room.specs.Reply.{readReply};
+ghost use Rattle.cic_room.specs.Reply.{read_reply};
 
 use super::laid::{
     ALLOW, CHANNEL_MAP, CHANNELS, ENABLE, GLOBAL, HOST_MAP, HOSTS, REVISION, STATUS, SYSTEMS,
@@ -18,7 +18,7 @@ use rooms::Room;
 
 // The word w of a register that exists if `first` is one of n things.
 fn if_any(first: u32, n: u32, w: u32) -> u64
-    ensures { told result ≡ readReply (pick (ltb first n) (answeredReply w) (refusedReply absent)) }
+    ensures { told result ≡ read_reply (pick (ltb first n) (answered_reply w) (refused_reply absent)) }
 {
     if first < n {
         return rooms::answer(w);
@@ -29,7 +29,7 @@ fn if_any(first: u32, n: u32, w: u32) -> u64
 // The single registers.
 fn read_single(room: &Room, offset: u32) -> u64
     requires { offset < 0x200 }
-    ensures { (f : Frame) (c : Cic) → sound c ≡ true → Laid f c room.now → told result ≡ readReply (readIn c (registerAt offset)) }
+    ensures { (f : Frame) (c : Cic) → sound c ≡ true → Laid f c room.now → told result ≡ read_reply (read_in c (register_at offset)) }
 {
     match offset {
         0x000 => rooms::answer(room[REVISION]),
@@ -47,7 +47,7 @@ fn read_single(room: &Room, offset: u32) -> u64
 // The status, the status of those that are enabled, and the enables, which are read in two groups.
 fn read_bits(room: &Room, offset: u32) -> u64
     requires { (0x200 ≤ offset) × ((offset < 0x400) × (offset % 4 ≡ 0)) }
-    ensures { (f : Frame) (c : Cic) → sound c ≡ true → Laid f c room.now → told result ≡ readReply (readIn c (registerAt offset)) }
+    ensures { (f : Frame) (c : Cic) → sound c ≡ true → Laid f c room.now → told result ≡ read_reply (read_in c (register_at offset)) }
 {
     let k = offset / 4 % 32;
     let n = room[SYSTEMS];
@@ -61,7 +61,7 @@ fn read_bits(room: &Room, offset: u32) -> u64
 // The channel map and the host map.
 fn read_map(room: &Room, offset: u32) -> u64
     requires { (0x400 ≤ offset) × ((offset < 0x900) × (offset % 4 ≡ 0)) }
-    ensures { (f : Frame) (c : Cic) → sound c ≡ true → Laid f c room.now → told result ≡ readReply (readIn c (registerAt offset)) }
+    ensures { (f : Frame) (c : Cic) → sound c ≡ true → Laid f c room.now → told result ≡ read_reply (read_in c (register_at offset)) }
 {
     if offset < 0x800 {
         let k = (offset - 0x400) / 4;
@@ -74,7 +74,7 @@ fn read_map(room: &Room, offset: u32) -> u64
 // The host enables; there is no register between them and the maps, nor after them.
 fn read_high(room: &Room, offset: u32) -> u64
     requires { (0x900 ≤ offset) × (offset % 4 ≡ 0) }
-    ensures { (f : Frame) (c : Cic) → sound c ≡ true → Laid f c room.now → told result ≡ readReply (readIn c (registerAt offset)) }
+    ensures { (f : Frame) (c : Cic) → sound c ≡ true → Laid f c room.now → told result ≡ read_reply (read_in c (register_at offset)) }
 {
     if (offset < 0x1500) | (0x1520 <= offset) {
         return rooms::refuse(steps::ABSENT);
@@ -85,7 +85,7 @@ fn read_high(room: &Room, offset: u32) -> u64
 
 pub(crate) fn read_at(room: &Room, offset: u32) -> u64
     requires { offset % 4 ≡ 0 }
-    ensures { (f : Frame) (c : Cic) → sound c ≡ true → Laid f c room.now → told result ≡ readReply (readIn c (registerAt offset)) }
+    ensures { (f : Frame) (c : Cic) → sound c ≡ true → Laid f c room.now → told result ≡ read_reply (read_in c (register_at offset)) }
 {
     if offset < 0x200 {
         return read_single(room, offset);

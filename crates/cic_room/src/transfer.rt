@@ -2,7 +2,7 @@
 ghost use Rattle.std.specs.Prelude.{◌≡◌, true, List, ℕ, ◌+◌, ◌*◌, ◌<◌, ◌≤◌, length, get_or};
 ghost use Rattle.cic_record.specs.declared.Cic.{Cic};
 ghost use Rattle.cic_record.specs.Sound.{sound};
-ghost use Rattle.cic_registers.specs.Maps.{mapRead};
+ghost use Rattle.cic_registers.specs.Maps.{map_read};
 ghost use Rattle.cic_room.specs.Room.{Frame, plain, Laid};
 ghost use Rattle.cic_room.specs.Tables.{Held, Counted, Standing};
 ghost use Rattle.cic_room.specs.Copies.{Copied, Blank};
@@ -68,7 +68,7 @@ fn word_of(p: u32, q: u32, r: u32, s: u32) -> u32
 // Word k of the host map.
 fn host_word(m: &[u8; 256], k: usize) -> u32
     requires { k < 64 }
-    ensures { result ≡ mapRead 256 m.now k }
+    ensures { result ≡ map_read 256 m.now k }
 {
     let p = wide(m[4 * k]);
     let q = wide(m[4 * k + 1]);
@@ -79,7 +79,7 @@ fn host_word(m: &[u8; 256], k: usize) -> u32
 
 // The host map, four bytes to a word.
 fn copy_host<'a>(room: &'a mut Room, m: &'a [u8; 256])
-    ensures { length room.old ≡ 2048 → Copied 192 64 (mapRead 256 m.now) room.old room.new }
+    ensures { length room.old ≡ 2048 → Copied 192 64 (map_read 256 m.now) room.old room.new }
 {
     let mut k: usize = 0;
     while k < 64 {
@@ -92,7 +92,7 @@ fn copy_host<'a>(room: &'a mut Room, m: &'a [u8; 256])
 // Word k of the channel map.
 fn channel_word(m: &[u8; 1024], k: usize) -> u32
     requires { k < 256 }
-    ensures { result ≡ mapRead 1024 m.now k }
+    ensures { result ≡ map_read 1024 m.now k }
 {
     let p = wide(m[4 * k]);
     let q = wide(m[4 * k + 1]);
@@ -103,7 +103,7 @@ fn channel_word(m: &[u8; 1024], k: usize) -> u32
 
 // The channel map, four bytes to a word.
 fn copy_channel<'a>(room: &'a mut Room, m: &'a [u8; 1024])
-    ensures { length room.old ≡ 2048 → Copied 256 256 (mapRead 1024 m.now) room.old room.new }
+    ensures { length room.old ≡ 2048 → Copied 256 256 (map_read 1024 m.now) room.old room.new }
 {
     let mut k: usize = 0;
     while k < 256 {

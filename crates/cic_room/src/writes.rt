@@ -1,14 +1,14 @@
 // A write of a register at an offset that is a multiple of 4.
 ghost use Rattle.std.specs.Prelude.{◌≡◌, true, ℕ, ◌%◌, ◌<◌, ◌≤◌, ltb};
-ghost use Rattle.words.specs.Array.{withBitAt};
+ghost use Rattle.words.specs.Array.{with_bit_at};
 ghost use Rattle.cic_record.specs.declared.Cic.{Cic};
 ghost use Rattle.cic_record.specs.Parts.{size_of};
-ghost use Rattle.cic_record.specs.Record.{withStatus, withEnable, withAllow};
+ghost use Rattle.cic_record.specs.Record.{with_status, with_enable, with_allow};
 ghost use Rattle.cic_record.specs.Sound.{sound};
 ghost use Rattle.cic_registers.specs.declared.layout.Register.TheVariants.{GlobalEnable, RawSet, EnabledClear, EnableSet, EnableClear, ChannelMap, HostMap, HostEnable};
-ghost use Rattle.cic_registers.specs.Map.{registerAt};
+ghost use Rattle.cic_registers.specs.Map.{register_at};
 ghost use Rattle.cic_registers.specs.Registers.{unless};
-ghost use Rattle.cic_registers.specs.Access.{answerBy, writeIn};
+ghost use Rattle.cic_registers.specs.Access.{answer_by, write_in};
 ghost use Rattle.rooms.specs.Reply.{told};
 ghost use Rattle.cic_room.specs.Room.{Frame, Laid};
 ghost use Rattle.cic_room.specs.Reply.{Done};
@@ -21,7 +21,7 @@ use rooms::Room;
 
 // An index that sets or clears the status of its system interrupt.
 fn index_status(room: &mut Room, v: u32, on: bool) -> u64
-    ensures { (f : Frame) (c : Cic) → sound c ≡ true → Laid f c room.old → Done f (answerBy c (unless (ltb v c.systems)) (withStatus c (withBitAt c.status v on))) room.new (told result) }
+    ensures { (f : Frame) (c : Cic) → sound c ≡ true → Laid f c room.old → Done f (answer_by c (unless (ltb v c.systems)) (with_status c (with_bit_at c.status v on))) room.new (told result) }
 {
     if (room[SYSTEMS] <= v) | (1024 <= v) {
         return rooms::refuse(steps::BEYOND);
@@ -32,7 +32,7 @@ fn index_status(room: &mut Room, v: u32, on: bool) -> u64
 
 // An index that sets or clears the enable of its system interrupt.
 fn index_enable(room: &mut Room, v: u32, on: bool) -> u64
-    ensures { (f : Frame) (c : Cic) → sound c ≡ true → Laid f c room.old → Done f (answerBy c (unless (ltb v c.systems)) (withEnable c (withBitAt c.enable v on))) room.new (told result) }
+    ensures { (f : Frame) (c : Cic) → sound c ≡ true → Laid f c room.old → Done f (answer_by c (unless (ltb v c.systems)) (with_enable c (with_bit_at c.enable v on))) room.new (told result) }
 {
     if (room[SYSTEMS] <= v) | (1024 <= v) {
         return rooms::refuse(steps::BEYOND);
@@ -43,7 +43,7 @@ fn index_enable(room: &mut Room, v: u32, on: bool) -> u64
 
 // An index that sets or clears the enable of its host.
 fn index_host(room: &mut Room, v: u32, on: bool) -> u64
-    ensures { (f : Frame) (c : Cic) → sound c ≡ true → Laid f c room.old → Done f (answerBy c (unless (ltb v c.hosts)) (withAllow c (withBitAt c.allow v on))) room.new (told result) }
+    ensures { (f : Frame) (c : Cic) → sound c ≡ true → Laid f c room.old → Done f (answer_by c (unless (ltb v c.hosts)) (with_allow c (with_bit_at c.allow v on))) room.new (told result) }
 {
     if (room[HOSTS] <= v) | (256 <= v) {
         return rooms::refuse(steps::BEYOND);
@@ -57,7 +57,7 @@ fn index_host(room: &mut Room, v: u32, on: bool) -> u64
 // Each 1 sets the status of its system interrupt.
 fn set_status(room: &mut Room, k: u32, v: u32) -> u64
     requires { k < 32 }
-    ensures { (f : Frame) (c : Cic) → sound c ≡ true → Laid f c room.old → Done f (writeIn c (RawSet k) v) room.new (told result) }
+    ensures { (f : Frame) (c : Cic) → sound c ≡ true → Laid f c room.old → Done f (write_in c (RawSet k) v) room.new (told result) }
 {
     if room[SYSTEMS] <= 32 * k {
         return rooms::refuse(steps::ABSENT);
@@ -69,7 +69,7 @@ fn set_status(room: &mut Room, k: u32, v: u32) -> u64
 // Each 1 clears it.
 fn clear_status(room: &mut Room, k: u32, v: u32) -> u64
     requires { k < 32 }
-    ensures { (f : Frame) (c : Cic) → sound c ≡ true → Laid f c room.old → Done f (writeIn c (EnabledClear k) v) room.new (told result) }
+    ensures { (f : Frame) (c : Cic) → sound c ≡ true → Laid f c room.old → Done f (write_in c (EnabledClear k) v) room.new (told result) }
 {
     if room[SYSTEMS] <= 32 * k {
         return rooms::refuse(steps::ABSENT);
@@ -81,7 +81,7 @@ fn clear_status(room: &mut Room, k: u32, v: u32) -> u64
 // Each 1 enables its system interrupt.
 fn set_enable(room: &mut Room, k: u32, v: u32) -> u64
     requires { k < 32 }
-    ensures { (f : Frame) (c : Cic) → sound c ≡ true → Laid f c room.old → Done f (writeIn c (EnableSet k) v) room.new (told result) }
+    ensures { (f : Frame) (c : Cic) → sound c ≡ true → Laid f c room.old → Done f (write_in c (EnableSet k) v) room.new (told result) }
 {
     if room[SYSTEMS] <= 32 * k {
         return rooms::refuse(steps::ABSENT);
@@ -93,7 +93,7 @@ fn set_enable(room: &mut Room, k: u32, v: u32) -> u64
 // Each 1 disables it.
 fn clear_enable(room: &mut Room, k: u32, v: u32) -> u64
     requires { k < 32 }
-    ensures { (f : Frame) (c : Cic) → sound c ≡ true → Laid f c room.old → Done f (writeIn c (EnableClear k) v) room.new (told result) }
+    ensures { (f : Frame) (c : Cic) → sound c ≡ true → Laid f c room.old → Done f (write_in c (EnableClear k) v) room.new (told result) }
 {
     if room[SYSTEMS] <= 32 * k {
         return rooms::refuse(steps::ABSENT);
@@ -105,7 +105,7 @@ fn clear_enable(room: &mut Room, k: u32, v: u32) -> u64
 // The enables of 32 hosts are replaced.
 fn replace_hosts(room: &mut Room, k: u32, v: u32) -> u64
     requires { k < 8 }
-    ensures { (f : Frame) (c : Cic) → sound c ≡ true → Laid f c room.old → Done f (writeIn c (HostEnable k) v) room.new (told result) }
+    ensures { (f : Frame) (c : Cic) → sound c ≡ true → Laid f c room.old → Done f (write_in c (HostEnable k) v) room.new (told result) }
 {
     if room[HOSTS] <= 32 * k {
         return rooms::refuse(steps::ABSENT);
@@ -129,7 +129,7 @@ fn size_of(room: &Room) -> Size
 // Register k of the channel map: one byte that is beyond its limit refuses all of it.
 fn write_channels(room: &mut Room, k: u32, v: u32) -> u64
     requires { k < 256 }
-    ensures { (f : Frame) (c : Cic) → sound c ≡ true → Laid f c room.old → Done f (writeIn c (ChannelMap k) v) room.new (told result) }
+    ensures { (f : Frame) (c : Cic) → sound c ≡ true → Laid f c room.old → Done f (write_in c (ChannelMap k) v) room.new (told result) }
 {
     if room[SYSTEMS] <= 4 * k {
         return rooms::refuse(steps::ABSENT);
@@ -145,7 +145,7 @@ fn write_channels(room: &mut Room, k: u32, v: u32) -> u64
 // Register k of the host map: one byte that is beyond its limit refuses all of it.
 fn write_hosts(room: &mut Room, k: u32, v: u32) -> u64
     requires { k < 64 }
-    ensures { (f : Frame) (c : Cic) → sound c ≡ true → Laid f c room.old → Done f (writeIn c (HostMap k) v) room.new (told result) }
+    ensures { (f : Frame) (c : Cic) → sound c ≡ true → Laid f c room.old → Done f (write_in c (HostMap k) v) room.new (told result) }
 {
     if room[CHANNELS] <= 4 * k {
         return rooms::refuse(steps::ABSENT);
@@ -162,7 +162,7 @@ fn write_hosts(room: &mut Room, k: u32, v: u32) -> u64
 
 // Global enable.
 fn write_global(room: &mut Room, v: u32) -> u64
-    ensures { (f : Frame) (c : Cic) → sound c ≡ true → Laid f c room.old → Done f (writeIn c (GlobalEnable) v) room.new (told result) }
+    ensures { (f : Frame) (c : Cic) → sound c ≡ true → Laid f c room.old → Done f (write_in c (GlobalEnable) v) room.new (told result) }
 {
     super::laid::set_global(room, v);
     rooms::answer(0)
@@ -171,7 +171,7 @@ fn write_global(room: &mut Room, v: u32) -> u64
 // The single registers.
 fn write_single(room: &mut Room, offset: u32, v: u32) -> u64
     requires { offset < 0x200 }
-    ensures { (f : Frame) (c : Cic) → sound c ≡ true → Laid f c room.old → Done f (writeIn c (registerAt offset) v) room.new (told result) }
+    ensures { (f : Frame) (c : Cic) → sound c ≡ true → Laid f c room.old → Done f (write_in c (register_at offset) v) room.new (told result) }
 {
     match offset {
         0x000 => rooms::refuse(steps::UNWRITABLE),
@@ -189,7 +189,7 @@ fn write_single(room: &mut Room, offset: u32, v: u32) -> u64
 // The groups of status and enable bits.
 fn write_bits(room: &mut Room, offset: u32, v: u32) -> u64
     requires { (0x200 ≤ offset) × ((offset < 0x400) × (offset % 4 ≡ 0)) }
-    ensures { (f : Frame) (c : Cic) → sound c ≡ true → Laid f c room.old → Done f (writeIn c (registerAt offset) v) room.new (told result) }
+    ensures { (f : Frame) (c : Cic) → sound c ≡ true → Laid f c room.old → Done f (write_in c (register_at offset) v) room.new (told result) }
 {
     let k = offset / 4 % 32;
     match offset / 128 {
@@ -203,7 +203,7 @@ fn write_bits(room: &mut Room, offset: u32, v: u32) -> u64
 // The channel map and the host map.
 fn write_map(room: &mut Room, offset: u32, v: u32) -> u64
     requires { (0x400 ≤ offset) × ((offset < 0x900) × (offset % 4 ≡ 0)) }
-    ensures { (f : Frame) (c : Cic) → sound c ≡ true → Laid f c room.old → Done f (writeIn c (registerAt offset) v) room.new (told result) }
+    ensures { (f : Frame) (c : Cic) → sound c ≡ true → Laid f c room.old → Done f (write_in c (register_at offset) v) room.new (told result) }
 {
     if offset < 0x800 {
         return write_channels(room, (offset - 0x400) / 4, v);
@@ -214,7 +214,7 @@ fn write_map(room: &mut Room, offset: u32, v: u32) -> u64
 // The host enables; there is no register between them and the maps, nor after them.
 fn write_high(room: &mut Room, offset: u32, v: u32) -> u64
     requires { (0x900 ≤ offset) × (offset % 4 ≡ 0) }
-    ensures { (f : Frame) (c : Cic) → sound c ≡ true → Laid f c room.old → Done f (writeIn c (registerAt offset) v) room.new (told result) }
+    ensures { (f : Frame) (c : Cic) → sound c ≡ true → Laid f c room.old → Done f (write_in c (register_at offset) v) room.new (told result) }
 {
     if (offset < 0x1500) | (0x1520 <= offset) {
         return rooms::refuse(steps::ABSENT);
@@ -224,7 +224,7 @@ fn write_high(room: &mut Room, offset: u32, v: u32) -> u64
 
 pub(crate) fn write_at(room: &mut Room, offset: u32, v: u32) -> u64
     requires { offset % 4 ≡ 0 }
-    ensures { (f : Frame) (c : Cic) → sound c ≡ true → Laid f c room.old → Done f (writeIn c (registerAt offset) v) room.new (told result) }
+    ensures { (f : Frame) (c : Cic) → sound c ≡ true → Laid f c room.old → Done f (write_in c (register_at offset) v) room.new (told result) }
 {
     if offset < 0x200 {
         return write_single(room, offset, v);

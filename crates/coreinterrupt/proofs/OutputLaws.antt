@@ -7,14 +7,14 @@ use native.Mathlib.Omega.{arith}
 use Rattle.words.proofs.ChoiceLaws.{pick_true, pick-false}
 use Rattle.words.proofs.TruthLaws.{told}
 use Rattle.coreinterrupt.specs.declared.Core.{Core}
-use Rattle.coreinterrupt.specs.Side.{active, outputLevel}
+use Rattle.coreinterrupt.specs.Side.{active, output_level}
 use Rattle.coreinterrupt.specs.Model.{sound, outputs}
 use Rattle.coreinterrupt.specs.SidesPromises.{SomeSource}
-use Rattle.coreinterrupt.proofs.SideLaws.{sound-active, level-active, level-small}
+use Rattle.coreinterrupt.proofs.SideLaws.{sound-active, level-active, level_small}
 use Rattle.coreinterrupt.proofs.ModelLaws.{fiq-sound, irq-sound}
 
 pub shown : (c : Core) → sound c ≡ true
-    → outputs c ≡ record { refusal = 0; irq = active c.irq; fiq = active c.fiq; irqlevel = outputLevel c.irq; fiqlevel = outputLevel c.fiq }
+    → outputs c ≡ record { refusal = 0; irq = active c.irq; fiq = active c.fiq; irqlevel = output_level c.irq; fiqlevel = output_level c.fiq }
 unfolding outputs
 shown c e = sym (pick_true _ e)
 
@@ -28,15 +28,15 @@ irq-active c e = rw (shown c e) (sound-active 32 c.irq (omega arith) (irq-sound 
 pub fiq-active : (c : Core) → sound c ≡ true → ((outputs c).fiq ≡ true) ↔ SomeSource c.fiq.count c.fiq
 fiq-active c e = rw (shown c e) (sound-active 8 c.fiq (omega arith) (fiq-sound c e))
 
-pub irq-level : (c : Core) → sound c ≡ true → ((outputs c).irqlevel ≡ c.irq.level) ↔ ((outputs c).irq ≡ true)
-irq-level c e = rw (shown c e) (level-active 32 c.irq (irq-sound c e))
+pub irq_level : (c : Core) → sound c ≡ true → ((outputs c).irqlevel ≡ c.irq.level) ↔ ((outputs c).irq ≡ true)
+irq_level c e = rw (shown c e) (level-active 32 c.irq (irq-sound c e))
 
-pub fiq-level : (c : Core) → sound c ≡ true → ((outputs c).fiqlevel ≡ c.fiq.level) ↔ ((outputs c).fiq ≡ true)
-fiq-level c e = rw (shown c e) (level-active 8 c.fiq (fiq-sound c e))
+pub fiq_level : (c : Core) → sound c ≡ true → ((outputs c).fiqlevel ≡ c.fiq.level) ↔ ((outputs c).fiq ≡ true)
+fiq_level c e = rw (shown c e) (level-active 8 c.fiq (fiq-sound c e))
 
-pub levels-small : (c : Core) → ((outputs c).irqlevel ≤ 1) × ((outputs c).fiqlevel ≤ 1)
-levels-small c = go (told (sound c))
+pub levels_small : (c : Core) → ((outputs c).irqlevel ≤ 1) × ((outputs c).fiqlevel ≤ 1)
+levels_small c = go (told (sound c))
   where
     go : (sound c ≡ true) ⊎ (sound c ≡ false) → ((outputs c).irqlevel ≤ 1) × ((outputs c).fiqlevel ≤ 1)
-    go (inl e) = rw (shown c e) (level-small 32 c.irq (irq-sound c e), level-small 8 c.fiq (fiq-sound c e))
+    go (inl e) = rw (shown c e) (level_small 32 c.irq (irq-sound c e), level_small 8 c.fiq (fiq-sound c e))
     go (inr e) = rw (hidden c e) (omega arith, omega arith)

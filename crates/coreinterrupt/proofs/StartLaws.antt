@@ -11,7 +11,7 @@ use Rattle.words.proofs.ChoiceLaws.{pick_true, pick-false}
 use Rattle.words.proofs.TruthLaws.{and_left, and_right, and_both, told, clash}
 use Rattle.coreinterrupt.specs.declared.Begun.{Begun}
 use Rattle.coreinterrupt.specs.Side.{idle}
-use Rattle.coreinterrupt.specs.Model.{core_of, sound, within, allWithin, start}
+use Rattle.coreinterrupt.specs.Model.{core_of, sound, within, all_within, start}
 use Rattle.coreinterrupt.specs.Promises.{Limited}
 use Rattle.coreinterrupt.proofs.SideLaws.{idle-sound}
 
@@ -21,9 +21,9 @@ unfolding within pick
 limits v =
     ((leb-true v 8, le-leb v 8), (leb-true v 32, le-leb v 32), (leb-true v 1, le-leb v 1), (leb-true v 1, le-leb v 1))
 
-pub four-numbers : (nth v : ℕ) → 4 ≤ nth → within nth v ≡ false
+pub four_numbers : (nth v : ℕ) → 4 ≤ nth → within nth v ≡ false
 unfolding within pick
-four-numbers nth v l = simp (ne_eqb nth 0 (omega arith), ne_eqb nth 1 (omega arith), ne_eqb nth 2 (omega arith), ne_eqb nth 3 (omega arith))
+four_numbers nth v l = simp (ne_eqb nth 0 (omega arith), ne_eqb nth 1 (omega arith), ne_eqb nth 2 (omega arith), ne_eqb nth 3 (omega arith))
 
 pub configuration : (nth v : ℕ) → (within nth v ≡ true) ↔ Limited nth v
 configuration nth v = (limited nth v, held)
@@ -33,7 +33,7 @@ configuration nth v = (limited nth v, held)
     limited (suc zero) w e = inr (inl (refl, (limits w).1.0 e))
     limited (suc (suc zero)) w e = inr (inr (inl refl, (limits w).2.0 e))
     limited (suc (suc (suc zero))) w e = inr (inr (inr refl, (limits w).3.0 e))
-    limited (suc (suc (suc (suc n)))) w e = clash e (four-numbers (suc (suc (suc (suc n)))) w (omega arith))
+    limited (suc (suc (suc (suc n)))) w e = clash e (four_numbers (suc (suc (suc (suc n)))) w (omega arith))
 
     held : Limited nth v → within nth v ≡ true
     held (inl (e, l)) = ap (λ (n : ℕ). within n v) e ∙ (limits v).0.1 l
@@ -52,8 +52,8 @@ pub record Within (f i fl il : ℕ) : Type 0 where
   pub fiqlevel : fl ≤ 1
   pub irqlevel : il ≤ 1
 
-inside : (f i fl il : ℕ) → allWithin f i fl il ≡ true → Within f i fl il
-unfolding allWithin
+inside : (f i fl il : ℕ) → all_within f i fl il ≡ true → Within f i fl il
+unfolding all_within
 inside f i fl il e =
     record {
       fiqs = (limits f).0.0 (search (and_left, and_right));
@@ -62,8 +62,8 @@ inside f i fl il e =
       irqlevel = (limits il).3.0 (search (and_left, and_right));
     }
 
-all-inside : (f i fl il : ℕ) → Within f i fl il → allWithin f i fl il ≡ true
-unfolding allWithin
+all-inside : (f i fl il : ℕ) → Within f i fl il → all_within f i fl il ≡ true
+unfolding all_within
 all-inside f i fl il w =
     and_both (and_both (and_both ((limits f).0.1 w.fiqs) ((limits i).1.1 w.irqs)) ((limits fl).2.1 w.fiqlevel)) ((limits il).3.1 w.irqlevel)
 
@@ -84,18 +84,18 @@ not-both f i fl il w (inr (inr (inl p))) = omega (arith, w.fiqlevel)
 not-both f i fl il w (inr (inr (inr p))) = omega (arith, w.irqlevel)
 
 module _ (f i fl il : ℕ) where
-  taken : allWithin f i fl il ≡ true → start f i fl il ≡ record { refusal = 0; core = core_of (idle f fl) (idle i il) }
+  taken : all_within f i fl il ≡ true → start f i fl il ≡ record { refusal = 0; core = core_of (idle f fl) (idle i il) }
   unfolding start
   taken e = sym (pick_true _ e)
 
-  zeros : allWithin f i fl il ≡ false → start f i fl il ≡ record { refusal = 10; core = core_of (idle 0 0) (idle 0 0) }
+  zeros : all_within f i fl il ≡ false → start f i fl il ≡ record { refusal = 10; core = core_of (idle 0 0) (idle 0 0) }
   unfolding start
   zeros e = sym (pick-false _ e)
 
   pub start-refused : ((start f i fl il).refusal ≡ 10) ↔ Beyond f i fl il
-  start-refused = go (sorted f i fl il) (told (allWithin f i fl il))
+  start-refused = go (sorted f i fl il) (told (all_within f i fl il))
     where
-      go : Within f i fl il ⊎ Beyond f i fl il → (allWithin f i fl il ≡ true) ⊎ (allWithin f i fl il ≡ false)
+      go : Within f i fl il ⊎ Beyond f i fl il → (all_within f i fl il ≡ true) ⊎ (all_within f i fl il ≡ false)
           → ((start f i fl il).refusal ≡ 10) ↔ Beyond f i fl il
       go (inl w) t = (
         (λ e. absurd (let h = sym (ap (λ (b : Begun). b.refusal) (taken (all-inside f i fl il w))) ∙ e in omega arith)),
@@ -105,9 +105,9 @@ module _ (f i fl il : ℕ) where
       go (inr b) (inr t) = ((λ _. b), (λ _. ap (λ (b : Begun). b.refusal) (zeros t)))
 
   pub start-zeros : (start f i fl il).refusal ≢ 0 → start f i fl il ≡ record { refusal = 10; core = core_of (idle 0 0) (idle 0 0) }
-  start-zeros d = go (told (allWithin f i fl il))
+  start-zeros d = go (told (all_within f i fl il))
     where
-      go : (allWithin f i fl il ≡ true) ⊎ (allWithin f i fl il ≡ false) → start f i fl il ≡ record { refusal = 10; core = core_of (idle 0 0) (idle 0 0) }
+      go : (all_within f i fl il ≡ true) ⊎ (all_within f i fl il ≡ false) → start f i fl il ≡ record { refusal = 10; core = core_of (idle 0 0) (idle 0 0) }
       go (inl t) = absurd (d (ap (λ (b : Begun). b.refusal) (taken t)))
       go (inr t) = zeros t
 
@@ -116,9 +116,9 @@ module _ (f i fl il : ℕ) where
 
   pub start-sound : sound (start f i fl il).core ≡ true
   unfolding sound
-  start-sound = go (told (allWithin f i fl il))
+  start-sound = go (told (all_within f i fl il))
     where
-      go : (allWithin f i fl il ≡ true) ⊎ (allWithin f i fl il ≡ false) → sound (start f i fl il).core ≡ true
+      go : (all_within f i fl il ≡ true) ⊎ (all_within f i fl il ≡ false) → sound (start f i fl il).core ≡ true
       go (inl t) =
           let w = inside f i fl il t in
           ap (λ (b : Begun). sound b.core) (taken t) ∙ and_both (idle-sound 8 f fl w.fiqs w.fiqlevel) (idle-sound 32 i il w.irqs w.irqlevel)

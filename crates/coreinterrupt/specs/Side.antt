@@ -1,7 +1,7 @@
 -- One side of the controller, FIQ and IRQ alike: its sources, its six registers and its output (01, CoreInterrupt; 004, Programmer's Model).
 use Rattle.std.specs.Prelude.{ℕ, Bool, not, ◌&&◌, [], ◌∷◌, eqb, ltb, leb, get_or}
 use Rattle.words.specs.Choice.{pick}
-use Rattle.words.specs.Word.{either, both, without, withBit, kept, clean}
+use Rattle.words.specs.Word.{either, both, without, with_bit, kept, clean}
 use Rattle.steps.specs.declared.Access.{Access}
 use Rattle.steps.specs.declared.Access.TheVariants.{NoRegister, ReadOnly, WriteOnly, ReadWrite}
 use Rattle.coreinterrupt.specs.declared.sides.Side.{Side}
@@ -13,16 +13,16 @@ abbrev pub idle : ℕ → ℕ → Side
 idle n l = record { count = n; level = l; inputs = 0; soft = 0; enable = 0 }
 
 -- the side with its lines as the word w says
-abbrev pub withInputs : Side → ℕ → Side
-withInputs s w = record { count = s.count; level = s.level; inputs = w; soft = s.soft; enable = s.enable }
+abbrev pub with_inputs : Side → ℕ → Side
+with_inputs s w = record { count = s.count; level = s.level; inputs = w; soft = s.soft; enable = s.enable }
 
 -- the side with w in its soft register
-abbrev pub withSoft : Side → ℕ → Side
-withSoft s w = record { count = s.count; level = s.level; inputs = s.inputs; soft = w; enable = s.enable }
+abbrev pub with_soft : Side → ℕ → Side
+with_soft s w = record { count = s.count; level = s.level; inputs = s.inputs; soft = w; enable = s.enable }
 
 -- the side with w in its enable register
-abbrev pub withEnable : Side → ℕ → Side
-withEnable s w = record { count = s.count; level = s.level; inputs = s.inputs; soft = s.soft; enable = w }
+abbrev pub with_enable : Side → ℕ → Side
+with_enable s w = record { count = s.count; level = s.level; inputs = s.inputs; soft = s.soft; enable = w }
 
 -- ---- raw, status and the output
 
@@ -43,39 +43,39 @@ abbrev pub other : ℕ → ℕ
 other l = pick (eqb l 0) 1 0
 
 -- the active level while the output is active, else the other (01, CoreInterrupt; 004, table 2, Active Level)
-unfoldable pub outputLevel : Side → ℕ
-outputLevel s = pick (active s) s.level (other s.level)
+unfoldable pub output_level : Side → ℕ
+output_level s = pick (active s) s.level (other s.level)
 
 -- ---- the six registers, by number: 0 soft, 1 soft clear, 2 enable, 3 enable clear, 4 raw, 5 status
 
 -- the clears are write-only; where there are no sources they may be read as well (01, CoreInterrupt; 004, FIQSoftIntClear and the like)
-unfoldable pub clearAccess : Side → Access
-clearAccess s = pick (eqb s.count 0) ReadWrite WriteOnly
+unfoldable pub clear_access : Side → Access
+clear_access s = pick (eqb s.count 0) ReadWrite WriteOnly
 
 -- what each register may be used for (01, CoreInterrupt; 004, table 3)
-unfoldable pub sideAccess : Side → ℕ → Access
-sideAccess s i = get_or (ReadWrite ∷ clearAccess s ∷ ReadWrite ∷ clearAccess s ∷ ReadOnly ∷ ReadOnly ∷ []) i NoRegister
+unfoldable pub side_access : Side → ℕ → Access
+side_access s i = get_or (ReadWrite ∷ clear_access s ∷ ReadWrite ∷ clear_access s ∷ ReadOnly ∷ ReadOnly ∷ []) i NoRegister
 
 -- what each register answers (01, CoreInterrupt)
-unfoldable pub sideRead : Side → ℕ → ℕ
-sideRead s i = get_or (s.soft ∷ 0 ∷ s.enable ∷ 0 ∷ raw s ∷ status s ∷ []) i 0
+unfoldable pub side_read : Side → ℕ → ℕ
+side_read s i = get_or (s.soft ∷ 0 ∷ s.enable ∷ 0 ∷ raw s ∷ status s ∷ []) i 0
 
 -- the word w with the bits written as 1 set; those from n on are dropped (01, CoreInterrupt)
-unfoldable pub setBits : ℕ → ℕ → ℕ → ℕ
-setBits n w v = either w (kept n v)
+unfoldable pub set_bits : ℕ → ℕ → ℕ → ℕ
+set_bits n w v = either w (kept n v)
 
 -- the word w with the bits written as 1 cleared; those from n on are dropped (01, CoreInterrupt)
-unfoldable pub clearBits : ℕ → ℕ → ℕ → ℕ
-clearBits n w v = without w (kept n v)
+unfoldable pub clear_bits : ℕ → ℕ → ℕ → ℕ
+clear_bits n w v = without w (kept n v)
 
 -- the side after the value v is written to a register that takes it (01, CoreInterrupt; 004, FIQSoftInt to FIQEnableClear)
-unfoldable pub sideWrite : Side → ℕ → ℕ → Side
-sideWrite s i v =
+unfoldable pub side_write : Side → ℕ → ℕ → Side
+side_write s i v =
     get_or
-    (withSoft s (setBits s.count s.soft v)
-    ∷ withSoft s (clearBits s.count s.soft v)
-    ∷ withEnable s (setBits s.count s.enable v)
-    ∷ withEnable s (clearBits s.count s.enable v)
+    (with_soft s (set_bits s.count s.soft v)
+    ∷ with_soft s (clear_bits s.count s.soft v)
+    ∷ with_enable s (set_bits s.count s.enable v)
+    ∷ with_enable s (clear_bits s.count s.enable v)
     ∷ [])
     i s
 
@@ -83,11 +83,11 @@ sideWrite s i v =
 
 -- the side after its input k is put high or low; an input beyond the count is not stored (01, CoreInterrupt; 004, table 2, Number of Sources)
 unfoldable pub moved : Side → ℕ → Bool → Side
-moved s k high = pick (ltb k s.count) (withInputs s (withBit s.inputs k high)) s
+moved s k high = pick (ltb k s.count) (with_inputs s (with_bit s.inputs k high)) s
 
 -- ---- soundness
 
 -- the count within the side's inputs, the active level 0 or 1, no stored bit beyond the count (01, CoreInterrupt)
-unfoldable pub sideSound : ℕ → Side → Bool
-sideSound limit s =
+unfoldable pub side_sound : ℕ → Side → Bool
+side_sound limit s =
     leb s.count limit && leb s.level 1 && clean s.count s.inputs && clean s.count s.soft && clean s.count s.enable

@@ -1,6 +1,6 @@
 // CoreInterrupt by value: the model of 01, "CoreInterrupt". What each function answers is defined in specs/Model.antt.
 ghost use Rattle.std.specs.Prelude.{◌≡◌, true};
-ghost use Rattle.coreinterrupt.specs.Model.{side, withSide, sound, within, allWithin, start, answered, refused, unlessRefused, register, access, value_at, written, read, write, input, lineMoved, line, step, outputs};
+ghost use Rattle.coreinterrupt.specs.Model.{side, with_side, sound, within, all_within, start, answered, refused, unless_refused, register, access, value_at, written, read, write, input, line_moved, line, step, outputs};
 
 pub mod sides;
 
@@ -63,7 +63,7 @@ pub fn within(nth: u32, value: u32) -> bool
 
 // Whether every number of the configuration is within its limit.
 fn all_within(fiqs: u32, irqs: u32, fiqlevel: u32, irqlevel: u32) -> bool
-    ensures { result ≡ allWithin fiqs irqs fiqlevel irqlevel }
+    ensures { result ≡ all_within fiqs irqs fiqlevel irqlevel }
 {
     within(0, fiqs) & within(1, irqs) & within(2, fiqlevel) & within(3, irqlevel)
 }
@@ -121,7 +121,7 @@ pub fn refusal_of(c: Core, n: u32) -> Answer
 
 // The answer a, or the refusal n with the record as it was.
 pub fn unless_refused(c: Core, n: u32, a: Answer) -> Answer
-    ensures { result ≡ unlessRefused c n a }
+    ensures { result ≡ unless_refused c n a }
 {
     if n == steps::CARRIED_OUT {
         return a;
@@ -138,7 +138,7 @@ fn side(c: Core, fast: bool) -> sides::Side
 
 // The record with one side replaced.
 fn with_side(c: Core, fast: bool, s: sides::Side) -> Core
-    ensures { result ≡ withSide c fast s }
+    ensures { result ≡ with_side c fast s }
 {
     let mut d = c;
     if fast {
@@ -194,7 +194,7 @@ pub fn input(k: u32) -> u32
 
 // The record after line k is put high or low.
 fn line_moved(c: Core, k: u32, high: bool) -> Core
-    ensures { result ≡ lineMoved c k high }
+    ensures { result ≡ line_moved c k high }
 {
     let fast = IRQ_LIMIT <= k;
     let s = sides::moved(side(c, fast), input(k), high);

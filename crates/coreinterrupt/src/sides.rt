@@ -1,6 +1,6 @@
 // One side of CoreInterrupt. FIQ and IRQ differ only in how many sources they may have; what is answered is defined in specs/Side.antt.
 ghost use Rattle.std.specs.Prelude.{◌≡◌};
-ghost use Rattle.coreinterrupt.specs.Side.{idle, withInputs, withSoft, withEnable, raw, status, active, other, outputLevel, clearAccess, sideAccess, sideRead, setBits, clearBits, sideWrite, moved, sideSound};
+ghost use Rattle.coreinterrupt.specs.Side.{idle, with_inputs, with_soft, with_enable, raw, status, active, other, output_level, clear_access, side_access, side_read, set_bits, clear_bits, side_write, moved, side_sound};
 
 // One side, FIQ or IRQ: how many sources it has, the active level of its output, its lines and its two stored registers.
 #[repr(C)]
@@ -28,7 +28,7 @@ pub fn idle(count: u32, level: u32) -> Side
 
 // The side with its lines as the word w says.
 fn with_inputs(s: Side, w: u32) -> Side
-    ensures { result ≡ withInputs s w }
+    ensures { result ≡ with_inputs s w }
 {
     let mut t = s;
     t.inputs = w;
@@ -37,7 +37,7 @@ fn with_inputs(s: Side, w: u32) -> Side
 
 // The side with w in its soft register.
 fn with_soft(s: Side, w: u32) -> Side
-    ensures { result ≡ withSoft s w }
+    ensures { result ≡ with_soft s w }
 {
     let mut t = s;
     t.soft = w;
@@ -46,7 +46,7 @@ fn with_soft(s: Side, w: u32) -> Side
 
 // The side with w in its enable register.
 fn with_enable(s: Side, w: u32) -> Side
-    ensures { result ≡ withEnable s w }
+    ensures { result ≡ with_enable s w }
 {
     let mut t = s;
     t.enable = w;
@@ -83,7 +83,7 @@ fn other(level: u32) -> u32
 
 // The level of the side's output.
 pub fn output_level(s: Side) -> u32
-    ensures { result ≡ outputLevel s }
+    ensures { result ≡ output_level s }
 {
     if active(s) {
         return s.level;
@@ -93,7 +93,7 @@ pub fn output_level(s: Side) -> u32
 
 // What the clear registers may be used for: where there are no sources they read 0.
 fn clear_access(s: Side) -> steps::Access
-    ensures { result ≡ clearAccess s }
+    ensures { result ≡ clear_access s }
 {
     if s.count == 0 {
         return steps::Access::ReadWrite;
@@ -103,7 +103,7 @@ fn clear_access(s: Side) -> steps::Access
 
 // What register i may be used for: 0 soft, 1 soft clear, 2 enable, 3 enable clear, 4 raw, 5 status.
 pub(crate) fn access(s: Side, i: u32) -> steps::Access
-    ensures { result ≡ sideAccess s i }
+    ensures { result ≡ side_access s i }
 {
     match i {
         0 => steps::Access::ReadWrite,
@@ -118,7 +118,7 @@ pub(crate) fn access(s: Side, i: u32) -> steps::Access
 
 // What register i answers.
 pub(crate) fn read(s: Side, i: u32) -> u32
-    ensures { result ≡ sideRead s i }
+    ensures { result ≡ side_read s i }
 {
     match i {
         0 => s.soft,
@@ -133,21 +133,21 @@ pub(crate) fn read(s: Side, i: u32) -> u32
 
 // The word w with the bits of v below n set.
 fn set_bits(n: u32, w: u32, v: u32) -> u32
-    ensures { result ≡ setBits n w v }
+    ensures { result ≡ set_bits n w v }
 {
     words::join(w, words::keep(n, v))
 }
 
 // The word w with the bits of v below n cleared.
 fn clear_bits(n: u32, w: u32, v: u32) -> u32
-    ensures { result ≡ clearBits n w v }
+    ensures { result ≡ clear_bits n w v }
 {
     words::drop_bits(w, words::keep(n, v))
 }
 
 // The side after register i took the value v.
 pub(crate) fn write(s: Side, i: u32, v: u32) -> Side
-    ensures { result ≡ sideWrite s i v }
+    ensures { result ≡ side_write s i v }
 {
     match i {
         0 => with_soft(s, set_bits(s.count, s.soft, v)),
@@ -170,7 +170,7 @@ pub fn moved(s: Side, k: u32, high: bool) -> Side
 
 // Whether the side keeps its rules: at most `limit` sources, a level of 0 or 1, no stored bit beyond the count.
 pub(crate) fn is_sound(limit: u32, s: Side) -> bool
-    ensures { result ≡ sideSound limit s }
+    ensures { result ≡ side_sound limit s }
 {
     let n = s.count;
     (n <= limit)

@@ -31,8 +31,8 @@ pub record Promises : Type 0 where
   pub answers : (c : Core) (x : Step) (s : List ℕ) (q : Reply) → Done (step c x) s q
       → (q.0 ≡ (step c x).refusal) × (q.1 ≡ (step c x).value) × ((d : Core) → Laid d s → d ≡ (step c x).core)
   -- a step keeps a sound record sound (01, CoreInterrupt)
-  pub stepSound : (c d : Core) (x : Step) (s : List ℕ) (q : Reply) → Done (step c x) s q → Laid d s → sound c ≡ true → sound d ≡ true
+  pub step_sound : (c d : Core) (x : Step) (s : List ℕ) (q : Reply) → Done (step c x) s q → Laid d s → sound c ≡ true → sound d ≡ true
   -- a refused step leaves every word of the room as it was, and answers the value 0 (01, Numbers)
-  pub refusedSame : (c : Core) (x : Step) (r s : List ℕ) (q : Reply) → Laid c r → Done (step c x) s q → q.0 ≢ 0 → (s ≡ r) × (q.1 ≡ 0)
+  pub refused_same : (c : Core) (x : Step) (r s : List ℕ) (q : Reply) → Laid c r → Done (step c x) s q → q.0 ≢ 0 → (s ≡ r) × (q.1 ≡ 0)
   -- so does a read, refused or not (01, CoreInterrupt)
-  pub readSame : (c : Core) (offset : ℕ) (r s : List ℕ) (q : Reply) → Laid c r → Done (step c (Read offset)) s q → s ≡ r
+  pub read_same : (c : Core) (offset : ℕ) (r s : List ℕ) (q : Reply) → Laid c r → Done (step c (Read offset)) s q → s ≡ r

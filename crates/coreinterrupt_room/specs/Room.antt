@@ -2,13 +2,13 @@
 use Rattle.std.specs.Prelude.{ℕ, ◌≡◌, Bool, List, [], ◌∷◌, replicate}
 use Rattle.words.specs.Choice.{pick}
 use Rattle.words.specs.Word.{either, without}
-use Rattle.steps.specs.Refusals.{carriedOut, readAccess, writeAccess}
+use Rattle.steps.specs.Refusals.{carried_out, read_access, write_access}
 use Rattle.rooms.specs.Parts.{flat}
 use Rattle.rooms.specs.Reply.{Reply, reply}
-use Rattle.coreinterrupt.specs.Side.{sideAccess, sideRead, sideWrite}
+use Rattle.coreinterrupt.specs.Side.{side_access, side_read, side_write}
 use Rattle.coreinterrupt.specs.declared.Core.{Core}
 use Rattle.coreinterrupt.specs.declared.Answer.{Answer}
-use Rattle.coreinterrupt.specs.Model.{side, withSide, answered, unlessRefused}
+use Rattle.coreinterrupt.specs.Model.{side, with_side, answered, unless_refused}
 
 -- the single words, from 0 on: the kind (01, House trace); five of the FIQ side, then five of the IRQ side: sources, active level, lines, soft, enable
 abbrev pub cells : Core → List ℕ
@@ -36,21 +36,21 @@ unfoldable pub first_of : Bool → ℕ
 first_of fast = pick fast 1 6
 
 -- the refusal and the value of an answer
-abbrev pub replyOf : Answer → Reply
-replyOf x = reply x.refusal x.value
+abbrev pub reply_of : Answer → Reply
+reply_of x = reply x.refusal x.value
 
 -- the record of an answer stands in the room, and the reply is its own
 abbrev pub Done : Answer → List ℕ → Reply → Type 0
-Done x room r = Laid x.core room × (r ≡ replyOf x)
+Done x room r = Laid x.core room × (r ≡ reply_of x)
 
 -- a read of register i of a side, its offset aligned
-unfoldable pub readFrom : Core → Bool → ℕ → Answer
-readFrom c fast i = unlessRefused c (readAccess (sideAccess (side c fast) i)) (answered c (sideRead (side c fast) i))
+unfoldable pub read_from : Core → Bool → ℕ → Answer
+read_from c fast i = unless_refused c (read_access (side_access (side c fast) i)) (answered c (side_read (side c fast) i))
 
 -- a write to register i of a side, its offset aligned
-unfoldable pub writeTo : Core → Bool → ℕ → ℕ → Answer
-writeTo c fast i v =
-    unlessRefused c (writeAccess (sideAccess (side c fast) i) carriedOut) (answered (withSide c fast (sideWrite (side c fast) i v)) 0)
+unfoldable pub write_to : Core → Bool → ℕ → ℕ → Answer
+write_to c fast i v =
+    unless_refused c (write_access (side_access (side c fast) i) carried_out) (answered (with_side c fast (side_write (side c fast) i v)) 0)
 
 -- the word w with the bits of v set, or cleared
 unfoldable pub turned : ℕ → ℕ → Bool → ℕ

@@ -1,7 +1,7 @@
 // CoreInterrupt on a record that the caller lends and that is updated in it (01, "CoreInterrupt"): what is answered, and what the record is afterwards. The
 // functions that are lent a record are those of `exports`, thin ones over these two.
 ghost use Rattle.std.specs.Prelude.{◌≡◌};
-ghost use Rattle.coreinterrupt_room.specs.Lent.{startOver, stepTold};
+ghost use Rattle.coreinterrupt_room.specs.Lent.{start_over, step_told};
 
 // What a step or a start answers; the record stays with the caller.
 #[repr(C)]
@@ -19,7 +19,7 @@ pub fn start_over(
     fiqlevel: u32,
     irqlevel: u32,
 ) -> coreinterrupt::Answer
-    ensures { result ≡ startOver c fiqs irqs fiqlevel irqlevel }
+    ensures { result ≡ start_over c fiqs irqs fiqlevel irqlevel }
 {
     let b = coreinterrupt::start(fiqs, irqs, fiqlevel, irqlevel);
     let d = b.core;
@@ -34,7 +34,7 @@ pub fn step_told(
     first: u32,
     second: u32,
 ) -> coreinterrupt::Answer
-    ensures { result ≡ stepTold c kind first second }
+    ensures { result ≡ step_told c kind first second }
 {
     match kind {
         trace::READ => coreinterrupt::step(c, steps::Step::Read(first)),

@@ -1,13 +1,13 @@
 // CoreInterrupt in a room: where each number of its record stands, its steps and its outputs. What is refused leaves the room as it is.
 ghost use Rattle.std.specs.Prelude.{◌≡◌, true, ◌<◌, eqb, ltb};
 ghost use Rattle.words.specs.Choice.{pick};
-ghost use Rattle.words.specs.Word.{withBit};
-ghost use Rattle.coreinterrupt.specs.Side.{raw, status, active, outputLevel, moved, sideWrite};
+ghost use Rattle.words.specs.Word.{with_bit};
+ghost use Rattle.coreinterrupt.specs.Side.{raw, status, active, output_level, moved, side_write};
 ghost use Rattle.coreinterrupt.specs.declared.Core.{Core};
-ghost use Rattle.coreinterrupt.specs.Model.{side, withSide, sound, read, write, line, step, outputs};
+ghost use Rattle.coreinterrupt.specs.Model.{side, with_side, sound, read, write, line, step, outputs};
 ghost use Rattle.trace.specs.Turns.{step_of};
 ghost use Rattle.rooms.specs.Reply.{reply, told};
-ghost use Rattle.coreinterrupt_room.specs.Room.{Laid, first_of, replyOf, Done, readFrom, writeTo, turned};
+ghost use Rattle.coreinterrupt_room.specs.Room.{Laid, first_of, reply_of, Done, read_from, write_to, turned};
 
 pub mod lent;
 
@@ -103,7 +103,7 @@ fn is_active(room: &Room, fast: bool) -> bool
 
 // The level of the side's output.
 fn output_level(room: &Room, fast: bool) -> u32
-    ensures { (c : Core) → Laid c room.now → result ≡ outputLevel (side c fast) }
+    ensures { (c : Core) → Laid c room.now → result ≡ output_level (side c fast) }
 {
     coreinterrupt::sides::output_level(side_in(room, fast))
 }
@@ -135,7 +135,7 @@ fn read_clear(n: u32) -> u64
 
 // A read of register i of the side: 0 soft, 1 soft clear, 2 enable, 3 enable clear, 4 raw, 5 status.
 fn read_from(room: &Room, fast: bool, i: u32) -> u64
-    ensures { (c : Core) → Laid c room.now → told result ≡ replyOf (readFrom c fast i) }
+    ensures { (c : Core) → Laid c room.now → told result ≡ reply_of (read_from c fast i) }
 {
     let at = first_of(fast);
     match i {
@@ -175,7 +175,7 @@ fn turn(w: u32, v: u32, on: bool) -> u32
 // The bits of a value that belong to sources are set, or cleared, in the word that register i of the side stands for.
 fn turn_bits(room: &mut Room, fast: bool, i: u32, value: u32)
     requires { i < 4 }
-    ensures { (c : Core) → Laid c room.old → Laid (withSide c fast (sideWrite (side c fast) i value)) room.new }
+    ensures { (c : Core) → Laid c room.old → Laid (with_side c fast (side_write (side c fast) i value)) room.new }
 {
     let at = first_of(fast);
     let v = words::keep(room[at], value);
@@ -186,7 +186,7 @@ fn turn_bits(room: &mut Room, fast: bool, i: u32, value: u32)
 
 // A write to register i of the side. Bits beyond the count are dropped.
 fn write_to(room: &mut Room, fast: bool, i: u32, value: u32) -> u64
-    ensures { (c : Core) → Laid c room.old → Done (writeTo c fast i value) room.new (told result) }
+    ensures { (c : Core) → Laid c room.old → Done (write_to c fast i value) room.new (told result) }
 {
     if 5 < i {
         return rooms::refuse(steps::ABSENT);
@@ -221,7 +221,7 @@ fn choose(t: bool, a: u32, b: u32) -> u32
 // The lines w of a side with n sources after input k is put high or low. An input beyond the count is not stored. Both words are made before one is
 // chosen, since no branch could guess a level.
 fn moved_word(n: u32, w: u32, k: u32, high: bool) -> u32
-    ensures { result ≡ pick (ltb k n) (withBit w k high) w }
+    ensures { result ≡ pick (ltb k n) (with_bit w k high) w }
 {
     let on = words::with_bit(w, k, true);
     let off = words::with_bit(w, k, false);
@@ -231,7 +231,7 @@ fn moved_word(n: u32, w: u32, k: u32, high: bool) -> u32
 
 // Input k of the side is put high or low.
 fn move_input(room: &mut Room, fast: bool, k: u32, high: bool)
-    ensures { (c : Core) → Laid c room.old → Laid (withSide c fast (moved (side c fast) k high)) room.new }
+    ensures { (c : Core) → Laid c room.old → Laid (with_side c fast (moved (side c fast) k high)) room.new }
 {
     let at = first_of(fast);
     let w = moved_word(room[at], room[at + 2], k, high);

@@ -3,7 +3,7 @@ ghost use Rattle.std.specs.Prelude.{◌≡◌, ◌++◌, ℕ, ◌<◌, not, ◌&
 ghost use Rattle.words.specs.Array.{bit_at};
 ghost use Rattle.text.specs.Text.{write};
 ghost use Rattle.text.specs.Phrases.{counted};
-ghost use Rattle.deeds.specs.Deeds.{openedWords, closedWords, ends, entryWords, sameSeen, seenWords, aicDeeds, gains, furtherWords, hostWords, gainWords, cicDeeds, chosenWords, choiceWords, aintcDeeds, deedsAt, deedWords, turnWords, sideWords, outputWords};
+ghost use Rattle.deeds.specs.Deeds.{opened_words, closed_words, ends, entry_words, same_seen, seen_words, aic_deeds, gains, further_words, host_words, gain_words, cic_deeds, chosen_words, choice_words, aintc_deeds, deeds_at, deed_words, turn_words, side_words, output_words};
 
 use aic_record::{Aic, Seen};
 use aintc_record::Chosen;
@@ -13,14 +13,14 @@ use steps::{Recorded, Step};
 
 // What a step did, each part behind a semicolon.
 pub fn put_deeds(out: &mut [u8], at: usize, m: Machine, x: Recorded, after: Machine) -> usize
-    ensures { (out.new, result) ≡ write (out.old, at) (deedWords m x after) }
+    ensures { (out.new, result) ≡ write (out.old, at) (deed_words m x after) }
 {
     let step = x.step;
     put_deeds_at(out, at, m, step, after)
 }
 
 fn put_deeds_at(out: &mut [u8], at: usize, m: Machine, x: Step, after: Machine) -> usize
-    ensures { (out.new, result) ≡ write (out.old, at) (deedsAt m x after) }
+    ensures { (out.new, result) ≡ write (out.old, at) (deeds_at m x after) }
 {
     let kind = m.kind;
     if kind == kinds::AIC {
@@ -51,7 +51,7 @@ fn put_deeds_at(out: &mut [u8], at: usize, m: Machine, x: Step, after: Machine) 
 // ---- the AIC
 
 fn put_aic(out: &mut [u8], at: usize, s: Aic, x: Step, t: Aic) -> usize
-    ensures { (out.new, result) ≡ write (out.old, at) (aicDeeds s x t) }
+    ensures { (out.new, result) ≡ write (out.old, at) (aic_deeds s x t) }
 {
     let a = put_entry(out, at, s, x, t);
     put_seen(out, a, s.seen, t.seen)
@@ -59,7 +59,7 @@ fn put_aic(out: &mut [u8], at: usize, s: Aic, x: Step, t: Aic) -> usize
 
 // One entry more or less, or a close that found none.
 fn put_entry(out: &mut [u8], at: usize, s: Aic, x: Step, t: Aic) -> usize
-    ensures { (out.new, result) ≡ write (out.old, at) (entryWords s x t) }
+    ensures { (out.new, result) ≡ write (out.old, at) (entry_words s x t) }
 {
     let close = ends(x);
     let opened = aic_record::last::last_source(t);
@@ -88,7 +88,7 @@ fn ends(x: Step) -> bool
 }
 
 fn put_opened(out: &mut [u8], at: usize, source: u32, level: u32) -> usize
-    ensures { (out.new, result) ≡ write (out.old, at) (openedWords source level) }
+    ensures { (out.new, result) ≡ write (out.old, at) (opened_words source level) }
 {
     if source == 0 {
         return text::put_all(out, at, b"; opens a mark");
@@ -97,7 +97,7 @@ fn put_opened(out: &mut [u8], at: usize, source: u32, level: u32) -> usize
 }
 
 fn put_closed(out: &mut [u8], at: usize, source: u32) -> usize
-    ensures { (out.new, result) ≡ write (out.old, at) (closedWords source) }
+    ensures { (out.new, result) ≡ write (out.old, at) (closed_words source) }
 {
     if source == 0 {
         return text::put_all(out, at, b"; closes a mark");
@@ -106,14 +106,14 @@ fn put_closed(out: &mut [u8], at: usize, source: u32) -> usize
 }
 
 fn same_seen(a: Seen, b: Seen) -> bool
-    ensures { result ≡ sameSeen a b }
+    ensures { result ≡ same_seen a b }
 {
     (a.what == b.what) & (a.source == b.source) & (a.level == b.level) & (a.vector == b.vector)
 }
 
 // What is remembered, where that is something else.
 fn put_seen(out: &mut [u8], at: usize, a: Seen, b: Seen) -> usize
-    ensures { (out.new, result) ≡ write (out.old, at) (seenWords a b) }
+    ensures { (out.new, result) ≡ write (out.old, at) (seen_words a b) }
 {
     if same_seen(a, b) {
         return at;
@@ -131,14 +131,14 @@ fn put_seen(out: &mut [u8], at: usize, a: Seen, b: Seen) -> usize
 
 // Hosts that became asserted, then hosts that are no longer.
 fn put_cic(out: &mut [u8], at: usize, c: Cic, d: Cic) -> usize
-    ensures { (out.new, result) ≡ write (out.old, at) (cicDeeds c d) }
+    ensures { (out.new, result) ≡ write (out.old, at) (cic_deeds c d) }
 {
     let a = put_gains(out, at, b"; asserts host ", c, d);
     put_gains(out, a, b"; ends host ", d, c)
 }
 
 fn put_gains(out: &mut [u8], at: usize, what: &[u8], c: Cic, d: Cic) -> usize
-    ensures { (out.new, result) ≡ write (out.old, at) (gainWords what.now c d) }
+    ensures { (out.new, result) ≡ write (out.old, at) (gain_words what.now c d) }
 {
     let ws = gained(c, d);
     let count = cic_registers::hosts::count_of(ws);
@@ -147,7 +147,7 @@ fn put_gains(out: &mut [u8], at: usize, what: &[u8], c: Cic, d: Cic) -> usize
 }
 
 fn put_hosts(out: &mut [u8], at: usize, what: &[u8], count: u32, lowest: u32) -> usize
-    ensures { (out.new, result) ≡ write (out.old, at) (hostWords what.now count lowest) }
+    ensures { (out.new, result) ≡ write (out.old, at) (host_words what.now count lowest) }
 {
     if count == 0 {
         return at;
@@ -158,7 +158,7 @@ fn put_hosts(out: &mut [u8], at: usize, what: &[u8], count: u32, lowest: u32) ->
 
 fn put_further(out: &mut [u8], at: usize, count: u32) -> usize
     requires { 0 < count }
-    ensures { (out.new, result) ≡ write (out.old, at) (furtherWords count) }
+    ensures { (out.new, result) ≡ write (out.old, at) (further_words count) }
 {
     if count == 1 {
         return at;
@@ -199,7 +199,7 @@ fn put_aintc(
     irqafter: Chosen,
     fiqafter: Chosen,
 ) -> usize
-    ensures { (out.new, result) ≡ write (out.old, at) (aintcDeeds irq fiq irqafter fiqafter) }
+    ensures { (out.new, result) ≡ write (out.old, at) (aintc_deeds irq fiq irqafter fiqafter) }
 {
     let a = put_choice(out, at, b" for IRQ", b"; frees IRQ", irq, irqafter);
     put_choice(out, a, b" for FIQ", b"; frees FIQ", fiq, fiqafter)
@@ -214,7 +214,7 @@ fn put_choice(
     a: Chosen,
     b: Chosen,
 ) -> usize
-    ensures { (out.new, result) ≡ write (out.old, at) (choiceWords chooses.now frees.now a b) }
+    ensures { (out.new, result) ≡ write (out.old, at) (choice_words chooses.now frees.now a b) }
 {
     if b.active {
         return put_chosen(out, at, chooses, a, b);
@@ -226,7 +226,7 @@ fn put_choice(
 }
 
 fn put_chosen(out: &mut [u8], at: usize, chooses: &[u8], a: Chosen, b: Chosen) -> usize
-    ensures { (out.new, result) ≡ write (out.old, at) (chosenWords chooses.now a b) }
+    ensures { (out.new, result) ≡ write (out.old, at) (chosen_words chooses.now a b) }
 {
     if a.active & (a.number == b.number) {
         return at;
@@ -239,7 +239,7 @@ fn put_chosen(out: &mut [u8], at: usize, chooses: &[u8], a: Chosen, b: Chosen) -
 
 // Those that a step changed, each behind a semicolon.
 pub fn put_outputs(out: &mut [u8], at: usize, m: Machine, after: Machine) -> usize
-    ensures { (out.new, result) ≡ write (out.old, at) (outputWords m after) }
+    ensures { (out.new, result) ≡ write (out.old, at) (output_words m after) }
 {
     let kind = m.kind;
     if kind == kinds::AIC {
@@ -261,7 +261,7 @@ pub fn put_outputs(out: &mut [u8], at: usize, m: Machine, after: Machine) -> usi
 }
 
 fn put_sides(out: &mut [u8], at: usize, m: Machine, after: Machine) -> usize
-    ensures { (out.new, result) ≡ write (out.old, at) (sideWords m after) }
+    ensures { (out.new, result) ≡ write (out.old, at) (side_words m after) }
 {
     let a = machine::record::shown(m);
     let b = machine::record::shown(after);
@@ -291,7 +291,7 @@ fn put_turn(
     before: u32,
     after: u32,
 ) -> usize
-    ensures { (out.new, result) ≡ write (out.old, at) (turnWords active.now inactive.now before after) }
+    ensures { (out.new, result) ≡ write (out.old, at) (turn_words active.now inactive.now before after) }
 {
     if before == after {
         return at;

@@ -4,22 +4,22 @@ use mathlib.Core.Path.{◌≡◌, refl}
 use mathlib.Core.List.{List, [], ◌++◌}
 use native.Mathlib.Omega.{arith}
 use lib.ListN.{length}
-use Rattle.drawing.specs.Bars.{columnAt}
-use Rattle.drawing.specs.Drawing.{columnText, columnTexts}
+use Rattle.drawing.specs.Bars.{column_at}
+use Rattle.drawing.specs.Drawing.{column_text, column_texts}
 
 columns-step : (first : ℕ) (ws : List ℕ) (k m n : ℕ) → n ≡ m + 1
-    → columnText first k (columnAt ws k) ++ columnTexts m first ws (k + 1) ≡ columnTexts n first ws k
-unfolding columnTexts
+    → column_text first k (column_at ws k) ++ column_texts m first ws (k + 1) ≡ column_texts n first ws k
+unfolding column_texts
 columns-step first ws k m zero h = absurd (omega arith)
 columns-step first ws k m (suc n) h = let e : m ≡ n = omega arith in rw e
 
-pub columns-on : (first : ℕ) (ws : List ℕ) (k : ℕ) → k < length ws
-    → columnText first k (columnAt ws k) ++ columnTexts (length ws - (k + 1)) first ws (k + 1) ≡ columnTexts (length ws - k) first ws k
-columns-on first ws k h = columns-step first ws k (length ws - (k + 1)) (length ws - k) (omega arith)
+pub columns_on : (first : ℕ) (ws : List ℕ) (k : ℕ) → k < length ws
+    → column_text first k (column_at ws k) ++ column_texts (length ws - (k + 1)) first ws (k + 1) ≡ column_texts (length ws - k) first ws k
+columns_on first ws k h = columns-step first ws k (length ws - (k + 1)) (length ws - k) (omega arith)
 
-pub columns-over : (first : ℕ) (ws : List ℕ) (k : ℕ) → length ws ≤ k → [] ≡ columnTexts (length ws - k) first ws k
+pub columns-over : (first : ℕ) (ws : List ℕ) (k : ℕ) → length ws ≤ k → [] ≡ column_texts (length ws - k) first ws k
 columns-over first ws k h = go (length ws - k) (omega arith)
   where
-    go : (n : ℕ) → n ≡ 0 → [] ≡ columnTexts n first ws k
-    go zero e = unfold columnTexts in refl
+    go : (n : ℕ) → n ≡ 0 → [] ≡ column_texts n first ws k
+    go zero e = unfold column_texts in refl
     go (suc n) e = absurd (omega arith)

@@ -3,16 +3,16 @@ use Prim.Native.Nat.{ℕ, zero, suc, ◌+◌, ◌-◌, ◌*◌, ◌^◌, ◌<◌
 use native.Mathlib.Omega.{arith}
 use lib.Dec.{ltb}
 use lib.ListN.{length, length-append}
-use Rattle.words.proofs.ChoiceLaws.{pick-cases}
+use Rattle.words.proofs.ChoiceLaws.{pick_cases}
 use Rattle.text.specs.Phrases.{bytes}
-use Rattle.text.proofs.SizeLaws.{length-few}
+use Rattle.text.proofs.SizeLaws.{length_few}
 use Rattle.drawing.specs.Shapes.{left, top}
 use Rattle.drawing.proofs.ShapeSizeLaws.{length-centred}
 use Rattle.drawing.specs.Frame.{wide, title, axes, signs, head, rows}
 
 wide-most : (n : ℕ) → n ≤ 500 → wide n < 10 ^ 5
 unfolding wide
-wide-most n h = pick-cases (λ (w : ℕ). w < 10 ^ 5) (ltb n 26) (λ e. omega arith) (λ e. omega arith)
+wide-most n h = pick_cases (λ (w : ℕ). w < 10 ^ 5) (ltb n 26) (λ e. omega arith) (λ e. omega arith)
 
 length-title : (first n : ℕ) → first ≤ 65536 → n ≤ 500 → length (title first n) ≤ 274
 unfolding title bytes
@@ -20,14 +20,14 @@ length-title first n f h =
     simp length-append
     (omega (
       arith,
-      length-few (bytes "<svg xmlns=\"http://www.w3.org/2000/svg\" font-family=\"sans-serif\" font-size=\"10\" height=\"390\" width=\"") (wide n) 5 (omega arith) (wide-most n h),
-      length-few (bytes "<text x=\"8\" y=\"14\">AIC, steps ") first 5 (omega arith) (omega arith),
-      length-few (bytes " to ") (first + n - 1) 5 (omega arith) (omega arith),
+      length_few (bytes "<svg xmlns=\"http://www.w3.org/2000/svg\" font-family=\"sans-serif\" font-size=\"10\" height=\"390\" width=\"") (wide n) 5 (omega arith) (wide-most n h),
+      length_few (bytes "<text x=\"8\" y=\"14\">AIC, steps ") first 5 (omega arith) (omega arith),
+      length_few (bytes " to ") (first + n - 1) 5 (omega arith) (omega arith),
     ))
 
 length-axes : (n : ℕ) → n ≤ 500 → length (axes n) ≤ 265
 unfolding axes bytes
-length-axes n h = simp length-append (omega (arith, length-few (bytes "<path d=\"M64 92V316H") (left (n + 1)) 5 (omega arith) (omega arith)))
+length-axes n h = simp length-append (omega (arith, length_few (bytes "<path d=\"M64 92V316H") (left (n + 1)) 5 (omega arith) (omega arith)))
 
 length-signs : length signs ≤ 348
 unfolding signs bytes

@@ -10,19 +10,19 @@ use lib.ListN.{length}
 use borrow.Author.Tests.{le-leb, lt-leb, ltb-true}
 use Rattle.words.specs.Choice.{pick}
 use Rattle.words.proofs.ChoiceLaws.{pick_true, pick-false}
-use Rattle.drawing.specs.Bars.{entries_at, freeFrom, free, opens, opened}
+use Rattle.drawing.specs.Bars.{entries_at, free_from, free, opens, opened}
 use Rattle.drawing.specs.Promises.{Stays}
 
-pub free-here : (ws : List ℕ) (place k : ℕ) → k < length ws → entries_at ws k ≤ place → k ≡ free ws place k
+pub free_here : (ws : List ℕ) (place k : ℕ) → k < length ws → entries_at ws k ≤ place → k ≡ free ws place k
 unfolding free pick
-free-here ws place k l e = go (length ws - k) (omega arith)
+free_here ws place k l e = go (length ws - k) (omega arith)
   where
-    go : (n : ℕ) → 0 < n → k ≡ freeFrom n ws place k
+    go : (n : ℕ) → 0 < n → k ≡ free_from n ws place k
     go zero h = absurd (omega arith)
-    go (suc n) h = unfold freeFrom in (rw (le-leb (entries_at ws k) place e))
+    go (suc n) h = unfold free_from in (rw (le-leb (entries_at ws k) place e))
 
-free_step : (ws : List ℕ) (place k m n : ℕ) → n ≡ m + 1 → place < entries_at ws k → freeFrom m ws place (k + 1) ≡ freeFrom n ws place k
-unfolding freeFrom pick
+free_step : (ws : List ℕ) (place k m n : ℕ) → n ≡ m + 1 → place < entries_at ws k → free_from m ws place (k + 1) ≡ free_from n ws place k
+unfolding free_from pick
 free_step ws place k m zero h d = absurd (omega arith)
 free_step ws place k m (suc n) h d = let e : m ≡ n = omega arith in rw (e, lt-leb (entries_at ws k) place d)
 
@@ -34,18 +34,18 @@ pub free-over : (ws : List ℕ) (place k : ℕ) → length ws ≤ k → k ≡ fr
 unfolding free
 free-over ws place k l = go (length ws - k) (omega arith)
   where
-    go : (n : ℕ) → n ≡ 0 → k ≡ freeFrom n ws place k
-    go zero h = unfold freeFrom in refl
+    go : (n : ℕ) → n ≡ 0 → k ≡ free_from n ws place k
+    go zero h = unfold free_from in refl
     go (suc n) h = absurd (omega arith)
 
 -- it is one of the columns from there on, or the one after them
-from-within : (n : ℕ) (ws : List ℕ) (place k : ℕ) → (k ≤ freeFrom n ws place k) × (freeFrom n ws place k ≤ k + n)
-unfolding freeFrom pick
+from-within : (n : ℕ) (ws : List ℕ) (place k : ℕ) → (k ≤ free_from n ws place k) × (free_from n ws place k ≤ k + n)
+unfolding free_from pick
 from-within zero ws place k = (omega arith, omega arith)
 from-within (suc n) ws place k = go (leb (entries_at ws k) place) (from-within n ws place (k + 1))
   where
-    go : (b : Bool) → (k + 1 ≤ freeFrom n ws place (k + 1)) × (freeFrom n ws place (k + 1) ≤ k + 1 + n)
-        → (k ≤ pick b k (freeFrom n ws place (k + 1))) × (pick b k (freeFrom n ws place (k + 1)) ≤ k + suc n)
+    go : (b : Bool) → (k + 1 ≤ free_from n ws place (k + 1)) × (free_from n ws place (k + 1) ≤ k + 1 + n)
+        → (k ≤ pick b k (free_from n ws place (k + 1))) × (pick b k (free_from n ws place (k + 1)) ≤ k + suc n)
     go true h = (omega arith, omega arith)
     go false h = (omega (arith, h.0), omega (arith, h.1))
 
@@ -57,32 +57,32 @@ free-within ws place k r e =
 
 -- ---- until then the place is taken
 
-here : (n : ℕ) (ws : List ℕ) (place k : ℕ) → entries_at ws k ≤ place → freeFrom (suc n) ws place k ≡ k
-unfolding freeFrom
+here : (n : ℕ) (ws : List ℕ) (place k : ℕ) → entries_at ws k ≤ place → free_from (suc n) ws place k ≡ k
+unfolding free_from
 here n ws place k h = sym (pick_true _ (le-leb (entries_at ws k) place h))
 
-later : (n : ℕ) (ws : List ℕ) (place k : ℕ) → place < entries_at ws k → freeFrom (suc n) ws place k ≡ freeFrom n ws place (k + 1)
-unfolding freeFrom
+later : (n : ℕ) (ws : List ℕ) (place k : ℕ) → place < entries_at ws k → free_from (suc n) ws place k ≡ free_from n ws place (k + 1)
+unfolding free_from
 later n ws place k h = sym (pick-false _ (lt-leb (entries_at ws k) place h))
 
-none_left : (ws : List ℕ) (place k : ℕ) → freeFrom 0 ws place k ≡ k
-unfolding freeFrom
+none_left : (ws : List ℕ) (place k : ℕ) → free_from 0 ws place k ≡ k
+unfolding free_from
 none_left ws place k = refl
 
-taken-before : (n : ℕ) (ws : List ℕ) (place k j : ℕ) → k ≤ j → j < freeFrom n ws place k → place < entries_at ws j
+taken-before : (n : ℕ) (ws : List ℕ) (place k j : ℕ) → k ≤ j → j < free_from n ws place k → place < entries_at ws j
 taken-before zero ws place k j a b = absurd (omega (arith, none_left ws place k))
 taken-before (suc n) ws place k j a b = go (dec_lt place (entries_at ws k)) (ℕ_discrete j k) (taken-before n ws place (k + 1) j)
   where
-    go : Dec (place < entries_at ws k) → Dec (j ≡ k) → (k + 1 ≤ j → j < freeFrom n ws place (k + 1) → place < entries_at ws j) → place < entries_at ws j
+    go : Dec (place < entries_at ws k) → Dec (j ≡ k) → (k + 1 ≤ j → j < free_from n ws place (k + 1) → place < entries_at ws j) → place < entries_at ws j
     go (yes t) (yes e) ih = rw e t
     go (yes t) (no e) ih = ih (omega (arith, e)) (omega (arith, later n ws place k t))
     go (no t) d ih = absurd (omega (arith, here n ws place k (omega (arith, t))))
 
-gone_at : (n : ℕ) (ws : List ℕ) (place k : ℕ) → freeFrom n ws place k < k + n → entries_at ws (freeFrom n ws place k) ≤ place
+gone_at : (n : ℕ) (ws : List ℕ) (place k : ℕ) → free_from n ws place k < k + n → entries_at ws (free_from n ws place k) ≤ place
 gone_at zero ws place k l = absurd (omega (arith, none_left ws place k))
 gone_at (suc n) ws place k l = go (dec_lt place (entries_at ws k)) (gone_at n ws place (k + 1))
   where
-    go : Dec (place < entries_at ws k) → (freeFrom n ws place (k + 1) < k + 1 + n → entries_at ws (freeFrom n ws place (k + 1)) ≤ place) → entries_at ws (freeFrom (suc n) ws place k) ≤ place
+    go : Dec (place < entries_at ws k) → (free_from n ws place (k + 1) < k + 1 + n → entries_at ws (free_from n ws place (k + 1)) ≤ place) → entries_at ws (free_from (suc n) ws place k) ≤ place
     go (yes t) ih = rw (later n ws place k t) (ih (omega (arith, later n ws place k t)))
     go (no t) ih = rw (here n ws place k (omega (arith, t))) (omega (arith, t))
 

@@ -11,14 +11,14 @@ use borrow.Author.Tests.{ltb-true, lt-ltb, le-ltb, eq-eqb, ne_eqb}
 use Rattle.words.specs.Choice.{pick}
 use Rattle.words.specs.Counting.{one}
 use Rattle.words.proofs.ChoiceLaws.{pick_true, pick-false}
-use Rattle.text.specs.Text.{decimalOf}
+use Rattle.text.specs.Text.{decimal_of}
 use Rattle.text.specs.Phrases.{bytes, counted}
-use Rattle.drawing.specs.Bars.{Column, Bar, packed, column, columnAt, entries_at, freeFrom, free, opens, opened, openedFrom, stayed, still, bars}
+use Rattle.drawing.specs.Bars.{Column, Bar, packed, column, column_at, entries_at, free_from, free, opens, opened, opened_from, stayed, still, bars}
 use Rattle.drawing.specs.Shapes.{box, label, centred, active, refused, numbered, mark, handler, bar}
 use Rattle.drawing.specs.Frame.{wide, title, axes, signs, head, rows}
-use Rattle.drawing.specs.Drawing.{columnText, columnTexts, barText, barTexts, drawing}
+use Rattle.drawing.specs.Drawing.{column_text, column_texts, bar_text, bar_texts, drawing}
 use Rattle.drawing.specs.Promises.{Promises, Small, openings, Below, window, drawn}
-use Rattle.drawing.proofs.FreeLaws.{free-here, stays, stays-opened}
+use Rattle.drawing.proofs.FreeLaws.{free_here, stays, stays-opened}
 use Rattle.drawing.proofs.SizeLaws.{length-drawing}
 
 -- ---- columns
@@ -41,15 +41,15 @@ unfolding stayed
 many-stayed zero ws source level = refl
 many-stayed (suc n) ws source level = simp length-append (omega (arith, many-stayed n ws source level))
 
-many-if : (t : Bool) (b : Bar) → length (pick t (b ∷ []) []) ≡ one t
+many_if : (t : Bool) (b : Bar) → length (pick t (b ∷ []) []) ≡ one t
 unfolding pick
-many-if true b = refl
-many-if false b = refl
+many_if true b = refl
+many_if false b = refl
 
-many-opened : (n : ℕ) (ws : List ℕ) (k : ℕ) → length (openedFrom n ws k) ≡ openings n ws k
-unfolding openedFrom openings
+many-opened : (n : ℕ) (ws : List ℕ) (k : ℕ) → length (opened_from n ws k) ≡ openings n ws k
+unfolding opened_from openings
 many-opened zero ws k = refl
-many-opened (suc n) ws k = simp length-append (omega (arith, many-if (opens ws k) (opened ws k), many-opened n ws (k + 1)))
+many-opened (suc n) ws k = simp length-append (omega (arith, many_if (opens ws k) (opened ws k), many-opened n ws (k + 1)))
 
 as_many : (ws source level : List ℕ) → length (bars ws source level) ≡ min (entries_at ws 0) (entries_at ws 1) + openings (length ws - 1) ws 1
 unfolding bars
@@ -69,10 +69,10 @@ opening : (ws : List ℕ) (k : ℕ) → (opens ws k ≡ true) ↔ (entries_at ws
 unfolding opens
 opening ws k = (ltb-true (entries_at ws (k - 1)) (entries_at ws k), lt-ltb (entries_at ws (k - 1)) (entries_at ws k))
 
-opened-at : (ws : List ℕ) (k : ℕ)
-    → ((opened ws k).place ≡ entries_at ws k - 1) × ((opened ws k).from ≡ k) × ((opened ws k).source ≡ (columnAt ws k).source) × ((opened ws k).level ≡ (columnAt ws k).level)
+opened_at : (ws : List ℕ) (k : ℕ)
+    → ((opened ws k).place ≡ entries_at ws k - 1) × ((opened ws k).from ≡ k) × ((opened ws k).source ≡ (column_at ws k).source) × ((opened ws k).level ≡ (column_at ws k).level)
 unfolding opened
-opened-at ws k = (refl, refl, refl, refl)
+opened_at ws k = (refl, refl, refl, refl)
 
 stayed-none : (ws source level : List ℕ) → stayed 0 ws source level ≡ []
 unfolding stayed
@@ -84,61 +84,61 @@ stayed-more : (n : ℕ) (ws source level : List ℕ)
 unfolding stayed
 stayed-more n ws source level = refl
 
-opened-none : (n : ℕ) (ws : List ℕ) (k : ℕ) → opens ws k ≡ false → openedFrom (suc n) ws k ≡ openedFrom n ws (k + 1)
-unfolding openedFrom pick
+opened-none : (n : ℕ) (ws : List ℕ) (k : ℕ) → opens ws k ≡ false → opened_from (suc n) ws k ≡ opened_from n ws (k + 1)
+unfolding opened_from pick
 opened-none n ws k e = rw e
 
-opened-more : (n : ℕ) (ws : List ℕ) (k : ℕ) → opens ws k ≡ true → openedFrom (suc n) ws k ≡ opened ws k ∷ openedFrom n ws (k + 1)
-unfolding openedFrom pick
+opened-more : (n : ℕ) (ws : List ℕ) (k : ℕ) → opens ws k ≡ true → opened_from (suc n) ws k ≡ opened ws k ∷ opened_from n ws (k + 1)
+unfolding opened_from pick
 opened-more n ws k e = rw e
 
-all : (ws source level : List ℕ) → bars ws source level ≡ stayed (min (entries_at ws 0) (entries_at ws 1)) ws source level ++ openedFrom (length ws - 1) ws 1
+all : (ws source level : List ℕ) → bars ws source level ≡ stayed (min (entries_at ws 0) (entries_at ws 1)) ws source level ++ opened_from (length ws - 1) ws 1
 unfolding bars
 all ws source level = refl
 
 -- ---- eight rows
 
-below-append : (n : ℕ) (a b : List Bar) → Below n a → Below n b → Below n (a ++ b)
-below-append n [] b p q = q
-below-append n (x ∷ a) b p q = (p.0, below-append n a b p.1 q)
+below_append : (n : ℕ) (a b : List Bar) → Below n a → Below n b → Below n (a ++ b)
+below_append n [] b p q = q
+below_append n (x ∷ a) b p q = (p.0, below_append n a b p.1 q)
 
 below-stayed : (n : ℕ) (ws source level : List ℕ) → n ≤ 8 → Below 8 (stayed n ws source level)
 unfolding stayed
 below-stayed zero ws source level h = tt
 below-stayed (suc n) ws source level h =
-    below-append 8 (stayed n ws source level) (record { place = n; from = 1; to = free ws n 1; source = get_or source n 0; level = get_or level n 0 } ∷ [])
+    below_append 8 (stayed n ws source level) (record { place = n; from = 1; to = free ws n 1; source = get_or source n 0; level = get_or level n 0 } ∷ [])
     (below-stayed n ws source level (omega arith))
     (omega arith, tt)
 
-below-if : (t : Bool) (b : Bar) → b.place < 8 → Below 8 (pick t (b ∷ []) [])
+below_if : (t : Bool) (b : Bar) → b.place < 8 → Below 8 (pick t (b ∷ []) [])
 unfolding pick
-below-if true b h = (h, tt)
-below-if false b h = tt
+below_if true b h = (h, tt)
+below_if false b h = tt
 
-below-opened : (n : ℕ) (ws : List ℕ) (k : ℕ) → ((k : ℕ) → entries_at ws k ≤ 8) → Below 8 (openedFrom n ws k)
-unfolding openedFrom opened
+below-opened : (n : ℕ) (ws : List ℕ) (k : ℕ) → ((k : ℕ) → entries_at ws k ≤ 8) → Below 8 (opened_from n ws k)
+unfolding opened_from opened
 below-opened zero ws k h = tt
 below-opened (suc n) ws k h =
-    below-append 8 (pick (opens ws k) (opened ws k ∷ []) []) (openedFrom n ws (k + 1)) (below-if (opens ws k) (opened ws k) (omega (arith, h k))) (below-opened n ws (k + 1) h)
+    below_append 8 (pick (opens ws k) (opened ws k ∷ []) []) (opened_from n ws (k + 1)) (below_if (opens ws k) (opened ws k) (omega (arith, h k))) (below-opened n ws (k + 1) h)
 
 eighth : (ws source level : List ℕ) → ((k : ℕ) → entries_at ws k ≤ 8) → Below 8 (bars ws source level)
 unfolding bars
 eighth ws source level h =
-    below-append 8 (stayed (still ws) ws source level) (openedFrom (length ws - 1) ws 1)
+    below_append 8 (stayed (still ws) ws source level) (opened_from (length ws - 1) ws 1)
     (below-stayed (still ws) ws source level (omega (arith, h 0, min-le_left (entries_at ws 0) (entries_at ws 1))))
     (below-opened (length ws - 1) ws 1 h)
 
 -- ---- a whole drawing
 
 worked : drawing 4 window (3 ∷ []) (2 ∷ []) ≡ drawn
-unfolding drawing head title axes signs wide rows columnTexts columnText active refused numbered box label centred barTexts barText bar mark handler bars stayed openedFrom opened opens free freeFrom counted bytes decimalOf pick
+unfolding drawing head title axes signs wide rows column_texts column_text active refused numbered box label centred bar_texts bar_text bar mark handler bars stayed opened_from opened opens free free_from counted bytes decimal_of pick
 worked = refl
 
 -- ---- its parts
 
 whole : (first : ℕ) (ws source level : List ℕ)
     → drawing first ws source level
-    ≡ head first (length ws - 1) ++ rows 8 ++ columnTexts (length ws - 1) first ws 1 ++ barTexts (bars ws source level) ++ bytes "</svg>\n"
+    ≡ head first (length ws - 1) ++ rows 8 ++ column_texts (length ws - 1) first ws 1 ++ bar_texts (bars ws source level) ++ bytes "</svg>\n"
 unfolding drawing
 whole first ws source level = refl
 
@@ -146,17 +146,17 @@ framed : (first n : ℕ) → head first n ≡ title first n ++ axes n ++ signs
 unfolding head
 framed first n = refl
 
-columns-none : (first : ℕ) (ws : List ℕ) (k : ℕ) → columnTexts 0 first ws k ≡ []
-unfolding columnTexts
+columns-none : (first : ℕ) (ws : List ℕ) (k : ℕ) → column_texts 0 first ws k ≡ []
+unfolding column_texts
 columns-none first ws k = refl
 
-columns-more : (n first : ℕ) (ws : List ℕ) (k : ℕ) → columnTexts (suc n) first ws k ≡ columnText first k (columnAt ws k) ++ columnTexts n first ws (k + 1)
-unfolding columnTexts
+columns-more : (n first : ℕ) (ws : List ℕ) (k : ℕ) → column_texts (suc n) first ws k ≡ column_text first k (column_at ws k) ++ column_texts n first ws (k + 1)
+unfolding column_texts
 columns-more n first ws k = refl
 
 column-shows : (first k : ℕ) (c : Column)
-    → columnText first k c ≡ active 26 k c.irq ++ active 46 k c.fiq ++ refused k c.refusal ++ numbered k (first + k - 1)
-unfolding columnText
+    → column_text first k c ≡ active 26 k c.irq ++ active 46 k c.fiq ++ refused k c.refusal ++ numbered k (first + k - 1)
+unfolding column_text
 column-shows first k c = refl
 
 dark : (y k on : ℕ) → on ≢ 0 → active y k on ≡ box (40 + 24 * k) y 24 14 (bytes "fill=\"#333\"")
@@ -176,21 +176,21 @@ not-refused : (k : ℕ) → refused k 0 ≡ []
 unfolding refused pick
 not-refused k = refl
 
-bars-none : barTexts [] ≡ []
-unfolding barTexts
+bars-none : bar_texts [] ≡ []
+unfolding bar_texts
 bars-none = refl
 
-bars-more : (b : Bar) (bs : List Bar) → barTexts (b ∷ bs) ≡ barText b ++ barTexts bs
-unfolding barTexts
+bars-more : (b : Bar) (bs : List Bar) → bar_texts (b ∷ bs) ≡ bar_text b ++ bar_texts bs
+unfolding bar_texts
 bars-more b bs = refl
 
-mark-bar : (b : Bar) → b.source ≡ 0 → barText b ≡ mark (40 + 24 * b.from) (288 - 28 * b.place) (24 * (b.to - b.from))
-unfolding barText bar
+mark-bar : (b : Bar) → b.source ≡ 0 → bar_text b ≡ mark (40 + 24 * b.from) (288 - 28 * b.place) (24 * (b.to - b.from))
+unfolding bar_text bar
 mark-bar b e = sym (pick_true _ (eq-eqb b.source 0 e))
 
 handler-bar : (b : Bar) → b.source ≢ 0
-    → barText b ≡ handler (40 + 24 * b.from) (288 - 28 * b.place) (24 * (b.to - b.from)) b.source b.level
-unfolding barText bar
+    → bar_text b ≡ handler (40 + 24 * b.from) (288 - 28 * b.place) (24 * (b.to - b.from)) b.source b.level
+unfolding bar_text bar
 handler-bar b d = sym (pick-false _ (ne_eqb b.source 0 d))
 
 narrow : (n : ℕ) → n < 26 → wide n ≡ 704
@@ -213,18 +213,18 @@ pub kept : Promises
 kept =
     record {
       back = back;
-      asMany = as_many;
-      openingsNone = openings-none;
-      openingsMore = openings-more;
+      as_many = as_many;
+      openings_none = openings-none;
+      openings_more = openings-more;
       opening = opening;
-      openedAt = opened-at;
-      openedTo = stays-opened;
-      stayedTo = λ ws place h p. stays ws place 1 (omega arith);
-      freeAtOnce = λ ws place k h e. sym (free-here ws place k h e);
-      stayedNone = stayed-none;
-      stayedMore = stayed-more;
-      openedNone = opened-none;
-      openedMore = opened-more;
+      opened_at = opened_at;
+      opened_to = stays-opened;
+      stayed_to = λ ws place h p. stays ws place 1 (omega arith);
+      free_at_once = λ ws place k h e. sym (free_here ws place k h e);
+      stayed_none = stayed-none;
+      stayed_more = stayed-more;
+      opened_none = opened-none;
+      opened_more = opened-more;
       all = all;
       eighth = eighth;
       worked = worked;
@@ -232,22 +232,22 @@ kept =
       framed = framed;
       titled = unfold title in (λ first n. refl);
       axis = unfold axes in (λ n. refl);
-      columnsNone = columns-none;
-      columnsMore = columns-more;
-      columnShows = column-shows;
+      columns_none = columns-none;
+      columns_more = columns-more;
+      column_shows = column-shows;
       dark = dark;
       light = light;
-      refusedBy = refused-by;
-      notRefused = not-refused;
-      barsNone = bars-none;
-      barsMore = bars-more;
-      markBar = mark-bar;
-      handlerBar = handler-bar;
+      refused_by = refused-by;
+      not_refused = not-refused;
+      bars_none = bars-none;
+      bars_more = bars-more;
+      mark_bar = mark-bar;
+      handler_bar = handler-bar;
       boxed = unfold box in (λ x y w h look. refl);
       labelled = unfold label in (λ x y word n. refl);
-      inMiddle = unfold centred in (λ x y n. refl);
-      markShape = unfold mark in (λ x y w. refl);
-      handlerShape = unfold handler in (λ x y w source level. refl);
+      in_middle = unfold centred in (λ x y n. refl);
+      mark_shape = unfold mark in (λ x y w. refl);
+      handler_shape = unfold handler in (λ x y w source level. refl);
       narrow = narrow;
       wider = wider;
       fifth = fifth;

@@ -24,11 +24,11 @@ column w =
     record { irq = w % 2; fiq = w / 2 % 2; entries = w / 4 % 16; source = w / 64 % 32; level = w / 2048 % 256; refusal = w / 524288 % 4294967296 }
 
 -- the kth column of a window; column 0 is what held before its first step
-abbrev pub columnAt : List ℕ → ℕ → Column
-columnAt ws k = column (get_or ws k 0)
+abbrev pub column_at : List ℕ → ℕ → Column
+column_at ws k = column (get_or ws k 0)
 
 abbrev pub entries_at : List ℕ → ℕ → ℕ
-entries_at ws k = (columnAt ws k).entries
+entries_at ws k = (column_at ws k).entries
 
 -- ---- bars
 
@@ -41,12 +41,12 @@ pub record Bar : Type 0 where
   pub level : ℕ
 
 -- the first column from the kth on, of n, in which the place is free: no more entries are open than it has below it; where none is, the column after them
-unfoldable pub freeFrom : ℕ → List ℕ → ℕ → ℕ → ℕ
-freeFrom zero ws place k = k
-freeFrom (suc n) ws place k = pick (leb (entries_at ws k) place) k (freeFrom n ws place (k + 1))
+unfoldable pub free_from : ℕ → List ℕ → ℕ → ℕ → ℕ
+free_from zero ws place k = k
+free_from (suc n) ws place k = pick (leb (entries_at ws k) place) k (free_from n ws place (k + 1))
 
 unfoldable pub free : List ℕ → ℕ → ℕ → ℕ
-free ws place k = freeFrom (length ws - k) ws place k
+free ws place k = free_from (length ws - k) ws place k
 
 -- the step of a column opens an entry
 unfoldable pub opens : List ℕ → ℕ → Bool
@@ -59,14 +59,14 @@ opened ws k =
       place = entries_at ws k - 1;
       from = k;
       to = free ws (entries_at ws k - 1) (k + 1);
-      source = (columnAt ws k).source;
-      level = (columnAt ws k).level;
+      source = (column_at ws k).source;
+      level = (column_at ws k).level;
     }
 
 -- those of n columns, from the kth on
-unfoldable pub openedFrom : ℕ → List ℕ → ℕ → List Bar
-openedFrom zero ws k = []
-openedFrom (suc n) ws k = pick (opens ws k) (opened ws k ∷ []) [] ++ openedFrom n ws (k + 1)
+unfoldable pub opened_from : ℕ → List ℕ → ℕ → List Bar
+opened_from zero ws k = []
+opened_from (suc n) ws k = pick (opens ws k) (opened ws k ∷ []) [] ++ opened_from n ws (k + 1)
 
 -- the entries in the first n places, open before the window
 unfoldable pub stayed : ℕ → List ℕ → List ℕ → List ℕ → List Bar
@@ -80,4 +80,4 @@ still ws = min (entries_at ws 0) (entries_at ws 1)
 
 -- all: those, of the sources and levels given, and then the ones that the steps of the window open
 unfoldable pub bars : List ℕ → List ℕ → List ℕ → List Bar
-bars ws source level = stayed (still ws) ws source level ++ openedFrom (length ws - 1) ws 1
+bars ws source level = stayed (still ws) ws source level ++ opened_from (length ws - 1) ws 1

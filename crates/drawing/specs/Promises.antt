@@ -4,8 +4,8 @@ use Rattle.words.specs.Counting.{one}
 use Rattle.text.specs.Phrases.{bytes, counted}
 use Rattle.drawing.specs.Shapes.{box, label, centred, active, refused, numbered, mark, handler}
 use Rattle.drawing.specs.Frame.{wide, title, axes, signs, head, rows}
-use Rattle.drawing.specs.Bars.{Column, Bar, packed, column, columnAt, entries_at, free, opens, opened, openedFrom, stayed, still, bars}
-use Rattle.drawing.specs.Drawing.{columnText, columnTexts, barText, barTexts, drawing}
+use Rattle.drawing.specs.Bars.{Column, Bar, packed, column, column_at, entries_at, free, opens, opened, opened_from, stayed, still, bars}
+use Rattle.drawing.specs.Drawing.{column_text, column_texts, bar_text, bar_texts, drawing}
 
 -- a column whose numbers find room in one
 pub record Small (c : Column) : Type 0 where
@@ -90,27 +90,27 @@ pub record Promises : Type 0 where
   -- ---- bars
 
   -- as many bars as entries that are open before the window and after its first step, and entries opened in it
-  pub asMany : (ws source level : List ℕ) → length (bars ws source level) ≡ min (entries_at ws 0) (entries_at ws 1) + openings (length ws - 1) ws 1
-  pub openingsNone : (ws : List ℕ) (k : ℕ) → openings 0 ws k ≡ 0
-  pub openingsMore : (n : ℕ) (ws : List ℕ) (k : ℕ) → openings (suc n) ws k ≡ one (opens ws k) + openings n ws (k + 1)
+  pub as_many : (ws source level : List ℕ) → length (bars ws source level) ≡ min (entries_at ws 0) (entries_at ws 1) + openings (length ws - 1) ws 1
+  pub openings_none : (ws : List ℕ) (k : ℕ) → openings 0 ws k ≡ 0
+  pub openings_more : (n : ℕ) (ws : List ℕ) (k : ℕ) → openings (suc n) ws k ≡ one (opens ws k) + openings n ws (k + 1)
   -- a step opens an entry exactly if more are open after it than before
   pub opening : (ws : List ℕ) (k : ℕ) → (opens ws k ≡ true) ↔ (entries_at ws (k - 1) < entries_at ws k)
   -- its bar stands in the place of the last entry, with the source and the level of that, from this column to the one that closes it or the window's end
-  pub openedAt : (ws : List ℕ) (k : ℕ)
-      → ((opened ws k).place ≡ entries_at ws k - 1) × ((opened ws k).from ≡ k) × ((opened ws k).source ≡ (columnAt ws k).source) × ((opened ws k).level ≡ (columnAt ws k).level)
-  pub openedTo : (ws : List ℕ) (k : ℕ) → k < length ws → opens ws k ≡ true → Stays ws (opened ws k).place k (opened ws k).to
+  pub opened_at : (ws : List ℕ) (k : ℕ)
+      → ((opened ws k).place ≡ entries_at ws k - 1) × ((opened ws k).from ≡ k) × ((opened ws k).source ≡ (column_at ws k).source) × ((opened ws k).level ≡ (column_at ws k).level)
+  pub opened_to : (ws : List ℕ) (k : ℕ) → k < length ws → opens ws k ≡ true → Stays ws (opened ws k).place k (opened ws k).to
   -- that of an entry which was open before stands from the first column on
-  pub stayedTo : (ws : List ℕ) (place : ℕ) → 1 < length ws → place < still ws → Stays ws place 1 (free ws place 1)
+  pub stayed_to : (ws : List ℕ) (place : ℕ) → 1 < length ws → place < still ws → Stays ws place 1 (free ws place 1)
   -- where a place is free at once, that column is the first
-  pub freeAtOnce : (ws : List ℕ) (place k : ℕ) → k < length ws → entries_at ws k ≤ place → free ws place k ≡ k
+  pub free_at_once : (ws : List ℕ) (place k : ℕ) → k < length ws → entries_at ws k ≤ place → free ws place k ≡ k
   -- they come in this order
-  pub stayedNone : (ws source level : List ℕ) → stayed 0 ws source level ≡ []
-  pub stayedMore : (n : ℕ) (ws source level : List ℕ)
+  pub stayed_none : (ws source level : List ℕ) → stayed 0 ws source level ≡ []
+  pub stayed_more : (n : ℕ) (ws source level : List ℕ)
       → stayed (suc n) ws source level
       ≡ stayed n ws source level ++ (record { place = n; from = 1; to = free ws n 1; source = get_or source n 0; level = get_or level n 0 } ∷ [])
-  pub openedNone : (n : ℕ) (ws : List ℕ) (k : ℕ) → opens ws k ≡ false → openedFrom (suc n) ws k ≡ openedFrom n ws (k + 1)
-  pub openedMore : (n : ℕ) (ws : List ℕ) (k : ℕ) → opens ws k ≡ true → openedFrom (suc n) ws k ≡ opened ws k ∷ openedFrom n ws (k + 1)
-  pub all : (ws source level : List ℕ) → bars ws source level ≡ stayed (min (entries_at ws 0) (entries_at ws 1)) ws source level ++ openedFrom (length ws - 1) ws 1
+  pub opened_none : (n : ℕ) (ws : List ℕ) (k : ℕ) → opens ws k ≡ false → opened_from (suc n) ws k ≡ opened_from n ws (k + 1)
+  pub opened_more : (n : ℕ) (ws : List ℕ) (k : ℕ) → opens ws k ≡ true → opened_from (suc n) ws k ≡ opened ws k ∷ opened_from n ws (k + 1)
+  pub all : (ws source level : List ℕ) → bars ws source level ≡ stayed (min (entries_at ws 0) (entries_at ws 1)) ws source level ++ opened_from (length ws - 1) ws 1
   -- no bar is beyond the eighth row where never more than eight entries are open (demand 3)
   pub eighth : (ws source level : List ℕ) → ((k : ℕ) → entries_at ws k ≤ 8) → Below 8 (bars ws source level)
   -- ---- the text
@@ -120,7 +120,7 @@ pub record Promises : Type 0 where
   -- it has its frame, eight rows, every column but column 0, and every bar
   pub whole : (first : ℕ) (ws source level : List ℕ)
       → drawing first ws source level
-      ≡ head first (length ws - 1) ++ rows 8 ++ columnTexts (length ws - 1) first ws 1 ++ barTexts (bars ws source level) ++ bytes "</svg>\n"
+      ≡ head first (length ws - 1) ++ rows 8 ++ column_texts (length ws - 1) first ws 1 ++ bar_texts (bars ws source level) ++ bytes "</svg>\n"
   -- the frame tells its width and which steps are drawn, and its axis ends behind the last column
   pub framed : (first n : ℕ) → head first n ≡ title first n ++ axes n ++ signs
   pub titled : (first n : ℕ)
@@ -135,35 +135,35 @@ pub record Promises : Type 0 where
       ++ bytes "<text transform=\"translate(24 262) rotate(-90)\">entries open, at most 8</text>\n"
       ++ counted (bytes "<path d=\"M64 92V316H") (40 + 24 * (n + 1)) ++ bytes "\" fill=\"none\" stroke=\"black\"/>\n"
   -- a column shows IRQ over FIQ, the refusal, and the number of its step, counted on from that of the first
-  pub columnsNone : (first : ℕ) (ws : List ℕ) (k : ℕ) → columnTexts 0 first ws k ≡ []
-  pub columnsMore : (n first : ℕ) (ws : List ℕ) (k : ℕ) → columnTexts (suc n) first ws k ≡ columnText first k (columnAt ws k) ++ columnTexts n first ws (k + 1)
-  pub columnShows : (first k : ℕ) (c : Column)
-      → columnText first k c ≡ active 26 k c.irq ++ active 46 k c.fiq ++ refused k c.refusal ++ numbered k (first + k - 1)
+  pub columns_none : (first : ℕ) (ws : List ℕ) (k : ℕ) → column_texts 0 first ws k ≡ []
+  pub columns_more : (n first : ℕ) (ws : List ℕ) (k : ℕ) → column_texts (suc n) first ws k ≡ column_text first k (column_at ws k) ++ column_texts n first ws (k + 1)
+  pub column_shows : (first k : ℕ) (c : Column)
+      → column_text first k c ≡ active 26 k c.irq ++ active 46 k c.fiq ++ refused k c.refusal ++ numbered k (first + k - 1)
   -- an active output is a dark box over its column, a refused step has a tick and the number in the middle of it; else there is nothing
   pub dark : (y k on : ℕ) → on ≢ 0 → active y k on ≡ box (40 + 24 * k) y 24 14 (bytes "fill=\"#333\"")
   pub light : (y k : ℕ) → active y k 0 ≡ []
-  pub refusedBy : (k n : ℕ) → n ≢ 0
+  pub refused_by : (k n : ℕ) → n ≢ 0
       → refused k n ≡ counted (bytes "<path d=\"M") (52 + 24 * k) ++ bytes " 64v8\" stroke=\"black\"/>\n" ++ centred (52 + 24 * k) 84 n
-  pub notRefused : (k : ℕ) → refused k 0 ≡ []
+  pub not_refused : (k : ℕ) → refused k 0 ≡ []
   -- a bar lies in the row of its place, the lowest at the bottom, over its columns; it is a mark's exactly if its source is 0 (02, 3/12)
-  pub barsNone : barTexts [] ≡ []
-  pub barsMore : (b : Bar) (bs : List Bar) → barTexts (b ∷ bs) ≡ barText b ++ barTexts bs
-  pub markBar : (b : Bar) → b.source ≡ 0 → barText b ≡ mark (40 + 24 * b.from) (288 - 28 * b.place) (24 * (b.to - b.from))
-  pub handlerBar : (b : Bar) → b.source ≢ 0
-      → barText b ≡ handler (40 + 24 * b.from) (288 - 28 * b.place) (24 * (b.to - b.from)) b.source b.level
+  pub bars_none : bar_texts [] ≡ []
+  pub bars_more : (b : Bar) (bs : List Bar) → bar_texts (b ∷ bs) ≡ bar_text b ++ bar_texts bs
+  pub mark_bar : (b : Bar) → b.source ≡ 0 → bar_text b ≡ mark (40 + 24 * b.from) (288 - 28 * b.place) (24 * (b.to - b.from))
+  pub handler_bar : (b : Bar) → b.source ≢ 0
+      → bar_text b ≡ handler (40 + 24 * b.from) (288 - 28 * b.place) (24 * (b.to - b.from)) b.source b.level
   -- the shapes that they are made of
   pub boxed : (x y w h : ℕ) (look : List ℕ)
       → box x y w h look
       ≡ counted (bytes "<rect x=\"") x ++ counted (bytes "\" y=\"") y ++ counted (bytes "\" width=\"") w ++ counted (bytes "\" height=\"") h ++ bytes "\" " ++ look ++ bytes "/>\n"
   pub labelled : (x y : ℕ) (word : List ℕ) (n : ℕ)
       → label x y word n ≡ counted (bytes "<text x=\"") x ++ counted (bytes "\" y=\"") y ++ counted (bytes "\">" ++ word) n ++ bytes "</text>\n"
-  pub inMiddle : (x y n : ℕ)
+  pub in_middle : (x y n : ℕ)
       → centred x y n ≡ counted (bytes "<text text-anchor=\"middle\" x=\"") x ++ counted (bytes "\" y=\"") y ++ counted (bytes "\">") n ++ bytes "</text>\n"
-  pub markShape : (x y w : ℕ)
+  pub mark_shape : (x y w : ℕ)
       → mark x y w
       ≡ box x y w 26 (bytes "fill=\"#ddd\" stroke=\"black\" stroke-dasharray=\"3 2\"")
       ++ counted (bytes "<text font-size=\"9\" x=\"") (x + 1) ++ counted (bytes "\" y=\"") (y + 17) ++ bytes "\">mark</text>\n"
-  pub handlerShape : (x y w source level : ℕ)
+  pub handler_shape : (x y w source level : ℕ)
       → handler x y w source level
       ≡ box x y w 26 (bytes "fill=\"white\" stroke=\"black\"") ++ label (x + 3) (y + 11) (bytes "S") source ++ label (x + 3) (y + 22) (bytes "L") level
   -- it is as wide as its steps, and never narrower than its words

@@ -2,8 +2,8 @@
 ghost use Rattle.std.specs.Prelude.{◌≡◌, [], ◌≤◌, ◌<◌, ◌-◌, ◌/◌, ◌%◌, length, get_or};
 ghost use Rattle.words.specs.Choice.{pick};
 ghost use Rattle.text.specs.Text.{write, laid};
-ghost use Rattle.drawing.specs.Bars.{column, free, opens, opened, openedFrom, stayed, still};
-ghost use Rattle.drawing.specs.Drawing.{columnText, columnTexts, barText, barTexts, drawing};
+ghost use Rattle.drawing.specs.Bars.{column, free, opens, opened, opened_from, stayed, still};
+ghost use Rattle.drawing.specs.Drawing.{column_text, column_texts, bar_text, bar_texts, drawing};
 
 mod frame;
 mod shapes;
@@ -28,7 +28,7 @@ pub fn draw(out: &mut [u8], first: u32, ws: &[u64], source: &[u8], level: &[u8])
 // Every column but the one before the first step.
 fn put_columns(out: &mut [u8], at: usize, first: u32, ws: &[u64]) -> usize
     requires { (length ws.now ≤ 501) × (first ≤ 65536) }
-    ensures { (out.new, result) ≡ write (out.old, at) (columnTexts (length ws.now - 1) first ws.now 1) }
+    ensures { (out.new, result) ≡ write (out.old, at) (column_texts (length ws.now - 1) first ws.now 1) }
 {
     let mut next = at;
     let mut k: usize = 1;
@@ -42,7 +42,7 @@ fn put_columns(out: &mut [u8], at: usize, first: u32, ws: &[u64]) -> usize
 // The kth column.
 fn put_column(out: &mut [u8], at: usize, first: u32, k: u32, w: u64) -> usize
     requires { (k ≤ 501) × (1 ≤ k) × (first ≤ 65536) }
-    ensures { (out.new, result) ≡ write (out.old, at) (columnText first k (column w)) }
+    ensures { (out.new, result) ≡ write (out.old, at) (column_text first k (column w)) }
 {
     let a = shapes::put_active(out, at, 26, k, (w % 2) as u32);
     let b = shapes::put_active(out, a, 46, k, (w / 2 % 2) as u32);
@@ -55,7 +55,7 @@ fn put_column(out: &mut [u8], at: usize, first: u32, k: u32, w: u64) -> usize
 // The entries that were open before the window and still are after its first step.
 fn put_stayed(out: &mut [u8], at: usize, ws: &[u64], source: &[u8], level: &[u8]) -> usize
     requires { length ws.now ≤ 501 }
-    ensures { (out.new, result) ≡ write (out.old, at) (barTexts (stayed (still ws.now) ws.now source.now level.now)) }
+    ensures { (out.new, result) ≡ write (out.old, at) (bar_texts (stayed (still ws.now) ws.now source.now level.now)) }
 {
     let n = stay(ws);
     let mut next = at;
@@ -70,7 +70,7 @@ fn put_stayed(out: &mut [u8], at: usize, ws: &[u64], source: &[u8], level: &[u8]
 // The one of them in a place.
 fn put_stay(out: &mut [u8], at: usize, ws: &[u64], source: &[u8], level: &[u8], place: u32) -> usize
     requires { length ws.now ≤ 501 }
-    ensures { (out.new, result) ≡ write (out.old, at) (barText (record { place = place; from = 1; to = free ws.now place 1; source = get_or source.now place 0; level = get_or level.now place 0 })) }
+    ensures { (out.new, result) ≡ write (out.old, at) (bar_text (record { place = place; from = 1; to = free ws.now place 1; source = get_or source.now place 0; level = get_or level.now place 0 })) }
 {
     let to = free(ws, place, 1);
     let s = byte_at(source, place as usize);
@@ -81,7 +81,7 @@ fn put_stay(out: &mut [u8], at: usize, ws: &[u64], source: &[u8], level: &[u8], 
 // The entries that the steps of the window open.
 fn put_opened(out: &mut [u8], at: usize, ws: &[u64]) -> usize
     requires { length ws.now ≤ 501 }
-    ensures { (out.new, result) ≡ write (out.old, at) (barTexts (openedFrom (length ws.now - 1) ws.now 1)) }
+    ensures { (out.new, result) ≡ write (out.old, at) (bar_texts (opened_from (length ws.now - 1) ws.now 1)) }
 {
     let mut next = at;
     let mut k: usize = 1;
@@ -95,7 +95,7 @@ fn put_opened(out: &mut [u8], at: usize, ws: &[u64]) -> usize
 // The one that the step of a column opens, if it does.
 fn put_opening(out: &mut [u8], at: usize, ws: &[u64], k: usize) -> usize
     requires { (length ws.now ≤ 501) × (1 ≤ k) × (k < length ws.now) }
-    ensures { (out.new, result) ≡ write (out.old, at) (pick (opens ws.now k) (barText (opened ws.now k)) []) }
+    ensures { (out.new, result) ≡ write (out.old, at) (pick (opens ws.now k) (bar_text (opened ws.now k)) []) }
 {
     let was = entries_of(ws[k - 1]);
     let is = entries_of(ws[k]);

@@ -2,8 +2,8 @@
 // (docs/TEXT.md).
 ghost use Rattle.std.specs.Prelude.{◌≡◌, ◌≤◌};
 ghost use Rattle.text.specs.Text.{write, laid};
-ghost use Rattle.encode.specs.Encode.{longestTrace, roomFor, line_of, endedBy, encoded};
-ghost use Rattle.encode.specs.Lines.{expectedWords, refusedLine};
+ghost use Rattle.encode.specs.Encode.{longest_trace, room_for, line_of, ended_by, encoded};
+ghost use Rattle.encode.specs.Lines.{expected_words, refused_line};
 
 pub mod statements;
 
@@ -72,7 +72,7 @@ pub fn encode(text: &[u8], out: &mut [u8]) -> Encoded
 
 // The statement of a line that ends at an offset, behind so many bytes of the trace.
 fn line_of(line: &[u8], end: usize, kind: u32, size: usize) -> Statement
-    requires { size ≤ longestTrace }
+    requires { size ≤ longest_trace }
     ensures { result ≡ line_of end kind size line.now }
 {
     if LONGEST_TEXT < end {
@@ -83,8 +83,8 @@ fn line_of(line: &[u8], end: usize, kind: u32, size: usize) -> Statement
 
 // It is taken where the trace does not get too long by it.
 fn room_for(size: usize, s: Statement) -> Statement
-    requires { size ≤ longestTrace }
-    ensures { result ≡ roomFor size s }
+    requires { size ≤ longest_trace }
+    ensures { result ≡ room_for size s }
 {
     if LONGEST_TRACE - size < s.size {
         return statements::goes_astray(SHORTER_TRACE, 0);
@@ -94,7 +94,7 @@ fn room_for(size: usize, s: Statement) -> Statement
 
 // At the end of a text its controller has been named.
 fn ended_by(kind: u32, lines: usize) -> Refusal
-    ensures { result ≡ endedBy kind lines }
+    ensures { result ≡ ended_by kind lines }
 {
     if kind == statements::NO_KIND {
         return Refusal {
@@ -114,7 +114,7 @@ fn ended_by(kind: u32, lines: usize) -> Refusal
 
 // Its line, from the start of the buffer on.
 pub fn put_refusal(out: &mut [u8], r: Refusal) -> usize
-    ensures { (out.new, result) ≡ laid out.old (refusedLine r) }
+    ensures { (out.new, result) ≡ laid out.old (refused_line r) }
 {
     let a = text::put_all(out, 0, b"line ");
     let b = text::put_decimal(out, a, r.line as u64);
@@ -124,7 +124,7 @@ pub fn put_refusal(out: &mut [u8], r: Refusal) -> usize
 
 // What was expected.
 fn put_expected(out: &mut [u8], at: usize, expected: u32, word: usize) -> usize
-    ensures { (out.new, result) ≡ write (out.old, at) (expectedWords expected word) }
+    ensures { (out.new, result) ≡ write (out.old, at) (expected_words expected word) }
 {
     if expected == statements::CONTROLLER {
         return text::put_all(

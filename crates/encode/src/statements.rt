@@ -1,12 +1,12 @@
 // The text form of a trace, one line: its words are read as a statement, and the numbers that it stands for are written as bytes (docs/TEXT.md).
 ghost use Rattle.std.specs.Prelude.{◌≡◌, ◌&&◌, ◌^◌, ltb, length};
 ghost use Rattle.text.specs.Text.{write};
-ghost use Rattle.trace.specs.Steps.{operandsOf};
+ghost use Rattle.trace.specs.Steps.{operands_of};
 ghost use Rattle.encode.specs.Bytes.{groups, shortest, bytes_of};
 ghost use Rattle.encode.specs.Words.{same, kind_of, step_of};
-ghost use Rattle.encode.specs.Statements.{placeFrom, valuesIn, numbersIn};
-ghost use Rattle.encode.specs.Statements.{silent, astray, controllerBy, stepBy, openingOf, byNumbers, byOpening};
-ghost use Rattle.encode.specs.Statements.{statementIn, statementOf, numbersOf, bytesIn};
+ghost use Rattle.encode.specs.Statements.{place_from, values_in, numbers_in};
+ghost use Rattle.encode.specs.Statements.{silent, astray, controller_by, step_by, opening_of, by_numbers, by_opening};
+ghost use Rattle.encode.specs.Statements.{statement_in, statement_of, numbers_of, bytes_in};
 
 // What a line says: what was expected in it and as which word, counted from 1; the controller's kind behind it; the number of its first word, how many
 // words it has, and how many bytes they take.
@@ -60,7 +60,7 @@ const OVER: u64 = 4294967296;
 
 // The statement of a line, of a text that has named this kind.
 pub fn statement_of(kind: u32, line: &[u8]) -> Statement
-    ensures { result ≡ statementOf kind line.now }
+    ensures { result ≡ statement_of kind line.now }
 {
     let stop = find(line, 0, b'#');
     statement_in(kind, &line[..stop])
@@ -68,7 +68,7 @@ pub fn statement_of(kind: u32, line: &[u8]) -> Statement
 
 // The same without a comment.
 fn statement_in(kind: u32, line: &[u8]) -> Statement
-    ensures { result ≡ statementIn kind line.now }
+    ensures { result ≡ statement_in kind line.now }
 {
     let first = tables::read_next(line, 0);
     let start = first.start;
@@ -108,7 +108,7 @@ fn says_nothing(kind: u32) -> Statement
 
 // What the first word says, and the rest.
 fn by_opening(line: &[u8], o: Opening) -> Statement
-    ensures { result ≡ byOpening line.now o }
+    ensures { result ≡ by_opening line.now o }
 {
     if o.expected == AS_IT_SHOULD_BE {
         return by_numbers(line, o);
@@ -118,7 +118,7 @@ fn by_opening(line: &[u8], o: Opening) -> Statement
 
 // The numbers behind the first word, and nothing behind them.
 fn by_numbers(line: &[u8], o: Opening) -> Statement
-    ensures { result ≡ byNumbers line.now o }
+    ensures { result ≡ by_numbers line.now o }
 {
     let n = numbers_in(line, o.numbers);
     if n.count < o.numbers {
@@ -141,7 +141,7 @@ fn by_numbers(line: &[u8], o: Opening) -> Statement
 
 // The controller where none is named yet, else a step.
 fn opening_of(kind: u32, word: &[u8]) -> Opening
-    ensures { result ≡ openingOf kind word.now }
+    ensures { result ≡ opening_of kind word.now }
 {
     if kind == NO_KIND {
         return controller_by(kind_of(word));
@@ -150,7 +150,7 @@ fn opening_of(kind: u32, word: &[u8]) -> Opening
 }
 
 fn controller_by(kind: u32) -> Opening
-    ensures { result ≡ controllerBy kind }
+    ensures { result ≡ controller_by kind }
 {
     let n = kinds::wanted(kind);
     Opening {
@@ -166,7 +166,7 @@ fn controller_by(kind: u32) -> Opening
 }
 
 fn step_by(kind: u32, step: u32) -> Opening
-    ensures { result ≡ stepBy kind step }
+    ensures { result ≡ step_by kind step }
 {
     let n = operands(kinds::tells_privilege(kind), step);
     Opening {
@@ -183,7 +183,7 @@ fn step_by(kind: u32, step: u32) -> Opening
 
 // How many numbers go with a step; each offset has a privilege behind it where one is told.
 fn operands(told: bool, step: u32) -> u32
-    ensures { result ≡ operandsOf told step }
+    ensures { result ≡ operands_of told step }
 {
     if step == trace::READ {
         if told {
@@ -261,7 +261,7 @@ fn is_same(a: &[u8], b: &[u8]) -> bool
 
 // The first of at most n that is none of 32 bits ends them.
 fn numbers_in(line: &[u8], n: u32) -> Numbers
-    ensures { result ≡ numbersIn line.now n }
+    ensures { result ≡ numbers_in line.now n }
 {
     let first = tables::read_next(line, 0);
     let mut past = first.past;
@@ -295,7 +295,7 @@ fn fits(taken: bool, value: u64) -> bool
 
 // The first place from `at` on where a byte stands.
 pub fn find(text: &[u8], at: usize, b: u8) -> usize
-    ensures { result ≡ placeFrom b text.now at }
+    ensures { result ≡ place_from b text.now at }
 {
     let mut i = at;
     while i < text.len() {
@@ -311,7 +311,7 @@ pub fn find(text: &[u8], at: usize, b: u8) -> usize
 
 // The bytes of a statement of a line.
 pub fn put_statement(out: &mut [u8], at: usize, line: &[u8], first: u32, words: usize) -> usize
-    ensures { (out.new, result) ≡ write (out.old, at) (bytesIn line.now first words) }
+    ensures { (out.new, result) ≡ write (out.old, at) (bytes_in line.now first words) }
 {
     let stop = find(line, 0, b'#');
     put_words(out, at, &line[..stop], first, words)
@@ -319,7 +319,7 @@ pub fn put_statement(out: &mut [u8], at: usize, line: &[u8], first: u32, words: 
 
 // The same without a comment.
 fn put_words(out: &mut [u8], at: usize, line: &[u8], first: u32, words: usize) -> usize
-    ensures { (out.new, result) ≡ write (out.old, at) (bytes_of (numbersOf line.now first words)) }
+    ensures { (out.new, result) ≡ write (out.old, at) (bytes_of (numbers_of line.now first words)) }
 {
     if words == 0 {
         return at;
@@ -330,7 +330,7 @@ fn put_words(out: &mut [u8], at: usize, line: &[u8], first: u32, words: usize) -
 
 // The numbers of n words behind the first.
 fn put_values(out: &mut [u8], at: usize, line: &[u8], n: usize) -> usize
-    ensures { (out.new, result) ≡ write (out.old, at) (bytes_of (valuesIn line.now n)) }
+    ensures { (out.new, result) ≡ write (out.old, at) (bytes_of (values_in line.now n)) }
 {
     let first = tables::read_next(line, 0);
     let mut past = first.past;

@@ -8,20 +8,20 @@ use native.Mathlib.Omega.{arith}
 use lib.ListN.{length, get_or, length-append, get_or-append}
 use lib.Seq.{get_or-append-add}
 use Rattle.steps.specs.declared.Recorded.{Recorded}
-use Rattle.numbers.specs.Number.{worthAt, Told}
-use Rattle.numbers.specs.Promises.{toldAt, Form}
+use Rattle.numbers.specs.Number.{worth_at, Told}
+use Rattle.numbers.specs.Promises.{told_at, Form}
 use Rattle.numbers.proofs.Promises as Numbers
 use Rattle.trace.specs.Promises.{Reads, Unwritten, Along}
-use Rattle.trace.specs.Steps.{numbersOf, stepAt, tell}
-use Rattle.trace.specs.Trace.{after, turnAt, stepsFrom}
+use Rattle.trace.specs.Steps.{numbers_of, step_at, tell}
+use Rattle.trace.specs.Trace.{after, turn_at, steps_from}
 use Rattle.trace.specs.declared.Turn.{Turn}
 use Rattle.trace.specs.declared.Turn.TheVariants.{Found}
 use Rattle.trace.proofs.Promises as Traces
 use Rattle.encode.specs.Bytes.{shortest, bytes_of}
-use Rattle.encode.proofs.ByteLaws.{bytes-append}
+use Rattle.encode.proofs.ByteLaws.{bytes_append}
 use Rattle.encode.proofs.Promises as Encode
 use Rattle.explain.specs.Promises.{Words, AllWords}
-use Rattle.explain.specs.Read.{numbersIn}
+use Rattle.explain.specs.Read.{numbers_in}
 
 -- ---- one number
 
@@ -32,20 +32,20 @@ within : (a g b : List ℕ) → length a + length g ≤ length (a ++ (g ++ b))
 within a g b = omega (arith, length-append a (g ++ b), length-append g b)
 
 module _ (s : List ℕ) (at : ℕ) where
-  one : worthAt s at 1 ≡ get_or s (at + 0) 0 % 128
-  one = (Numbers.kept).worthMore s at 0 ∙ omega (arith, (Numbers.kept).worthNone s at)
+  one : worth_at s at 1 ≡ get_or s (at + 0) 0 % 128
+  one = (Numbers.kept).worth_more s at 0 ∙ omega (arith, (Numbers.kept).worth_none s at)
 
-  two : worthAt s at 2 ≡ get_or s (at + 0) 0 % 128 + get_or s (at + 1) 0 % 128 * 128
-  two = (Numbers.kept).worthMore s at 1 ∙ omega (arith, one)
+  two : worth_at s at 2 ≡ get_or s (at + 0) 0 % 128 + get_or s (at + 1) 0 % 128 * 128
+  two = (Numbers.kept).worth_more s at 1 ∙ omega (arith, one)
 
-  three : worthAt s at 3 ≡ get_or s (at + 0) 0 % 128 + get_or s (at + 1) 0 % 128 * 128 + get_or s (at + 2) 0 % 128 * 16384
-  three = (Numbers.kept).worthMore s at 2 ∙ omega (arith, two)
+  three : worth_at s at 3 ≡ get_or s (at + 0) 0 % 128 + get_or s (at + 1) 0 % 128 * 128 + get_or s (at + 2) 0 % 128 * 16384
+  three = (Numbers.kept).worth_more s at 2 ∙ omega (arith, two)
 
-  four : worthAt s at 4 ≡ get_or s (at + 0) 0 % 128 + get_or s (at + 1) 0 % 128 * 128 + get_or s (at + 2) 0 % 128 * 16384 + get_or s (at + 3) 0 % 128 * 2097152
-  four = (Numbers.kept).worthMore s at 3 ∙ omega (arith, three)
+  four : worth_at s at 4 ≡ get_or s (at + 0) 0 % 128 + get_or s (at + 1) 0 % 128 * 128 + get_or s (at + 2) 0 % 128 * 16384 + get_or s (at + 3) 0 % 128 * 2097152
+  four = (Numbers.kept).worth_more s at 3 ∙ omega (arith, three)
 
-  five : worthAt s at 5 ≡ get_or s (at + 0) 0 % 128 + get_or s (at + 1) 0 % 128 * 128 + get_or s (at + 2) 0 % 128 * 16384 + get_or s (at + 3) 0 % 128 * 2097152 + get_or s (at + 4) 0 % 128 * 268435456
-  five = (Numbers.kept).worthMore s at 4 ∙ omega (arith, four)
+  five : worth_at s at 5 ≡ get_or s (at + 0) 0 % 128 + get_or s (at + 1) 0 % 128 * 128 + get_or s (at + 2) 0 % 128 * 16384 + get_or s (at + 3) 0 % 128 * 2097152 + get_or s (at + 4) 0 % 128 * 268435456
+  five = (Numbers.kept).worth_more s at 4 ∙ omega (arith, four)
 
 -- a byte with its top bit set, the last byte, and what they make
 part : (w v : ℕ) → w ≡ 128 + v % 128 → w % 128 + v / 128 * 128 ≡ v
@@ -60,48 +60,48 @@ below w q e l = omega arith
 div : (v k : ℕ) → v < 128 * k → v / 128 < k
 div v k l = omega arith
 
-sum-four : (v p q r t u w x : ℕ) → p + q * 128 ≡ v → r + t * 128 ≡ q → u + w * 128 ≡ t → x ≡ w → p + r * 128 + u * 16384 + x * 2097152 ≡ v
-sum-four v p q r t u w x a b c e = omega arith
+sum_four : (v p q r t u w x : ℕ) → p + q * 128 ≡ v → r + t * 128 ≡ q → u + w * 128 ≡ t → x ≡ w → p + r * 128 + u * 16384 + x * 2097152 ≡ v
+sum_four v p q r t u w x a b c e = omega arith
 
-sum-five : (v p q r t u w x y z : ℕ) → p + q * 128 ≡ v → r + t * 128 ≡ q → u + w * 128 ≡ t → x + y * 128 ≡ w → z ≡ y
+sum_five : (v p q r t u w x y z : ℕ) → p + q * 128 ≡ v → r + t * 128 ≡ q → u + w * 128 ≡ t → x + y * 128 ≡ w → z ≡ y
     → p + r * 128 + u * 16384 + x * 2097152 + z * 268435456 ≡ v
-sum-five v p q r t u w x y z a b c e f = omega arith
+sum_five v p q r t u w x y z a b c e f = omega arith
 
 abbrev tells : ℕ → ℕ → Told
 tells v p = record { refusal = 0; value = v; place = p }
 
 module _ (a b : List ℕ) (v : ℕ) (h : v < 2 ^ 32) where
-  by_form : (g : List ℕ) (n : ℕ) → g ≡ shortest v → length g ≡ n → Form (a ++ (g ++ b)) (length a) n → worthAt (a ++ (g ++ b)) (length a) n ≡ v
-      → toldAt (a ++ (shortest v ++ b)) (length a) ≡ tells v (length a + length (shortest v))
+  by_form : (g : List ℕ) (n : ℕ) → g ≡ shortest v → length g ≡ n → Form (a ++ (g ++ b)) (length a) n → worth_at (a ++ (g ++ b)) (length a) n ≡ v
+      → told_at (a ++ (shortest v ++ b)) (length a) ≡ tells v (length a + length (shortest v))
   by_form g n e l f w =
-      subst (λ (x : List ℕ). toldAt (a ++ (x ++ b)) (length a) ≡ tells v (length a + length x)) e
-      ((Numbers.kept).anyForm (a ++ (g ++ b)) (length a) n f (omega (arith, w)) ∙ rw (w, l))
+      subst (λ (x : List ℕ). told_at (a ++ (x ++ b)) (length a) ≡ tells v (length a + length x)) e
+      ((Numbers.kept).any_form (a ++ (g ++ b)) (length a) n f (omega (arith, w)) ∙ rw (w, l))
 
-  of_one : v < 128 → toldAt (a ++ (shortest v ++ b)) (length a) ≡ tells v (length a + length (shortest v))
+  of_one : v < 128 → told_at (a ++ (shortest v ++ b)) (length a) ≡ tells v (length a + length (shortest v))
   of_one l =
       let g : List ℕ = v ∷ [] in
       let x = byte_at a g b 0 (omega arith) in
-      by_form g 1 (sym ((Encode.kept).oneByte v l)) refl ((omega arith, ((λ k m. absurd (omega arith)), omega (arith, x))), (omega arith, within a g b)) (one (a ++ (g ++ b)) (length a) ∙ omega (arith, x))
+      by_form g 1 (sym ((Encode.kept).one_byte v l)) refl ((omega arith, ((λ k m. absurd (omega arith)), omega (arith, x))), (omega arith, within a g b)) (one (a ++ (g ++ b)) (length a) ∙ omega (arith, x))
 
-  of_two : 128 ≤ v → v < 16384 → toldAt (a ++ (shortest v ++ b)) (length a) ≡ tells v (length a + length (shortest v))
+  of_two : 128 ≤ v → v < 16384 → told_at (a ++ (shortest v ++ b)) (length a) ≡ tells v (length a + length (shortest v))
   of_two m l =
       let g : List ℕ = (128 + v % 128) ∷ (v / 128) ∷ [] in
       let x = byte_at a g b 0 (omega arith) in
       let y = byte_at a g b 1 (omega arith) in
-      by_form g 2 (sym ((Encode.kept).twoBytes v m l)) refl
+      by_form g 2 (sym ((Encode.kept).two_bytes v m l)) refl
       ((omega arith, ((λ k q. go g x k q), omega (arith, y))), (omega arith, within a g b)) (two (a ++ (g ++ b)) (length a) ∙ omega (arith, x, y))
     where
       go : (g : List ℕ) → get_or (a ++ (g ++ b)) (length a + 0) 0 ≡ 128 + v % 128 → (k : ℕ) → k + 1 < 2 → 128 ≤ get_or (a ++ (g ++ b)) (length a + k) 0
       go g x zero q = omega (arith, x)
       go g x (suc k) q = absurd (omega arith)
 
-  of_three : 16384 ≤ v → v < 2097152 → toldAt (a ++ (shortest v ++ b)) (length a) ≡ tells v (length a + length (shortest v))
+  of_three : 16384 ≤ v → v < 2097152 → told_at (a ++ (shortest v ++ b)) (length a) ≡ tells v (length a + length (shortest v))
   of_three m l =
       let g : List ℕ = (128 + v % 128) ∷ (128 + v / 128 % 128) ∷ (v / 128 / 128) ∷ [] in
       let x = byte_at a g b 0 (omega arith) in
       let y = byte_at a g b 1 (omega arith) in
       let z = byte_at a g b 2 (omega arith) in
-      by_form g 3 (sym ((Encode.kept).threeBytes v m l)) refl
+      by_form g 3 (sym ((Encode.kept).three_bytes v m l)) refl
       ((omega arith, ((λ k q. go g x y k q), omega (arith, z))), (omega arith, within a g b)) (three (a ++ (g ++ b)) (length a) ∙ omega (arith, x, y, z))
     where
       go : (g : List ℕ) → get_or (a ++ (g ++ b)) (length a + 0) 0 ≡ 128 + v % 128 → get_or (a ++ (g ++ b)) (length a + 1) 0 ≡ 128 + v / 128 % 128
@@ -110,15 +110,15 @@ module _ (a b : List ℕ) (v : ℕ) (h : v < 2 ^ 32) where
       go g x y (suc zero) q = omega (arith, y)
       go g x y (suc (suc k)) q = absurd (omega arith)
 
-  of_four : 2097152 ≤ v → v < 268435456 → toldAt (a ++ (shortest v ++ b)) (length a) ≡ tells v (length a + length (shortest v))
+  of_four : 2097152 ≤ v → v < 268435456 → told_at (a ++ (shortest v ++ b)) (length a) ≡ tells v (length a + length (shortest v))
   of_four m l =
       let g : List ℕ = (128 + v % 128) ∷ (128 + v / 128 % 128) ∷ (128 + v / 128 / 128 % 128) ∷ (v / 128 / 128 / 128) ∷ [] in
       let x = byte_at a g b 0 (omega arith) in
       let y = byte_at a g b 1 (omega arith) in
       let z = byte_at a g b 2 (omega arith) in
       let u = byte_at a g b 3 (omega arith) in
-      by_form g 4 (sym ((Encode.kept).fourBytes v m l)) refl
-      ((omega arith, ((λ k q. go g x y z k q), below _ _ u (div (v / 128 / 128) 128 (div (v / 128) 16384 (div v 2097152 l))))), (omega arith, within a g b)) (four (a ++ (g ++ b)) (length a) ∙ sum-four v _ _ _ _ _ _ _ (part _ v x) (part _ (v / 128) y) (part _ (v / 128 / 128) z) (last _ (v / 128 / 128 / 128) u (div (v / 128 / 128) 128 (div (v / 128) 16384 (div v 2097152 l)))))
+      by_form g 4 (sym ((Encode.kept).four_bytes v m l)) refl
+      ((omega arith, ((λ k q. go g x y z k q), below _ _ u (div (v / 128 / 128) 128 (div (v / 128) 16384 (div v 2097152 l))))), (omega arith, within a g b)) (four (a ++ (g ++ b)) (length a) ∙ sum_four v _ _ _ _ _ _ _ (part _ v x) (part _ (v / 128) y) (part _ (v / 128 / 128) z) (last _ (v / 128 / 128 / 128) u (div (v / 128 / 128) 128 (div (v / 128) 16384 (div v 2097152 l)))))
     where
       go : (g : List ℕ) → get_or (a ++ (g ++ b)) (length a + 0) 0 ≡ 128 + v % 128 → get_or (a ++ (g ++ b)) (length a + 1) 0 ≡ 128 + v / 128 % 128
           → get_or (a ++ (g ++ b)) (length a + 2) 0 ≡ 128 + v / 128 / 128 % 128 → (k : ℕ) → k + 1 < 4 → 128 ≤ get_or (a ++ (g ++ b)) (length a + k) 0
@@ -127,16 +127,16 @@ module _ (a b : List ℕ) (v : ℕ) (h : v < 2 ^ 32) where
       go g x y z (suc (suc zero)) q = omega (arith, z)
       go g x y z (suc (suc (suc k))) q = absurd (omega arith)
 
-  of-five : 268435456 ≤ v → toldAt (a ++ (shortest v ++ b)) (length a) ≡ tells v (length a + length (shortest v))
-  of-five m =
+  of_five : 268435456 ≤ v → told_at (a ++ (shortest v ++ b)) (length a) ≡ tells v (length a + length (shortest v))
+  of_five m =
       let g : List ℕ = (128 + v % 128) ∷ (128 + v / 128 % 128) ∷ (128 + v / 128 / 128 % 128) ∷ (128 + v / 128 / 128 / 128 % 128) ∷ (v / 128 / 128 / 128 / 128) ∷ [] in
       let x = byte_at a g b 0 (omega arith) in
       let y = byte_at a g b 1 (omega arith) in
       let z = byte_at a g b 2 (omega arith) in
       let u = byte_at a g b 3 (omega arith) in
       let w = byte_at a g b 4 (omega arith) in
-      by_form g 5 (sym ((Encode.kept).fiveBytes v m h)) refl
-      ((omega arith, ((λ k q. go g x y z u k q), below _ _ w small)), (omega arith, within a g b)) (five (a ++ (g ++ b)) (length a) ∙ sum-five v _ _ _ _ _ _ _ _ _ (part _ v x) (part _ (v / 128) y) (part _ (v / 128 / 128) z) (part _ (v / 128 / 128 / 128) u) (last _ (v / 128 / 128 / 128 / 128) w small))
+      by_form g 5 (sym ((Encode.kept).five_bytes v m h)) refl
+      ((omega arith, ((λ k q. go g x y z u k q), below _ _ w small)), (omega arith, within a g b)) (five (a ++ (g ++ b)) (length a) ∙ sum_five v _ _ _ _ _ _ _ _ _ (part _ v x) (part _ (v / 128) y) (part _ (v / 128 / 128) z) (part _ (v / 128 / 128 / 128) u) (last _ (v / 128 / 128 / 128 / 128) w small))
     where
       small : v / 128 / 128 / 128 / 128 < 128
       small = div (v / 128 / 128 / 128) 128 (div (v / 128 / 128) 16384 (div (v / 128) 2097152 (div v 268435456 (omega arith))))
@@ -150,15 +150,15 @@ module _ (a b : List ℕ) (v : ℕ) (h : v < 2 ^ 32) where
       go g x y z u (suc (suc (suc zero))) q = omega (arith, u)
       go g x y z u (suc (suc (suc (suc k)))) q = absurd (omega arith)
 
-  pub number-back : toldAt (a ++ (shortest v ++ b)) (length a) ≡ tells v (length a + length (shortest v))
-  number-back = go (dec_lt v 128) (dec_lt v 16384) (dec_lt v 2097152) (dec_lt v 268435456)
+  pub number_back : told_at (a ++ (shortest v ++ b)) (length a) ≡ tells v (length a + length (shortest v))
+  number_back = go (dec_lt v 128) (dec_lt v 16384) (dec_lt v 2097152) (dec_lt v 268435456)
     where
-      go : Dec (v < 128) → Dec (v < 16384) → Dec (v < 2097152) → Dec (v < 268435456) → toldAt (a ++ (shortest v ++ b)) (length a) ≡ tells v (length a + length (shortest v))
+      go : Dec (v < 128) → Dec (v < 16384) → Dec (v < 2097152) → Dec (v < 268435456) → told_at (a ++ (shortest v ++ b)) (length a) ≡ tells v (length a + length (shortest v))
       go (yes l) m n o = of_one l
       go (no l) (yes m) n o = of_two (omega arith) m
       go (no l) (no m) (yes n) o = of_three (omega arith) n
       go (no l) (no m) (no n) (yes o) = of_four (omega arith) o
-      go (no l) (no m) (no n) (no o) = of-five (omega arith)
+      go (no l) (no m) (no n) (no o) = of_five (omega arith)
 
 -- ---- numbers
 
@@ -166,8 +166,8 @@ module _ (n : ℕ) (ns a b : List ℕ) (h : n < 2 ^ 32) where
   abbrev s : List ℕ
   s = a ++ (shortest n ++ (bytes_of ns ++ b))
 
-  back : toldAt s (length a) ≡ record { refusal = 0; value = n; place = length a + length (shortest n) }
-  back = number-back a (bytes_of ns ++ b) n h
+  back : told_at s (length a) ≡ record { refusal = 0; value = n; place = length a + length (shortest n) }
+  back = number_back a (bytes_of ns ++ b) n h
 
   reads_more : Reads ((a ++ shortest n) ++ (bytes_of ns ++ b)) (length (a ++ shortest n)) ns (length (a ++ shortest n) + length (bytes_of ns))
       → Reads (a ++ (bytes_of (n ∷ ns) ++ b)) (length a) (n ∷ ns) (length a + length (bytes_of (n ∷ ns)))
@@ -185,12 +185,12 @@ module _ (n : ℕ) (ns a b : List ℕ) (h : n < 2 ^ 32) where
         ),
       )
 
-pub reads-back : (ns a b : List ℕ) → Words ns → Reads (a ++ (bytes_of ns ++ b)) (length a) ns (length a + length (bytes_of ns))
-reads-back [] a b h = none
+pub reads_back : (ns a b : List ℕ) → Words ns → Reads (a ++ (bytes_of ns ++ b)) (length a) ns (length a + length (bytes_of ns))
+reads_back [] a b h = none
   where
     none : length a ≡ length a + length (bytes_of [])
     none = unfold bytes_of in omega arith
-reads-back (n ∷ ns) a b h = reads_more n ns a b h.0 (reads-back ns (a ++ shortest n) b h.1)
+reads_back (n ∷ ns) a b h = reads_more n ns a b h.0 (reads_back ns (a ++ shortest n) b h.1)
 
 -- ---- steps
 
@@ -203,12 +203,12 @@ pub along-plain : (told : Bool) (s : List ℕ) (at : ℕ) (xs : List Recorded) (
 along-plain told s at [] p h = tt
 along-plain told s at (x ∷ xs) p h = ((((Traces.kept).found told s at h.0 x).0 h.1).0, along-plain told s h.0 xs p h.2)
 
-module _ (told : Bool) (x : Recorded) (xs : List Recorded) (limit : ℕ) (a : List ℕ) (f : Words (numbersOf told x)) (g : Unwritten x.step told x.privilege) where
+module _ (told : Bool) (x : Recorded) (xs : List Recorded) (limit : ℕ) (a : List ℕ) (f : Words (numbers_of told x)) (g : Unwritten x.step told x.privilege) where
   abbrev B : List ℕ
-  B = bytes_of (numbersOf told x)
+  B = bytes_of (numbers_of told x)
 
   abbrev R : List ℕ
-  R = bytes_of (numbersIn told xs)
+  R = bytes_of (numbers_in told xs)
 
   abbrev t : List ℕ
   t = a ++ (B ++ R)
@@ -216,40 +216,40 @@ module _ (told : Bool) (x : Recorded) (xs : List Recorded) (limit : ℕ) (a : Li
   abbrev p : ℕ
   p = length a + length B
 
-  found : stepAt told t (length a) ≡ Found x p
-  found = ((Traces.kept).found told t (length a) p x).1 (g, reads-back (numbersOf told x) a R f)
+  found : step_at told t (length a) ≡ Found x p
+  found = ((Traces.kept).found told t (length a) p x).1 (g, reads_back (numbers_of told x) a R f)
 
   some : length a < length t
   some = let n = (Traces.kept).next told t (length a) (ap (λ (u : Turn). (tell told u).refusal) found) in omega (arith, n.0, n.1)
 
-  turn : turnAt told t (length a) (suc limit) ≡ Found x p
-  turn = (Traces.kept).turnStep told t (length a) (suc limit) some (omega arith) ∙ found
+  turn : turn_at told t (length a) (suc limit) ≡ Found x p
+  turn = (Traces.kept).turn_step told t (length a) (suc limit) some (omega arith) ∙ found
 
-  joined : a ++ bytes_of (numbersIn told (x ∷ xs)) ≡ (a ++ B) ++ R
-  unfolding numbersIn
-  joined = ap (λ (u : List ℕ). a ++ u) (bytes-append (numbersOf told x) (numbersIn told xs)) ∙ sym (append_assoc a B R)
+  joined : a ++ bytes_of (numbers_in told (x ∷ xs)) ≡ (a ++ B) ++ R
+  unfolding numbers_in
+  joined = ap (λ (u : List ℕ). a ++ u) (bytes_append (numbers_of told x) (numbers_in told xs)) ∙ sym (append_assoc a B R)
 
-  pub steps-left : length a < length (a ++ bytes_of (numbersIn told (x ∷ xs)))
+  pub steps-left : length a < length (a ++ bytes_of (numbers_in told (x ∷ xs)))
   steps-left = omega (arith, some, ap length (joined ∙ append_assoc a B R))
 
-  pub steps-onward : stepsFrom told (suc limit) (a ++ bytes_of (numbersIn told (x ∷ xs))) (length a) ≡ after x (stepsFrom told limit ((a ++ B) ++ R) (length (a ++ B)))
-  steps-onward =
-      ap (λ (u : List ℕ). stepsFrom told (suc limit) u (length a)) (joined ∙ append_assoc a B R)
+  pub steps_onward : steps_from told (suc limit) (a ++ bytes_of (numbers_in told (x ∷ xs))) (length a) ≡ after x (steps_from told limit ((a ++ B) ++ R) (length (a ++ B)))
+  steps_onward =
+      ap (λ (u : List ℕ). steps_from told (suc limit) u (length a)) (joined ∙ append_assoc a B R)
       ∙ (Traces.kept).onward told limit t (length a) x p turn
-      ∙ ap₂ (λ (u : List ℕ) (k : ℕ). after x (stepsFrom told limit u k)) (sym (append_assoc a B R)) (sym (length-append a B))
+      ∙ ap₂ (λ (u : List ℕ) (k : ℕ). after x (steps_from told limit u k)) (sym (append_assoc a B R)) (sym (length-append a B))
 
-  steps-more : stepsFrom told limit ((a ++ B) ++ R) (length (a ++ B)) ≡ record { steps = xs; refusal = 0; offset = length ((a ++ B) ++ R) }
-      → stepsFrom told (suc limit) (a ++ bytes_of (numbersIn told (x ∷ xs))) (length a)
-      ≡ record { steps = x ∷ xs; refusal = 0; offset = length (a ++ bytes_of (numbersIn told (x ∷ xs))) }
-  steps-more ih = steps-onward ∙ ap (after x) ih ∙ ap (λ (u : List ℕ). record { steps = x ∷ xs; refusal = 0; offset = length u }) (sym joined)
+  steps-more : steps_from told limit ((a ++ B) ++ R) (length (a ++ B)) ≡ record { steps = xs; refusal = 0; offset = length ((a ++ B) ++ R) }
+      → steps_from told (suc limit) (a ++ bytes_of (numbers_in told (x ∷ xs))) (length a)
+      ≡ record { steps = x ∷ xs; refusal = 0; offset = length (a ++ bytes_of (numbers_in told (x ∷ xs))) }
+  steps-more ih = steps_onward ∙ ap (after x) ih ∙ ap (λ (u : List ℕ). record { steps = x ∷ xs; refusal = 0; offset = length u }) (sym joined)
 
 pub steps_back : (told : Bool) (xs : List Recorded) (limit : ℕ) (a : List ℕ) → AllWords told xs → AllPlain told xs → length xs ≤ limit
-    → stepsFrom told limit (a ++ bytes_of (numbersIn told xs)) (length a) ≡ record { steps = xs; refusal = 0; offset = length (a ++ bytes_of (numbersIn told xs)) }
+    → steps_from told limit (a ++ bytes_of (numbers_in told xs)) (length a) ≡ record { steps = xs; refusal = 0; offset = length (a ++ bytes_of (numbers_in told xs)) }
 steps_back told [] limit a f g l = none
   where
-    none : stepsFrom told limit (a ++ bytes_of (numbersIn told [])) (length a) ≡ record { steps = []; refusal = 0; offset = length (a ++ bytes_of (numbersIn told [])) }
-    none = unfold numbersIn bytes_of in
-        ((Traces.kept).ended told limit (a ++ []) (length a) 0 (length (a ++ [])) ((Traces.kept).turnEnd told (a ++ []) (length a) limit (omega (arith, length-append {A = ℕ} a []))))
+    none : steps_from told limit (a ++ bytes_of (numbers_in told [])) (length a) ≡ record { steps = []; refusal = 0; offset = length (a ++ bytes_of (numbers_in told [])) }
+    none = unfold numbers_in bytes_of in
+        ((Traces.kept).ended told limit (a ++ []) (length a) 0 (length (a ++ [])) ((Traces.kept).turn_end told (a ++ []) (length a) limit (omega (arith, length-append {A = ℕ} a []))))
 steps_back told (x ∷ xs) zero a f g l = absurd (omega arith)
 steps_back told (x ∷ xs) (suc limit) a f g l =
-    steps-more told x xs limit a f.0 g.0 (steps_back told xs limit (a ++ bytes_of (numbersOf told x)) f.1 g.1 (omega arith))
+    steps-more told x xs limit a f.0 g.0 (steps_back told xs limit (a ++ bytes_of (numbers_of told x)) f.1 g.1 (omega arith))

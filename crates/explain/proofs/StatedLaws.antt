@@ -10,42 +10,42 @@ use lib.ListN.{length, take, drop, replicate, length-append, length-replicate}
 use lib.Seq.{take-append_seam}
 use borrow.Author.Tests.{lt-ltb, le-ltb}
 use Rattle.words.specs.Choice.{pick}
-use Rattle.words.proofs.ChoiceLaws.{pick_true, pick-false, pick-cases}
+use Rattle.words.proofs.ChoiceLaws.{pick_true, pick-false, pick_cases}
 use Rattle.steps.specs.declared.Step.{Step}
 use Rattle.steps.specs.declared.Step.TheVariants.{Read, Write, Line}
 use Rattle.steps.specs.declared.Recorded.{Recorded}
-use Rattle.numbers.specs.Promises.{toldAt}
-use Rattle.text.specs.Text.{space, hexDigit, hexOf, field, write}
+use Rattle.numbers.specs.Promises.{told_at}
+use Rattle.text.specs.Text.{space, hex_digit, hex_of, field, write}
 use Rattle.text.proofs.DigitLaws.{length-hex, length-field}
 use Rattle.text.proofs.Promises as Text
 use Rattle.text.proofs.WriteLaws.{and_then, rest_of, nothing}
 use Rattle.text.specs.Phrases.{bytes}
 use Rattle.kinds.specs.Kinds.{Each, by_kind, wanted}
-use Rattle.kinds.proofs.KindLaws.{KindOf, kind-of, isAic, isCore, isCic, isAintc, isIndexed, is_none, at-aic, at-core, at-cic, at-aintc, at_indexed, at_none}
-use Rattle.explain.specs.Stated.{offsetDigits, hexField, fields, kindWord, numbersAt, controller, privilegeField, readStated, writeStated, lineStated, statedBy, stated, gap, toColumn}
+use Rattle.kinds.proofs.KindLaws.{KindOf, kind_of, is_aic, is_core, is_cic, is_aintc, is_indexed, is_none, at_aic, at_core, at-cic, at_aintc, at_indexed, at_none}
+use Rattle.explain.specs.Stated.{offset_digits, hex_field, fields, kind_word, numbers_at, controller, privilege_field, read_stated, write_stated, line_stated, stated_by, stated, gap, to_column}
 
 -- ---- digits, one at a time
 
-pub hex-none : (k v : ℕ) → k ≡ 0 → [] ≡ hexOf k v
-unfolding hexOf
+pub hex-none : (k v : ℕ) → k ≡ 0 → [] ≡ hex_of k v
+unfolding hex_of
 hex-none zero v e = refl
 hex-none (suc k) v e = absurd (omega arith)
 
-pub hex-more : (k v : ℕ) → (k ≡ 0 → ⊥) → hexOf (k - 1) (v / 16) ++ (hexDigit (v % 16) ∷ []) ≡ hexOf k v
-unfolding hexOf
+pub hex-more : (k v : ℕ) → (k ≡ 0 → ⊥) → hex_of (k - 1) (v / 16) ++ (hex_digit (v % 16) ∷ []) ≡ hex_of k v
+unfolding hex_of
 hex-more zero v h = absurd (h refl)
 hex-more (suc k) v h = rw sub-one
 
 -- ---- numbers of a trace, one at a time
 
-pub fields-none : (n : ℕ) (s : List ℕ) (at : ℕ) → n ≡ 0 → [] ≡ fields (numbersAt n s at)
-unfolding fields numbersAt
+pub fields-none : (n : ℕ) (s : List ℕ) (at : ℕ) → n ≡ 0 → [] ≡ fields (numbers_at n s at)
+unfolding fields numbers_at
 fields-none zero s at e = refl
 fields-none (suc n) s at e = absurd (omega arith)
 
-pub fields-more : (n : ℕ) (s : List ℕ) (at v p : ℕ) → (n ≡ 0 → ⊥) → v ≡ (toldAt s at).value → p ≡ (toldAt s at).place
-    → field v ++ fields (numbersAt (n - 1) s p) ≡ fields (numbersAt n s at)
-unfolding fields numbersAt
+pub fields-more : (n : ℕ) (s : List ℕ) (at v p : ℕ) → (n ≡ 0 → ⊥) → v ≡ (told_at s at).value → p ≡ (told_at s at).place
+    → field v ++ fields (numbers_at (n - 1) s p) ≡ fields (numbers_at n s at)
+unfolding fields numbers_at
 fields-more zero s at v p h e f = absurd (h refl)
 fields-more (suc n) s at v p h e f = rw (sub-one, e, f)
 
@@ -74,60 +74,60 @@ in-line l' n bs e h = in-room (replicate 128 0) l' n bs e (rw (length-replicate 
 
 -- ---- the parts of a statement
 
-pub columned : (o p q : List ℕ × ℕ) (l : List ℕ) (g : ℕ) → p ≡ write o l → g ≡ gap (length l) → q ≡ write p (replicate g space) → q ≡ write o (toColumn l)
-unfolding toColumn
+pub columned : (o p q : List ℕ × ℕ) (l : List ℕ) (g : ℕ) → p ≡ write o l → g ≡ gap (length l) → q ≡ write p (replicate g space) → q ≡ write o (to_column l)
+unfolding to_column
 columned o p q l g e h f = and_then o _ _ e (f ∙ ap (λ (n : ℕ). write p (replicate n space)) h)
 
 -- of a statement that was made up in a room of 128 bytes
-pub column-so : (o q : List ℕ × ℕ) (l' : List ℕ) (n : ℕ) (bs : List ℕ) → (l', n) ≡ write (replicate 128 0, 0) bs → length bs ≤ 128
-    → q ≡ write o (toColumn (take n l')) → q ≡ write o (toColumn bs)
-column-so o q l' n bs e h f = f ∙ ap (λ (l : List ℕ). write o (toColumn l)) (in-line l' n bs e h)
+pub column_so : (o q : List ℕ × ℕ) (l' : List ℕ) (n : ℕ) (bs : List ℕ) → (l', n) ≡ write (replicate 128 0, 0) bs → length bs ≤ 128
+    → q ≡ write o (to_column (take n l')) → q ≡ write o (to_column bs)
+column_so o q l' n bs e h f = f ∙ ap (λ (l : List ℕ). write o (to_column l)) (in-line l' n bs e h)
 
-pub offset-so : (o q : List ℕ × ℕ) (k v : ℕ) → k ≡ offsetDigits v → q ≡ write o (hexField k v) → q ≡ write o (hexField (offsetDigits v) v)
-offset-so o q k v h e = e ∙ ap (λ (n : ℕ). write o (hexField n v)) h
+pub offset_so : (o q : List ℕ × ℕ) (k v : ℕ) → k ≡ offset_digits v → q ≡ write o (hex_field k v) → q ≡ write o (hex_field (offset_digits v) v)
+offset_so o q k v h e = e ∙ ap (λ (n : ℕ). write o (hex_field n v)) h
 
-pub controlled : (o p q : List ℕ × ℕ) (s : List ℕ) (kind n at : ℕ) → p ≡ write o (kindWord kind) → n ≡ wanted kind → at ≡ (toldAt s 0).place
-    → q ≡ write p (fields (numbersAt n s at)) → q ≡ write o (controller kind (numbersAt (wanted kind) s (toldAt s 0).place))
+pub controlled : (o p q : List ℕ × ℕ) (s : List ℕ) (kind n at : ℕ) → p ≡ write o (kind_word kind) → n ≡ wanted kind → at ≡ (told_at s 0).place
+    → q ≡ write p (fields (numbers_at n s at)) → q ≡ write o (controller kind (numbers_at (wanted kind) s (told_at s 0).place))
 unfolding controller
-controlled o p q s kind n at e h g f = and_then o _ _ e (f ∙ ap₂ (λ (k a : ℕ). write p (fields (numbersAt k s a))) h g)
+controlled o p q s kind n at e h g f = and_then o _ _ e (f ∙ ap₂ (λ (k a : ℕ). write p (fields (numbers_at k s a))) h g)
 
 -- ---- how long statements are
 
-pub digits-most : (v : ℕ) → offsetDigits v ≤ 8
-unfolding offsetDigits
+pub digits-most : (v : ℕ) → offset_digits v ≤ 8
+unfolding offset_digits
 digits-most v =
-    pick-cases (λ (n : ℕ). n ≤ 8) (ltb v 0x1000) (λ e. omega arith)
-    (λ e. pick-cases (λ (n : ℕ). n ≤ 8) (ltb v 0x10000) (λ e. omega arith)
-    (λ e. pick-cases (λ (n : ℕ). n ≤ 8) (ltb v 0x100000) (λ e. omega arith)
-    (λ e. pick-cases (λ (n : ℕ). n ≤ 8) (ltb v 0x1000000) (λ e. omega arith)
-    (λ e. pick-cases (λ (n : ℕ). n ≤ 8) (ltb v 0x10000000) (λ e. omega arith) (λ e. omega arith)))))
+    pick_cases (λ (n : ℕ). n ≤ 8) (ltb v 0x1000) (λ e. omega arith)
+    (λ e. pick_cases (λ (n : ℕ). n ≤ 8) (ltb v 0x10000) (λ e. omega arith)
+    (λ e. pick_cases (λ (n : ℕ). n ≤ 8) (ltb v 0x100000) (λ e. omega arith)
+    (λ e. pick_cases (λ (n : ℕ). n ≤ 8) (ltb v 0x1000000) (λ e. omega arith)
+    (λ e. pick_cases (λ (n : ℕ). n ≤ 8) (ltb v 0x10000000) (λ e. omega arith) (λ e. omega arith)))))
 
-pub length-hexField : (k v : ℕ) → length (hexField k v) ≡ 3 + k
-unfolding hexField bytes
-length-hexField k v = simp length-append (omega (arith, length-hex k v))
+pub length-hex_field : (k v : ℕ) → length (hex_field k v) ≡ 3 + k
+unfolding hex_field bytes
+length-hex_field k v = simp length-append (omega (arith, length-hex k v))
 
-pub length-privilege : (told : Bool) (p k : ℕ) → length (field p) ≤ k → length (privilegeField told p) ≤ k
-unfolding privilegeField pick
-length-privilege true p k h = h
-length-privilege false p k h = omega arith
+pub length_privilege : (told : Bool) (p k : ℕ) → length (field p) ≤ k → length (privilege_field told p) ≤ k
+unfolding privilege_field pick
+length_privilege true p k h = h
+length_privilege false p k h = omega arith
 
 -- where the privilege has so many bytes with its space
-pub length-stated : (told : Bool) (p k : ℕ) (x : Step) → length (field p) ≤ k → 20 ≤ k → length (statedBy told p x) ≤ 27 + k + 20
-unfolding bytes readStated writeStated lineStated
+pub length-stated : (told : Bool) (p k : ℕ) (x : Step) → length (field p) ≤ k → 20 ≤ k → length (stated_by told p x) ≤ 27 + k + 20
+unfolding bytes read_stated write_stated line_stated
 length-stated told p k (Read offset) h l =
-    simp length-append (omega (arith, length-hexField (offsetDigits offset) offset, digits-most offset, length-privilege told p k h))
+    simp length-append (omega (arith, length-hex_field (offset_digits offset) offset, digits-most offset, length_privilege told p k h))
 length-stated told p k (Write offset value) h l =
-    simp length-append (omega (arith, length-hexField (offsetDigits offset) offset, digits-most offset, length-privilege told p k h, length-hexField 8 value))
+    simp length-append (omega (arith, length-hex_field (offset_digits offset) offset, digits-most offset, length_privilege told p k h, length-hex_field 8 value))
 length-stated told p k (Line line level) h l = simp length-append (omega (arith, length-field line, length-field level))
 
 pub stated-fits : (told : Bool) (x : Recorded) → length (stated told x) ≤ 128
 unfolding stated
 stated-fits told x = omega (arith, length-stated told x.privilege 21 x.step (length-field x.privilege) (omega arith))
 
-pub length-numbers : (n : ℕ) (s : List ℕ) (at : ℕ) → length (numbersAt n s at) ≡ n
-unfolding numbersAt
-length-numbers zero s at = refl
-length-numbers (suc n) s at = ap suc (length-numbers n s (toldAt s at).place)
+pub length_numbers : (n : ℕ) (s : List ℕ) (at : ℕ) → length (numbers_at n s at) ≡ n
+unfolding numbers_at
+length_numbers zero s at = refl
+length_numbers (suc n) s at = ap suc (length_numbers n s (told_at s at).place)
 
 length_fields : (ns : List ℕ) → length (fields ns) ≤ 21 * length ns
 unfolding fields
@@ -137,25 +137,25 @@ length_fields (n ∷ ns) = simp length-append (omega (arith, length-field n, len
 -- a choice by kind, by its ways
 pub each-kind : {A : Type 0} (P : A → Type 0) (kind : ℕ) (e : Each A) → P e.aic → P e.core → P e.cic → P e.aintc → P e.indexed → P e.none
     → P (by_kind kind e)
-each-kind P kind e a b c d f g = go (kind-of kind)
+each-kind P kind e a b c d f g = go (kind_of kind)
   where
     go : KindOf kind → P (by_kind kind e)
-    go (isAic h) = rw (sym (at-aic kind e h)) a
-    go (isCore h) = rw (sym (at-core kind e h)) b
-    go (isCic h) = rw (sym (at-cic kind e h)) c
-    go (isAintc h) = rw (sym (at-aintc kind e h)) d
-    go (isIndexed h) = rw (sym (at_indexed kind e h)) f
+    go (is_aic h) = rw (sym (at_aic kind e h)) a
+    go (is_core h) = rw (sym (at_core kind e h)) b
+    go (is_cic h) = rw (sym (at-cic kind e h)) c
+    go (is_aintc h) = rw (sym (at_aintc kind e h)) d
+    go (is_indexed h) = rw (sym (at_indexed kind e h)) f
     go (is_none h i j k l) = rw (sym (at_none kind e h i j k l)) g
 
 pub wanted-most : (kind : ℕ) → wanted kind ≤ 5
 unfolding wanted
 wanted-most kind = each-kind (λ (n : ℕ). n ≤ 5) kind _ (omega arith) (omega arith) (omega arith) (omega arith) (omega arith) (omega arith)
 
-pub kind-most : (kind : ℕ) → length (kindWord kind) ≤ 13
-unfolding kindWord bytes
+pub kind-most : (kind : ℕ) → length (kind_word kind) ≤ 13
+unfolding kind_word bytes
 kind-most kind = each-kind (λ (l : List ℕ). length l ≤ 13) kind _ (omega arith) (omega arith) (omega arith) (omega arith) (omega arith) (omega arith)
 
-pub controller-fits : (kind : ℕ) (s : List ℕ) (at : ℕ) → length (controller kind (numbersAt (wanted kind) s at)) ≤ 128
+pub controller-fits : (kind : ℕ) (s : List ℕ) (at : ℕ) → length (controller kind (numbers_at (wanted kind) s at)) ≤ 128
 unfolding controller
 controller-fits kind s at =
-    simp length-append (omega (arith, kind-most kind, length_fields (numbersAt (wanted kind) s at), length-numbers (wanted kind) s at, wanted-most kind))
+    simp length-append (omega (arith, kind-most kind, length_fields (numbers_at (wanted kind) s at), length_numbers (wanted kind) s at, wanted-most kind))

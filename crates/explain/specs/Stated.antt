@@ -4,21 +4,21 @@ use Rattle.words.specs.Choice.{pick}
 use Rattle.steps.specs.declared.Recorded.{Recorded}
 use Rattle.steps.specs.declared.Step.{Step}
 use Rattle.steps.specs.declared.Step.TheVariants.{Read, Write, Line}
-use Rattle.numbers.specs.Promises.{toldAt}
-use Rattle.text.specs.Text.{space, hexOf, field}
+use Rattle.numbers.specs.Promises.{told_at}
+use Rattle.text.specs.Text.{space, hex_of, field}
 use Rattle.text.specs.Phrases.{bytes}
 use Rattle.kinds.specs.Kinds.{by_kind}
 
 -- ---- numbers
 
 -- how many hexadecimal digits an offset is written with: at least three, and no 0 before them
-unfoldable pub offsetDigits : ℕ → ℕ
-offsetDigits v =
+unfoldable pub offset_digits : ℕ → ℕ
+offset_digits v =
     pick (ltb v 0x1000) 3 (pick (ltb v 0x10000) 4 (pick (ltb v 0x100000) 5 (pick (ltb v 0x1000000) 6 (pick (ltb v 0x10000000) 7 8))))
 
 -- so many hexadecimal digits behind a space and 0x
-unfoldable pub hexField : ℕ → ℕ → List ℕ
-hexField digits v = bytes " 0x" ++ hexOf digits v
+unfoldable pub hex_field : ℕ → ℕ → List ℕ
+hex_field digits v = bytes " 0x" ++ hex_of digits v
 
 -- decimals, a space before each
 unfoldable pub fields : List ℕ → List ℕ
@@ -28,41 +28,41 @@ fields (n ∷ ns) = field n ++ fields ns
 -- ---- the controller
 
 -- its word
-unfoldable pub kindWord : ℕ → List ℕ
-kindWord kind =
+unfoldable pub kind_word : ℕ → List ℕ
+kind_word kind =
     by_kind kind
     (record { aic = bytes "aic"; core = bytes "coreinterrupt"; cic = bytes "cic"; aintc = bytes "aintc"; indexed = bytes "indexed"; none = [] })
 
 -- so many numbers of a trace from a place on
-unfoldable pub numbersAt : ℕ → List ℕ → ℕ → List ℕ
-numbersAt zero s at = []
-numbersAt (suc n) s at = (toldAt s at).value ∷ numbersAt n s (toldAt s at).place
+unfoldable pub numbers_at : ℕ → List ℕ → ℕ → List ℕ
+numbers_at zero s at = []
+numbers_at (suc n) s at = (told_at s at).value ∷ numbers_at n s (told_at s at).place
 
 unfoldable pub controller : ℕ → List ℕ → List ℕ
-controller kind ns = kindWord kind ++ fields ns
+controller kind ns = kind_word kind ++ fields ns
 
 -- ---- a step
 
 -- the privilege of an access, where the trace tells one
-unfoldable pub privilegeField : Bool → ℕ → List ℕ
-privilegeField told p = pick told (field p) []
+unfoldable pub privilege_field : Bool → ℕ → List ℕ
+privilege_field told p = pick told (field p) []
 
-unfoldable pub readStated : Bool → ℕ → ℕ → List ℕ
-readStated told p offset = bytes "read" ++ hexField (offsetDigits offset) offset ++ privilegeField told p
+unfoldable pub read_stated : Bool → ℕ → ℕ → List ℕ
+read_stated told p offset = bytes "read" ++ hex_field (offset_digits offset) offset ++ privilege_field told p
 
-unfoldable pub writeStated : Bool → ℕ → ℕ → ℕ → List ℕ
-writeStated told p offset value = bytes "write" ++ hexField (offsetDigits offset) offset ++ privilegeField told p ++ hexField 8 value
+unfoldable pub write_stated : Bool → ℕ → ℕ → ℕ → List ℕ
+write_stated told p offset value = bytes "write" ++ hex_field (offset_digits offset) offset ++ privilege_field told p ++ hex_field 8 value
 
-unfoldable pub lineStated : ℕ → ℕ → List ℕ
-lineStated line level = bytes "line" ++ field line ++ field level
+unfoldable pub line_stated : ℕ → ℕ → List ℕ
+line_stated line level = bytes "line" ++ field line ++ field level
 
-abbrev pub statedBy : Bool → ℕ → Step → List ℕ
-statedBy told p (Read offset) = readStated told p offset
-statedBy told p (Write offset value) = writeStated told p offset value
-statedBy told p (Line line level) = lineStated line level
+abbrev pub stated_by : Bool → ℕ → Step → List ℕ
+stated_by told p (Read offset) = read_stated told p offset
+stated_by told p (Write offset value) = write_stated told p offset value
+stated_by told p (Line line level) = line_stated line level
 
 unfoldable pub stated : Bool → Recorded → List ℕ
-stated told x = statedBy told x.privilege x.step
+stated told x = stated_by told x.privilege x.step
 
 -- ---- the column of comments
 
@@ -70,5 +70,5 @@ stated told x = statedBy told x.privilege x.step
 unfoldable pub gap : ℕ → ℕ
 gap n = pick (ltb n 28) (28 - n) 1
 
-unfoldable pub toColumn : List ℕ → List ℕ
-toColumn l = l ++ replicate (gap (length l)) space
+unfoldable pub to_column : List ℕ → List ℕ
+to_column l = l ++ replicate (gap (length l)) space

@@ -2,18 +2,18 @@
 // (docs/TEXT.md, "A trace explained").
 ghost use Rattle.std.specs.Prelude.{◌≡◌, [], ◌∷◌, ◌++◌, ◌%◌, replicate};
 ghost use Rattle.words.specs.Choice.{pick};
-ghost use Rattle.steps.specs.Refusals.{carriedOut};
-ghost use Rattle.numbers.specs.Promises.{toldAt};
+ghost use Rattle.steps.specs.Refusals.{carried_out};
+ghost use Rattle.numbers.specs.Promises.{told_at};
 ghost use Rattle.numbers.specs.Number.{told};
-ghost use Rattle.text.specs.Text.{space, write, laid, hexDigit, hexOf};
-ghost use Rattle.trace.specs.Trace.{stepsFrom};
-ghost use Rattle.kinds.specs.Kinds.{wanted, tellsPrivilege};
+ghost use Rattle.text.specs.Text.{space, write, laid, hex_digit, hex_of};
+ghost use Rattle.trace.specs.Trace.{steps_from};
+ghost use Rattle.kinds.specs.Kinds.{wanted, tells_privilege};
 ghost use Rattle.machine.specs.RecordPromises.{Ready};
 ghost use Rattle.machine.specs.Steps.{step};
-ghost use Rattle.beginning.specs.Begin.{beginOf};
-ghost use Rattle.explain.specs.Stated.{offsetDigits, hexField, fields, kindWord, numbersAt, controller, privilegeField, readStated, writeStated, lineStated, statedBy, stated, gap, toColumn};
-ghost use Rattle.explain.specs.Explain.{commented, cicDocument, documentWords, controllerLine, reasonWords, refusedWords, valueWords, accessWords, didWords, stepWords, stepLine};
-ghost use Rattle.explain.specs.Explain.{endReason, endLine, shows, lines_from, end_of, textFrom, head_of, startedText, explainedBy, explainedOf, explainedWindow};
+ghost use Rattle.beginning.specs.Begin.{begin_of};
+ghost use Rattle.explain.specs.Stated.{offset_digits, hex_field, fields, kind_word, numbers_at, controller, privilege_field, read_stated, write_stated, line_stated, stated_by, stated, gap, to_column};
+ghost use Rattle.explain.specs.Explain.{commented, cic_document, document_words, controller_line, reason_words, refused_words, value_words, access_words, did_words, step_words, step_line};
+ghost use Rattle.explain.specs.Explain.{end_reason, end_line, shows, lines_from, end_of, text_from, head_of, started_text, explained_by, explained_of, explained_window};
 
 use beginning::Begun;
 use machine::Answer;
@@ -40,7 +40,7 @@ struct Said {
 
 // The explanation of a trace of which at most `limit` steps are played; answers how many bytes were written, and what finds no room is dropped.
 pub fn explain(trace: &[u8], limit: u32, out: &mut [u8]) -> usize
-    ensures { (out.new, result) ≡ laid out.old (explainedOf trace.now limit) }
+    ensures { (out.new, result) ≡ laid out.old (explained_of trace.now limit) }
 {
     let w = Window {
         whole: true,
@@ -52,7 +52,7 @@ pub fn explain(trace: &[u8], limit: u32, out: &mut [u8]) -> usize
 
 // Its lines of `steps` steps from the step `first` on, counted from 1, and nothing else.
 pub fn explain_window(trace: &[u8], limit: u32, first: u32, steps: u32, out: &mut [u8]) -> usize
-    ensures { (out.new, result) ≡ laid out.old (explainedWindow trace.now limit first steps) }
+    ensures { (out.new, result) ≡ laid out.old (explained_window trace.now limit first steps) }
 {
     let w = Window {
         whole: false,
@@ -63,7 +63,7 @@ pub fn explain_window(trace: &[u8], limit: u32, first: u32, steps: u32, out: &mu
 }
 
 fn explain_by(trace: &[u8], limit: u32, w: Window, out: &mut [u8]) -> usize
-    ensures { (out.new, result) ≡ laid out.old (explainedBy w trace.now limit) }
+    ensures { (out.new, result) ≡ laid out.old (explained_by w trace.now limit) }
 {
     let b = beginning::begin(trace);
     if b.refusal != steps::CARRIED_OUT {
@@ -74,8 +74,8 @@ fn explain_by(trace: &[u8], limit: u32, w: Window, out: &mut [u8]) -> usize
 
 // Of a trace that has begun.
 fn put_begun(trace: &[u8], limit: u32, w: Window, b: Begun, out: &mut [u8]) -> usize
-    requires { (b ≡ beginOf trace.now) × (b.refusal ≡ carriedOut) }
-    ensures { (out.new, result) ≡ write (out.old, 0) (startedText w trace.now b.machine (stepsFrom (tellsPrivilege b.machine.kind) limit trace.now b.place)) }
+    requires { (b ≡ begin_of trace.now) × (b.refusal ≡ carried_out) }
+    ensures { (out.new, result) ≡ write (out.old, 0) (started_text w trace.now b.machine (steps_from (tells_privilege b.machine.kind) limit trace.now b.place)) }
 {
     let m = b.machine;
     let kind = m.kind;
@@ -94,7 +94,7 @@ fn put_steps(
     from: usize,
 ) -> usize
     requires { Ready first }
-    ensures { (out.new, result) ≡ write (out.old, from) (textFrom w (tellsPrivilege first.kind) 0 first (stepsFrom (tellsPrivilege first.kind) limit trace.now start)) }
+    ensures { (out.new, result) ≡ write (out.old, from) (text_from w (tells_privilege first.kind) 0 first (steps_from (tells_privilege first.kind) limit trace.now start)) }
 {
     let told = kinds::tells_privilege(first.kind);
     let mut at = start;
@@ -132,7 +132,7 @@ fn put_head(out: &mut [u8], w: Window, trace: &[u8], kind: u32) -> usize
 }
 
 fn put_controller_line(out: &mut [u8], trace: &[u8], kind: u32) -> usize
-    ensures { (out.new, result) ≡ write (out.old, 0) (controllerLine trace.now kind) }
+    ensures { (out.new, result) ≡ write (out.old, 0) (controller_line trace.now kind) }
 {
     let mut line = [0u8; 128];
     let n = put_controller(&mut line, trace, kind);
@@ -153,7 +153,7 @@ fn put_shown(
     x: Recorded,
     a: Answer,
 ) -> usize
-    ensures { (out.new, result) ≡ write (out.old, at) (pick (shows w number) (stepLine told number m x a) []) }
+    ensures { (out.new, result) ≡ write (out.old, at) (pick (shows w number) (step_line told number m x a) []) }
 {
     if shows(w, number) {
         return put_step_line(out, at, told, number, m, x, a);
@@ -182,7 +182,7 @@ fn put_step_line(
     x: Recorded,
     a: Answer,
 ) -> usize
-    ensures { (out.new, result) ≡ write (out.old, at) (stepLine told number m x a) }
+    ensures { (out.new, result) ≡ write (out.old, at) (step_line told number m x a) }
 {
     let mut line = [0u8; 128];
     let n = put_stated(&mut line, told, x);
@@ -203,7 +203,7 @@ fn put_end(out: &mut [u8], at: usize, w: Window, refusal: u32, offset: usize) ->
 }
 
 fn put_end_line(out: &mut [u8], at: usize, refusal: u32, offset: usize) -> usize
-    ensures { (out.new, result) ≡ write (out.old, at) (endLine refusal offset) }
+    ensures { (out.new, result) ≡ write (out.old, at) (end_line refusal offset) }
 {
     let a = text::put_all(out, at, b"# E");
     let b = text::put_field(out, a, refusal as u64);
@@ -214,7 +214,7 @@ fn put_end_line(out: &mut [u8], at: usize, refusal: u32, offset: usize) -> usize
 }
 
 fn put_end_reason(out: &mut [u8], at: usize, refusal: u32) -> usize
-    ensures { (out.new, result) ≡ write (out.old, at) (endReason refusal) }
+    ensures { (out.new, result) ≡ write (out.old, at) (end_reason refusal) }
 {
     if refusal == steps::LIMIT_REACHED {
         return text::put_all(
@@ -243,7 +243,7 @@ fn put_end_reason(out: &mut [u8], at: usize, refusal: u32) -> usize
 
 // The controller's.
 fn put_controller(out: &mut [u8], trace: &[u8], kind: u32) -> usize
-    ensures { (out.new, result) ≡ write (out.old, 0) (controller kind (numbersAt (wanted kind) trace.now (toldAt trace.now 0).place)) }
+    ensures { (out.new, result) ≡ write (out.old, 0) (controller kind (numbers_at (wanted kind) trace.now (told_at trace.now 0).place)) }
 {
     let a = put_kind(out, 0, kind);
     let first = read_at(trace, 0);
@@ -252,7 +252,7 @@ fn put_controller(out: &mut [u8], trace: &[u8], kind: u32) -> usize
 }
 
 fn put_kind(out: &mut [u8], at: usize, kind: u32) -> usize
-    ensures { (out.new, result) ≡ write (out.old, at) (kindWord kind) }
+    ensures { (out.new, result) ≡ write (out.old, at) (kind_word kind) }
 {
     if kind == kinds::AIC {
         return text::put_all(out, at, b"aic");
@@ -274,7 +274,7 @@ fn put_kind(out: &mut [u8], at: usize, kind: u32) -> usize
 
 // So many numbers of a trace from a place on.
 fn put_numbers(out: &mut [u8], at: usize, trace: &[u8], place: usize, n: u32) -> usize
-    ensures { (out.new, result) ≡ write (out.old, at) (fields (numbersAt n trace.now place)) }
+    ensures { (out.new, result) ≡ write (out.old, at) (fields (numbers_at n trace.now place)) }
 {
     if n == 0 {
         return at;
@@ -285,7 +285,7 @@ fn put_numbers(out: &mut [u8], at: usize, trace: &[u8], place: usize, n: u32) ->
 }
 
 fn read_at(trace: &[u8], place: usize) -> Said
-    ensures { (result.value ≡ (toldAt trace.now place).value) × (result.place ≡ (toldAt trace.now place).place) }
+    ensures { (result.value ≡ (told_at trace.now place).value) × (result.place ≡ (told_at trace.now place).place) }
 {
     read_of(numbers::read_number(trace, place))
 }
@@ -311,7 +311,7 @@ fn put_stated(out: &mut [u8], told: bool, x: Recorded) -> usize
 }
 
 fn put_stated_by(out: &mut [u8], told: bool, privilege: u32, step: Step) -> usize
-    ensures { (out.new, result) ≡ write (out.old, 0) (statedBy told privilege step) }
+    ensures { (out.new, result) ≡ write (out.old, 0) (stated_by told privilege step) }
 {
     match step {
         Step::Read(offset) => put_read(out, told, privilege, offset),
@@ -321,7 +321,7 @@ fn put_stated_by(out: &mut [u8], told: bool, privilege: u32, step: Step) -> usiz
 }
 
 fn put_read(out: &mut [u8], told: bool, privilege: u32, offset: u32) -> usize
-    ensures { (out.new, result) ≡ write (out.old, 0) (readStated told privilege offset) }
+    ensures { (out.new, result) ≡ write (out.old, 0) (read_stated told privilege offset) }
 {
     let a = text::put_all(out, 0, b"read");
     let n = offset_digits(offset);
@@ -330,7 +330,7 @@ fn put_read(out: &mut [u8], told: bool, privilege: u32, offset: u32) -> usize
 }
 
 fn put_write(out: &mut [u8], told: bool, privilege: u32, offset: u32, value: u32) -> usize
-    ensures { (out.new, result) ≡ write (out.old, 0) (writeStated told privilege offset value) }
+    ensures { (out.new, result) ≡ write (out.old, 0) (write_stated told privilege offset value) }
 {
     let a = text::put_all(out, 0, b"write");
     let n = offset_digits(offset);
@@ -340,7 +340,7 @@ fn put_write(out: &mut [u8], told: bool, privilege: u32, offset: u32, value: u32
 }
 
 fn put_line(out: &mut [u8], line: u32, level: u32) -> usize
-    ensures { (out.new, result) ≡ write (out.old, 0) (lineStated line level) }
+    ensures { (out.new, result) ≡ write (out.old, 0) (line_stated line level) }
 {
     let a = text::put_all(out, 0, b"line");
     let b = text::put_field(out, a, line as u64);
@@ -348,7 +348,7 @@ fn put_line(out: &mut [u8], line: u32, level: u32) -> usize
 }
 
 fn put_privilege(out: &mut [u8], at: usize, told: bool, privilege: u32) -> usize
-    ensures { (out.new, result) ≡ write (out.old, at) (privilegeField told privilege) }
+    ensures { (out.new, result) ≡ write (out.old, at) (privilege_field told privilege) }
 {
     if told {
         return text::put_field(out, at, privilege as u64);
@@ -357,7 +357,7 @@ fn put_privilege(out: &mut [u8], at: usize, told: bool, privilege: u32) -> usize
 }
 
 fn offset_digits(v: u32) -> u32
-    ensures { result ≡ offsetDigits v }
+    ensures { result ≡ offset_digits v }
 {
     if v < 0x1000 {
         return 3;
@@ -378,7 +378,7 @@ fn offset_digits(v: u32) -> u32
 }
 
 fn put_hex_field(out: &mut [u8], at: usize, v: u32, digits: u32) -> usize
-    ensures { (out.new, result) ≡ write (out.old, at) (hexField digits v) }
+    ensures { (out.new, result) ≡ write (out.old, at) (hex_field digits v) }
 {
     let a = text::put_all(out, at, b" 0x");
     put_digits(out, a, v, digits)
@@ -386,7 +386,7 @@ fn put_hex_field(out: &mut [u8], at: usize, v: u32, digits: u32) -> usize
 
 // The last hexadecimal digits of v, so many of them.
 fn put_digits(out: &mut [u8], at: usize, v: u32, digits: u32) -> usize
-    ensures { (out.new, result) ≡ write (out.old, at) (hexOf digits v) }
+    ensures { (out.new, result) ≡ write (out.old, at) (hex_of digits v) }
 {
     if digits == 0 {
         return at;
@@ -397,14 +397,14 @@ fn put_digits(out: &mut [u8], at: usize, v: u32, digits: u32) -> usize
 
 // The last of them.
 fn put_digit(out: &mut [u8], at: usize, v: u32) -> usize
-    ensures { (out.new, result) ≡ write (out.old, at) (hexDigit (v % 16) ∷ []) }
+    ensures { (out.new, result) ≡ write (out.old, at) (hex_digit (v % 16) ∷ []) }
 {
     text::put(out, at, text::digit((v % 16) as usize))
 }
 
 // A statement, and spaces up to the column of its comment.
 fn put_column(out: &mut [u8], at: usize, statement: &[u8]) -> usize
-    ensures { (out.new, result) ≡ write (out.old, at) (toColumn statement.now) }
+    ensures { (out.new, result) ≡ write (out.old, at) (to_column statement.now) }
 {
     let a = text::put_all(out, at, statement);
     put_spaces(out, a, gap(statement.len()))
@@ -435,7 +435,7 @@ fn put_spaces(out: &mut [u8], at: usize, n: usize) -> usize
 
 // The maker's document.
 fn put_document(out: &mut [u8], at: usize, kind: u32) -> usize
-    ensures { (out.new, result) ≡ write (out.old, at) (documentWords kind) }
+    ensures { (out.new, result) ≡ write (out.old, at) (document_words kind) }
 {
     if kind == kinds::AIC {
         return text::put_all(
@@ -465,7 +465,7 @@ fn put_document(out: &mut [u8], at: usize, kind: u32) -> usize
 
 // That of both kinds of CIC.
 fn put_cic_document(out: &mut [u8], at: usize) -> usize
-    ensures { (out.new, result) ≡ write (out.old, at) cicDocument }
+    ensures { (out.new, result) ≡ write (out.old, at) cic_document }
 {
     text::put_all(
         out,
@@ -483,7 +483,7 @@ fn put_step_words(
     x: Recorded,
     a: Answer,
 ) -> usize
-    ensures { (out.new, result) ≡ write (out.old, at) (stepWords number m x a) }
+    ensures { (out.new, result) ≡ write (out.old, at) (step_words number m x a) }
 {
     let b = text::put_decimal(out, at, number as u64);
     let c = register_words::put_place(out, b, m, x);
@@ -491,7 +491,7 @@ fn put_step_words(
 }
 
 fn put_did(out: &mut [u8], at: usize, m: Machine, x: Recorded, a: Answer) -> usize
-    ensures { (out.new, result) ≡ write (out.old, at) (didWords m x a) }
+    ensures { (out.new, result) ≡ write (out.old, at) (did_words m x a) }
 {
     if a.refusal != steps::CARRIED_OUT {
         return put_refused(out, at, m, x, a.refusal);
@@ -505,7 +505,7 @@ fn put_did(out: &mut [u8], at: usize, m: Machine, x: Recorded, a: Answer) -> usi
 
 // What an access read or wrote.
 fn put_access(out: &mut [u8], at: usize, m: Machine, x: Recorded, value: u32, step: Step) -> usize
-    ensures { (out.new, result) ≡ write (out.old, at) (accessWords m x value step) }
+    ensures { (out.new, result) ≡ write (out.old, at) (access_words m x value step) }
 {
     match step {
         Step::Read(_) => put_value(out, at, value),
@@ -515,14 +515,14 @@ fn put_access(out: &mut [u8], at: usize, m: Machine, x: Recorded, value: u32, st
 }
 
 fn put_value(out: &mut [u8], at: usize, value: u32) -> usize
-    ensures { (out.new, result) ≡ write (out.old, at) (valueWords value) }
+    ensures { (out.new, result) ≡ write (out.old, at) (value_words value) }
 {
     let a = text::put_all(out, at, b" = 0x");
     text::put_hex(out, a, value)
 }
 
 fn put_refused(out: &mut [u8], at: usize, m: Machine, x: Recorded, refusal: u32) -> usize
-    ensures { (out.new, result) ≡ write (out.old, at) (refusedWords m x refusal) }
+    ensures { (out.new, result) ≡ write (out.old, at) (refused_words m x refusal) }
 {
     let a = text::phrases::put_counted(out, at, b" refused by ", refusal);
     let b = text::put_all(out, a, b": ");
@@ -531,7 +531,7 @@ fn put_refused(out: &mut [u8], at: usize, m: Machine, x: Recorded, refusal: u32)
 
 // Why, by the number of the refusal.
 fn put_reason(out: &mut [u8], at: usize, m: Machine, x: Recorded, refusal: u32) -> usize
-    ensures { (out.new, result) ≡ write (out.old, at) (reasonWords m x refusal) }
+    ensures { (out.new, result) ≡ write (out.old, at) (reason_words m x refusal) }
 {
     if refusal == steps::MISALIGNED {
         return text::put_all(out, at, b"the offset is no multiple of 4");

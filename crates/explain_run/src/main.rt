@@ -4,7 +4,7 @@
 ghost use Rattle.std.specs.Prelude.{◌≡◌, List, ℕ, ◌≤◌, length};
 ghost use Rattle.words.specs.Choice.{pick};
 ghost use Rattle.text.specs.Text.{laid};
-ghost use Rattle.explain.specs.Explain.{explainedOf, explainedWindow};
+ghost use Rattle.explain.specs.Explain.{explained_of, explained_window};
 
 // The most steps that are played.
 const LIMIT: u32 = 20000;
@@ -60,7 +60,7 @@ fn tell(what: &[u8]) {
 
 // What is printed of a whole trace, or of a window.
 fn explained(trace: &[u8], whole: bool, first: u32, steps: u32, out: &mut [u8]) -> usize
-    ensures { (out.new, result) ≡ laid out.old (pick whole (explainedOf trace.now 20000) (explainedWindow trace.now 20000 first steps)) }
+    ensures { (out.new, result) ≡ laid out.old (pick whole (explained_of trace.now 20000) (explained_window trace.now 20000 first steps)) }
 {
     if whole {
         return explain::explain(trace, LIMIT, out);
@@ -71,8 +71,8 @@ fn explained(trace: &[u8], whole: bool, first: u32, steps: u32, out: &mut [u8]) 
 // A buffer that any such explanation fits.
 fn room() -> [u8; 5242880]
     ensures value { 5242880 ≡ length result }
-    ensures any { (s : List ℕ) → length (explainedOf s 20000) ≤ length result }
-    ensures window { (s : List ℕ) (first steps : ℕ) → length (explainedWindow s 20000 first steps) ≤ length result }
+    ensures any { (s : List ℕ) → length (explained_of s 20000) ≤ length result }
+    ensures window { (s : List ℕ) (first steps : ℕ) → length (explained_window s 20000 first steps) ≤ length result }
 {
     [0; 5242880]
 }

@@ -3,28 +3,28 @@
 // width of a pointer. include/wisteria.h declares the functions for C, and says what a caller answers for.
 ghost use Rattle.std.specs.Prelude.{◌≡◌, [], ◌∷◌, ℕ};
 ghost use Rattle.text.specs.Text.{laid};
-ghost use Rattle.beginning.specs.Play.{playOf};
-ghost use Rattle.lines.specs.Listing.{listingOf};
-ghost use Rattle.player.specs.After.{wordsAfter};
+ghost use Rattle.beginning.specs.Play.{play_of};
+ghost use Rattle.lines.specs.Listing.{listing_of};
+ghost use Rattle.player.specs.After.{words_after};
 ghost use Rattle.tally.specs.Tally.{tally_of};
-ghost use Rattle.aic_bounds.specs.Bounds.{boundOf};
-ghost use Rattle.aic_bounds.specs.Figures.{largestNow};
-ghost use Rattle.trace_bounds.specs.Figures.{figuresIn, countsOf, termsOf};
-ghost use Rattle.tables.specs.Reading.{answerTo};
+ghost use Rattle.aic_bounds.specs.Bounds.{bound_of};
+ghost use Rattle.aic_bounds.specs.Figures.{largest_now};
+ghost use Rattle.trace_bounds.specs.Figures.{figures_in, counts_of, terms_of};
+ghost use Rattle.tables.specs.Reading.{answer_to};
 ghost use Rattle.encode.specs.Encode.{encoded};
-ghost use Rattle.explain.specs.Explain.{explainedOf, explainedWindow};
-ghost use Rattle.coreinterrupt_room.specs.Lent.{leftBy, startOver, stepTold};
+ghost use Rattle.explain.specs.Explain.{explained_of, explained_window};
+ghost use Rattle.coreinterrupt_room.specs.Lent.{left_by, start_over, step_told};
 ghost use Rattle.steps.specs.Refusals.{privileged};
 ghost use Rattle.steps.specs.declared.Step.TheVariants.{Read, Write, Line};
 ghost use Rattle.trace.specs.Turns.{made};
-ghost use Rattle.machine_room.specs.Batch.{stepsIn, SteppedAll};
-ghost use Rattle.machine_room.specs.Controller.{numbered, Started, Stepped, Showing, shownIn};
+ghost use Rattle.machine_room.specs.Batch.{steps_in, SteppedAll};
+ghost use Rattle.machine_room.specs.Controller.{numbered, Started, Stepped, Showing, shown_in};
 
 // Writes the listing of a trace of at most `limit` steps to the start of the lent buffer. Answers the number of bytes written: what finds no room
 // is dropped, and the rest of the buffer stays as it was. A listing of at most 99,999 steps has at most 29 bytes for each step and 58 more.
 #[unsafe(no_mangle)]
 pub extern "C" fn wisteria_list(trace: &[u8], limit: u32, out: &mut [u8]) -> usize
-    ensures { (out.new, result) ≡ laid out.old (listingOf trace.now limit) }
+    ensures { (out.new, result) ≡ laid out.old (listing_of trace.now limit) }
 {
     listing::list(trace, limit, out)
 }
@@ -32,7 +32,7 @@ pub extern "C" fn wisteria_list(trace: &[u8], limit: u32, out: &mut [u8]) -> usi
 // The same listing by the loop over any machine, whatever the kind: it is there to be timed beside the other.
 #[unsafe(no_mangle)]
 pub extern "C" fn wisteria_list_plain(trace: &[u8], limit: u32, out: &mut [u8]) -> usize
-    ensures { (out.new, result) ≡ laid out.old (listingOf trace.now limit) }
+    ensures { (out.new, result) ≡ laid out.old (listing_of trace.now limit) }
 {
     listing::list_plain(trace, limit, out)
 }
@@ -40,7 +40,7 @@ pub extern "C" fn wisteria_list_plain(trace: &[u8], limit: u32, out: &mut [u8]) 
 // The number of steps played, refused ones among them: at most `limit`, and 0 where the trace has no accepted configuration.
 #[unsafe(no_mangle)]
 pub extern "C" fn wisteria_steps(trace: &[u8], limit: u32) -> u32
-    ensures { result ≡ (playOf trace.now limit).steps }
+    ensures { result ≡ (play_of trace.now limit).steps }
 {
     let p = player::play(trace, limit);
     p.steps
@@ -49,7 +49,7 @@ pub extern "C" fn wisteria_steps(trace: &[u8], limit: u32) -> u32
 // The same number by the loop over any machine, whatever the kind: it is there to be timed beside the other.
 #[unsafe(no_mangle)]
 pub extern "C" fn wisteria_play_plain(trace: &[u8], limit: u32) -> u32
-    ensures { result ≡ (playOf trace.now limit).steps }
+    ensures { result ≡ (play_of trace.now limit).steps }
 {
     let p = player::play_plain(trace, limit);
     p.steps
@@ -58,7 +58,7 @@ pub extern "C" fn wisteria_play_plain(trace: &[u8], limit: u32) -> u32
 // The number of the refusal that ended the play, 7 to 11, or 0 where the trace was played to its end.
 #[unsafe(no_mangle)]
 pub extern "C" fn wisteria_refusal(trace: &[u8], limit: u32) -> u32
-    ensures { result ≡ (playOf trace.now limit).refusal }
+    ensures { result ≡ (play_of trace.now limit).refusal }
 {
     let p = player::play(trace, limit);
     p.refusal
@@ -67,7 +67,7 @@ pub extern "C" fn wisteria_refusal(trace: &[u8], limit: u32) -> u32
 // The place of that refusal, counted in bytes from the start of the trace, or the number of bytes of the trace where there is none.
 #[unsafe(no_mangle)]
 pub extern "C" fn wisteria_offset(trace: &[u8], limit: u32) -> usize
-    ensures { result ≡ (playOf trace.now limit).offset }
+    ensures { result ≡ (play_of trace.now limit).offset }
 {
     let p = player::play(trace, limit);
     p.offset
@@ -78,7 +78,7 @@ pub extern "C" fn wisteria_offset(trace: &[u8], limit: u32) -> usize
 // no index.
 #[unsafe(no_mangle)]
 pub extern "C" fn wisteria_looked(trace: &[u8], limit: u32, offset: u32) -> u32
-    ensures { result ≡ wordsAfter trace.now limit offset }
+    ensures { result ≡ words_after trace.now limit offset }
 {
     player::looked::words_after(trace, limit, offset)
 }
@@ -121,9 +121,9 @@ pub extern "C" fn wisteria_bounds<'a>(
     waits: &'a mut [u32; 4],
     terms: &'a mut [u32; 6],
 ) -> u64
-    ensures handlers { result ≡ boundOf (largestNow (figuresIn trace.now limit source)) }
-    ensures counted { waits.new ≡ countsOf (figuresIn trace.now limit source) }
-    ensures told { terms.new ≡ termsOf (figuresIn trace.now limit source) }
+    ensures handlers { result ≡ bound_of (largest_now (figures_in trace.now limit source)) }
+    ensures counted { waits.new ≡ counts_of (figures_in trace.now limit source) }
+    ensures told { terms.new ≡ terms_of (figures_in trace.now limit source) }
 {
     let f = trace_bounds::figures(trace, limit, source);
     let c = trace_bounds::counts_of(f);
@@ -137,7 +137,7 @@ pub extern "C" fn wisteria_bounds<'a>(
 // the number of bytes written: what finds no room is dropped, and the rest of the buffer stays as it was.
 #[unsafe(no_mangle)]
 pub extern "C" fn wisteria_stack(text: &[u8], out: &mut [u8]) -> usize
-    ensures { (out.new, result) ≡ laid out.old (answerTo text.now) }
+    ensures { (out.new, result) ≡ laid out.old (answer_to text.now) }
 {
     tables::put_answer(out, text)
 }
@@ -151,7 +151,7 @@ pub extern "C" fn wisteria_core_start(
     fiqlevel: u32,
     irqlevel: u32,
 ) -> coreinterrupt_room::lent::Reply
-    ensures { (core.new, result) ≡ leftBy (startOver core.old fiqs irqs fiqlevel irqlevel) }
+    ensures { (core.new, result) ≡ left_by (start_over core.old fiqs irqs fiqlevel irqlevel) }
 {
     let a = coreinterrupt_room::lent::start_over(*core, fiqs, irqs, fiqlevel, irqlevel);
     *core = a.core;
@@ -170,7 +170,7 @@ pub extern "C" fn wisteria_core_step(
     first: u32,
     second: u32,
 ) -> coreinterrupt_room::lent::Reply
-    ensures { (core.new, result) ≡ leftBy (stepTold core.old kind first second) }
+    ensures { (core.new, result) ≡ left_by (step_told core.old kind first second) }
 {
     let a = coreinterrupt_room::lent::step_told(*core, kind, first, second);
     *core = a.core;
@@ -184,7 +184,7 @@ pub extern "C" fn wisteria_core_step(
 // finds no room is dropped, and the rest of the buffer stays as it was. An explanation of 20,000 steps has at most 5,242,880 bytes.
 #[unsafe(no_mangle)]
 pub extern "C" fn wisteria_explain(trace: &[u8], limit: u32, out: &mut [u8]) -> usize
-    ensures { (out.new, result) ≡ laid out.old (explainedOf trace.now limit) }
+    ensures { (out.new, result) ≡ laid out.old (explained_of trace.now limit) }
 {
     explain::explain(trace, limit, out)
 }
@@ -198,7 +198,7 @@ pub extern "C" fn wisteria_explain_window(
     steps: u32,
     out: &mut [u8],
 ) -> usize
-    ensures { (out.new, result) ≡ laid out.old (explainedWindow trace.now limit first steps) }
+    ensures { (out.new, result) ≡ laid out.old (explained_window trace.now limit first steps) }
 {
     explain::explain_window(trace, limit, first, steps, out)
 }
@@ -278,7 +278,7 @@ pub extern "C" fn wisteria_line(held: &mut [u32; 2048], line: u32, level: u32) -
 // The three numbers that a listing's line shows of the controller, or 12 and zeros.
 #[unsafe(no_mangle)]
 pub extern "C" fn wisteria_outputs<'a>(held: &'a [u32; 2048], columns: &'a mut [u32; 3]) -> u32
-    ensures { Showing held.now (shownIn result columns.new) }
+    ensures { Showing held.now (shown_in result columns.new) }
 {
     let s = machine_room::controller::outputs(held);
     let three = [s.first, s.second, s.third];
@@ -295,7 +295,7 @@ pub extern "C" fn wisteria_step_words<'a>(
     words: &'a [u32],
     answers: &'a mut [u32],
 ) -> u32
-    ensures { SteppedAll held.old words.now answers.old (stepsIn words.now answers.old) held.new answers.new result }
+    ensures { SteppedAll held.old words.now answers.old (steps_in words.now answers.old) held.new answers.new result }
 {
     machine_room::controller::steps_in(held, words, answers)
 }

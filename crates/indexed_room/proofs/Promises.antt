@@ -10,9 +10,9 @@ use lib.Dec.{eqb}
 use lib.ListN.{get_or}
 use lib.Seq.{ext_get_or}
 use Rattle.words.specs.Word.{bit}
-use Rattle.words.proofs.CountingLaws.{any_some, some-any}
-use Rattle.words.proofs.WordLaws.{bit-wordOf}
-use Rattle.rooms.proofs.PartLaws.{made-length, made-get}
+use Rattle.words.proofs.CountingLaws.{any_some, some_any}
+use Rattle.words.proofs.WordLaws.{bit-word_of}
+use Rattle.rooms.proofs.PartLaws.{made-length, made_get}
 use Rattle.cic_record.specs.declared.Cic.{Cic}
 use Rattle.cic_room.specs.Room.{laid}
 use Rattle.cic_room.proofs.Promises as cic
@@ -39,13 +39,13 @@ one-record p q r h k =
         ∙ ap (λ (t : List ℕ). prioritised d (held_of y.choice y.hold y.global t)) l
 
 -- the words of a channel
-channel-words : (p : Prioritised) (r : List ℕ) (k w : ℕ) → Laid p r → k < 256 → w < 32
+channel_words : (p : Prioritised) (r : List ℕ) (k w : ℕ) → Laid p r → k < 256 → w < 32
     → (bit (get_or r (1280 + k) 0) w ≡ true) ↔ ((i : ℕ) × (i < 32) × (get_or p.cic.channel (32 * w + i) 0 ≡ k))
 unfolding words_of in_word
-channel-words p r k w h l m = (λ e. let s = any_some 32 (λ i. eqb (get_or p.cic.channel (32 * w + i) 0) k) (sym is ∙ e) in (s.0, s.1, eqb-true (get_or p.cic.channel (32 * w + s.0) 0) k s.2), λ s. is ∙ some-any 32 (λ i. eqb (get_or p.cic.channel (32 * w + i) 0) k) s.0 s.1 (eq-eqb (get_or p.cic.channel (32 * w + s.0) 0) k s.2))
+channel_words p r k w h l m = (λ e. let s = any_some 32 (λ i. eqb (get_or p.cic.channel (32 * w + i) 0) k) (sym is ∙ e) in (s.0, s.1, eqb-true (get_or p.cic.channel (32 * w + s.0) 0) k s.2), λ s. is ∙ some_any 32 (λ i. eqb (get_or p.cic.channel (32 * w + i) 0) k) s.0 s.1 (eq-eqb (get_or p.cic.channel (32 * w + s.0) 0) k s.2))
   where
     is : bit (get_or r (1280 + k) 0) w ≡ in_word p.cic.channel k w
-    is = ap (λ (x : ℕ). bit x w) (words-is h k l ∙ made-get 256 (words_of p.cic.channel) k l) ∙ bit-wordOf 32 (in_word p.cic.channel k) w m
+    is = ap (λ (x : ℕ). bit x w) (words-is h k l ∙ made_get 256 (words_of p.cic.channel) k l) ∙ bit-word_of 32 (in_word p.cic.channel k) w m
 
 pub kept : Promises
 kept =
@@ -56,5 +56,5 @@ kept =
       size = λ p r h. (cic.kept).size (framed p) p.cic r h;
       index = λ p r h. (choice-is p h, mode-is p h, global-is p h);
       held = λ p r k h l. host-held-is p h k l;
-      words = channel-words;
+      words = channel_words;
     }

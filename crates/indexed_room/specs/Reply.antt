@@ -5,9 +5,9 @@ use Rattle.rooms.specs.Reply.{Reply, reply}
 use Rattle.indexed_room.specs.Room.{Laid}
 
 -- the refusal and the value of an answer
-abbrev pub replyOf : Answer → Reply
-replyOf x = reply x.refusal x.value
+abbrev pub reply_of : Answer → Reply
+reply_of x = reply x.refusal x.value
 
 -- the record of an answer stands in the room, and the reply is its own
 abbrev pub Done : Answer → List ℕ → Reply → Type 0
-Done x room r = Laid x.prioritised room × (r ≡ replyOf x)
+Done x room r = Laid x.prioritised room × (r ≡ reply_of x)

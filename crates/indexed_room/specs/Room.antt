@@ -25,14 +25,14 @@ Laid p room = cic.Laid (framed p) p.cic room
 
 -- ---- a frame with one part of it put anew
 
-abbrev pub withKind : Frame → ℕ → Frame
-withKind f x = record { kind = x; kept = f.kept; index = f.index; held = f.held; words = f.words }
+abbrev pub with_kind : Frame → ℕ → Frame
+with_kind f x = record { kind = x; kept = f.kept; index = f.index; held = f.held; words = f.words }
 
-abbrev pub withIndex : Frame → List ℕ → Frame
-withIndex f x = record { kind = f.kind; kept = f.kept; index = x; held = f.held; words = f.words }
+abbrev pub with_index : Frame → List ℕ → Frame
+with_index f x = record { kind = f.kind; kept = f.kept; index = x; held = f.held; words = f.words }
 
-abbrev pub withHeld : Frame → List ℕ → Frame
-withHeld f x = record { kind = f.kind; kept = f.kept; index = f.index; held = x; words = f.words }
+abbrev pub with_held : Frame → List ℕ → Frame
+with_held f x = record { kind = f.kind; kept = f.kept; index = f.index; held = x; words = f.words }
 
 abbrev pub with_words : Frame → List ℕ → Frame
 with_words f x = record { kind = f.kind; kept = f.kept; index = f.index; held = f.held; words = x }

@@ -1,13 +1,13 @@
 -- In which words of 32 system interrupts a channel has one, so that a search for the first of it looks at no others; and how a room is put right after a
 -- register of the channel map is written.
 use Rattle.std.specs.Prelude.{ℕ, ◌+◌, ◌*◌, ◌/◌, ◌<◌, Bool, false, not, ◌&&◌, ◌||◌, List, ◌≡◌, eqb, get_or}
-use Rattle.words.specs.Array.{byteOf}
-use Rattle.words.specs.Counting.{anyBelow}
+use Rattle.words.specs.Array.{byte_of}
+use Rattle.words.specs.Counting.{any_below}
 use Rattle.words.specs.Word.{bit, word_of}
 
 -- one of the 32 bytes from 32 * w on of a map is k
 unfoldable pub in_word : List ℕ → ℕ → ℕ → Bool
-in_word m k w = anyBelow 32 (λ i. eqb (get_or m (32 * w + i) 0) k)
+in_word m k w = any_below 32 (λ i. eqb (get_or m (32 * w + i) 0) k)
 
 -- the words of which that is so: bit w for the bytes from 32 * w on
 unfoldable pub words_of : List ℕ → ℕ → ℕ
@@ -18,7 +18,7 @@ words_of m k = word_of 32 (in_word m k)
 -- the map m has become m' by a write of register q, which was `old`
 pub record Written (m m' : List ℕ) (q old : ℕ) : Type 0 where
   pub others : (i : ℕ) → (i / 4 ≡ q → ⊥) → get_or m' i 0 ≡ get_or m i 0
-  pub before : (j : ℕ) → j < 4 → byteOf old j ≡ get_or m (4 * q + j) 0
+  pub before : (j : ℕ) → j < 4 → byte_of old j ≡ get_or m (4 * q + j) 0
 
 -- channel k is one of two that differ
 abbrev pub one_of : ℕ → ℕ → ℕ → Bool

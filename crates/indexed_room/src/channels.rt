@@ -1,11 +1,11 @@
 // The words of the channels, put right after a register of the channel map is written.
 ghost use Rattle.std.specs.Prelude.{◌≡◌, Bool, true, not, ◌&&◌, ◌||◌, List, ℕ, ◌/◌, ◌<◌, eqb};
-ghost use Rattle.words.specs.Array.{byteOf};
-ghost use Rattle.words.specs.Counting.{anyBelow};
+ghost use Rattle.words.specs.Array.{byte_of};
+ghost use Rattle.words.specs.Counting.{any_below};
 ghost use Rattle.words.specs.Word.{bit};
 ghost use Rattle.rooms.specs.Parts.{made};
 ghost use Rattle.cic_record.specs.declared.Cic.{Cic};
-ghost use Rattle.cic_record.specs.Kinds.{channelNumber};
+ghost use Rattle.cic_record.specs.Kinds.{channel_number};
 ghost use Rattle.cic_room.specs.Room.{Frame, Laid};
 ghost use Rattle.indexed_room.specs.Room.{Renewing, with_words};
 ghost use Rattle.indexed_room.specs.Words.{in_word, words_of, Written, one_of};
@@ -17,7 +17,7 @@ use rooms::Room;
 
 // Whether a word has any bit.
 fn has_any(w: u32) -> bool
-    ensures { result ≡ anyBelow 32 (bit w) }
+    ensures { result ≡ any_below 32 (bit w) }
 {
     w != 0
 }
@@ -58,7 +58,7 @@ fn replace(room: &mut Room, w: u32, from: Channel, to: Channel)
 // Byte j of a word of the channel map, the lowest being byte 0.
 pub(crate) fn channel_in(w: u32, j: u32) -> Channel
     requires { j < 4 }
-    ensures { (result ≡ channelNumber (byteOf w j)) × (result.0 < 256) }
+    ensures { (result ≡ channel_number (byte_of w j)) × (result.0 < 256) }
 {
     Channel(((w >> (8 * j)) % 256) as u16)
 }
@@ -66,7 +66,7 @@ pub(crate) fn channel_in(w: u32, j: u32) -> Channel
 // Byte j of register q was one of `old` and is one of `new`.
 fn replace_byte(room: &mut Room, q: u32, j: u32, old: u32, new: u32)
     requires { (q < 256) × (j < 4) }
-    ensures { (f : Frame) (c : Cic) (rest : ℕ → Bool) → in_word c.channel (byteOf new j) (q / 8) ≡ true → Renewing f c (q / 8) (λ i. one_of (byteOf old j) (byteOf new j) i || rest i) room.old → Renewing f c (q / 8) rest room.new }
+    ensures { (f : Frame) (c : Cic) (rest : ℕ → Bool) → in_word c.channel (byte_of new j) (q / 8) ≡ true → Renewing f c (q / 8) (λ i. one_of (byte_of old j) (byte_of new j) i || rest i) room.old → Renewing f c (q / 8) rest room.new }
 {
     let from = channel_in(old, j);
     let to = channel_in(new, j);

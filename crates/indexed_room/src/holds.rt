@@ -2,10 +2,10 @@
 ghost use Rattle.std.specs.Prelude.{◌≡◌, ◌≢◌, ◌<◌, set};
 ghost use Rattle.words.specs.Array.{rest_at};
 ghost use Rattle.words.specs.Choice.{pick};
-ghost use Rattle.cic_held.specs.Order.{noneWord};
+ghost use Rattle.cic_held.specs.Order.{none_word};
 ghost use Rattle.cic_held.specs.declared.Prioritised.{Prioritised};
-ghost use Rattle.cic_held.specs.Held.{prioritised, nothingHeld, withGlobal, withHosts, heldAs, wordHeld, freedHosts, controlled};
-ghost use Rattle.cic_indexed.specs.Registers.{afterHost, hostsWritten, heldAfter};
+ghost use Rattle.cic_held.specs.Held.{prioritised, nothing_held, with_global, with_hosts, held_as, word_held, freed_hosts, controlled};
+ghost use Rattle.cic_indexed.specs.Registers.{after_host, hosts_written, held_after};
 ghost use Rattle.indexed_room.specs.Room.{Laid};
 
 use cic_record::Host;
@@ -23,7 +23,7 @@ pub const GLOBAL_HELD: usize = 11;
 
 // The word that is held.
 pub(crate) fn word_held(x: u32) -> u32
-    ensures { result ≡ wordHeld x }
+    ensures { result ≡ word_held x }
 {
     if x == 1 {
         return cic_held::indices::NONE;
@@ -36,7 +36,7 @@ pub(crate) fn word_held(x: u32) -> u32
 
 // The word of an index as it is held.
 pub(crate) fn held_as(word: u32) -> u32
-    ensures { (word ≢ noneWord → word < 65534) → result ≡ heldAs word }
+    ensures { (word ≢ none_word → word < 65534) → result ≡ held_as word }
 {
     if word == cic_held::indices::NONE {
         return 1;
@@ -48,7 +48,7 @@ pub(crate) fn held_as(word: u32) -> u32
 
 // The global index is held as x, or not held.
 pub(crate) fn hold_global(room: &mut Room, x: u32)
-    ensures { (p : Prioritised) → Laid p room.old → Laid (prioritised p.cic (withGlobal p.held x)) room.new }
+    ensures { (p : Prioritised) → Laid p room.old → Laid (prioritised p.cic (with_global p.held x)) room.new }
 {
     room[GLOBAL_HELD] = x;
 }
@@ -56,7 +56,7 @@ pub(crate) fn hold_global(room: &mut Room, x: u32)
 // The index of host interrupt h is held as x, or not held.
 pub(crate) fn hold_host(room: &mut Room, h: Host, x: u32)
     requires { h.0 < 256 }
-    ensures { (p : Prioritised) → Laid p room.old → Laid (prioritised p.cic (withHosts p.held (set p.held.host h.0 x))) room.new }
+    ensures { (p : Prioritised) → Laid p room.old → Laid (prioritised p.cic (with_hosts p.held (set p.held.host h.0 x))) room.new }
 {
     room[HELD + h.0 as usize] = x;
 }
@@ -66,7 +66,7 @@ pub(crate) fn hold_host(room: &mut Room, h: Host, x: u32)
 // The hold of host interrupt h ends, if the test says so.
 fn free_if(room: &mut Room, t: bool, h: Host)
     requires { h.0 < 256 }
-    ensures { (p : Prioritised) → Laid p room.old → Laid (prioritised p.cic (withHosts p.held (pick t (set p.held.host h.0 0) p.held.host))) room.new }
+    ensures { (p : Prioritised) → Laid p room.old → Laid (prioritised p.cic (with_hosts p.held (pick t (set p.held.host h.0 0) p.held.host))) room.new }
 {
     if t {
         hold_host(room, h, 0);
@@ -76,7 +76,7 @@ fn free_if(room: &mut Room, t: bool, h: Host)
 // The holds of the hosts of word k end whose bit of v is 1.
 fn free_word(room: &mut Room, k: u32, v: u32)
     requires { k < 8 }
-    ensures { (p : Prioritised) → Laid p room.old → Laid (prioritised p.cic (withHosts p.held (freedHosts k v p.held.host))) room.new }
+    ensures { (p : Prioritised) → Laid p room.old → Laid (prioritised p.cic (with_hosts p.held (freed_hosts k v p.held.host))) room.new }
 {
     let mut j: u32 = 0;
     while j < 32 {
@@ -98,7 +98,7 @@ fn rest_at(n: u32, k: u32) -> u32
 
 // After v is written to host index set or clear: the hold of host interrupt v ends, if there is one, and the global one.
 fn after_index(room: &mut Room, v: u32)
-    ensures { (p : Prioritised) → Laid p room.old → Laid (prioritised p.cic (afterHost p.held v)) room.new }
+    ensures { (p : Prioritised) → Laid p room.old → Laid (prioritised p.cic (after_host p.held v)) room.new }
 {
     if 256 <= v {
         hold_global(room, 0);
@@ -111,7 +111,7 @@ fn after_index(room: &mut Room, v: u32)
 // After v is written to host enable register k.
 fn hosts_written(room: &mut Room, k: u32, v: u32)
     requires { k < 8 }
-    ensures { (p : Prioritised) → Laid p room.old → Laid (prioritised p.cic (hostsWritten p.cic p.held k v)) room.new }
+    ensures { (p : Prioritised) → Laid p room.old → Laid (prioritised p.cic (hosts_written p.cic p.held k v)) room.new }
 {
     let w = words::keep(rest_at(room[HOSTS], k), v);
     if w == 0 {
@@ -123,7 +123,7 @@ fn hosts_written(room: &mut Room, k: u32, v: u32)
 
 // After a write of the CIC's that is carried out in the mode.
 pub(crate) fn end_holds(room: &mut Room, offset: u32, v: u32)
-    ensures { (p : Prioritised) → Laid p room.old → Laid (prioritised p.cic (heldAfter p.cic p.held offset v)) room.new }
+    ensures { (p : Prioritised) → Laid p room.old → Laid (prioritised p.cic (held_after p.cic p.held offset v)) room.new }
 {
     if offset == 0x034 {
         after_index(room, v);
@@ -145,7 +145,7 @@ pub(crate) fn end_holds(room: &mut Room, offset: u32, v: u32)
 
 // The hold mode is on or off, and nothing is held.
 fn clear(room: &mut Room, mode: u32)
-    ensures { (p : Prioritised) → Laid p room.old → Laid (prioritised p.cic (nothingHeld p.held.choice mode)) room.new }
+    ensures { (p : Prioritised) → Laid p room.old → Laid (prioritised p.cic (nothing_held p.held.choice mode)) room.new }
 {
     let mut k: usize = 0;
     while k < 256 {

@@ -2,11 +2,11 @@
 ghost use Rattle.std.specs.Prelude.{◌≡◌, true};
 ghost use Rattle.rooms.specs.Reply.{told};
 ghost use Rattle.trace.specs.Turns.{step_of};
-ghost use Rattle.cic_registers.specs.Model.{writeAs as cicWriteAs};
+ghost use Rattle.cic_registers.specs.Model.{write_as as cic_write_as};
 ghost use Rattle.cic_held.specs.declared.Prioritised.{Prioritised};
 ghost use Rattle.cic_held.specs.Held.{sound};
 ghost use Rattle.cic_indexed.specs.declared.Own.TheVariants.{Elsewhere};
-ghost use Rattle.cic_indexed.specs.Model.{beside, readAs, writeAs, read, write, line, step, outputs};
+ghost use Rattle.cic_indexed.specs.Model.{beside, read_as, write_as, read, write, line, step, outputs};
 ghost use Rattle.indexed_room.specs.Reply.{Done};
 ghost use Rattle.indexed_room.specs.Room.{Laid};
 
@@ -26,14 +26,14 @@ use rooms::Room;
 
 // A read of one.
 fn read_elsewhere(room: &Room, offset: u32) -> u64
-    ensures { (p : Prioritised) → sound p ≡ true → Laid p room.now → Done (readAs true p offset Elsewhere) room.now (told result) }
+    ensures { (p : Prioritised) → sound p ≡ true → Laid p room.now → Done (read_as true p offset Elsewhere) room.now (told result) }
 {
     cic_room::read(room, offset)
 }
 
 // A write of one. Where it is one of the channel map, the words of the channels are put right.
 fn write_cic(room: &mut Room, offset: u32, v: u32) -> u64
-    ensures { (p : Prioritised) → sound p ≡ true → Laid p room.old → Done (beside p.held (cicWriteAs true p.cic offset v)) room.new (told result) }
+    ensures { (p : Prioritised) → sound p ≡ true → Laid p room.old → Done (beside p.held (cic_write_as true p.cic offset v)) room.new (told result) }
 {
     if offset / 0x400 != 1 {
         return cic_room::write(room, offset, v);
@@ -47,7 +47,7 @@ fn write_cic(room: &mut Room, offset: u32, v: u32) -> u64
 
 // The same, and if it is carried out in the mode, what it ends.
 fn write_elsewhere(room: &mut Room, offset: u32, v: u32) -> u64
-    ensures { (p : Prioritised) → sound p ≡ true → Laid p room.old → Done (writeAs true p offset v Elsewhere) room.new (told result) }
+    ensures { (p : Prioritised) → sound p ≡ true → Laid p room.old → Done (write_as true p offset v Elsewhere) room.new (told result) }
 {
     let r = write_cic(room, offset, v);
     if rooms::refusal_in(r) != steps::CARRIED_OUT {

@@ -1,12 +1,12 @@
 // The registers that only a CIC with prioritised indices has: control, the global index, and an index for each host.
 ghost use Rattle.std.specs.Prelude.{◌≡◌, true, ◌≢◌, ℕ, ◌<◌};
 ghost use Rattle.rooms.specs.Reply.{told};
-ghost use Rattle.cic_held.specs.Order.{noneWord, index_of};
+ghost use Rattle.cic_held.specs.Order.{none_word, index_of};
 ghost use Rattle.cic_held.specs.declared.Prioritised.{Prioritised};
 ghost use Rattle.cic_held.specs.Held.{sound};
 ghost use Rattle.cic_indexed.specs.declared.Own.TheVariants.{Control, GlobalIndex, HostIndex};
-ghost use Rattle.cic_indexed.specs.Registers.{own_at, hostAccess, indexRead, holdAfter};
-ghost use Rattle.cic_indexed.specs.Model.{readAs, writeAs};
+ghost use Rattle.cic_indexed.specs.Registers.{own_at, host_access, index_read, hold_after};
+ghost use Rattle.cic_indexed.specs.Model.{read_as, write_as};
 ghost use Rattle.indexed_room.specs.Reply.{Done};
 ghost use Rattle.indexed_room.specs.Room.{Laid};
 
@@ -42,7 +42,7 @@ pub fn own_at(choice: u32, offset: u32) -> Own
 
 // What the index of a host may be used for: there is none beyond the configured hosts.
 fn host_access(room: &Room, h: Host) -> Access
-    ensures { (p : Prioritised) → Laid p room.now → result ≡ hostAccess p h.0 }
+    ensures { (p : Prioritised) → Laid p room.now → result ≡ host_access p h.0 }
 {
     if (h.0 as u32) < room[HOSTS] {
         return Access::ReadWrite;
@@ -55,7 +55,7 @@ fn host_access(room: &Room, h: Host) -> Access
 // The word of an index: the one that is held as x, or where none is the one that the index names now, over every channel or those of host h.
 fn index_word(room: &Room, x: u32, every: bool, h: Host) -> u32
     requires { h.0 < 256 }
-    ensures { (p : Prioritised) → sound p ≡ true → Laid p room.now → result ≡ indexRead x (index_of p.cic every h) }
+    ensures { (p : Prioritised) → sound p ≡ true → Laid p room.now → result ≡ index_read x (index_of p.cic every h) }
 {
     if x == 0 {
         return search::index(room, every, h);
@@ -65,7 +65,7 @@ fn index_word(room: &Room, x: u32, every: bool, h: Host) -> u32
 
 // What is held after a read that answers a word.
 fn hold_after(mode: u32, word: u32) -> u32
-    ensures { (p : Prioritised) → mode ≡ p.held.hold → (word ≢ noneWord → word < 65534) → result ≡ holdAfter p word }
+    ensures { (p : Prioritised) → mode ≡ p.held.hold → (word ≢ none_word → word < 65534) → result ≡ hold_after p word }
 {
     if mode == 1 {
         return holds::held_as(word);
@@ -75,7 +75,7 @@ fn hold_after(mode: u32, word: u32) -> u32
 
 // A read of control: bit 4 shows the hold mode.
 pub(crate) fn read_control(room: &Room, offset: u32) -> u64
-    ensures { (p : Prioritised) → sound p ≡ true → Laid p room.now → Done (readAs true p offset Control) room.now (told result) }
+    ensures { (p : Prioritised) → sound p ≡ true → Laid p room.now → Done (read_as true p offset Control) room.now (told result) }
 {
     let n = steps::read_refusal(true, offset, Access::ReadWrite);
     if n != steps::CARRIED_OUT {
@@ -86,7 +86,7 @@ pub(crate) fn read_control(room: &Room, offset: u32) -> u64
 
 // A read of the global index, which in the mode is held from then on.
 pub(crate) fn read_global(room: &mut Room, offset: u32) -> u64
-    ensures { (p : Prioritised) → sound p ≡ true → Laid p room.old → Done (readAs true p offset GlobalIndex) room.new (told result) }
+    ensures { (p : Prioritised) → sound p ≡ true → Laid p room.old → Done (read_as true p offset GlobalIndex) room.new (told result) }
 {
     let n = steps::read_refusal(true, offset, Access::ReadWrite);
     if n != steps::CARRIED_OUT {
@@ -102,7 +102,7 @@ pub(crate) fn read_global(room: &mut Room, offset: u32) -> u64
 
 // A read of the index of host interrupt h, which in the mode is held from then on. No host beyond the last is configured.
 pub(crate) fn read_host(room: &mut Room, offset: u32, h: Host) -> u64
-    ensures { (p : Prioritised) → sound p ≡ true → Laid p room.old → Done (readAs true p offset (HostIndex h)) room.new (told result) }
+    ensures { (p : Prioritised) → sound p ≡ true → Laid p room.old → Done (read_as true p offset (HostIndex h)) room.new (told result) }
 {
     let access = host_access(room, h);
     let n = steps::read_refusal(true, offset, access);
@@ -124,7 +124,7 @@ pub(crate) fn read_host(room: &mut Room, offset: u32, h: Host) -> u64
 
 // A write of control: bit 4 is the hold mode.
 pub(crate) fn write_control(room: &mut Room, offset: u32, v: u32) -> u64
-    ensures { (p : Prioritised) → Laid p room.old → Done (writeAs true p offset v Control) room.new (told result) }
+    ensures { (p : Prioritised) → Laid p room.old → Done (write_as true p offset v Control) room.new (told result) }
 {
     let n = steps::write_refusal(true, offset, Access::ReadWrite, steps::CARRIED_OUT);
     if n != steps::CARRIED_OUT {
@@ -136,7 +136,7 @@ pub(crate) fn write_control(room: &mut Room, offset: u32, v: u32) -> u64
 
 // A write of the global index: it ends its hold, whatever the value.
 pub(crate) fn write_global(room: &mut Room, offset: u32) -> u64
-    ensures { (p : Prioritised) (v : ℕ) → Laid p room.old → Done (writeAs true p offset v GlobalIndex) room.new (told result) }
+    ensures { (p : Prioritised) (v : ℕ) → Laid p room.old → Done (write_as true p offset v GlobalIndex) room.new (told result) }
 {
     let n = steps::write_refusal(true, offset, Access::ReadWrite, steps::CARRIED_OUT);
     if n != steps::CARRIED_OUT {
@@ -148,7 +148,7 @@ pub(crate) fn write_global(room: &mut Room, offset: u32) -> u64
 
 // A write of the index of host interrupt h: it ends its hold, whatever the value.
 pub(crate) fn write_host(room: &mut Room, offset: u32, h: Host) -> u64
-    ensures { (p : Prioritised) (v : ℕ) → sound p ≡ true → Laid p room.old → Done (writeAs true p offset v (HostIndex h)) room.new (told result) }
+    ensures { (p : Prioritised) (v : ℕ) → sound p ≡ true → Laid p room.old → Done (write_as true p offset v (HostIndex h)) room.new (told result) }
 {
     let access = host_access(room, h);
     let n = steps::write_refusal(true, offset, access, steps::CARRIED_OUT);

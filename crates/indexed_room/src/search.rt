@@ -2,7 +2,7 @@
 ghost use Rattle.std.specs.Prelude.{◌≡◌, ◌+◌, ◌*◌, ◌/◌, ◌%◌, ◌<◌, ◌≤◌, true};
 ghost use Rattle.words.specs.Counting.{one};
 ghost use Rattle.cic_record.specs.Kinds.{system};
-ghost use Rattle.cic_held.specs.Order.{busy, firstIn, index_of};
+ghost use Rattle.cic_held.specs.Order.{busy, first_in, index_of};
 ghost use Rattle.cic_held.specs.declared.Prioritised.{Prioritised};
 ghost use Rattle.cic_held.specs.Held.{sound};
 ghost use Rattle.indexed_room.specs.Marks.{Marks};
@@ -90,7 +90,7 @@ fn lit_word(room: &Room, w: u32, k: Channel) -> u32
 // The lowest active system interrupt of a channel that has one.
 fn first_of(room: &Room, k: Channel) -> System
     requires { k.0 < 256 }
-    ensures { (p : Prioritised) → sound p ≡ true → Laid p room.now → busy p.cic k ≡ true → result ≡ system (firstIn p.cic k) }
+    ensures { (p : Prioritised) → sound p ≡ true → Laid p room.now → busy p.cic k ≡ true → result ≡ system (first_in p.cic k) }
 {
     let mut left = whole(room[WORDS + k.0 as usize]);
     while left != 0 {

@@ -5,7 +5,7 @@ ghost use Rattle.cic_record.specs.declared.Cic.{Cic};
 ghost use Rattle.cic_room.specs.Room.{Frame, Laid as Stands};
 ghost use Rattle.cic_held.specs.declared.Prioritised.{Prioritised};
 ghost use Rattle.cic_held.specs.Held.{sound};
-ghost use Rattle.indexed_room.specs.Room.{Laid, withHeld, with_words};
+ghost use Rattle.indexed_room.specs.Room.{Laid, with_held, with_words};
 ghost use Rattle.indexed_room.specs.Words.{words_of};
 ghost use Rattle.indexed_room.specs.Entered.{Entered};
 
@@ -50,7 +50,7 @@ fn wide(x: u16) -> u32
 
 // What is held for each host.
 fn lay_held<'a>(room: &'a mut Room, held: &'a [u16; 256])
-    ensures { (f : Frame) (c : Cic) → length held.now ≡ 256 → Stands f c room.old → Stands (withHeld f held.now) c room.new }
+    ensures { (f : Frame) (c : Cic) → length held.now ≡ 256 → Stands f c room.old → Stands (with_held f held.now) c room.new }
 {
     let mut k: usize = 0;
     while k < 256 {
@@ -62,7 +62,7 @@ fn lay_held<'a>(room: &'a mut Room, held: &'a [u16; 256])
 
 // The same, where it stands beside the rest of what is held.
 fn lay_hosts(room: &mut Room, h: Held)
-    ensures { (f : Frame) (c : Cic) → Stands f c room.old → Stands (withHeld f h.host) c room.new }
+    ensures { (f : Frame) (c : Cic) → Stands f c room.old → Stands (with_held f h.host) c room.new }
 {
     let host = h.host;
     lay_held(room, &host);

@@ -3,8 +3,8 @@ use Rattle.std.specs.Prelude.{ℕ, ◌+◌, List, [], ◌∷◌, get_or, set}
 use Rattle.kinds.specs.declared.Configuration.{Configuration}
 
 -- none yet
-abbrev pub noNumbers : Configuration
-noNumbers = record { numbers = 0 ∷ 0 ∷ 0 ∷ 0 ∷ 0 ∷ [] }
+abbrev pub no_numbers : Configuration
+no_numbers = record { numbers = 0 ∷ 0 ∷ 0 ∷ 0 ∷ 0 ∷ [] }
 
 -- the nth put anew
 unfoldable pub with_number : Configuration → ℕ → ℕ → Configuration

@@ -2,26 +2,26 @@
 -- and 6/12).
 use Rattle.std.specs.Prelude.{ℕ, Bool, false, ◌||◌, List, [], ◌∷◌, eqb}
 use Rattle.words.specs.Choice.{pick}
-use Rattle.aic.specs.Model.{within as aicWithin}
-use Rattle.coreinterrupt.specs.Model.{within as coreWithin}
-use Rattle.cic_record.specs.Sound.{within as cicWithin}
-use Rattle.cic_held.specs.Held.{within as indexedWithin}
+use Rattle.aic.specs.Model.{within as aic_within}
+use Rattle.coreinterrupt.specs.Model.{within as core_within}
+use Rattle.cic_record.specs.Sound.{within as cic_within}
+use Rattle.cic_held.specs.Held.{within as indexed_within}
 
-abbrev pub aicKind : ℕ
-aicKind = 0
+abbrev pub aic_kind : ℕ
+aic_kind = 0
 
-abbrev pub coreKind : ℕ
-coreKind = 1
+abbrev pub core_kind : ℕ
+core_kind = 1
 
-abbrev pub cicKind : ℕ
-cicKind = 2
+abbrev pub cic_kind : ℕ
+cic_kind = 2
 
-abbrev pub aintcKind : ℕ
-aintcKind = 3
+abbrev pub aintc_kind : ℕ
+aintc_kind = 3
 
 -- a CIC with prioritised indices (02, 6/12)
-abbrev pub indexedKind : ℕ
-indexedKind = 4
+abbrev pub indexed_kind : ℕ
+indexed_kind = 4
 
 -- something for each kind, and for any other number
 pub record Each (A : Type 0) : Type 0 where
@@ -35,16 +35,16 @@ pub record Each (A : Type 0) : Type 0 where
 -- what there is for this kind
 unfoldable pub by_kind : {A : Type 0} → ℕ → Each A → A
 by_kind kind e =
-    pick (eqb kind aicKind) e.aic
-    (pick (eqb kind coreKind) e.core
-    (pick (eqb kind cicKind) e.cic
-    (pick (eqb kind aintcKind) e.aintc
-    (pick (eqb kind indexedKind) e.indexed
+    pick (eqb kind aic_kind) e.aic
+    (pick (eqb kind core_kind) e.core
+    (pick (eqb kind cic_kind) e.cic
+    (pick (eqb kind aintc_kind) e.aintc
+    (pick (eqb kind indexed_kind) e.indexed
     e.none))))
 
 -- there is a controller of this kind (01, House trace; 02, 2/12 and 6/12)
-unfoldable pub isKind : ℕ → Bool
-isKind kind = eqb kind aicKind || eqb kind coreKind || eqb kind cicKind || eqb kind aintcKind || eqb kind indexedKind
+unfoldable pub is_kind : ℕ → Bool
+is_kind kind = eqb kind aic_kind || eqb kind core_kind || eqb kind cic_kind || eqb kind aintc_kind || eqb kind indexed_kind
 
 -- how many numbers configure it: two words; two counts and two levels; three counts and the revision; none; three counts, the revision and the choice
 -- (01, AIC, CoreInterrupt, CIC; 02, 2/12 and 6/12)
@@ -55,11 +55,11 @@ wanted kind = by_kind kind (record { aic = 2; core = 4; cic = 4; aintc = 0; inde
 unfoldable pub within : ℕ → ℕ → ℕ → Bool
 within kind nth value =
     by_kind kind
-    (record { aic = aicWithin nth value; core = coreWithin nth value; cic = cicWithin nth value; aintc = false; indexed = indexedWithin nth value; none = false })
+    (record { aic = aic_within nth value; core = core_within nth value; cic = cic_within nth value; aintc = false; indexed = indexed_within nth value; none = false })
 
 -- a privilege number follows each offset of its steps (02, 2/12)
-abbrev pub tellsPrivilege : ℕ → Bool
-tellsPrivilege kind = eqb kind aintcKind
+abbrev pub tells_privilege : ℕ → Bool
+tells_privilege kind = eqb kind aintc_kind
 
 -- the first line of its listing: AIC, COREINTERRUPT, CIC or AINTC, and CIC once more (01, House trace; 02, 2/12 and 6/12)
 unfoldable pub name : ℕ → List ℕ

@@ -2,8 +2,8 @@
 // `machine`'s; above it only `player` and `listing` tell one kind from another, to choose its loop (01, "House trace"; 02, 2/12 and 6/12).
 ghost use Rattle.std.specs.Prelude.{◌≡◌};
 ghost use Rattle.text.specs.Text.{write};
-ghost use Rattle.kinds.specs.Kinds.{isKind, wanted, within, tellsPrivilege, name};
-ghost use Rattle.kinds.specs.Configuration.{noNumbers, with_number};
+ghost use Rattle.kinds.specs.Kinds.{is_kind, wanted, within, tells_privilege, name};
+ghost use Rattle.kinds.specs.Configuration.{no_numbers, with_number};
 
 // The numbers of a configuration in their order; one that was not put yet is 0.
 #[derive(Drop)]
@@ -26,7 +26,7 @@ pub const INDEXED: u32 = 4;
 
 // Whether there is a controller of this kind.
 pub fn is_kind(kind: u32) -> bool
-    ensures { result ≡ isKind kind }
+    ensures { result ≡ is_kind kind }
 {
     (kind == AIC) | (kind == CORE) | (kind == CIC) | (kind == AINTC) | (kind == INDEXED)
 }
@@ -71,7 +71,7 @@ pub fn within(kind: u32, nth: u32, value: u32) -> bool
 
 // Whether a privilege number follows each offset in the steps of a kind.
 pub fn tells_privilege(kind: u32) -> bool
-    ensures { result ≡ tellsPrivilege kind }
+    ensures { result ≡ tells_privilege kind }
 {
     kind == AINTC
 }
@@ -102,7 +102,7 @@ pub fn put_name(out: &mut [u8], at: usize, kind: u32) -> usize
 
 // No number yet.
 pub fn no_numbers() -> Configuration
-    ensures { result ≡ noNumbers }
+    ensures { result ≡ no_numbers }
 {
     Configuration { numbers: [0; 5] }
 }

@@ -6,12 +6,12 @@ use native.Mathlib.Omega.{arith}
 use lib.Bits.{bit_or, or_add_and, and_le_l, and_le_r}
 use lib.ListN.{length, length-append}
 use Rattle.text.specs.Text.{space, newline, hex, decimal, field, write}
-use Rattle.text.proofs.DigitLaws.{length-hex, decimal-last}
+use Rattle.text.proofs.DigitLaws.{length-hex, decimal_last}
 use Rattle.text.specs.Bytes.{bytes_of}
 use Rattle.text.proofs.BytesLaws.{length-bytes, bytes-parts, bytes-first, bytes_low}
 use Rattle.text.specs.declared.room.Numeral.{Numeral}
-use Rattle.text.specs.Numeral.{numeralOf}
-use Rattle.text.proofs.NumeralLaws.{numeral-text}
+use Rattle.text.specs.Numeral.{numeral_of}
+use Rattle.text.proofs.NumeralLaws.{numeral_text}
 use Rattle.text.proofs.OverLaws.{over}
 use Rattle.machine.specs.declared.record.Columns.{Columns}
 use Rattle.lines.specs.Behind.{behind}
@@ -61,7 +61,7 @@ one_field : (n : ℕ) → n < 10 → field n ≡ space ∷ (48 + n) ∷ []
 unfolding field
 one_field n h =
     let e : n % 10 ≡ n = omega arith in
-    ap (λ (l : List ℕ). 32 ∷ l) (sym (decimal-last 20 n (λ z. absurd (omega arith)) h) ∙ ap (λ (d : ℕ). (48 + d) ∷ []) e)
+    ap (λ (l : List ℕ). 32 ∷ l) (sym (decimal_last 20 n (λ z. absurd (omega arith)) h) ∙ ap (λ (d : ℕ). (48 + d) ∷ []) e)
 
 -- the bytes of a short one, however they are taken together
 flat : (a b : List ℕ) (l x y z : ℕ)
@@ -107,7 +107,7 @@ numbered l at d w letter value c p q h k e f =
     ∙ over l at a g (behind letter value c) (omega (arith, m, n)) (omega (arith, n, length-behind letter value c))
 
 -- the text that a numeral keeps is the line's number
-pub as_line : (o q : List ℕ × ℕ) (n letter value : ℕ) (c : Columns) (t : Numeral) → t ≡ numeralOf n → (t.width ≡ 0 → ⊥)
+pub as_line : (o q : List ℕ × ℕ) (n letter value : ℕ) (c : Columns) (t : Numeral) → t ≡ numeral_of n → (t.width ≡ 0 → ⊥)
     → q ≡ write o (bytes_of t.width t.digits ++ behind letter value c) → q ≡ write o (line_of n letter value c)
 as_line o q n letter value c t e h f =
-    f ∙ ap (λ (l : List ℕ). write o (l ++ behind letter value c)) (numeral-text t n e h).1 ∙ ap (write o) (line-parts n letter value c)
+    f ∙ ap (λ (l : List ℕ). write o (l ++ behind letter value c)) (numeral_text t n e h).1 ∙ ap (write o) (line-parts n letter value c)

@@ -2,12 +2,12 @@
 ghost use Rattle.std.specs.Prelude.{◌≡◌, true, [], ◌∷◌, ◌++◌, ◌+◌, ◌/◌, ◌^◌, ◌<◌, ◌≤◌, eqb, length};
 ghost use Rattle.std.specs.Int.Bits.{bit_or};
 ghost use Rattle.words.specs.Choice.{pick};
-ghost use Rattle.steps.specs.Refusals.{carriedOut};
+ghost use Rattle.steps.specs.Refusals.{carried_out};
 ghost use Rattle.text.specs.Text.{space, write};
 ghost use Rattle.text.specs.Bytes.{bytes_of};
-ghost use Rattle.text.specs.Numeral.{numeralOf};
+ghost use Rattle.text.specs.Numeral.{numeral_of};
 ghost use Rattle.lines.specs.Behind.{behind};
-ghost use Rattle.lines.specs.Listing.{letterOf, letter, letterOfKind, letterBy, shownValue, line_of, endLine, end_of};
+ghost use Rattle.lines.specs.Listing.{letter_of, letter, letter_of_kind, letter_by, shown_value, line_of, end_line, end_of};
 
 use machine::record::Columns;
 use steps::Step;
@@ -41,8 +41,8 @@ pub fn put_numbered(
     value: u32,
     c: Columns,
 ) -> usize
-    requires { t ≡ numeralOf n }
-    ensures { (out.new, result) ≡ write (out.old, at) (line_of n (letterBy kind refusal) (shownValue refusal value) c) }
+    requires { t ≡ numeral_of n }
+    ensures { (out.new, result) ≡ write (out.old, at) (line_of n (letter_by kind refusal) (shown_value refusal value) c) }
 {
     let letter = letter_by(kind, refusal);
     let shown = shown_value(refusal, value);
@@ -59,7 +59,7 @@ fn put_numbered_line(
     value: u32,
     c: Columns,
 ) -> usize
-    requires { t ≡ numeralOf n }
+    requires { t ≡ numeral_of n }
     ensures { (out.new, result) ≡ write (out.old, at) (line_of n letter value c) }
 {
     if t.width == 0 {
@@ -166,7 +166,7 @@ pub fn put_end(out: &mut [u8], at: usize, refusal: u32, offset: usize) -> usize
 
 // E, the refusal's number and its offset.
 fn put_refusal(out: &mut [u8], at: usize, refusal: u32, offset: usize) -> usize
-    ensures { (out.new, result) ≡ write (out.old, at) (endLine refusal offset) }
+    ensures { (out.new, result) ≡ write (out.old, at) (end_line refusal offset) }
 {
     let a = text::put(out, at, b'E');
     let b = text::put_field(out, a, refusal as u64);
@@ -183,13 +183,13 @@ pub fn letter_of(x: Step, refusal: u32) -> u8
 
 // The letter of a step of which only the number of its kind is known: 1, 2 or 3, as in a trace.
 pub fn letter_by(kind: u32, refusal: u32) -> u8
-    ensures { result ≡ letterBy kind refusal }
+    ensures { result ≡ letter_by kind refusal }
 {
     unless_refused(letter_by_number(kind), refusal)
 }
 
 fn unless_refused(letter: u8, refusal: u32) -> u8
-    ensures { result ≡ pick (eqb refusal carriedOut) letter 88 }
+    ensures { result ≡ pick (eqb refusal carried_out) letter 88 }
 {
     if refusal != steps::CARRIED_OUT {
         return b'X';
@@ -198,7 +198,7 @@ fn unless_refused(letter: u8, refusal: u32) -> u8
 }
 
 fn letter_by_kind(x: Step) -> u8
-    ensures { result ≡ letterOf x }
+    ensures { result ≡ letter_of x }
 {
     match x {
         Step::Read(_) => b'R',
@@ -208,7 +208,7 @@ fn letter_by_kind(x: Step) -> u8
 }
 
 fn letter_by_number(kind: u32) -> u8
-    ensures { result ≡ letterOfKind kind }
+    ensures { result ≡ letter_of_kind kind }
 {
     if kind == trace::READ {
         return b'R';
@@ -221,7 +221,7 @@ fn letter_by_number(kind: u32) -> u8
 
 // What the eight digits show: the value read, else 0, or the refusal's number.
 pub fn shown_value(refusal: u32, value: u32) -> u32
-    ensures { result ≡ shownValue refusal value }
+    ensures { result ≡ shown_value refusal value }
 {
     if refusal != steps::CARRIED_OUT {
         return refusal;

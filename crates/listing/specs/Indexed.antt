@@ -4,8 +4,8 @@ use Rattle.cic_record.specs.Promises.{InRange}
 use Rattle.trace.specs.Promises.{Reads}
 use Rattle.machine.specs.declared.record.Machine.{Machine}
 use Rattle.machine.specs.Machine.{sound}
-use Rattle.beginning.specs.Play.{playOf}
-use Rattle.lines.specs.Listing.{end_of, listingOf}
+use Rattle.beginning.specs.Play.{play_of}
+use Rattle.lines.specs.Listing.{end_of, listing_of}
 
 -- one machine is a sound CIC of kind 4 with its choice off, and the other the same CIC of kind 2 (02, 6/12)
 pub record Off (m c : Machine) : Type 0 where
@@ -28,23 +28,23 @@ pub record Alike (a b r : List ℕ) : Type 0 where
   pub short : (length (a ++ r) ≤ 65536) × (length (b ++ r) ≤ 65536)
 
 -- how the play of a trace ends, as a listing tells it: a last line E, or nothing (01, House trace)
-abbrev pub lastLine : List ℕ → ℕ → List ℕ
-lastLine s limit = end_of (playOf s limit).refusal (playOf s limit).offset
+abbrev pub last_line : List ℕ → ℕ → List ℕ
+last_line s limit = end_of (play_of s limit).refusal (play_of s limit).offset
 
 -- two listings are the same but for their last lines
 abbrev pub SameBut : List ℕ → List ℕ → ℕ → Type 0
-SameBut s t limit = (l : List ℕ) × (listingOf s limit ≡ l ++ lastLine s limit) × (listingOf t limit ≡ l ++ lastLine t limit)
+SameBut s t limit = (l : List ℕ) × (listing_of s limit ≡ l ++ last_line s limit) × (listing_of t limit ≡ l ++ last_line t limit)
 
 -- a CIC with its choice on, 4 systems, two channels and one host: control is read, system 0 is put to channel 1, all are enabled, the host and then all hosts
 -- too; systems 0 and 3 rise; the global index is read, system 3 cleared, the index read again, its hold ended, the index read once more; then the index of a
 -- host that is not there (001, 1.3.5; 02, 6/12)
-abbrev pub indexedTrace : List ℕ
-indexedTrace =
+abbrev pub indexed_trace : List ℕ
+indexed_trace =
     4 ∷ 4 ∷ 2 ∷ 1 ∷ 0 ∷ 1 ∷ 1 ∷ 4 ∷ 2 ∷ 128 ∷ 8 ∷ 1 ∷ 2 ∷ 128 ∷ 6 ∷ 15 ∷ 2 ∷ 128 ∷ 42 ∷ 1 ∷ 2 ∷ 16 ∷ 1 ∷ 3 ∷ 0 ∷ 1 ∷ 3 ∷ 3 ∷ 1 ∷ 1 ∷ 128 ∷ 1 ∷ 2 ∷ 36 ∷ 3 ∷ 1 ∷ 128 ∷ 1 ∷ 2 ∷ 128 ∷ 1 ∷ 0 ∷ 1 ∷ 128 ∷ 1 ∷ 1 ∷ 132 ∷ 18 ∷ []
 
 -- CIC and thirteen lines of steps: 3 before 0, since its channel is lower; 3 as long as it is held; then 0
-abbrev pub indexedText : List ℕ
-indexedText =
+abbrev pub indexed_text : List ℕ
+indexed_text =
     67 ∷ 73 ∷ 67 ∷ 10
     ∷ 49 ∷ 32 ∷ 82 ∷ 32 ∷ 48 ∷ 48 ∷ 48 ∷ 48 ∷ 48 ∷ 48 ∷ 49 ∷ 48 ∷ 32 ∷ 48 ∷ 32 ∷ 50 ∷ 53 ∷ 54 ∷ 32 ∷ 48 ∷ 10
     ∷ 50 ∷ 32 ∷ 87 ∷ 32 ∷ 48 ∷ 48 ∷ 48 ∷ 48 ∷ 48 ∷ 48 ∷ 48 ∷ 48 ∷ 32 ∷ 48 ∷ 32 ∷ 50 ∷ 53 ∷ 54 ∷ 32 ∷ 48 ∷ 10

@@ -2,17 +2,17 @@
 // configuration to `kinds`; of the crates above `player` and `listing` may choose a loop for it, and play it without one (01, "House trace"; 02, 2/12
 // and 6/12).
 ghost use Rattle.std.specs.Prelude.{◌≡◌, true};
-ghost use Rattle.aic_record.specs.Sound.{sound as aicSound};
-ghost use Rattle.aic.specs.Model.{step as aicStep};
-ghost use Rattle.coreinterrupt.specs.Model.{sound as coreSound, step as coreStep};
-ghost use Rattle.cic_record.specs.Sound.{sound as cicSound};
-ghost use Rattle.cic_registers.specs.Model.{step as cicStep};
-ghost use Rattle.cic_held.specs.Held.{sound as indexedSound};
-ghost use Rattle.cic_indexed.specs.Model.{step as indexedStep};
-ghost use Rattle.aintc_registers.specs.Settle.{sound as aintcSound};
-ghost use Rattle.aintc_registers.specs.Model.{step as aintcStep};
+ghost use Rattle.aic_record.specs.Sound.{sound as aic_sound};
+ghost use Rattle.aic.specs.Model.{step as aic_step};
+ghost use Rattle.coreinterrupt.specs.Model.{sound as core_sound, step as core_step};
+ghost use Rattle.cic_record.specs.Sound.{sound as cic_sound};
+ghost use Rattle.cic_registers.specs.Model.{step as cic_step};
+ghost use Rattle.cic_held.specs.Held.{sound as indexed_sound};
+ghost use Rattle.cic_indexed.specs.Model.{step as indexed_step};
+ghost use Rattle.aintc_registers.specs.Settle.{sound as aintc_sound};
+ghost use Rattle.aintc_registers.specs.Model.{step as aintc_step};
 ghost use Rattle.machine.specs.Machine.{indexed, sound};
-ghost use Rattle.machine.specs.Steps.{afterAic, afterCore, afterCic, afterAintc, afterIndexed, step};
+ghost use Rattle.machine.specs.Steps.{after_aic, after_core, after_cic, after_aintc, after_indexed, step};
 
 pub mod record;
 
@@ -29,8 +29,8 @@ pub struct Answer {
 
 // The step of each model, its record put back into the machine.
 fn aic_step(m: Machine, x: Recorded) -> Answer
-    requires { aicSound m.aic ≡ true }
-    ensures { result ≡ afterAic m (aicStep m.aic x.step) }
+    requires { aic_sound m.aic ≡ true }
+    ensures { result ≡ after_aic m (aic_step m.aic x.step) }
 {
     let s = m.aic;
     let y = x.step;
@@ -46,8 +46,8 @@ fn aic_step(m: Machine, x: Recorded) -> Answer
 }
 
 fn core_step(m: Machine, x: Recorded) -> Answer
-    requires { coreSound m.core ≡ true }
-    ensures { result ≡ afterCore m (coreStep m.core x.step) }
+    requires { core_sound m.core ≡ true }
+    ensures { result ≡ after_core m (core_step m.core x.step) }
 {
     let s = m.core;
     let y = x.step;
@@ -63,8 +63,8 @@ fn core_step(m: Machine, x: Recorded) -> Answer
 }
 
 fn cic_step(m: Machine, x: Recorded) -> Answer
-    requires { cicSound m.cic ≡ true }
-    ensures { result ≡ afterCic m (cicStep m.cic x.step) }
+    requires { cic_sound m.cic ≡ true }
+    ensures { result ≡ after_cic m (cic_step m.cic x.step) }
 {
     let s = m.cic;
     let y = x.step;
@@ -80,8 +80,8 @@ fn cic_step(m: Machine, x: Recorded) -> Answer
 }
 
 fn aintc_step(m: Machine, x: Recorded) -> Answer
-    requires { aintcSound m.aintc ≡ true }
-    ensures { result ≡ afterAintc m (aintcStep m.aintc x.privilege x.step) }
+    requires { aintc_sound m.aintc ≡ true }
+    ensures { result ≡ after_aintc m (aintc_step m.aintc x.privilege x.step) }
 {
     let s = m.aintc;
     let y = x.step;
@@ -98,8 +98,8 @@ fn aintc_step(m: Machine, x: Recorded) -> Answer
 
 // The CIC and what is held beside it are both put back.
 fn indexed_step(m: Machine, x: Recorded) -> Answer
-    requires { indexedSound (indexed m) ≡ true }
-    ensures { result ≡ afterIndexed m (indexedStep (indexed m) x.step) }
+    requires { indexed_sound (indexed m) ≡ true }
+    ensures { result ≡ after_indexed m (indexed_step (indexed m) x.step) }
 {
     let s = record::indexed(m);
     let y = x.step;

@@ -1,8 +1,8 @@
 // One controller of any kind, before and after its start, when it is sound, and the three numbers that it shows; its steps are `machine`'s (01, "House
 // trace"; 02, 2/12 and 6/12).
 ghost use Rattle.std.specs.Prelude.{◌≡◌, true};
-ghost use Rattle.machine.specs.Machine.{blank, ofAic, ofCore, ofCic, ofAintc, ofIndexed, indexed, start, sound};
-ghost use Rattle.machine.specs.Shown.{aicColumns, coreColumns, cicColumns, aintcColumns, shown};
+ghost use Rattle.machine.specs.Machine.{blank, of_aic, of_core, of_cic, of_aintc, of_indexed, indexed, start, sound};
+ghost use Rattle.machine.specs.Shown.{aic_columns, core_columns, cic_columns, aintc_columns, shown};
 
 use aic_record::Aic;
 use aintc_record::Aintc;
@@ -55,7 +55,7 @@ pub fn empty() -> Machine
 }
 
 pub fn of_aic(a: Aic) -> Machine
-    ensures { result ≡ ofAic a }
+    ensures { result ≡ of_aic a }
 {
     let mut m = empty();
     m.kind = kinds::AIC;
@@ -64,7 +64,7 @@ pub fn of_aic(a: Aic) -> Machine
 }
 
 pub fn of_core(c: Core) -> Machine
-    ensures { result ≡ ofCore c }
+    ensures { result ≡ of_core c }
 {
     let mut m = empty();
     m.kind = kinds::CORE;
@@ -73,7 +73,7 @@ pub fn of_core(c: Core) -> Machine
 }
 
 pub fn of_cic(c: Cic) -> Machine
-    ensures { result ≡ ofCic c }
+    ensures { result ≡ of_cic c }
 {
     let mut m = empty();
     m.kind = kinds::CIC;
@@ -82,7 +82,7 @@ pub fn of_cic(c: Cic) -> Machine
 }
 
 pub fn of_aintc(a: Aintc) -> Machine
-    ensures { result ≡ ofAintc a }
+    ensures { result ≡ of_aintc a }
 {
     let mut m = empty();
     m.kind = kinds::AINTC;
@@ -91,7 +91,7 @@ pub fn of_aintc(a: Aintc) -> Machine
 }
 
 pub fn of_indexed(p: Prioritised) -> Machine
-    ensures { result ≡ ofIndexed p }
+    ensures { result ≡ of_indexed p }
 {
     let c = p.cic;
     let h = p.held;
@@ -172,7 +172,7 @@ pub fn is_sound(m: Machine) -> bool
 
 // IRQ active, FIQ active, entries open.
 pub fn aic_columns(o: aic::Signals) -> Columns
-    ensures { result ≡ aicColumns o }
+    ensures { result ≡ aic_columns o }
 {
     Columns {
         first: words::one_if(o.irq),
@@ -183,7 +183,7 @@ pub fn aic_columns(o: aic::Signals) -> Columns
 
 // IRQ active, FIQ active, 0.
 pub fn core_columns(o: coreinterrupt::Signals) -> Columns
-    ensures { result ≡ coreColumns o }
+    ensures { result ≡ core_columns o }
 {
     Columns {
         first: words::one_if(o.irq),
@@ -194,7 +194,7 @@ pub fn core_columns(o: coreinterrupt::Signals) -> Columns
 
 // Asserted hosts, the lowest of them, 0; with prioritised indices or without.
 pub fn cic_columns(o: cic_record::Signals) -> Columns
-    ensures { result ≡ cicColumns o }
+    ensures { result ≡ cic_columns o }
 {
     Columns {
         first: o.hosts,
@@ -205,7 +205,7 @@ pub fn cic_columns(o: cic_record::Signals) -> Columns
 
 // IRQ active, FIQ active, the number of the input that is active for IRQ.
 pub fn aintc_columns(o: aintc_registers::model::Signals) -> Columns
-    ensures { result ≡ aintcColumns o }
+    ensures { result ≡ aintc_columns o }
 {
     Columns {
         first: words::one_if(o.irq),

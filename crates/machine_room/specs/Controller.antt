@@ -3,16 +3,16 @@
 use Rattle.std.specs.Prelude.{ℕ, ◌≡◌, Bool, true, List, ◌≢◌, eqb, get_or}
 use Rattle.words.specs.Choice.{pick}
 use Rattle.words.specs.Counting.{all_below}
-use Rattle.steps.specs.Refusals.{carriedOut, unknown, misconfigured, unsound}
+use Rattle.steps.specs.Refusals.{carried_out, unknown, misconfigured, unsound}
 use Rattle.steps.specs.declared.Recorded.{Recorded}
 use Rattle.rooms.specs.Reply.{Reply, reply}
 use Rattle.kinds.specs.declared.Configuration.{Configuration}
 use Rattle.kinds.specs.Configuration.{number_in}
-use Rattle.kinds.specs.Kinds.{isKind, wanted, within}
+use Rattle.kinds.specs.Kinds.{is_kind, wanted, within}
 use Rattle.machine.specs.declared.record.Columns.{Columns}
 use Rattle.machine.specs.declared.record.Machine.{Machine}
 use Rattle.machine.specs.Machine.{start, sound}
-use Rattle.machine.specs.Shown.{noColumns, shown}
+use Rattle.machine.specs.Shown.{no_columns, shown}
 use Rattle.machine.specs.Steps.{step}
 use Rattle.machine_room.specs.Room.{Laid, Done}
 use Rattle.machine_room.specs.declared.controller.Shown.{Shown}
@@ -40,12 +40,12 @@ unfoldable pub accepted : ℕ → Configuration → Bool
 accepted kind c = all_below (wanted kind) (λ n. within kind n (number_in c n))
 
 -- no such kind is 9, a number beyond its limit 10 (01, Numbers)
-unfoldable pub startRefusal : ℕ → Configuration → ℕ
-startRefusal kind c = pick (isKind kind) (pick (accepted kind c) carriedOut misconfigured) unknown
+unfoldable pub start_refusal : ℕ → Configuration → ℕ
+start_refusal kind c = pick (is_kind kind) (pick (accepted kind c) carried_out misconfigured) unknown
 
 -- the words before and after it, and its answer: the machine started stands there, or no word has changed
 pub record Started (before : List ℕ) (kind : ℕ) (c : Configuration) (after : List ℕ) (r : ℕ) : Type 0 where
-  pub refusal : r ≡ startRefusal kind c
+  pub refusal : r ≡ start_refusal kind c
   pub carried : r ≡ 0 → Stands after (start kind c)
   pub refused : r ≢ 0 → after ≡ before
 
@@ -59,13 +59,13 @@ pub record Stepped (before : List ℕ) (x : Recorded) (after : List ℕ) (q : Re
 -- ---- what it shows
 
 -- the three numbers of a listing's line, with the refusal before them
-abbrev pub shownAs : ℕ → Columns → Shown
-shownAs refusal c = record { refusal = refusal; first = c.first; second = c.second; third = c.third }
+abbrev pub shown_as : ℕ → Columns → Shown
+shown_as refusal c = record { refusal = refusal; first = c.first; second = c.second; third = c.third }
 
 -- the same, lent as an array of three
-abbrev pub shownIn : ℕ → List ℕ → Shown
-shownIn refusal columns = record { refusal = refusal; first = get_or columns 0 0; second = get_or columns 1 0; third = get_or columns 2 0 }
+abbrev pub shown_in : ℕ → List ℕ → Shown
+shown_in refusal columns = record { refusal = refusal; first = get_or columns 0 0; second = get_or columns 1 0; third = get_or columns 2 0 }
 
 pub record Showing (words : List ℕ) (s : Shown) : Type 0 where
-  pub standing : (m : Machine) → Stands words m → s ≡ shownAs carriedOut (shown m)
-  pub vacant : Vacant words → s ≡ shownAs unsound noColumns
+  pub standing : (m : Machine) → Stands words m → s ≡ shown_as carried_out (shown m)
+  pub vacant : Vacant words → s ≡ shown_as unsound no_columns

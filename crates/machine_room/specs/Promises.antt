@@ -11,7 +11,7 @@ use Rattle.machine_room.specs.Room.{Laid, Done, Beside}
 pub record Promises : Type 0 where
   -- ---- the layout
   -- the first of 2,048 words is the kind: 0 to 4, as a trace tells it (01, House trace; 02, 2/12 and 6/12)
-  pub kindTold : (kept : Bool) (m : Machine) (r : List ℕ) → Laid kept m r → get_or r 0 0 ≡ m.kind
+  pub kind_told : (kept : Bool) (m : Machine) (r : List ℕ) → Laid kept m r → get_or r 0 0 ≡ m.kind
   pub size : (kept : Bool) (m : Machine) (r : List ℕ) → sound m ≡ true → Laid kept m r → length r ≡ 2048
   -- two rooms in which one machine stands are equal: no word is free
   pub determined : (kept : Bool) (m : Machine) (r s : List ℕ) → sound m ≡ true → Laid kept m r → Laid kept m s → r ≡ s
@@ -22,5 +22,5 @@ pub record Promises : Type 0 where
   pub answers : (kept : Bool) (m : Machine) (x : Recorded) (s : List ℕ) (q : Reply) → Done kept (step m x) s q
       → (q.0 ≡ (step m x).refusal) × (q.1 ≡ (step m x).value)
   -- a refused step leaves every word of the room as it was, and answers the value 0 (01, Numbers)
-  pub refusedSame : (kept : Bool) (m : Machine) (x : Recorded) (r s : List ℕ) (q : Reply) → sound m ≡ true → Laid kept m r → Done kept (step m x) s q
+  pub refused_same : (kept : Bool) (m : Machine) (x : Recorded) (r s : List ℕ) (q : Reply) → sound m ≡ true → Laid kept m r → Done kept (step m x) s q
       → q.0 ≢ 0 → (s ≡ r) × (q.1 ≡ 0)

@@ -10,7 +10,7 @@ use Rattle.cic_held.specs.declared.Prioritised.{Prioritised}
 use Rattle.indexed_room.specs.Room.{Laid as IndexedLaid}
 use Rattle.aintc_record.specs.declared.Aintc.{Aintc}
 use Rattle.aintc_room.specs.Room.{Laid as AintcLaid}
-use Rattle.kinds.specs.Kinds.{aicKind, coreKind, cicKind, aintcKind, indexedKind}
+use Rattle.kinds.specs.Kinds.{aic_kind, core_kind, cic_kind, aintc_kind, indexed_kind}
 use Rattle.machine.specs.declared.record.Machine.{Machine}
 use Rattle.machine.specs.Machine.{indexed}
 use Rattle.machine.specs.declared.Answer.{Answer}
@@ -19,40 +19,40 @@ use Rattle.rooms.specs.Reply.{Reply, reply}
 -- the machine stands in the room: its kind in word 0, and the record of its kind as that kind lays it. Where `kept`, so does what a listing shows of a CIC
 pub record Laid (kept : Bool) (m : Machine) (room : List ℕ) : Type 0 where
   pub kind : get_or room 0 0 ≡ m.kind
-  pub aic : m.kind ≡ aicKind → AicLaid m.aic room
-  pub core : m.kind ≡ coreKind → CoreLaid m.core room
-  pub cic : m.kind ≡ cicKind → CicLaid (plain kept) m.cic room
-  pub aintc : m.kind ≡ aintcKind → AintcLaid m.aintc room
-  pub indexed : m.kind ≡ indexedKind → IndexedLaid (indexed m) room
+  pub aic : m.kind ≡ aic_kind → AicLaid m.aic room
+  pub core : m.kind ≡ core_kind → CoreLaid m.core room
+  pub cic : m.kind ≡ cic_kind → CicLaid (plain kept) m.cic room
+  pub aintc : m.kind ≡ aintc_kind → AintcLaid m.aintc room
+  pub indexed : m.kind ≡ indexed_kind → IndexedLaid (indexed m) room
 
 -- the refusal and the value of an answer
-abbrev pub replyOf : Answer → Reply
-replyOf x = reply x.refusal x.value
+abbrev pub reply_of : Answer → Reply
+reply_of x = reply x.refusal x.value
 
 -- the machine of an answer stands in the room, and the reply is its own
 abbrev pub Done : Bool → Answer → List ℕ → Reply → Type 0
-Done kept x room r = Laid kept x.machine room × (r ≡ replyOf x)
+Done kept x room r = Laid kept x.machine room × (r ≡ reply_of x)
 
 -- the machine with another record of one kind
-abbrev pub withAic : Machine → Aic → Machine
-withAic m a = record { kind = m.kind; aic = a; core = m.core; cic = m.cic; aintc = m.aintc; held = m.held }
+abbrev pub with_aic : Machine → Aic → Machine
+with_aic m a = record { kind = m.kind; aic = a; core = m.core; cic = m.cic; aintc = m.aintc; held = m.held }
 
-abbrev pub withCore : Machine → Core → Machine
-withCore m c = record { kind = m.kind; aic = m.aic; core = c; cic = m.cic; aintc = m.aintc; held = m.held }
+abbrev pub with_core : Machine → Core → Machine
+with_core m c = record { kind = m.kind; aic = m.aic; core = c; cic = m.cic; aintc = m.aintc; held = m.held }
 
-abbrev pub withCic : Machine → Cic → Machine
-withCic m c = record { kind = m.kind; aic = m.aic; core = m.core; cic = c; aintc = m.aintc; held = m.held }
+abbrev pub with_cic : Machine → Cic → Machine
+with_cic m c = record { kind = m.kind; aic = m.aic; core = m.core; cic = c; aintc = m.aintc; held = m.held }
 
-abbrev pub withAintc : Machine → Aintc → Machine
-withAintc m a = record { kind = m.kind; aic = m.aic; core = m.core; cic = m.cic; aintc = a; held = m.held }
+abbrev pub with_aintc : Machine → Aintc → Machine
+with_aintc m a = record { kind = m.kind; aic = m.aic; core = m.core; cic = m.cic; aintc = a; held = m.held }
 
-abbrev pub withIndexed : Machine → Prioritised → Machine
-withIndexed m p = record { kind = m.kind; aic = m.aic; core = m.core; cic = p.cic; aintc = m.aintc; held = p.held }
+abbrev pub with_indexed : Machine → Prioritised → Machine
+with_indexed m p = record { kind = m.kind; aic = m.aic; core = m.core; cic = p.cic; aintc = m.aintc; held = p.held }
 
 -- the machine is another in nothing but the record of its kind: what does not stand in a room is still what it was
 pub record Beside (first m : Machine) : Type 0 where
-  pub aic : m.kind ≡ aicKind → m ≡ withAic first m.aic
-  pub core : m.kind ≡ coreKind → m ≡ withCore first m.core
-  pub cic : m.kind ≡ cicKind → m ≡ withCic first m.cic
-  pub aintc : m.kind ≡ aintcKind → m ≡ withAintc first m.aintc
-  pub indexed : m.kind ≡ indexedKind → m ≡ withIndexed first (indexed m)
+  pub aic : m.kind ≡ aic_kind → m ≡ with_aic first m.aic
+  pub core : m.kind ≡ core_kind → m ≡ with_core first m.core
+  pub cic : m.kind ≡ cic_kind → m ≡ with_cic first m.cic
+  pub aintc : m.kind ≡ aintc_kind → m ≡ with_aintc first m.aintc
+  pub indexed : m.kind ≡ indexed_kind → m ≡ with_indexed first (indexed m)

@@ -2,13 +2,13 @@
 // of a sound record, derived and unused words among it, 12, and nothing changes (01, Numbers).
 ghost use Rattle.std.specs.Prelude.{◌≡◌, true, false, ◌*◌, ◌/◌, ◌≤◌, ◌<◌, min, length};
 ghost use Rattle.words.specs.Choice.{pick};
-ghost use Rattle.steps.specs.Refusals.{carriedOut, misconfigured, unsound, privileged};
+ghost use Rattle.steps.specs.Refusals.{carried_out, misconfigured, unsound, privileged};
 ghost use Rattle.steps.specs.declared.Step.TheVariants.{Read, Write, Line};
 ghost use Rattle.rooms.specs.Reply.{reply, told};
 ghost use Rattle.trace.specs.Turns.{made, step_of};
 ghost use Rattle.machine.specs.declared.record.Machine.{Machine};
-ghost use Rattle.machine_room.specs.Batch.{stepTold, Taken, afterSteps, kthReply, answersIn, stepsIn, SteppedAll};
-ghost use Rattle.machine_room.specs.Controller.{Stands, Vacant, same, accepted, startRefusal, Started, Stepped, Showing};
+ghost use Rattle.machine_room.specs.Batch.{step_told, Taken, after_steps, kth_reply, answers_in, steps_in, SteppedAll};
+ghost use Rattle.machine_room.specs.Controller.{Stands, Vacant, same, accepted, start_refusal, Started, Stepped, Showing};
 
 use kinds::Configuration;
 use machine::record::Machine;
@@ -37,7 +37,7 @@ pub fn start(room: &mut Room, kind: u32, c: Configuration) -> u32
 }
 
 fn start_refusal(kind: u32, c: Configuration) -> u32
-    ensures { result ≡ startRefusal kind c }
+    ensures { result ≡ start_refusal kind c }
 {
     if kinds::is_kind(kind) {
         return numbers_refusal(kind, c);
@@ -46,7 +46,7 @@ fn start_refusal(kind: u32, c: Configuration) -> u32
 }
 
 fn numbers_refusal(kind: u32, c: Configuration) -> u32
-    ensures { result ≡ pick (accepted kind c) carriedOut misconfigured }
+    ensures { result ≡ pick (accepted kind c) carried_out misconfigured }
 {
     if is_accepted(kind, c) {
         return steps::CARRIED_OUT;
@@ -105,7 +105,7 @@ fn step(room: &mut Room, kind: u32, x: u32, y: u32, privilege: u32) -> u64
 // Four words tell a step: its kind, 1 to 3 as in a trace, its two numbers and its privilege. Two answer it: refusal and value. The words of the controller are
 // looked through once, before the first.
 pub fn steps_in(room: &mut Room, words: &[u32], answers: &mut [u32]) -> u32
-    ensures { SteppedAll room.old words.now answers.old (stepsIn words.now answers.old) room.new answers.new result }
+    ensures { SteppedAll room.old words.now answers.old (steps_in words.now answers.old) room.new answers.new result }
 {
     let n = number_of(words.len(), answers.len());
     if is_controller(room) {
@@ -128,7 +128,7 @@ fn number_of(words: usize, room: usize) -> usize
 
 fn take_all(room: &mut Room, words: &[u32], answers: &mut [u32], n: usize)
     requires { (4 * n ≤ length words.now) × (2 * n ≤ length answers.old) }
-    ensures { (m : Machine) → Stands room.old m → Stands room.new (afterSteps m words.now n) × (answers.new ≡ answersIn (kthReply m words.now) answers.old n) }
+    ensures { (m : Machine) → Stands room.old m → Stands room.new (after_steps m words.now n) × (answers.new ≡ answers_in (kth_reply m words.now) answers.old n) }
 {
     let mut k: usize = 0;
     while k < n {
@@ -142,7 +142,7 @@ fn take_all(room: &mut Room, words: &[u32], answers: &mut [u32], n: usize)
 
 // The step of a kind; there is none of another than 1 to 3.
 fn take(room: &mut Room, kind: u32, x: u32, y: u32, privilege: u32) -> u64
-    ensures { (m : Machine) → Stands room.old m → Taken (stepTold m kind x y privilege) room.new (told result) }
+    ensures { (m : Machine) → Stands room.old m → Taken (step_told m kind x y privilege) room.new (told result) }
 {
     if (0 < kind) & (kind < 4) {
         return super::step(room, kind, x, y, privilege);
@@ -152,7 +152,7 @@ fn take(room: &mut Room, kind: u32, x: u32, y: u32, privilege: u32) -> u64
 
 fn refuse_all(answers: &mut [u32], n: usize)
     requires { 2 * n ≤ length answers.old }
-    ensures { answers.new ≡ answersIn (λ _. reply unsound 0) answers.old n }
+    ensures { answers.new ≡ answers_in (λ _. reply unsound 0) answers.old n }
 {
     let mut k: usize = 0;
     while k < n {

@@ -1,8 +1,8 @@
 -- A number of the house trace: groups of seven bits, the lowest first (01, "House trace").
 use Rattle.std.specs.Prelude.{ℕ, ◌+◌, ◌*◌, ◌%◌, ◌^◌, List, Bool, ◌||◌, length, get_or, ltb, leb}
 use Rattle.words.specs.Choice.{pick}
-use Rattle.words.specs.Counting.{sumBelow, lowestBelow}
-use Rattle.steps.specs.Refusals.{carriedOut, damaged}
+use Rattle.words.specs.Counting.{sum_below, lowest_below}
+use Rattle.steps.specs.Refusals.{carried_out, damaged}
 use Rattle.numbers.specs.declared.Number.{Number}
 use Rattle.numbers.specs.declared.Number.TheVariants.{Value, Refused}
 
@@ -16,29 +16,29 @@ group b = b % 128
 
 -- how many bytes the number at a place asks for, up to the first that no other follows; a missing byte is 0, and 6 says more than five
 unfoldable pub size_at : List ℕ → ℕ → ℕ
-size_at s at = 1 + lowestBelow 5 (λ k. closes (get_or s (at + k) 0))
+size_at s at = 1 + lowest_below 5 (λ k. closes (get_or s (at + k) 0))
 
 -- what the groups of n bytes from a place on are worth, the first one lowest (01, House trace)
-unfoldable pub worthAt : List ℕ → ℕ → ℕ → ℕ
-worthAt s at n = sumBelow n (λ k. group (get_or s (at + k) 0) * 128 ^ k)
+unfoldable pub worth_at : List ℕ → ℕ → ℕ → ℕ
+worth_at s at n = sum_below n (λ k. group (get_or s (at + k) 0) * 128 ^ k)
 
 -- ---- what is wrong with a number of n bytes at a place (01, Numbers, 8; 02, 1/12)
 
 -- it does not end within the trace
-abbrev pub cutShort : List ℕ → ℕ → ℕ → Bool
-cutShort s at n = ltb (length s) (at + n)
+abbrev pub cut_short : List ℕ → ℕ → ℕ → Bool
+cut_short s at n = ltb (length s) (at + n)
 
 -- what it is worth takes more than 32 bits
-abbrev pub tooLarge : ℕ → Bool
-tooLarge v = leb (2 ^ 32) v
+abbrev pub too_large : ℕ → Bool
+too_large v = leb (2 ^ 32) v
 
 -- it has more than five bytes
-abbrev pub tooLong : ℕ → Bool
-tooLong n = ltb 5 n
+abbrev pub too_long : ℕ → Bool
+too_long n = ltb 5 n
 
 -- any of the three, for a number of n bytes worth v; groups of 0 on top are no fault (02, 1/12)
 unfoldable pub faulty : List ℕ → ℕ → ℕ → ℕ → Bool
-faulty s at n v = cutShort s at n || tooLarge v || tooLong n
+faulty s at n v = cut_short s at n || too_large v || too_long n
 
 -- ---- the number at a place
 
@@ -47,8 +47,8 @@ abbrev pub answer : List ℕ → ℕ → ℕ → ℕ → Number
 answer s at n v = pick (faulty s at n v) (Refused damaged at) (Value v (at + n))
 
 -- the number at a place of a trace
-unfoldable pub numberAt : List ℕ → ℕ → Number
-numberAt s at = answer s at (size_at s at) (worthAt s at (size_at s at))
+unfoldable pub number_at : List ℕ → ℕ → Number
+number_at s at = answer s at (size_at s at) (worth_at s at (size_at s at))
 
 -- ---- what an answer tells, in the numbers of 01
 
@@ -60,5 +60,5 @@ pub record Told : Type 0 where
 
 -- a number that was read: 0, its value and the next place; a refused one: its refusal, the value 0 and its own offset
 abbrev pub told : Number → Told
-told (Value v next) = record { refusal = carriedOut; value = v; place = next }
+told (Value v next) = record { refusal = carried_out; value = v; place = next }
 told (Refused n at) = record { refusal = n; value = 0; place = at }

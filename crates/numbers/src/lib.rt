@@ -1,7 +1,7 @@
 // A number of the house trace: groups of seven bits, the lowest first; the top bit of a byte says that another follows (01, "House trace").
 ghost use Rattle.std.specs.Prelude.{◌≡◌, ◌+◌, ◌≤◌, ◌<◌, length, get_or};
 ghost use Rattle.numbers.specs.declared.Number.TheVariants.{Value};
-ghost use Rattle.numbers.specs.Number.{size_at, worthAt, faulty, numberAt};
+ghost use Rattle.numbers.specs.Number.{size_at, worth_at, faulty, number_at};
 
 // The number at a place: its value with the place after it, or the refusal with the place of its first byte.
 #[derive(Drop)]
@@ -33,14 +33,14 @@ pub fn reader_at<'a>(trace: &'a [u8], at: usize) -> Reader<'a>
 
 // The number where the reader stands.
 pub fn next_number<'a>(r: Reader<'a>) -> Number
-    ensures { result ≡ numberAt r.entry.trace.now r.entry.at }
+    ensures { result ≡ number_at r.entry.trace.now r.entry.at }
 {
     number_at(r.trace, r.at)
 }
 
 // The number at a place of a trace, by way of a reader. Callers use this one: its parameters are plain, so they need no reader of their own.
 pub fn read_number(trace: &[u8], at: usize) -> Number
-    ensures { result ≡ numberAt trace.now at }
+    ensures { result ≡ number_at trace.now at }
 {
     next_number(reader_at(trace, at))
 }
@@ -54,7 +54,7 @@ pub fn wide(b: u8) -> u32
 
 // The number at a place, if it has one byte or two.
 pub fn short_at(trace: &[u8], at: usize) -> Short
-    ensures { (result.next ≡ 0 → ⊥) → numberAt trace.now at ≡ Value result.value result.next }
+    ensures { (result.next ≡ 0 → ⊥) → number_at trace.now at ≡ Value result.value result.next }
 {
     if trace.len() <= at {
         return Short { value: 0, next: 0 };
@@ -81,7 +81,7 @@ pub fn short_at(trace: &[u8], at: usize) -> Short
 
 // The number at a place: nearly all are short.
 fn number_at(trace: &[u8], at: usize) -> Number
-    ensures { result ≡ numberAt trace.now at }
+    ensures { result ≡ number_at trace.now at }
 {
     let s = short_at(trace, at);
     if s.next == 0 {
@@ -92,7 +92,7 @@ fn number_at(trace: &[u8], at: usize) -> Number
 
 // The number at a place, of any size. A place past the end is told apart first, so that no sum of a place wraps.
 fn any_at(trace: &[u8], at: usize) -> Number
-    ensures { result ≡ numberAt trace.now at }
+    ensures { result ≡ number_at trace.now at }
 {
     if trace.len() <= at {
         return Number::Refused(steps::DAMAGED, at);
@@ -131,7 +131,7 @@ fn size_at(trace: &[u8], at: usize) -> usize
 // What the groups of n bytes are worth, the first one lowest.
 fn worth_at(trace: &[u8], at: usize, n: usize) -> u64
     requires { (at < length trace.now) × (n ≤ 6) }
-    ensures { result ≡ worthAt trace.now at n }
+    ensures { result ≡ worth_at trace.now at n }
 {
     let mut worth: u64 = 0;
     let mut unit: u64 = 1;

@@ -1,12 +1,12 @@
 // The nesting of an AIC over a window of its trace as a picture, SVG, in a buffer that the caller lends; a line of text where there is no such picture.
 ghost use Rattle.std.specs.Prelude.{◌≡◌, false, ◌≤◌, length};
-ghost use Rattle.steps.specs.Refusals.{carriedOut};
+ghost use Rattle.steps.specs.Refusals.{carried_out};
 ghost use Rattle.text.specs.Text.{laid};
-ghost use Rattle.trace.specs.Trace.{stepsFrom};
-ghost use Rattle.kinds.specs.Kinds.{aicKind};
+ghost use Rattle.trace.specs.Trace.{steps_from};
+ghost use Rattle.kinds.specs.Kinds.{aic_kind};
 ghost use Rattle.machine.specs.RecordPromises.{Ready};
-ghost use Rattle.beginning.specs.Begin.{beginOf};
-ghost use Rattle.picture.specs.Picture.{inside, isDrawn, drawnOf, pictureOf};
+ghost use Rattle.beginning.specs.Begin.{begin_of};
+ghost use Rattle.picture.specs.Picture.{inside, is_drawn, drawn_of, picture_of};
 
 mod reasons;
 mod window;
@@ -26,7 +26,7 @@ const MOST: u32 = 20000;
 
 // The picture of at most so many steps of a trace from the first on, or why there is none, from the start of the buffer on; what finds no room is dropped.
 pub fn picture(trace: &[u8], first: u32, steps: u32, out: &mut [u8]) -> Drawn
-    ensures { ((out.new, result.bytes) ≡ laid out.old (pictureOf trace.now first steps)) × (result.drawn ≡ isDrawn trace.now first steps) }
+    ensures { ((out.new, result.bytes) ≡ laid out.old (picture_of trace.now first steps)) × (result.drawn ≡ is_drawn trace.now first steps) }
 {
     let b = beginning::begin(trace);
     if b.refusal != steps::CARRIED_OUT {
@@ -41,8 +41,8 @@ pub fn picture(trace: &[u8], first: u32, steps: u32, out: &mut [u8]) -> Drawn
 
 // That of a trace that has begun.
 fn picture_begun(trace: &[u8], first: u32, steps: u32, b: Begun, out: &mut [u8]) -> Drawn
-    requires { (b ≡ beginOf trace.now) × (b.refusal ≡ carriedOut) }
-    ensures { ((out.new, result.bytes) ≡ laid out.old (pictureOf trace.now first steps)) × (result.drawn ≡ isDrawn trace.now first steps) }
+    requires { (b ≡ begin_of trace.now) × (b.refusal ≡ carried_out) }
+    ensures { ((out.new, result.bytes) ≡ laid out.old (picture_of trace.now first steps)) × (result.drawn ≡ is_drawn trace.now first steps) }
 {
     let m = b.machine;
     if m.kind != kinds::AIC {
@@ -57,8 +57,8 @@ fn picture_begun(trace: &[u8], first: u32, steps: u32, b: Begun, out: &mut [u8])
 
 // That of a trace of an AIC.
 fn picture_aic(trace: &[u8], first: u32, steps: u32, b: Begun, out: &mut [u8]) -> Drawn
-    requires { (b ≡ beginOf trace.now) × (b.refusal ≡ carriedOut) × (b.machine.kind ≡ aicKind) }
-    ensures { ((out.new, result.bytes) ≡ laid out.old (pictureOf trace.now first steps)) × (result.drawn ≡ isDrawn trace.now first steps) }
+    requires { (b ≡ begin_of trace.now) × (b.refusal ≡ carried_out) × (b.machine.kind ≡ aic_kind) }
+    ensures { ((out.new, result.bytes) ≡ laid out.old (picture_of trace.now first steps)) × (result.drawn ≡ is_drawn trace.now first steps) }
 {
     let m = b.machine;
     let p = player::loops::plain::play_steps(trace, MOST, false, b.place, m);
@@ -92,8 +92,8 @@ fn draw_window(
     m: Machine,
     out: &mut [u8],
 ) -> usize
-    requires { Ready m × (1 ≤ first) × (first ≤ length (stepsFrom false 20000 trace.now start).steps) × (steps ≤ 500) }
-    ensures { (out.new, result) ≡ laid out.old (drawnOf first steps m (stepsFrom false 20000 trace.now start)) }
+    requires { Ready m × (1 ≤ first) × (first ≤ length (steps_from false 20000 trace.now start).steps) × (steps ≤ 500) }
+    ensures { (out.new, result) ≡ laid out.old (drawn_of first steps m (steps_from false 20000 trace.now start)) }
 {
     let mut columns = [0u64; 501];
     let f = window::fill(trace, MOST, first, steps, start, m, &mut columns);

@@ -1,13 +1,13 @@
 // Why there is no picture: one line, at the start of a buffer that the caller lends.
 ghost use Rattle.std.specs.Prelude.{◌≡◌};
 ghost use Rattle.text.specs.Text.{laid};
-ghost use Rattle.picture.specs.Lines.{noBeginning, noEntries, wrongWindow};
+ghost use Rattle.picture.specs.Lines.{no_beginning, no_entries, wrong_window};
 
 use text::NEWLINE;
 
 // The trace has no beginning: the refusal and its offset.
 pub(crate) fn put_no_beginning(out: &mut [u8], refusal: u32, offset: usize) -> usize
-    ensures { (out.new, result) ≡ laid out.old (noBeginning refusal offset) }
+    ensures { (out.new, result) ≡ laid out.old (no_beginning refusal offset) }
 {
     let a = text::put_all(out, 0, b"no picture: the trace has no beginning, E");
     let b = text::put_field(out, a, refusal as u64);
@@ -17,7 +17,7 @@ pub(crate) fn put_no_beginning(out: &mut [u8], refusal: u32, offset: usize) -> u
 
 // Its controller has no entries.
 pub(crate) fn put_no_entries(out: &mut [u8]) -> usize
-    ensures { (out.new, result) ≡ laid out.old noEntries }
+    ensures { (out.new, result) ≡ laid out.old no_entries }
 {
     text::put_all(
         out,
@@ -28,7 +28,7 @@ pub(crate) fn put_no_entries(out: &mut [u8]) -> usize
 
 // The window is wrong: what one is, and how many steps are played.
 pub(crate) fn put_wrong_window(out: &mut [u8], played: u32) -> usize
-    ensures { (out.new, result) ≡ laid out.old (wrongWindow played) }
+    ensures { (out.new, result) ≡ laid out.old (wrong_window played) }
 {
     let a = text::phrases::put_counted(
         out,

@@ -1,10 +1,10 @@
 // A window of a trace of an AIC as columns: one for what held before it, and one for each of its steps.
 ghost use Rattle.std.specs.Prelude.{◌≡◌, false, [], ◌∷◌, ◌+◌, ◌*◌, ◌≤◌, min, length};
 ghost use Rattle.text.specs.Text.{write, laid};
-ghost use Rattle.trace.specs.Trace.{stepsFrom};
+ghost use Rattle.trace.specs.Trace.{steps_from};
 ghost use Rattle.machine.specs.RecordPromises.{Ready};
 ghost use Rattle.drawing.specs.Bars.{packed};
-ghost use Rattle.picture.specs.Window.{columnOf, columnsFrom, before, columnsOf};
+ghost use Rattle.picture.specs.Window.{column_of, columns_from, before, columns_of};
 
 use aic_record::Aic;
 use machine::record::Machine;
@@ -29,8 +29,8 @@ pub(crate) fn fill(
     m: Machine,
     columns: &mut [u64],
 ) -> Filled
-    requires { Ready m × (1 ≤ first) × (first ≤ length (stepsFrom false limit trace.now start).steps) }
-    ensures { ((columns.new, result.count) ≡ laid columns.old (columnsOf first steps m (stepsFrom false limit trace.now start).steps)) × (result.source ≡ (before first m (stepsFrom false limit trace.now start).steps).aic.source) × (result.level ≡ (before first m (stepsFrom false limit trace.now start).steps).aic.level) }
+    requires { Ready m × (1 ≤ first) × (first ≤ length (steps_from false limit trace.now start).steps) }
+    ensures { ((columns.new, result.count) ≡ laid columns.old (columns_of first steps m (steps_from false limit trace.now start).steps)) × (result.source ≡ (before first m (steps_from false limit trace.now start).steps).aic.source) × (result.level ≡ (before first m (steps_from false limit trace.now start).steps).aic.level) }
 {
     let p = player::loops::plain::play_steps(trace, first - 1, false, start, m);
     let b = p.machine;
@@ -57,7 +57,7 @@ fn put_steps(
     from: usize,
 ) -> usize
     requires { Ready first }
-    ensures { (columns.new, result) ≡ write (columns.old, from) (columnsFrom first (stepsFrom false limit trace.now start).steps) }
+    ensures { (columns.new, result) ≡ write (columns.old, from) (columns_from first (steps_from false limit trace.now start).steps) }
 {
     let mut at = start;
     let mut m = first;
@@ -93,7 +93,7 @@ fn put_column(columns: &mut [u64], at: usize, w: u64) -> usize
 
 // What holds after a step, of which s is the AIC, as one number.
 fn column(s: Aic, refusal: u32) -> u64
-    ensures { result ≡ packed (columnOf refusal s) }
+    ensures { result ≡ packed (column_of refusal s) }
 {
     let o = aic::outputs(s);
     let source = aic_record::last::last_source(s);

@@ -1,7 +1,7 @@
 // Prints the picture of a window of the trace on standard input, as SVG: the first argument is the number of its first step, the second how many steps it
 // has. Where there is no such picture, the trace cannot be read or the picture not be written, one line on standard error says so.
 ghost use Rattle.std.specs.Prelude.{◌≡◌, List, ℕ, ◌≤◌, length};
-ghost use Rattle.picture.specs.Picture.{pictureOf};
+ghost use Rattle.picture.specs.Picture.{picture_of};
 
 // One byte more is read than a trace may have, so that a longer one is told apart.
 fn main() {
@@ -43,7 +43,7 @@ fn tell(what: &[u8]) {
 // A buffer that any such picture fits.
 fn room() -> [u8; 219082]
     ensures value { 219082 ≡ length result }
-    ensures any { (s : List ℕ) (first steps : ℕ) → length (pictureOf s first steps) ≤ length result }
+    ensures any { (s : List ℕ) (first steps : ℕ) → length (picture_of s first steps) ≤ length result }
 {
     [0; 219082]
 }

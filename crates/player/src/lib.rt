@@ -1,8 +1,8 @@
 // Plays a recorded trace on the machine that it names (01, "House trace"; 02, 2/12).
 ghost use Rattle.std.specs.Prelude.{◌≡◌};
-ghost use Rattle.steps.specs.Refusals.{carriedOut};
-ghost use Rattle.beginning.specs.Begin.{beginOf};
-ghost use Rattle.beginning.specs.Play.{playOf};
+ghost use Rattle.steps.specs.Refusals.{carried_out};
+ghost use Rattle.beginning.specs.Begin.{begin_of};
+ghost use Rattle.beginning.specs.Play.{play_of};
 
 pub mod looked;
 pub mod loops;
@@ -12,7 +12,7 @@ use beginning::reports::Played;
 
 // Plays at most `limit` steps of a trace.
 pub fn play(trace: &[u8], limit: u32) -> Played
-    ensures { result ≡ playOf trace.now limit }
+    ensures { result ≡ play_of trace.now limit }
 {
     let b = beginning::begin(trace);
     if b.refusal != steps::CARRIED_OUT {
@@ -23,7 +23,7 @@ pub fn play(trace: &[u8], limit: u32) -> Played
 
 // The same by the loop over a machine by value.
 pub fn play_plain(trace: &[u8], limit: u32) -> Played
-    ensures { result ≡ playOf trace.now limit }
+    ensures { result ≡ play_of trace.now limit }
 {
     let b = beginning::begin(trace);
     if b.refusal != steps::CARRIED_OUT {
@@ -34,8 +34,8 @@ pub fn play_plain(trace: &[u8], limit: u32) -> Played
 
 // Plays a trace that has begun, on a machine in a room.
 fn play_begun(trace: &[u8], limit: u32, b: Begun) -> Played
-    requires { (b ≡ beginOf trace.now) × (b.refusal ≡ carriedOut) }
-    ensures { result ≡ playOf trace.now limit }
+    requires { (b ≡ begin_of trace.now) × (b.refusal ≡ carried_out) }
+    ensures { result ≡ play_of trace.now limit }
 {
     let m = b.machine;
     let told = kinds::tells_privilege(m.kind);
@@ -44,8 +44,8 @@ fn play_begun(trace: &[u8], limit: u32, b: Begun) -> Played
 
 // Plays a trace that has begun, on a machine by value.
 fn play_any(trace: &[u8], limit: u32, b: Begun) -> Played
-    requires { (b ≡ beginOf trace.now) × (b.refusal ≡ carriedOut) }
-    ensures { result ≡ playOf trace.now limit }
+    requires { (b ≡ begin_of trace.now) × (b.refusal ≡ carried_out) }
+    ensures { result ≡ play_of trace.now limit }
 {
     let m = b.machine;
     let told = kinds::tells_privilege(m.kind);

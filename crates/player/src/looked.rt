@@ -1,13 +1,13 @@
 // How many status words a read would look at after a trace is played (02, 10/12).
 ghost use Rattle.std.specs.Prelude.{◌≡◌};
-ghost use Rattle.player.specs.After.{words_of, wordsAfter};
+ghost use Rattle.player.specs.After.{words_of, words_after};
 
 use machine::record::Machine;
 
 // Plays at most `limit` steps of a trace. Answers the status words, of 32 system interrupts each, that a read of the register at an offset would then look
 // at: 0 unless the machine is a CIC with prioritised indices, and where look_at of cic_prioritised answers 0.
 pub fn words_after(trace: &[u8], limit: u32, offset: u32) -> u32
-    ensures { result ≡ wordsAfter trace.now limit offset }
+    ensures { result ≡ words_after trace.now limit offset }
 {
     let p = super::play(trace, limit);
     words_of(p.machine, offset)

@@ -1,10 +1,10 @@
 // Plays and lists the steps of a trace on a machine that stands in a room. No kind of controller is named here (01, "House trace"; 02, 2/12).
 ghost use Rattle.std.specs.Prelude.{◌≡◌};
 ghost use Rattle.text.specs.Text.{write};
-ghost use Rattle.trace.specs.Trace.{stepsFrom};
+ghost use Rattle.trace.specs.Trace.{steps_from};
 ghost use Rattle.machine.specs.RecordPromises.{Ready};
 ghost use Rattle.beginning.specs.Play.{report};
-ghost use Rattle.lines.specs.Listing.{textFrom};
+ghost use Rattle.lines.specs.Listing.{text_from};
 
 pub mod plain;
 
@@ -20,7 +20,7 @@ pub(crate) fn play_steps(
     first: Machine,
 ) -> Played
     requires { Ready first }
-    ensures { result ≡ report 0 first (stepsFrom told limit trace.now start) }
+    ensures { result ≡ report 0 first (steps_from told limit trace.now start) }
 {
     let mut room = machine_room::lay(first, false);
     let mut at = start;
@@ -62,7 +62,7 @@ pub fn list_steps(
     from: usize,
 ) -> usize
     requires { Ready first }
-    ensures { (out.new, result) ≡ write (out.old, from) (textFrom 0 first (stepsFrom told limit trace.now start)) }
+    ensures { (out.new, result) ≡ write (out.old, from) (text_from 0 first (steps_from told limit trace.now start)) }
 {
     let mut room = machine_room::lay(first, true);
     let mut place = start;

@@ -38,8 +38,8 @@ one-moved from i l h =
     ∙ ap (λ (k : ℕ). moved from k l) next
 
 -- a turn of the loop
-pub moves-on : (from i k : ℕ) (l room : List ℕ) → k ≡ from + i → room ≡ moved from i l → k < length l → set room i (get_or room k 0) ≡ moved from (i + 1) l
-moves-on from i k l room e q h =
+pub moves_on : (from i k : ℕ) (l room : List ℕ) → k ≡ from + i → room ≡ moved from i l → k < length l → set room i (get_or room k 0) ≡ moved from (i + 1) l
+moves_on from i k l room e q h =
     ap (λ (r : List ℕ). set r i (get_or r k 0)) q
     ∙ ap (λ (j : ℕ). set (moved from i l) i (get_or (moved from i l) j 0)) e
     ∙ one-moved from i l (omega (arith, e, h))

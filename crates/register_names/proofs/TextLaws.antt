@@ -11,7 +11,7 @@ use lib.ListN.{length, get_or, length-append, get_or-append}
 use lib.Seq.{get_or-append-add}
 use borrow.Author.Tests.{eqb-false, leb-true, not-true}
 use Rattle.words.specs.Choice.{pick}
-use Rattle.words.proofs.ChoiceLaws.{pick-cases}
+use Rattle.words.proofs.ChoiceLaws.{pick_cases}
 use Rattle.words.proofs.TruthLaws.{and_left, and_right}
 use Rattle.text.specs.Text.{decimal}
 use Rattle.text.proofs.DigitLaws.{length-decimal, length-below, decimal-digits}
@@ -50,8 +50,8 @@ empty n = record { plain = λ k h. absurd (omega arith); most = omega arith }
 pub wider : (m n : ℕ) (l : List ℕ) → m ≤ n → Fits m l → Fits n l
 wider m n l h f = record { plain = f.plain; most = omega (arith, f.most) }
 
-without-append : (l r : List ℕ) → Without 10 l → Without 10 r → Without 10 (l ++ r)
-without-append l r f g k h = go (dec_lt k (length l))
+without_append : (l r : List ℕ) → Without 10 l → Without 10 r → Without 10 (l ++ r)
+without_append l r f g k h = go (dec_lt k (length l))
   where
     go : Dec (k < length l) → get_or (l ++ r) k 0 ≢ 10
     go (yes d) = λ e. f k d (sym (get_or-append l r 0 k d) ∙ e)
@@ -60,10 +60,10 @@ without-append l r f g k h = go (dec_lt k (length l))
         λ e. g (k - length l) (omega (arith, d, length-append l r)) (sym (get_or-append-add l r (k - length l) 0) ∙ sym (ap (λ (j : ℕ). get_or (l ++ r) j 0) n) ∙ e)
 
 pub joined : (m n : ℕ) (l r : List ℕ) → Fits m l → Fits n r → Fits (m + n) (l ++ r)
-joined m n l r f g = record { plain = without-append l r f.plain g.plain; most = omega (arith, length-append l r, f.most, g.most) }
+joined m n l r f g = record { plain = without_append l r f.plain g.plain; most = omega (arith, length-append l r, f.most, g.most) }
 
 pub either : (n : ℕ) (t : Bool) (l r : List ℕ) → Fits n l → Fits n r → Fits n (pick t l r)
-either n t l r f g = pick-cases (Fits n) t (λ e. f) (λ e. g)
+either n t l r f g = pick_cases (Fits n) t (λ e. f) (λ e. g)
 
 -- ---- numbers
 

@@ -3,16 +3,16 @@ use Rattle.std.specs.Prelude.{ℕ, ◌%◌, ◌≡◌, Bool, true, false, List, 
 use Prim.Native.String.{String}
 use Rattle.text.specs.Phrases.{bytes}
 use Rattle.steps.specs.declared.Access.TheVariants.{NoRegister}
-use Rattle.aic_registers.specs.Map.{access as aicAccess}
+use Rattle.aic_registers.specs.Map.{access as aic_access}
 use Rattle.coreinterrupt.specs.declared.Core.{Core}
-use Rattle.coreinterrupt.specs.Model.{access as coreAccess}
+use Rattle.coreinterrupt.specs.Model.{access as core_access}
 use Rattle.cic_record.specs.declared.Cic.{Cic}
-use Rattle.cic_registers.specs.Map.{access as cicAccess}
+use Rattle.cic_registers.specs.Map.{access as cic_access}
 use Rattle.cic_held.specs.declared.Prioritised.{Prioritised}
-use Rattle.cic_indexed.specs.Tables.{accessAt}
-use Rattle.aintc_registers.specs.Map.{access as aintcAccess}
+use Rattle.cic_indexed.specs.Tables.{access_at}
+use Rattle.aintc_registers.specs.Map.{access as aintc_access}
 use Rattle.register_names.specs.Rows.{Row, place_in}
-use Rattle.register_names.specs.Maps.{aicRows, coreRows, cicRows, indexRows, aintcRows}
+use Rattle.register_names.specs.Maps.{aic_rows, core_rows, cic_rows, index_rows, aintc_rows}
 
 -- at each of these offsets a map says these words
 abbrev pub Says : List Row → List (ℕ × String) → Type 0
@@ -25,7 +25,7 @@ Exactly rows o absent = (place_in rows o ≡ []) ↔ ((o % 4 ≢ 0) ⊎ absent)
 
 pub record Promises : Type 0 where
   -- the AIC: every register that stands alone, and the first and the last of those that repeat (003, table 27-2)
-  pub aicRead : Says (aicRows false)
+  pub aic_read : Says (aic_rows false)
       ((0x000, " SMR0 (003, 27.8.3)")
       ∷ (0x07C, " SMR31 (003, 27.8.3)")
       ∷ (0x080, " SVR0 (003, 27.8.4)")
@@ -47,10 +47,10 @@ pub record Promises : Type 0 where
       ∷ (0x144, " FFDR (003, 27.8.19)")
       ∷ (0x148, " FFSR (003, 27.8.20)") ∷ [])
   -- that IVR is written is said in 27.7.5 (003)
-  pub aicWritten : Says (aicRows true)
+  pub aic_written : Says (aic_rows true)
       ((0x100, " IVR (003, 27.7.5)") ∷ [])
   -- CoreInterrupt (004, table 3)
-  pub core : Says (coreRows)
+  pub core : Says (core_rows)
       ((0x000, " FIQSoftInt (004, page 5)")
       ∷ (0x004, " FIQSoftIntClear (004, page 5)")
       ∷ (0x008, " FIQEnable (004, page 5)")
@@ -64,7 +64,7 @@ pub record Promises : Type 0 where
       ∷ (0x028, " IRQRawStatus (004, page 6)")
       ∷ (0x02C, " IRQStatus (004, page 6)") ∷ [])
   -- a CIC of 1,024 systems, 256 channels and 256 hosts; that an index cannot be read is said in 01 (001, table 2-1)
-  pub cicRead : Says (cicRows false 1024 256 256)
+  pub cic_read : Says (cic_rows false 1024 256 256)
       ((0x000, " REVISION (001, 2.2.1)")
       ∷ (0x010, " GLOBAL_ENABLE_HINT (001, 2.2.3)")
       ∷ (0x020, " STATUS_SET_INDEX (01, CIC)")
@@ -88,7 +88,7 @@ pub record Promises : Type 0 where
       ∷ (0x1500, " ENABLE_HINT0 (001, 2.2.18)")
       ∷ (0x151C, " ENABLE_HINT7 (001, 2.2.18)") ∷ [])
   -- writes of it: the indices by their own pages, the host map by 01
-  pub cicWritten : Says (cicRows true 1024 256 256)
+  pub cic_written : Says (cic_rows true 1024 256 256)
       ((0x020, " STATUS_SET_INDEX (001, 2.2.4)")
       ∷ (0x024, " STATUS_CLR_INDEX (001, 2.2.5)")
       ∷ (0x028, " ENABLE_SET_INDEX (001, 2.2.6)")
@@ -98,19 +98,19 @@ pub record Promises : Type 0 where
       ∷ (0x800, " HINT_MAP0 (01, CIC)")
       ∷ (0x8FC, " HINT_MAP63 (01, CIC)") ∷ [])
   -- what prioritised indices add (001, 2.2.2, 2.2.10 and 2.2.17)
-  pub indexedRead : Says (indexRows false 1024 256 256)
+  pub indexed_read : Says (index_rows false 1024 256 256)
       ((0x004, " CONTROL (001, 2.2.2)")
       ∷ (0x080, " GLOBAL_PRI_INDEX (001, 2.2.10)")
       ∷ (0x900, " HINT_PRI_INDEX0 (001, 2.2.17)")
       ∷ (0xCFC, " HINT_PRI_INDEX255 (001, 2.2.17)") ∷ [])
   -- that an index is written is said in 1.3.5 (001)
-  pub indexedWritten : Says (indexRows true 1024 256 256)
+  pub indexed_written : Says (index_rows true 1024 256 256)
       ((0x004, " CONTROL (001, 2.2.2)")
       ∷ (0x080, " GLOBAL_PRI_INDEX (001, 1.3.5)")
       ∷ (0x900, " HINT_PRI_INDEX0 (001, 1.3.5)")
       ∷ (0xCFC, " HINT_PRI_INDEX255 (001, 1.3.5)") ∷ [])
   -- the AINTC (000, table 4-3)
-  pub aintcRead : Says (aintcRows false)
+  pub aintc_read : Says (aintc_rows false)
       ((0x000, " REVISION (000, 4.5.1)")
       ∷ (0x010, " SYSCONFIG (000, 4.5.2)")
       ∷ (0x014, " SYSSTATUS (000, 4.5.3)")
@@ -141,18 +141,18 @@ pub record Promises : Type 0 where
       ∷ (0x100, " ILR0 (000, 4.5.20)")
       ∷ (0x2FC, " ILR127 (000, 4.5.20)") ∷ [])
   -- that MIR is written is said in 4.4.1 (000)
-  pub aintcWritten : Says (aintcRows true)
+  pub aintc_written : Says (aintc_rows true)
       ((0x084, " MIR0 (000, 4.4.1)")
       ∷ (0x0E4, " MIR3 (000, 4.4.1)") ∷ [])
   -- ---- a name exactly where the map has a register
 
-  pub aicExactly : (written : Bool) (o : ℕ) → Exactly (aicRows written) o (aicAccess o ≡ NoRegister)
-  pub coreExactly : (c : Core) (o : ℕ) → Exactly coreRows o (coreAccess c o ≡ NoRegister)
+  pub aic_exactly : (written : Bool) (o : ℕ) → Exactly (aic_rows written) o (aic_access o ≡ NoRegister)
+  pub core_exactly : (c : Core) (o : ℕ) → Exactly core_rows o (core_access c o ≡ NoRegister)
   -- of a CIC, and of one with prioritised indices, whatever numbers configure it
-  pub cicExactly : (c : Cic) (written : Bool) (o : ℕ) → Exactly (cicRows written c.systems c.channels c.hosts) o (cicAccess c o ≡ NoRegister)
-  pub indexedExactly : (p : Prioritised) (written : Bool) (o : ℕ) → p.held.choice ≡ 1
-      → Exactly (indexRows written p.cic.systems p.cic.channels p.cic.hosts) o (accessAt p o ≡ NoRegister)
+  pub cic_exactly : (c : Cic) (written : Bool) (o : ℕ) → Exactly (cic_rows written c.systems c.channels c.hosts) o (cic_access c o ≡ NoRegister)
+  pub indexed_exactly : (p : Prioritised) (written : Bool) (o : ℕ) → p.held.choice ≡ 1
+      → Exactly (index_rows written p.cic.systems p.cic.channels p.cic.hosts) o (access_at p o ≡ NoRegister)
   -- with the choice off the map of a CIC has them
-  pub choiceOff : (p : Prioritised) (written : Bool) (o : ℕ) → p.held.choice ≡ 0
-      → Exactly (cicRows written p.cic.systems p.cic.channels p.cic.hosts) o (accessAt p o ≡ NoRegister)
-  pub aintcExactly : (written : Bool) (o : ℕ) → Exactly (aintcRows written) o (aintcAccess o ≡ NoRegister)
+  pub choice_off : (p : Prioritised) (written : Bool) (o : ℕ) → p.held.choice ≡ 0
+      → Exactly (cic_rows written p.cic.systems p.cic.channels p.cic.hosts) o (access_at p o ≡ NoRegister)
+  pub aintc_exactly : (written : Bool) (o : ℕ) → Exactly (aintc_rows written) o (aintc_access o ≡ NoRegister)

@@ -13,12 +13,12 @@ pub data Row : Type 0 where
   group : ℕ → ℕ → ℕ → List ℕ → List ℕ → Row
 
 -- the offset is that of one of the registers of a group
-unfoldable pub inGroup : ℕ → ℕ → ℕ → ℕ → Bool
-inGroup first count step o = leb first o && (eqb ((o - first) % step) 0 && ltb ((o - first) / step) count)
+unfoldable pub in_group : ℕ → ℕ → ℕ → ℕ → Bool
+in_group first count step o = leb first o && (eqb ((o - first) % step) 0 && ltb ((o - first) / step) count)
 
 unfoldable pub in_row : Row → ℕ → Bool
 in_row (alone first name section) o = eqb o first
-in_row (group first count step name section) o = inGroup first count step o
+in_row (group first count step name section) o = in_group first count step o
 
 -- where a register is described: the document, then the section
 unfoldable pub sectioned : List ℕ → List ℕ
@@ -31,16 +31,16 @@ named name section = (space ∷ []) ++ name ++ sectioned section
 unfoldable pub numbered : List ℕ → ℕ → List ℕ → List ℕ
 numbered name n section = (space ∷ []) ++ counted name n ++ sectioned section
 
-unfoldable pub rowWords : Row → ℕ → List ℕ
-rowWords (alone first name section) o = named name section
-rowWords (group first count step name section) o = numbered name ((o - first) / step) section
+unfoldable pub row_words : Row → ℕ → List ℕ
+row_words (alone first name section) o = named name section
+row_words (group first count step name section) o = numbered name ((o - first) / step) section
 
 -- ---- a map
 
 -- name and section by the first row that has the offset; nothing where none has
 unfoldable pub place_in : List Row → ℕ → List ℕ
 place_in [] o = []
-place_in (r ∷ rs) o = pick (in_row r o) (rowWords r o) (place_in rs o)
+place_in (r ∷ rs) o = pick (in_row r o) (row_words r o) (place_in rs o)
 
 abbrev pub single : ℕ → String → String → Row
 single first name section = alone first (bytes name) (bytes section)
@@ -53,8 +53,8 @@ abbrev pub by : Bool → String → String → List ℕ
 by written reading writing = pick written (bytes writing) (bytes reading)
 
 -- of `most` registers with `share` things each, those that have one of n
-unfoldable pub thereOf : ℕ → ℕ → ℕ → ℕ
-thereOf share most n = pick (leb (share * most) n) most ((n + (share - 1)) / share)
+unfoldable pub there_of : ℕ → ℕ → ℕ → ℕ
+there_of share most n = pick (leb (share * most) n) most ((n + (share - 1)) / share)
 
 -- of `most` registers, one for each of n things
 unfoldable pub at_most : ℕ → ℕ → ℕ

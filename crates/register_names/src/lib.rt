@@ -1,10 +1,10 @@
 // Names and sections of registers: the row that has an offset, by the makers' maps (specs/Maps.antt), which stand in src/rows.rt as specs/Table.antt says.
 ghost use Rattle.std.specs.Prelude.{◌≡◌, ◌+◌, ◌-◌, ◌/◌, ◌≤◌, ◌<◌, length, drop};
 ghost use Rattle.text.specs.Text.{write};
-ghost use Rattle.register_names.specs.Rows.{inGroup, sectioned, place_in, thereOf, at_most};
-ghost use Rattle.register_names.specs.Maps.{aicRows, coreRows, cicRows, indexRows, aintcRows};
-ghost use Rattle.register_names.specs.Table.{digitOf, twoAt, fourAt, until, countBy, countAt, sectionFrom, rowsIn};
-ghost use Rattle.register_names.specs.Table.{standsBy, standsAt, rowFrom, numberBy, titleAt, wordsAt};
+ghost use Rattle.register_names.specs.Rows.{in_group, sectioned, place_in, there_of, at_most};
+ghost use Rattle.register_names.specs.Maps.{aic_rows, core_rows, cic_rows, index_rows, aintc_rows};
+ghost use Rattle.register_names.specs.Table.{digit_of, two_at, four_at, until, count_by, count_at, section_from, rows_in};
+ghost use Rattle.register_names.specs.Table.{stands_by, stands_at, row_from, number_by, title_at, words_at};
 
 mod rows;
 
@@ -29,14 +29,14 @@ const BAR: u8 = b'|';
 
 // An AIC.
 pub fn put_aic(out: &mut [u8], at: usize, o: u32, written: bool) -> usize
-    ensures { (out.new, result) ≡ write (out.old, at) (place_in (aicRows written) o) }
+    ensures { (out.new, result) ≡ write (out.old, at) (place_in (aic_rows written) o) }
 {
     put_place(out, at, &rows::AIC_ROWS, NO_SIZES, o, written)
 }
 
 // A CoreInterrupt.
 pub fn put_core(out: &mut [u8], at: usize, o: u32) -> usize
-    ensures { (out.new, result) ≡ write (out.old, at) (place_in coreRows o) }
+    ensures { (out.new, result) ≡ write (out.old, at) (place_in core_rows o) }
 {
     put_place(out, at, &rows::CORE_ROWS, NO_SIZES, o, false)
 }
@@ -51,7 +51,7 @@ pub fn put_cic(
     channels: u32,
     hosts: u32,
 ) -> usize
-    ensures { (out.new, result) ≡ write (out.old, at) (place_in (cicRows written systems channels hosts) o) }
+    ensures { (out.new, result) ≡ write (out.old, at) (place_in (cic_rows written systems channels hosts) o) }
 {
     let n = Sizes {
         systems: systems,
@@ -71,7 +71,7 @@ pub fn put_indices(
     channels: u32,
     hosts: u32,
 ) -> usize
-    ensures { (out.new, result) ≡ write (out.old, at) (place_in (indexRows written systems channels hosts) o) }
+    ensures { (out.new, result) ≡ write (out.old, at) (place_in (index_rows written systems channels hosts) o) }
 {
     let n = Sizes {
         systems: systems,
@@ -83,7 +83,7 @@ pub fn put_indices(
 
 // An AINTC.
 pub fn put_aintc(out: &mut [u8], at: usize, o: u32, written: bool) -> usize
-    ensures { (out.new, result) ≡ write (out.old, at) (place_in (aintcRows written) o) }
+    ensures { (out.new, result) ≡ write (out.old, at) (place_in (aintc_rows written) o) }
 {
     put_place(out, at, &rows::AINTC_ROWS, NO_SIZES, o, written)
 }
@@ -92,7 +92,7 @@ pub fn put_aintc(out: &mut [u8], at: usize, o: u32, written: bool) -> usize
 
 // Name and section by the first row that has the offset; nothing where none has.
 fn put_place(out: &mut [u8], at: usize, table: &[u8], n: Sizes, o: u32, written: bool) -> usize
-    ensures { (out.new, result) ≡ write (out.old, at) (place_in (rowsIn table.now n written) o) }
+    ensures { (out.new, result) ≡ write (out.old, at) (place_in (rows_in table.now n written) o) }
 {
     let k = row_of(table, n, o);
     if k < table.len() / 64 {
@@ -103,7 +103,7 @@ fn put_place(out: &mut [u8], at: usize, table: &[u8], n: Sizes, o: u32, written:
 
 // The first row that has the offset, or the one behind the last.
 fn row_of(table: &[u8], n: Sizes, o: u32) -> usize
-    ensures { result ≡ rowFrom table.now n o 0 (length table.now / 64) }
+    ensures { result ≡ row_from table.now n o 0 (length table.now / 64) }
 {
     let mut k: usize = 0;
     while k < table.len() / 64 {
@@ -119,7 +119,7 @@ fn row_of(table: &[u8], n: Sizes, o: u32) -> usize
 
 fn stands_at(table: &[u8], n: Sizes, o: u32, k: usize) -> bool
     requires { k < length table.now / 64 }
-    ensures { result ≡ standsAt table.now n o k }
+    ensures { result ≡ stands_at table.now n o k }
 {
     let first = four_at(table, k * 64);
     let count = count_at(table, n, k);
@@ -130,7 +130,7 @@ fn stands_at(table: &[u8], n: Sizes, o: u32, k: usize) -> bool
 // How many registers it has.
 fn count_at(table: &[u8], n: Sizes, k: usize) -> u32
     requires { k < length table.now / 64 }
-    ensures { result ≡ countAt table.now n k }
+    ensures { result ≡ count_at table.now n k }
 {
     let most = four_at(table, k * 64 + 5);
     let what = table[k * 64 + 10];
@@ -140,7 +140,7 @@ fn count_at(table: &[u8], n: Sizes, k: usize) -> u32
 // Its words for a register at the offset.
 fn put_row(out: &mut [u8], at: usize, table: &[u8], k: usize, o: u32, written: bool) -> usize
     requires { k < length table.now / 64 }
-    ensures { (out.new, result) ≡ write (out.old, at) (wordsAt table.now written o k) }
+    ensures { (out.new, result) ≡ write (out.old, at) (words_at table.now written o k) }
 {
     let a = text::put(out, at, text::SPACE);
     let b = put_title(out, a, table, k, o);
@@ -151,7 +151,7 @@ fn put_row(out: &mut [u8], at: usize, table: &[u8], k: usize, o: u32, written: b
 // The name, and the number behind it.
 fn put_title(out: &mut [u8], at: usize, table: &[u8], k: usize, o: u32) -> usize
     requires { k < length table.now / 64 }
-    ensures { (out.new, result) ≡ write (out.old, at) (titleAt table.now o k) }
+    ensures { (out.new, result) ≡ write (out.old, at) (title_at table.now o k) }
 {
     let first = four_at(table, k * 64);
     let step = two_at(table, k * 64 + 12);
@@ -161,7 +161,7 @@ fn put_title(out: &mut [u8], at: usize, table: &[u8], k: usize, o: u32) -> usize
 
 fn section_from(table: &[u8], k: usize, written: bool) -> usize
     requires { k < length table.now / 64 }
-    ensures { result ≡ sectionFrom written k }
+    ensures { result ≡ section_from written k }
 {
     if written {
         return k * 64 + 51;
@@ -182,7 +182,7 @@ fn put_section(out: &mut [u8], at: usize, table: &[u8], from: usize) -> usize
 
 // Whether an offset is that of one of so many registers, or of the one.
 fn stands_by(first: u32, count: u32, step: u32, o: u32) -> bool
-    ensures { result ≡ standsBy first count step o }
+    ensures { result ≡ stands_by first count step o }
 {
     if step == 0 {
         return o == first;
@@ -192,7 +192,7 @@ fn stands_by(first: u32, count: u32, step: u32, o: u32) -> bool
 
 fn in_group(first: u32, count: u32, step: u32, o: u32) -> bool
     requires { 0 < step }
-    ensures { result ≡ inGroup first count step o }
+    ensures { result ≡ in_group first count step o }
 {
     if o < first {
         return false;
@@ -202,7 +202,7 @@ fn in_group(first: u32, count: u32, step: u32, o: u32) -> bool
 
 // The number behind a name.
 fn put_number(out: &mut [u8], at: usize, first: u32, step: u32, o: u32) -> usize
-    ensures { (out.new, result) ≡ write (out.old, at) (numberBy first step o) }
+    ensures { (out.new, result) ≡ write (out.old, at) (number_by first step o) }
 {
     if step == 0 {
         return at;
@@ -222,7 +222,7 @@ fn nth(first: u32, step: u32, o: u32) -> u32
 
 fn count_by(what: u8, most: u32, n: Sizes) -> u32
     requires { most < 65536 }
-    ensures { result ≡ countBy what most n }
+    ensures { result ≡ count_by what most n }
 {
     if what == b'S' {
         return words_of(most, n.systems);
@@ -245,7 +245,7 @@ fn count_by(what: u8, most: u32, n: Sizes) -> u32
 // Of so many registers with 32 things each, those that have one of n.
 fn words_of(most: u32, n: u32) -> u32
     requires { most < 65536 }
-    ensures { result ≡ thereOf 32 most n }
+    ensures { result ≡ there_of 32 most n }
 {
     if 32 * most <= n {
         return most;
@@ -256,7 +256,7 @@ fn words_of(most: u32, n: u32) -> u32
 // Of so many registers with four each.
 fn quarters_of(most: u32, n: u32) -> u32
     requires { most < 65536 }
-    ensures { result ≡ thereOf 4 most n }
+    ensures { result ≡ there_of 4 most n }
 {
     if 4 * most <= n {
         return most;
@@ -278,7 +278,7 @@ fn at_most(most: u32, n: u32) -> u32
 
 fn four_at(table: &[u8], i: usize) -> u32
     requires { i + 4 ≤ length table.now }
-    ensures { (result ≡ fourAt table.now i) × (result < 65536) }
+    ensures { (result ≡ four_at table.now i) × (result < 65536) }
 {
     let high = two_at(table, i);
     let low = two_at(table, i + 2);
@@ -287,7 +287,7 @@ fn four_at(table: &[u8], i: usize) -> u32
 
 fn two_at(table: &[u8], i: usize) -> u32
     requires { i + 2 ≤ length table.now }
-    ensures { (result ≡ twoAt table.now i) × (result < 256) }
+    ensures { (result ≡ two_at table.now i) × (result < 256) }
 {
     let high = digit_of(table[i]);
     let low = digit_of(table[i + 1]);
@@ -295,7 +295,7 @@ fn two_at(table: &[u8], i: usize) -> u32
 }
 
 fn digit_of(b: u8) -> u32
-    ensures { (result ≡ digitOf b) × (result < 16) }
+    ensures { (result ≡ digit_of b) × (result < 16) }
 {
     if b < 48 {
         return 0;

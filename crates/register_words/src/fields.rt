@@ -1,18 +1,18 @@
 // The fields of a write in words (specs/Fields.antt).
 ghost use Rattle.std.specs.Prelude.{◌≡◌, ◌++◌, ◌/◌, ◌<◌, ◌≤◌, eqb};
-ghost use Rattle.words.specs.Array.{rest_at, byteOf};
+ghost use Rattle.words.specs.Array.{rest_at, byte_of};
 ghost use Rattle.words.specs.Choice.{pick};
-ghost use Rattle.words.specs.Counting.{countBelow};
+ghost use Rattle.words.specs.Counting.{count_below};
 ghost use Rattle.words.specs.Word.{bit, without, kept};
 ghost use Rattle.text.specs.Text.{write};
 ghost use Rattle.text.specs.Phrases.{bytes, counted};
-ghost use Rattle.register_words.specs.Fields.{toldBit, toldBelow, moreWords, bitWords, shareWords, byteWords, mapWords, typeWords, modeWords, aicFields, coreFields, cicSingles, cicFields, indexedFields, routeWords, aintcSingles, aintcFields};
+ghost use Rattle.register_words.specs.Fields.{told_bit, told_below, more_words, bit_words, share_words, byte_words, map_words, type_words, mode_words, aic_fields, core_fields, cic_singles, cic_fields, indexed_fields, route_words, aintc_singles, aintc_fields};
 
 // ---- the AIC
 
 // Modes, commands, debug control and fast forcing.
 pub fn put_aic(out: &mut [u8], at: usize, external: u32, o: u32, v: u32) -> usize
-    ensures { (out.new, result) ≡ write (out.old, at) (aicFields external o v) }
+    ensures { (out.new, result) ≡ write (out.old, at) (aic_fields external o v) }
 {
     if o < 0x080 {
         return put_mode(out, at, external, o, v);
@@ -37,7 +37,7 @@ pub fn put_aic(out: &mut [u8], at: usize, external: u32, o: u32, v: u32) -> usiz
 
 // The type and the priority of the mode at an offset.
 fn put_mode(out: &mut [u8], at: usize, external: u32, o: u32, v: u32) -> usize
-    ensures { (out.new, result) ≡ write (out.old, at) (modeWords (bit external (o / 4)) v) }
+    ensures { (out.new, result) ≡ write (out.old, at) (mode_words (bit external (o / 4)) v) }
 {
     let outer = words::has(external, o / 4);
     let a = put_type(out, at, outer, v / 32 % 4);
@@ -45,7 +45,7 @@ fn put_mode(out: &mut [u8], at: usize, external: u32, o: u32, v: u32) -> usize
 }
 
 fn put_type(out: &mut [u8], at: usize, external: bool, kind: u32) -> usize
-    ensures { (out.new, result) ≡ write (out.old, at) (typeWords external kind) }
+    ensures { (out.new, result) ≡ write (out.old, at) (type_words external kind) }
 {
     if kind == 0 {
         return put_either(out, at, external, b"; low level", b"; high level");
@@ -61,7 +61,7 @@ fn put_type(out: &mut [u8], at: usize, external: bool, kind: u32) -> usize
 
 // Source 0 cannot be forced.
 fn put_forced(out: &mut [u8], at: usize, v: u32) -> usize
-    ensures { (out.new, result) ≡ write (out.old, at) (bitWords (bytes "; sources") 0 (without v 1)) }
+    ensures { (out.new, result) ≡ write (out.old, at) (bit_words (bytes "; sources") 0 (without v 1)) }
 {
     let w = words::drop_bits(v, 1);
     put_bits(out, at, b"; sources", 0, w)
@@ -71,7 +71,7 @@ fn put_forced(out: &mut [u8], at: usize, v: u32) -> usize
 
 // The registers of both sides that take writes.
 pub fn put_core(out: &mut [u8], at: usize, fiqs: u32, irqs: u32, o: u32, v: u32) -> usize
-    ensures { (out.new, result) ≡ write (out.old, at) (coreFields fiqs irqs o v) }
+    ensures { (out.new, result) ≡ write (out.old, at) (core_fields fiqs irqs o v) }
 {
     if o < 0x010 {
         return put_side(out, at, fiqs, v);
@@ -87,7 +87,7 @@ pub fn put_core(out: &mut [u8], at: usize, fiqs: u32, irqs: u32, o: u32, v: u32)
 
 // The sources of a side.
 fn put_side(out: &mut [u8], at: usize, count: u32, v: u32) -> usize
-    ensures { (out.new, result) ≡ write (out.old, at) (bitWords (bytes "; sources") 0 (kept count v)) }
+    ensures { (out.new, result) ≡ write (out.old, at) (bit_words (bytes "; sources") 0 (kept count v)) }
 {
     let w = words::keep(count, v);
     put_bits(out, at, b"; sources", 0, w)
@@ -105,7 +105,7 @@ pub fn put_indexed(
     o: u32,
     v: u32,
 ) -> usize
-    ensures { (out.new, result) ≡ write (out.old, at) (indexedFields systems channels hosts o v) }
+    ensures { (out.new, result) ≡ write (out.old, at) (indexed_fields systems channels hosts o v) }
 {
     if o == 0x004 {
         return text::phrases::put_counted(out, at, b"; PRIORITY_HOLD ", v / 16 % 2);
@@ -123,7 +123,7 @@ pub fn put_cic(
     o: u32,
     v: u32,
 ) -> usize
-    ensures { (out.new, result) ≡ write (out.old, at) (cicFields systems channels hosts o v) }
+    ensures { (out.new, result) ≡ write (out.old, at) (cic_fields systems channels hosts o v) }
 {
     if o < 0x200 {
         return put_cic_single(out, at, o, v);
@@ -156,7 +156,7 @@ pub fn put_cic(
 
 // Global enable, and the indices of systems and of hosts.
 fn put_cic_single(out: &mut [u8], at: usize, o: u32, v: u32) -> usize
-    ensures { (out.new, result) ≡ write (out.old, at) (cicSingles o v) }
+    ensures { (out.new, result) ≡ write (out.old, at) (cic_singles o v) }
 {
     if o == 0x010 {
         return text::phrases::put_counted(out, at, b"; ENABLE ", v % 2);
@@ -180,7 +180,7 @@ fn put_cic_single(out: &mut [u8], at: usize, o: u32, v: u32) -> usize
 
 // Registers that stand alone, banks, routes.
 pub fn put_aintc(out: &mut [u8], at: usize, o: u32, v: u32) -> usize
-    ensures { (out.new, result) ≡ write (out.old, at) (aintcFields o v) }
+    ensures { (out.new, result) ≡ write (out.old, at) (aintc_fields o v) }
 {
     if o < 0x080 {
         return put_aintc_single(out, at, o, v);
@@ -195,7 +195,7 @@ pub fn put_aintc(out: &mut [u8], at: usize, o: u32, v: u32) -> usize
 }
 
 fn put_aintc_single(out: &mut [u8], at: usize, o: u32, v: u32) -> usize
-    ensures { (out.new, result) ≡ write (out.old, at) (aintcSingles o v) }
+    ensures { (out.new, result) ≡ write (out.old, at) (aintc_singles o v) }
 {
     if o == 0x010 {
         return put_pair(out, at, b"; SOFTRESET ", v / 2 % 2, b", AUTOIDLE ", v % 2);
@@ -217,7 +217,7 @@ fn put_aintc_single(out: &mut [u8], at: usize, o: u32, v: u32) -> usize
 
 // The output and the priority of a route.
 fn put_route(out: &mut [u8], at: usize, v: u32) -> usize
-    ensures { (out.new, result) ≡ write (out.old, at) (routeWords v) }
+    ensures { (out.new, result) ≡ write (out.old, at) (route_words v) }
 {
     let fast = words::has(v, 0);
     let a = put_either(
@@ -235,7 +235,7 @@ fn put_route(out: &mut [u8], at: usize, v: u32) -> usize
 // Those of word k of so many things.
 fn put_share(out: &mut [u8], at: usize, noun: &[u8], count: u32, k: u32, v: u32) -> usize
     requires { k < 32 }
-    ensures { (out.new, result) ≡ write (out.old, at) (shareWords noun.now count k v) }
+    ensures { (out.new, result) ≡ write (out.old, at) (share_words noun.now count k v) }
 {
     let n = rest(count, k);
     let w = words::keep(n, v);
@@ -254,14 +254,14 @@ fn rest(count: u32, k: u32) -> u32
 }
 
 fn put_bits(out: &mut [u8], at: usize, noun: &[u8], base: u32, w: u32) -> usize
-    ensures { (out.new, result) ≡ write (out.old, at) (bitWords noun.now base w) }
+    ensures { (out.new, result) ≡ write (out.old, at) (bit_words noun.now base w) }
 {
     let a = text::put_all(out, at, noun);
     put_numbers(out, a, base, w)
 }
 
 fn put_numbers(out: &mut [u8], at: usize, base: u32, w: u32) -> usize
-    ensures { (out.new, result) ≡ write (out.old, at) (pick (eqb w 0) (bytes " none") (toldBelow base w 32 ++ moreWords (countBelow 32 (bit w)))) }
+    ensures { (out.new, result) ≡ write (out.old, at) (pick (eqb w 0) (bytes " none") (told_below base w 32 ++ more_words (count_below 32 (bit w)))) }
 {
     if w == 0 {
         return text::put_all(out, at, b" none");
@@ -272,7 +272,7 @@ fn put_numbers(out: &mut [u8], at: usize, base: u32, w: u32) -> usize
 }
 
 fn put_told(out: &mut [u8], at: usize, base: u32, w: u32) -> usize
-    ensures { (out.new, result) ≡ write (out.old, at) (toldBelow base w 32) }
+    ensures { (out.new, result) ≡ write (out.old, at) (told_below base w 32) }
 {
     let mut next = at;
     let mut told: u32 = 0;
@@ -288,8 +288,8 @@ fn put_told(out: &mut [u8], at: usize, base: u32, w: u32) -> usize
 
 // One of the first eight that are set, behind so many lower ones.
 fn put_bit(out: &mut [u8], at: usize, base: u32, w: u32, n: u32, lower: u32) -> usize
-    requires { lower ≡ countBelow n (bit w) }
-    ensures { (out.new, result) ≡ write (out.old, at) (toldBit base w n) }
+    requires { lower ≡ count_below n (bit w) }
+    ensures { (out.new, result) ≡ write (out.old, at) (told_bit base w n) }
 {
     let set = words::has(w, n);
     if set & (lower < 8) {
@@ -300,7 +300,7 @@ fn put_bit(out: &mut [u8], at: usize, base: u32, w: u32, n: u32, lower: u32) -> 
 }
 
 fn put_more(out: &mut [u8], at: usize, n: u32) -> usize
-    ensures { (out.new, result) ≡ write (out.old, at) (moreWords n) }
+    ensures { (out.new, result) ≡ write (out.old, at) (more_words n) }
 {
     if 8 < n {
         let a = text::phrases::put_counted(out, at, b" and ", n - 8);
@@ -321,7 +321,7 @@ fn put_map(
     v: u32,
 ) -> usize
     requires { first ≤ 1024 }
-    ensures { (out.new, result) ≡ write (out.old, at) (mapWords thing.now target.now count first v) }
+    ensures { (out.new, result) ≡ write (out.old, at) (map_words thing.now target.now count first v) }
 {
     let a = text::phrases::put_counted(out, at, thing, first);
     let b = text::phrases::put_counted(out, a, target, v % 256);
@@ -332,7 +332,7 @@ fn put_map(
 
 // One that is for thing n, if there is one.
 fn put_byte(out: &mut [u8], at: usize, count: u32, n: u32, b: u32) -> usize
-    ensures { (out.new, result) ≡ write (out.old, at) (byteWords count n b) }
+    ensures { (out.new, result) ≡ write (out.old, at) (byte_words count n b) }
 {
     if n < count {
         let a = text::phrases::put_counted(out, at, b", ", n);

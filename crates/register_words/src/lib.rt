@@ -3,8 +3,8 @@ ghost use Rattle.std.specs.Prelude.{◌≡◌, eqb};
 ghost use Rattle.words.specs.Choice.{pick};
 ghost use Rattle.text.specs.Text.{write};
 ghost use Rattle.register_names.specs.Rows.{place_in};
-ghost use Rattle.register_names.specs.Maps.{cicRows, indexRows};
-ghost use Rattle.register_words.specs.Registers.{registerWords, below, inputWords, lineWords, placeAt, placeWords, writtenWords, fields_at, fieldWords, beyondWords, accessWords, levelWords, limitAt, limitWords};
+ghost use Rattle.register_names.specs.Maps.{cic_rows, index_rows};
+ghost use Rattle.register_words.specs.Registers.{register_words, below, input_words, line_words, place_at, place_words, written_words, fields_at, field_words, beyond_words, access_words, level_words, limit_at, limit_words};
 
 use machine::record::Machine;
 use steps::{Recorded, Step};
@@ -15,14 +15,14 @@ pub mod fields;
 
 // Name and section of a register, or the line, behind a space; nothing where there is none.
 pub fn put_place(out: &mut [u8], at: usize, m: Machine, x: Recorded) -> usize
-    ensures { (out.new, result) ≡ write (out.old, at) (placeWords m x) }
+    ensures { (out.new, result) ≡ write (out.old, at) (place_words m x) }
 {
     let step = x.step;
     put_place_at(out, at, m, step)
 }
 
 fn put_place_at(out: &mut [u8], at: usize, m: Machine, x: Step) -> usize
-    ensures { (out.new, result) ≡ write (out.old, at) (placeAt m x) }
+    ensures { (out.new, result) ≡ write (out.old, at) (place_at m x) }
 {
     match x {
         Step::Read(o) => put_register(out, at, m, false, o),
@@ -33,7 +33,7 @@ fn put_place_at(out: &mut [u8], at: usize, m: Machine, x: Step) -> usize
 
 // The register at an offset.
 fn put_register(out: &mut [u8], at: usize, m: Machine, written: bool, o: u32) -> usize
-    ensures { (out.new, result) ≡ write (out.old, at) (registerWords m written o) }
+    ensures { (out.new, result) ≡ write (out.old, at) (register_words m written o) }
 {
     let kind = m.kind;
     if kind == kinds::AIC {
@@ -64,7 +64,7 @@ fn put_register(out: &mut [u8], at: usize, m: Machine, written: bool, o: u32) ->
 
 // Where the choice is on, those of prioritised indices too.
 fn put_indexed(out: &mut [u8], at: usize, m: Machine, written: bool, o: u32) -> usize
-    ensures { (out.new, result) ≡ write (out.old, at) (pick (eqb m.held.choice 1) (place_in (indexRows written m.cic.systems m.cic.channels m.cic.hosts) o) (place_in (cicRows written m.cic.systems m.cic.channels m.cic.hosts) o)) }
+    ensures { (out.new, result) ≡ write (out.old, at) (pick (eqb m.held.choice 1) (place_in (index_rows written m.cic.systems m.cic.channels m.cic.hosts) o) (place_in (cic_rows written m.cic.systems m.cic.channels m.cic.hosts) o)) }
 {
     if m.held.choice == 1 {
         return register_names::put_indices(
@@ -90,7 +90,7 @@ fn put_indexed(out: &mut [u8], at: usize, m: Machine, written: bool, o: u32) -> 
 
 // A line that there is.
 fn put_line(out: &mut [u8], at: usize, m: Machine, k: u32) -> usize
-    ensures { (out.new, result) ≡ write (out.old, at) (lineWords m k) }
+    ensures { (out.new, result) ≡ write (out.old, at) (line_words m k) }
 {
     let kind = m.kind;
     if kind == kinds::AIC {
@@ -122,7 +122,7 @@ fn put_below(out: &mut [u8], at: usize, n: u32, what: &[u8], k: u32) -> usize
 
 // An input of a CoreInterrupt.
 fn put_input(out: &mut [u8], at: usize, k: u32) -> usize
-    ensures { (out.new, result) ≡ write (out.old, at) (inputWords k) }
+    ensures { (out.new, result) ≡ write (out.old, at) (input_words k) }
 {
     if k < 32 {
         return text::phrases::put_counted(out, at, b" IRQ input ", k);
@@ -137,7 +137,7 @@ fn put_input(out: &mut [u8], at: usize, k: u32) -> usize
 
 // Those of a write that is carried out, behind a semicolon; nothing of other steps, and of registers without fields.
 pub fn put_fields(out: &mut [u8], at: usize, m: Machine, x: Recorded) -> usize
-    ensures { (out.new, result) ≡ write (out.old, at) (fieldWords m x) }
+    ensures { (out.new, result) ≡ write (out.old, at) (field_words m x) }
 {
     let step = x.step;
     put_fields_at(out, at, m, step)
@@ -154,7 +154,7 @@ fn put_fields_at(out: &mut [u8], at: usize, m: Machine, x: Step) -> usize
 }
 
 fn put_written(out: &mut [u8], at: usize, m: Machine, o: u32, v: u32) -> usize
-    ensures { (out.new, result) ≡ write (out.old, at) (writtenWords m o v) }
+    ensures { (out.new, result) ≡ write (out.old, at) (written_words m o v) }
 {
     let kind = m.kind;
     if kind == kinds::AIC {
@@ -179,14 +179,14 @@ fn put_written(out: &mut [u8], at: usize, m: Machine, o: u32, v: u32) -> usize
 
 // Of a step that is refused by 6.
 pub fn put_limit(out: &mut [u8], at: usize, m: Machine, x: Recorded) -> usize
-    ensures { (out.new, result) ≡ write (out.old, at) (limitWords m x) }
+    ensures { (out.new, result) ≡ write (out.old, at) (limit_words m x) }
 {
     let step = x.step;
     put_limit_at(out, at, m.kind, x.privilege, step)
 }
 
 fn put_limit_at(out: &mut [u8], at: usize, kind: u32, privilege: u32, x: Step) -> usize
-    ensures { (out.new, result) ≡ write (out.old, at) (limitAt kind privilege x) }
+    ensures { (out.new, result) ≡ write (out.old, at) (limit_at kind privilege x) }
 {
     match x {
         Step::Read(o) => put_access(out, at, kind, privilege, o),
@@ -196,7 +196,7 @@ fn put_limit_at(out: &mut [u8], at: usize, kind: u32, privilege: u32, x: Step) -
 }
 
 fn put_level(out: &mut [u8], at: usize, l: u32) -> usize
-    ensures { (out.new, result) ≡ write (out.old, at) (levelWords l) }
+    ensures { (out.new, result) ≡ write (out.old, at) (level_words l) }
 {
     if 1 < l {
         return text::put_all(out, at, b"a level is 0 or 1");
@@ -205,7 +205,7 @@ fn put_level(out: &mut [u8], at: usize, l: u32) -> usize
 }
 
 fn put_access(out: &mut [u8], at: usize, kind: u32, privilege: u32, o: u32) -> usize
-    ensures { (out.new, result) ≡ write (out.old, at) (accessWords kind privilege o) }
+    ensures { (out.new, result) ≡ write (out.old, at) (access_words kind privilege o) }
 {
     if 1 < privilege {
         return text::put_all(out, at, b"a privilege is 0 or 1");
@@ -217,7 +217,7 @@ fn put_access(out: &mut [u8], at: usize, kind: u32, privilege: u32, o: u32) -> u
 }
 
 fn put_beyond(out: &mut [u8], at: usize, o: u32) -> usize
-    ensures { (out.new, result) ≡ write (out.old, at) (beyondWords o) }
+    ensures { (out.new, result) ≡ write (out.old, at) (beyond_words o) }
 {
     if o < 0x020 {
         return text::put_all(out, at, b"a number is beyond its limit");

@@ -6,12 +6,12 @@ use mathlib.Core.List.{List, [], ◌∷◌, map}
 use native.Mathlib.Omega.{arith}
 use lib.ListN.{get_or}
 use Rattle.totals.specs.declared.Totals.{Totals}
-use Rattle.totals.specs.Totals.{zeros, allIn, Reordered}
+use Rattle.totals.specs.Totals.{zeros, all_in, Reordered}
 use Rattle.totals.specs.Promises.{Whole, Within, EachWhole, nothing, one, Alike}
 use Rattle.totals.proofs.Promises as Sums
 use Rattle.tally.proofs.Promises as Tally
-use Rattle.report.specs.Put.{figuresOf, put_all}
-use Rattle.report.proofs.PutLaws.{put-none-yet, put-one-more}
+use Rattle.report.specs.Put.{figures_of, put_all}
+use Rattle.report.proofs.PutLaws.{put-none_yet, put-one-more}
 
 whole-zeros : Whole zeros
 unfolding zeros
@@ -20,11 +20,11 @@ whole-zeros = record { started = refl; waited = refl; entries = refl }
 within-zeros : Within zeros
 within-zeros i l = omega (arith, ((Sums.kept).empty i).started)
 
-each-whole : (xs : List (List ℕ)) → EachWhole (map figuresOf xs)
+each-whole : (xs : List (List ℕ)) → EachWhole (map figures_of xs)
 each-whole [] = nothing
-each-whole (s ∷ xs) = one (figuresOf s) (map figuresOf xs) ((Tally.kept).sources s 20000) (each-whole xs)
+each-whole (s ∷ xs) = one (figures_of s) (map figures_of xs) ((Tally.kept).sources s 20000) (each-whole xs)
 
-pub any_order : (xs ys : List (List ℕ)) → Reordered (map figuresOf xs) (map figuresOf ys) → allIn zeros (map figuresOf xs) ≡ true
-    → (allIn zeros (map figuresOf ys) ≡ true) × ((i : ℕ) → i < 32 → Alike (put_all zeros xs) (put_all zeros ys) i)
+pub any_order : (xs ys : List (List ℕ)) → Reordered (map figures_of xs) (map figures_of ys) → all_in zeros (map figures_of xs) ≡ true
+    → (all_in zeros (map figures_of ys) ≡ true) × ((i : ℕ) → i < 32 → Alike (put_all zeros xs) (put_all zeros ys) i)
 unfolding put_all
-any_order xs ys p a = (Sums.kept).anyOrder zeros (map figuresOf xs) (map figuresOf ys) whole-zeros within-zeros (each-whole xs) p a
+any_order xs ys p a = (Sums.kept).any_order zeros (map figures_of xs) (map figures_of ys) whole-zeros within-zeros (each-whole xs) p a

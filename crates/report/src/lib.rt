@@ -1,8 +1,8 @@
 // The year's report as text, in a buffer that the caller lends: a line for each trace named, and a line for each source (02, 11/12).
 ghost use Rattle.std.specs.Prelude.{◌≡◌};
 ghost use Rattle.text.specs.Text.{write, laid};
-ghost use Rattle.report.specs.Lines.{lineEnd, nameEnd};
-ghost use Rattle.report.specs.Printed.{endedAt, named, traceLine, leftOutLine, sourceLine, sourceLines};
+ghost use Rattle.report.specs.Lines.{line_end, name_end};
+ghost use Rattle.report.specs.Printed.{ended_at, named, trace_line, left_out_line, source_line, source_lines};
 
 mod held;
 pub mod names;
@@ -17,7 +17,7 @@ const CARRIAGE_RETURN: u8 = 13;
 
 // Where the line that holds place `at` ends: the first line feed from there on, or the end; a place beyond the end is its own answer.
 pub fn line_end(s: &[u8], at: usize) -> usize
-    ensures { result ≡ lineEnd s.now at }
+    ensures { result ≡ line_end s.now at }
 {
     let mut k = at;
     while k < s.len() {
@@ -31,7 +31,7 @@ pub fn line_end(s: &[u8], at: usize) -> usize
 
 // Where the name ends that begins at `at`, its line feed standing at `e`: one carriage return before that is no part of it.
 pub fn name_end(s: &[u8], at: usize, e: usize) -> usize
-    ensures { result ≡ nameEnd s.now at e }
+    ensures { result ≡ name_end s.now at e }
 {
     if e <= at {
         return e;
@@ -55,7 +55,7 @@ pub fn put_trace(
     offset: usize,
     name: &[u8],
 ) -> usize
-    ensures { (out.new, result) ≡ laid out.old (traceLine played refused refusal offset name.now) }
+    ensures { (out.new, result) ≡ laid out.old (trace_line played refused refusal offset name.now) }
 {
     let a = text::phrases::put_counted(out, 0, b"steps played ", played);
     let b = text::phrases::put_counted(out, a, b", steps refused ", refused);
@@ -65,7 +65,7 @@ pub fn put_trace(
 
 // The line of a trace that is left out: the refusal, 16 or 17, and its name.
 pub fn put_left_out(out: &mut [u8], refusal: u32, name: &[u8]) -> usize
-    ensures { (out.new, result) ≡ laid out.old (leftOutLine refusal name.now) }
+    ensures { (out.new, result) ≡ laid out.old (left_out_line refusal name.now) }
 {
     let a = text::phrases::put_counted(out, 0, b"refusal ", refusal);
     put_name(out, a, name)
@@ -73,7 +73,7 @@ pub fn put_left_out(out: &mut [u8], refusal: u32, name: &[u8]) -> usize
 
 // The 32 lines of the sources, 0 to 31.
 pub fn put_sources(out: &mut [u8], t: Totals) -> usize
-    ensures { (out.new, result) ≡ laid out.old (sourceLines 32 t) }
+    ensures { (out.new, result) ≡ laid out.old (source_lines 32 t) }
 {
     let mut at: usize = 0;
     let mut i: usize = 0;
@@ -86,7 +86,7 @@ pub fn put_sources(out: &mut [u8], t: Totals) -> usize
 
 // E, the refusal and its offset, of a trace that ended so; nothing where it did not.
 fn put_ended(out: &mut [u8], at: usize, refusal: u32, offset: usize) -> usize
-    ensures { (out.new, result) ≡ write (out.old, at) (endedAt refusal offset) }
+    ensures { (out.new, result) ≡ write (out.old, at) (ended_at refusal offset) }
 {
     if refusal == steps::CARRIED_OUT {
         return at;
@@ -107,7 +107,7 @@ fn put_name(out: &mut [u8], at: usize, name: &[u8]) -> usize
 
 // One source's three figures.
 fn put_source(out: &mut [u8], at: usize, i: u32, started: u32, waited: u32, entries: u32) -> usize
-    ensures { (out.new, result) ≡ write (out.old, at) (sourceLine i started waited entries) }
+    ensures { (out.new, result) ≡ write (out.old, at) (source_line i started waited entries) }
 {
     let a = text::phrases::put_counted(out, at, b"source ", i);
     let b = text::phrases::put_counted(out, a, b": handlers started ", started);

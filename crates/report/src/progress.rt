@@ -3,7 +3,7 @@ ghost use Rattle.std.specs.Prelude.{◌≡◌, true, List, ℕ, ◌≤◌, ◌<�
 ghost use Rattle.text.specs.Text.{laid};
 ghost use Rattle.totals.specs.declared.Totals.{Totals as Figures};
 ghost use Rattle.totals.specs.Totals.{zeros};
-ghost use Rattle.report.specs.Printed.{traceLine, leftOutLine, sourceLines};
+ghost use Rattle.report.specs.Printed.{trace_line, left_out_line, source_lines};
 ghost use Rattle.report.specs.Promises.{Words};
 
 use totals::Totals;
@@ -61,7 +61,7 @@ fn print_sources(t: Totals) -> bool {
 }
 
 fn put_unopened(out: &mut [u8], name: &[u8]) -> usize
-    ensures { (out.new, result) ≡ laid out.old (leftOutLine 17 name.now) }
+    ensures { (out.new, result) ≡ laid out.old (left_out_line 17 name.now) }
 {
     super::put_left_out(out, steps::UNOPENED, name)
 }
@@ -69,7 +69,7 @@ fn put_unopened(out: &mut [u8], name: &[u8]) -> usize
 // A buffer that the line of any name of at most 4,096 bytes fits.
 pub(crate) fn line_room() -> [u8; 4183]
     ensures value { 4183 ≡ length result }
-    ensures any { (played refused refusal offset : ℕ) (name : List ℕ) → played < 2 ^ 32 → refused < 2 ^ 32 → refusal < 2 ^ 32 → length name ≤ 4096 → (length (traceLine played refused refusal offset name) ≤ length result) × (length (leftOutLine refusal name) ≤ length result) }
+    ensures any { (played refused refusal offset : ℕ) (name : List ℕ) → played < 2 ^ 32 → refused < 2 ^ 32 → refusal < 2 ^ 32 → length name ≤ 4096 → (length (trace_line played refused refusal offset name) ≤ length result) × (length (left_out_line refusal name) ≤ length result) }
 {
     [0; 4183]
 }
@@ -77,7 +77,7 @@ pub(crate) fn line_room() -> [u8; 4183]
 // A buffer that the lines of the sources fit.
 fn sources_room() -> [u8; 4384]
     ensures value { 4384 ≡ length result }
-    ensures any { (t : Figures) → Words 32 t → length (sourceLines 32 t) ≤ length result }
+    ensures any { (t : Figures) → Words 32 t → length (source_lines 32 t) ≤ length result }
 {
     [0; 4384]
 }

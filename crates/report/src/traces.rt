@@ -5,7 +5,7 @@ ghost use Rattle.words.specs.Counting.{one};
 ghost use Rattle.text.specs.Text.{laid};
 ghost use Rattle.totals.specs.Totals.{added};
 ghost use Rattle.tally.specs.Tally.{tally_of};
-ghost use Rattle.report.specs.Printed.{traceLine, leftOutLine};
+ghost use Rattle.report.specs.Printed.{trace_line, left_out_line};
 ghost use Rattle.report.specs.Put.{Put};
 
 use super::progress;
@@ -65,7 +65,7 @@ fn print_line(f: Tallied, refusal: u32, name: &[u8]) -> bool {
 
 // Its steps where it is in the totals, else the refusal by which it is left out.
 fn put_line(out: &mut [u8], f: Tallied, refusal: u32, name: &[u8]) -> usize
-    ensures { (out.new, result) ≡ laid out.old (pick (eqb refusal 0) (traceLine f.steps f.refused f.refusal f.offset name.now) (leftOutLine refusal name.now)) }
+    ensures { (out.new, result) ≡ laid out.old (pick (eqb refusal 0) (trace_line f.steps f.refused f.refusal f.offset name.now) (left_out_line refusal name.now)) }
 {
     if refusal == steps::CARRIED_OUT {
         return super::put_trace(out, f.steps, f.refused, f.refusal, f.offset, name);

@@ -10,9 +10,9 @@ use lib.Dec.{eqb, leb, ltb}
 use lib.ListN.{length, get_or, drop, length-append}
 use borrow.Author.Tests.{eqb-true, eqb-false, ne_eqb, le-leb, lt-leb, lt-ltb, le-ltb}
 use Rattle.words.specs.Choice.{pick}
-use Rattle.words.proofs.ChoiceLaws.{pick_true, pick-false, pick-cases}
+use Rattle.words.proofs.ChoiceLaws.{pick_true, pick-false, pick_cases}
 use Rattle.words.proofs.TruthLaws.{and_both, told}
-use Rattle.text.specs.Text.{hexOf, hexDigit}
+use Rattle.text.specs.Text.{hex_of, hex_digit}
 use Rattle.text.proofs.DigitLaws.{length-hex}
 use Rattle.text.specs.Phrases.{bytes}
 use Rattle.sheet.specs.Texts.{each}
@@ -36,7 +36,7 @@ far : (b k : ℕ) → 32 ≤ k → k ≤ 126 → (b < 32) ⊎ (126 < b) → b �
 far b k l h (inl o) e = omega arith
 far b k l h (inr o) e = omega arith
 
-pub numbered : (b : ℕ) → (b < 32) ⊎ (126 < b) → escape b ≡ bytes "\\x" ++ hexOf 2 b
+pub numbered : (b : ℕ) → (b < 32) ⊎ (126 < b) → escape b ≡ bytes "\\x" ++ hex_of 2 b
 unfolding escape plain
 numbered b o =
     sym
@@ -50,15 +50,15 @@ numbered b o =
 abbrev worth : ℕ → ℕ
 worth d = pick (ltb d 58) (d - 48) (d - 55)
 
-worth-digit : (n : ℕ) → n < 16 → worth (hexDigit n) ≡ n
+worth-digit : (n : ℕ) → n < 16 → worth (hex_digit n) ≡ n
 worth-digit n h = go (dec_lt n 10)
   where
-    go : Dec (n < 10) → worth (hexDigit n) ≡ n
+    go : Dec (n < 10) → worth (hex_digit n) ≡ n
     go (yes l) =
-        let e : hexDigit n ≡ 48 + n = unfold hexDigit in (sym (pick_true (55 + n) (lt-ltb n 10 l))) in
+        let e : hex_digit n ≡ 48 + n = unfold hex_digit in (sym (pick_true (55 + n) (lt-ltb n 10 l))) in
         rw e (sym (pick_true (48 + n - 55) (lt-ltb (48 + n) 58 (omega arith))) ∙ omega arith)
     go (no l) =
-        let e : hexDigit n ≡ 55 + n = unfold hexDigit in (sym (pick-false (48 + n) (le-ltb n 10 (omega arith)))) in
+        let e : hex_digit n ≡ 55 + n = unfold hex_digit in (sym (pick-false (48 + n) (le-ltb n 10 (omega arith)))) in
         rw e (sym (pick-false (55 + n - 48) (le-ltb (55 + n) 58 (omega arith))) ∙ omega arith)
 
 -- the byte that a text begins with, and how much of the text tells it
@@ -75,17 +75,17 @@ size x =
 abbrev Reads : ℕ → List ℕ → Type 0
 Reads b x = (value (escape b ++ x) ≡ b) × (drop (size (escape b ++ x)) (escape b ++ x) ≡ x)
 
-reads-printed : (b : ℕ) (x : List ℕ) → b ≢ 38 → b ≢ 92 → escape b ≡ b ∷ [] → Reads b x
-reads-printed b x p q e =
+reads_printed : (b : ℕ) (x : List ℕ) → b ≢ 38 → b ≢ 92 → escape b ≡ b ∷ [] → Reads b x
+reads_printed b x p q e =
     let v : value (b ∷ x) ≡ b = unfold pick in (rw (ne_eqb b 38 p, ne_eqb b 92 q)) in
     let s : size (b ∷ x) ≡ 1 = unfold pick in (rw (ne_eqb b 38 p, ne_eqb b 92 q)) in
     rw e (v, rw s)
 
-reads-numbered : (b : ℕ) (x : List ℕ) → b < 256 → escape b ≡ bytes "\\x" ++ hexOf 2 b → Reads b x
+reads-numbered : (b : ℕ) (x : List ℕ) → b < 256 → escape b ≡ bytes "\\x" ++ hex_of 2 b → Reads b x
 unfolding pick
 reads-numbered b x l e =
-    let f : bytes "\\x" ++ hexOf 2 b ≡ 92 ∷ 120 ∷ hexDigit (b / 16 % 16) ∷ hexDigit (b % 16) ∷ [] = unfold bytes hexOf in refl in
-    let v : 16 * worth (hexDigit (b / 16 % 16)) + worth (hexDigit (b % 16)) ≡ b = rw (worth-digit (b / 16 % 16) (omega arith), worth-digit (b % 16) (omega arith)) (omega arith) in
+    let f : bytes "\\x" ++ hex_of 2 b ≡ 92 ∷ 120 ∷ hex_digit (b / 16 % 16) ∷ hex_digit (b % 16) ∷ [] = unfold bytes hex_of in refl in
+    let v : 16 * worth (hex_digit (b / 16 % 16)) + worth (hex_digit (b % 16)) ≡ b = rw (worth-digit (b / 16 % 16) (omega arith), worth-digit (b % 16) (omega arith)) (omega arith) in
     rw (e ∙ f) (v, refl)
 
 reads : (b : ℕ) (x : List ℕ) → b < 256 → Reads b x
@@ -101,7 +101,7 @@ reads b x l = go (told (eqb b 38)) (told (eqb b 60)) (told (eqb b 62)) (told (eq
     go (inr o) (inr p) (inr q) (inr r) (inr s) (yes c) d = reads-numbered b x l (numbered b (inl c))
     go (inr o) (inr p) (inr q) (inr r) (inr s) (no c) (yes d) = reads-numbered b x l (numbered b (inr d))
     go (inr o) (inr p) (inr q) (inr r) (inr s) (no c) (no d) =
-        reads-printed b x (eqb-false b 38 o) (eqb-false b 92 s)
+        reads_printed b x (eqb-false b 38 o) (eqb-false b 92 s)
         (printed b (omega arith) (omega arith) (eqb-false b 38 o) (eqb-false b 60 p) (eqb-false b 62 q) (eqb-false b 34 r) (eqb-false b 92 s))
 
 -- ---- two names that look alike
@@ -109,12 +109,12 @@ reads b x l = go (told (eqb b 38)) (told (eqb b 60)) (told (eqb b 62)) (told (eq
 some_byte : (b : ℕ) → 1 ≤ length (escape b)
 unfolding escape plain bytes
 some_byte b =
-    pick-cases (λ (l : List ℕ). 1 ≤ length l) (eqb b 38) (λ e. omega arith)
-    (λ e. pick-cases (λ (l : List ℕ). 1 ≤ length l) (eqb b 60) (λ e. omega arith)
-    (λ e. pick-cases (λ (l : List ℕ). 1 ≤ length l) (eqb b 62) (λ e. omega arith)
-    (λ e. pick-cases (λ (l : List ℕ). 1 ≤ length l) (eqb b 34) (λ e. omega arith)
-    (λ e. pick-cases (λ (l : List ℕ). 1 ≤ length l) (eqb b 92) (λ e. omega arith)
-    (λ e. pick-cases (λ (l : List ℕ). 1 ≤ length l) (leb 32 b && leb b 126) (λ e. omega arith) (λ e. simp length-append (omega arith)))))))
+    pick_cases (λ (l : List ℕ). 1 ≤ length l) (eqb b 38) (λ e. omega arith)
+    (λ e. pick_cases (λ (l : List ℕ). 1 ≤ length l) (eqb b 60) (λ e. omega arith)
+    (λ e. pick_cases (λ (l : List ℕ). 1 ≤ length l) (eqb b 62) (λ e. omega arith)
+    (λ e. pick_cases (λ (l : List ℕ). 1 ≤ length l) (eqb b 34) (λ e. omega arith)
+    (λ e. pick_cases (λ (l : List ℕ). 1 ≤ length l) (eqb b 92) (λ e. omega arith)
+    (λ e. pick_cases (λ (l : List ℕ). 1 ≤ length l) (leb 32 b && leb b 126) (λ e. omega arith) (λ e. simp length-append (omega arith)))))))
 
 not-empty : (b : ℕ) (x : List ℕ) → [] ≡ escape b ++ x → ⊥
 not-empty b x e =

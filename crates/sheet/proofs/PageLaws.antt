@@ -9,18 +9,18 @@ use native.Mathlib.Numerals.{add-one}
 use native.Mathlib.Omega.{arith}
 use lib.ListN.{length, take, drop, length-drop, drop_of_length-le}
 use lib.Seq.{take_all, take-nil, take-append_seam}
-use Rattle.text.specs.Text.{hexOf, hexDigit, laid}
+use Rattle.text.specs.Text.{hex_of, hex_digit, laid}
 use Rattle.text.specs.Phrases.{bytes}
 use Rattle.stack.specs.declared.Table.{Table}
-use Rattle.stack.specs.Bytes.{levelBytes}
+use Rattle.stack.specs.Bytes.{level_bytes}
 use Rattle.sheet.specs.Names.{name_of}
 use Rattle.sheet.specs.Levels.{tallest, width}
 
 -- ---- names
 
 -- two digits, one after the other
-pub told-hex : (b x y : ℕ) → x ≡ hexDigit (b / 16 % 16) → y ≡ hexDigit (b % 16) → bytes "\\x" ++ (x ∷ []) ++ (y ∷ []) ≡ bytes "\\x" ++ hexOf 2 b
-unfolding hexOf bytes
+pub told-hex : (b x y : ℕ) → x ≡ hex_digit (b / 16 % 16) → y ≡ hex_digit (b % 16) → bytes "\\x" ++ (x ∷ []) ++ (y ∷ []) ≡ bytes "\\x" ++ hex_of 2 b
+unfolding hex_of bytes
 told-hex b x y e f = rw (e, f)
 
 -- a part of a list that goes no farther than the list does
@@ -49,7 +49,7 @@ part-named l k i a b m e f g = rw (← e) (go (dec_lt (24 * i) (length l)) (dec_
 
 -- ---- levels
 
-pub tallest-more : (t : Table) (l m b r : ℕ) → m ≡ tallest t l → b ≡ levelBytes t l → r ≡ max m b → r ≡ tallest t (l + 1)
+pub tallest-more : (t : Table) (l m b r : ℕ) → m ≡ tallest t l → b ≡ level_bytes t l → r ≡ max m b → r ≡ tallest t (l + 1)
 unfolding tallest
 tallest-more t l m b r e f g = g ∙ ap₂ (λ (x y : ℕ). max x y) e f ∙ ap (tallest t) (sym (add-one l))
 

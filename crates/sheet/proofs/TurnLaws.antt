@@ -8,8 +8,8 @@ use native.Mathlib.Omega.{arith}
 use lib.ListN.{length, get_or, drop, drop_of_length-le}
 use lib.Seq.{drop-cons}
 use Rattle.words.specs.Choice.{pick}
-use Rattle.words.specs.Counting.{one, countBelow, lowestBelow}
-use Rattle.words.proofs.CountingLaws.{Lowest, lowest-found, lowest-one}
+use Rattle.words.specs.Counting.{one, count_below, lowest_below}
+use Rattle.words.proofs.CountingLaws.{Lowest, lowest_found, lowest-one}
 use Rattle.text.specs.Text.{write}
 use Rattle.text.proofs.WriteLaws.{and_then, rest_of, nothing}
 use Rattle.sheet.specs.Texts.{each, down}
@@ -53,15 +53,15 @@ unfolding chosen
 chosen_more p i o r q b h e f =
     and_then o (chosen p i) (pick (p i) (i ∷ []) []) e (f ∙ ap (λ (x : Bool). write r (pick x (i ∷ []) [])) h) ∙ ap (λ (n : ℕ). write o (chosen p n)) (sym (add-one i))
 
-pub count-more : (p : ℕ → Bool) (i : ℕ) (n k : ℕ) (b : Bool) → n ≡ countBelow i p → b ≡ p i → k ≡ one b → n + k ≡ countBelow (i + 1) p
-unfolding countBelow
+pub count-more : (p : ℕ → Bool) (i : ℕ) (n k : ℕ) (b : Bool) → n ≡ count_below i p → b ≡ p i → k ≡ one b → n + k ≡ count_below (i + 1) p
+unfolding count_below
 count-more p i n k b e f g =
-    ap₂ (λ (x y : ℕ). x + y) e (g ∙ ap (λ (x : Bool). one x) f) ∙ ap (λ (n : ℕ). countBelow n p) (sym (add-one i))
+    ap₂ (λ (x y : ℕ). x + y) e (g ∙ ap (λ (x : Bool). one x) f) ∙ ap (λ (n : ℕ). count_below n p) (sym (add-one i))
 
 -- ---- the lowest that passes
 
-pub lowest-here : (p : ℕ → Bool) (i : ℕ) → i < 32 → ((j : ℕ) → j < i → p j ≡ false) → p i ≡ true → i ≡ lowestBelow 32 p
-lowest-here p i h b e = lowest-one p 32 i (lowestBelow 32 p) (record { within = omega arith; before = b; found = λ l. e }) (lowest-found 32 p)
+pub lowest_here : (p : ℕ → Bool) (i : ℕ) → i < 32 → ((j : ℕ) → j < i → p j ≡ false) → p i ≡ true → i ≡ lowest_below 32 p
+lowest_here p i h b e = lowest-one p 32 i (lowest_below 32 p) (record { within = omega arith; before = b; found = λ l. e }) (lowest_found 32 p)
 
-pub lowest-none : (p : ℕ → Bool) (i : ℕ) → i ≤ 32 → 32 ≤ i → ((j : ℕ) → j < i → p j ≡ false) → i ≡ lowestBelow 32 p
-lowest-none p i h g b = lowest-one p 32 i (lowestBelow 32 p) (record { within = h; before = b; found = λ l. absurd (omega arith) }) (lowest-found 32 p)
+pub lowest-none : (p : ℕ → Bool) (i : ℕ) → i ≤ 32 → 32 ≤ i → ((j : ℕ) → j < i → p j ≡ false) → i ≡ lowest_below 32 p
+lowest-none p i h g b = lowest-one p 32 i (lowest_below 32 p) (record { within = h; before = b; found = λ l. absurd (omega arith) }) (lowest_found 32 p)

@@ -3,8 +3,8 @@
 use Rattle.std.specs.Prelude.{ℕ, List, ◌++◌}
 use Rattle.text.specs.Phrases.{bytes}
 
-unfoldable pub documentHead : List ℕ
-documentHead =
+unfoldable pub document_head : List ℕ
+document_head =
     bytes "<!DOCTYPE html>\n"
     ++ bytes "<html xmlns=\"http://www.w3.org/1999/xhtml\" lang=\"en\" xml:lang=\"en\">\n"
     ++ bytes "<head>\n"
@@ -13,8 +13,8 @@ documentHead =
     ++ bytes "<style>\n"
 
 -- the order of its parts on the page
-unfoldable pub styleParts : List ℕ
-styleParts =
+unfoldable pub style_parts : List ℕ
+style_parts =
     bytes "body{font:9pt sans-serif;color:black;background:white;max-width:190mm;margin:0 auto;padding:4mm;display:flex;flex-direction:column}\n"
     ++ bytes "header{order:1}\n"
     ++ bytes "#stack{order:2}\n"
@@ -23,8 +23,8 @@ styleParts =
     ++ bytes "#traces{order:5}\n"
 
 -- how tables and words look
-unfoldable pub styleTables : List ℕ
-styleTables =
+unfoldable pub style_tables : List ℕ
+style_tables =
     bytes "table{border-collapse:collapse;margin:2mm 0;font-size:8pt}\n"
     ++ bytes "th,td{border:1px solid black;padding:0.5mm 1mm;text-align:left;vertical-align:top}\n"
     ++ bytes "#traces td:nth-child(2){overflow-wrap:anywhere}\n"
@@ -35,19 +35,19 @@ styleTables =
     ++ bytes "dt{font-weight:bold}\n"
 
 -- and the paper
-unfoldable pub stylePaper : List ℕ
-stylePaper =
+unfoldable pub style_paper : List ℕ
+style_paper =
     bytes "thead{display:table-header-group}\n"
     ++ bytes "tr{break-inside:avoid}\n"
     ++ bytes "@page{size:A4;margin:10mm}\n"
     ++ bytes "@media print{body{padding:0}}\n"
 
-unfoldable pub tracesHead : List ℕ
-tracesHead =
+unfoldable pub traces_head : List ℕ
+traces_head =
     bytes "</style>\n</head>\n<body>\n<section id=\"traces\">\n<h2>Traces</h2>\n<table>\n<thead>\n"
     ++ bytes "<tr><th>trace</th><th>name</th><th>steps played</th><th>steps refused</th><th>marks opened</th>"
     ++ bytes "<th>idle ends</th><th>entries left open</th><th>ending</th></tr>\n"
     ++ bytes "</thead>\n<tbody>\n"
 
-unfoldable pub pageHead : List ℕ
-pageHead = documentHead ++ styleParts ++ styleTables ++ stylePaper ++ tracesHead
+unfoldable pub page_head : List ℕ
+page_head = document_head ++ style_parts ++ style_tables ++ style_paper ++ traces_head

@@ -2,8 +2,8 @@
 use Rattle.std.specs.Prelude.{ℕ, List, ◌++◌}
 use Rattle.text.specs.Phrases.{bytes}
 
-unfoldable pub meaningFirst : List ℕ
-meaningFirst =
+unfoldable pub meaning_first : List ℕ
+meaning_first =
     bytes "<section id=\"meaning\">\n<h2>What each figure counts</h2>\n<dl>\n"
     ++ bytes "<dt>stack</dt><dd>bytes of handler and mark frames open at once. Proved of every trace counted, from reset on: neverMoreKept of stack.</dd>\n"
     ++ bytes "<dt>table kept</dt><dd>every source that is enabled has the table's priority, type and forcing, at the start and after every step; "
@@ -11,8 +11,8 @@ meaningFirst =
     ++ bytes "<dt>started</dt><dd>handlers of the source that were started, added up over the traces: startedOf of aic_waits.</dd>\n"
     ++ bytes "<dt>most seen</dt><dd>handlers of other sources started during one wait of the source, the most of any wait: waitedOf of aic_waits.</dd>\n"
 
-unfoldable pub meaningLast : List ℕ
-meaningLast =
+unfoldable pub meaning_last : List ℕ
+meaning_last =
     bytes "<dt>at most</dt><dd>handlers of other sources that can be started during one wait, the largest bound of the waits that have one: "
     ++ bytes "the sum of pending, edges, commands, turns, closed while active and remembered. No such wait saw more: everyMoment of aic_bounds.</dd>\n"
     ++ bytes "<dt>waits without a bound</dt><dd>waits during which a mode or a forcing was written; at most speaks of the others.</dd>\n"
@@ -23,4 +23,4 @@ meaningLast =
     ++ bytes "</dl>\n</section>\n</body>\n</html>\n"
 
 unfoldable pub meaning : List ℕ
-meaning = meaningFirst ++ meaningLast
+meaning = meaning_first ++ meaning_last

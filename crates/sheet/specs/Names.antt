@@ -1,13 +1,13 @@
 -- A name as the page shows it: ASCII that no reader of XML takes for markup (02, 11/12: a name may hold any byte).
 use Rattle.std.specs.Prelude.{ℕ, ◌*◌, min, ◌&&◌, List, [], ◌∷◌, ◌++◌, eqb, leb, take, drop}
 use Rattle.words.specs.Choice.{pick}
-use Rattle.text.specs.Text.{hexOf}
+use Rattle.text.specs.Text.{hex_of}
 use Rattle.text.specs.Phrases.{bytes}
 use Rattle.sheet.specs.Texts.{each}
 
 -- a byte that prints stands for itself, any other is told by its number
 unfoldable pub plain : ℕ → List ℕ
-plain b = pick (leb 32 b && leb b 126) (b ∷ []) (bytes "\\x" ++ hexOf 2 b)
+plain b = pick (leb 32 b && leb b 126) (b ∷ []) (bytes "\\x" ++ hex_of 2 b)
 
 -- but for the four that are markup, and the one that begins a number
 unfoldable pub escape : ℕ → List ℕ

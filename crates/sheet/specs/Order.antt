@@ -1,7 +1,7 @@
 -- Which sources the page shows, and in which order: normal ones ahead first, then the fast ones (01, AIC, Normal side; 003, 27.7.3.1).
 use Rattle.std.specs.Prelude.{ℕ, zero, suc, Bool, true, false, not, ◌&&◌, ◌||◌, List, [], ◌∷◌, ◌++◌, eqb, ltb, get_or}
 use Rattle.words.specs.Choice.{pick}
-use Rattle.words.specs.Counting.{countBelow}
+use Rattle.words.specs.Counting.{count_below}
 use Rattle.words.specs.Word.{bit}
 use Rattle.stack.specs.declared.Table.{Table}
 use Rattle.stack.specs.Bytes.{normal}
@@ -23,12 +23,12 @@ chosen p zero = []
 chosen p (suc n) = chosen p n ++ pick (p n) (n ∷ []) []
 
 -- those of eight levels, the highest level first
-unfoldable pub byLevel : (ℕ → ℕ → Bool) → List ℕ
-byLevel p = down (λ l. chosen (p l) 32) 8
+unfoldable pub by_level : (ℕ → ℕ → Bool) → List ℕ
+by_level p = down (λ l. chosen (p l) 32) 8
 
 -- all of them
-unfoldable pub inOrder : Table → ℕ → List ℕ
-inOrder t used = byLevel (stands t used false) ++ byLevel (stands t used true)
+unfoldable pub in_order : Table → ℕ → List ℕ
+in_order t used = by_level (stands t used false) ++ by_level (stands t used true)
 
 -- ---- what is counted of them
 
@@ -38,8 +38,8 @@ ahead t j i = ltb (get_or t.priority i 0) (get_or t.priority j 0) || (eqb (get_o
 
 -- how many normal sources that are shown are ahead of source i
 unfoldable pub ahead_of : Table → ℕ → ℕ → ℕ
-ahead_of t used i = countBelow 32 (λ j. shown t used j && (normal t j && ahead t j i))
+ahead_of t used i = count_below 32 (λ j. shown t used j && (normal t j && ahead t j i))
 
 -- how many are not shown
 unfoldable pub hidden : Table → ℕ → ℕ
-hidden t used = countBelow 32 (λ i. not (shown t used i))
+hidden t used = count_below 32 (λ i. not (shown t used i))

@@ -1,7 +1,7 @@
 -- The row of a trace: what is told of one that is counted, or the number by which it is left out (02, 11/12).
 use Rattle.std.specs.Prelude.{ℕ, Bool, List, [], ◌++◌, eqb}
 use Rattle.words.specs.Choice.{pick}
-use Rattle.steps.specs.Refusals.{carriedOut}
+use Rattle.steps.specs.Refusals.{carried_out}
 use Rattle.text.specs.Text.{field}
 use Rattle.text.specs.Phrases.{bytes, counted}
 use Rattle.totals.specs.declared.sheets.Noted.{Noted}
@@ -9,14 +9,14 @@ use Rattle.sheet.specs.Texts.{cell}
 use Rattle.sheet.specs.Names.{escaped}
 
 -- how the row of the nth name begins
-unfoldable pub rowHead : ℕ → List ℕ → List ℕ
-rowHead n name = counted (bytes "<tr><th>") n ++ bytes "</th><td>" ++ escaped name ++ bytes "</td>"
+unfoldable pub row_head : ℕ → List ℕ → List ℕ
+row_head n name = counted (bytes "<tr><th>") n ++ bytes "</th><td>" ++ escaped name ++ bytes "</td>"
 
 -- ---- a trace that is counted
 
 -- how it ended: whole, or with E, the refusal and its offset (01, House trace)
 unfoldable pub ended : ℕ → ℕ → List ℕ
-ended refusal offset = pick (eqb refusal carriedOut) (bytes "whole") (bytes "E" ++ field refusal ++ field offset)
+ended refusal offset = pick (eqb refusal carried_out) (bytes "whole") (bytes "E" ++ field refusal ++ field offset)
 
 -- that it enables nothing
 unfoldable pub enabling : ℕ → List ℕ
@@ -30,9 +30,9 @@ unfoldable pub ending : Noted → List ℕ
 ending t = bytes "<td data-figure=\"trace-ending\">" ++ ended t.refusal t.offset ++ remark t.aic t.used ++ bytes "</td></tr>\n"
 
 -- its row
-unfoldable pub traceRow : ℕ → Noted → List ℕ → List ℕ
-traceRow n t name =
-    rowHead n name ++ cell (bytes "trace-steps") t.steps (bytes "steps") ++ cell (bytes "trace-steps-refused") t.refused (bytes "steps")
+unfoldable pub trace_row : ℕ → Noted → List ℕ → List ℕ
+trace_row n t name =
+    row_head n name ++ cell (bytes "trace-steps") t.steps (bytes "steps") ++ cell (bytes "trace-steps-refused") t.refused (bytes "steps")
     ++ cell (bytes "trace-marks") t.marks (bytes "marks") ++ cell (bytes "trace-idle-ends") t.idle (bytes "ends")
     ++ cell (bytes "trace-entries-left-open") t.left (bytes "entries")
     ++ ending t
@@ -46,6 +46,6 @@ reason refusal step source =
     (pick (eqb refusal 17) (bytes "left out by 17: it could not be opened or read")
     (counted (bytes "left out by 18: after step ") step ++ counted (bytes " source ") source ++ bytes " is enabled and not as in the table"))
 
-unfoldable pub leftOutRow : ℕ → ℕ → ℕ → ℕ → List ℕ → List ℕ
-leftOutRow n refusal step source name =
-    rowHead n name ++ bytes "<td colspan=\"6\" data-figure=\"trace-left-out\">" ++ reason refusal step source ++ bytes "</td></tr>\n"
+unfoldable pub left_out_row : ℕ → ℕ → ℕ → ℕ → List ℕ → List ℕ
+left_out_row n refusal step source name =
+    row_head n name ++ bytes "<td colspan=\"6\" data-figure=\"trace-left-out\">" ++ reason refusal step source ++ bytes "</td></tr>\n"

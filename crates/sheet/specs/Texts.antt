@@ -16,12 +16,12 @@ unfoldable pub cell_of : List ℕ → ℕ → List ℕ
 cell_of figure i = bytes "<td data-figure=\"" ++ figure ++ counted (bytes "\" data-source=\"") i ++ bytes "\">"
 
 -- that cell
-unfoldable pub sourceCell : List ℕ → ℕ → ℕ → List ℕ → List ℕ
-sourceCell figure i n unit = cell_of figure i ++ amount n unit ++ bytes "</td>"
+unfoldable pub source_cell : List ℕ → ℕ → ℕ → List ℕ → List ℕ
+source_cell figure i n unit = cell_of figure i ++ amount n unit ++ bytes "</td>"
 
 -- the same where there is nothing to count
-unfoldable pub emptyCell : List ℕ → ℕ → List ℕ
-emptyCell figure i = cell_of figure i ++ bytes "-</td>"
+unfoldable pub empty_cell : List ℕ → ℕ → List ℕ
+empty_cell figure i = cell_of figure i ++ bytes "-</td>"
 
 -- what f makes of every element, in their order
 unfoldable pub each : (ℕ → List ℕ) → List ℕ → List ℕ

@@ -2,7 +2,7 @@
 ghost use Rattle.std.specs.Prelude.{◌≡◌};
 ghost use Rattle.text.specs.Text.{write};
 ghost use Rattle.text.specs.Phrases.{counted};
-ghost use Rattle.sheet.specs.Texts.{amount, cell, cell_of, sourceCell, emptyCell};
+ghost use Rattle.sheet.specs.Texts.{amount, cell, cell_of, source_cell, empty_cell};
 
 // A number behind words.
 pub(crate) fn put_number(out: &mut [u8], at: usize, words: &[u8], n: u64) -> usize
@@ -51,7 +51,7 @@ pub(crate) fn put_source_cell(
     n: u32,
     unit: &[u8],
 ) -> usize
-    ensures { (out.new, result) ≡ write (out.old, at) (sourceCell figure.now i n unit.now) }
+    ensures { (out.new, result) ≡ write (out.old, at) (source_cell figure.now i n unit.now) }
 {
     let a = put_cell_of(out, at, figure, i);
     let b = put_amount(out, a, n as u64, unit);
@@ -60,7 +60,7 @@ pub(crate) fn put_source_cell(
 
 // The same where there is nothing to count.
 pub(crate) fn put_empty_cell(out: &mut [u8], at: usize, figure: &[u8], i: u32) -> usize
-    ensures { (out.new, result) ≡ write (out.old, at) (emptyCell figure.now i) }
+    ensures { (out.new, result) ≡ write (out.old, at) (empty_cell figure.now i) }
 {
     let a = put_cell_of(out, at, figure, i);
     text::put_all(out, a, b"-</td>")

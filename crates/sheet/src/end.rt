@@ -2,17 +2,17 @@
 ghost use Rattle.std.specs.Prelude.{◌≡◌};
 ghost use Rattle.text.specs.Text.{write};
 ghost use Rattle.sheet.specs.End.{
-  headRow,
-  outRow,
-  tracesNamed,
+  head_row,
+  out_row,
+  traces_named,
   sums,
-  headPart,
-  sourcesHead,
-  waitsHead,
-  hiddenLine,
-  sourcesOf,
-  sourcesPart,
-  pageEnd,
+  head_part,
+  sources_head,
+  waits_head,
+  hidden_line,
+  sources_of,
+  sources_part,
+  page_end,
 };
 
 use super::{cells, levels, meaning, order, sources};
@@ -27,7 +27,7 @@ pub(crate) fn put_page(
     lengths: [u32; 32],
     s: Sheet,
 ) -> usize
-    ensures { (out.new, result) ≡ write (out.old, at) (pageEnd t names.now lengths s) }
+    ensures { (out.new, result) ≡ write (out.old, at) (page_end t names.now lengths s) }
 {
     let a = put_head(out, at, s);
     let b = levels::put_stack(out, a, t, names, lengths);
@@ -38,7 +38,7 @@ pub(crate) fn put_page(
 // ---- the head of the page
 
 fn put_head(out: &mut [u8], at: usize, s: Sheet) -> usize
-    ensures { (out.new, result) ≡ write (out.old, at) (headPart s) }
+    ensures { (out.new, result) ≡ write (out.old, at) (head_part s) }
 {
     let a = text::put_all(
         out,
@@ -52,7 +52,7 @@ fn put_head(out: &mut [u8], at: usize, s: Sheet) -> usize
 
 // The traces named and left out.
 fn put_traces(out: &mut [u8], at: usize, s: Sheet) -> usize
-    ensures { (out.new, result) ≡ write (out.old, at) (tracesNamed s) }
+    ensures { (out.new, result) ≡ write (out.old, at) (traces_named s) }
 {
     let left = s.full as u64 + s.unopened as u64 + s.unkept as u64;
     let a = put_row(
@@ -131,7 +131,7 @@ fn put_sums(out: &mut [u8], at: usize, s: Sheet) -> usize
 }
 
 fn put_row(out: &mut [u8], at: usize, words: &[u8], figure: &[u8], n: u64, unit: &[u8]) -> usize
-    ensures { (out.new, result) ≡ write (out.old, at) (headRow words.now figure.now n unit.now) }
+    ensures { (out.new, result) ≡ write (out.old, at) (head_row words.now figure.now n unit.now) }
 {
     let a = text::put_all(out, at, b"<tr><th>");
     let b = text::put_all(out, a, words);
@@ -141,7 +141,7 @@ fn put_row(out: &mut [u8], at: usize, words: &[u8], figure: &[u8], n: u64, unit:
 }
 
 fn put_out(out: &mut [u8], at: usize, words: &[u8], n: u32) -> usize
-    ensures { (out.new, result) ≡ write (out.old, at) (outRow words.now n) }
+    ensures { (out.new, result) ≡ write (out.old, at) (out_row words.now n) }
 {
     let a = text::put_all(out, at, b"<tr><th>left out by ");
     let b = text::put_all(out, a, words);
@@ -159,7 +159,7 @@ fn put_sources(
     lengths: [u32; 32],
     s: Sheet,
 ) -> usize
-    ensures { (out.new, result) ≡ write (out.old, at) (sourcesPart t names.now lengths s) }
+    ensures { (out.new, result) ≡ write (out.old, at) (sources_part t names.now lengths s) }
 {
     let mut room = [0u8; 32];
     let n = order::put_order(&mut room, t, s.used);
@@ -176,7 +176,7 @@ fn put_ordered(
     lengths: [u32; 32],
     s: Sheet,
 ) -> usize
-    ensures { (out.new, result) ≡ write (out.old, at) (sourcesOf is.now t names.now lengths s) }
+    ensures { (out.new, result) ≡ write (out.old, at) (sources_of is.now t names.now lengths s) }
 {
     let a = put_sources_head(out, at);
     let b = sources::put_sources(out, a, is, t, names, lengths, s);
@@ -188,7 +188,7 @@ fn put_ordered(
 }
 
 fn put_sources_head(out: &mut [u8], at: usize) -> usize
-    ensures { (out.new, result) ≡ write (out.old, at) sourcesHead }
+    ensures { (out.new, result) ≡ write (out.old, at) sources_head }
 {
     text::put_all(
         out,
@@ -201,7 +201,7 @@ fn put_sources_head(out: &mut [u8], at: usize) -> usize
 }
 
 fn put_waits_head(out: &mut [u8], at: usize) -> usize
-    ensures { (out.new, result) ≡ write (out.old, at) waitsHead }
+    ensures { (out.new, result) ≡ write (out.old, at) waits_head }
 {
     text::put_all(
         out,
@@ -214,7 +214,7 @@ fn put_waits_head(out: &mut [u8], at: usize) -> usize
 }
 
 fn put_hidden(out: &mut [u8], at: usize, t: Table, used: u32) -> usize
-    ensures { (out.new, result) ≡ write (out.old, at) (hiddenLine t used) }
+    ensures { (out.new, result) ≡ write (out.old, at) (hidden_line t used) }
 {
     let n = order::hidden(t, used);
     let a = text::put_all(

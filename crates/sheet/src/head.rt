@@ -1,11 +1,11 @@
 // How the page begins.
 ghost use Rattle.std.specs.Prelude.{◌≡◌, ◌++◌};
 ghost use Rattle.text.specs.Text.{write};
-ghost use Rattle.sheet.specs.Head.{documentHead, styleParts, pageHead};
+ghost use Rattle.sheet.specs.Head.{document_head, style_parts, page_head};
 
 // A constant for each part: every call has its price in the check.
 pub(crate) fn put_page(out: &mut [u8], at: usize) -> usize
-    ensures { (out.new, result) ≡ write (out.old, at) pageHead }
+    ensures { (out.new, result) ≡ write (out.old, at) page_head }
 {
     let a = put_start(out, at);
     let b = text::put_all(
@@ -40,7 +40,7 @@ pub(crate) fn put_page(out: &mut [u8], at: usize) -> usize
 
 // Up to the order of the parts.
 fn put_start(out: &mut [u8], at: usize) -> usize
-    ensures { (out.new, result) ≡ write (out.old, at) (documentHead ++ styleParts) }
+    ensures { (out.new, result) ≡ write (out.old, at) (document_head ++ style_parts) }
 {
     let a = text::put_all(
         out,

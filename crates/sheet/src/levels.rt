@@ -1,9 +1,9 @@
 // The stack on the page: what all levels need, a bar and a row for each level, and whose frame it is (02, 4/12).
 ghost use Rattle.std.specs.Prelude.{◌≡◌, ◌<◌};
 ghost use Rattle.text.specs.Text.{write};
-ghost use Rattle.stack.specs.Bytes.{levelBytes, stackBytes};
+ghost use Rattle.stack.specs.Bytes.{level_bytes, stack_bytes};
 ghost use Rattle.sheet.specs.Texts.{down};
-ghost use Rattle.sheet.specs.Levels.{tallest, width, bar, owns, owner, called, whose, levelRow, figure, bars, levels, stackPart};
+ghost use Rattle.sheet.specs.Levels.{tallest, width, bar, owns, owner, called, whose, level_row, figure, bars, levels, stack_part};
 
 use super::{cells, escapes, order};
 use stack::Table;
@@ -15,7 +15,7 @@ pub(crate) fn put_stack(
     names: &[u8],
     lengths: [u32; 32],
 ) -> usize
-    ensures { (out.new, result) ≡ write (out.old, at) (stackPart t names.now lengths) }
+    ensures { (out.new, result) ≡ write (out.old, at) (stack_part t names.now lengths) }
 {
     let a = put_figure(out, at, t);
     let b = put_bars(out, a, t);
@@ -55,7 +55,7 @@ fn put_bars(out: &mut [u8], at: usize, t: Table) -> usize
 }
 
 fn put_eight(out: &mut [u8], at: usize, t: Table) -> usize
-    ensures { (out.new, result) ≡ write (out.old, at) (down (λ l. bar (tallest t 8) (levelBytes t l) l) 8) }
+    ensures { (out.new, result) ≡ write (out.old, at) (down (λ l. bar (tallest t 8) (level_bytes t l) l) 8) }
 {
     let most = tallest(t);
     let mut next = at;
@@ -113,7 +113,7 @@ fn put_levels(out: &mut [u8], at: usize, t: Table, names: &[u8], lengths: [u32; 
 }
 
 fn put_rows(out: &mut [u8], at: usize, t: Table, names: &[u8], lengths: [u32; 32]) -> usize
-    ensures { (out.new, result) ≡ write (out.old, at) (down (levelRow t names.now lengths) 8) }
+    ensures { (out.new, result) ≡ write (out.old, at) (down (level_row t names.now lengths) 8) }
 {
     let mut next = at;
     let mut l: u32 = 8;
@@ -125,7 +125,7 @@ fn put_rows(out: &mut [u8], at: usize, t: Table, names: &[u8], lengths: [u32; 32
 }
 
 fn put_row(out: &mut [u8], at: usize, t: Table, names: &[u8], lengths: [u32; 32], l: u32) -> usize
-    ensures { (out.new, result) ≡ write (out.old, at) (levelRow t names.now lengths l) }
+    ensures { (out.new, result) ≡ write (out.old, at) (level_row t names.now lengths l) }
 {
     let n = stack::level_bytes(t, l);
     let a = text::phrases::put_counted(out, at, b"<tr><th>level ", l);
@@ -212,7 +212,7 @@ fn tallest(t: Table) -> u32
 
 // What all levels need together, for any table.
 fn all_levels(t: Table) -> u64
-    ensures { result ≡ stackBytes t }
+    ensures { result ≡ stack_bytes t }
 {
     let mut sum: u64 = 0;
     let mut l: u32 = 0;

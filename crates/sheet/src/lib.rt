@@ -5,9 +5,9 @@ ghost use Rattle.text.specs.Text.{laid};
 ghost use Rattle.stack.specs.declared.Table.{Table as Priorities};
 ghost use Rattle.totals.specs.declared.sheets.Noted.{Noted as Figures};
 ghost use Rattle.totals.specs.declared.sheets.Sheet.{Sheet as Sums};
-ghost use Rattle.sheet.specs.Head.{pageHead};
-ghost use Rattle.sheet.specs.Rows.{traceRow, leftOutRow};
-ghost use Rattle.sheet.specs.End.{pageEnd};
+ghost use Rattle.sheet.specs.Head.{page_head};
+ghost use Rattle.sheet.specs.Rows.{trace_row, left_out_row};
+ghost use Rattle.sheet.specs.End.{page_end};
 
 mod cells;
 mod end;
@@ -24,14 +24,14 @@ use totals::sheets::{Noted, Sheet};
 
 // How the page begins.
 pub fn put_head(out: &mut [u8]) -> usize
-    ensures { (out.new, result) ≡ laid out.old pageHead }
+    ensures { (out.new, result) ≡ laid out.old page_head }
 {
     head::put_page(out, 0)
 }
 
 // The row of the nth name, of a trace that is counted.
 pub fn put_trace(out: &mut [u8], n: u32, t: Noted, name: &[u8]) -> usize
-    ensures { (out.new, result) ≡ laid out.old (traceRow n t name.now) }
+    ensures { (out.new, result) ≡ laid out.old (trace_row n t name.now) }
 {
     rows::put_counted(out, 0, n, t, name)
 }
@@ -45,14 +45,14 @@ pub fn put_left_out(
     source: u32,
     name: &[u8],
 ) -> usize
-    ensures { (out.new, result) ≡ laid out.old (leftOutRow n refusal step source name.now) }
+    ensures { (out.new, result) ≡ laid out.old (left_out_row n refusal step source name.now) }
 {
     rows::put_out(out, 0, n, refusal, step, source, name)
 }
 
 // How the page ends: of the table, the names of its sources, 24 bytes apart, their lengths, and the figures of all traces.
 pub fn put_end(out: &mut [u8], t: Table, names: &[u8; 768], lengths: [u32; 32], s: Sheet) -> usize
-    ensures { (out.new, result) ≡ laid out.old (pageEnd t names.now lengths s) }
+    ensures { (out.new, result) ≡ laid out.old (page_end t names.now lengths s) }
 {
     end::put_page(out, 0, t, names, lengths, s)
 }
@@ -62,7 +62,7 @@ pub fn put_end(out: &mut [u8], t: Table, names: &[u8; 768], lengths: [u32; 32], 
 // Room for the beginning.
 pub fn head_room() -> [u8; 1400]
     ensures value { 1400 ≡ length result }
-    ensures any { length pageHead ≤ length result }
+    ensures any { length page_head ≤ length result }
 {
     [0; 1400]
 }
@@ -70,7 +70,7 @@ pub fn head_room() -> [u8; 1400]
 // Room for the row of any name of at most 4,096 bytes.
 pub fn row_room() -> [u8; 25060]
     ensures value { 25060 ≡ length result }
-    ensures any { (n refusal step source : ℕ) (t : Figures) (name : List ℕ) → length name ≤ 4096 → (length (traceRow n t name) ≤ length result) × (length (leftOutRow n refusal step source name) ≤ length result) }
+    ensures any { (n refusal step source : ℕ) (t : Figures) (name : List ℕ) → length name ≤ 4096 → (length (trace_row n t name) ≤ length result) × (length (left_out_row n refusal step source name) ≤ length result) }
 {
     [0; 25060]
 }
@@ -78,7 +78,7 @@ pub fn row_room() -> [u8; 25060]
 // Room for the end of any page.
 pub fn end_room() -> [u8; 81000]
     ensures value { 81000 ≡ length result }
-    ensures any { (t : Priorities) (names lengths : List ℕ) (s : Sums) → length (pageEnd t names lengths s) ≤ length result }
+    ensures any { (t : Priorities) (names lengths : List ℕ) (s : Sums) → length (page_end t names lengths s) ≤ length result }
 {
     [0; 81000]
 }

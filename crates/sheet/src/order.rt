@@ -3,13 +3,13 @@ ghost use Rattle.std.specs.Prelude.{◌≡◌, Bool, true, false, not, ◌&&◌,
 ghost use Rattle.words.specs.Choice.{pick};
 ghost use Rattle.text.specs.Text.{write, laid};
 ghost use Rattle.stack.specs.Bytes.{normal};
-ghost use Rattle.sheet.specs.Order.{shown, stands, chosen, byLevel, inOrder, ahead, ahead_of, hidden};
+ghost use Rattle.sheet.specs.Order.{shown, stands, chosen, by_level, in_order, ahead, ahead_of, hidden};
 
 use stack::Table;
 
 // The numbers of the sources shown, a byte each, from the start of the buffer on; answers how many.
 pub(crate) fn put_order(out: &mut [u8], t: Table, used: u32) -> usize
-    ensures { (out.new, result) ≡ laid out.old (inOrder t used) }
+    ensures { (out.new, result) ≡ laid out.old (in_order t used) }
 {
     let a = put_levels(out, 0, t, used, false);
     put_levels(out, a, t, used, true)
@@ -17,7 +17,7 @@ pub(crate) fn put_order(out: &mut [u8], t: Table, used: u32) -> usize
 
 // Those that are fast, or normal, by level.
 fn put_levels(out: &mut [u8], at: usize, t: Table, used: u32, fast: bool) -> usize
-    ensures { (out.new, result) ≡ write (out.old, at) (byLevel (stands t used fast)) }
+    ensures { (out.new, result) ≡ write (out.old, at) (by_level (stands t used fast)) }
 {
     let mut next = at;
     let mut l: u32 = 8;

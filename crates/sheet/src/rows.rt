@@ -1,14 +1,14 @@
 // The row of a trace.
 ghost use Rattle.std.specs.Prelude.{◌≡◌};
 ghost use Rattle.text.specs.Text.{write};
-ghost use Rattle.sheet.specs.Rows.{rowHead, ended, enabling, remark, ending, traceRow, reason, leftOutRow};
+ghost use Rattle.sheet.specs.Rows.{row_head, ended, enabling, remark, ending, trace_row, reason, left_out_row};
 
 use super::{cells, escapes};
 use totals::sheets::Noted;
 
 // Of a trace that is counted.
 pub(crate) fn put_counted(out: &mut [u8], at: usize, n: u32, t: Noted, name: &[u8]) -> usize
-    ensures { (out.new, result) ≡ write (out.old, at) (traceRow n t name.now) }
+    ensures { (out.new, result) ≡ write (out.old, at) (trace_row n t name.now) }
 {
     let a = put_row_head(out, at, n, name);
     let b = cells::put_cell(out, a, b"trace-steps", t.steps as u64, b"steps");
@@ -35,7 +35,7 @@ pub(crate) fn put_out(
     source: u32,
     name: &[u8],
 ) -> usize
-    ensures { (out.new, result) ≡ write (out.old, at) (leftOutRow n refusal step source name.now) }
+    ensures { (out.new, result) ≡ write (out.old, at) (left_out_row n refusal step source name.now) }
 {
     let a = put_row_head(out, at, n, name);
     let b = text::put_all(out, a, b"<td colspan=\"6\" data-figure=\"trace-left-out\">");
@@ -44,7 +44,7 @@ pub(crate) fn put_out(
 }
 
 fn put_row_head(out: &mut [u8], at: usize, n: u32, name: &[u8]) -> usize
-    ensures { (out.new, result) ≡ write (out.old, at) (rowHead n name.now) }
+    ensures { (out.new, result) ≡ write (out.old, at) (row_head n name.now) }
 {
     let a = text::phrases::put_counted(out, at, b"<tr><th>", n);
     let b = text::put_all(out, a, b"</th><td>");

@@ -6,21 +6,21 @@ ghost use Rattle.text.specs.Phrases.{bytes};
 ghost use Rattle.sheet.specs.Texts.{each};
 ghost use Rattle.sheet.specs.Names.{escaped, name_of};
 ghost use Rattle.sheet.specs.Sources.{
-  sourceHead,
+  source_head,
   typed,
   tabled,
-  aheadCell,
+  ahead_cell,
   bounded,
-  boundOf,
+  bound_of,
   most,
   others,
   waited,
   first,
   term,
-  startedCells,
-  sourceRow,
+  started_cells,
+  source_row,
   terms,
-  waitsRow,
+  waits_row,
 };
 
 use super::{cells, escapes, order};
@@ -40,7 +40,7 @@ pub(crate) fn put_sources(
     lengths: [u32; 32],
     s: Sheet,
 ) -> usize
-    ensures { (out.new, result) ≡ write (out.old, at) (each (sourceRow t names.now lengths s) is.now) }
+    ensures { (out.new, result) ≡ write (out.old, at) (each (source_row t names.now lengths s) is.now) }
 {
     let mut next = at;
     let mut k: usize = 0;
@@ -53,7 +53,7 @@ pub(crate) fn put_sources(
 
 // Their rows in the table of waits.
 pub(crate) fn put_waits(out: &mut [u8], at: usize, is: &[u8], w: Waits, trace: [u32; 32]) -> usize
-    ensures { (out.new, result) ≡ write (out.old, at) (each (waitsRow w trace) is.now) }
+    ensures { (out.new, result) ≡ write (out.old, at) (each (waits_row w trace) is.now) }
 {
     let mut next = at;
     let mut k: usize = 0;
@@ -73,7 +73,7 @@ fn put_source(
     s: Sheet,
     i: u32,
 ) -> usize
-    ensures { (out.new, result) ≡ write (out.old, at) (sourceRow t names.now lengths s i) }
+    ensures { (out.new, result) ≡ write (out.old, at) (source_row t names.now lengths s i) }
 {
     let k = order::word_at(lengths, i);
     let priority = t.priority;
@@ -90,7 +90,7 @@ fn put_source(
 }
 
 fn put_wait(out: &mut [u8], at: usize, w: Waits, trace: [u32; 32], i: u32) -> usize
-    ensures { (out.new, result) ≡ write (out.old, at) (waitsRow w trace i) }
+    ensures { (out.new, result) ≡ write (out.old, at) (waits_row w trace i) }
 {
     let unended = w.unended;
     let e = order::word_at(unended, i);
@@ -115,7 +115,7 @@ fn put_wait(out: &mut [u8], at: usize, w: Waits, trace: [u32; 32], i: u32) -> us
 // ---- what the table says of a source
 
 fn put_source_head(out: &mut [u8], at: usize, names: &[u8], k: u32, i: u32) -> usize
-    ensures { (out.new, result) ≡ write (out.old, at) (sourceHead names.now k i) }
+    ensures { (out.new, result) ≡ write (out.old, at) (source_head names.now k i) }
 {
     let a = text::phrases::put_counted(out, at, b"<tr><th>source ", i);
     let b = text::put_all(out, a, b"</th><td>");
@@ -159,7 +159,7 @@ fn put_typed(out: &mut [u8], at: usize, kind: u32) -> usize
 }
 
 fn put_ahead(out: &mut [u8], at: usize, t: Table, used: u32, i: u32) -> usize
-    ensures { (out.new, result) ≡ write (out.old, at) (aheadCell t used i) }
+    ensures { (out.new, result) ≡ write (out.old, at) (ahead_cell t used i) }
 {
     if order::is_normal(t, i) {
         let n = order::ahead_of(t, used, i);
@@ -171,7 +171,7 @@ fn put_ahead(out: &mut [u8], at: usize, t: Table, used: u32, i: u32) -> usize
 // ---- what the traces say of it
 
 fn put_started(out: &mut [u8], at: usize, s: Sheet, i: u32) -> usize
-    ensures { (out.new, result) ≡ write (out.old, at) (startedCells s i) }
+    ensures { (out.new, result) ≡ write (out.old, at) (started_cells s i) }
 {
     let w = s.waits;
     let f = s.figures;
@@ -286,7 +286,7 @@ fn bounded(begun: u32, unbounded: u32) -> bool
 
 // The sum of the six terms.
 fn bound_of(w: Waits, i: u32) -> u64
-    ensures { result ≡ boundOf w i }
+    ensures { result ≡ bound_of w i }
 {
     let pending = w.pending;
     let p = order::word_at(pending, i);

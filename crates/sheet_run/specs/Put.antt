@@ -2,7 +2,7 @@
 use Rattle.std.specs.Prelude.{ℕ, ◌≡◌, List, [], ◌∷◌}
 use Rattle.stack.specs.declared.Table.{Table}
 use Rattle.totals.specs.declared.sheets.Sheet.{Sheet}
-use Rattle.totals.specs.Sheet.{added, leftUnopened}
+use Rattle.totals.specs.Sheet.{added, left_unopened}
 use Rattle.sheet_traces.specs.Noted.{note_of}
 
 -- what comes of a name: its file cannot be opened or read, or it holds these bytes
@@ -11,14 +11,14 @@ pub data Named : Type 0 where
   holds : List ℕ → Named
 
 -- the sheet with one name more: of a trace at most 20,000 steps are played, as of a listing
-unfoldable pub putOne : Table → Sheet → Named → Sheet
-putOne t s shut = leftUnopened s
-putOne t s (holds bytes) = (added s (note_of bytes 20000 t)).sheet
+unfoldable pub put_one : Table → Sheet → Named → Sheet
+put_one t s shut = left_unopened s
+put_one t s (holds bytes) = (added s (note_of bytes 20000 t)).sheet
 
 -- with names, the first one first
 unfoldable pub put_all : Table → Sheet → List Named → Sheet
 put_all t s [] = s
-put_all t s (x ∷ xs) = put_all t (putOne t s x) xs
+put_all t s (x ∷ xs) = put_all t (put_one t s x) xs
 
 -- u is s with some names put to it: what comes of them no contract can say, since none says what is read of files
 pub record Put (t : Table) (s u : Sheet) : Type 0 where

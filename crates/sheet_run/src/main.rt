@@ -2,7 +2,7 @@
 // beginning comes first, a row for each name as its trace is played, then all the rest. Of a table that is refused there is no page: one line on standard error
 // says why; so it does where the table or the names cannot be read, or the page cannot be written.
 ghost use Rattle.std.specs.Prelude.{◌≡◌, List, ℕ, ◌≤◌, length};
-ghost use Rattle.tables.specs.Slips.{slipLine};
+ghost use Rattle.tables.specs.Slips.{slip_line};
 
 mod held;
 mod names;
@@ -88,7 +88,7 @@ fn end(text: &[u8], t: Table, sum: Sum) -> bool {
 // A buffer that any line of a slip fits.
 fn slip_room() -> [u8; 85]
     ensures value { 85 ≡ length result }
-    ensures any { (s : List ℕ) → length (slipLine s) ≤ length result }
+    ensures any { (s : List ℕ) → length (slip_line s) ≤ length result }
 {
     [0; 85]
 }

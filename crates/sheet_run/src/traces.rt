@@ -2,7 +2,7 @@
 ghost use Rattle.std.specs.Prelude.{◌≡◌, eqb};
 ghost use Rattle.words.specs.Choice.{pick};
 ghost use Rattle.text.specs.Text.{laid};
-ghost use Rattle.sheet.specs.Rows.{traceRow, leftOutRow};
+ghost use Rattle.sheet.specs.Rows.{trace_row, left_out_row};
 ghost use Rattle.totals.specs.Sheet.{added};
 ghost use Rattle.sheet_traces.specs.Noted.{note_of};
 ghost use Rattle.sheet_run.specs.Put.{Put};
@@ -64,7 +64,7 @@ fn print_row(n: u32, t: Noted, refusal: u32, name: &[u8]) -> bool {
 
 // Its figures where it is counted, else the refusal by which it is left out.
 fn put_row(out: &mut [u8], n: u32, t: Noted, refusal: u32, name: &[u8]) -> usize
-    ensures { (out.new, result) ≡ laid out.old (pick (eqb refusal 0) (traceRow n t name.now) (leftOutRow n refusal t.astray t.strays name.now)) }
+    ensures { (out.new, result) ≡ laid out.old (pick (eqb refusal 0) (trace_row n t name.now) (left_out_row n refusal t.astray t.strays name.now)) }
 {
     if refusal == steps::CARRIED_OUT {
         return sheet::put_trace(out, n, t, name);

@@ -5,7 +5,7 @@ use Rattle.words.specs.Word.{either}
 use Rattle.steps.specs.declared.Step.{Step}
 use Rattle.steps.specs.declared.Step.TheVariants.{Read, Write, Line}
 use Rattle.aic_record.specs.declared.Aic.{Aic}
-use Rattle.aic_record.specs.Sound.{sourceAt}
+use Rattle.aic_record.specs.Sound.{source_at}
 use Rattle.aic_registers.specs.Map.{eoicr}
 use Rattle.aic.specs.Model.{step}
 use Rattle.aic_runs.specs.Counted.{carried}
@@ -15,38 +15,38 @@ use Rattle.stack.specs.Kept.{keeps, unkept}
 use Rattle.sheet_traces.specs.declared.Watched.{Watched}
 
 -- the step opens an entry, and it is a mark: one of source 0 (02, 3/12; 003, 27.7.5)
-unfoldable pub opensMark : Aic → Step → Bool
-opensMark s x = ltb s.depth (step s x).aic.depth && eqb (sourceAt (step s x).aic s.depth) 0
+unfoldable pub opens_mark : Aic → Step → Bool
+opens_mark s x = ltb s.depth (step s x).aic.depth && eqb (source_at (step s x).aic s.depth) 0
 
 -- an end of interrupt that finds no entry open: a write of EOICR that is carried out, of any value (01, AIC, Normal side; 003, 27.8.15)
-unfoldable pub idleEnd : Aic → Step → Bool
-idleEnd s (Read o) = false
-idleEnd s (Write o v) = carried s (Write o v) && eqb o eoicr && eqb s.depth 0
-idleEnd s (Line k l) = false
+unfoldable pub idle_end : Aic → Step → Bool
+idle_end s (Read o) = false
+idle_end s (Write o v) = carried s (Write o v) && eqb o eoicr && eqb s.depth 0
+idle_end s (Line k l) = false
 
 -- the sources that are enabled in some record of a run, the first and the last among them
-unfoldable pub usedIn : Aic → List Step → ℕ
-usedIn s [] = s.enabled
-usedIn s (x ∷ xs) = either s.enabled (usedIn (step s x).aic xs)
+unfoldable pub used_in : Aic → List Step → ℕ
+used_in s [] = s.enabled
+used_in s (x ∷ xs) = either s.enabled (used_in (step s x).aic xs)
 
 -- the lowest source that does not keep the table in the first record that does not, 32 where every record does
-unfoldable pub straysIn : Table → Aic → List Step → ℕ
-straysIn t s [] = unkept t s
-straysIn t s (x ∷ xs) = pick (keeps t s) (straysIn t (step s x).aic xs) (unkept t s)
+unfoldable pub strays_in : Table → Aic → List Step → ℕ
+strays_in t s [] = unkept t s
+strays_in t s (x ∷ xs) = pick (keeps t s) (strays_in t (step s x).aic xs) (unkept t s)
 
 -- the step after which that is, n steps having gone before: 0 for the start, and where every record does
-unfoldable pub astrayFrom : Table → ℕ → Aic → List Step → ℕ
-astrayFrom t n s [] = pick (keeps t s) 0 n
-astrayFrom t n s (x ∷ xs) = pick (keeps t s) (astrayFrom t (n + 1) (step s x).aic xs) n
+unfoldable pub astray_from : Table → ℕ → Aic → List Step → ℕ
+astray_from t n s [] = pick (keeps t s) 0 n
+astray_from t n s (x ∷ xs) = pick (keeps t s) (astray_from t (n + 1) (step s x).aic xs) n
 
 -- all of it: marks, ends, entries, sources, a source, a step
-unfoldable pub watchedIn : Table → Aic → List Step → Watched
-watchedIn t s xs =
+unfoldable pub watched_in : Table → Aic → List Step → Watched
+watched_in t s xs =
     record {
-      marks = count opensMark s xs;
-      idle = count idleEnd s xs;
+      marks = count opens_mark s xs;
+      idle = count idle_end s xs;
       left = (run s xs).depth;
-      used = usedIn s xs;
-      strays = straysIn t s xs;
-      astray = astrayFrom t 0 s xs;
+      used = used_in s xs;
+      strays = strays_in t s xs;
+      astray = astray_from t 0 s xs;
     }

@@ -1,30 +1,30 @@
 // What the tuning sheet takes from one trace: its figures, and of an AIC what was seen of it over the steps played (02, 4/12, 11/12 and 12/12).
 ghost use Rattle.std.specs.Prelude.{◌≡◌, true, false, ℕ, ◌≤◌, ◌<◌, eqb, length};
 ghost use Rattle.words.specs.Choice.{pick};
-ghost use Rattle.steps.specs.Refusals.{carriedOut};
+ghost use Rattle.steps.specs.Refusals.{carried_out};
 ghost use Rattle.steps.specs.declared.Step.{Step};
-ghost use Rattle.trace.specs.Trace.{turnAt, stepsFrom};
+ghost use Rattle.trace.specs.Trace.{turn_at, steps_from};
 ghost use Rattle.trace.specs.Turns.{step_of, turn_of};
-ghost use Rattle.kinds.specs.Kinds.{aicKind};
+ghost use Rattle.kinds.specs.Kinds.{aic_kind};
 ghost use Rattle.aic_record.specs.declared.Aic.{Aic as Record};
 ghost use Rattle.aic_record.specs.Sound.{sound};
 ghost use Rattle.aic_record.specs.Promises.{Shaped};
 ghost use Rattle.aic.specs.Model.{step};
 ghost use Rattle.aic_waits.specs.Following.{Figures};
 ghost use Rattle.aic_figures.specs.Book.{Kept as Counted};
-ghost use Rattle.aic_bounds.specs.Following.{noMarks};
+ghost use Rattle.aic_bounds.specs.Following.{no_marks};
 ghost use Rattle.aic_bounds.specs.declared.figures.Figures.{Figures as Bounds};
 ghost use Rattle.aic_figures.specs.WaitsBook.{Kept};
-ghost use Rattle.aic_figures.specs.Waits.{waitsNow};
+ghost use Rattle.aic_figures.specs.Waits.{waits_now};
 ghost use Rattle.aic_room.specs.Room.{Laid};
 ghost use Rattle.stack.specs.Kept.{unkept};
-ghost use Rattle.beginning.specs.Begin.{beginOf};
-ghost use Rattle.tally.specs.Tally.{stepsIn};
-ghost use Rattle.tally.specs.Following.{totalsOf};
-ghost use Rattle.sheet_traces.specs.Watched.{opensMark, idleEnd};
-ghost use Rattle.sheet_traces.specs.Following.{watchedFirst, watchedBy, Met};
-ghost use Rattle.sheet_traces.specs.Noted.{playedIn, noted, unseen, note_of};
-ghost use Rattle.totals.specs.Waits.{noWaits};
+ghost use Rattle.beginning.specs.Begin.{begin_of};
+ghost use Rattle.tally.specs.Tally.{steps_in};
+ghost use Rattle.tally.specs.Following.{totals_of};
+ghost use Rattle.sheet_traces.specs.Watched.{opens_mark, idle_end};
+ghost use Rattle.sheet_traces.specs.Following.{watched_first, watched_by, Met};
+ghost use Rattle.sheet_traces.specs.Noted.{played_in, noted, unseen, note_of};
+ghost use Rattle.totals.specs.Waits.{no_waits};
 
 use aic_bounds::Marks;
 use aic_record::Aic;
@@ -60,7 +60,7 @@ pub struct Played {
 
 // Whether a step, before which so many entries were open, opened a mark.
 fn opened_mark(room: &Room, before: u32) -> bool
-    ensures { (s : Record) (x : Step) → sound s ≡ true → Shaped s → Laid (step s x).aic room.now → before ≡ s.depth → result ≡ opensMark s x }
+    ensures { (s : Record) (x : Step) → sound s ≡ true → Shaped s → Laid (step s x).aic room.now → before ≡ s.depth → result ≡ opens_mark s x }
 {
     if room[aic_room::layout::DEPTH] <= before {
         return false;
@@ -70,14 +70,14 @@ fn opened_mark(room: &Room, before: u32) -> bool
 
 // Whether a step that was carried out is an end of interrupt that found no entry open.
 fn is_idle(carried: bool, kind: u32, x: u32, before: u32) -> bool
-    ensures { (s : Record) (y : ℕ) → carried ≡ eqb (step s (step_of kind x y)).refusal carriedOut → before ≡ s.depth → result ≡ idleEnd s (step_of kind x y) }
+    ensures { (s : Record) (y : ℕ) → carried ≡ eqb (step s (step_of kind x y)).refusal carried_out → before ≡ s.depth → result ≡ idle_end s (step_of kind x y) }
 {
     carried & (kind == trace::WRITE) & (x == aic_registers::map::EOICR) & (before == 0)
 }
 
 // What a step brings: nothing where it is refused.
 fn brought(carried: bool, m: Marks) -> Marks
-    ensures { result ≡ pick carried m noMarks }
+    ensures { result ≡ pick carried m no_marks }
 {
     if carried {
         return m;
@@ -107,7 +107,7 @@ fn watched_after(
     n: u32,
 ) -> Watched
     requires { (w.marks < 4294967295) × (w.idle < 4294967295) }
-    ensures { (s : Record) (x : Step) → sound s ≡ true → Shaped s → Laid (step s x).aic room.now → Met table w s x before enabled idle wrote → result ≡ watchedBy table n w s x }
+    ensures { (s : Record) (x : Step) → sound s ≡ true → Shaped s → Laid (step s x).aic room.now → Met table w s x before enabled idle wrote → result ≡ watched_by table n w s x }
 {
     let on = room[aic_room::layout::ENABLED];
     let depth = room[aic_room::layout::DEPTH];
@@ -137,7 +137,7 @@ fn watched_anew(
     n: u32,
 ) -> Watched
     requires { (w.marks < 4294967295) × (w.idle < 4294967295) }
-    ensures { (s : Record) (x : Step) → sound s ≡ true → Shaped s → Laid (step s x).aic room.now → Met table w s x before enabled idle wrote → result ≡ watchedBy table n w s x }
+    ensures { (s : Record) (x : Step) → sound s ≡ true → Shaped s → Laid (step s x).aic room.now → Met table w s x before enabled idle wrote → result ≡ watched_by table n w s x }
 {
     let on = room[aic_room::layout::ENABLED];
     let strays = strays_after(room, table, w.strays, !wrote & (on == enabled));
@@ -159,7 +159,7 @@ fn watched_anew(
 
 // Before any step.
 fn watch_first(first: Aic, table: Table) -> Watched
-    ensures { result ≡ watchedFirst table first }
+    ensures { result ≡ watched_first table first }
 {
     let strays = stack::kept::unkept(table, first);
     Watched {
@@ -174,7 +174,7 @@ fn watch_first(first: Aic, table: Table) -> Watched
 
 // The turn at a place with `left` of the limit. One loop alone calls this, so that it becomes a part of it.
 fn turn(trace: &[u8], at: usize, left: u32) -> Told
-    ensures { turn_of result ≡ turnAt false trace.now at left }
+    ensures { turn_of result ≡ turn_at false trace.now at left }
 {
     let q = trace::turns::quick(trace, at, left, false);
     if q.kind == trace::turns::UNSURE {
@@ -193,7 +193,7 @@ fn ended<'a>(
     refusal: u32,
     offset: usize,
 ) -> Played
-    ensures { (f : Figures) (s : Record) (k : ℕ) (g : ℕ → Bounds) → Counted f s k counts.old → Kept g book.now → result ≡ record { tallied = record { steps = n; refused = refused; refusal = refusal; offset = offset; figures = totalsOf f }; watched = w; waits = waitsNow g } }
+    ensures { (f : Figures) (s : Record) (k : ℕ) (g : ℕ → Bounds) → Counted f s k counts.old → Kept g book.now → result ≡ record { tallied = record { steps = n; refused = refused; refusal = refusal; offset = offset; figures = totals_of f }; watched = w; waits = waits_now g } }
 {
     let figures = aic_figures::totals_in(counts);
     let tallied = Tallied {
@@ -214,8 +214,8 @@ fn ended<'a>(
 // Plays the steps of an AIC from a place on in a room, once: moves the report's figures and the waits of all sources on with each, and watches it. The
 // limit falls by one with each step.
 fn play_steps(trace: &[u8], limit: u32, start: usize, first: Aic, table: Table) -> Played
-    requires { (sound first ≡ true) × Shaped first × (first.depth ≡ 0) × (length trace.now ≤ 65536) × (length (stepsIn (stepsFrom false limit trace.now start).steps) ≤ 65536) }
-    ensures { result ≡ playedIn table first (stepsFrom false limit trace.now start) }
+    requires { (sound first ≡ true) × Shaped first × (first.depth ≡ 0) × (length trace.now ≤ 65536) × (length (steps_in (steps_from false limit trace.now start).steps) ≤ 65536) }
+    ensures { result ≡ played_in table first (steps_from false limit trace.now start) }
 {
     let mut room = aic_room::layout::lay(first);
     let mut counts = aic_figures::start();
@@ -263,7 +263,7 @@ pub fn note(trace: &[u8], limit: u32, table: Table) -> Noted
 
 // That of a trace that starts an AIC.
 fn note_aic(trace: &[u8], limit: u32, table: Table, b: Begun) -> Noted
-    requires { (b ≡ beginOf trace.now) × (b.refusal ≡ carriedOut) × (b.machine.kind ≡ aicKind) }
+    requires { (b ≡ begin_of trace.now) × (b.refusal ≡ carried_out) × (b.machine.kind ≡ aic_kind) }
     ensures { result ≡ note_of trace.now limit table }
 {
     let m = b.machine;
@@ -276,7 +276,7 @@ fn note_aic(trace: &[u8], limit: u32, table: Table, b: Begun) -> Noted
 
 // That of another kind, or of none.
 fn note_other(f: Tallied) -> Noted
-    ensures { result ≡ noted f false unseen noWaits }
+    ensures { result ≡ noted f false unseen no_waits }
 {
     let w = Watched {
         marks: 0,

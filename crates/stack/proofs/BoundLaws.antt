@@ -11,33 +11,33 @@ use lib.ListN.{get_or, set}
 use lib.Seq.{get_or-set_same, get_or-set_other}
 use borrow.Author.Tests.{eq-eqb, ne_eqb, not-true}
 use Rattle.words.specs.Choice.{pick}
-use Rattle.words.specs.Counting.{sumBelow}
+use Rattle.words.specs.Counting.{sum_below}
 use Rattle.words.specs.Word.{bit}
 use Rattle.words.proofs.TruthLaws.{and_left, and_right, clash}
 use Rattle.steps.specs.declared.Step.{Step}
 use Rattle.aic_record.specs.declared.Aic.{Aic}
 use Rattle.aic_record.specs.declared.Seen.{Seen}
 use Rattle.aic_record.specs.Mode.{priority}
-use Rattle.aic_record.specs.Sound.{sourceAt, levelAt, levelBelow}
-use Rattle.aic_record.specs.Passes.{floorOver}
+use Rattle.aic_record.specs.Sound.{source_at, level_at, level_below}
+use Rattle.aic_record.specs.Passes.{floor_over}
 use Rattle.aic_record.specs.Promises.{Shaped, Rules}
-use Rattle.aic_record.proofs.RankLaws.{floor-some, ranks-rise, ranks-small}
+use Rattle.aic_record.proofs.RankLaws.{floor-some, ranks_rise, ranks_small}
 use Rattle.aic_record.proofs.SoundLaws.{seen-sound}
 use Rattle.aic_sources.specs.Fast.{fast}
 use Rattle.aic_sources.specs.Normal.{candidates, chosen}
 use Rattle.aic_sources.proofs.HandlerLaws.{candidate-waits, waiting-is, candidate-room}
 use Rattle.aic_sources.proofs.OrderLaws.{chosen_is}
-use Rattle.aic_registers.specs.Handlers.{opened, closedLast}
-use Rattle.aic_registers.specs.Effects.{setBy}
+use Rattle.aic_registers.specs.Handlers.{opened, closed_last}
+use Rattle.aic_registers.specs.Effects.{set_by}
 use Rattle.aic.specs.Model.{step}
 use Rattle.aic.proofs.HandlerLaws.{started-is, moved-is}
 use Rattle.aic.proofs.StepKindLaws.{kinds}
 use Rattle.aic_runs.specs.Counted.{rewrites, steady}
 use Rattle.aic_runs.specs.Runs.{run, always}
 use Rattle.aic_runs.proofs.CountedLaws.{mode-rewrite, forcing-rewrite}
-use Rattle.aic_runs.proofs.StepLaws.{modes-law}
+use Rattle.aic_runs.proofs.StepLaws.{modes_law}
 use Rattle.stack.specs.declared.Table.{Table}
-use Rattle.stack.specs.Bytes.{normal, is_of, taller, largest, levelBytes, stackBytes, frame_of}
+use Rattle.stack.specs.Bytes.{normal, is_of, taller, largest, level_bytes, stack_bytes, frame_of}
 use Rattle.aic.proofs.Promises as Controller
 
 -- ---- the largest of a level
@@ -76,33 +76,33 @@ Fits t source level depth =
 
 module _ (t : Table) where
   abbrev M : ℕ → ℕ
-  M r = sumBelow r (λ l. t.mark)
+  M r = sum_below r (λ l. t.mark)
 
   abbrev T : ℕ → ℕ
-  T r = sumBelow r (levelBytes t)
+  T r = sum_below r (level_bytes t)
 
   -- what the levels from r to p need over as many marks is not negative
-  excess-to : (r p : ℕ) → r ≤ p → T r + M p ≤ T p + M r
-  unfolding sumBelow levelBytes
-  excess-to r zero h = let e : r ≡ 0 = omega arith in rw e (omega arith)
-  excess-to r (suc p) h = go (ℕ_discrete r (suc p)) (excess-to r p)
+  excess_to : (r p : ℕ) → r ≤ p → T r + M p ≤ T p + M r
+  unfolding sum_below level_bytes
+  excess_to r zero h = let e : r ≡ 0 = omega arith in rw e (omega arith)
+  excess_to r (suc p) h = go (ℕ_discrete r (suc p)) (excess_to r p)
     where
-      go : Dec (r ≡ suc p) → (r ≤ p → T r + M p ≤ T p + M r) → T r + (M p + t.mark) ≤ T p + levelBytes t p + M r
-      go (yes e) ih = rw e (unfold sumBelow in (omega arith))
+      go : Dec (r ≡ suc p) → (r ≤ p → T r + M p ≤ T p + M r) → T r + (M p + t.mark) ≤ T p + level_bytes t p + M r
+      go (yes e) ih = rw e (unfold sum_below in (omega arith))
       go (no e) ih = omega (arith, ih (omega arith), mark-fits t p 32)
 
-  marks-up : (d k : ℕ) → d ≤ k → M d ≤ M k
-  unfolding sumBelow
-  marks-up d zero h = let e : d ≡ 0 = omega arith in rw e (omega arith)
-  marks-up d (suc k) h = go (ℕ_discrete d (suc k)) (marks-up d k)
+  marks_up : (d k : ℕ) → d ≤ k → M d ≤ M k
+  unfolding sum_below
+  marks_up d zero h = let e : d ≡ 0 = omega arith in rw e (omega arith)
+  marks_up d (suc k) h = go (ℕ_discrete d (suc k)) (marks_up d k)
     where
       go : Dec (d ≡ suc k) → (d ≤ k → M d ≤ M k) → M d ≤ M k + t.mark
-      go (yes e) ih = rw e (unfold sumBelow in (omega arith))
+      go (yes e) ih = rw e (unfold sum_below in (omega arith))
       go (no e) ih = omega (arith, ih (omega arith))
 
-  frame-level : (j p : ℕ) → j ≢ 0 → j < 32 → normal t j ≡ true → get_or t.priority j 0 ≡ p → frame_of t j ≤ levelBytes t p
-  unfolding frame_of levelBytes pick
-  frame-level j p z l a e = rw (ne_eqb j 0 z) (frame-fits t p 32 j l a e)
+  frame_level : (j p : ℕ) → j ≢ 0 → j < 32 → normal t j ≡ true → get_or t.priority j 0 ≡ p → frame_of t j ≤ level_bytes t p
+  unfolding frame_of level_bytes pick
+  frame_level j p z l a e = rw (ne_eqb j 0 z) (frame-fits t p 32 j l a e)
 
   mark-frame : frame_of t 0 ≡ t.mark
   unfolding frame_of pick
@@ -110,34 +110,34 @@ module _ (t : Table) where
 
   module _ (s : Aic) (r : Rules s) (f : Fits t s.source s.level s.depth) where
     abbrev S : ℕ → ℕ
-    S d = sumBelow d (λ i. frame_of t (sourceAt s i))
+    S d = sum_below d (λ i. frame_of t (source_at s i))
 
     abbrev rank : ℕ → ℕ
-    rank d = floorOver (levelAt s d)
+    rank d = floor_over (level_at s d)
 
     -- the frames of the first d entries, where q is no less than their ranks
     below : (d q : ℕ) → d ≤ s.depth → ((i : ℕ) → i < d → rank i ≤ q) → S d + M q ≤ T q + M d
-    unfolding sumBelow
-    below zero q h top = omega (arith, excess-to 0 q (omega arith))
-    below (suc d) q h top = go (ℕ_discrete (sourceAt s d) 0) (below d)
+    unfolding sum_below
+    below zero q h top = omega (arith, excess_to 0 q (omega arith))
+    below (suc d) q h top = go (ℕ_discrete (source_at s d) 0) (below d)
       where
-        go : Dec (sourceAt s d ≡ 0) → ((p : ℕ) → d ≤ s.depth → ((i : ℕ) → i < d → rank i ≤ p) → S d + M p ≤ T p + M d)
-            → S d + frame_of t (sourceAt s d) + M q ≤ T q + (M d + t.mark)
+        go : Dec (source_at s d ≡ 0) → ((p : ℕ) → d ≤ s.depth → ((i : ℕ) → i < d → rank i ≤ p) → S d + M p ≤ T p + M d)
+            → S d + frame_of t (source_at s d) + M q ≤ T q + (M d + t.mark)
         go (yes e) ih = rw (e, mark-frame) (omega (arith, ih q (omega arith) (λ i l. top i (omega arith))))
         go (no z) ih =
             let a = f d (omega arith) z in
-            real (levelAt s d) refl (frame-level (sourceAt s d) (levelAt s d) z a.0 a.1 (sym a.2))
+            real (level_at s d) refl (frame_level (source_at s d) (level_at s d) z a.0 a.1 (sym a.2))
           where
-            real : (p : ℕ) → levelAt s d ≡ p → frame_of t (sourceAt s d) ≤ levelBytes t p → S d + frame_of t (sourceAt s d) + M q ≤ T q + (M d + t.mark)
+            real : (p : ℕ) → level_at s d ≡ p → frame_of t (source_at s d) ≤ level_bytes t p → S d + frame_of t (source_at s d) + M q ≤ T q + (M d + t.mark)
             real p e b =
-                let v : rank d ≡ p + 1 = floor-some (levelAt s d) (λ y. omega (arith, r.levels d (omega arith) z)) ∙ ap (λ (m : ℕ). m + 1) e in
-                let g : T (suc p) + M q ≤ T q + M (suc p) = excess-to (suc p) q (omega (arith, top d (omega arith))) in
-                let k : T p + levelBytes t p + M q ≤ T q + (M p + t.mark) = g in
-                omega (arith, ih p (omega arith) (λ i l. omega (arith, ranks-rise s r i d l (omega arith) z)))
+                let v : rank d ≡ p + 1 = floor-some (level_at s d) (λ y. omega (arith, r.levels d (omega arith) z)) ∙ ap (λ (m : ℕ). m + 1) e in
+                let g : T (suc p) + M q ≤ T q + M (suc p) = excess_to (suc p) q (omega (arith, top d (omega arith))) in
+                let k : T p + level_bytes t p + M q ≤ T q + (M p + t.mark) = g in
+                omega (arith, ih p (omega arith) (λ i l. omega (arith, ranks_rise s r i d l (omega arith) z)))
 
-    pub bounded : S s.depth ≤ stackBytes t
-    unfolding stackBytes
-    bounded = omega (arith, below s.depth 8 (omega arith) (ranks-small s r), marks-up s.depth 8 r.entries)
+    pub bounded : S s.depth ≤ stack_bytes t
+    unfolding stack_bytes
+    bounded = omega (arith, below s.depth 8 (omega arith) (ranks_small s r), marks_up s.depth 8 r.entries)
 
 -- ---- each step leaves such entries, while the modes and forcings are those of the table
 
@@ -187,9 +187,9 @@ Recalled t n = n.what ≡ 1 → (n.source < 32) × (normal t n.source ≡ true) 
 abbrev pub Fitted : Table → Aic → Type 0
 Fitted t s = Fits t s.source s.level s.depth × Recalled t s.seen
 
-fits-law : (t : Table) (s : Aic) (x : Step) → Shaped s → Agrees t s → Fitted t s → rewrites s x ≡ false → Fitted t (step s x).aic
-unfolding opened closedLast setBy
-fits-law t s =
+fits_law : (t : Table) (s : Aic) (x : Step) → Shaped s → Agrees t s → Fitted t s → rewrites s x ≡ false → Fitted t (step s x).aic
+unfolding opened closed_last set_by
+fits_law t s =
     kinds s (λ x u. Shaped s → Agrees t s → Fitted t s → rewrites s x ≡ false → Fitted t u)
     (record {
       still = λ x p h a f r. f;
@@ -204,31 +204,31 @@ fits-law t s =
                 (λ d. ((chosen_is s c).below, chosen-normal t s a c, a.levels (chosen s) (chosen_is s c).below)),
             f.1,
           );
-      mark = λ ok i n l h a f r. (pushed t s h f.0 0 (levelBelow s.level s.depth) l (λ d. absurd (d refl)), f.1);
+      mark = λ ok i n l h a f r. (pushed t s h f.0 0 (level_below s.level s.depth) l (λ d. absurd (d refl)), f.1);
       look = λ ok i c h a f r. (f.0, λ _. ((chosen_is s c).below, chosen-normal t s a c, a.levels (chosen s) (chosen_is s c).below));
-      lookNone = λ ok i n h a f r. (f.0, λ w. absurd (omega arith));
+      look_none = λ ok i n h a f r. (f.0, λ w. absurd (omega arith));
       begin = λ v ok i w h a f r.
           rw (started-is s s.seen.source s.seen.level)
           (pushed t s h f.0 s.seen.source s.seen.level ((seen-sound s ok).room w) (λ d. f.1 w), λ z. absurd (omega arith));
-      beginMark = λ v ok i z w l h a f r. (pushed t s h f.0 0 (levelBelow s.level s.depth) l (λ d. absurd (d refl)), λ z. absurd (omega arith));
+      begin_mark = λ v ok i z w l h a f r. (pushed t s h f.0 0 (level_below s.level s.depth) l (λ d. absurd (d refl)), λ z. absurd (omega arith));
       close = λ v ok d h a f r. (shut t s h f.0 d, f.1);
       command = λ v ok h a f r. f;
       move = λ k l ok m n h a f r. rw (moved-is s k (eqb l 1)) f;
     })
 
-pub agrees-law : (t : Table) (s : Aic) (x : Step) → rewrites s x ≡ false → Agrees t s → Agrees t (step s x).aic
+pub agrees_law : (t : Table) (s : Aic) (x : Step) → rewrites s x ≡ false → Agrees t s → Agrees t (step s x).aic
 unfolding priority fast
-agrees-law t s x r a =
-    let m = modes-law s x r in
+agrees_law t s x r a =
+    let m = modes_law s x r in
     record { levels = λ i l. rw m.0 (a.levels i l); forcings = λ i l. rw m.1 (a.forcings i l) }
 
-not-rewritten : (s : Aic) (x : Step) → steady s x ≡ true → rewrites s x ≡ false
+not_rewritten : (s : Aic) (x : Step) → steady s x ≡ true → rewrites s x ≡ false
 unfolding steady
-not-rewritten s x h = not-true (rewrites s x) h
+not_rewritten s x h = not-true (rewrites s x) h
 
 pub along : (t : Table) (s : Aic) (xs : List Step) → Shaped s → Agrees t s → Fitted t s → always steady s xs ≡ true → Fitted t (run s xs)
 unfolding run always
 along t s [] h a f q = f
 along t s (x ∷ xs) h a f q =
-    let r = not-rewritten s x (and_left (steady s x) _ q) in
-    along t (step s x).aic xs ((Controller.kept).stepShaped s x h) (agrees-law t s x r a) (fits-law t s x h a f r) (and_right (steady s x) _ q)
+    let r = not_rewritten s x (and_left (steady s x) _ q) in
+    along t (step s x).aic xs ((Controller.kept).step_shaped s x h) (agrees_law t s x r a) (fits_law t s x h a f r) (and_right (steady s x) _ q)

@@ -12,22 +12,22 @@ use lib.ListN.{get_or, set, length}
 use lib.Seq.{get_or-set_same, get_or-set_other}
 use borrow.Author.Tests.{eqb-true, eq-eqb, ne_eqb, leb-true, le-leb}
 use Rattle.words.specs.Choice.{pick}
-use Rattle.words.specs.Counting.{sumBelow}
-use Rattle.words.specs.Word.{bit, withBit}
+use Rattle.words.specs.Counting.{sum_below}
+use Rattle.words.specs.Word.{bit, with_bit}
 use Rattle.words.proofs.TruthLaws.{and_left, and_right, and_both, or-either, or_right, clash, not-holds, told}
-use Rattle.words.proofs.WordLaws.{bit-none, bit-withBit}
+use Rattle.words.proofs.WordLaws.{bit-none, bit-with_bit}
 use Rattle.steps.specs.declared.Step.{Step}
 use Rattle.steps.specs.declared.Step.TheVariants.{Read, Line}
 use Rattle.aic_record.specs.declared.Aic.{Aic}
-use Rattle.aic_record.specs.Record.{withLines, withMemory, withHandlers}
+use Rattle.aic_record.specs.Record.{with_lines, with_memory, with_handlers}
 use Rattle.aic_record.specs.Mode.{priority, edge}
-use Rattle.aic_record.specs.Sound.{levelBelow, protects, sound}
-use Rattle.aic_record.specs.Passes.{floorOver}
+use Rattle.aic_record.specs.Sound.{level_below, protects, sound}
+use Rattle.aic_record.specs.Passes.{floor_over}
 use Rattle.aic_record.specs.Promises.{Shaped, Over}
-use Rattle.aic_record.proofs.PassLaws.{floor-rule}
+use Rattle.aic_record.proofs.PassLaws.{floor_rule}
 use Rattle.aic_record.proofs.RankLaws.{floor-some}
 use Rattle.aic_record.proofs.SoundLaws.{below_next, over-is, is-over}
-use Rattle.aic_sources.specs.Pending.{activeLow, activeAt, active, pending, asking}
+use Rattle.aic_sources.specs.Pending.{active_low, active_at, active, pending, asking}
 use Rattle.aic_sources.specs.Fast.{fast}
 use Rattle.aic_sources.specs.Normal.{waiting, candidate}
 use Rattle.aic_sources.specs.Promises.{AheadOfOthers}
@@ -35,15 +35,15 @@ use Rattle.aic_sources.proofs.HandlerLaws.{candidate-waits, candidate-over, wait
 use Rattle.aic_registers.specs.declared.Answer.{Answer}
 use Rattle.aic_registers.specs.Map.{ivr}
 use Rattle.aic_registers.specs.Effects.{turns}
-use Rattle.aic_registers.specs.Handlers.{vectorAt}
+use Rattle.aic_registers.specs.Handlers.{vector_at}
 use Rattle.aic.specs.Model.{step, read, line}
 use Rattle.aic.specs.Tables.{Sets}
 use Rattle.aic_runs.specs.Counted.{rewrites, steady}
 use Rattle.aic_runs.specs.Runs.{run, always}
-use Rattle.aic_runs.proofs.StepLaws.{edge-modes, fast-forcing}
+use Rattle.aic_runs.proofs.StepLaws.{edge_modes, fast_forcing}
 use Rattle.stack.specs.declared.Table.{Table}
-use Rattle.stack.specs.Bytes.{normal, is_of, taller, largest, levelBytes, stackBytes, frame_of, openBytes}
-use Rattle.stack.proofs.BoundLaws.{Agrees, agrees-law}
+use Rattle.stack.specs.Bytes.{normal, is_of, taller, largest, level_bytes, stack_bytes, frame_of, open_bytes}
+use Rattle.stack.proofs.BoundLaws.{Agrees, agrees_law}
 use Rattle.aic_sources.proofs.Promises as Sources
 use Rattle.aic.proofs.Promises as Controller
 
@@ -89,10 +89,10 @@ filled t l (suc n) = go (told (is_of t l n)) (filled t l n)
 -- ---- what waits, where no source is external
 
 inner-active : (s : Aic) (k : ℕ) → s.external ≡ 0 → active s k ≡ bit s.lines k
-inner-active s k e = (Sources.kept).highActive s k (inl (rw e (bit-none k)))
+inner-active s k e = (Sources.kept).high_active s k (inl (rw e (bit-none k)))
 
-inner-high : (s : Aic) (k : ℕ) → s.external ≡ 0 → activeAt s k true ≡ true
-unfolding activeAt activeLow pick
+inner-high : (s : Aic) (k : ℕ) → s.external ≡ 0 → active_at s k true ≡ true
+unfolding active_at active_low pick
 inner-high s k e = rw (e, bit-none k)
 
 is-waiting : (s : Aic) (k : ℕ) → pending s k ≡ true → bit s.enabled k ≡ true → fast s k ≡ false → waiting s k ≡ true
@@ -112,38 +112,38 @@ pub record Less (u v : Aic) (i : ℕ) : Type 0 where
 less-waits : (u v : Aic) (i : ℕ) → Less u v i → waiting v i ≡ true → waiting u i ≡ true
 less-waits u v i b w =
     let (p, e, f) = waiting-is v i w in
-    is-waiting u i (go (told (edge u i)) p) (rw (← b.enabled) e) (sym (fast-forcing u v i b.forced) ∙ f)
+    is-waiting u i (go (told (edge u i)) p) (rw (← b.enabled) e) (sym (fast_forcing u v i b.forced) ∙ f)
   where
     go : (edge u i ≡ true) ⊎ (edge u i ≡ false) → pending v i ≡ true → pending u i ≡ true
-    go (inl e) p = (Sources.kept).edgePending u i e ∙ b.memory (sym ((Sources.kept).edgePending v i (edge-modes u v i b.mode ∙ e)) ∙ p)
+    go (inl e) p = (Sources.kept).edge_pending u i e ∙ b.memory (sym ((Sources.kept).edge_pending v i (edge_modes u v i b.mode ∙ e)) ∙ p)
     go (inr e) p =
-        (Sources.kept).levelPending u i e ∙ inner-active u i b.inner
-        ∙ b.lines (sym ((Sources.kept).levelPending v i (edge-modes u v i b.mode ∙ e) ∙ inner-active v i (b.external ∙ b.inner)) ∙ p)
+        (Sources.kept).level_pending u i e ∙ inner-active u i b.inner
+        ∙ b.lines (sym ((Sources.kept).level_pending v i (edge_modes u v i b.mode ∙ e) ∙ inner-active v i (b.external ∙ b.inner)) ∙ p)
 
 -- ---- the least priority over the last entry
 
 abbrev pub rank : Aic → ℕ
-rank s = floorOver (levelBelow s.level s.depth)
+rank s = floor_over (level_below s.level s.depth)
 
-rank-over : (s : Aic) (p : ℕ) → Over (levelBelow s.level s.depth) p → rank s ≤ p
-rank-over s p o = leb-true (rank s) p (floor-rule _ p ∙ is-over _ p o)
+rank-over : (s : Aic) (p : ℕ) → Over (level_below s.level s.depth) p → rank s ≤ p
+rank-over s p o = leb-true (rank s) p (floor_rule _ p ∙ is-over _ p o)
 
-over-rank : (s : Aic) (p : ℕ) → rank s ≤ p → Over (levelBelow s.level s.depth) p
-over-rank s p h = over-is _ p (sym (floor-rule _ p) ∙ le-leb (rank s) p h)
+over-rank : (s : Aic) (p : ℕ) → rank s ≤ p → Over (level_below s.level s.depth) p
+over-rank s p h = over-is _ p (sym (floor_rule _ p) ∙ le-leb (rank s) p h)
 
 calm-none : (u : Aic) → ((i : ℕ) → i < 32 → waiting u i ≡ true → priority u i < rank u) → (k : ℕ) → k < 32 → candidate u k ≡ false
 calm-none u h k l = not-holds (candidate u k) (λ c. omega (arith, h k l (candidate-waits u k c), rank-over u (priority u k) (candidate-over u k c)))
 
 -- ---- the frames with one more entry
 
-pub sum_same : (n : ℕ) (f g : ℕ → ℕ) → ((i : ℕ) → i < n → f i ≡ g i) → sumBelow n f ≡ sumBelow n g
-unfolding sumBelow
+pub sum_same : (n : ℕ) (f g : ℕ → ℕ) → ((i : ℕ) → i < n → f i ≡ g i) → sum_below n f ≡ sum_below n g
+unfolding sum_below
 sum_same zero f g h = refl
 sum_same (suc n) f g h = rw (sum_same n f g (λ i l. h i (omega arith)), h n (omega arith))
 
 one_more : (t : Table) (source : List ℕ) (depth j : ℕ) → depth < length source
-    → sumBelow (depth + 1) (λ d. frame_of t (get_or (set source depth j) d 0)) ≡ sumBelow depth (λ d. frame_of t (get_or source d 0)) + frame_of t j
-unfolding sumBelow
+    → sum_below (depth + 1) (λ d. frame_of t (get_or (set source depth j) d 0)) ≡ sum_below depth (λ d. frame_of t (get_or source d 0)) + frame_of t j
+unfolding sum_below
 one_more t source depth j l =
     rw (add-one, get_or-set_same source depth j 0 l, sum_same depth (λ d. frame_of t (get_or (set source depth j) d 0)) (λ d. frame_of t (get_or source d 0)) (λ d m. rw (get_or-set_other source depth d j 0 (omega arith))))
 
@@ -161,32 +161,32 @@ pub record Tower (t : Table) (l : ℕ) (u : Aic) : Type 0 where
   pub capped : rank u ≤ l
   pub low : (i : ℕ) → i < 32 → l ≤ priority u i → bit u.lines i ≡ false
   pub calm : (i : ℕ) → i < 32 → waiting u i ≡ true → priority u i < rank u
-  pub sum : openBytes t u ≡ sumBelow l (levelBytes t)
+  pub sum : open_bytes t u ≡ sum_below l (level_bytes t)
 
 -- an entry of source k at level p is opened, and w is remembered
-abbrev over-with : Aic → ℕ → ℕ → ℕ → Aic
-over-with v k p w = withHandlers (withMemory v w) (set v.source v.depth k) (set v.level v.depth p) (v.depth + 1)
+abbrev over_with : Aic → ℕ → ℕ → ℕ → Aic
+over_with v k p w = with_handlers (with_memory v w) (set v.source v.depth k) (set v.level v.depth p) (v.depth + 1)
 
 module _ (t : Table) (l : ℕ) (v : Aic) (k p w : ℕ) where
   abbrev Top : Aic
-  Top = over-with v k p w
+  Top = over_with v k p w
 
-  top-rank : Shaped v → v.depth < 8 → rank Top ≡ floorOver p
-  top-rank h r = ap floorOver (below_next (set v.level v.depth p) v.depth ∙ get_or-set_same v.level v.depth p 0 (omega (arith, h.3)))
+  top-rank : Shaped v → v.depth < 8 → rank Top ≡ floor_over p
+  top-rank h r = ap floor_over (below_next (set v.level v.depth p) v.depth ∙ get_or-set_same v.level v.depth p 0 (omega (arith, h.3)))
 
-  top-level : (i : ℕ) → priority Top i ≡ priority v i
+  top_level : (i : ℕ) → priority Top i ≡ priority v i
   unfolding priority
-  top-level i = refl
+  top_level i = refl
 
-  top-sum : Shaped v → v.depth < 8 → openBytes t Top ≡ openBytes t v + frame_of t k
-  unfolding openBytes
-  top-sum h r = one_more t v.source v.depth k (omega (arith, h.2))
+  top_sum : Shaped v → v.depth < 8 → open_bytes t Top ≡ open_bytes t v + frame_of t k
+  unfolding open_bytes
+  top_sum h r = one_more t v.source v.depth k (omega (arith, h.2))
 
   raised : Shaped v → l < 8 → v.depth ≡ l → protects v ≡ false → v.external ≡ 0 → ((i : ℕ) → i < 32 → bit v.enabled i ≡ true)
-      → openBytes t v ≡ sumBelow l (levelBytes t) → frame_of t k ≡ levelBytes t l → floorOver p ≤ suc l
+      → open_bytes t v ≡ sum_below l (level_bytes t) → frame_of t k ≡ level_bytes t l → floor_over p ≤ suc l
       → ((i : ℕ) → i < 32 → bit w i ≡ true → bit v.memory i ≡ true)
       → ((i : ℕ) → i < 32 → suc l ≤ priority v i → bit v.lines i ≡ false)
-      → ((i : ℕ) → i < 32 → waiting v i ≡ true → priority v i < floorOver p)
+      → ((i : ℕ) → i < 32 → waiting v i ≡ true → priority v i < floor_over p)
       → Shaped Top → sound Top ≡ true → Agrees t Top → Tower t (suc l) Top
   raised h small d out inner lit s f cap fewer low calm th tok ta =
       let e = top-rank h (omega arith) in
@@ -199,16 +199,16 @@ module _ (t : Table) (l : ℕ) (v : Aic) (k p w : ℕ) where
         lit = lit;
         tall = omega (arith, d);
         capped = rw e cap;
-        low = λ i m q. low i m (omega (arith, top-level i));
+        low = λ i m q. low i m (omega (arith, top_level i));
         calm = λ i m q.
-            rw e (omega (arith, top-level i, calm i m (less-waits v Top i (record { inner = inner; external = refl; mode = refl; enabled = refl; forced = refl; memory = fewer i m; lines = λ z. z }) q)));
-        sum = top-sum h (omega arith) ∙ rw (s, f) (unfold sumBelow in refl);
+            rw e (omega (arith, top_level i, calm i m (less-waits v Top i (record { inner = inner; external = refl; mode = refl; enabled = refl; forced = refl; memory = fewer i m; lines = λ z. z }) q)));
+        sum = top_sum h (omega arith) ∙ rw (s, f) (unfold sum_below in refl);
       }
 
 -- ---- a mark
 
-mark-frame : (t : Table) (l : ℕ) → largest t l 32 ≡ t.mark → frame_of t 0 ≡ levelBytes t l
-unfolding frame_of levelBytes pick
+mark-frame : (t : Table) (l : ℕ) → largest t l 32 ≡ t.mark → frame_of t 0 ≡ level_bytes t l
+unfolding frame_of level_bytes pick
 mark-frame t l e = sym e
 
 read-steady : (s : Aic) (o : ℕ) → rewrites s (Read o) ≡ false
@@ -220,16 +220,16 @@ unfolding rewrites
 line-steady s k l = refl
 
 module _ (t : Table) (l : ℕ) (u : Aic) (small : l < 8) (w : Tower t l u) where
-  marking : (step u (Read ivr)).aic ≡ over-with u 0 (levelBelow u.level u.depth) u.memory
-  marking = ap (λ (a : Answer). a.aic) ((Controller.kept).vectorSpurious u w.ok w.outside (omega (arith, w.tall)) (calm-none u w.calm))
+  marking : (step u (Read ivr)).aic ≡ over_with u 0 (level_below u.level u.depth) u.memory
+  marking = ap (λ (a : Answer). a.aic) ((Controller.kept).vector_spurious u w.ok w.outside (omega (arith, w.tall)) (calm-none u w.calm))
 
-  mark-up : largest t l 32 ≡ t.mark → Tower t (suc l) (step u (Read ivr)).aic
-  mark-up e =
-      rw marking (raised t l u 0 (levelBelow u.level u.depth) u.memory w.shaped small w.tall w.outside w.inner w.lit w.sum (mark-frame t l e)
+  mark_up : largest t l 32 ≡ t.mark → Tower t (suc l) (step u (Read ivr)).aic
+  mark_up e =
+      rw marking (raised t l u 0 (level_below u.level u.depth) u.memory w.shaped small w.tall w.outside w.inner w.lit w.sum (mark-frame t l e)
       (omega (arith, w.capped)) (λ i m z. z) (λ i m q. w.low i m (omega arith)) w.calm
-      (subst Shaped marking ((Controller.kept).stepShaped u (Read ivr) w.shaped))
-      (subst (λ (v : Aic). sound v ≡ true) marking ((Controller.kept).stepSound u (Read ivr) w.shaped w.ok))
-      (subst (Agrees t) marking (agrees-law t u (Read ivr) (read-steady u ivr) w.agrees)))
+      (subst Shaped marking ((Controller.kept).step_shaped u (Read ivr) w.shaped))
+      (subst (λ (v : Aic). sound v ≡ true) marking ((Controller.kept).step_sound u (Read ivr) w.shaped w.ok))
+      (subst (Agrees t) marking (agrees_law t u (Read ivr) (read-steady u ivr) w.agrees)))
 
 -- ---- a handler: the line of its source is raised, and it is started
 
@@ -237,56 +237,56 @@ module _ (t : Table) (l : ℕ) (u : Aic) (small : l < 8) (w : Tower t l u) (f : 
   abbrev J : ℕ
   J = f.who
 
-  level-j : priority u J ≡ l
-  level-j = w.agrees.levels J f.below ∙ f.there
+  level_j : priority u J ≡ l
+  level_j = w.agrees.levels J f.below ∙ f.there
 
-  normal-j : fast u J ≡ false
-  normal-j = w.agrees.forcings J f.below ∙ ap not f.fine
+  normal_j : fast u J ≡ false
+  normal_j = w.agrees.forcings J f.below ∙ ap not f.fine
 
   line_low : bit u.lines J ≡ false
-  line_low = w.low J f.below (omega (arith, level-j))
+  line_low = w.low J f.below (omega (arith, level_j))
 
   abbrev Moves : Type 0
-  Moves = Sets (line u J 1) 0 u.memory (λ m. withLines (withMemory u m) (withBit u.lines J true)) (λ i. bit u.memory i || (eqb i J && (edge u J && turns u J true)))
+  Moves = Sets (line u J 1) 0 u.memory (λ m. with_lines (with_memory u m) (with_bit u.lines J true)) (λ i. bit u.memory i || (eqb i J && (edge u J && turns u J true)))
 
   moves : Moves
-  moves = (Controller.kept).lineMoves u J 1 w.ok f.below (omega arith)
+  moves = (Controller.kept).line_moves u J 1 w.ok f.below (omega arith)
 
   abbrev Up : Aic
-  Up = withLines (withMemory u moves.word) (withBit u.lines J true)
+  Up = with_lines (with_memory u moves.word) (with_bit u.lines J true)
 
   raising : (step u (Line J 1)).aic ≡ Up
   raising = ap (λ (a : Answer). a.aic) moves.done
 
-  shaped-up : Shaped Up
-  shaped-up = subst Shaped raising ((Controller.kept).stepShaped u (Line J 1) w.shaped)
+  shaped_up : Shaped Up
+  shaped_up = subst Shaped raising ((Controller.kept).step_shaped u (Line J 1) w.shaped)
 
-  sound-up : sound Up ≡ true
-  sound-up = subst (λ (v : Aic). sound v ≡ true) raising ((Controller.kept).stepSound u (Line J 1) w.shaped w.ok)
+  sound_up : sound Up ≡ true
+  sound_up = subst (λ (v : Aic). sound v ≡ true) raising ((Controller.kept).step_sound u (Line J 1) w.shaped w.ok)
 
-  agrees-up : Agrees t Up
-  agrees-up = subst (Agrees t) raising (agrees-law t u (Line J 1) (line-steady u J 1) w.agrees)
+  agrees_up : Agrees t Up
+  agrees_up = subst (Agrees t) raising (agrees_law t u (Line J 1) (line-steady u J 1) w.agrees)
 
-  up-level : (i : ℕ) → priority Up i ≡ priority u i
+  up_level : (i : ℕ) → priority Up i ≡ priority u i
   unfolding priority
-  up-level i = refl
+  up_level i = refl
 
-  line-up : bit Up.lines J ≡ true
-  line-up = bit-withBit u.lines J true J f.below ∙ unfold pick in (rw (eq-eqb J J refl))
+  line_up : bit Up.lines J ≡ true
+  line_up = bit-with_bit u.lines J true J f.below ∙ unfold pick in (rw (eq-eqb J J refl))
 
-  line-else : (i : ℕ) → i < 32 → i ≢ J → bit Up.lines i ≡ bit u.lines i
-  line-else i m d = bit-withBit u.lines J true i m ∙ unfold pick in (rw (ne_eqb i J d))
+  line_else : (i : ℕ) → i < 32 → i ≢ J → bit Up.lines i ≡ bit u.lines i
+  line_else i m d = bit-with_bit u.lines J true i m ∙ unfold pick in (rw (ne_eqb i J d))
 
-  memory-else : (i : ℕ) → i < 32 → i ≢ J → bit Up.memory i ≡ true → bit u.memory i ≡ true
-  memory-else i m d q = go (or-either (bit u.memory i) _ (sym (moves.bits i m) ∙ q))
+  memory_else : (i : ℕ) → i < 32 → i ≢ J → bit Up.memory i ≡ true → bit u.memory i ≡ true
+  memory_else i m d q = go (or-either (bit u.memory i) _ (sym (moves.bits i m) ∙ q))
     where
       go : (bit u.memory i ≡ true) ⊎ ((eqb i J && (edge u J && turns u J true)) ≡ true) → bit u.memory i ≡ true
       go (inl z) = z
       go (inr z) = clash (and_left (eqb i J) _ z) (ne_eqb i J d)
 
-  waits-else : (i : ℕ) → i < 32 → i ≢ J → waiting Up i ≡ true → waiting u i ≡ true
-  waits-else i m d =
-      less-waits u Up i (record { inner = w.inner; external = refl; mode = refl; enabled = refl; forced = refl; memory = memory-else i m d; lines = λ z. sym (line-else i m d) ∙ z })
+  waits_else : (i : ℕ) → i < 32 → i ≢ J → waiting Up i ≡ true → waiting u i ≡ true
+  waits_else i m d =
+      less-waits u Up i (record { inner = w.inner; external = refl; mode = refl; enabled = refl; forced = refl; memory = memory_else i m d; lines = λ z. sym (line_else i m d) ∙ z })
 
   turned : turns u J true ≡ true
   unfolding turns
@@ -297,77 +297,77 @@ module _ (t : Table) (l : ℕ) (u : Aic) (small : l < 8) (w : Tower t l u) (f : 
     where
       go : (edge u J ≡ true) ⊎ (edge u J ≡ false) → pending Up J ≡ true
       go (inl e) =
-          (Sources.kept).edgePending Up J (edge-modes u Up J refl ∙ e) ∙ moves.bits J f.below
+          (Sources.kept).edge_pending Up J (edge_modes u Up J refl ∙ e) ∙ moves.bits J f.below
           ∙ or_right (bit u.memory J) (and_both (eq-eqb J J refl) (and_both e turned))
-      go (inr e) = (Sources.kept).levelPending Up J (edge-modes u Up J refl ∙ e) ∙ inner-active Up J w.inner ∙ line-up
+      go (inr e) = (Sources.kept).level_pending Up J (edge_modes u Up J refl ∙ e) ∙ inner-active Up J w.inner ∙ line_up
 
   fits : candidate Up J ≡ true
   fits =
-      is-candidate Up J pends (w.lit J f.below) (fast-forcing u Up J refl ∙ normal-j) (omega (arith, w.tall))
-      (over-rank Up (priority Up J) (omega (arith, up-level J, level-j, w.capped)))
+      is-candidate Up J pends (w.lit J f.below) (fast_forcing u Up J refl ∙ normal_j) (omega (arith, w.tall))
+      (over-rank Up (priority Up J) (omega (arith, up_level J, level_j, w.capped)))
 
   first : AheadOfOthers Up J
   first i m c d =
-      absurd (omega (arith, up-level i, w.calm i m (waits-else i m d (candidate-waits Up i c)), rank-over Up (priority Up i) (candidate-over Up i c)))
+      absurd (omega (arith, up_level i, w.calm i m (waits_else i m d (candidate-waits Up i c)), rank-over Up (priority Up i) (candidate-over Up i c)))
 
   abbrev Takes : Type 0
   Takes =
-      Sets (read Up ivr) (vectorAt Up J) Up.memory
-      (λ m. withHandlers (withMemory Up m) (set Up.source Up.depth J) (set Up.level Up.depth (priority Up J)) (Up.depth + 1))
+      Sets (read Up ivr) (vector_at Up J) Up.memory
+      (λ m. with_handlers (with_memory Up m) (set Up.source Up.depth J) (set Up.level Up.depth (priority Up J)) (Up.depth + 1))
       (λ i. bit Up.memory i && not (eqb i J && edge Up J))
 
   takes : Takes
-  takes = (Controller.kept).vectorRead Up J sound-up w.outside f.below fits first
+  takes = (Controller.kept).vector_read Up J sound_up w.outside f.below fits first
 
-  taking : (step Up (Read ivr)).aic ≡ over-with Up J (priority Up J) takes.word
+  taking : (step Up (Read ivr)).aic ≡ over_with Up J (priority Up J) takes.word
   taking = ap (λ (a : Answer). a.aic) takes.done
 
-  rank-j : floorOver (priority Up J) ≡ suc l
-  rank-j = floor-some (priority Up J) (λ z. omega (arith, up-level J, level-j)) ∙ omega (arith, up-level J, level-j)
+  rank_j : floor_over (priority Up J) ≡ suc l
+  rank_j = floor-some (priority Up J) (λ z. omega (arith, up_level J, level_j)) ∙ omega (arith, up_level J, level_j)
 
-  frame-j : frame_of t J ≡ levelBytes t l
-  unfolding frame_of levelBytes pick
-  frame-j = rw (ne_eqb J 0 some) f.whole
+  frame_j : frame_of t J ≡ level_bytes t l
+  unfolding frame_of level_bytes pick
+  frame_j = rw (ne_eqb J 0 some) f.whole
     where
       some : J ≢ 0
       some e = clash f.fine (unfold normal in (rw e))
 
   still-low : (i : ℕ) → i < 32 → suc l ≤ priority Up i → bit Up.lines i ≡ false
   still-low i m q =
-      let d : i ≢ J = λ e. absurd (omega (arith, up-level i, level-j, ap (priority u) e)) in
-      line-else i m d ∙ w.low i m (omega (arith, up-level i))
+      let d : i ≢ J = λ e. absurd (omega (arith, up_level i, level_j, ap (priority u) e)) in
+      line_else i m d ∙ w.low i m (omega (arith, up_level i))
 
-  below-j : (i : ℕ) → i < 32 → waiting Up i ≡ true → priority Up i < floorOver (priority Up J)
-  below-j i m q = go (ℕ_discrete i J)
+  below_j : (i : ℕ) → i < 32 → waiting Up i ≡ true → priority Up i < floor_over (priority Up J)
+  below_j i m q = go (ℕ_discrete i J)
     where
-      go : Dec (i ≡ J) → priority Up i < floorOver (priority Up J)
-      go (yes e) = rw e (omega (arith, rank-j, up-level J, level-j))
-      go (no d) = omega (arith, rank-j, up-level i, w.capped, w.calm i m (waits-else i m d q))
+      go : Dec (i ≡ J) → priority Up i < floor_over (priority Up J)
+      go (yes e) = rw e (omega (arith, rank_j, up_level J, level_j))
+      go (no d) = omega (arith, rank_j, up_level i, w.capped, w.calm i m (waits_else i m d q))
 
-  frames-up : openBytes t Up ≡ sumBelow l (levelBytes t)
-  unfolding openBytes
-  frames-up = unfold openBytes in w.sum
+  frames_up : open_bytes t Up ≡ sum_below l (level_bytes t)
+  unfolding open_bytes
+  frames_up = unfold open_bytes in w.sum
 
   taken : Tower t (suc l) (step Up (Read ivr)).aic
   taken =
-      rw taking (raised t l Up J (priority Up J) takes.word shaped-up small w.tall w.outside w.inner w.lit frames-up frame-j
-      (omega (arith, rank-j)) (λ i m z. and_left (bit Up.memory i) _ (sym (takes.bits i m) ∙ z)) still-low below-j
-      (subst Shaped taking ((Controller.kept).stepShaped Up (Read ivr) shaped-up))
-      (subst (λ (v : Aic). sound v ≡ true) taking ((Controller.kept).stepSound Up (Read ivr) shaped-up sound-up))
-      (subst (Agrees t) taking (agrees-law t Up (Read ivr) (read-steady Up ivr) agrees-up)))
+      rw taking (raised t l Up J (priority Up J) takes.word shaped_up small w.tall w.outside w.inner w.lit frames_up frame_j
+      (omega (arith, rank_j)) (λ i m z. and_left (bit Up.memory i) _ (sym (takes.bits i m) ∙ z)) still-low below_j
+      (subst Shaped taking ((Controller.kept).step_shaped Up (Read ivr) shaped_up))
+      (subst (λ (v : Aic). sound v ≡ true) taking ((Controller.kept).step_sound Up (Read ivr) shaped_up sound_up))
+      (subst (Agrees t) taking (agrees_law t Up (Read ivr) (read-steady Up ivr) agrees_up)))
 
-  take-up : Tower t (suc l) (step (step u (Line J 1)).aic (Read ivr)).aic
-  take-up = rw raising taken
+  take_up : Tower t (suc l) (step (step u (Line J 1)).aic (Read ivr)).aic
+  take_up = rw raising taken
 
 -- ---- all levels
 
 pub record Climbed (t : Table) (u : Aic) : Type 0 where
   pub steps : List Step
   pub held : always steady u steps ≡ true
-  pub full : openBytes t (run u steps) ≡ stackBytes t
+  pub full : open_bytes t (run u steps) ≡ stack_bytes t
 
-at_top : (t : Table) (l : ℕ) (u : Aic) → l ≡ 8 → Tower t l u → openBytes t (run u []) ≡ stackBytes t
-unfolding run stackBytes
+at_top : (t : Table) (l : ℕ) (u : Aic) → l ≡ 8 → Tower t l u → open_bytes t (run u []) ≡ stack_bytes t
+unfolding run stack_bytes
 at_top t l u e w = w.sum ∙ rw e
 
 steadily : (s : Aic) (x : Step) (xs : List Step) → rewrites s x ≡ false → always steady (step s x).aic xs ≡ true → always steady s (x ∷ xs) ≡ true
@@ -380,11 +380,11 @@ climb t (suc k) l u e w = go (filled t l 32) (λ v. climb t k (suc l) v (omega a
   where
     go : (largest t l 32 ≡ t.mark) ⊎ Filler t l 32 → ((v : Aic) → Tower t (suc l) v → Climbed t v) → Climbed t u
     go (inl q) more =
-        let r = more (step u (Read ivr)).aic (mark-up t l u (omega arith) w q) in
+        let r = more (step u (Read ivr)).aic (mark_up t l u (omega arith) w q) in
         record { steps = Read ivr ∷ r.steps; held = steadily u (Read ivr) r.steps (read-steady u ivr) r.held; full = unfold run in r.full }
     go (inr f) more =
         let v = (step u (Line f.who 1)).aic in
-        let r = more (step (step u (Line f.who 1)).aic (Read ivr)).aic (take-up t l u (omega arith) w f) in
+        let r = more (step (step u (Line f.who 1)).aic (Read ivr)).aic (take_up t l u (omega arith) w f) in
         record {
           steps = Line f.who 1 ∷ Read ivr ∷ r.steps;
           held = steadily u (Line f.who 1) (Read ivr ∷ r.steps) (line-steady u f.who 1)

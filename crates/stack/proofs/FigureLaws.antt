@@ -9,25 +9,25 @@ use lib.Dec.{eqb, leb}
 use lib.ListN.{get_or}
 use borrow.Author.Tests.{eq-eqb, ne_eqb, eqb-false, leb-false, not-true}
 use Rattle.words.specs.Choice.{pick}
-use Rattle.words.specs.Counting.{all_below, sumBelow}
+use Rattle.words.specs.Counting.{all_below, sum_below}
 use Rattle.words.specs.Word.{bit}
 use Rattle.words.proofs.TruthLaws.{and_left, and_right, and_both, and_parts, clash, not-holds, told}
 use Rattle.words.proofs.CountingLaws.{all_same}
-use Rattle.steps.specs.Refusals.{carriedOut, oversized}
+use Rattle.steps.specs.Refusals.{carried_out, oversized}
 use Rattle.stack.specs.declared.Table.{Table}
 use Rattle.stack.specs.declared.Needed.{Needed}
-use Rattle.stack.specs.Bytes.{normal, is_of, taller, largest, levelBytes, stackBytes, sourceWithin, withinLimits, needed}
+use Rattle.stack.specs.Bytes.{normal, is_of, taller, largest, level_bytes, stack_bytes, source_within, within_limits, needed}
 use Rattle.stack.specs.Promises.{Beyond, NormalOf, Alike}
-use Rattle.stack.proofs.SumLaws.{mark-small, level-small, kind-small, frame_small, sum-small}
+use Rattle.stack.proofs.SumLaws.{mark_small, level_small, kind_small, frame_small, sum_small}
 use Rattle.stack.proofs.BoundLaws.{mark-fits, frame-fits}
 use Rattle.stack.proofs.ClimbLaws.{Filler, filled, sum_same}
 
 -- ---- the refusal
 
-some-fails : (n : ℕ) (p : ℕ → Bool) → all_below n p ≡ false → (k : ℕ) × (k < n) × (p k ≡ false)
+some_fails : (n : ℕ) (p : ℕ → Bool) → all_below n p ≡ false → (k : ℕ) × (k < n) × (p k ≡ false)
 unfolding all_below
-some-fails zero p h = clash refl h
-some-fails (suc n) p h = go (told (all_below n p)) (told (p n)) (some-fails n p)
+some_fails zero p h = clash refl h
+some_fails (suc n) p h = go (told (all_below n p)) (told (p n)) (some_fails n p)
   where
     go : (all_below n p ≡ true) ⊎ (all_below n p ≡ false) → (p n ≡ true) ⊎ (p n ≡ false) → (all_below n p ≡ false → (k : ℕ) × (k < n) × (p k ≡ false))
         → (k : ℕ) × (k < suc n) × (p k ≡ false)
@@ -35,20 +35,20 @@ some-fails (suc n) p h = go (told (all_below n p)) (told (p n)) (some-fails n p)
     go (inr e) (inl z) ih = let (k, l, q) = ih e in (k, omega arith, q)
     go (inl e) (inl z) ih = clash (and_both e z) h
 
-beyond-not : (t : Table) → Beyond t → withinLimits t ≡ false
-beyond-not t b = not-holds (withinLimits t) (λ h. go h b)
+beyond-not : (t : Table) → Beyond t → within_limits t ≡ false
+beyond-not t b = not-holds (within_limits t) (λ h. go h b)
   where
-    go : withinLimits t ≡ true → Beyond t → ⊥
-    go h (inl m) = omega (arith, mark-small t h)
-    go h (inr (i, l, inl p)) = omega (arith, level-small t h i l)
-    go h (inr (i, l, inr (inl k))) = omega (arith, kind-small t h i l)
+    go : within_limits t ≡ true → Beyond t → ⊥
+    go h (inl m) = omega (arith, mark_small t h)
+    go h (inr (i, l, inl p)) = omega (arith, level_small t h i l)
+    go h (inr (i, l, inr (inl k))) = omega (arith, kind_small t h i l)
     go h (inr (i, l, inr (inr f))) = omega (arith, frame_small t h i l)
 
-not_beyond : (t : Table) → withinLimits t ≡ false → Beyond t
-unfolding withinLimits sourceWithin
+not_beyond : (t : Table) → within_limits t ≡ false → Beyond t
+unfolding within_limits source_within
 not_beyond t h = go (told (leb t.mark 65535))
   where
-    row : (i : ℕ) → i < 32 → sourceWithin t i ≡ false → Beyond t
+    row : (i : ℕ) → i < 32 → source_within t i ≡ false → Beyond t
     row i l z = by (told (leb (get_or t.priority i 0) 7)) (told (leb (get_or t.kind i 0) 3)) (told (leb (get_or t.frame i 0) 65535))
       where
         by : (leb (get_or t.priority i 0) 7 ≡ true) ⊎ (leb (get_or t.priority i 0) 7 ≡ false) → (leb (get_or t.kind i 0) 3 ≡ true) ⊎ (leb (get_or t.kind i 0) 3 ≡ false)
@@ -56,71 +56,71 @@ not_beyond t h = go (told (leb t.mark 65535))
         by (inr p) k f = inr (i, l, inl (leb-false (get_or t.priority i 0) 7 p))
         by (inl p) (inr k) f = inr (i, l, inr (inl (leb-false (get_or t.kind i 0) 3 k)))
         by (inl p) (inl k) (inr f) = inr (i, l, inr (inr (leb-false (get_or t.frame i 0) 65535 f)))
-        by (inl p) (inl k) (inl f) = clash (unfold sourceWithin in (and_both (and_both p k) f)) z
+        by (inl p) (inl k) (inl f) = clash (unfold source_within in (and_both (and_both p k) f)) z
 
     go : (leb t.mark 65535 ≡ true) ⊎ (leb t.mark 65535 ≡ false) → Beyond t
     go (inr m) = inl (leb-false t.mark 65535 m)
-    go (inl m) = all (told (all_below 32 (sourceWithin t)))
+    go (inl m) = all (told (all_below 32 (source_within t)))
       where
-        all : (all_below 32 (sourceWithin t) ≡ true) ⊎ (all_below 32 (sourceWithin t) ≡ false) → Beyond t
-        all (inl a) = clash (unfold withinLimits in (and_both m a)) h
-        all (inr a) = let (i, l, z) = some-fails 32 (sourceWithin t) a in row i l z
+        all : (all_below 32 (source_within t) ≡ true) ⊎ (all_below 32 (source_within t) ≡ false) → Beyond t
+        all (inl a) = clash (unfold within_limits in (and_both m a)) h
+        all (inr a) = let (i, l, z) = some_fails 32 (source_within t) a in row i l z
 
-pub beyond-or : (t : Table) → Beyond t ⊎ (Beyond t → ⊥)
-beyond-or t = go (told (withinLimits t))
+pub beyond_or : (t : Table) → Beyond t ⊎ (Beyond t → ⊥)
+beyond_or t = go (told (within_limits t))
   where
-    go : (withinLimits t ≡ true) ⊎ (withinLimits t ≡ false) → Beyond t ⊎ (Beyond t → ⊥)
+    go : (within_limits t ≡ true) ⊎ (within_limits t ≡ false) → Beyond t ⊎ (Beyond t → ⊥)
     go (inl h) = inr (λ b. clash h (beyond-not t b))
     go (inr h) = inl (not_beyond t h)
 
-needed-none : (t : Table) → withinLimits t ≡ false → needed t ≡ record { refusal = oversized; bytes = 0 }
+needed-none : (t : Table) → within_limits t ≡ false → needed t ≡ record { refusal = oversized; bytes = 0 }
 unfolding needed pick
 needed-none t h = rw h
 
 pub needed-beyond : (t : Table) → Beyond t → needed t ≡ record { refusal = oversized; bytes = 0 }
 needed-beyond t b = needed-none t (beyond-not t b)
 
-needed-some : (t : Table) → withinLimits t ≡ true → needed t ≡ record { refusal = carriedOut; bytes = stackBytes t }
+needed-some : (t : Table) → within_limits t ≡ true → needed t ≡ record { refusal = carried_out; bytes = stack_bytes t }
 unfolding needed pick
 needed-some t h = rw h
 
 pub refused-is : (t : Table) → ((needed t).refusal ≡ oversized) ↔ Beyond t
-refused-is t = (λ e. go e (told (withinLimits t)), λ b. rw (needed-beyond t b))
+refused-is t = (λ e. go e (told (within_limits t)), λ b. rw (needed-beyond t b))
   where
-    go : (needed t).refusal ≡ oversized → (withinLimits t ≡ true) ⊎ (withinLimits t ≡ false) → Beyond t
+    go : (needed t).refusal ≡ oversized → (within_limits t ≡ true) ⊎ (within_limits t ≡ false) → Beyond t
     go e (inl h) = absurd (omega (arith, e, ap (λ (n : Needed). n.refusal) (needed-some t h)))
     go e (inr h) = not_beyond t h
 
-pub refused_none : (t : Table) → (needed t).refusal ≢ carriedOut → needed t ≡ record { refusal = oversized; bytes = 0 }
-refused_none t d = go (told (withinLimits t))
+pub refused_none : (t : Table) → (needed t).refusal ≢ carried_out → needed t ≡ record { refusal = oversized; bytes = 0 }
+refused_none t d = go (told (within_limits t))
   where
-    go : (withinLimits t ≡ true) ⊎ (withinLimits t ≡ false) → needed t ≡ record { refusal = oversized; bytes = 0 }
+    go : (within_limits t ≡ true) ⊎ (within_limits t ≡ false) → needed t ≡ record { refusal = oversized; bytes = 0 }
     go (inl h) = absurd (d (ap (λ (n : Needed). n.refusal) (needed-some t h)))
     go (inr h) = needed-none t h
 
-pub within-not : (t : Table) → (Beyond t → ⊥) → withinLimits t ≡ true
-within-not t n = go (told (withinLimits t))
+pub within-not : (t : Table) → (Beyond t → ⊥) → within_limits t ≡ true
+within-not t n = go (told (within_limits t))
   where
-    go : (withinLimits t ≡ true) ⊎ (withinLimits t ≡ false) → withinLimits t ≡ true
+    go : (within_limits t ≡ true) ⊎ (within_limits t ≡ false) → within_limits t ≡ true
     go (inl h) = h
     go (inr h) = absurd (n (not_beyond t h))
 
-pub answered-is : (t : Table) → (Beyond t → ⊥) → needed t ≡ record { refusal = carriedOut; bytes = stackBytes t }
+pub answered-is : (t : Table) → (Beyond t → ⊥) → needed t ≡ record { refusal = carried_out; bytes = stack_bytes t }
 answered-is t n = needed-some t (within-not t n)
 
-pub summed : (t : Table) → stackBytes t
-    ≡ levelBytes t 0 + levelBytes t 1 + levelBytes t 2 + levelBytes t 3 + levelBytes t 4 + levelBytes t 5 + levelBytes t 6 + levelBytes t 7
-unfolding stackBytes sumBelow
+pub summed : (t : Table) → stack_bytes t
+    ≡ level_bytes t 0 + level_bytes t 1 + level_bytes t 2 + level_bytes t 3 + level_bytes t 4 + level_bytes t 5 + level_bytes t 6 + level_bytes t 7
+unfolding stack_bytes sum_below
 summed t = omega arith
 
-pub most : (t : Table) → (Beyond t → ⊥) → stackBytes t ≤ 524280
-unfolding stackBytes
-most t n = omega (arith, sum-small t (within-not t n) 8)
+pub most : (t : Table) → (Beyond t → ⊥) → stack_bytes t ≤ 524280
+unfolding stack_bytes
+most t n = omega (arith, sum_small t (within-not t n) 8)
 
 -- ---- the figure of a level
 
-pub level-mark : (t : Table) (l : ℕ) → t.mark ≤ levelBytes t l
-unfolding levelBytes
+pub level-mark : (t : Table) (l : ℕ) → t.mark ≤ level_bytes t l
+unfolding level_bytes
 level-mark t l = mark-fits t l 32
 
 is_normal : (t : Table) (i : ℕ) → 1 ≤ i → bit t.forced i ≡ false → normal t i ≡ true
@@ -133,12 +133,12 @@ normal-is t i h =
     let d : i ≢ 0 = eqb-false i 0 (not-true (eqb i 0) (and_left (not (eqb i 0)) _ h)) in
     (omega arith, not-true (bit t.forced i) (and_right (not (eqb i 0)) _ h))
 
-pub level-frame : (t : Table) (l i : ℕ) → NormalOf t l i → get_or t.frame i 0 ≤ levelBytes t l
-unfolding levelBytes
+pub level-frame : (t : Table) (l i : ℕ) → NormalOf t l i → get_or t.frame i 0 ≤ level_bytes t l
+unfolding level_bytes
 level-frame t l i (p, m, f, e) = frame-fits t l 32 i m (is_normal t i p f) e
 
-pub level-met : (t : Table) (l : ℕ) → (levelBytes t l ≡ t.mark) ⊎ ((i : ℕ) × NormalOf t l i × (levelBytes t l ≡ get_or t.frame i 0))
-unfolding levelBytes
+pub level-met : (t : Table) (l : ℕ) → (level_bytes t l ≡ t.mark) ⊎ ((i : ℕ) × NormalOf t l i × (level_bytes t l ≡ get_or t.frame i 0))
+unfolding level_bytes
 level-met t l = go (filled t l 32)
   where
     go : (largest t l 32 ≡ t.mark) ⊎ Filler t l 32 → (largest t l 32 ≡ t.mark) ⊎ ((i : ℕ) × NormalOf t l i × (largest t l 32 ≡ get_or t.frame i 0))
@@ -161,15 +161,15 @@ module _ (t u : Table) (a : Alike t u) where
   largest-same l zero h = a.mark
   largest-same l (suc n) h = rw (largest-same l n (omega arith), normal-same n (omega arith), a.priority, a.frame)
 
-  bytes_same : stackBytes t ≡ stackBytes u
-  unfolding stackBytes levelBytes
+  bytes_same : stack_bytes t ≡ stack_bytes u
+  unfolding stack_bytes level_bytes
   bytes_same = sum_same 8 (λ l. largest t l 32) (λ l. largest u l 32) (λ l m. largest-same l 32 (omega arith))
 
-  limits-same : withinLimits t ≡ withinLimits u
-  unfolding withinLimits
+  limits-same : within_limits t ≡ within_limits u
+  unfolding within_limits
   limits-same =
-      and_parts (ap (λ (m : ℕ). leb m 65535) a.mark) (all_same 32 (sourceWithin t) (sourceWithin u) (λ i l. unfold sourceWithin in (rw (a.priority, a.kind, a.frame))))
+      and_parts (ap (λ (m : ℕ). leb m 65535) a.mark) (all_same 32 (source_within t) (source_within u) (λ i l. unfold source_within in (rw (a.priority, a.kind, a.frame))))
 
-  pub bit-nought : needed t ≡ needed u
+  pub bit_nought : needed t ≡ needed u
   unfolding needed
-  bit-nought = rw (limits-same, bytes_same)
+  bit_nought = rw (limits-same, bytes_same)

@@ -10,7 +10,7 @@ use lib.Dec.{eqb}
 use lib.ListN.{get_or}
 use borrow.Author.Tests.{eq-eqb, ne_eqb}
 use Rattle.words.specs.Choice.{pick}
-use Rattle.words.specs.Counting.{sumBelow}
+use Rattle.words.specs.Counting.{sum_below}
 use Rattle.words.specs.Word.{bit}
 use Rattle.words.proofs.TruthLaws.{told, clash}
 use Rattle.steps.specs.declared.Step.{Step}
@@ -18,7 +18,7 @@ use Rattle.steps.specs.declared.Step.TheVariants.{Read, Write, Line}
 use Rattle.steps.specs.Refusals.{unsound}
 use Rattle.aic_record.specs.declared.Aic.{Aic}
 use Rattle.aic_record.specs.Mode.{priority, kind}
-use Rattle.aic_record.specs.Sound.{sourceAt, sound}
+use Rattle.aic_record.specs.Sound.{source_at, sound}
 use Rattle.aic_record.specs.Promises.{Shaped}
 use Rattle.aic_record.proofs.SoundLaws.{sound-is}
 use Rattle.aic_registers.specs.declared.Answer.{Answer}
@@ -27,39 +27,39 @@ use Rattle.aic_runs.specs.Counted.{steady}
 use Rattle.aic_runs.specs.Runs.{run, always}
 use Rattle.aic_runs.proofs.SoundRuns.{run_sound}
 use Rattle.stack.specs.declared.Table.{Table}
-use Rattle.stack.specs.Bytes.{stackBytes, frame_of, openBytes, Set}
+use Rattle.stack.specs.Bytes.{stack_bytes, frame_of, open_bytes, Set}
 use Rattle.stack.specs.Promises.{Outset, Promises}
 use Rattle.stack.proofs.BoundLaws.{set-fast, bounded, along}
 use Rattle.stack.proofs.SetupLaws.{reached}
-use Rattle.stack.proofs.FigureLaws.{refused-is, refused_none, within-not, answered-is, summed, most, level-mark, level-frame, level-met, bit-nought}
-use Rattle.stack.proofs.PrintedLaws.{figure-text, number-text, printed, printed-refused, printed-most}
+use Rattle.stack.proofs.FigureLaws.{refused-is, refused_none, within-not, answered-is, summed, most, level-mark, level-frame, level-met, bit_nought}
+use Rattle.stack.proofs.PrintedLaws.{figure_text, number_text, printed, printed-refused, printed-most}
 use Rattle.stack.proofs.Worked.{eight-levels, line, plain, forced, refused}
 use Rattle.aic.proofs.Promises as Controller
 
 -- of an unsound record nothing is carried out
 twelve : (s : Aic) (x : Step) → sound s ≡ false → (step s x).refusal ≡ unsound
-twelve s (Read o) e = ((Controller.kept).readNumbers s o).twelve.1 e
-twelve s (Write o v) e = ((Controller.kept).writeNumbers s o v).twelve.1 e
-twelve s (Line k l) e = ((Controller.kept).lineNumbers s k l).twelve.1 e
+twelve s (Read o) e = ((Controller.kept).read_numbers s o).twelve.1 e
+twelve s (Write o v) e = ((Controller.kept).write_numbers s o v).twelve.1 e
+twelve s (Line k l) e = ((Controller.kept).line_numbers s k l).twelve.1 e
 
 stays : (s : Aic) (x : Step) → sound s ≡ false → (step s x).aic ≡ s
-stays s x e = ap (λ (a : Answer). a.aic) ((Controller.kept).refusedSame s x (λ z. omega (arith, twelve s x e)))
+stays s x e = ap (λ (a : Answer). a.aic) ((Controller.kept).refused_same s x (λ z. omega (arith, twelve s x e)))
 
-pub run-stays : (s : Aic) (xs : List Step) → sound s ≡ false → run s xs ≡ s
+pub run_stays : (s : Aic) (xs : List Step) → sound s ≡ false → run s xs ≡ s
 unfolding run
-run-stays s [] e = refl
-run-stays s (x ∷ xs) e = rw (stays s x e) (run-stays s xs e)
+run_stays s [] e = refl
+run_stays s (x ∷ xs) e = rw (stays s x e) (run_stays s xs e)
 
-never-more : (t : Table) (s : Aic) (xs : List Step) → Shaped s → Set t s → always steady s xs ≡ true → openBytes t (run s xs) ≤ stackBytes t
-unfolding openBytes
+never-more : (t : Table) (s : Aic) (xs : List Step) → Shaped s → Set t s → always steady s xs ≡ true → open_bytes t (run s xs) ≤ stack_bytes t
+unfolding open_bytes
 never-more t s xs h b q = go (told (sound s))
   where
-    go : (sound s ≡ true) ⊎ (sound s ≡ false) → sumBelow (run s xs).depth (λ d. frame_of t (sourceAt (run s xs) d)) ≤ stackBytes t
+    go : (sound s ≡ true) ⊎ (sound s ≡ false) → sum_below (run s xs).depth (λ d. frame_of t (source_at (run s xs) d)) ≤ stack_bytes t
     go (inl ok) =
         bounded t (run s xs) (sound-is (run s xs) (run_sound s xs h ok))
         (along t s xs h (record { levels = b.levels; forcings = set-fast t s b.forcings })
         (λ d l. absurd (omega (arith, b.none)), λ w. absurd (omega (arith, b.remembered))) q).0
-    go (inr e) = rw (run-stays s xs e, b.none) (unfold sumBelow in (omega arith))
+    go (inr e) = rw (run_stays s xs e, b.none) (unfold sum_below in (omega arith))
 
 -- two bits are the same exactly if the digits are
 digit-same : (x y : ℕ) → x < 2 → y < 2 → eqb x 1 ≡ eqb y 1 → x ≡ y
@@ -89,35 +89,35 @@ set_is t s = (
   },
 )
 
-open_is : (t : Table) (s : Aic) → openBytes t s
-    ≡ sumBelow s.depth (λ d. pick (eqb (get_or s.source d 0) 0) t.mark (get_or t.frame (get_or s.source d 0) 0))
-unfolding openBytes frame_of
+open_is : (t : Table) (s : Aic) → open_bytes t s
+    ≡ sum_below s.depth (λ d. pick (eqb (get_or s.source d 0) 0) t.mark (get_or t.frame (get_or s.source d 0) 0))
+unfolding open_bytes frame_of
 open_is t s = refl
 
 pub kept : Promises
 kept =
     record {
-      refusedIs = refused-is;
-      refusedNone = refused_none;
-      answeredIs = answered-is;
+      refused_is = refused-is;
+      refused_none = refused_none;
+      answered_is = answered-is;
       summed = summed;
       most = most;
-      levelMark = level-mark;
-      levelFrame = level-frame;
-      levelMet = level-met;
-      bitNought = bit-nought;
-      openIs = open_is;
-      setIs = set_is;
-      neverMore = never-more;
+      level_mark = level-mark;
+      level_frame = level-frame;
+      level_met = level-met;
+      bit_nought = bit_nought;
+      open_is = open_is;
+      set_is = set_is;
+      never_more = never-more;
       reached = λ t n. reached t (within-not t n);
       printed = printed;
-      printedRefused = printed-refused;
-      figureText = figure-text;
-      numberText = number-text;
-      printedMost = printed-most;
-      workedBoard = eight-levels;
-      workedLine = line;
-      workedSparse = plain;
-      workedForced = forced;
-      workedRefused = refused;
+      printed_refused = printed-refused;
+      figure_text = figure_text;
+      number_text = number_text;
+      printed_most = printed-most;
+      worked_board = eight-levels;
+      worked_line = line;
+      worked_sparse = plain;
+      worked_forced = forced;
+      worked_refused = refused;
     }

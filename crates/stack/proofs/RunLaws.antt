@@ -10,16 +10,16 @@ use lib.Dec.{eqb}
 use lib.ListN.{get_or, set}
 use lib.Seq.{get_or-set_same, get_or-set_other}
 use borrow.Author.Tests.{eqb-false, not-true}
-use Rattle.words.specs.Counting.{sumBelow}
+use Rattle.words.specs.Counting.{sum_below}
 use Rattle.words.specs.Word.{bit}
-use Rattle.words.proofs.TruthLaws.{and_left, and_right, or-neither, told}
+use Rattle.words.proofs.TruthLaws.{and_left, and_right, or_neither, told}
 use Rattle.steps.specs.declared.Step.{Step}
 use Rattle.steps.specs.declared.Step.TheVariants.{Read, Write, Line}
 use Rattle.steps.specs.Refusals.{unsound}
 use Rattle.aic_record.specs.declared.Aic.{Aic}
 use Rattle.aic_record.specs.declared.Seen.{Seen}
 use Rattle.aic_record.specs.Mode.{priority}
-use Rattle.aic_record.specs.Sound.{sourceAt, levelBelow, sound}
+use Rattle.aic_record.specs.Sound.{source_at, level_below, sound}
 use Rattle.aic_record.specs.Promises.{Shaped}
 use Rattle.aic_record.proofs.SoundLaws.{seen-sound, sound-is}
 use Rattle.aic_sources.specs.Fast.{fast}
@@ -27,19 +27,19 @@ use Rattle.aic_sources.specs.Normal.{candidates, chosen}
 use Rattle.aic_sources.proofs.HandlerLaws.{candidate-waits, waiting-is, candidate-room}
 use Rattle.aic_sources.proofs.OrderLaws.{chosen_is}
 use Rattle.aic_registers.specs.declared.Answer.{Answer}
-use Rattle.aic_registers.specs.Handlers.{opened, closedLast}
-use Rattle.aic_registers.specs.Effects.{setBy}
+use Rattle.aic_registers.specs.Handlers.{opened, closed_last}
+use Rattle.aic_registers.specs.Effects.{set_by}
 use Rattle.aic.specs.Model.{step}
 use Rattle.aic.proofs.HandlerLaws.{started-is, moded-is, moved-is}
 use Rattle.aic.proofs.StepKindLaws.{kinds}
 use Rattle.aic_runs.specs.Runs.{run}
 use Rattle.aic_runs.proofs.SoundRuns.{run_sound}
 use Rattle.stack.specs.declared.Table.{Table}
-use Rattle.stack.specs.Bytes.{normal, stackBytes, frame_of, openBytes}
+use Rattle.stack.specs.Bytes.{normal, stack_bytes, frame_of, open_bytes}
 use Rattle.stack.specs.Promises.{NormalOf}
 use Rattle.stack.proofs.BoundLaws.{Fits, bounded, pushed, shut, Recalled, Fitted}
-use Rattle.stack.proofs.Promises.{run-stays}
-use Rattle.stack.specs.Kept.{keeps, keepsAlong}
+use Rattle.stack.proofs.Promises.{run_stays}
+use Rattle.stack.specs.Kept.{keeps, keeps_along}
 use Rattle.stack.specs.KeptPromises.{Matches, Stands, Bare}
 use Rattle.stack.proofs.KeptLaws.{keeps-is, first-keeps, rest-keeps}
 use Rattle.aic.proofs.Promises as Controller
@@ -53,7 +53,7 @@ At t j p = (j < 32) × (normal t j ≡ true) × (p ≡ get_or t.priority j 0)
 match-normal : (t : Table) (s : Aic) (j : ℕ) → fast s j ≡ false → Matches t s j → normal t j ≡ true
 unfolding fast normal
 match-normal t s j f m =
-    let z = or-neither (eqb j 0) (bit s.forced j) f in
+    let z = or_neither (eqb j 0) (bit s.forced j) f in
     rw (z.0, sym (m.forcing (eqb-false j 0 z.0)), z.1)
 
 chosen_at : (t : Table) (s : Aic) → keeps t s ≡ true → candidates s ≡ true → At t (chosen s) (priority s (chosen s))
@@ -67,9 +67,9 @@ chosen_at t s k c =
 -- ---- each step leaves such entries
 
 -- of the record before the step alone
-fits-law : (t : Table) (s : Aic) (x : Step) → Shaped s → keeps t s ≡ true → Fitted t s → Fitted t (step s x).aic
-unfolding opened closedLast setBy
-fits-law t s =
+fits_law : (t : Table) (s : Aic) (x : Step) → Shaped s → keeps t s ≡ true → Fitted t s → Fitted t (step s x).aic
+unfolding opened closed_last set_by
+fits_law t s =
     kinds s (λ x u. Shaped s → keeps t s ≡ true → Fitted t s → Fitted t u)
     (record {
       still = λ x p h a f. f;
@@ -81,23 +81,23 @@ fits-law t s =
       take = λ ok i c h a f.
           rw (started-is s (chosen s) (priority s (chosen s)))
           (pushed t s h f.0 (chosen s) (priority s (chosen s)) (candidate-room s (chosen s) (chosen_is s c).fit) (λ d. chosen_at t s a c), f.1);
-      mark = λ ok i n l h a f. (pushed t s h f.0 0 (levelBelow s.level s.depth) l (λ d. absurd (d refl)), f.1);
+      mark = λ ok i n l h a f. (pushed t s h f.0 0 (level_below s.level s.depth) l (λ d. absurd (d refl)), f.1);
       look = λ ok i c h a f. (f.0, λ _. chosen_at t s a c);
-      lookNone = λ ok i n h a f. (f.0, λ w. absurd (omega arith));
+      look_none = λ ok i n h a f. (f.0, λ w. absurd (omega arith));
       begin = λ v ok i w h a f.
           rw (started-is s s.seen.source s.seen.level)
           (pushed t s h f.0 s.seen.source s.seen.level ((seen-sound s ok).room w) (λ d. f.1 w), λ z. absurd (omega arith));
-      beginMark = λ v ok i z w l h a f. (pushed t s h f.0 0 (levelBelow s.level s.depth) l (λ d. absurd (d refl)), λ z. absurd (omega arith));
+      begin_mark = λ v ok i z w l h a f. (pushed t s h f.0 0 (level_below s.level s.depth) l (λ d. absurd (d refl)), λ z. absurd (omega arith));
       close = λ v ok d h a f. (shut t s h f.0 d, f.1);
       command = λ v ok h a f. f;
       move = λ k l ok m n h a f. rw (moved-is s k (eqb l 1)) f;
     })
 
-along : (t : Table) (s : Aic) (xs : List Step) → Shaped s → Fitted t s → keepsAlong t s xs ≡ true → Fitted t (run s xs)
+along : (t : Table) (s : Aic) (xs : List Step) → Shaped s → Fitted t s → keeps_along t s xs ≡ true → Fitted t (run s xs)
 unfolding run
 along t s [] h f q = f
 along t s (x ∷ xs) h f q =
-    along t (step s x).aic xs ((Controller.kept).stepShaped s x h) (fits-law t s x h (first-keeps t s (x ∷ xs) q) f) (rest-keeps t s x xs q)
+    along t (step s x).aic xs ((Controller.kept).step_shaped s x h) (fits_law t s x h (first-keeps t s (x ∷ xs) q) f) (rest-keeps t s x xs q)
 
 bare-fits : (t : Table) (s : Aic) → Bare s → Fitted t s
 bare-fits t s b = (λ d l. absurd (omega (arith, b.0)), λ w. absurd (omega (arith, b.1)))
@@ -113,7 +113,7 @@ at-normal t j p (l, n, e) = (
   sym e,
 )
 
-pub levels-kept : (t : Table) (s : Aic) (xs : List Step) → Shaped s → Bare s → keepsAlong t s xs ≡ true → Stands t (run s xs)
+pub levels-kept : (t : Table) (s : Aic) (xs : List Step) → Shaped s → Bare s → keeps_along t s xs ≡ true → Stands t (run s xs)
 levels-kept t s xs h b q =
     let f = along t s xs h (bare-fits t s b) q in
     record {
@@ -123,23 +123,23 @@ levels-kept t s xs h b q =
 
 -- ---- the open frames
 
-fitted-bytes : (t : Table) (s : Aic) (xs : List Step) → Shaped s → Bare s → Fitted t (run s xs) → openBytes t (run s xs) ≤ stackBytes t
-unfolding openBytes
+fitted-bytes : (t : Table) (s : Aic) (xs : List Step) → Shaped s → Bare s → Fitted t (run s xs) → open_bytes t (run s xs) ≤ stack_bytes t
+unfolding open_bytes
 fitted-bytes t s xs h b f = go (told (sound s))
   where
-    go : (sound s ≡ true) ⊎ (sound s ≡ false) → sumBelow (run s xs).depth (λ d. frame_of t (sourceAt (run s xs) d)) ≤ stackBytes t
+    go : (sound s ≡ true) ⊎ (sound s ≡ false) → sum_below (run s xs).depth (λ d. frame_of t (source_at (run s xs) d)) ≤ stack_bytes t
     go (inl ok) = bounded t (run s xs) (sound-is (run s xs) (run_sound s xs h ok)) f.0
-    go (inr e) = rw (run-stays s xs e, b.0) (unfold sumBelow in (omega arith))
+    go (inr e) = rw (run_stays s xs e, b.0) (unfold sum_below in (omega arith))
 
-pub never-more-kept : (t : Table) (s : Aic) (xs : List Step) → Shaped s → Bare s → keepsAlong t s xs ≡ true → openBytes t (run s xs) ≤ stackBytes t
+pub never-more-kept : (t : Table) (s : Aic) (xs : List Step) → Shaped s → Bare s → keeps_along t s xs ≡ true → open_bytes t (run s xs) ≤ stack_bytes t
 never-more-kept t s xs h b q = fitted-bytes t s xs h b (along t s xs h (bare-fits t s b) q)
 
-along-next : (t : Table) (s : Aic) (xs : List Step) (x : Step) → Shaped s → Fitted t s → keepsAlong t s xs ≡ true → Fitted t (run s (xs ++ (x ∷ [])))
+along_next : (t : Table) (s : Aic) (xs : List Step) (x : Step) → Shaped s → Fitted t s → keeps_along t s xs ≡ true → Fitted t (run s (xs ++ (x ∷ [])))
 unfolding run
-along-next t s [] x h f q = fits-law t s x h (first-keeps t s [] q) f
-along-next t s (y ∷ ys) x h f q =
-    along-next t (step s y).aic ys x ((Controller.kept).stepShaped s y h) (fits-law t s y h (first-keeps t s (y ∷ ys) q) f) (rest-keeps t s y ys q)
+along_next t s [] x h f q = fits_law t s x h (first-keeps t s [] q) f
+along_next t s (y ∷ ys) x h f q =
+    along_next t (step s y).aic ys x ((Controller.kept).step_shaped s y h) (fits_law t s y h (first-keeps t s (y ∷ ys) q) f) (rest-keeps t s y ys q)
 
-pub never-more-next : (t : Table) (s : Aic) (xs : List Step) (x : Step) → Shaped s → Bare s → keepsAlong t s xs ≡ true
-    → openBytes t (run s (xs ++ (x ∷ []))) ≤ stackBytes t
-never-more-next t s xs x h b q = fitted-bytes t s (xs ++ (x ∷ [])) h b (along-next t s xs x h (bare-fits t s b) q)
+pub never-more_next : (t : Table) (s : Aic) (xs : List Step) (x : Step) → Shaped s → Bare s → keeps_along t s xs ≡ true
+    → open_bytes t (run s (xs ++ (x ∷ []))) ≤ stack_bytes t
+never-more_next t s xs x h b q = fitted-bytes t s (xs ++ (x ∷ [])) h b (along_next t s xs x h (bare-fits t s b) q)

@@ -10,16 +10,16 @@ use lib.Dec.{eqb}
 use lib.ListN.{get_or, set}
 use lib.Seq.{get_or-set_same, get_or-set_other}
 use borrow.Author.Tests.{ne_eqb}
-use Rattle.words.specs.Counting.{sumBelow}
+use Rattle.words.specs.Counting.{sum_below}
 use Rattle.words.specs.Word.{bit, word_of}
 use Rattle.words.proofs.TruthLaws.{and_left, or_right, clash, not-holds, told}
-use Rattle.words.proofs.WordLaws.{bit-none, bit-wordOf}
+use Rattle.words.proofs.WordLaws.{bit-none, bit-word_of}
 use Rattle.steps.specs.declared.Step.{Step}
 use Rattle.steps.specs.declared.Step.TheVariants.{Write}
 use Rattle.aic_record.specs.declared.Aic.{Aic}
-use Rattle.aic_record.specs.Record.{withEnabled, withMemory, withForced, withMode, reset}
-use Rattle.aic_record.specs.Mode.{priority, kind, edge, type_of, priorityOf, keptMode}
-use Rattle.aic_record.specs.Sound.{noLevel, levelBelow, protects, sound}
+use Rattle.aic_record.specs.Record.{with_enabled, with_memory, with_forced, with_mode, reset}
+use Rattle.aic_record.specs.Mode.{priority, kind, edge, type_of, priority_of, kept_mode}
+use Rattle.aic_record.specs.Sound.{no_level, level_below, protects, sound}
 use Rattle.aic_record.specs.Promises.{Shaped}
 use Rattle.aic_record.proofs.PassLaws.{floor-free}
 use Rattle.aic_record.proofs.SoundLaws.{below_none}
@@ -31,9 +31,9 @@ use Rattle.aic.specs.Model.{step, write}
 use Rattle.aic.specs.Tables.{Sets}
 use Rattle.aic_runs.specs.Runs.{run}
 use Rattle.stack.specs.declared.Table.{Table}
-use Rattle.stack.specs.Bytes.{openBytes, withinLimits, Set}
+use Rattle.stack.specs.Bytes.{open_bytes, within_limits, Set}
 use Rattle.stack.specs.Promises.{Reached}
-use Rattle.stack.proofs.SumLaws.{level-small, kind-small}
+use Rattle.stack.proofs.SumLaws.{level_small, kind_small}
 use Rattle.stack.proofs.BoundLaws.{set-fast}
 use Rattle.stack.proofs.ClimbLaws.{rank, Tower, Climbed, climb}
 use Rattle.aic_record.proofs.Promises as Record
@@ -60,21 +60,21 @@ pub record Ready (t : Table) (n : ℕ) (u : Aic) : Type 0 where
 abbrev mode_of : Table → ℕ → ℕ
 mode_of t n = get_or t.kind n 0 * 32 + get_or t.priority n 0
 
-priority-of : (k p : ℕ) → p ≤ 7 → priorityOf (k * 32 + p) ≡ p
-priority-of k p b = omega arith
+priority_of_lem : (k p : ℕ) → p ≤ 7 → priority_of (k * 32 + p) ≡ p
+priority_of_lem k p b = omega arith
 
-type-of : (k p : ℕ) → k ≤ 3 → p ≤ 7 → type_of (k * 32 + p) ≡ k
-type-of k p a b =
+type_of_lem : (k p : ℕ) → k ≤ 3 → p ≤ 7 → type_of (k * 32 + p) ≡ k
+type_of_lem k p a b =
     let d : (k * 32 + p) / 32 ≡ k = omega arith in
     rw d (omega arith)
 
 -- the mode of source n is put anew, and of what was remembered w is left
-abbrev put-mode : Aic → ℕ → ℕ → ℕ → Aic
-put-mode u n v w = withMode (withMemory u w) (set u.mode n (keptMode v))
+abbrev put_mode : Aic → ℕ → ℕ → ℕ → Aic
+put_mode u n v w = with_mode (with_memory u w) (set u.mode n (kept_mode v))
 
 pub record Put (u : Aic) (n v : ℕ) : Type 0 where
   pub word : ℕ
-  pub is : (step u (Write (n * 4) v)).aic ≡ put-mode u n v word
+  pub is : (step u (Write (n * 4) v)).aic ≡ put_mode u n v word
   pub fewer : (i : ℕ) → i < 32 → bit word i ≡ true → bit u.memory i ≡ true
 
 putting : (u : Aic) (n v : ℕ) → sound u ≡ true → n < 32 → Put u n v
@@ -103,20 +103,20 @@ module _ (t : Table) (n : ℕ) (u : Aic) (small : n < 32) (p : get_or t.priority
   put = putting u n Val r.ok small
 
   abbrev Next : Aic
-  Next = put-mode u n Val put.word
+  Next = put_mode u n Val put.word
 
-  kept-is : (priorityOf (keptMode Val) ≡ get_or t.priority n 0) × (type_of (keptMode Val) ≡ get_or t.kind n 0)
+  kept-is : (priority_of (kept_mode Val) ≡ get_or t.priority n 0) × (type_of (kept_mode Val) ≡ get_or t.kind n 0)
   kept-is =
-      let f = (Record.kept).keptFields Val in
-      (f.0 ∙ priority-of (get_or t.kind n 0) (get_or t.priority n 0) p, f.1 ∙ type-of (get_or t.kind n 0) (get_or t.priority n 0) k p)
+      let f = (Record.kept).kept_fields Val in
+      (f.0 ∙ priority_of_lem (get_or t.kind n 0) (get_or t.priority n 0) p, f.1 ∙ type_of_lem (get_or t.kind n 0) (get_or t.priority n 0) k p)
 
-  set-modes : (i : ℕ) → i < suc n → (priority Next i ≡ get_or t.priority i 0) × (kind Next i ≡ get_or t.kind i 0)
+  set_modes : (i : ℕ) → i < suc n → (priority Next i ≡ get_or t.priority i 0) × (kind Next i ≡ get_or t.kind i 0)
   unfolding priority kind
-  set-modes i l = go (ℕ_discrete i n)
+  set_modes i l = go (ℕ_discrete i n)
     where
-      go : Dec (i ≡ n) → (priorityOf (get_or (set u.mode n (keptMode Val)) i 0) ≡ get_or t.priority i 0) × (type_of (get_or (set u.mode n (keptMode Val)) i 0) ≡ get_or t.kind i 0)
-      go (yes e) = rw (e, get_or-set_same u.mode n (keptMode Val) 0 (omega (arith, r.shaped.0))) kept-is
-      go (no d) = rw (get_or-set_other u.mode n i (keptMode Val) 0 d) (unfold priority kind in (r.modes i (omega arith)))
+      go : Dec (i ≡ n) → (priority_of (get_or (set u.mode n (kept_mode Val)) i 0) ≡ get_or t.priority i 0) × (type_of (get_or (set u.mode n (kept_mode Val)) i 0) ≡ get_or t.kind i 0)
+      go (yes e) = rw (e, get_or-set_same u.mode n (kept_mode Val) 0 (omega (arith, r.shaped.0))) kept-is
+      go (no d) = rw (get_or-set_other u.mode n i (kept_mode Val) 0 d) (unfold priority kind in (r.modes i (omega arith)))
 
   blanks : (i : ℕ) → i < 32 → bit put.word i ≡ false
   blanks i l = not-holds (bit put.word i) (λ z. clash (put.fewer i l z) (r.blank i l))
@@ -124,8 +124,8 @@ module _ (t : Table) (n : ℕ) (u : Aic) (small : n < 32) (p : get_or t.priority
   ready-more : Ready t (suc n) (step u (Write (n * 4) Val)).aic
   ready-more =
       rw put.is (record {
-        shaped = subst Shaped put.is ((Controller.kept).stepShaped u (Write (n * 4) Val) r.shaped);
-        ok = subst (λ (v : Aic). sound v ≡ true) put.is ((Controller.kept).stepSound u (Write (n * 4) Val) r.shaped r.ok);
+        shaped = subst Shaped put.is ((Controller.kept).step_shaped u (Write (n * 4) Val) r.shaped);
+        ok = subst (λ (v : Aic). sound v ≡ true) put.is ((Controller.kept).step_sound u (Write (n * 4) Val) r.shaped r.ok);
         outside = r.outside;
         remembered = r.remembered;
         inner = r.inner;
@@ -134,7 +134,7 @@ module _ (t : Table) (n : ℕ) (u : Aic) (small : n < 32) (p : get_or t.priority
         lit = r.lit;
         forcings = r.forcings;
         empty = r.empty;
-        modes = set-modes;
+        modes = set_modes;
       })
 
 -- what the modes are set by
@@ -146,11 +146,11 @@ all_set : (t : Table) (n : ℕ) (u : Aic) → n ≡ 32 → Ready t n u → Ready
 unfolding run
 all_set t n u e r = subst (λ (m : ℕ). Ready t m u) e r
 
-settle : (t : Table) → withinLimits t ≡ true → (k n : ℕ) (u : Aic) → k + n ≡ 32 → Ready t n u → Settled t u
+settle : (t : Table) → within_limits t ≡ true → (k n : ℕ) (u : Aic) → k + n ≡ 32 → Ready t n u → Settled t u
 settle t fits zero n u e r = record { steps = []; ready = all_set t n u (omega arith) r }
 settle t fits (suc k) n u e r =
     go (settle t fits k (suc n) (step u (Write (n * 4) (mode_of t n))).aic (omega arith)
-    (ready-more t n u (omega arith) (level-small t fits n (omega arith)) (kind-small t fits n (omega arith)) r))
+    (ready-more t n u (omega arith) (level_small t fits n (omega arith)) (kind_small t fits n (omega arith)) r))
   where
     go : Settled t (step u (Write (n * 4) (mode_of t n))).aic → Settled t u
     go s = record { steps = Write (n * 4) (mode_of t n) ∷ s.steps; ready = unfold run in s.ready }
@@ -167,32 +167,32 @@ module _ (t : Table) where
   abbrev R : Aic
   R = reset 0 0
 
-  ok-r : sound R ≡ true
-  ok-r = (Record.kept).resetSound 0 0
+  ok_r : sound R ≡ true
+  ok_r = (Record.kept).reset_sound 0 0
 
-  shaped-r : Shaped R
-  shaped-r = (Record.kept).resetShaped 0 0
+  shaped_r : Shaped R
+  shaped_r = (Record.kept).reset_shaped 0 0
 
-  forces : Sets (write R ffer t.forced) 0 R.forced (withForced R) (λ k. bit R.forced k || (bit t.forced k && not (eqb k 0)))
-  forces = ((Controller.kept).writes R t.forced ok-r).forces
+  forces : Sets (write R ffer t.forced) 0 R.forced (with_forced R) (λ k. bit R.forced k || (bit t.forced k && not (eqb k 0)))
+  forces = ((Controller.kept).writes R t.forced ok_r).forces
 
   abbrev F : Aic
-  F = withForced R forces.word
+  F = with_forced R forces.word
 
   forced-is : (step R (Write ffer t.forced)).aic ≡ F
   forced-is = ap (λ (a : Answer). a.aic) forces.done
 
   ok_f : sound F ≡ true
-  ok_f = subst (λ (v : Aic). sound v ≡ true) forced-is ((Controller.kept).stepSound R (Write ffer t.forced) shaped-r ok-r)
+  ok_f = subst (λ (v : Aic). sound v ≡ true) forced-is ((Controller.kept).step_sound R (Write ffer t.forced) shaped_r ok_r)
 
-  shaped-f : Shaped F
-  shaped-f = subst Shaped forced-is ((Controller.kept).stepShaped R (Write ffer t.forced) shaped-r)
+  shaped_f : Shaped F
+  shaped_f = subst Shaped forced-is ((Controller.kept).step_shaped R (Write ffer t.forced) shaped_r)
 
-  lights : Sets (write F iecr all) 0 F.enabled (withEnabled F) (λ k. bit F.enabled k || bit all k)
+  lights : Sets (write F iecr all) 0 F.enabled (with_enabled F) (λ k. bit F.enabled k || bit all k)
   lights = ((Controller.kept).writes F all ok_f).enables
 
   abbrev L : Aic
-  L = withEnabled F lights.word
+  L = with_enabled F lights.word
 
   lit_is : (step F (Write iecr all)).aic ≡ L
   lit_is = ap (λ (a : Answer). a.aic) lights.done
@@ -201,27 +201,27 @@ module _ (t : Table) where
   kept-bit true = refl
   kept-bit false = refl
 
-  first-forcing : (i : ℕ) → 1 ≤ i → i < 32 → bit L.forced i ≡ bit t.forced i
-  first-forcing i p l = forces.bits i l ∙ unfold reset in (rw (bit-none i, ne_eqb i 0 (λ z. omega arith)) (kept-bit (bit t.forced i)))
+  first_forcing : (i : ℕ) → 1 ≤ i → i < 32 → bit L.forced i ≡ bit t.forced i
+  first_forcing i p l = forces.bits i l ∙ unfold reset in (rw (bit-none i, ne_eqb i 0 (λ z. omega arith)) (kept-bit (bit t.forced i)))
 
-  ready-l : Ready t 0 L
-  ready-l =
+  ready_l : Ready t 0 L
+  ready_l =
       record {
-        shaped = subst Shaped lit_is ((Controller.kept).stepShaped F (Write iecr all) shaped-f);
-        ok = subst (λ (v : Aic). sound v ≡ true) lit_is ((Controller.kept).stepSound F (Write iecr all) shaped-f ok_f);
+        shaped = subst Shaped lit_is ((Controller.kept).step_shaped F (Write iecr all) shaped_f);
+        ok = subst (λ (v : Aic). sound v ≡ true) lit_is ((Controller.kept).step_sound F (Write iecr all) shaped_f ok_f);
         outside = unfold reset in (bit-none 0);
         remembered = unfold reset in refl;
         inner = unfold reset in refl;
         dark = unfold reset in refl;
         blank = λ i l. unfold reset in (bit-none i);
-        lit = λ i l. lights.bits i l ∙ or_right (bit F.enabled i) (bit-wordOf 32 (λ k. true) i l);
-        forcings = first-forcing;
+        lit = λ i l. lights.bits i l ∙ or_right (bit F.enabled i) (bit-word_of 32 (λ k. true) i l);
+        forcings = first_forcing;
         empty = unfold reset in refl;
         modes = λ i l. absurd (omega arith);
       }
 
   pub first : Ready t 0 (prepared t)
-  first = subst (λ (v : Aic). Ready t 0 (step v (Write iecr all)).aic) (sym forced-is) (subst (Ready t 0) (sym lit_is) ready-l)
+  first = subst (λ (v : Aic). Ready t 0 (step v (Write iecr all)).aic) (sym forced-is) (subst (Ready t 0) (sym lit_is) ready_l)
 
 -- ---- the ground of the tower
 
@@ -229,15 +229,15 @@ module _ (t : Table) (u : Aic) (r : Ready t 32 u) where
   low-line : (i : ℕ) → bit u.lines i ≡ false
   low-line i = rw r.dark (bit-none i)
 
-  none-pends : (i : ℕ) → i < 32 → pending u i ≡ false
-  none-pends i l = go (told (edge u i))
+  none_pends : (i : ℕ) → i < 32 → pending u i ≡ false
+  none_pends i l = go (told (edge u i))
     where
       go : (edge u i ≡ true) ⊎ (edge u i ≡ false) → pending u i ≡ false
-      go (inl e) = (Sources.kept).edgePending u i e ∙ r.blank i l
-      go (inr e) = (Sources.kept).levelPending u i e ∙ (Sources.kept).highActive u i (inl (rw r.inner (bit-none i))) ∙ low-line i
+      go (inl e) = (Sources.kept).edge_pending u i e ∙ r.blank i l
+      go (inr e) = (Sources.kept).level_pending u i e ∙ (Sources.kept).high_active u i (inl (rw r.inner (bit-none i))) ∙ low-line i
 
   no-rank : rank u ≡ 0
-  no-rank = rw r.empty (sym (floor-free noLevel (levelBelow u.level 0) (sym (below_none u.level)) refl))
+  no-rank = rw r.empty (sym (floor-free no_level (level_below u.level 0) (sym (below_none u.level)) refl))
 
   ground : Tower t 0 u
   ground =
@@ -251,8 +251,8 @@ module _ (t : Table) (u : Aic) (r : Ready t 32 u) where
         tall = r.empty;
         capped = omega (arith, no-rank);
         low = λ i l p. low-line i;
-        calm = λ i l q. clash (waiting-is u i q).0 (none-pends i l);
-        sum = unfold openBytes sumBelow in (rw r.empty);
+        calm = λ i l q. clash (waiting-is u i q).0 (none_pends i l);
+        sum = unfold open_bytes sum_below in (rw r.empty);
       }
 
   begins : Set t u
@@ -269,7 +269,7 @@ joined t s c =
       full = c.full;
     }
 
-pub reached : (t : Table) → withinLimits t ≡ true → Reached t
+pub reached : (t : Table) → within_limits t ≡ true → Reached t
 reached t fits =
     let s = settle t fits 32 0 (prepared t) refl (first t) in
     joined t s (climb t 8 0 (run (prepared t) s.steps) refl (ground t (run (prepared t) s.steps) s.ready))

@@ -18,16 +18,16 @@ pair =
     }
 
 -- the modes of 1 and 2 and the forcing of 3 are written, one by one, then sources 0 to 3 are enabled; 1 has an edge, and its handler is started
-unfoldable pub startUp : List Step
-startUp = Write 0x04 0x62 ∷ Write 0x08 0x65 ∷ Write 0x140 0x08 ∷ Write 0x120 0x0F ∷ Line 1 1 ∷ Read 0x100 ∷ []
+unfoldable pub start_up : List Step
+start_up = Write 0x04 0x62 ∷ Write 0x08 0x65 ∷ Write 0x140 0x08 ∷ Write 0x120 0x0F ∷ Line 1 1 ∷ Read 0x100 ∷ []
 
 -- then, with its handler open, 1 is turned off, its mode is written anew, and 1 is forced; 2 has an edge, and is started over it
 unfoldable pub shifted : List Step
-shifted = startUp ++ (Write 0x124 0x02 ∷ Write 0x04 0x67 ∷ Write 0x140 0x02 ∷ Line 2 1 ∷ Read 0x100 ∷ [])
+shifted = start_up ++ (Write 0x124 0x02 ∷ Write 0x04 0x67 ∷ Write 0x140 0x02 ∷ Line 2 1 ∷ Read 0x100 ∷ [])
 
 -- or 2 is started over it, and 1 has another edge
 unfoldable pub stacked : List Step
-stacked = startUp ++ (Line 2 1 ∷ Read 0x100 ∷ Line 1 0 ∷ Line 1 1 ∷ [])
+stacked = start_up ++ (Line 2 1 ∷ Read 0x100 ∷ Line 1 0 ∷ Line 1 1 ∷ [])
 
 -- and then 1, which is on, is given priority 7 for as long as one read of IVR
 unfoldable pub raised : List Step

@@ -1,6 +1,6 @@
 // Whether a record of the controller keeps a priority table, and which source does not.
 ghost use Rattle.std.specs.Prelude.{◌≡◌, ◌<◌};
-ghost use Rattle.stack.specs.Kept.{sameMode, sameForcing, sourceKeeps, keeps, unkept};
+ghost use Rattle.stack.specs.Kept.{same_mode, same_forcing, source_keeps, keeps, unkept};
 
 use super::Table;
 use aic_record::Aic;
@@ -8,7 +8,7 @@ use aic_record::Aic;
 // Whether source i has the table's priority and type.
 fn has_mode(t: Table, s: Aic, i: u32) -> bool
     requires { i < 32 }
-    ensures { result ≡ sameMode t s i }
+    ensures { result ≡ same_mode t s i }
 {
     let at = i as usize;
     let mode = aic_record::mode_at(s, i);
@@ -19,7 +19,7 @@ fn has_mode(t: Table, s: Aic, i: u32) -> bool
 // Whether source i has the table's forcing; of source 0 it is not asked.
 fn has_forcing(t: Table, s: Aic, i: u32) -> bool
     requires { i < 32 }
-    ensures { result ≡ sameForcing t s i }
+    ensures { result ≡ same_forcing t s i }
 {
     let ours = words::one_if(words::has(s.forced, i));
     let theirs = words::one_if(words::has(t.forced, i));
@@ -29,7 +29,7 @@ fn has_forcing(t: Table, s: Aic, i: u32) -> bool
 // Whether source i is off, or is as the table has it.
 fn source_keeps(t: Table, s: Aic, i: u32) -> bool
     requires { i < 32 }
-    ensures { result ≡ sourceKeeps t s i }
+    ensures { result ≡ source_keeps t s i }
 {
     !words::has(s.enabled, i) | (has_mode(t, s, i) & has_forcing(t, s, i))
 }

@@ -1,8 +1,8 @@
 // The stack that open handlers and marks need, in bytes (02, 4/12).
 ghost use Rattle.std.specs.Prelude.{◌≡◌, true, ◌<◌};
 ghost use Rattle.text.specs.Text.{write, laid};
-ghost use Rattle.stack.specs.Bytes.{is_of, taller, levelBytes, stackBytes, sourceWithin, withinLimits, needed};
-ghost use Rattle.stack.specs.Printed.{figureLine, numberLine, text_of};
+ghost use Rattle.stack.specs.Bytes.{is_of, taller, level_bytes, stack_bytes, source_within, within_limits, needed};
+ghost use Rattle.stack.specs.Printed.{figure_line, number_line, text_of};
 
 pub mod kept;
 
@@ -47,7 +47,7 @@ fn taller(t: Table, l: u32, b: u32, i: u32) -> u32
 
 // What level l needs: the largest among the mark's frame and those of its normal sources.
 pub fn level_bytes(t: Table, l: u32) -> u32
-    ensures { result ≡ levelBytes t l }
+    ensures { result ≡ level_bytes t l }
 {
     let mut b = t.mark;
     let mut i: u32 = 0;
@@ -61,7 +61,7 @@ pub fn level_bytes(t: Table, l: u32) -> u32
 // Whether the priority, the type and the frame of source i are within their limits.
 fn source_within(t: Table, i: u32) -> bool
     requires { i < 32 }
-    ensures { result ≡ sourceWithin t i }
+    ensures { result ≡ source_within t i }
 {
     let at = i as usize;
     (t.priority[at] <= 7) & (t.kind[at] <= 3) & (t.frame[at] <= 65535)
@@ -69,7 +69,7 @@ fn source_within(t: Table, i: u32) -> bool
 
 // Whether no number of the table is beyond its limit.
 fn within_limits(t: Table) -> bool
-    ensures { result ≡ withinLimits t }
+    ensures { result ≡ within_limits t }
 {
     let mut ok = true;
     let mut i: u32 = 0;
@@ -82,8 +82,8 @@ fn within_limits(t: Table) -> bool
 
 // What all eight levels need.
 fn sum_levels(t: Table) -> u32
-    requires { withinLimits t ≡ true }
-    ensures { result ≡ stackBytes t }
+    requires { within_limits t ≡ true }
+    ensures { result ≡ stack_bytes t }
 {
     let mut sum: u32 = 0;
     let mut l: u32 = 0;
@@ -113,7 +113,7 @@ pub fn needed_by(t: Table) -> Needed
 
 // The figure and the word bytes.
 fn put_figure(out: &mut [u8], bytes: u32) -> usize
-    ensures { (out.new, result) ≡ write (out.old, 0) (figureLine bytes) }
+    ensures { (out.new, result) ≡ write (out.old, 0) (figure_line bytes) }
 {
     let at = text::put_decimal(out, 0, bytes as u64);
     text::put_all(out, at, b" bytes\n")
@@ -121,7 +121,7 @@ fn put_figure(out: &mut [u8], bytes: u32) -> usize
 
 // E and the number of a refusal.
 fn put_number(out: &mut [u8], refusal: u32) -> usize
-    ensures { (out.new, result) ≡ write (out.old, 0) (numberLine refusal) }
+    ensures { (out.new, result) ≡ write (out.old, 0) (number_line refusal) }
 {
     let first = text::put(out, 0, b'E');
     let next = text::put_field(out, first, refusal as u64);

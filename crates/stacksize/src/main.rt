@@ -1,8 +1,8 @@
 // Prints the stack size of the typed table on standard input; of a refused table also, on standard error, the line that leads to the slip. Where the
 // table cannot be read, or its line not be written, one line on standard error says so.
 ghost use Rattle.std.specs.Prelude.{◌≡◌, List, ℕ, ◌≤◌, length};
-ghost use Rattle.tables.specs.Reading.{answerTo};
-ghost use Rattle.tables.specs.Slips.{slipLine};
+ghost use Rattle.tables.specs.Reading.{answer_to};
+ghost use Rattle.tables.specs.Slips.{slip_line};
 
 // One byte more is read than a table may have, so that a longer one is told apart.
 fn main() {
@@ -45,7 +45,7 @@ fn tell(what: &[u8]) {
 // A buffer that any line of a slip fits.
 fn slip_room() -> [u8; 85]
     ensures value { 85 ≡ length result }
-    ensures any { (s : List ℕ) → length (slipLine s) ≤ length result }
+    ensures any { (s : List ℕ) → length (slip_line s) ≤ length result }
 {
     [0; 85]
 }
@@ -53,7 +53,7 @@ fn slip_room() -> [u8; 85]
 // A buffer that any line of an answer fits.
 fn room() -> [u8; 13]
     ensures value { 13 ≡ length result }
-    ensures any { (s : List ℕ) → length (answerTo s) ≤ length result }
+    ensures any { (s : List ℕ) → length (answer_to s) ≤ length result }
 {
     [0; 13]
 }

@@ -8,10 +8,10 @@ use native.Mathlib.Decide.{dec_lt, dec_le, ℕ_discrete}
 use borrow.Author.Tests.{eq-eqb, ne_eqb, lt-ltb, le-ltb, le-leb, lt-leb}
 use lib.Dec.{eqb, ltb, leb}
 use Rattle.words.specs.Choice.{pick}
-use Rattle.words.proofs.ChoiceLaws.{pick-cases}
+use Rattle.words.proofs.ChoiceLaws.{pick_cases}
 use Rattle.steps.specs.declared.Access.{Access}
 use Rattle.steps.specs.declared.Access.TheVariants.{NoRegister, ReadOnly, WriteOnly, ReadWrite}
-use Rattle.steps.specs.Refusals.{readRefusal, writeRefusal, lineRefusal, readAccess, writeAccess}
+use Rattle.steps.specs.Refusals.{read_refusal, write_refusal, line_refusal, read_access, write_access}
 use Rattle.steps.specs.Tables.{ReadTable, WriteTable, LineTable, Readable, Writable}
 use Rattle.steps.specs.Promises.{Promises, Numbers, ValueNumber}
 
@@ -62,14 +62,14 @@ apart : {a b : Access} → code a ≢ code b → a ≢ b
 apart d e = d (ap code e)
 
 -- what an aligned read answers
-read-absent : (a : Access) → (readAccess a ≡ 2) ↔ (a ≡ NoRegister)
+read-absent : (a : Access) → (read_access a ≡ 2) ↔ (a ≡ NoRegister)
 unfolding code
 read-absent NoRegister = ever refl refl
 read-absent ReadOnly = never (omega arith) (apart (omega arith))
 read-absent WriteOnly = never (omega arith) (apart (omega arith))
 read-absent ReadWrite = never (omega arith) (apart (omega arith))
 
-read-unreadable : (a : Access) → (readAccess a ≡ 3) ↔ (a ≡ WriteOnly)
+read-unreadable : (a : Access) → (read_access a ≡ 3) ↔ (a ≡ WriteOnly)
 unfolding code
 read-unreadable NoRegister = never (omega arith) (apart (omega arith))
 read-unreadable ReadOnly = never (omega arith) (apart (omega arith))
@@ -79,35 +79,35 @@ read-unreadable ReadWrite = never (omega arith) (apart (omega arith))
 neither : {a : Access} (b c : Access) → code a ≢ code b → code a ≢ code c → (a ≡ b) ⊎ (a ≡ c) → ⊥
 neither b c p q = ⊎_elim (apart p) (apart q)
 
-read-carried : (a : Access) → (readAccess a ≡ 0) ↔ Readable a
+read-carried : (a : Access) → (read_access a ≡ 0) ↔ Readable a
 unfolding code
 read-carried NoRegister = never (omega arith) (neither ReadOnly ReadWrite (omega arith) (omega arith))
 read-carried ReadOnly = ever refl (inl refl)
 read-carried WriteOnly = never (omega arith) (neither ReadOnly ReadWrite (omega arith) (omega arith))
 read-carried ReadWrite = ever refl (inr refl)
 
-read_small : (a : Access) → (readAccess a ≢ 1) × (readAccess a ≢ 12)
+read_small : (a : Access) → (read_access a ≢ 1) × (read_access a ≢ 12)
 read_small NoRegister = (omega arith, omega arith)
 read_small ReadOnly = (omega arith, omega arith)
 read_small WriteOnly = (omega arith, omega arith)
 read_small ReadWrite = (omega arith, omega arith)
 
-pub read_table : (sound : Bool) (offset : ℕ) (access : Access) → ReadTable sound offset access (readRefusal sound offset access)
-unfolding readRefusal
+pub read_table : (sound : Bool) (offset : ℕ) (access : Access) → ReadTable sound offset access (read_refusal sound offset access)
+unfolding read_refusal
 read_table s o a =
     record {
-      twelve = stopped s x 12 not-twelve;
-      one = passed s x 12 1 (omega arith) (slanted o (readAccess a) (read_small a).0);
-      two = passed s x 12 2 (omega arith) (aligned o (readAccess a) 2 (a ≡ NoRegister) (omega arith) (read-absent a));
-      three = passed s x 12 3 (omega arith) (aligned o (readAccess a) 3 (a ≡ WriteOnly) (omega arith) (read-unreadable a));
-      none = passed s x 12 0 (omega arith) (aligned o (readAccess a) 0 (Readable a) (omega arith) (read-carried a));
+      twelve = stopped s x 12 not_twelve;
+      one = passed s x 12 1 (omega arith) (slanted o (read_access a) (read_small a).0);
+      two = passed s x 12 2 (omega arith) (aligned o (read_access a) 2 (a ≡ NoRegister) (omega arith) (read-absent a));
+      three = passed s x 12 3 (omega arith) (aligned o (read_access a) 3 (a ≡ WriteOnly) (omega arith) (read-unreadable a));
+      none = passed s x 12 0 (omega arith) (aligned o (read_access a) 0 (Readable a) (omega arith) (read-carried a));
     }
   where
     x : ℕ
-    x = pick (eqb (o % 4) 0) (readAccess a) 1
+    x = pick (eqb (o % 4) 0) (read_access a) 1
 
-    not-twelve : pick (eqb (o % 4) 0) (readAccess a) 1 ≢ 12
-    not-twelve = pick-cases (λ n. n ≢ 12) (eqb (o % 4) 0) (λ _. (read_small a).1) (λ _. omega arith)
+    not_twelve : pick (eqb (o % 4) 0) (read_access a) 1 ≢ 12
+    not_twelve = pick_cases (λ n. n ≢ 12) (eqb (o % 4) 0) (λ _. (read_small a).1) (λ _. omega arith)
 
 -- what an aligned write answers, of a value that has one of the numbers 0, 5 and 6
 small : (value m : ℕ) → ValueNumber value → m ≢ 0 → m ≢ 5 → m ≢ 6 → value ≢ m
@@ -116,7 +116,7 @@ small value m (inr (inl e)) p q r h = q (sym h ∙ e)
 small value m (inr (inr e)) p q r h = r (sym h ∙ e)
 
 -- a number that no register gives by itself is given exactly if the register takes the value and the value has it
-write-value : (a : Access) (value m : ℕ) → m ≢ 2 → m ≢ 4 → (writeAccess a value ≡ m) ↔ (Writable a × (value ≡ m))
+write-value : (a : Access) (value m : ℕ) → m ≢ 2 → m ≢ 4 → (write_access a value ≡ m) ↔ (Writable a × (value ≡ m))
 unfolding code
 write-value NoRegister value m p q = never (λ e. p (sym e)) (λ w. neither WriteOnly ReadWrite (omega arith) (omega arith) w.0)
 write-value ReadOnly value m p q = never (λ e. q (sym e)) (λ w. neither WriteOnly ReadWrite (omega arith) (omega arith) w.0)
@@ -124,32 +124,32 @@ write-value WriteOnly value m p q = ((λ e. (inl refl, e)), (λ w. w.1))
 write-value ReadWrite value m p q = ((λ e. (inr refl, e)), (λ w. w.1))
 
 module _ (value : ℕ) (known : ValueNumber value) where
-  write-absent : (a : Access) → (writeAccess a value ≡ 2) ↔ (a ≡ NoRegister)
+  write-absent : (a : Access) → (write_access a value ≡ 2) ↔ (a ≡ NoRegister)
   unfolding code
   write-absent NoRegister = ever refl refl
   write-absent ReadOnly = never (omega arith) (apart (omega arith))
   write-absent WriteOnly = never (small value 2 known (omega arith) (omega arith) (omega arith)) (apart (omega arith))
   write-absent ReadWrite = never (small value 2 known (omega arith) (omega arith) (omega arith)) (apart (omega arith))
 
-  write-unwritable : (a : Access) → (writeAccess a value ≡ 4) ↔ (a ≡ ReadOnly)
+  write-unwritable : (a : Access) → (write_access a value ≡ 4) ↔ (a ≡ ReadOnly)
   unfolding code
   write-unwritable NoRegister = never (omega arith) (apart (omega arith))
   write-unwritable ReadOnly = ever refl refl
   write-unwritable WriteOnly = never (small value 4 known (omega arith) (omega arith) (omega arith)) (apart (omega arith))
   write-unwritable ReadWrite = never (small value 4 known (omega arith) (omega arith) (omega arith)) (apart (omega arith))
 
-  write-small : (a : Access) (m : ℕ) → m ≢ 0 → m ≢ 2 → m ≢ 4 → m ≢ 5 → m ≢ 6 → writeAccess a value ≢ m
-  write-small NoRegister m p q r u v e = q (sym e)
-  write-small ReadOnly m p q r u v e = r (sym e)
-  write-small WriteOnly m p q r u v e = small value m known p u v e
-  write-small ReadWrite m p q r u v e = small value m known p u v e
+  write_small : (a : Access) (m : ℕ) → m ≢ 0 → m ≢ 2 → m ≢ 4 → m ≢ 5 → m ≢ 6 → write_access a value ≢ m
+  write_small NoRegister m p q r u v e = q (sym e)
+  write_small ReadOnly m p q r u v e = r (sym e)
+  write_small WriteOnly m p q r u v e = small value m known p u v e
+  write_small ReadWrite m p q r u v e = small value m known p u v e
 
-  pub write-table : (sound : Bool) (offset : ℕ) (access : Access) → WriteTable sound offset access value (writeRefusal sound offset access value)
-  unfolding writeRefusal
+  pub write-table : (sound : Bool) (offset : ℕ) (access : Access) → WriteTable sound offset access value (write_refusal sound offset access value)
+  unfolding write_refusal
   write-table s o a =
       record {
-        twelve = stopped s x 12 not-twelve;
-        one = passed s x 12 1 (omega arith) (slanted o y (write-small a 1 (omega arith) (omega arith) (omega arith) (omega arith) (omega arith)));
+        twelve = stopped s x 12 not_twelve;
+        one = passed s x 12 1 (omega arith) (slanted o y (write_small a 1 (omega arith) (omega arith) (omega arith) (omega arith) (omega arith)));
         two = passed s x 12 2 (omega arith) (aligned o y 2 (a ≡ NoRegister) (omega arith) (write-absent a));
         four = passed s x 12 4 (omega arith) (aligned o y 4 (a ≡ ReadOnly) (omega arith) (write-unwritable a));
         five = valued 5 (omega arith) (omega arith) (omega arith) (omega arith);
@@ -158,28 +158,28 @@ module _ (value : ℕ) (known : ValueNumber value) where
       }
     where
       y : ℕ
-      y = writeAccess a value
+      y = write_access a value
 
       x : ℕ
-      x = pick (eqb (o % 4) 0) (writeAccess a value) 1
+      x = pick (eqb (o % 4) 0) (write_access a value) 1
 
-      not-twelve : pick (eqb (o % 4) 0) (writeAccess a value) 1 ≢ 12
-      not-twelve =
-          pick-cases (λ n. n ≢ 12) (eqb (o % 4) 0) (λ _. write-small a 12 (omega arith) (omega arith) (omega arith) (omega arith) (omega arith))
+      not_twelve : pick (eqb (o % 4) 0) (write_access a value) 1 ≢ 12
+      not_twelve =
+          pick_cases (λ n. n ≢ 12) (eqb (o % 4) 0) (λ _. write_small a 12 (omega arith) (omega arith) (omega arith) (omega arith) (omega arith))
           (λ _. omega arith)
 
       valued : (m : ℕ) → m ≢ 1 → m ≢ 2 → m ≢ 4 → m ≢ 12
-          → (pick s (pick (eqb (o % 4) 0) (writeAccess a value) 1) 12 ≡ m) ↔ ((s ≡ true) × ((o % 4 ≡ 0) × (Writable a × (value ≡ m))))
+          → (pick s (pick (eqb (o % 4) 0) (write_access a value) 1) 12 ≡ m) ↔ ((s ≡ true) × ((o % 4 ≡ 0) × (Writable a × (value ≡ m))))
       valued m p q r u = passed s x 12 m u (aligned o y m (Writable a × (value ≡ m)) p (write-value a value m q r))
 
 -- ---- a line step
 
-pub line-table : (sound : Bool) (inputs line level : ℕ) → LineTable sound inputs line level (lineRefusal sound inputs line level)
-unfolding lineRefusal
+pub line-table : (sound : Bool) (inputs line level : ℕ) → LineTable sound inputs line level (line_refusal sound inputs line level)
+unfolding line_refusal
 line-table s n k l =
     record {
-      twelve = stopped s x 12 (pick-cases (λ m. m ≢ 12) t (λ _. omega arith) (λ _. omega arith));
-      six = passed s x 12 6 (omega arith) (go-six (dec_lt k n) (dec_le l 1));
+      twelve = stopped s x 12 (pick_cases (λ m. m ≢ 12) t (λ _. omega arith) (λ _. omega arith));
+      six = passed s x 12 6 (omega arith) (go_six (dec_lt k n) (dec_le l 1));
       none = passed s x 12 0 (omega arith) (go-none (dec_lt k n) (dec_le l 1));
     }
   where
@@ -189,18 +189,18 @@ line-table s n k l =
     x : ℕ
     x = pick (ltb k n && leb l 1) 0 6
 
-    go-six : Dec (k < n) → Dec (l ≤ 1) → (◌≡◌ {A = ℕ} (pick (ltb k n && leb l 1) 0 6) 6) ↔ ((n ≤ k) ⊎ (1 < l))
-    go-six (yes p) (yes q) = rw (lt-ltb k n p, le-leb l 1 q) (unfold pick in (never (omega arith) (⊎_elim (λ (h : n ≤ k). omega arith) (λ (h : 1 < l). omega arith))))
-    go-six (yes p) (no q) = rw (lt-ltb k n p, lt-leb l 1 (omega arith)) (unfold pick in (ever refl (inr (omega arith))))
-    go-six (no p) d = rw (le-ltb k n (omega arith)) (unfold pick in (ever refl (inl (omega arith))))
+    go_six : Dec (k < n) → Dec (l ≤ 1) → (◌≡◌ {A = ℕ} (pick (ltb k n && leb l 1) 0 6) 6) ↔ ((n ≤ k) ⊎ (1 < l))
+    go_six (yes p) (yes q) = rw (lt-ltb k n p, le-leb l 1 q) (unfold pick in (never (omega arith) (⊎_elim (λ (h : n ≤ k). omega arith) (λ (h : 1 < l). omega arith))))
+    go_six (yes p) (no q) = rw (lt-ltb k n p, lt-leb l 1 (omega arith)) (unfold pick in (ever refl (inr (omega arith))))
+    go_six (no p) d = rw (le-ltb k n (omega arith)) (unfold pick in (ever refl (inl (omega arith))))
 
     go-none : Dec (k < n) → Dec (l ≤ 1) → (◌≡◌ {A = ℕ} (pick (ltb k n && leb l 1) 0 6) 0) ↔ ((k < n) × (l ≤ 1))
     go-none (yes p) (yes q) = rw (lt-ltb k n p, le-leb l 1 q) (unfold pick in (ever refl (p, q)))
     go-none (yes p) (no q) = rw (lt-ltb k n p, lt-leb l 1 (omega arith)) (unfold pick in (never (omega arith) (λ h. q h.1)))
     go-none (no p) d = rw (le-ltb k n (omega arith)) (unfold pick in (never (omega arith) (λ h. p h.0)))
 
-the-numbers : Numbers
-the-numbers =
+the_numbers : Numbers
+the_numbers =
     record {
       none = refl;
       twelve = refl;
@@ -223,4 +223,4 @@ the-numbers =
     }
 
 pub kept : Promises
-kept = record { numbers = the-numbers; plain = refl; reads = read_table; writes = λ s o a value known. write-table value known s o a; lines = line-table }
+kept = record { numbers = the_numbers; plain = refl; reads = read_table; writes = λ s o a value known. write-table value known s o a; lines = line-table }

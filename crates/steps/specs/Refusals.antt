@@ -5,8 +5,8 @@ use Rattle.steps.specs.declared.Access.{Access}
 use Rattle.steps.specs.declared.Access.TheVariants.{NoRegister, ReadOnly, WriteOnly, ReadWrite}
 
 -- nothing is refused
-abbrev pub carriedOut : ℕ
-carriedOut = 0
+abbrev pub carried_out : ℕ
+carried_out = 0
 
 -- the offset is no multiple of 4
 abbrev pub misaligned : ℕ
@@ -34,8 +34,8 @@ abbrev pub beyond : ℕ
 beyond = 6
 
 -- the player's limit of steps is reached and bytes remain
-abbrev pub limitReached : ℕ
-limitReached = 7
+abbrev pub limit_reached : ℕ
+limit_reached = 7
 
 -- a number of the trace is cut short, too large or too long (01, Numbers; 02, 1/12)
 abbrev pub damaged : ℕ
@@ -50,8 +50,8 @@ abbrev pub misconfigured : ℕ
 misconfigured = 10
 
 -- the trace has more than 65,536 bytes
-abbrev pub tooLong : ℕ
-tooLong = 11
+abbrev pub too_long : ℕ
+too_long = 11
 
 -- the record breaks a rule of its model
 abbrev pub unsound : ℕ
@@ -86,27 +86,27 @@ privileged = 1
 -- ---- the order of the checks
 
 -- what an aligned read is refused with
-abbrev pub readAccess : Access → ℕ
-readAccess NoRegister = absent
-readAccess ReadOnly = carriedOut
-readAccess WriteOnly = unreadable
-readAccess ReadWrite = carriedOut
+abbrev pub read_access : Access → ℕ
+read_access NoRegister = absent
+read_access ReadOnly = carried_out
+read_access WriteOnly = unreadable
+read_access ReadWrite = carried_out
 
 -- what an aligned write is refused with; a value that may not stand in the register has its number in `value`, else 0
-abbrev pub writeAccess : Access → ℕ → ℕ
-writeAccess NoRegister value = absent
-writeAccess ReadOnly value = unwritable
-writeAccess WriteOnly value = value
-writeAccess ReadWrite value = value
+abbrev pub write_access : Access → ℕ → ℕ
+write_access NoRegister value = absent
+write_access ReadOnly value = unwritable
+write_access WriteOnly value = value
+write_access ReadWrite value = value
 
 -- the checks of a read in their order: 12, 1, 2, 3
-unfoldable pub readRefusal : Bool → ℕ → Access → ℕ
-readRefusal sound offset access = pick sound (pick (eqb (offset % 4) 0) (readAccess access) misaligned) unsound
+unfoldable pub read_refusal : Bool → ℕ → Access → ℕ
+read_refusal sound offset access = pick sound (pick (eqb (offset % 4) 0) (read_access access) misaligned) unsound
 
 -- the checks of a write in their order: 12, 1, 2, 4, then 5 or 6 for the value
-unfoldable pub writeRefusal : Bool → ℕ → Access → ℕ → ℕ
-writeRefusal sound offset access value = pick sound (pick (eqb (offset % 4) 0) (writeAccess access value) misaligned) unsound
+unfoldable pub write_refusal : Bool → ℕ → Access → ℕ → ℕ
+write_refusal sound offset access value = pick sound (pick (eqb (offset % 4) 0) (write_access access value) misaligned) unsound
 
 -- the checks of a line step in their order: 12, then 6 for the line number or the level
-unfoldable pub lineRefusal : Bool → ℕ → ℕ → ℕ → ℕ
-lineRefusal sound inputs line level = pick sound (pick (ltb line inputs && leb level 1) carriedOut beyond) unsound
+unfoldable pub line_refusal : Bool → ℕ → ℕ → ℕ → ℕ
+line_refusal sound inputs line level = pick sound (pick (ltb line inputs && leb level 1) carried_out beyond) unsound

@@ -1,6 +1,6 @@
 // What a recorded step is, and the numbers given when one is not carried out (01, "Numbers given when a step is not carried out"; 02, 2/12).
 ghost use Rattle.std.specs.Prelude.{◌≡◌};
-ghost use Rattle.steps.specs.Refusals.{readAccess, writeAccess, readRefusal, writeRefusal, lineRefusal};
+ghost use Rattle.steps.specs.Refusals.{read_access, write_access, read_refusal, write_refusal, line_refusal};
 
 // An access to a register, or a line that is put to a level. Offsets are in bytes.
 #[derive(Drop)]
@@ -66,7 +66,7 @@ pub const UNOPENED: u32 = 17;
 
 // The refusal of a read that is aligned, 0 where it may be read.
 fn read_access(access: Access) -> u32
-    ensures { result ≡ readAccess access }
+    ensures { result ≡ read_access access }
 {
     match access {
         Access::NoRegister => ABSENT,
@@ -78,7 +78,7 @@ fn read_access(access: Access) -> u32
 
 // The refusal of a write that is aligned, of a value that is itself refused by `value`, 0 where it may be written.
 fn write_access(access: Access, value: u32) -> u32
-    ensures { result ≡ writeAccess access value }
+    ensures { result ≡ write_access access value }
 {
     match access {
         Access::NoRegister => ABSENT,
@@ -90,7 +90,7 @@ fn write_access(access: Access, value: u32) -> u32
 
 // The checks of a read in their order, 12, 1, 2, 3: the number of the first that fails, else 0.
 pub fn read_refusal(sound: bool, offset: u32, access: Access) -> u32
-    ensures { result ≡ readRefusal sound offset access }
+    ensures { result ≡ read_refusal sound offset access }
 {
     if !sound {
         return UNSOUND;
@@ -103,7 +103,7 @@ pub fn read_refusal(sound: bool, offset: u32, access: Access) -> u32
 
 // The checks of a write in their order, 12, 1, 2, 4, then the refusal of the value: the number of the first that fails, else 0.
 pub fn write_refusal(sound: bool, offset: u32, access: Access, value: u32) -> u32
-    ensures { result ≡ writeRefusal sound offset access value }
+    ensures { result ≡ write_refusal sound offset access value }
 {
     if !sound {
         return UNSOUND;
@@ -116,7 +116,7 @@ pub fn write_refusal(sound: bool, offset: u32, access: Access, value: u32) -> u3
 
 // The checks of a line step in their order, 12, then 6 for the line number or the level.
 pub fn line_refusal(sound: bool, inputs: u32, line: u32, level: u32) -> u32
-    ensures { result ≡ lineRefusal sound inputs line level }
+    ensures { result ≡ line_refusal sound inputs line level }
 {
     if !sound {
         return UNSOUND;

@@ -3,41 +3,41 @@ use Rattle.std.specs.Prelude.{ℕ, suc, ◌+◌, ◌/◌, ◌%◌, ◌^◌, ◌�
 use Rattle.text.specs.Text.{hex, decimal, field}
 use Rattle.text.specs.Phrases.{bytes}
 use Rattle.aic_record.specs.declared.Aic.{Aic}
-use Rattle.tables.specs.Reading.{readTable}
-use Rattle.beginning.specs.Begin.{beginOf}
-use Rattle.beginning.specs.Play.{playOf}
-use Rattle.table_text.specs.Text.{tableIn, sourceLine, sourceLines, tableText, isTabled, text_of}
+use Rattle.tables.specs.Reading.{read_table}
+use Rattle.beginning.specs.Begin.{begin_of}
+use Rattle.beginning.specs.Play.{play_of}
+use Rattle.table_text.specs.Text.{table_in, source_line, source_lines, table_text, is_tabled, text_of}
 
 pub record Promises : Type 0 where
   -- ---- read back
 
   -- what is printed of a record is a table that is not refused, of these numbers (docs/STACK.md)
-  pub readBack : (a : Aic) → readTable (tableText a) ≡ record { refusal = 0; offset = 0; table = tableIn a }
+  pub read_back : (a : Aic) → read_table (table_text a) ≡ record { refusal = 0; offset = 0; table = table_in a }
   -- for each source bits 2:0 of its mode, its priority, and bits 6:5, its type (01, AIC, Mode; 003, 27.8.3); no frame is known
-  pub priorities : (a : Aic) (i : ℕ) → i < 32 → get_or (tableIn a).priority i 0 ≡ get_or a.mode i 0 % 8
-  pub types : (a : Aic) (i : ℕ) → i < 32 → get_or (tableIn a).kind i 0 ≡ get_or a.mode i 0 / 32 % 4
-  pub frames : (a : Aic) (i : ℕ) → i < 32 → get_or (tableIn a).frame i 0 ≡ 0
-  pub lengths : (a : Aic) → (length (tableIn a).priority ≡ 32) × (length (tableIn a).kind ≡ 32) × (length (tableIn a).frame ≡ 32)
+  pub priorities : (a : Aic) (i : ℕ) → i < 32 → get_or (table_in a).priority i 0 ≡ get_or a.mode i 0 % 8
+  pub types : (a : Aic) (i : ℕ) → i < 32 → get_or (table_in a).kind i 0 ≡ get_or a.mode i 0 / 32 % 4
+  pub frames : (a : Aic) (i : ℕ) → i < 32 → get_or (table_in a).frame i 0 ≡ 0
+  pub lengths : (a : Aic) → (length (table_in a).priority ≡ 32) × (length (table_in a).kind ≡ 32) × (length (table_in a).frame ≡ 32)
   -- the word of forced sources as it is, and 0 for the frame of a mark
-  pub forcedIs : (a : Aic) → a.forced < 2 ^ 32 → (tableIn a).forced ≡ a.forced
-  pub markIs : (a : Aic) → (tableIn a).mark ≡ 0
+  pub forced_is : (a : Aic) → a.forced < 2 ^ 32 → (table_in a).forced ≡ a.forced
+  pub mark_is : (a : Aic) → (table_in a).mark ≡ 0
   -- ---- byte for byte
 
   -- a comment, a line for each of 32 sources, a line for the forced ones in hexadecimal, and one for the frame of a mark
-  pub textIs : (a : Aic) → tableText a
+  pub text_is : (a : Aic) → table_text a
       ≡ bytes "# priority, type and frame in bytes of each source, 0 first; the frames and that of a mark are 0 and to be filled in\n"
-      ++ sourceLines a.mode 32 0 ++ (bytes "0x" ++ hex a.forced ++ bytes " # forced sources\n0 # frame of a mark in bytes\n")
-  pub linesNone : (modes : List ℕ) (i : ℕ) → sourceLines modes 0 i ≡ []
-  pub linesMore : (modes : List ℕ) (k i : ℕ) → sourceLines modes (suc k) i ≡ sourceLine (get_or modes i 0) i ++ sourceLines modes k (i + 1)
-  pub lineIs : (mode i : ℕ) → sourceLine mode i ≡ decimal (mode % 8) ++ (32 ∷ decimal (mode / 32 % 4)) ++ (bytes " 0 # source " ++ decimal i) ++ (10 ∷ [])
+      ++ source_lines a.mode 32 0 ++ (bytes "0x" ++ hex a.forced ++ bytes " # forced sources\n0 # frame of a mark in bytes\n")
+  pub lines_none : (modes : List ℕ) (i : ℕ) → source_lines modes 0 i ≡ []
+  pub lines_more : (modes : List ℕ) (k i : ℕ) → source_lines modes (suc k) i ≡ source_line (get_or modes i 0) i ++ source_lines modes k (i + 1)
+  pub line_is : (mode i : ℕ) → source_line mode i ≡ decimal (mode % 8) ++ (32 ∷ decimal (mode / 32 % 4)) ++ (bytes " 0 # source " ++ decimal i) ++ (10 ∷ [])
   -- ---- of a trace
 
   -- there is one exactly of a trace that starts an AIC; it is that of the record after the last step played, of 20,000 at most
-  pub tabled : (s : List ℕ) → (isTabled s ≡ true) ↔ (((beginOf s).refusal ≡ 0) × ((beginOf s).machine.kind ≡ 0))
-  pub textAfter : (s : List ℕ) → isTabled s ≡ true → text_of s ≡ tableText (playOf s 20000).machine.aic
+  pub tabled : (s : List ℕ) → (is_tabled s ≡ true) ↔ (((begin_of s).refusal ≡ 0) × ((begin_of s).machine.kind ≡ 0))
+  pub text_after : (s : List ℕ) → is_tabled s ≡ true → text_of s ≡ table_text (play_of s 20000).machine.aic
   -- else a line says why
-  pub notBegun : (s : List ℕ) → (beginOf s).refusal ≢ 0
-      → text_of s ≡ bytes "no table: the trace has no beginning, E" ++ field (beginOf s).refusal ++ field (beginOf s).place ++ (10 ∷ [])
-  pub notAic : (s : List ℕ) → (beginOf s).refusal ≡ 0 → (beginOf s).machine.kind ≢ 0 → text_of s ≡ bytes "no table: the trace is not of an AIC\n"
+  pub not_begun : (s : List ℕ) → (begin_of s).refusal ≢ 0
+      → text_of s ≡ bytes "no table: the trace has no beginning, E" ++ field (begin_of s).refusal ++ field (begin_of s).place ++ (10 ∷ [])
+  pub not_aic : (s : List ℕ) → (begin_of s).refusal ≡ 0 → (begin_of s).machine.kind ≢ 0 → text_of s ≡ bytes "no table: the trace is not of an AIC\n"
   -- no text is longer than 750 bytes
   pub most : (s : List ℕ) → length (text_of s) ≤ 750

@@ -1,10 +1,10 @@
 // The priority table that a trace of an AIC leaves in the record, as it is typed, in a buffer that the caller lends (docs/STACK.md).
 ghost use Rattle.std.specs.Prelude.{◌≡◌, ◌<◌};
-ghost use Rattle.steps.specs.Refusals.{carriedOut};
+ghost use Rattle.steps.specs.Refusals.{carried_out};
 ghost use Rattle.text.specs.Text.{write, laid};
-ghost use Rattle.beginning.specs.Begin.{beginOf};
-ghost use Rattle.beginning.specs.Play.{playOf};
-ghost use Rattle.table_text.specs.Text.{heading, sourceLine, sourceLines, lastLines, tableText, noBeginning, noTable, isTabled, text_of};
+ghost use Rattle.beginning.specs.Begin.{begin_of};
+ghost use Rattle.beginning.specs.Play.{play_of};
+ghost use Rattle.table_text.specs.Text.{heading, source_line, source_lines, last_lines, table_text, no_beginning, no_table, is_tabled, text_of};
 
 use aic_record::Aic;
 use beginning::Begun;
@@ -24,7 +24,7 @@ const MOST: u32 = 20000;
 
 // The table after the last step played, or why there is none, from the start of the buffer on; what finds no room is dropped.
 pub fn print(trace: &[u8], out: &mut [u8]) -> Tabled
-    ensures { ((out.new, result.bytes) ≡ laid out.old (text_of trace.now)) × (result.tabled ≡ isTabled trace.now) }
+    ensures { ((out.new, result.bytes) ≡ laid out.old (text_of trace.now)) × (result.tabled ≡ is_tabled trace.now) }
 {
     let b = beginning::begin(trace);
     if b.refusal != steps::CARRIED_OUT {
@@ -39,8 +39,8 @@ pub fn print(trace: &[u8], out: &mut [u8]) -> Tabled
 
 // That of a trace that has begun.
 fn print_begun(trace: &[u8], b: Begun, out: &mut [u8]) -> Tabled
-    requires { (b ≡ beginOf trace.now) × (b.refusal ≡ carriedOut) }
-    ensures { ((out.new, result.bytes) ≡ laid out.old (text_of trace.now)) × (result.tabled ≡ isTabled trace.now) }
+    requires { (b ≡ begin_of trace.now) × (b.refusal ≡ carried_out) }
+    ensures { ((out.new, result.bytes) ≡ laid out.old (text_of trace.now)) × (result.tabled ≡ is_tabled trace.now) }
 {
     let m = b.machine;
     if m.kind != kinds::AIC {
@@ -59,7 +59,7 @@ fn print_begun(trace: &[u8], b: Begun, out: &mut [u8]) -> Tabled
 
 // That of a trace of an AIC.
 fn put_played(trace: &[u8], out: &mut [u8]) -> usize
-    ensures { (out.new, result) ≡ laid out.old (tableText (playOf trace.now 20000).machine.aic) }
+    ensures { (out.new, result) ≡ laid out.old (table_text (play_of trace.now 20000).machine.aic) }
 {
     let p = player::play(trace, MOST);
     let m = p.machine;
@@ -70,7 +70,7 @@ fn put_played(trace: &[u8], out: &mut [u8]) -> usize
 
 // The table in a record.
 pub fn put_table(out: &mut [u8], a: Aic) -> usize
-    ensures { (out.new, result) ≡ laid out.old (tableText a) }
+    ensures { (out.new, result) ≡ laid out.old (table_text a) }
 {
     let first = put_heading(out);
     let modes = a.mode;
@@ -90,7 +90,7 @@ fn put_heading(out: &mut [u8]) -> usize
 
 // A line for each source.
 fn put_sources(out: &mut [u8], at: usize, modes: [u8; 32]) -> usize
-    ensures { (out.new, result) ≡ write (out.old, at) (sourceLines modes 32 0) }
+    ensures { (out.new, result) ≡ write (out.old, at) (source_lines modes 32 0) }
 {
     let mut next = at;
     let mut i: usize = 0;
@@ -103,7 +103,7 @@ fn put_sources(out: &mut [u8], at: usize, modes: [u8; 32]) -> usize
 
 // That of a source of this mode.
 fn put_source(out: &mut [u8], at: usize, mode: u8, source: u32) -> usize
-    ensures { (out.new, result) ≡ write (out.old, at) (sourceLine mode source) }
+    ensures { (out.new, result) ≡ write (out.old, at) (source_line mode source) }
 {
     let a = text::put_decimal(out, at, (mode % 8) as u64);
     let b = text::put_field(out, a, (mode / 32 % 4) as u64);
@@ -112,7 +112,7 @@ fn put_source(out: &mut [u8], at: usize, mode: u8, source: u32) -> usize
 }
 
 fn put_last(out: &mut [u8], at: usize, forced: u32) -> usize
-    ensures { (out.new, result) ≡ write (out.old, at) (lastLines forced) }
+    ensures { (out.new, result) ≡ write (out.old, at) (last_lines forced) }
 {
     let a = text::put_all(out, at, b"0x");
     let b = text::put_hex(out, a, forced);
@@ -122,7 +122,7 @@ fn put_last(out: &mut [u8], at: usize, forced: u32) -> usize
 // ---- why there is none
 
 fn put_no_beginning(out: &mut [u8], refusal: u32, offset: usize) -> usize
-    ensures { (out.new, result) ≡ laid out.old (noBeginning refusal offset) }
+    ensures { (out.new, result) ≡ laid out.old (no_beginning refusal offset) }
 {
     let a = text::put_all(out, 0, b"no table: the trace has no beginning, E");
     let b = text::put_field(out, a, refusal as u64);
@@ -131,7 +131,7 @@ fn put_no_beginning(out: &mut [u8], refusal: u32, offset: usize) -> usize
 }
 
 fn put_no_table(out: &mut [u8]) -> usize
-    ensures { (out.new, result) ≡ laid out.old noTable }
+    ensures { (out.new, result) ≡ laid out.old no_table }
 {
     text::put_all(out, 0, b"no table: the trace is not of an AIC\n")
 }

@@ -10,24 +10,24 @@ use lib.Seq.{set_at, append_snoc, get_or_at}
 use Rattle.tables.specs.Reading.{list_of}
 use Rattle.tables.specs.Passes.{room}
 
-pub length-listOf : (n : ℕ) (f : ℕ → ℕ) → length (list_of n f) ≡ n
+pub length-list_of : (n : ℕ) (f : ℕ → ℕ) → length (list_of n f) ≡ n
 unfolding list_of
-length-listOf zero f = refl
-length-listOf (suc n) f = length-append (list_of n f) (f n ∷ []) ∙ omega (arith, length-listOf n f)
+length-list_of zero f = refl
+length-list_of (suc n) f = length-append (list_of n f) (f n ∷ []) ∙ omega (arith, length-list_of n f)
 
-pub getD-listOf : (n : ℕ) (f : ℕ → ℕ) (i : ℕ) → i < n → get_or (list_of n f) i 0 ≡ f i
+pub get_d-list_of : (n : ℕ) (f : ℕ → ℕ) (i : ℕ) → i < n → get_or (list_of n f) i 0 ≡ f i
 unfolding list_of
-getD-listOf zero f i l = absurd (omega arith)
-getD-listOf (suc n) f i l = go (ℕ_discrete i n) (getD-listOf n f i)
+get_d-list_of zero f i l = absurd (omega arith)
+get_d-list_of (suc n) f i l = go (ℕ_discrete i n) (get_d-list_of n f i)
   where
     go : Dec (i ≡ n) → (i < n → get_or (list_of n f) i 0 ≡ f i) → get_or (list_of n f ++ (f n ∷ [])) i 0 ≡ f i
-    go (yes e) ih = rw e (get_or_at (list_of n f) (f n) [] 0 n (length-listOf n f))
-    go (no d) ih = get_or-append (list_of n f) (f n ∷ []) 0 i (omega (arith, length-listOf n f)) ∙ ih (omega arith)
+    go (yes e) ih = rw e (get_or_at (list_of n f) (f n) [] 0 n (length-list_of n f))
+    go (no d) ih = get_or-append (list_of n f) (f n ∷ []) 0 i (omega (arith, length-list_of n f)) ∙ ih (omega arith)
 
-pub listOf-same : (n : ℕ) (f g : ℕ → ℕ) → ((i : ℕ) → i < n → f i ≡ g i) → list_of n f ≡ list_of n g
+pub list_of-same : (n : ℕ) (f g : ℕ → ℕ) → ((i : ℕ) → i < n → f i ≡ g i) → list_of n f ≡ list_of n g
 unfolding list_of
-listOf-same zero f g h = refl
-listOf-same (suc n) f g h = rw (listOf-same n f g (λ i l. h i (omega arith)), h n (omega arith))
+list_of-same zero f g h = refl
+list_of-same (suc n) f g h = rw (list_of-same n f g (λ i l. h i (omega arith)), h n (omega arith))
 
 -- before the first turn
 pub room-none : (m : ℕ) (f : ℕ → ℕ) → replicate m 0 ≡ room m 0 f
@@ -39,12 +39,12 @@ pub room-more : (m n : ℕ) (f : ℕ → ℕ) (l : List ℕ) (x : ℕ) → n < m
 unfolding room list_of
 room-more m n f l x h e q =
     let r : m - n ≡ suc (m - suc n) = omega arith in
-    rw (e, q, r, add-one n, set_at (list_of n f) 0 (replicate (m - suc n) 0) (f n) n (length-listOf n f)) (sym (append_snoc (list_of n f) (f n) (replicate (m - suc n) 0)))
+    rw (e, q, r, add-one n, set_at (list_of n f) 0 (replicate (m - suc n) 0) (f n) n (length-list_of n f)) (sym (append_snoc (list_of n f) (f n) (replicate (m - suc n) 0)))
 
 -- the end
-pub room-full : (m n : ℕ) (f : ℕ → ℕ) → m ≤ n → n ≤ m → room m n f ≡ list_of m f
+pub room_full : (m n : ℕ) (f : ℕ → ℕ) → m ≤ n → n ≤ m → room m n f ≡ list_of m f
 unfolding room
-room-full m n f a b =
+room_full m n f a b =
     let e : n ≡ m = omega arith in
     let z : m - m ≡ 0 = omega arith in
     rw (e, z) (append-nil (list_of m f))

@@ -11,29 +11,29 @@ use lib.ListN.{length, get_or, set, drop, replicate, length-append, get_or-appen
 use lib.Seq.{get_or-append-add, get_or-append_seam, drop-append-add}
 use Rattle.words.proofs.TruthLaws.{clash}
 use Rattle.text.specs.Text.{decimal}
-use Rattle.tables.specs.Typed.{white, bare, startFrom, endFrom, pastNth, nthStart}
-use Rattle.tables.specs.Names.{named, behind, blanked, quoted, unnamedAt}
+use Rattle.tables.specs.Typed.{white, bare, start_from, end_from, past_nth, nth_start}
+use Rattle.tables.specs.Names.{named, behind, blanked, quoted, unnamed_at}
 use Rattle.tables.specs.Number.{is_number}
-use Rattle.tables.specs.Layout.{White, Without, Parted, NameByte, NameAt, Name, inQuotes}
+use Rattle.tables.specs.Layout.{White, Without, Parted, NameByte, NameAt, Name, in_quotes}
 use Rattle.tables.proofs.BareLaws.{bare-plain}
-use Rattle.tables.proofs.SeekLaws.{start_is, start-sought, end_is}
+use Rattle.tables.proofs.SeekLaws.{start_is, start_sought, end_is}
 use Rattle.tables.proofs.NumberLaws.{number-high, number-some}
 use Rattle.tables.proofs.NameLaws.{named-opened}
 use Rattle.tables.proofs.NamedLaws.{name-is, quoted-none, quoted-some}
 use Rattle.tables.proofs.LayoutLaws.{high-dark, Blank, number-plain, all_of}
-use Rattle.tables.proofs.PlainLaws.{at-feed, tens, some-digit}
+use Rattle.tables.proofs.PlainLaws.{at_feed, tens, some-digit}
 
 -- ---- so many bytes made spaces
 
-blanked-cons : (b : ℕ) (s : List ℕ) (at n : ℕ) → blanked (b ∷ s) (suc at) n ≡ b ∷ blanked s at n
+blanked_cons : (b : ℕ) (s : List ℕ) (at n : ℕ) → blanked (b ∷ s) (suc at) n ≡ b ∷ blanked s at n
 unfolding blanked
-blanked-cons b s at zero = refl
-blanked-cons b s at (suc n) = let z : suc at + n ≡ suc (at + n) = omega arith in rw (z, blanked-cons b s at n)
+blanked_cons b s at zero = refl
+blanked_cons b s at (suc n) = let z : suc at + n ≡ suc (at + n) = omega arith in rw (z, blanked_cons b s at n)
 
 -- behind a part of the text, this is as it was
 blanked-behind : (p s : List ℕ) (n : ℕ) → blanked (p ++ s) (length p) n ≡ p ++ blanked s 0 n
 blanked-behind [] s n = refl
-blanked-behind (b ∷ p) s n = blanked-cons b (p ++ s) (length p) n ∙ ap (λ (x : List ℕ). b ∷ x) (blanked-behind p s n)
+blanked-behind (b ∷ p) s n = blanked_cons b (p ++ s) (length p) n ∙ ap (λ (x : List ℕ). b ∷ x) (blanked-behind p s n)
 
 blanked-first : (b : ℕ) (s : List ℕ) (n : ℕ) → blanked (b ∷ s) 0 (suc n) ≡ 32 ∷ blanked s 0 n
 unfolding blanked
@@ -47,27 +47,27 @@ blanked-all (b ∷ x) r = blanked-first b (x ++ r) (length x) ∙ ap (λ (y : Li
 -- ---- words with white space behind each
 
 -- white bytes do not count where the next word is sought
-skip : (s : List ℕ) (a b : ℕ) → a ≤ b → b ≤ length s → ((j : ℕ) → a ≤ j → j < b → white (get_or s j 0) ≡ true) → startFrom s a ≡ startFrom s b
+skip : (s : List ℕ) (a b : ℕ) → a ≤ b → b ≤ length s → ((j : ℕ) → a ≤ j → j < b → white (get_or s j 0) ≡ true) → start_from s a ≡ start_from s b
 skip s a b l m h =
-    let f = start-sought s b in
-    sym (start_is s a (startFrom s b) (record {
+    let f = start_sought s b in
+    sym (start_is s a (start_from s b) (record {
       from = omega (arith, f.from);
       within = omega (arith, f.within);
       before = λ j c d. go j c d (dec_lt j b);
       found = f.found;
     }))
   where
-    go : (j : ℕ) → a ≤ j → j < startFrom s b → Dec (j < b) → not (white (get_or s j 0)) ≡ false
+    go : (j : ℕ) → a ≤ j → j < start_from s b → Dec (j < b) → not (white (get_or s j 0)) ≡ false
     go j c d (yes e) = ap not (h j c e)
-    go j c d (no e) = (start-sought s b).before j (omega arith) d
+    go j c d (no e) = (start_sought s b).before j (omega arith) d
 
 -- p has n words and no comment, and ends with white space: whatever follows, the next word is sought from its end on
 pub record Fore (p : List ℕ) (n : ℕ) : Type 0 where
   pub plain : Without 35 p
-  pub next : (r : List ℕ) → nthStart (p ++ r) n ≡ startFrom (p ++ r) (length p)
+  pub next : (r : List ℕ) → nth_start (p ++ r) n ≡ start_from (p ++ r) (length p)
 
 pub fore-none : Fore [] 0
-fore-none = record { plain = λ k l. absurd (omega arith); next = λ r. unfold nthStart pastNth in refl }
+fore-none = record { plain = λ k l. absurd (omega arith); next = λ r. unfold nth_start past_nth in refl }
 
 blank-plain : (h : List ℕ) → Blank h → Without 35 h
 blank-plain h b k l e = clash (sym (ap white e) ∙ b k l) (unfold white in refl)
@@ -80,52 +80,52 @@ module _ (p w h : List ℕ) (n : ℕ) (f : Fore p n) (num : is_number w ≡ true
     size : length S ≡ length p + (length w + (length h + length r))
     size = simp length-append
 
-    in-word : (k : ℕ) → k < length w → get_or S (length p + k) 0 ≡ get_or w k 0
-    in-word k m = get_or-append-add p (w ++ (h ++ r)) k 0 ∙ get_or-append w (h ++ r) 0 k m
+    in_word : (k : ℕ) → k < length w → get_or S (length p + k) 0 ≡ get_or w k 0
+    in_word k m = get_or-append-add p (w ++ (h ++ r)) k 0 ∙ get_or-append w (h ++ r) 0 k m
 
     in-gap : (k : ℕ) → k < length h → get_or S (length p + (length w + k)) 0 ≡ get_or h k 0
     in-gap k m = get_or-append-add p (w ++ (h ++ r)) (length w + k) 0 ∙ get_or-append-add w (h ++ r) k 0 ∙ get_or-append h r 0 k m
 
-    dark-at : (j : ℕ) → length p ≤ j → j < length p + length w → white (get_or S j 0) ≡ false
-    dark-at j a c =
+    dark_at : (j : ℕ) → length p ≤ j → j < length p + length w → white (get_or S j 0) ≡ false
+    dark_at j a c =
         let m : j - length p < length w = omega arith in
         let z : length p + (j - length p) ≡ j = omega arith in
-        let e : get_or S j 0 ≡ get_or w (j - length p) 0 = ap (λ (k : ℕ). get_or S k 0) (sym z) ∙ in-word (j - length p) m in
+        let e : get_or S j 0 ≡ get_or w (j - length p) 0 = ap (λ (k : ℕ). get_or S k 0) (sym z) ∙ in_word (j - length p) m in
         high-dark (get_or S j 0) (omega (arith, number-high w num (j - length p) m))
 
-    white-at : (j : ℕ) → length p + length w ≤ j → j < length p + length w + length h → white (get_or S j 0) ≡ true
-    white-at j a c =
+    white_at : (j : ℕ) → length p + length w ≤ j → j < length p + length w + length h → white (get_or S j 0) ≡ true
+    white_at j a c =
         let m : j - (length p + length w) < length h = omega arith in
         let z : length p + (length w + (j - (length p + length w))) ≡ j = omega arith in
         ap white (ap (λ (k : ℕ). get_or S k 0) (sym z) ∙ in-gap (j - (length p + length w)) m) ∙ b (j - (length p + length w)) m
 
-    begins : nthStart S n ≡ length p
+    begins : nth_start S n ≡ length p
     begins =
         f.next (w ++ (h ++ r))
         ∙ sym (start_is S (length p) (length p) (record {
           from = omega arith;
           within = omega (arith, size);
           before = λ j a c. absurd (omega arith);
-          found = λ m. ap not (dark-at (length p) (omega arith) (omega (arith, number-some w num)));
+          found = λ m. ap not (dark_at (length p) (omega arith) (omega (arith, number-some w num)));
         }))
 
-    ends : endFrom S (length p) ≡ length p + length w
+    ends : end_from S (length p) ≡ length p + length w
     ends =
         sym (end_is S (length p) (length p + length w) (record {
           from = omega arith;
           within = omega (arith, size);
-          before = dark-at;
-          found = λ m. white-at (length p + length w) (omega arith) (omega arith);
+          before = dark_at;
+          found = λ m. white_at (length p + length w) (omega arith) (omega arith);
         }))
 
-    sought-on : nthStart S (suc n) ≡ startFrom S (length p + length w + length h)
-    sought-on = start ∙ ap (startFrom S) past ∙ skip S (length p + length w) (length p + length w + length h) (omega arith) (omega (arith, size)) white-at
+    sought_on : nth_start S (suc n) ≡ start_from S (length p + length w + length h)
+    sought_on = start ∙ ap (start_from S) past ∙ skip S (length p + length w) (length p + length w + length h) (omega arith) (omega (arith, size)) white_at
       where
-        start : nthStart S (suc n) ≡ startFrom S (pastNth S (suc n))
-        start = unfold nthStart in refl
+        start : nth_start S (suc n) ≡ start_from S (past_nth S (suc n))
+        start = unfold nth_start in refl
 
-        past : pastNth S (suc n) ≡ length p + length w
-        past = let e : pastNth S (suc n) ≡ endFrom S (nthStart S n) = unfold pastNth nthStart in refl in e ∙ ap (endFrom S) begins ∙ ends
+        past : past_nth S (suc n) ≡ length p + length w
+        past = let e : past_nth S (suc n) ≡ end_from S (nth_start S n) = unfold past_nth nth_start in refl in e ∙ ap (end_from S) begins ∙ ends
 
   pub fore-more : Fore (p ++ (w ++ h)) (suc n)
   fore-more =
@@ -134,13 +134,13 @@ module _ (p w h : List ℕ) (n : ℕ) (f : Fore p n) (num : is_number w ≡ true
         next = λ r.
             let e : (p ++ (w ++ h)) ++ r ≡ p ++ (w ++ (h ++ r)) = simp append_assoc in
             let z : length (p ++ (w ++ h)) ≡ length p + length w + length h = simp length-append (omega arith) in
-            rw (e, z) (sought-on r);
+            rw (e, z) (sought_on r);
       }
 
 -- what is not white and begins no comment is the next word
-next-at : (q r : List ℕ) (c i : ℕ) → Fore q (3 * i + 3) → white c ≡ false → c ≢ 35 → behind (q ++ (c ∷ r)) i ≡ length q
+next_at : (q r : List ℕ) (c i : ℕ) → Fore q (3 * i + 3) → white c ≡ false → c ≢ 35 → behind (q ++ (c ∷ r)) i ≡ length q
 unfolding behind
-next-at q r c i f d e = rw bared (f.next (c ∷ bare r) ∙ sym (start_is _ (length q) (length q) (record {
+next_at q r c i f d e = rw bared (f.next (c ∷ bare r) ∙ sym (start_is _ (length q) (length q) (record {
   from = omega arith;
   within = omega (arith, length-append q (c ∷ bare r));
   before = λ j a b. absurd (omega arith);
@@ -178,7 +178,7 @@ module _ (q x r : List ℕ) (name : Name x) (some : 1 ≤ length x) where
             let z : length q + length x + 2 ≡ length q + suc (length x + 1) = omega arith in
             let e : drop (length q + length x + 2) (q ++ Quoted) ≡ 10 ∷ r
             = ap (λ (j : ℕ). drop j (q ++ Quoted)) z ∙ drop-append-add q Quoted (suc (length x + 1)) ∙ drop-append-add x (34 ∷ (10 ∷ r)) 1 in
-            subst (λ (s : List ℕ). Parted s) (sym e) (at-feed r);
+            subst (λ (s : List ℕ). Parted s) (sym e) (at_feed r);
       }
 
 -- a text that begins with a digit
@@ -197,21 +197,21 @@ begun-decimal v s l = go (decimal v) (some-digit v l) (λ m. (tens v l 0 m).0)
 
 -- behind p, which the numbers of source i end, its name is found and made spaces
 pub record Taken (p x r : List ℕ) (i : ℕ) : Type 0 where
-  pub place : behind (p ++ (inQuotes x ++ (10 ∷ r))) i ≡ length p + 1
-  pub count : named (p ++ (inQuotes x ++ (10 ∷ r))) (length p + 1) ≡ length x
-  pub left : unnamedAt (p ++ (inQuotes x ++ (10 ∷ r))) i ≡ p ++ (replicate (length (inQuotes x)) 32 ++ (10 ∷ r))
+  pub place : behind (p ++ (in_quotes x ++ (10 ∷ r))) i ≡ length p + 1
+  pub count : named (p ++ (in_quotes x ++ (10 ∷ r))) (length p + 1) ≡ length x
+  pub left : unnamed_at (p ++ (in_quotes x ++ (10 ∷ r))) i ≡ p ++ (replicate (length (in_quotes x)) 32 ++ (10 ∷ r))
 
 module _ (p r : List ℕ) (i : ℕ) (f : (b : ℕ) → White b → Fore (p ++ (b ∷ [])) (3 * i + 3)) where
   longer : (b : ℕ) → length (p ++ (b ∷ [])) ≡ length p + 1
   longer b = length-append p (b ∷ [])
 
-  left_is : (s : List ℕ) (n : ℕ) → behind s i ≡ length p + 1 → named s (length p + 1) ≡ n → unnamedAt s i ≡ blanked s (length p + 1) (quoted n)
-  unfolding unnamedAt
+  left_is : (s : List ℕ) (n : ℕ) → behind s i ≡ length p + 1 → named s (length p + 1) ≡ n → unnamed_at s i ≡ blanked s (length p + 1) (quoted n)
+  unfolding unnamed_at
   left_is s n e g = rw (e, g)
 
   -- a digit is no name
   taken_none : (c : ℕ) → 48 ≤ c → Taken p [] (c ∷ r) i
-  unfolding inQuotes
+  unfolding in_quotes
   taken_none c d = record { place = place; count = none; left = left_is T 0 place none ∙ ap (blanked T (length p + 1)) (quoted-none 0 refl) ∙ unfold blanked in refl }
     where
       T : List ℕ
@@ -220,7 +220,7 @@ module _ (p r : List ℕ) (i : ℕ) (f : (b : ℕ) → White b → Fore (p ++ (b
       place : behind T i ≡ length p + 1
       place =
           ap (λ (s : List ℕ). behind s i) (sym (append_assoc p (10 ∷ []) (c ∷ r)))
-          ∙ next-at (p ++ (10 ∷ [])) r c i (f 10 (inr (inr (inr refl)))) (high-dark c d) (λ e. omega arith) ∙ longer 10
+          ∙ next_at (p ++ (10 ∷ [])) r c i (f 10 (inr (inr (inr refl)))) (high-dark c d) (λ e. omega arith) ∙ longer 10
 
       none : named T (length p + 1) ≡ 0
       none = go (ℕ_discrete (named T (length p + 1)) 0)
@@ -230,7 +230,7 @@ module _ (p r : List ℕ) (i : ℕ) (f : (b : ℕ) → White b → Fore (p ++ (b
           go (no e) = absurd (omega (arith, named-opened T (length p + 1) e, get_or-append-add p (10 ∷ (c ∷ r)) 1 0))
 
   taken-some : (b : ℕ) (bs : List ℕ) → Name (b ∷ bs) → Taken p (b ∷ bs) r i
-  unfolding inQuotes
+  unfolding in_quotes
   taken-some b bs name = record { place = place; count = count; left = left }
     where
       x : List ℕ
@@ -240,7 +240,7 @@ module _ (p r : List ℕ) (i : ℕ) (f : (b : ℕ) → White b → Fore (p ++ (b
       q = p ++ (32 ∷ [])
 
       T : List ℕ
-      T = p ++ (inQuotes x ++ (10 ∷ r))
+      T = p ++ (in_quotes x ++ (10 ∷ r))
 
       dark : white 34 ≡ false
       dark = unfold white in refl
@@ -252,7 +252,7 @@ module _ (p r : List ℕ) (i : ℕ) (f : (b : ℕ) → White b → Fore (p ++ (b
       as_bytes = simp append_assoc
 
       place : behind T i ≡ length p + 1
-      place = ap (λ (s : List ℕ). behind s i) as-name ∙ next-at q (x ++ (34 ∷ (10 ∷ r))) 34 i (f 32 (inl refl)) dark (λ e. omega arith) ∙ longer 32
+      place = ap (λ (s : List ℕ). behind s i) as-name ∙ next_at q (x ++ (34 ∷ (10 ∷ r))) 34 i (f 32 (inl refl)) dark (λ e. omega arith) ∙ longer 32
 
       count : named T (length p + 1) ≡ length x
       count =
@@ -262,7 +262,7 @@ module _ (p r : List ℕ) (i : ℕ) (f : (b : ℕ) → White b → Fore (p ++ (b
       size : quoted (length x) ≡ length (34 ∷ (x ++ (34 ∷ [])))
       size = quoted-some (length x) (omega arith) ∙ omega (arith, length-append x (34 ∷ []))
 
-      left : unnamedAt T i ≡ p ++ (replicate (length (inQuotes x)) 32 ++ (10 ∷ r))
+      left : unnamed_at T i ≡ p ++ (replicate (length (in_quotes x)) 32 ++ (10 ∷ r))
       left =
           left_is T (length x) place count ∙ ap (λ (n : ℕ). blanked T n (quoted (length x))) (sym (longer 32)) ∙ ap (blanked T (length q)) size
           ∙ ap (λ (s : List ℕ). blanked s (length q) (length (34 ∷ (x ++ (34 ∷ []))))) as_bytes

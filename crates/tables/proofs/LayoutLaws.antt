@@ -12,11 +12,11 @@ use lib.Seq.{get_or-append-add, take-append_seam, drop-append_seam}
 use borrow.Author.Tests.{eqb-true, ne_eqb}
 use Rattle.words.specs.Choice.{pick}
 use Rattle.words.proofs.TruthLaws.{or-either, clash}
-use Rattle.tables.specs.Typed.{white, bareFrom, bare, startFrom, endFrom, pastNth, nthStart, nthTyped}
+use Rattle.tables.specs.Typed.{white, bare_from, bare, start_from, end_from, past_nth, nth_start, nth_typed}
 use Rattle.tables.specs.Names.{cleared}
 use Rattle.tables.specs.Number.{is_number}
-use Rattle.tables.specs.Layout.{White, Without, Gap, nothing, space, comment, Parted, Spread, done, leftOpen, more}
-use Rattle.tables.proofs.BareLaws.{length-bare, bare-plain, bare-comment, bare-open}
+use Rattle.tables.specs.Layout.{White, Without, Gap, nothing, space, comment, Parted, Spread, done, left_open, more}
+use Rattle.tables.proofs.BareLaws.{length-bare, bare-plain, bare_comment, bare_open}
 use Rattle.tables.proofs.QuoteLaws.{quoteless}
 use Rattle.tables.proofs.SeekLaws.{start_is, end_is}
 use Rattle.tables.proofs.NumberLaws.{number-high, number-some}
@@ -69,9 +69,9 @@ a-space : white 32 ≡ true
 unfolding white
 a-space = refl
 
-pub blank-spaces : (n : ℕ) (h : List ℕ) → Blank h → Blank (replicate n 32 ++ h)
-blank-spaces zero h f = f
-blank-spaces (suc n) h f = blank-more 32 (replicate n 32 ++ h) a-space (blank-spaces n h f)
+pub blank_spaces : (n : ℕ) (h : List ℕ) → Blank h → Blank (replicate n 32 ++ h)
+blank_spaces zero h f = f
+blank_spaces (suc n) h f = blank-more 32 (replicate n 32 ++ h) a-space (blank_spaces n h f)
 
 blank-both : (g h : List ℕ) → Blank g → Blank h → Blank (g ++ h)
 blank-both [] h e f = f
@@ -100,8 +100,8 @@ bared g s (comment c h e q) =
     let r = bared h s q in
     record {
       gap = 32 ∷ (replicate (length c) 32 ++ (32 ∷ r.gap));
-      blank = blank-more 32 (replicate (length c) 32 ++ (32 ∷ r.gap)) a-space (blank-spaces (length c) (32 ∷ r.gap) (blank-more 32 r.gap a-space r.blank));
-      is = ap (λ (x : List ℕ). bare (35 ∷ x)) (append_assoc c (10 ∷ h) s) ∙ bare-comment c (h ++ s) e
+      blank = blank-more 32 (replicate (length c) 32 ++ (32 ∷ r.gap)) a-space (blank_spaces (length c) (32 ∷ r.gap) (blank-more 32 r.gap a-space r.blank));
+      is = ap (λ (x : List ℕ). bare (35 ∷ x)) (append_assoc c (10 ∷ h) s) ∙ bare_comment c (h ++ s) e
           ∙ ap (λ (x : List ℕ). 32 ∷ x) (ap (λ (x : List ℕ). replicate (length c) 32 ++ (32 ∷ x)) r.is ∙ sym (append_assoc (replicate (length c) 32) (32 ∷ r.gap) (bare s)));
     }
 
@@ -120,14 +120,14 @@ stops (b ∷ s) p l = go p
   where
     go : Parted (b ∷ s) → white (get_or (bare (b ∷ s)) 0 0) ≡ true
     go (inl e) = absurd (omega (arith, ap length e))
-    go (inr (inl e)) = unfold bareFrom pick in (rw (ne_eqb b 35 (white_low b e)) (white-is b e))
-    go (inr (inr e)) = unfold bareFrom pick white in (rw e)
+    go (inr (inl e)) = unfold bare_from pick in (rw (ne_eqb b 35 (white_low b e)) (white-is b e))
+    go (inr (inr e)) = unfold bare_from pick white in (rw e)
 
 pub number-plain : (w : List ℕ) → is_number w ≡ true → Without 35 w
 number-plain w n k l e = omega (arith, number-high w n k l)
 
 nothing-more : (h : List ℕ) → h ++ bare [] ≡ h
-unfolding bareFrom
+unfolding bare_from
 nothing-more h = append-nil h
 
 spaced : (ws : List (List ℕ)) (s : List ℕ) → Spread ws s → Spaced ws (bare s)
@@ -135,12 +135,12 @@ spaced ws s (done g q) = go (bared g [] q)
   where
     go : Bared g [] → Spaced [] (bare g)
     go r = subst (Spaced []) (sym (nothing-more r.gap) ∙ sym r.is ∙ ap bare (append-nil g)) (end r.gap r.blank)
-spaced ws s (leftOpen g c q e) = go (bared g (35 ∷ c) q)
+spaced ws s (left_open g c q e) = go (bared g (35 ∷ c) q)
   where
     go : Bared g (35 ∷ c) → Spaced [] (bare (g ++ (35 ∷ c)))
     go r =
-        subst (Spaced []) (ap (λ (x : List ℕ). r.gap ++ x) (ap (λ (x : List ℕ). 32 ∷ x) (append-nil (replicate (length c) 32)) ∙ sym (bare-open c e)) ∙ sym r.is)
-        (end (r.gap ++ (32 ∷ (replicate (length c) 32 ++ []))) (blank-both r.gap (32 ∷ (replicate (length c) 32 ++ [])) r.blank (blank-spaces (suc (length c)) [] (λ k l. absurd (omega arith)))))
+        subst (Spaced []) (ap (λ (x : List ℕ). r.gap ++ x) (ap (λ (x : List ℕ). 32 ∷ x) (append-nil (replicate (length c) 32)) ∙ sym (bare_open c e)) ∙ sym r.is)
+        (end (r.gap ++ (32 ∷ (replicate (length c) 32 ++ []))) (blank-both r.gap (32 ∷ (replicate (length c) 32 ++ [])) r.blank (blank_spaces (suc (length c)) [] (λ k l. absurd (omega arith)))))
 spaced ws s (more g w vs r q n p t) =
     let b = bared g (w ++ r) q in
     subst (Spaced (w ∷ vs)) (ap (λ (x : List ℕ). b.gap ++ x) (sym (bare-plain w r (number-plain w n))) ∙ sym b.is)
@@ -154,19 +154,19 @@ all_of P [] q f g k l = g k l
 all_of P (b ∷ p) q f g zero l = f 0 (omega arith)
 all_of P (b ∷ p) q f g (suc k) l = all_of P p q (λ j m. f (suc j) (omega arith)) g k (omega arith)
 
-blank-quoteless : (h : List ℕ) → Blank h → Without 34 h
-blank-quoteless h b k l e = clash (sym (ap white e) ∙ b k l) (unfold white in refl)
+blank_quoteless : (h : List ℕ) → Blank h → Without 34 h
+blank_quoteless h b k l e = clash (sym (ap white e) ∙ b k l) (unfold white in refl)
 
-number-quoteless : (w : List ℕ) → is_number w ≡ true → Without 34 w
-number-quoteless w n k l e = omega (arith, number-high w n k l)
+number_quoteless : (w : List ℕ) → is_number w ≡ true → Without 34 w
+number_quoteless w n k l e = omega (arith, number-high w n k l)
 
-spaced-quoteless : (ws : List (List ℕ)) (s : List ℕ) → Spaced ws s → Without 34 s
-spaced-quoteless ws s (end h b) = blank-quoteless h b
-spaced-quoteless ws s (next h w vs t b n q x) =
-    all_of (λ b. b ≢ 34) h (w ++ t) (blank-quoteless h b) (all_of (λ b. b ≢ 34) w t (number-quoteless w n) (spaced-quoteless vs t x))
+spaced_quoteless : (ws : List (List ℕ)) (s : List ℕ) → Spaced ws s → Without 34 s
+spaced_quoteless ws s (end h b) = blank_quoteless h b
+spaced_quoteless ws s (next h w vs t b n q x) =
+    all_of (λ b. b ≢ 34) h (w ++ t) (blank_quoteless h b) (all_of (λ b. b ≢ 34) w t (number_quoteless w n) (spaced_quoteless vs t x))
 
-pub spread-quoteless : (ws : List (List ℕ)) (s : List ℕ) → Spread ws s → Without 34 (bare s)
-spread-quoteless ws s d = spaced-quoteless ws (bare s) (spaced ws s d)
+pub spread_quoteless : (ws : List (List ℕ)) (s : List ℕ) → Spread ws s → Without 34 (bare s)
+spread_quoteless ws s d = spaced_quoteless ws (bare s) (spaced ws s d)
 
 -- ---- where they are found
 
@@ -179,14 +179,14 @@ long s p q e = ap length e ∙ length-append p q
 
 -- the numbers of s from the nth on are ws, and behind them it ends
 record Found (s : List ℕ) (n : ℕ) (ws : List (List ℕ)) : Type 0 where
-  each : (k : ℕ) → k < length ws → nthTyped s (n + k) ≡ get_or ws k []
-  last : nthStart s (n + length ws) ≡ length s
+  each : (k : ℕ) → k < length ws → nth_typed s (n + k) ≡ get_or ws k []
+  last : nth_start s (n + length ws) ≡ length s
 
 -- behind p, where the nth number is looked for, only white space is left
-none_left : (s p h : List ℕ) (n : ℕ) → s ≡ p ++ h → pastNth s n ≡ length p → Blank h → nthStart s n ≡ length s
-unfolding nthStart
+none_left : (s p h : List ℕ) (n : ℕ) → s ≡ p ++ h → past_nth s n ≡ length p → Blank h → nth_start s n ≡ length s
+unfolding nth_start
 none_left s p h n e past b =
-    ap (startFrom s) past
+    ap (start_from s) past
     ∙ sym (start_is s (length p) (length s) (record {
       from = omega (arith, long s p h e);
       within = omega arith;
@@ -195,26 +195,26 @@ none_left s p h n e past b =
     }))
 
 -- behind p and white space stands the word w, and then more white space or nothing
-module _ (s p h w r : List ℕ) (n : ℕ) (e : s ≡ p ++ (h ++ (w ++ r))) (past : pastNth s n ≡ length p) (b : Blank h) (num : is_number w ≡ true) (q : Stops r) where
+module _ (s p h w r : List ℕ) (n : ℕ) (e : s ≡ p ++ (h ++ (w ++ r))) (past : past_nth s n ≡ length p) (b : Blank h) (num : is_number w ≡ true) (q : Stops r) where
   abbrev Front : List ℕ
   Front = p ++ h
 
   abbrev Whole : List ℕ
   Whole = (p ++ h) ++ w
 
-  at-word : s ≡ Front ++ (w ++ r)
-  at-word = e ∙ sym (append_assoc p h (w ++ r))
+  at_word : s ≡ Front ++ (w ++ r)
+  at_word = e ∙ sym (append_assoc p h (w ++ r))
 
   at_rest : s ≡ Whole ++ r
-  at_rest = at-word ∙ sym (append_assoc Front w r)
+  at_rest = at_word ∙ sym (append_assoc Front w r)
 
-  begins : nthStart s n ≡ length Front
-  unfolding nthStart
+  begins : nth_start s n ≡ length Front
+  unfolding nth_start
   begins =
-      ap (startFrom s) past
+      ap (start_from s) past
       ∙ sym (start_is s (length p) (length Front) (record {
         from = omega (arith, length-append p h);
-        within = omega (arith, long s Front (w ++ r) at-word);
+        within = omega (arith, long s Front (w ++ r) at_word);
         before = λ j l m.
             let i : j - length p < length h = omega (arith, length-append p h) in
             ap not (ap white (second s p (h ++ (w ++ r)) j (j - length p) e (omega arith) ∙ get_or-append h (w ++ r) 0 (j - length p) i) ∙ b (j - length p) i);
@@ -222,65 +222,65 @@ module _ (s p h w r : List ℕ) (n : ℕ) (e : s ≡ p ++ (h ++ (w ++ r))) (past
       }))
     where
       first : get_or s (length Front) 0 ≡ get_or w 0 0
-      first = second s Front (w ++ r) (length Front) 0 at-word (omega arith) ∙ get_or-append w r 0 0 (number-some w num)
+      first = second s Front (w ++ r) (length Front) 0 at_word (omega arith) ∙ get_or-append w r 0 0 (number-some w num)
 
-  stops_at : endFrom s (length Front) ≡ length Whole
+  stops_at : end_from s (length Front) ≡ length Whole
   stops_at =
       sym (end_is s (length Front) (length Whole) (record {
         from = omega (arith, length-append Front w);
         within = omega (arith, long s Whole r at_rest);
         before = λ j l m.
             let i : j - length Front < length w = omega (arith, length-append Front w) in
-            high-dark (get_or s j 0) (omega (arith, second s Front (w ++ r) j (j - length Front) at-word (omega arith), get_or-append w r 0 (j - length Front) i, number-high w num (j - length Front) i));
+            high-dark (get_or s j 0) (omega (arith, second s Front (w ++ r) j (j - length Front) at_word (omega arith), get_or-append w r 0 (j - length Front) i, number-high w num (j - length Front) i));
         found = λ l. ap white (second s Whole r (length Whole) 0 at_rest (omega arith)) ∙ q (omega (arith, long s Whole r at_rest));
       }))
 
-  behind : pastNth s (suc n) ≡ length Whole
-  behind = more-past ∙ ap (endFrom s) begins ∙ stops_at
+  behind : past_nth s (suc n) ≡ length Whole
+  behind = more-past ∙ ap (end_from s) begins ∙ stops_at
     where
-      more-past : pastNth s (suc n) ≡ endFrom s (nthStart s n)
-      more-past = unfold pastNth nthStart in refl
+      more-past : past_nth s (suc n) ≡ end_from s (nth_start s n)
+      more-past = unfold past_nth nth_start in refl
 
-  is_word : nthTyped s n ≡ w
-  is_word = cut ∙ rw (behind, begins, size) (ap (λ (x : List ℕ). take (length w) (drop (length Front) x)) at-word ∙ ap (take (length w)) (drop-append_seam Front (w ++ r)) ∙ take-append_seam w r)
+  is_word : nth_typed s n ≡ w
+  is_word = cut ∙ rw (behind, begins, size) (ap (λ (x : List ℕ). take (length w) (drop (length Front) x)) at_word ∙ ap (take (length w)) (drop-append_seam Front (w ++ r)) ∙ take-append_seam w r)
     where
-      cut : nthTyped s n ≡ take (pastNth s (suc n) - nthStart s n) (drop (nthStart s n) s)
-      cut = unfold nthTyped in refl
+      cut : nth_typed s n ≡ take (past_nth s (suc n) - nth_start s n) (drop (nth_start s n) s)
+      cut = unfold nth_typed in refl
 
       size : length Whole - length Front ≡ length w
       size = omega (arith, length-append Front w)
 
-walk : (ws : List (List ℕ)) (r : List ℕ) → Spaced ws r → (s p : List ℕ) (n : ℕ) → s ≡ p ++ r → pastNth s n ≡ length p → Found s n ws
-walk ws r (end h b) s p n e past = record { each = λ k l. absurd (omega arith); last = ap (nthStart s) (add-zero n) ∙ none_left s p h n e past b }
+walk : (ws : List (List ℕ)) (r : List ℕ) → Spaced ws r → (s p : List ℕ) (n : ℕ) → s ≡ p ++ r → past_nth s n ≡ length p → Found s n ws
+walk ws r (end h b) s p n e past = record { each = λ k l. absurd (omega arith); last = ap (nth_start s) (add-zero n) ∙ none_left s p h n e past b }
 walk ws r (next h w vs t b num q x) s p n e past =
     let f = walk vs t x s (Whole s p h w t n e past b num q) (suc n) (at_rest s p h w t n e past b num q) (behind s p h w t n e past b num q) in
     record {
       each = λ k l. go k l f;
-      last = let z : n + suc (length vs) ≡ suc n + length vs = omega arith in ap (nthStart s) z ∙ f.last;
+      last = let z : n + suc (length vs) ≡ suc n + length vs = omega arith in ap (nth_start s) z ∙ f.last;
     }
   where
-    go : (k : ℕ) → k < suc (length vs) → Found s (suc n) vs → nthTyped s (n + k) ≡ get_or (w ∷ vs) k []
-    go zero l f = ap (nthTyped s) (add-zero n) ∙ is_word s p h w t n e past b num q
-    go (suc k) l f = let z : n + suc k ≡ suc n + k = omega arith in ap (nthTyped s) z ∙ f.each k (omega arith)
+    go : (k : ℕ) → k < suc (length vs) → Found s (suc n) vs → nth_typed s (n + k) ≡ get_or (w ∷ vs) k []
+    go zero l f = ap (nth_typed s) (add-zero n) ∙ is_word s p h w t n e past b num q
+    go (suc k) l f = let z : n + suc k ≡ suc n + k = omega arith in ap (nth_typed s) z ∙ f.each k (omega arith)
 
 -- every word of such a text is a number
 numbers : (ws : List (List ℕ)) (s : List ℕ) → Spread ws s → (k : ℕ) → k < length ws → is_number (get_or ws k []) ≡ true
 numbers ws s (done g q) k l = absurd (omega arith)
-numbers ws s (leftOpen g c q e) k l = absurd (omega arith)
+numbers ws s (left_open g c q e) k l = absurd (omega arith)
 numbers ws s (more g w vs r q n p t) zero l = n
 numbers ws s (more g w vs r q n p t) (suc k) l = numbers vs r t k (omega arith)
 
-found-words : (ws : List (List ℕ)) (s : List ℕ) → Spread ws s
-    → ((k : ℕ) → k < length ws → (nthTyped (bare s) k ≡ get_or ws k []) × (is_number (nthTyped (bare s) k) ≡ true)) × (nthStart (bare s) (length ws) ≡ length (bare s))
-found-words ws s d =
-    let f = walk ws (bare s) (spaced ws s d) (bare s) [] 0 refl (unfold pastNth in refl) in
+found_words : (ws : List (List ℕ)) (s : List ℕ) → Spread ws s
+    → ((k : ℕ) → k < length ws → (nth_typed (bare s) k ≡ get_or ws k []) × (is_number (nth_typed (bare s) k) ≡ true)) × (nth_start (bare s) (length ws) ≡ length (bare s))
+found_words ws s d =
+    let f = walk ws (bare s) (spaced ws s d) (bare s) [] 0 refl (unfold past_nth in refl) in
     let z : (k : ℕ) → 0 + k ≡ k = λ k. omega arith in (
       λ k l.
-          let i : nthTyped (bare s) k ≡ get_or ws k [] = ap (nthTyped (bare s)) (sym (z k)) ∙ f.each k l in
+          let i : nth_typed (bare s) k ≡ get_or ws k [] = ap (nth_typed (bare s)) (sym (z k)) ∙ f.each k l in
           (i, ap is_number i ∙ numbers ws s d k l),
-      ap (nthStart (bare s)) (sym (z (length ws))) ∙ f.last,
+      ap (nth_start (bare s)) (sym (z (length ws))) ∙ f.last,
     )
 
 pub found-cleared : (ws : List (List ℕ)) (s : List ℕ) → Spread ws s
-    → ((k : ℕ) → k < length ws → (nthTyped (cleared s) k ≡ get_or ws k []) × (is_number (nthTyped (cleared s) k) ≡ true)) × (nthStart (cleared s) (length ws) ≡ length (cleared s))
-found-cleared ws s d = rw (quoteless s (spread-quoteless ws s d)) (found-words ws s d)
+    → ((k : ℕ) → k < length ws → (nth_typed (cleared s) k ≡ get_or ws k []) × (is_number (nth_typed (cleared s) k) ≡ true)) × (nth_start (cleared s) (length ws) ≡ length (cleared s))
+found-cleared ws s d = rw (quoteless s (spread_quoteless ws s d)) (found_words ws s d)

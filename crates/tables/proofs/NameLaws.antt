@@ -12,30 +12,30 @@ use lib.ListN.{length, get_or, set, take, drop, length-set, length-drop, length-
 use lib.Seq.{take_all, take_at, take-append_seam, get_or-drop, get_or-take, length-take-le}
 use borrow.Author.Tests.{eqb-true, leb-true, le-leb, lt-leb}
 use Rattle.words.specs.Choice.{pick}
-use Rattle.words.proofs.ChoiceLaws.{pick_true, pick-false, pick-cases}
-use Rattle.words.proofs.CountingLaws.{lowest-found, lowest-one}
+use Rattle.words.proofs.ChoiceLaws.{pick_true, pick-false, pick_cases}
+use Rattle.words.proofs.CountingLaws.{lowest_found, lowest-one}
 use Rattle.words.proofs.TruthLaws.{and_left, and_right, told}
 use Rattle.text.specs.Text.{write}
 use Rattle.text.proofs.WriteLaws.{write-laid, laid-fits}
 use Rattle.tables.specs.declared.names.Place.{Place}
 use Rattle.tables.specs.declared.names.Places.{Places}
 use Rattle.tables.specs.declared.names.Names.{Names}
-use Rattle.tables.specs.Typed.{white, bare, startFrom, endFrom, pastNth, nthStart}
-use Rattle.tables.specs.Names.{nameByte, nameRun, isName, named, behind, place_in, blanked, quoted, unnamedAt, unnamedTo, unnamed, cleared}
+use Rattle.tables.specs.Typed.{white, bare, start_from, end_from, past_nth, nth_start}
+use Rattle.tables.specs.Names.{name_byte, name_run, is_name, named, behind, place_in, blanked, quoted, unnamed_at, unnamed_to, unnamed, cleared}
 use Rattle.tables.specs.Reading.{list_of}
-use Rattle.tables.specs.Named.{place_of, places_of, name_of, byteIn, names_at, namesIn}
+use Rattle.tables.specs.Named.{place_of, places_of, name_of, byte_in, names_at, names_in}
 use Rattle.tables.proofs.BareLaws.{length-bare}
-use Rattle.tables.proofs.FillLaws.{listOf-same, getD-listOf}
+use Rattle.tables.proofs.FillLaws.{list_of-same, get_d-list_of}
 use Rattle.tables.proofs.SeekLaws.{nth-within}
 use Rattle.text.proofs.Promises as Text
 
 -- ---- a byte of a text
 
 -- within a text it does not matter what stands for a byte behind its end
-pub getD-other : (s : List ℕ) (i d e : ℕ) → i < length s → get_or s i d ≡ get_or s i e
-getD-other [] i d e l = absurd (omega arith)
-getD-other (x ∷ s) zero d e l = refl
-getD-other (x ∷ s) (suc i) d e l = getD-other s i d e (omega arith)
+pub get_d-other : (s : List ℕ) (i d e : ℕ) → i < length s → get_or s i d ≡ get_or s i e
+get_d-other [] i d e l = absurd (omega arith)
+get_d-other (x ∷ s) zero d e l = refl
+get_d-other (x ∷ s) (suc i) d e l = get_d-other s i d e (omega arith)
 
 -- a byte other than 0 stands within the text
 pub byte-within : (s : List ℕ) (i b : ℕ) → get_or s i 0 ≡ b → 0 < b → i < length s
@@ -47,51 +47,51 @@ byte-within s i b e l = go (dec_lt i (length s))
 
 -- ---- how many bytes of a name follow each other
 
-abbrev pub notName : List ℕ → ℕ → ℕ → Bool
-notName s at k = not (nameByte (get_or s (at + k) 0))
+abbrev pub not_name : List ℕ → ℕ → ℕ → Bool
+not_name s at k = not (name_byte (get_or s (at + k) 0))
 
-pub run_is : (s : List ℕ) (at k : ℕ) → k ≤ 25 → ((j : ℕ) → j < k → notName s at j ≡ false) → (k < 25 → notName s at k ≡ true) → k ≡ nameRun s at
-unfolding nameRun
-run_is s at k a b c = lowest-one (notName s at) 25 k _ (record { within = a; before = b; found = c }) (lowest-found 25 (notName s at))
+pub run_is : (s : List ℕ) (at k : ℕ) → k ≤ 25 → ((j : ℕ) → j < k → not_name s at j ≡ false) → (k < 25 → not_name s at k ≡ true) → k ≡ name_run s at
+unfolding name_run
+run_is s at k a b c = lowest-one (not_name s at) 25 k _ (record { within = a; before = b; found = c }) (lowest_found 25 (not_name s at))
 
-pub run_more : (s : List ℕ) (at k : ℕ) → ((j : ℕ) → j < k → notName s at j ≡ false) → notName s at k ≡ false → (j : ℕ) → j < k + 1 → notName s at j ≡ false
+pub run_more : (s : List ℕ) (at k : ℕ) → ((j : ℕ) → j < k → not_name s at j ≡ false) → not_name s at k ≡ false → (j : ℕ) → j < k + 1 → not_name s at j ≡ false
 run_more s at k h e j l = go (ℕ_discrete j k)
   where
-    go : Dec (j ≡ k) → notName s at j ≡ false
+    go : Dec (j ≡ k) → not_name s at j ≡ false
     go (yes q) = rw q e
     go (no q) = h j (omega arith)
 
-pub run-most : (s : List ℕ) (at : ℕ) → nameRun s at ≤ 25
-unfolding nameRun
-run-most s at = (lowest-found 25 (notName s at)).within
+pub run-most : (s : List ℕ) (at : ℕ) → name_run s at ≤ 25
+unfolding name_run
+run-most s at = (lowest_found 25 (not_name s at)).within
 
 -- the test, as the code makes it
-pub not-name : (s : List ℕ) (at k b : ℕ) (x t : Bool) → b ≡ get_or s (at + k) 0 → x ≡ nameByte b → not x ≡ t → notName s at k ≡ t
-not-name s at k b x t e f g = sym (ap not (f ∙ ap nameByte e)) ∙ g
+pub not-name : (s : List ℕ) (at k b : ℕ) (x t : Bool) → b ≡ get_or s (at + k) 0 → x ≡ name_byte b → not x ≡ t → not_name s at k ≡ t
+not-name s at k b x t e f g = sym (ap not (f ∙ ap name_byte e)) ∙ g
 
 -- ---- one name
 
 abbrev pub Test : List ℕ → ℕ → Bool
-Test s at = isName (get_or s at 0) (nameRun s (at + 1)) (get_or s (at + nameRun s (at + 1) + 1) 0) (get_or s (at + nameRun s (at + 1) + 2) 32)
+Test s at = is_name (get_or s at 0) (name_run s (at + 1)) (get_or s (at + name_run s (at + 1) + 1) 0) (get_or s (at + name_run s (at + 1) + 2) 32)
 
-pub named-as : (s : List ℕ) (at n a b c : ℕ) (x : Bool) → n ≡ nameRun s (at + 1) → a ≡ get_or s at 0 → b ≡ get_or s (at + n + 1) 0 → c ≡ get_or s (at + n + 2) 32
-    → x ≡ isName a n b c → x ≡ Test s at
-named-as s at n a b c x e f g h i = rw (i, f, g, h, e)
+pub named_as : (s : List ℕ) (at n a b c : ℕ) (x : Bool) → n ≡ name_run s (at + 1) → a ≡ get_or s at 0 → b ≡ get_or s (at + n + 1) 0 → c ≡ get_or s (at + n + 2) 32
+    → x ≡ is_name a n b c → x ≡ Test s at
+named_as s at n a b c x e f g h i = rw (i, f, g, h, e)
 
-pub named-yes : (s : List ℕ) (at n : ℕ) → n ≡ nameRun s (at + 1) → Test s at ≡ true → n ≡ named s at
+pub named-yes : (s : List ℕ) (at n : ℕ) → n ≡ name_run s (at + 1) → Test s at ≡ true → n ≡ named s at
 unfolding named
 named-yes s at n e h = e ∙ pick_true _ h
 
-pub named-no : (s : List ℕ) (at : ℕ) → Test s at ≡ false → 0 ≡ named s at
+pub named_no : (s : List ℕ) (at : ℕ) → Test s at ≡ false → 0 ≡ named s at
 unfolding named
-named-no s at h = pick-false _ h
+named_no s at h = pick-false _ h
 
 pub named-most : (s : List ℕ) (at : ℕ) → named s at ≤ 25
 unfolding named
-named-most s at = pick-cases (λ n. n ≤ 25) (Test s at) (λ e. run-most s (at + 1)) (λ e. omega arith)
+named-most s at = pick_cases (λ n. n ≤ 25) (Test s at) (λ e. run-most s (at + 1)) (λ e. omega arith)
 
 -- what the test asks, part by part
-module _ (a n b c : ℕ) (h : isName a n b c ≡ true) where
+module _ (a n b c : ℕ) (h : is_name a n b c ≡ true) where
   abbrev A : Bool
   A = eqb a 34
 
@@ -108,14 +108,14 @@ module _ (a n b c : ℕ) (h : isName a n b c ≡ true) where
   C = white c || eqb c 35
 
   all : (A && L && M && B && C) ≡ true
-  unfolding isName
+  unfolding is_name
   all = h
 
-  pub is-parted : (white c || eqb c 35) ≡ true
-  is-parted = and_right (A && L && M && B) C all
+  pub is_parted : (white c || eqb c 35) ≡ true
+  is_parted = and_right (A && L && M && B) C all
 
-  pub is-closed : b ≡ 34
-  is-closed = eqb-true b 34 (and_right (A && L && M) B (and_left (A && L && M && B) C all))
+  pub is_closed : b ≡ 34
+  is_closed = eqb-true b 34 (and_right (A && L && M) B (and_left (A && L && M && B) C all))
 
   pub is-most : n ≤ 24
   is-most = leb-true n 24 (and_right (A && L) M (and_left (A && L && M) B (and_left (A && L && M && B) C all)))
@@ -134,10 +134,10 @@ pub named-within : (s : List ℕ) (at : ℕ) → (named s at ≡ 0) ⊎ (at + na
 named-within s at = go (told (Test s at))
   where
     go : (Test s at ≡ true) ⊎ (Test s at ≡ false) → (named s at ≡ 0) ⊎ (at + named s at + 1 < length s)
-    go (inr h) = inl (sym (named-no s at h))
+    go (inr h) = inl (sym (named_no s at h))
     go (inl h) =
-        let e : named s at ≡ nameRun s (at + 1) = sym (named-yes s at _ refl h) in
-        inr (rw e (byte-within s (at + nameRun s (at + 1) + 1) 34 (is-closed _ _ _ _ h) (omega arith)))
+        let e : named s at ≡ name_run s (at + 1) = sym (named-yes s at _ refl h) in
+        inr (rw e (byte-within s (at + name_run s (at + 1) + 1) 34 (is_closed _ _ _ _ h) (omega arith)))
 
 -- it begins with its quote
 pub named-opened : (s : List ℕ) (at : ℕ) → named s at ≢ 0 → get_or s at 0 ≡ 34
@@ -145,7 +145,7 @@ named-opened s at d = go (told (Test s at))
   where
     go : (Test s at ≡ true) ⊎ (Test s at ≡ false) → get_or s at 0 ≡ 34
     go (inl h) = is-opened _ _ _ _ h
-    go (inr h) = absurd (d (sym (named-no s at h)))
+    go (inr h) = absurd (d (sym (named_no s at h)))
 
 -- ---- made spaces
 
@@ -163,10 +163,10 @@ blank-done s x at k n e a b = let q : k ≡ n = omega arith in rw (← q) e
 pub blank-length : (s x : List ℕ) (at k : ℕ) → x ≡ blanked s at k → length x ≡ length s
 blank-length s x at k e = ap length e ∙ length-blanked s at k
 
-pub length-unnamed : (s : List ℕ) (n : ℕ) → length (unnamedTo s n) ≡ length s
-unfolding unnamedTo unnamedAt
+pub length-unnamed : (s : List ℕ) (n : ℕ) → length (unnamed_to s n) ≡ length s
+unfolding unnamed_to unnamed_at
 length-unnamed s zero = refl
-length-unnamed s (suc n) = length-blanked (unnamedTo s n) _ _ ∙ length-unnamed s n
+length-unnamed s (suc n) = length-blanked (unnamed_to s n) _ _ ∙ length-unnamed s n
 
 pub length-cleared : (s : List ℕ) → length (cleared s) ≡ length s
 unfolding cleared
@@ -174,10 +174,10 @@ length-cleared s = length-bare false (unnamed s) ∙ length-unnamed s 32
 
 -- ---- where the nth word begins
 
-pub past-turn : (s : List ℕ) (k p a b : ℕ) → p ≡ pastNth s k → a ≡ startFrom s p → b ≡ endFrom s a → b ≡ pastNth s (k + 1)
-past-turn s k p a b e f g = rw (g, f, e, add-one k) (unfold pastNth in refl)
+pub past-turn : (s : List ℕ) (k p a b : ℕ) → p ≡ past_nth s k → a ≡ start_from s p → b ≡ end_from s a → b ≡ past_nth s (k + 1)
+past-turn s k p a b e f g = rw (g, f, e, add-one k) (unfold past_nth in refl)
 
-pub past-done : (s : List ℕ) (k n p : ℕ) → p ≡ pastNth s k → k ≤ n → n ≤ k → p ≡ pastNth s n
+pub past-done : (s : List ℕ) (k n p : ℕ) → p ≡ past_nth s k → k ≤ n → n ≤ k → p ≡ past_nth s n
 past-done s k n p e a b = let q : k ≡ n = omega arith in rw (← q) e
 
 pub behind-within : (s : List ℕ) (i : ℕ) → behind s i ≤ length s
@@ -190,25 +190,25 @@ pub place_is : (s : List ℕ) (i a n : ℕ) → a ≡ behind s i → n ≡ named
 unfolding place_in
 place_is s i a n e f = rw (f, e)
 
-pub unnamed-is : (s x : List ℕ) (i a n q : ℕ) → a ≡ behind s i → n ≡ named s a → q ≡ quoted n → x ≡ blanked s a q → x ≡ unnamedAt s i
-unfolding unnamedAt
+pub unnamed-is : (s x : List ℕ) (i a n q : ℕ) → a ≡ behind s i → n ≡ named s a → q ≡ quoted n → x ≡ blanked s a q → x ≡ unnamed_at s i
+unfolding unnamed_at
 unnamed-is s x i a n q e f g h = rw (h, g, f, e)
 
-pub unnamed-more : (s x y : List ℕ) (i : ℕ) → x ≡ unnamedTo s i → y ≡ unnamedAt x i → y ≡ unnamedTo s (i + 1)
-unnamed-more s x y i e f = rw (f, e, add-one i) (unfold unnamedTo in refl)
+pub unnamed-more : (s x y : List ℕ) (i : ℕ) → x ≡ unnamed_to s i → y ≡ unnamed_at x i → y ≡ unnamed_to s (i + 1)
+unnamed-more s x y i e f = rw (f, e, add-one i) (unfold unnamed_to in refl)
 
-pub start-at : (s x : List ℕ) (i : ℕ) (p : Place) → x ≡ unnamedTo s i → p ≡ place_in x i → p.start ≡ (place_of s i).start
-start-at s x i p e f = rw (f, e)
+pub start_at : (s x : List ℕ) (i : ℕ) (p : Place) → x ≡ unnamed_to s i → p ≡ place_in x i → p.start ≡ (place_of s i).start
+start_at s x i p e f = rw (f, e)
 
-pub count_at : (s x : List ℕ) (i : ℕ) (p : Place) → x ≡ unnamedTo s i → p ≡ place_in x i → p.count ≡ (place_of s i).count
+pub count_at : (s x : List ℕ) (i : ℕ) (p : Place) → x ≡ unnamed_to s i → p ≡ place_in x i → p.count ≡ (place_of s i).count
 count_at s x i p e f = rw (f, e)
 
-pub unnamed-done : (s x : List ℕ) (i : ℕ) → x ≡ unnamedTo s i → i ≤ 32 → 32 ≤ i → x ≡ unnamed s
+pub unnamed-done : (s x : List ℕ) (i : ℕ) → x ≡ unnamed_to s i → i ≤ 32 → 32 ≤ i → x ≡ unnamed s
 unnamed-done s x i e a b = let q : i ≡ 32 = omega arith in rw (← q) e
 
 pub quoted-most : (n : ℕ) → quoted n ≤ n + 2
 unfolding quoted
-quoted-most n = pick-cases (λ m. m ≤ n + 2) (eqb n 0) (λ e. omega arith) (λ e. omega arith)
+quoted-most n = pick_cases (λ m. m ≤ n + 2) (eqb n 0) (λ e. omega arith) (λ e. omega arith)
 
 -- ---- in a room
 
@@ -231,21 +231,21 @@ front-cleared s x d n h w e = ap bare (take_at x (drop n d) n (took-length x d n
 
 -- ---- the bytes of the names
 
-pub rest-at : (s : List ℕ) (start k : ℕ) → get_or (take (length s - start) (drop start s)) k 0 ≡ get_or s (start + k) 0
-rest-at s start k =
+pub rest_at : (s : List ℕ) (start k : ℕ) → get_or (take (length s - start) (drop start s)) k 0 ≡ get_or s (start + k) 0
+rest_at s start k =
     ap (λ (x : List ℕ). get_or x k 0) (take_all (length s - start) (drop start s) (omega (arith, length-drop start s))) ∙ get_or-drop start s k 0
 
-pub byte-behind : (s : List ℕ) (start count k : ℕ) → count ≤ k → 0 ≡ byteIn s start count k
-unfolding byteIn
+pub byte-behind : (s : List ℕ) (start count k : ℕ) → count ≤ k → 0 ≡ byte_in s start count k
+unfolding byte_in
 byte-behind s start count k l = pick_true _ (le-leb count k l)
 
-pub byte-beyond : (s : List ℕ) (start count k : ℕ) → k < count → length s ≤ start → 0 ≡ byteIn s start count k
-unfolding byteIn
+pub byte-beyond : (s : List ℕ) (start count k : ℕ) → k < count → length s ≤ start → 0 ≡ byte_in s start count k
+unfolding byte_in
 byte-beyond s start count k l m = sym (get_or-eq_default s 0 {n = start + k} (omega arith)) ∙ pick-false _ (lt-leb count k l)
 
-pub byte-there : (s : List ℕ) (start count k b : ℕ) → k < count → b ≡ get_or (take (length s - start) (drop start s)) k 0 → b ≡ byteIn s start count k
-unfolding byteIn
-byte-there s start count k b l e = e ∙ rest-at s start k ∙ pick-false _ (lt-leb count k l)
+pub byte_there : (s : List ℕ) (start count k b : ℕ) → k < count → b ≡ get_or (take (length s - start) (drop start s)) k 0 → b ≡ byte_in s start count k
+unfolding byte_in
+byte_there s start count k b l e = e ∙ rest_at s start k ∙ pick-false _ (lt-leb count k l)
 
 -- ---- what is answered
 
@@ -255,7 +255,7 @@ module _ (s : List ℕ) (i : ℕ) where
   count_fits = omega (arith, place-fits, length-drop (place_of s i).start s)
     where
       t : List ℕ
-      t = unnamedTo s i
+      t = unnamed_to s i
 
       go : (named t (behind t i) ≡ 0) ⊎ (behind t i + named t (behind t i) + 1 < length t) → named t (behind t i) ≤ length s - (behind t i + 1)
       go (inl e) = omega arith
@@ -268,9 +268,9 @@ module _ (s : List ℕ) (i : ℕ) where
   unfolding name_of
   name-length = length-take-le (place_of s i).count (drop (place_of s i).start s) count_fits
 
-  pub name-byte : (k : ℕ) → byteIn s (place_of s i).start (place_of s i).count k ≡ get_or (name_of s i) k 0
-  unfolding byteIn name_of
-  name-byte k = go (dec_lt k (place_of s i).count)
+  pub name_byte_lem : (k : ℕ) → byte_in s (place_of s i).start (place_of s i).count k ≡ get_or (name_of s i) k 0
+  unfolding byte_in name_of
+  name_byte_lem k = go (dec_lt k (place_of s i).count)
     where
       go : Dec (k < (place_of s i).count) → pick (leb (place_of s i).count k) 0 (get_or s ((place_of s i).start + k) 0) ≡ get_or (take (place_of s i).count (drop (place_of s i).start s)) k 0
       go (yes l) = sym (pick-false _ (lt-leb _ k l)) ∙ sym (get_or-take (place_of s i).count (drop (place_of s i).start s) k 0 l ∙ get_or-drop (place_of s i).start s k 0)
@@ -278,14 +278,14 @@ module _ (s : List ℕ) (i : ℕ) where
           let n : length (take (place_of s i).count (drop (place_of s i).start s)) ≡ (place_of s i).count = length-take-le (place_of s i).count (drop (place_of s i).start s) count_fits in
           sym (pick_true _ (le-leb _ k (omega arith))) ∙ sym (get_or-eq_default (take (place_of s i).count (drop (place_of s i).start s)) 0 {n = k} (omega arith))
 
-pub names-are : (s : List ℕ) (p : Places) → p ≡ places_of s → names_at s p.starts p.counts ≡ namesIn s
-unfolding names_at namesIn places_of
-names-are s p e = rw (e, bytes, counts)
+pub names_are : (s : List ℕ) (p : Places) → p ≡ places_of s → names_at s p.starts p.counts ≡ names_in s
+unfolding names_at names_in places_of
+names_are s p e = rw (e, bytes, counts)
   where
-    bytes : list_of 768 (λ k. byteIn s (get_or (list_of 32 (λ i. (place_of s i).start)) (k / 24) 0) (get_or (list_of 32 (λ i. (place_of s i).count)) (k / 24) 0) (k % 24)) ≡ list_of 768 (λ k. get_or (name_of s (k / 24)) (k % 24) 0)
-    bytes = listOf-same 768 _ _ (λ k l.
+    bytes : list_of 768 (λ k. byte_in s (get_or (list_of 32 (λ i. (place_of s i).start)) (k / 24) 0) (get_or (list_of 32 (λ i. (place_of s i).count)) (k / 24) 0) (k % 24)) ≡ list_of 768 (λ k. get_or (name_of s (k / 24)) (k % 24) 0)
+    bytes = list_of-same 768 _ _ (λ k l.
         let m : k / 24 < 32 = omega arith in
-        rw (getD-listOf 32 (λ i. (place_of s i).start) (k / 24) m, getD-listOf 32 (λ i. (place_of s i).count) (k / 24) m) (name-byte s (k / 24) (k % 24)))
+        rw (get_d-list_of 32 (λ i. (place_of s i).start) (k / 24) m, get_d-list_of 32 (λ i. (place_of s i).count) (k / 24) m) (name_byte_lem s (k / 24) (k % 24)))
 
     counts : list_of 32 (λ i. (place_of s i).count) ≡ list_of 32 (λ i. length (name_of s i))
-    counts = listOf-same 32 _ _ (λ i l. sym (name-length s i))
+    counts = list_of-same 32 _ _ (λ i l. sym (name-length s i))

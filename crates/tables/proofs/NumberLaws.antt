@@ -13,42 +13,42 @@ use lib.ListN.{length, get_or, take, drop, length-drop, drop_of_length-le, get_o
 use lib.Seq.{drop-cons, take_all, get_or-drop}
 use borrow.Author.Tests.{eqb-true, eqb-false, eq-eqb, ne_eqb, leb-true, lt-leb, ltb-true, lt-ltb, not-true}
 use Rattle.words.specs.Choice.{pick}
-use Rattle.words.proofs.ChoiceLaws.{pick_true, pick-false, pick-cases}
-use Rattle.words.proofs.CountingLaws.{all-at, at_all}
+use Rattle.words.proofs.ChoiceLaws.{pick_true, pick-false, pick_cases}
+use Rattle.words.proofs.CountingLaws.{all_at, at_all}
 use Rattle.words.proofs.TruthLaws.{and_left, and_right, and_both, not-holds, told}
 use Rattle.tables.specs.declared.Typed.{Typed}
-use Rattle.tables.specs.Number.{digit, worthFrom, areDigits, isHex, is_number, worth}
-use Rattle.tables.specs.Passes.{capped, readDigits, readWord}
+use Rattle.tables.specs.Number.{digit, worth_from, are_digits, is_hex, is_number, worth}
+use Rattle.tables.specs.Passes.{capped, read_digits, read_word}
 use Rattle.tables.specs.Facts.{Digits}
 
-pub digit-small : (b : ℕ) → digit b ≤ 16
+pub digit_small : (b : ℕ) → digit b ≤ 16
 unfolding digit
-digit-small b =
-    pick-cases (λ n. n ≤ 16) (leb 48 b && leb b 57) (λ e. omega (arith, leb-true b 57 (and_right (leb 48 b) _ e)))
-    (λ n. pick-cases (λ n. n ≤ 16) (leb 65 b && leb b 70) (λ e. omega (arith, leb-true b 70 (and_right (leb 65 b) _ e)))
-    (λ n. pick-cases (λ n. n ≤ 16) (leb 97 b && leb b 102) (λ e. omega (arith, leb-true b 102 (and_right (leb 97 b) _ e))) (λ n. omega arith)))
+digit_small b =
+    pick_cases (λ n. n ≤ 16) (leb 48 b && leb b 57) (λ e. omega (arith, leb-true b 57 (and_right (leb 48 b) _ e)))
+    (λ n. pick_cases (λ n. n ≤ 16) (leb 65 b && leb b 70) (λ e. omega (arith, leb-true b 70 (and_right (leb 65 b) _ e)))
+    (λ n. pick_cases (λ n. n ≤ 16) (leb 97 b && leb b 102) (λ e. omega (arith, leb-true b 102 (and_right (leb 97 b) _ e))) (λ n. omega arith)))
 
 -- ---- a sum that is capped before it wraps
 
-pub times-small : (b v : ℕ) → b ≤ 16 → v ≤ 2 ^ 32 → b * v ≤ 2 ^ 36
-times-small b v l m = omega (arith, mul-le-mul_right v l)
+pub times_small : (b v : ℕ) → b ≤ 16 → v ≤ 2 ^ 32 → b * v ≤ 2 ^ 36
+times_small b v l m = omega (arith, mul-le-mul_right v l)
 
-times-le : (b v : ℕ) → 1 ≤ b → v ≤ b * v
-times-le b v l = omega (arith, mul-le-mul_right v l)
+times_le : (b v : ℕ) → 1 ≤ b → v ≤ b * v
+times_le b v l = omega (arith, mul-le-mul_right v l)
 
 pub capped_small : (v : ℕ) → capped v ≤ 2 ^ 32
 unfolding capped
 capped_small v = omega arith
 
 -- what is behind the cap stays there, whatever digits follow
-capped-more : (b u v : ℕ) (ds : List ℕ) → 1 ≤ b → capped u ≡ capped v → capped (worthFrom b u ds) ≡ capped (worthFrom b v ds)
-unfolding worthFrom
+capped-more : (b u v : ℕ) (ds : List ℕ) → 1 ≤ b → capped u ≡ capped v → capped (worth_from b u ds) ≡ capped (worth_from b v ds)
+unfolding worth_from
 capped-more b u v [] l e = e
 capped-more b u v (d ∷ ds) l e = capped-more b (b * u + digit d) (b * v + digit d) ds l (unfold capped in go (dec_lt u (2 ^ 32)) (unfold capped in e))
   where
     go : Dec (u < 2 ^ 32) → min u (2 ^ 32) ≡ min v (2 ^ 32) → min (b * u + digit d) (2 ^ 32) ≡ min (b * v + digit d) (2 ^ 32)
     go (yes m) q = let p : u ≡ v = omega arith in rw p
-    go (no m) q = omega (arith, times-le b u l, times-le b v l)
+    go (no m) q = omega (arith, times_le b u l, times_le b v l)
 
 capped-twice : (v : ℕ) → capped (capped v) ≡ capped v
 unfolding capped
@@ -56,28 +56,28 @@ capped-twice v = omega arith
 
 -- a turn: the digit at k makes b * v + d of v, and the cap is put on it
 pub worth-turn : (b v d c k : ℕ) (ds : List ℕ) (o : ℕ) → 1 ≤ b → k < length ds → d ≡ digit (get_or ds k 0) → c ≡ capped (b * v + d)
-    → capped (worthFrom b v (drop k ds)) ≡ o → capped (worthFrom b c (drop (k + 1) ds)) ≡ o
+    → capped (worth_from b v (drop k ds)) ≡ o → capped (worth_from b c (drop (k + 1) ds)) ≡ o
 worth-turn b v d c k ds o l h q e f =
     capped-more b c (b * v + d) (drop (k + 1) ds) l (ap capped e ∙ capped-twice (b * v + d))
-    ∙ ap (λ (x : ℕ). capped (worthFrom b (b * v + x) (drop (k + 1) ds))) q
+    ∙ ap (λ (x : ℕ). capped (worth_from b (b * v + x) (drop (k + 1) ds))) q
     ∙ sym (ap capped whole)
     ∙ f
   where
-    whole : worthFrom b v (drop k ds) ≡ worthFrom b (b * v + digit (get_or ds k 0)) (drop (k + 1) ds)
-    whole = rw (drop-cons ds k 0 h, add-one k) (unfold worthFrom in refl)
+    whole : worth_from b v (drop k ds) ≡ worth_from b (b * v + digit (get_or ds k 0)) (drop (k + 1) ds)
+    whole = rw (drop-cons ds k 0 h, add-one k) (unfold worth_from in refl)
 
 -- ---- 0x
 
-pub hex-short : (w : List ℕ) → length w < 2 → false ≡ isHex w
-unfolding isHex
+pub hex-short : (w : List ℕ) → length w < 2 → false ≡ is_hex w
+unfolding is_hex
 hex-short w l = rw (get_or-eq_default w 0 {n = 1} (omega arith)) (none (eqb (get_or w 0 0) 48))
   where
     none : (b : Bool) → false ≡ (b && false)
     none true = refl
     none false = refl
 
-pub hex-long : (w : List ℕ) → isHex w ≡ true → 2 ≤ length w
-hex-long w e = go (dec_lt (length w) 2)
+pub hex_long : (w : List ℕ) → is_hex w ≡ true → 2 ≤ length w
+hex_long w e = go (dec_lt (length w) 2)
   where
     go : Dec (length w < 2) → 2 ≤ length w
     go (yes l) = absurd (true≢false (sym e ∙ sym (hex-short w l)))
@@ -85,38 +85,38 @@ hex-long w e = go (dec_lt (length w) 2)
 
 -- ---- one number
 
-pub word-hex : (w : List ℕ) → isHex w ≡ true → readDigits 16 (drop 2 w) ≡ readWord w
-unfolding readWord readDigits is_number worth pick
+pub word-hex : (w : List ℕ) → is_hex w ≡ true → read_digits 16 (drop 2 w) ≡ read_word w
+unfolding read_word read_digits is_number worth pick
 word-hex w h = rw h
 
 pub rest_all : (w : List ℕ) → take (length w - 2) (drop 2 w) ≡ drop 2 w
 rest_all w = take_all (length w - 2) (drop 2 w) (omega (arith, length-drop 2 w))
 
-pub word-plain : (w : List ℕ) → isHex w ≡ false → readDigits 10 w ≡ readWord w
-unfolding readWord readDigits is_number worth pick
+pub word-plain : (w : List ℕ) → is_hex w ≡ false → read_digits 10 w ≡ read_word w
+unfolding read_word read_digits is_number worth pick
 word-plain w h = rw h
 
 -- ---- what a number is
 
 -- the definition's test, taken apart and put together again
-pub digits_are : (b : ℕ) (ds : List ℕ) → areDigits b ds ≡ true → Digits b ds
-unfolding areDigits
+pub digits_are : (b : ℕ) (ds : List ℕ) → are_digits b ds ≡ true → Digits b ds
+unfolding are_digits
 digits_are b ds h =
     let some : length ds ≢ 0 = eqb-false (length ds) 0 (not-true (eqb (length ds) 0) (search (and_left, and_right))) in
     record {
       some = omega arith;
-      each = λ k l. ltb-true (digit (get_or ds k 0)) b (all-at (length ds) (λ k. ltb (digit (get_or ds k 0)) b) (search (and_left, and_right)) k l);
+      each = λ k l. ltb-true (digit (get_or ds k 0)) b (all_at (length ds) (λ k. ltb (digit (get_or ds k 0)) b) (search (and_left, and_right)) k l);
     }
 
-pub are-digits : (b : ℕ) (ds : List ℕ) → Digits b ds → areDigits b ds ≡ true
-unfolding areDigits
+pub are-digits : (b : ℕ) (ds : List ℕ) → Digits b ds → are_digits b ds ≡ true
+unfolding are_digits
 are-digits b ds d =
     and_both (ap not (ne_eqb (length ds) 0 (λ e. omega (arith, d.some)))) (at_all (length ds) _ (λ k l. lt-ltb (digit (get_or ds k 0)) b (d.each k l)))
 
 -- the digit at k is none
-pub digits-fault : (b d k : ℕ) (ds : List ℕ) → k < length ds → d ≡ digit (get_or ds k 0) → b ≤ d → record { taken = false; value = 0 } ≡ readDigits b ds
-unfolding readDigits
-digits-fault b d k ds h q l = pick-false _ (not-holds (areDigits b ds) (λ e. omega (arith, (digits_are b ds e).each k h)))
+pub digits_fault : (b d k : ℕ) (ds : List ℕ) → k < length ds → d ≡ digit (get_or ds k 0) → b ≤ d → record { taken = false; value = 0 } ≡ read_digits b ds
+unfolding read_digits
+digits_fault b d k ds h q l = pick-false _ (not-holds (are_digits b ds) (λ e. omega (arith, (digits_are b ds e).each k h)))
 
 -- it is one
 pub digits_more : (b d k : ℕ) (ds : List ℕ) → d ≡ digit (get_or ds k 0) → d < b → ((j : ℕ) → j < k → digit (get_or ds j 0) < b)
@@ -128,30 +128,30 @@ digits_more b d k ds q t h j l = go (ℕ_discrete j k)
     go (no n) = h j (omega arith)
 
 -- all of them are digits, and the sum is what they are worth, under the cap
-pub digits-done : (b v k : ℕ) (ds : List ℕ) → k ≤ length ds → length ds ≤ k → v ≤ 2 ^ 32 → capped (worthFrom b v (drop k ds)) ≡ capped (worthFrom b 0 ds)
-    → ((j : ℕ) → j < k → digit (get_or ds j 0) < b) → record { taken = not (eqb k 0); value = v } ≡ readDigits b ds
-unfolding readDigits
+pub digits-done : (b v k : ℕ) (ds : List ℕ) → k ≤ length ds → length ds ≤ k → v ≤ 2 ^ 32 → capped (worth_from b v (drop k ds)) ≡ capped (worth_from b 0 ds)
+    → ((j : ℕ) → j < k → digit (get_or ds j 0) < b) → record { taken = not (eqb k 0); value = v } ≡ read_digits b ds
+unfolding read_digits
 digits-done b v k ds l m small f h = go (ℕ_discrete k 0)
   where
-    empty : (l : List ℕ) → length l ≡ 0 → capped (worthFrom b 0 l) ≡ 0
-    empty [] z = unfold capped worthFrom in refl
+    empty : (l : List ℕ) → length l ≡ 0 → capped (worth_from b 0 l) ≡ 0
+    empty [] z = unfold capped worth_from in refl
     empty (x ∷ l) z = absurd (omega arith)
 
     own : v ≡ capped v
     own = unfold capped in (omega arith)
 
-    sum : v ≡ capped (worthFrom b 0 ds)
-    sum = own ∙ sym (rw (drop_of_length-le ds m) (unfold worthFrom in refl)) ∙ f
+    sum : v ≡ capped (worth_from b 0 ds)
+    sum = own ∙ sym (rw (drop_of_length-le ds m) (unfold worth_from in refl)) ∙ f
 
-    go : Dec (k ≡ 0) → ◌≡◌ {A = Typed} (record { taken = not (eqb k 0); value = v }) (pick (areDigits b ds) (record { taken = true; value = capped (worthFrom b 0 ds) }) (record { taken = false; value = 0 }))
-    go (yes e) = rw (eq-eqb k 0 e, sum ∙ empty ds (omega arith)) (pick-false _ (not-holds (areDigits b ds) (λ g. omega (arith, (digits_are b ds g).some))))
+    go : Dec (k ≡ 0) → ◌≡◌ {A = Typed} (record { taken = not (eqb k 0); value = v }) (pick (are_digits b ds) (record { taken = true; value = capped (worth_from b 0 ds) }) (record { taken = false; value = 0 }))
+    go (yes e) = rw (eq-eqb k 0 e, sum ∙ empty ds (omega arith)) (pick-false _ (not-holds (are_digits b ds) (λ g. omega (arith, (digits_are b ds g).some))))
     go (no d) = rw (ne_eqb k 0 d, sum) (pick_true _ (are-digits b ds (record { some = omega arith; each = λ j n. h j (omega arith) })))
 
-pub number-hex : (w : List ℕ) → isHex w ≡ true → (is_number w ≡ areDigits 16 (drop 2 w)) × (worth w ≡ worthFrom 16 0 (drop 2 w))
+pub number-hex : (w : List ℕ) → is_hex w ≡ true → (is_number w ≡ are_digits 16 (drop 2 w)) × (worth w ≡ worth_from 16 0 (drop 2 w))
 unfolding is_number worth pick
 number-hex w h = rw h (refl, refl)
 
-pub number-plain : (w : List ℕ) → isHex w ≡ false → (is_number w ≡ areDigits 10 w) × (worth w ≡ worthFrom 10 0 w)
+pub number-plain : (w : List ℕ) → is_hex w ≡ false → (is_number w ≡ are_digits 10 w) × (worth w ≡ worth_from 10 0 w)
 unfolding is_number worth pick
 number-plain w h = rw h (refl, refl)
 
@@ -166,15 +166,15 @@ digit-high b h = go (dec_lt b 48)
     go (yes l) = absurd (omega (arith, digit_low b l))
     go (no l) = omega arith
 
-pub hex-first : (w : List ℕ) → isHex w ≡ true → (get_or w 0 0 ≡ 48) × (get_or w 1 0 ≡ 120)
-unfolding isHex
+pub hex-first : (w : List ℕ) → is_hex w ≡ true → (get_or w 0 0 ≡ 48) × (get_or w 1 0 ≡ 120)
+unfolding is_hex
 hex-first w h = (eqb-true (get_or w 0 0) 48 (and_left (eqb (get_or w 0 0) 48) _ h), eqb-true (get_or w 1 0) 120 (and_right (eqb (get_or w 0 0) 48) _ h))
 
 -- no character of a number is white, or begins a comment
 pub number-high : (w : List ℕ) → is_number w ≡ true → (k : ℕ) → k < length w → 48 ≤ get_or w k 0
-number-high w n k l = go (told (isHex w))
+number-high w n k l = go (told (is_hex w))
   where
-    hexed : isHex w ≡ true → (j : ℕ) → j < length w → 48 ≤ get_or w j 0
+    hexed : is_hex w ≡ true → (j : ℕ) → j < length w → 48 ≤ get_or w j 0
     hexed h zero m = omega (arith, (hex-first w h).0)
     hexed h (suc zero) m = omega (arith, (hex-first w h).1)
     hexed h (suc (suc j)) m =
@@ -182,15 +182,15 @@ number-high w n k l = go (told (isHex w))
         let z : 2 + j ≡ suc (suc j) = omega arith in
         digit-high (get_or w (suc (suc j)) 0) (subst (λ (x : ℕ). digit x < 16) (get_or-drop 2 w j 0 ∙ ap (λ (i : ℕ). get_or w i 0) z) (d.each j (omega (arith, length-drop 2 w))))
 
-    go : (isHex w ≡ true) ⊎ (isHex w ≡ false) → 48 ≤ get_or w k 0
+    go : (is_hex w ≡ true) ⊎ (is_hex w ≡ false) → 48 ≤ get_or w k 0
     go (inl h) = hexed h k l
     go (inr h) =
         let d = digits_are 10 w (sym (number-plain w h).0 ∙ n) in
         digit-high (get_or w k 0) (omega (arith, d.each k l))
 
 pub number-some : (w : List ℕ) → is_number w ≡ true → 0 < length w
-number-some w n = go (told (isHex w))
+number-some w n = go (told (is_hex w))
   where
-    go : (isHex w ≡ true) ⊎ (isHex w ≡ false) → 0 < length w
-    go (inl h) = omega (arith, hex-long w h)
+    go : (is_hex w ≡ true) ⊎ (is_hex w ≡ false) → 0 < length w
+    go (inl h) = omega (arith, hex_long w h)
     go (inr h) = (digits_are 10 w (sym (number-plain w h).0 ∙ n)).some

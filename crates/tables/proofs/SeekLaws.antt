@@ -7,10 +7,10 @@ use native.Mathlib.Omega.{arith}
 use native.Mathlib.Decide.{ℕ_discrete}
 use lib.ListN.{length, get_or}
 use Rattle.words.specs.Choice.{pick}
-use Rattle.words.specs.Counting.{lowestBelow}
-use Rattle.words.proofs.CountingLaws.{lowest-found, lowest-one}
+use Rattle.words.specs.Counting.{lowest_below}
+use Rattle.words.proofs.CountingLaws.{lowest_found, lowest-one}
 use Rattle.words.proofs.TruthLaws.{clash}
-use Rattle.tables.specs.Typed.{white, startFrom, endFrom, pastNth, nthStart}
+use Rattle.tables.specs.Typed.{white, start_from, end_from, past_nth, nth_start}
 
 -- from `at` on, i is the first byte that passes, or the end of the text where none does
 pub record Sought (p : ℕ → Bool) (s : List ℕ) (at i : ℕ) : Type 0 where
@@ -21,11 +21,11 @@ pub record Sought (p : ℕ → Bool) (s : List ℕ) (at i : ℕ) : Type 0 where
 
 module _ (p : ℕ → Bool) (s : List ℕ) (at : ℕ) where
   abbrev pub seek : ℕ
-  seek = at + lowestBelow (length s - at) (λ k. p (get_or s (at + k) 0))
+  seek = at + lowest_below (length s - at) (λ k. p (get_or s (at + k) 0))
 
   pub sought : Sought p s at seek
   sought =
-      let l = lowest-found (length s - at) (λ k. p (get_or s (at + k) 0)) in
+      let l = lowest_found (length s - at) (λ k. p (get_or s (at + k) 0)) in
       record {
         from = omega arith;
         within = omega (arith, l.within);
@@ -36,10 +36,10 @@ module _ (p : ℕ → Bool) (s : List ℕ) (at : ℕ) where
   pub sought-is : (i : ℕ) → Sought p s at i → i ≡ seek
   sought-is i h =
       let e : at + (i - at) ≡ i = omega (arith, h.from) in
-      let q : i - at ≡ lowestBelow (length s - at) (λ k. p (get_or s (at + k) 0))
+      let q : i - at ≡ lowest_below (length s - at) (λ k. p (get_or s (at + k) 0))
       = lowest-one (λ k. p (get_or s (at + k) 0)) (length s - at) (i - at) _
       (record { within = omega (arith, h.within); before = λ k l. h.before (at + k) (omega arith) (omega arith); found = λ l. rw e (h.found (omega arith)) })
-      (lowest-found (length s - at) (λ k. p (get_or s (at + k) 0))) in
+      (lowest_found (length s - at) (λ k. p (get_or s (at + k) 0))) in
       omega (arith, h.from)
 
   -- one byte more that does not pass
@@ -56,37 +56,37 @@ module _ (p : ℕ → Bool) (s : List ℕ) (at : ℕ) where
 abbrev pub dark : ℕ → Bool
 dark b = not (white b)
 
-pub start_is : (s : List ℕ) (at i : ℕ) → Sought dark s at i → i ≡ startFrom s at
-unfolding startFrom
+pub start_is : (s : List ℕ) (at i : ℕ) → Sought dark s at i → i ≡ start_from s at
+unfolding start_from
 start_is s at i h = sought-is dark s at i h
 
-pub start-sought : (s : List ℕ) (at : ℕ) → Sought dark s at (startFrom s at)
-unfolding startFrom
-start-sought s at = sought dark s at
+pub start_sought : (s : List ℕ) (at : ℕ) → Sought dark s at (start_from s at)
+unfolding start_from
+start_sought s at = sought dark s at
 
-pub end_is : (s : List ℕ) (at i : ℕ) → Sought white s at i → i ≡ endFrom s at
-unfolding endFrom
+pub end_is : (s : List ℕ) (at i : ℕ) → Sought white s at i → i ≡ end_from s at
+unfolding end_from
 end_is s at i h = sought-is white s at i h
 
-pub end-sought : (s : List ℕ) (at : ℕ) → Sought white s at (endFrom s at)
-unfolding endFrom
-end-sought s at = sought white s at
+pub end_sought : (s : List ℕ) (at : ℕ) → Sought white s at (end_from s at)
+unfolding end_from
+end_sought s at = sought white s at
 
 -- within the text they stay within it
-pub start-within : (s : List ℕ) (at : ℕ) → at ≤ length s → startFrom s at ≤ length s
-start-within s at l = omega (arith, (start-sought s at).within)
+pub start-within : (s : List ℕ) (at : ℕ) → at ≤ length s → start_from s at ≤ length s
+start-within s at l = omega (arith, (start_sought s at).within)
 
-pub end-within : (s : List ℕ) (at : ℕ) → at ≤ length s → endFrom s at ≤ length s
-end-within s at l = omega (arith, (end-sought s at).within)
+pub end-within : (s : List ℕ) (at : ℕ) → at ≤ length s → end_from s at ≤ length s
+end-within s at l = omega (arith, (end_sought s at).within)
 
-pub past-within : (s : List ℕ) (n : ℕ) → pastNth s n ≤ length s
-unfolding pastNth
+pub past-within : (s : List ℕ) (n : ℕ) → past_nth s n ≤ length s
+unfolding past_nth
 past-within s zero = omega arith
-past-within s (suc n) = end-within s (startFrom s (pastNth s n)) (start-within s (pastNth s n) (past-within s n))
+past-within s (suc n) = end-within s (start_from s (past_nth s n)) (start-within s (past_nth s n) (past-within s n))
 
-pub nth-within : (s : List ℕ) (n : ℕ) → nthStart s n ≤ length s
-unfolding nthStart
-nth-within s n = start-within s (pastNth s n) (past-within s n)
+pub nth-within : (s : List ℕ) (n : ℕ) → nth_start s n ≤ length s
+unfolding nth_start
+nth-within s n = start-within s (past_nth s n) (past-within s n)
 
 -- ---- as the code seeks them
 
@@ -94,7 +94,7 @@ nth-within s n = start-within s (pastNth s n) (past-within s n)
 abbrev pub turned : Bool → ℕ → Bool
 turned wanted b = pick wanted (white b) (not (white b))
 
-pub seek_is : (wanted : Bool) (s : List ℕ) (at i : ℕ) → Sought (turned wanted) s at i → i ≡ pick wanted (endFrom s at) (startFrom s at)
+pub seek_is : (wanted : Bool) (s : List ℕ) (at i : ℕ) → Sought (turned wanted) s at i → i ≡ pick wanted (end_from s at) (start_from s at)
 unfolding pick
 seek_is true s at i h = end_is s at i (record { from = h.from; within = h.within; before = h.before; found = h.found })
 seek_is false s at i h = start_is s at i (record { from = h.from; within = h.within; before = h.before; found = h.found })
@@ -114,10 +114,10 @@ not-turned false true b e h = ap not (sym e)
 not-turned false false b e h = clash refl h
 
 -- what was sought
-pub started-at : (s : List ℕ) (at : ℕ) {x : ℕ} → x ≡ pick false (endFrom s at) (startFrom s at) → x ≡ startFrom s at
+pub started_at : (s : List ℕ) (at : ℕ) {x : ℕ} → x ≡ pick false (end_from s at) (start_from s at) → x ≡ start_from s at
 unfolding pick
-started-at s at e = e
+started_at s at e = e
 
-pub ended_at : (s : List ℕ) (at : ℕ) {x : ℕ} → x ≡ pick true (endFrom s at) (startFrom s at) → x ≡ endFrom s at
+pub ended_at : (s : List ℕ) (at : ℕ) {x : ℕ} → x ≡ pick true (end_from s at) (start_from s at) → x ≡ end_from s at
 unfolding pick
 ended_at s at e = e

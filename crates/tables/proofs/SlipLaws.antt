@@ -11,68 +11,68 @@ use lib.Dec.{eqb, ltb}
 use lib.ListN.{get_or, take, drop}
 use borrow.Author.Tests.{eq-eqb, ne_eqb, lt-ltb, le-ltb}
 use Rattle.words.specs.Choice.{pick}
-use Rattle.words.specs.Counting.{one, countBelow}
-use Rattle.words.proofs.ChoiceLaws.{pick-false, pick-cases}
-use Rattle.words.proofs.CountingLaws.{count-le, lowest-found, lowest-one}
+use Rattle.words.specs.Counting.{one, count_below}
+use Rattle.words.proofs.ChoiceLaws.{pick-false, pick_cases}
+use Rattle.words.proofs.CountingLaws.{count_le, lowest_found, lowest-one}
 use Rattle.words.proofs.TruthLaws.{told as told-so}
 use Rattle.tables.specs.declared.Next.{Next}
-use Rattle.tables.specs.Typed.{pastNth, nthStart, nthTyped}
+use Rattle.tables.specs.Typed.{past_nth, nth_start, nth_typed}
 use Rattle.tables.specs.Number.{is_number, worth}
 use Rattle.tables.specs.Passes.{capped}
-use Rattle.tables.proofs.SeekLaws.{end-sought}
+use Rattle.tables.proofs.SeekLaws.{end_sought}
 use Rattle.tables.proofs.ReadLaws.{NextIs}
-use Rattle.tables.specs.Slips.{line_of, told, limitOf, is_over, firstOver, overWords, overLine, expectedWords, faultLine}
+use Rattle.tables.specs.Slips.{line_of, told, limit_of, is_over, first_over, over_words, over_line, expected_words, fault_line}
 
 -- ---- which line
 
-pub feed-there : (s : List ℕ) (k b : ℕ) → b ≡ get_or s k 0 → b ≡ 10 → 1 ≡ one (eqb (get_or s k 0) 10)
-feed-there s k b e f = ap one (sym (eq-eqb (get_or s k 0) 10 (sym e ∙ f)))
+pub feed_there : (s : List ℕ) (k b : ℕ) → b ≡ get_or s k 0 → b ≡ 10 → 1 ≡ one (eqb (get_or s k 0) 10)
+feed_there s k b e f = ap one (sym (eq-eqb (get_or s k 0) 10 (sym e ∙ f)))
 
 pub feed-none : (s : List ℕ) (k b : ℕ) → b ≡ get_or s k 0 → b ≢ 10 → 0 ≡ one (eqb (get_or s k 0) 10)
 feed-none s k b e f = ap one (sym (ne_eqb (get_or s k 0) 10 (λ z. f (e ∙ z))))
 
 pub line_first : (s : List ℕ) → 1 ≡ line_of s 0
-unfolding line_of countBelow
+unfolding line_of count_below
 line_first s = refl
 
 pub line-more : (s : List ℕ) (k x f : ℕ) → x ≡ line_of s k → f ≡ one (eqb (get_or s k 0) 10) → x + f ≡ line_of s (k + 1)
-line-more s k x f e g = rw (e, g, add-one k) (unfold line_of countBelow in omega arith)
+line-more s k x f e g = rw (e, g, add-one k) (unfold line_of count_below in omega arith)
 
 pub line-most : (s : List ℕ) (k : ℕ) → line_of s k ≤ k + 1
 unfolding line_of
-line-most s k = omega (arith, count-le k (λ j. eqb (get_or s j 0) 10))
+line-most s k = omega (arith, count_le k (λ j. eqb (get_or s j 0) 10))
 
 pub line-done : (s : List ℕ) (k at x : ℕ) → x ≡ line_of s k → k ≤ at → at ≤ k → x ≡ line_of s at
 line-done s k at x e a b = let q : k ≡ at = omega arith in rw (← q) e
 
 -- ---- which number is over its limit
 
-limit-most : (n : ℕ) → limitOf n ≤ 65535
-unfolding limitOf
-limit-most n = pick-cases (λ m. m ≤ 65535) (eqb n 97) (λ e. omega arith) (λ e. pick-cases (λ m. m ≤ 65535) _ (λ f. omega arith) (λ f. pick-cases (λ m. m ≤ 65535) _ (λ g. omega arith) (λ g. omega arith)))
+limit-most : (n : ℕ) → limit_of n ≤ 65535
+unfolding limit_of
+limit-most n = pick_cases (λ m. m ≤ 65535) (eqb n 97) (λ e. omega arith) (λ e. pick_cases (λ m. m ≤ 65535) _ (λ f. omega arith) (λ f. pick_cases (λ m. m ≤ 65535) _ (λ g. omega arith) (λ g. omega arith)))
 
 -- the cap on what is read changes nothing
 over-capped : (n v : ℕ) → is_over n true (capped v) ≡ is_over n true v
 unfolding is_over capped
-over-capped n v = ap (λ (b : Bool). not (eqb n 96) && b) (go (dec_lt (limitOf n) v))
+over-capped n v = ap (λ (b : Bool). not (eqb n 96) && b) (go (dec_lt (limit_of n) v))
   where
-    go : Dec (limitOf n < v) → ltb (limitOf n) (min v (2 ^ 32)) ≡ ltb (limitOf n) v
-    go (yes l) = lt-ltb (limitOf n) (min v (2 ^ 32)) (omega (arith, limit-most n)) ∙ sym (lt-ltb (limitOf n) v l)
-    go (no l) = le-ltb (limitOf n) (min v (2 ^ 32)) (omega arith) ∙ sym (le-ltb (limitOf n) v (omega arith))
+    go : Dec (limit_of n < v) → ltb (limit_of n) (min v (2 ^ 32)) ≡ ltb (limit_of n) v
+    go (yes l) = lt-ltb (limit_of n) (min v (2 ^ 32)) (omega (arith, limit-most n)) ∙ sym (lt-ltb (limit_of n) v l)
+    go (no l) = le-ltb (limit_of n) (min v (2 ^ 32)) (omega arith) ∙ sym (le-ltb (limit_of n) v (omega arith))
 
 abbrev pub Over : List ℕ → ℕ → Bool
-Over s n = is_over n (is_number (nthTyped s n)) (worth (nthTyped s n))
+Over s n = is_over n (is_number (nth_typed s n)) (worth (nth_typed s n))
 
 pub next-over : (s : List ℕ) (n : ℕ) (x : Next) → NextIs s n x → is_over n x.taken x.value ≡ Over s n
 next-over s n x h = go (told-so x.taken)
   where
     go : (x.taken ≡ true) ⊎ (x.taken ≡ false) → is_over n x.taken x.value ≡ Over s n
-    go (inl e) = rw (e, h.value e, sym h.taken ∙ e) (over-capped n (worth (nthTyped s n)))
+    go (inl e) = rw (e, h.value e, sym h.taken ∙ e) (over-capped n (worth (nth_typed s n)))
     go (inr e) = rw (e, sym h.taken ∙ e) (unfold is_over in refl)
 
-pub over-is : (s : List ℕ) (n : ℕ) → n ≤ 98 → ((k : ℕ) → k < n → Over s k ≡ false) → (n < 98 → Over s n ≡ true) → n ≡ firstOver s
-unfolding firstOver
-over-is s n l h f = lowest-one (Over s) 98 n _ (record { within = l; before = h; found = f }) (lowest-found 98 (Over s))
+pub over-is : (s : List ℕ) (n : ℕ) → n ≤ 98 → ((k : ℕ) → k < n → Over s k ≡ false) → (n < 98 → Over s n ≡ true) → n ≡ first_over s
+unfolding first_over
+over-is s n l h f = lowest-one (Over s) 98 n _ (record { within = l; before = h; found = f }) (lowest_found 98 (Over s))
 
 pub over-more : (s : List ℕ) (n : ℕ) → ((k : ℕ) → k < n → Over s k ≡ false) → Over s n ≡ false → (k : ℕ) → k < n + 1 → Over s k ≡ false
 over-more s n h e k l = go (ℕ_discrete k n)
@@ -83,18 +83,18 @@ over-more s n h e k l = go (ℕ_discrete k n)
 
 -- ---- the line that is told
 
-pub start-past : (c : List ℕ) (n : ℕ) → nthStart c n ≤ pastNth c (n + 1)
-start-past c n = rw (add-one n) (unfold pastNth nthStart in (end-sought c _).from)
+pub start-past : (c : List ℕ) (n : ℕ) → nth_start c n ≤ past_nth c (n + 1)
+start-past c n = rw (add-one n) (unfold past_nth nth_start in (end_sought c _).from)
 
-word-is : (c : List ℕ) (n start end : ℕ) → start ≡ nthStart c n → end ≡ pastNth c (n + 1) → take (end - start) (drop start c) ≡ nthTyped c n
-word-is c n start end e f = rw (f, e, add-one n) (unfold nthTyped in refl)
+word-is : (c : List ℕ) (n start end : ℕ) → start ≡ nth_start c n → end ≡ past_nth c (n + 1) → take (end - start) (drop start c) ≡ nth_typed c n
+word-is c n start end e f = rw (f, e, add-one n) (unfold nth_typed in refl)
 
-pub fault-told : (s c : List ℕ) (n start b : ℕ) (t : Bool) → start ≡ nthStart c n → b ≡ get_or c start 0 → t ≡ is_number (nthTyped c n)
-    → told s start (expectedWords (eqb b 34) n t) ≡ faultLine s c n
-unfolding faultLine
+pub fault-told : (s c : List ℕ) (n start b : ℕ) (t : Bool) → start ≡ nth_start c n → b ≡ get_or c start 0 → t ≡ is_number (nth_typed c n)
+    → told s start (expected_words (eqb b 34) n t) ≡ fault_line s c n
+unfolding fault_line
 fault-told s c n start b t e f g = rw (g, f, e)
 
-pub over-told : (s c : List ℕ) (n start end : ℕ) → n ≢ 98 → start ≡ nthStart c n → end ≡ pastNth c (n + 1)
-    → told s start (overWords n (take (end - start) (drop start c))) ≡ overLine s c n
-unfolding overLine
+pub over-told : (s c : List ℕ) (n start end : ℕ) → n ≢ 98 → start ≡ nth_start c n → end ≡ past_nth c (n + 1)
+    → told s start (over_words n (take (end - start) (drop start c))) ≡ over_line s c n
+unfolding over_line
 over-told s c n start end d e f = rw (word-is c n start end e f, e) (pick-false _ (ne_eqb n 98 d))

@@ -1,7 +1,7 @@
 -- What the promises of a typed table speak of: where numbers begin and end, slips, and what a table and its names hold (docs/STACK.md; 02, 4/12).
 use Rattle.std.specs.Prelude.{ℕ, ◌+◌, ◌*◌, ◌^◌, ◌≤◌, ◌<◌, ◌≡◌, true, false, List, ◌⊎◌, length, get_or}
 use Rattle.stack.specs.declared.Table.{Table}
-use Rattle.tables.specs.Typed.{nthStart, nthTyped}
+use Rattle.tables.specs.Typed.{nth_start, nth_typed}
 use Rattle.tables.specs.declared.names.Names.{Names}
 use Rattle.tables.specs.Names.{named, behind, cleared}
 use Rattle.tables.specs.Number.{digit, is_number, worth}
@@ -28,27 +28,27 @@ pub record Digits (base : ℕ) (ds : List ℕ) : Type 0 where
 
 -- the first n numbers of a text without comments are numbers, and the word of forced sources, where it is among them, has 32 bits
 abbrev pub Numbers : List ℕ → ℕ → Type 0
-Numbers s n = (k : ℕ) → k < n → (is_number (nthTyped s k) ≡ true) × (k ≡ 96 → worth (nthTyped s k) < 2 ^ 32)
+Numbers s n = (k : ℕ) → k < n → (is_number (nth_typed s k) ≡ true) × (k ≡ 96 → worth (nth_typed s k) < 2 ^ 32)
 
 -- the nth is no number, or it is the word of forced sources and has more than 32 bits
 abbrev pub Slip : List ℕ → ℕ → Type 0
-Slip s n = (is_number (nthTyped s n) ≡ false) ⊎ ((n ≡ 96) × (2 ^ 32 ≤ worth (nthTyped s n)))
+Slip s n = (is_number (nth_typed s n) ≡ false) ⊎ ((n ≡ 96) × (2 ^ 32 ≤ worth (nth_typed s n)))
 
 -- the first slip of such a text begins at p: it is the nth of the 98, or there is none and something follows them
 abbrev pub SlipAt : List ℕ → ℕ → Type 0
 SlipAt s p =
-    ((n : ℕ) × (n < 98) × Numbers s n × Slip s n × (p ≡ nthStart s n)) ⊎ (Numbers s 98 × (p ≡ nthStart s 98) × (p < length s))
+    ((n : ℕ) × (n < 98) × Numbers s n × Slip s n × (p ≡ nth_start s n)) ⊎ (Numbers s 98 × (p ≡ nth_start s 98) × (p < length s))
 
 -- a text of at most 65,536 bytes with the 98 numbers and nothing behind them
 abbrev pub Whole : List ℕ → Type 0
-Whole s = (length s ≤ 65536) × Numbers (cleared s) 98 × (nthStart (cleared s) 98 ≡ length s)
+Whole s = (length s ≤ 65536) × Numbers (cleared s) 98 × (nth_start (cleared s) 98 ≡ length s)
 
 -- among the numbers is a priority over 7, a type over 3 or a frame over 65,535, however many digits it has (02, 4/12, Refusals)
 abbrev pub TooLarge : List ℕ → Type 0
 TooLarge s =
-    (65535 < worth (nthTyped s 97))
-    ⊎ ((i : ℕ) × (i < 32) × ((7 < worth (nthTyped s (3 * i)))
-    ⊎ ((3 < worth (nthTyped s (3 * i + 1))) ⊎ (65535 < worth (nthTyped s (3 * i + 2))))))
+    (65535 < worth (nth_typed s 97))
+    ⊎ ((i : ℕ) × (i < 32) × ((7 < worth (nth_typed s (3 * i)))
+    ⊎ ((3 < worth (nth_typed s (3 * i + 1))) ⊎ (65535 < worth (nth_typed s (3 * i + 2))))))
 
 -- the arrays of a table have a number for each source, and every number is a word
 pub record Words (t : Table) : Type 0 where

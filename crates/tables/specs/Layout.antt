@@ -25,7 +25,7 @@ Parted s = (s ≡ []) ⊎ (White (get_or s 0 0) ⊎ (get_or s 0 0 ≡ 35))
 -- these numbers one after the other, a gap before each and behind the last, where a comment may be left open
 pub data Spread : List (List ℕ) → List ℕ → Type 0 where
   done : (g : List ℕ) → Gap g → Spread [] g
-  leftOpen : (g c : List ℕ) → Gap g → Without 10 c → Spread [] (g ++ (35 ∷ c))
+  left_open : (g c : List ℕ) → Gap g → Without 10 c → Spread [] (g ++ (35 ∷ c))
   more : (g w : List ℕ) (ws : List (List ℕ)) (s : List ℕ) → Gap g → is_number w ≡ true → Parted s → Spread ws s → Spread (w ∷ ws) (g ++ (w ++ s))
 
 -- ---- names
@@ -61,10 +61,10 @@ abbrev pub plain : Table → List ℕ
 plain t = lines_from t (λ i. []) 32 0
 
 -- a space, and the name in its quotes; nothing where there is no name
-unfoldable pub inQuotes : List ℕ → List ℕ
-inQuotes [] = []
-inQuotes (b ∷ bs) = 32 ∷ 34 ∷ (b ∷ (bs ++ (34 ∷ [])))
+unfoldable pub in_quotes : List ℕ → List ℕ
+in_quotes [] = []
+in_quotes (b ∷ bs) = 32 ∷ 34 ∷ (b ∷ (bs ++ (34 ∷ [])))
 
 -- with a name behind the numbers of each source that has one
-abbrev pub plainNamed : Table → (ℕ → List ℕ) → List ℕ
-plainNamed t name = lines_from t (λ i. inQuotes (name i)) 32 0
+abbrev pub plain_named : Table → (ℕ → List ℕ) → List ℕ
+plain_named t name = lines_from t (λ i. in_quotes (name i)) 32 0

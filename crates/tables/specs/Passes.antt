@@ -4,32 +4,32 @@ use Rattle.words.specs.Choice.{pick}
 use Rattle.tables.specs.declared.Typed.{Typed}
 use Rattle.tables.specs.declared.Next.{Next}
 use Rattle.tables.specs.declared.Values.{Values}
-use Rattle.tables.specs.Typed.{startFrom, endFrom, nthStart, nthTyped}
-use Rattle.tables.specs.Number.{worthFrom, areDigits, is_number, worth}
-use Rattle.tables.specs.Reading.{entered, list_of, firstFault}
+use Rattle.tables.specs.Typed.{start_from, end_from, nth_start, nth_typed}
+use Rattle.tables.specs.Number.{worth_from, are_digits, is_number, worth}
+use Rattle.tables.specs.Reading.{entered, list_of, first_fault}
 
 -- 2^32 stands for whatever is more
 unfoldable pub capped : ℕ → ℕ
 capped v = min v (2 ^ 32)
 
 -- digits that are read, or not
-unfoldable pub readDigits : ℕ → List ℕ → Typed
-readDigits base ds = pick (areDigits base ds) (record { taken = true; value = capped (worthFrom base 0 ds) }) (record { taken = false; value = 0 })
+unfoldable pub read_digits : ℕ → List ℕ → Typed
+read_digits base ds = pick (are_digits base ds) (record { taken = true; value = capped (worth_from base 0 ds) }) (record { taken = false; value = 0 })
 
-unfoldable pub readWord : List ℕ → Typed
-readWord w = pick (is_number w) (record { taken = true; value = capped (worth w) }) (record { taken = false; value = 0 })
+unfoldable pub read_word : List ℕ → Typed
+read_word w = pick (is_number w) (record { taken = true; value = capped (worth w) }) (record { taken = false; value = 0 })
 
 -- the characters from the next start on
-abbrev pub wordFrom : List ℕ → ℕ → List ℕ
-wordFrom s past = take (endFrom s (startFrom s past) - startFrom s past) (drop (startFrom s past) s)
+abbrev pub word_from : List ℕ → ℕ → List ℕ
+word_from s past = take (end_from s (start_from s past) - start_from s past) (drop (start_from s past) s)
 
-unfoldable pub readNext : List ℕ → ℕ → Next
-readNext s past =
+unfoldable pub read_next : List ℕ → ℕ → Next
+read_next s past =
     record {
-      taken = (readWord (wordFrom s past)).taken;
-      value = (readWord (wordFrom s past)).value;
-      start = startFrom s past;
-      past = endFrom s (startFrom s past);
+      taken = (read_word (word_from s past)).taken;
+      value = (read_word (word_from s past)).value;
+      start = start_from s past;
+      past = end_from s (start_from s past);
     }
 
 -- the values of the first n numbers, in room for m
@@ -39,4 +39,4 @@ room m n f = list_of n f ++ replicate (m - n) 0
 -- the values up to the first fault
 unfoldable pub values_of : List ℕ → Values
 values_of s =
-    record { count = firstFault s; start = nthStart s (firstFault s); values = room 98 (firstFault s) (λ n. entered (worth (nthTyped s n))) }
+    record { count = first_fault s; start = nth_start s (first_fault s); values = room 98 (first_fault s) (λ n. entered (worth (nth_typed s n))) }

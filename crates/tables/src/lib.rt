@@ -2,10 +2,10 @@
 ghost use Rattle.std.specs.Prelude.{◌≡◌, ◌≤◌, ◌<◌, length};
 ghost use Rattle.words.specs.Choice.{pick};
 ghost use Rattle.text.specs.Text.{write, laid};
-ghost use Rattle.tables.specs.Typed.{white, bare, startFrom, endFrom};
-ghost use Rattle.tables.specs.Number.{digit, isHex};
-ghost use Rattle.tables.specs.Reading.{fitsAt, entered, everyThird, table_of, refusedAt, readBare, readTable, refusedLine, answerTo};
-ghost use Rattle.tables.specs.Passes.{capped, readDigits, readWord, readNext, values_of};
+ghost use Rattle.tables.specs.Typed.{white, bare, start_from, end_from};
+ghost use Rattle.tables.specs.Number.{digit, is_hex};
+ghost use Rattle.tables.specs.Reading.{fits_at, entered, every_third, table_of, refused_at, read_bare, read_table, refused_line, answer_to};
+ghost use Rattle.tables.specs.Passes.{capped, read_digits, read_word, read_next, values_of};
 
 pub mod names;
 pub mod slips;
@@ -55,7 +55,7 @@ const OVER: u64 = 4294967296;
 
 // The line that answers a typed table, from the start of the buffer on; answers how many bytes were written. What finds no room is dropped.
 pub fn put_answer(out: &mut [u8], text: &[u8]) -> usize
-    ensures { (out.new, result) ≡ laid out.old (answerTo text.now) }
+    ensures { (out.new, result) ≡ laid out.old (answer_to text.now) }
 {
     let r = read_table(text);
     if r.refusal == steps::CARRIED_OUT {
@@ -67,7 +67,7 @@ pub fn put_answer(out: &mut [u8], text: &[u8]) -> usize
 
 // The table that was typed, or the refusal and where.
 pub fn read_table(text: &[u8]) -> Reading
-    ensures { result ≡ readTable text.now }
+    ensures { result ≡ read_table text.now }
 {
     if MOST < text.len() {
         return refused_at(steps::TOO_LONG, MOST);
@@ -79,7 +79,7 @@ pub fn read_table(text: &[u8]) -> Reading
 
 // The same of a text without names and comments.
 fn read_bare(bare: &[u8]) -> Reading
-    ensures { result ≡ readBare bare.now }
+    ensures { result ≡ read_bare bare.now }
 {
     let v = read_values(bare);
     let start = v.start;
@@ -96,7 +96,7 @@ fn read_bare(bare: &[u8]) -> Reading
 }
 
 fn refused_at(refusal: u32, offset: usize) -> Reading
-    ensures { result ≡ refusedAt refusal offset }
+    ensures { result ≡ refused_at refusal offset }
 {
     let zeros = Table {
         priority: [0; 32],
@@ -114,7 +114,7 @@ fn refused_at(refusal: u32, offset: usize) -> Reading
 
 // E, the refusal and the offset.
 fn put_refused(out: &mut [u8], refusal: u32, offset: usize) -> usize
-    ensures { (out.new, result) ≡ laid out.old (refusedLine refusal offset) }
+    ensures { (out.new, result) ≡ laid out.old (refused_line refusal offset) }
 {
     let first = text::put(out, 0, b'E');
     let second = text::put_field(out, first, refusal as u64);
@@ -143,7 +143,7 @@ fn table_of(values: [u32; 98]) -> Table
 // One number for each source.
 fn every_third(values: [u32; 98], first: usize) -> [u32; 32]
     requires { first < 3 }
-    ensures { result ≡ everyThird values first }
+    ensures { result ≡ every_third values first }
 {
     let mut out = [0u32; 32];
     let mut i: usize = 0;
@@ -183,7 +183,7 @@ pub fn read_values(text: &[u8]) -> Values
 
 // Whether the nth of the 98 is as it must be: a number, and as the word of forced sources one of 32 bits.
 fn fits_at(n: usize, taken: bool, value: u64) -> bool
-    ensures { result ≡ fitsAt n taken value }
+    ensures { result ≡ fits_at n taken value }
 {
     taken & ((n != FORCED) | (value < OVER))
 }
@@ -201,7 +201,7 @@ pub fn entered_as(value: u64) -> u32
 // The next number from an offset on.
 pub fn read_next(text: &[u8], past: usize) -> Next
     requires { past ≤ length text.now }
-    ensures { result ≡ readNext text.now past }
+    ensures { result ≡ read_next text.now past }
 {
     let start = seek(text, past, false);
     let end = seek(text, start, true);
@@ -216,7 +216,7 @@ pub fn read_next(text: &[u8], past: usize) -> Next
 
 // The first byte from an offset on that is white, or that is not, as `wanted` says.
 pub fn seek(text: &[u8], at: usize, wanted: bool) -> usize
-    ensures { result ≡ pick wanted (endFrom text.now at) (startFrom text.now at) }
+    ensures { result ≡ pick wanted (end_from text.now at) (start_from text.now at) }
 {
     let mut i = at;
     while i < text.len() {
@@ -232,7 +232,7 @@ pub fn seek(text: &[u8], at: usize, wanted: bool) -> usize
 
 // Decimal, or hexadecimal after 0x.
 fn read_word(word: &[u8]) -> Typed
-    ensures { result ≡ readWord word.now }
+    ensures { result ≡ read_word word.now }
 {
     if is_hex(word) {
         return read_digits(&word[2..], 16);
@@ -241,7 +241,7 @@ fn read_word(word: &[u8]) -> Typed
 }
 
 fn is_hex(word: &[u8]) -> bool
-    ensures { result ≡ isHex word.now }
+    ensures { result ≡ is_hex word.now }
 {
     if word.len() < 2 {
         return false;
@@ -252,7 +252,7 @@ fn is_hex(word: &[u8]) -> bool
 // Digits to a base: one at least, and no other character. However many there are, no sum wraps.
 fn read_digits(digits: &[u8], base: u32) -> Typed
     requires { (1 ≤ base) × (base ≤ 16) }
-    ensures { result ≡ readDigits base digits.now }
+    ensures { result ≡ read_digits base digits.now }
 {
     let mut worth: u64 = 0;
     let mut k: usize = 0;

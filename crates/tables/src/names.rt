@@ -2,9 +2,9 @@
 ghost use Rattle.std.specs.Prelude.{◌≡◌, ◌≤◌, ◌<◌, length, get_or, set};
 ghost use Rattle.words.specs.Choice.{pick};
 ghost use Rattle.text.specs.Text.{write};
-ghost use Rattle.tables.specs.Typed.{pastNth, nthStart};
-ghost use Rattle.tables.specs.Names.{nameByte, nameRun, isName, named, behind, place_in, blanked, quoted, unnamedAt, unnamed, cleared};
-ghost use Rattle.tables.specs.Named.{places_of, namesIn, noNames, names_of, byteIn, names_at};
+ghost use Rattle.tables.specs.Typed.{past_nth, nth_start};
+ghost use Rattle.tables.specs.Names.{name_byte, name_run, is_name, named, behind, place_in, blanked, quoted, unnamed_at, unnamed, cleared};
+ghost use Rattle.tables.specs.Named.{places_of, names_in, no_names, names_of, byte_in, names_at};
 
 use super::{MOST, is_white, read_table, seek, strip};
 
@@ -49,7 +49,7 @@ pub fn names_of(text: &[u8]) -> Names
 }
 
 fn no_names() -> Names
-    ensures { result ≡ noNames }
+    ensures { result ≡ no_names }
 {
     Names {
         bytes: [0; 768],
@@ -60,7 +60,7 @@ fn no_names() -> Names
 // The names of a text that is read.
 fn names_in(text: &[u8]) -> Names
     requires { length text.now ≤ 65536 }
-    ensures { result ≡ namesIn text.now }
+    ensures { result ≡ names_in text.now }
 {
     let mut room = [0u8; 65536];
     let n = text::put_all(&mut room, 0, text);
@@ -88,7 +88,7 @@ fn names_at(text: &[u8], starts: [usize; 32], counts: [u32; 32]) -> Names
 
 // The kth byte of a name, 0 behind it.
 fn byte_in(text: &[u8], start: usize, count: u32, k: usize) -> u8
-    ensures { result ≡ byteIn text.now start count k }
+    ensures { result ≡ byte_in text.now start count k }
 {
     if count as usize <= k {
         return 0;
@@ -136,7 +136,7 @@ fn take_names(text: &mut [u8]) -> Places
 // The name of one source, in a text without those before it.
 fn take_name(text: &mut [u8], i: usize) -> Place
     requires { (length text.old ≤ 65536) × (i < 32) }
-    ensures { (text.new ≡ unnamedAt text.old i) × (result ≡ place_in text.old i) }
+    ensures { (text.new ≡ unnamed_at text.old i) × (result ≡ place_in text.old i) }
 {
     let at = find_behind(&text[..], i);
     let n = name_at(&text[..], at);
@@ -159,14 +159,14 @@ fn find_behind(text: &[u8], i: usize) -> usize
 
 // Where the nth word begins, counted from 0.
 fn nth_start(text: &[u8], n: usize) -> usize
-    ensures { result ≡ nthStart text.now n }
+    ensures { result ≡ nth_start text.now n }
 {
     seek(text, past_nth(text, n), false)
 }
 
 // The offset behind the first n words.
 pub fn past_nth(text: &[u8], n: usize) -> usize
-    ensures { result ≡ pastNth text.now n }
+    ensures { result ≡ past_nth text.now n }
 {
     let mut past: usize = 0;
     let mut k: usize = 0;
@@ -225,7 +225,7 @@ fn name_at(text: &[u8], at: usize) -> usize
 }
 
 fn is_name(opening: u8, n: usize, closing: u8, next: u8) -> bool
-    ensures { result ≡ isName opening n closing next }
+    ensures { result ≡ is_name opening n closing next }
 {
     (opening == QUOTE)
         & (1 <= n)
@@ -237,7 +237,7 @@ fn is_name(opening: u8, n: usize, closing: u8, next: u8) -> bool
 // How many bytes of a name follow each other, up to one more than it may have.
 fn run_of(text: &[u8], at: usize) -> usize
     requires { at ≤ 65537 }
-    ensures { result ≡ nameRun text.now at }
+    ensures { result ≡ name_run text.now at }
 {
     let mut k: usize = 0;
     while k < 25 {
@@ -250,7 +250,7 @@ fn run_of(text: &[u8], at: usize) -> usize
 }
 
 fn is_name_byte(b: u8) -> bool
-    ensures { result ≡ nameByte b }
+    ensures { result ≡ name_byte b }
 {
     (32 <= b) & (b <= 126) & !((b == QUOTE) | (b == b'&') | (b == b'<') | (b == b'>'))
 }

@@ -3,7 +3,7 @@ ghost use Rattle.std.specs.Prelude.{◌≡◌, ◌++◌, ◌≤◌, eqb, length,
 ghost use Rattle.words.specs.Counting.{one};
 ghost use Rattle.text.specs.Text.{write, laid};
 ghost use Rattle.text.specs.Phrases.{bytes, counted};
-ghost use Rattle.tables.specs.Slips.{line_of, limitOf, is_over, firstOver, shortened, between, overWords, overLine, expectedWords, faultLine, slipIn, slipLine};
+ghost use Rattle.tables.specs.Slips.{line_of, limit_of, is_over, first_over, shortened, between, over_words, over_line, expected_words, fault_line, slip_in, slip_line};
 
 const NUMBERS: usize = 98;
 
@@ -13,7 +13,7 @@ const FORCED: usize = 96;
 
 // The line of a refused table, from the start of the buffer on, and nothing of a table that is fine; answers how many bytes were written.
 pub fn put_slip(out: &mut [u8], text: &[u8]) -> usize
-    ensures { (out.new, result) ≡ laid out.old (slipLine text.now) }
+    ensures { (out.new, result) ≡ laid out.old (slip_line text.now) }
 {
     if super::MOST < text.len() {
         return text::put_all(out, 0, b"the text is longer than 65536 bytes\n");
@@ -26,7 +26,7 @@ pub fn put_slip(out: &mut [u8], text: &[u8]) -> usize
 // The same of a text whose names and comments are spaces beside it.
 fn put_slip_in(out: &mut [u8], text: &[u8], cleared: &[u8]) -> usize
     requires { length cleared.now ≤ 65536 }
-    ensures { (out.new, result) ≡ write (out.old, 0) (slipIn text.now cleared.now) }
+    ensures { (out.new, result) ≡ write (out.old, 0) (slip_in text.now cleared.now) }
 {
     let v = super::read_values(cleared);
     if (v.count == NUMBERS) & (v.start == cleared.len()) {
@@ -41,7 +41,7 @@ fn put_slip_in(out: &mut [u8], text: &[u8], cleared: &[u8]) -> usize
 // The line of the nth word, which is at fault.
 fn put_fault(out: &mut [u8], text: &[u8], cleared: &[u8], n: usize) -> usize
     requires { length cleared.now ≤ 65536 }
-    ensures { (out.new, result) ≡ write (out.old, 0) (faultLine text.now cleared.now n) }
+    ensures { (out.new, result) ≡ write (out.old, 0) (fault_line text.now cleared.now n) }
 {
     let w = super::read_next(cleared, super::names::past_nth(cleared, n));
     let quote = super::names::byte_or(cleared, w.start, 0) == b'"';
@@ -51,7 +51,7 @@ fn put_fault(out: &mut [u8], text: &[u8], cleared: &[u8], n: usize) -> usize
 }
 
 fn put_expected(out: &mut [u8], at: usize, quote: bool, n: usize, number: bool) -> usize
-    ensures { (out.new, result) ≡ write (out.old, at) (expectedWords quote n number) }
+    ensures { (out.new, result) ≡ write (out.old, at) (expected_words quote n number) }
 {
     if quote {
         return text::put_all(
@@ -74,7 +74,7 @@ fn put_expected(out: &mut [u8], at: usize, quote: bool, n: usize, number: bool) 
 // The line of the nth number, which is over its limit; none of number 98, which is none.
 fn put_over(out: &mut [u8], text: &[u8], cleared: &[u8], n: usize) -> usize
     requires { length cleared.now ≤ 65536 }
-    ensures { (out.new, result) ≡ write (out.old, 0) (overLine text.now cleared.now n) }
+    ensures { (out.new, result) ≡ write (out.old, 0) (over_line text.now cleared.now n) }
 {
     if n == NUMBERS {
         return 0;
@@ -88,7 +88,7 @@ fn put_over(out: &mut [u8], text: &[u8], cleared: &[u8], n: usize) -> usize
 }
 
 fn put_over_words(out: &mut [u8], at: usize, n: usize, word: &[u8]) -> usize
-    ensures { (out.new, result) ≡ write (out.old, at) (overWords n word.now) }
+    ensures { (out.new, result) ≡ write (out.old, at) (over_words n word.now) }
 {
     if n == MARK {
         return put_between(out, at, b"frame ", word, b" of the mark is over 65535");
@@ -123,7 +123,7 @@ fn put_shortened(out: &mut [u8], at: usize, word: &[u8]) -> usize
 
 // The first of the 98 numbers that is over its limit; 98 where none is.
 fn first_over(cleared: &[u8]) -> usize
-    ensures { result ≡ firstOver cleared.now }
+    ensures { result ≡ first_over cleared.now }
 {
     let mut past: usize = 0;
     let mut n: usize = 0;
@@ -146,7 +146,7 @@ fn is_over(n: usize, taken: bool, value: u64) -> bool
 
 // The most that the nth number may be.
 fn limit_of(n: usize) -> u64
-    ensures { result ≡ limitOf n }
+    ensures { result ≡ limit_of n }
 {
     if n == MARK {
         return 65535;

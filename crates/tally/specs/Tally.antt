@@ -2,45 +2,45 @@
 use Rattle.std.specs.Prelude.{ℕ, zero, suc, ◌+◌, not, List, [], ◌∷◌, map, eqb}
 use Rattle.words.specs.Choice.{pick}
 use Rattle.words.specs.Counting.{one}
-use Rattle.steps.specs.Refusals.{carriedOut}
+use Rattle.steps.specs.Refusals.{carried_out}
 use Rattle.steps.specs.declared.Recorded.{Recorded}
 use Rattle.steps.specs.declared.Step.{Step}
-use Rattle.kinds.specs.Kinds.{aicKind}
+use Rattle.kinds.specs.Kinds.{aic_kind}
 use Rattle.machine.specs.declared.record.Machine.{Machine}
 use Rattle.machine.specs.Steps.{step}
-use Rattle.beginning.specs.Begin.{beginOf}
-use Rattle.beginning.specs.Play.{recordsOf, playOf}
-use Rattle.aic_waits.specs.Figures.{startedOf, waitedOf, entriesOf}
+use Rattle.beginning.specs.Begin.{begin_of}
+use Rattle.beginning.specs.Play.{records_of, play_of}
+use Rattle.aic_waits.specs.Figures.{started_of, waited_of, entries_of}
 use Rattle.totals.specs.declared.Totals.{Totals}
 use Rattle.totals.specs.Totals.{zeros}
 use Rattle.tally.specs.declared.Tallied.{Tallied}
 
 -- how many of some step records the machine refuses as they are played (02, 11/12): steps
-unfoldable pub refusedIn : Machine → List Recorded → ℕ
-refusedIn m [] = 0
-refusedIn m (x ∷ xs) = one (not (eqb (step m x).refusal carriedOut)) + refusedIn (step m x).machine xs
+unfoldable pub refused_in : Machine → List Recorded → ℕ
+refused_in m [] = 0
+refused_in m (x ∷ xs) = one (not (eqb (step m x).refusal carried_out)) + refused_in (step m x).machine xs
 
 -- the steps of step records: an AIC does not ask by which privilege a step is made (02, 2/12)
-abbrev pub stepsIn : List Recorded → List Step
-stepsIn xs = map (λ (x : Recorded). x.step) xs
+abbrev pub steps_in : List Recorded → List Step
+steps_in xs = map (λ (x : Recorded). x.step) xs
 
 -- a figure of each of n sources, from source i on
-unfoldable pub eachFrom : ℕ → ℕ → (ℕ → ℕ) → List ℕ
-eachFrom zero i f = []
-eachFrom (suc n) i f = f i ∷ eachFrom n (i + 1) f
+unfoldable pub each_from : ℕ → ℕ → (ℕ → ℕ) → List ℕ
+each_from zero i f = []
+each_from (suc n) i f = f i ∷ each_from n (i + 1) f
 
 -- of each of the 32
 abbrev pub each : (ℕ → ℕ) → List ℕ
-each f = eachFrom 32 0 f
+each f = each_from 32 0 f
 
 -- the figures of the 32 sources over some step records: of an AIC those of the run from its record, of other kinds 0 (02, 11/12): handlers, handlers, entries
-unfoldable pub figuresOf : Machine → List Recorded → Totals
-figuresOf m xs =
-    pick (eqb m.kind aicKind)
+unfoldable pub figures_of : Machine → List Recorded → Totals
+figures_of m xs =
+    pick (eqb m.kind aic_kind)
     (record {
-      started = each (λ i. startedOf i m.aic (stepsIn xs));
-      waited = each (λ i. waitedOf i m.aic (stepsIn xs));
-      entries = each (λ i. entriesOf i m.aic (stepsIn xs));
+      started = each (λ i. started_of i m.aic (steps_in xs));
+      waited = each (λ i. waited_of i m.aic (steps_in xs));
+      entries = each (λ i. entries_of i m.aic (steps_in xs));
     })
     zeros
 
@@ -48,9 +48,9 @@ figuresOf m xs =
 unfoldable pub tally_of : List ℕ → ℕ → Tallied
 tally_of s limit =
     record {
-      steps = (playOf s limit).steps;
-      refused = refusedIn (beginOf s).machine (recordsOf s limit).steps;
-      refusal = (playOf s limit).refusal;
-      offset = (playOf s limit).offset;
-      figures = figuresOf (beginOf s).machine (recordsOf s limit).steps;
+      steps = (play_of s limit).steps;
+      refused = refused_in (begin_of s).machine (records_of s limit).steps;
+      refusal = (play_of s limit).refusal;
+      offset = (play_of s limit).offset;
+      figures = figures_of (begin_of s).machine (records_of s limit).steps;
     }

@@ -1,18 +1,18 @@
 // The figures of one trace: the steps played and refused, and of an AIC what each source did over them (02, 11/12).
 ghost use Rattle.std.specs.Prelude.{◌≡◌, false, not, ℕ, ◌+◌, ◌<◌, ◌≤◌, eqb, length};
 ghost use Rattle.words.specs.Counting.{one};
-ghost use Rattle.steps.specs.Refusals.{carriedOut};
-ghost use Rattle.trace.specs.Trace.{stepsFrom};
+ghost use Rattle.steps.specs.Refusals.{carried_out};
+ghost use Rattle.trace.specs.Trace.{steps_from};
 ghost use Rattle.machine.specs.RecordPromises.{Ready};
-ghost use Rattle.beginning.specs.Begin.{beginOf};
-ghost use Rattle.kinds.specs.Kinds.{aicKind};
+ghost use Rattle.beginning.specs.Begin.{begin_of};
+ghost use Rattle.kinds.specs.Kinds.{aic_kind};
 ghost use Rattle.steps.specs.declared.Recorded.{Recorded};
-ghost use Rattle.aic_waits.specs.Following.{Figures, noFigures};
+ghost use Rattle.aic_waits.specs.Following.{Figures, no_figures};
 ghost use Rattle.machine.specs.declared.record.Machine.{Machine};
 ghost use Rattle.machine.specs.Steps.{step};
 ghost use Rattle.machine_room.specs.Room.{Laid};
 ghost use Rattle.tally.specs.Tally.{tally_of};
-ghost use Rattle.tally.specs.Following.{followedBy, tallied, notTallied, Followed};
+ghost use Rattle.tally.specs.Following.{followed_by, tallied, not_tallied, Followed};
 
 use aic_figures::Book;
 use beginning::Begun;
@@ -43,7 +43,7 @@ pub fn figures(trace: &[u8], limit: u32) -> Tallied
 
 // Those of a trace that has no beginning.
 fn not_tallied(refusal: u32, offset: usize) -> Tallied
-    ensures { result ≡ notTallied refusal offset }
+    ensures { result ≡ not_tallied refusal offset }
 {
     let f = totals::none();
     Tallied {
@@ -57,7 +57,7 @@ fn not_tallied(refusal: u32, offset: usize) -> Tallied
 
 // Those of a trace that has begun.
 fn tally_begun(trace: &[u8], limit: u32, b: Begun) -> Tallied
-    requires { (b ≡ beginOf trace.now) × (b.refusal ≡ carriedOut) }
+    requires { (b ≡ begin_of trace.now) × (b.refusal ≡ carried_out) }
     ensures { result ≡ tally_of trace.now limit }
 {
     let m = b.machine;
@@ -69,7 +69,7 @@ fn tally_begun(trace: &[u8], limit: u32, b: Begun) -> Tallied
 // each step.
 fn tally_steps(trace: &[u8], limit: u32, told: bool, start: usize, first: Machine) -> Tallied
     requires { Ready first × (first.aic.depth ≡ 0) × (length trace.now ≤ 65536) }
-    ensures { result ≡ tallied 0 0 noFigures first (stepsFrom told limit trace.now start) }
+    ensures { result ≡ tallied 0 0 no_figures first (steps_from told limit trace.now start) }
 {
     let mut room = machine_room::lay(first, false);
     let mut book = aic_figures::start();
@@ -107,7 +107,7 @@ fn tally_steps(trace: &[u8], limit: u32, told: bool, start: usize, first: Machin
 
 // 1 for a step that is refused.
 fn refused_one(refusal: u32) -> u32
-    ensures { result ≡ one (not (eqb refusal carriedOut)) }
+    ensures { result ≡ one (not (eqb refusal carried_out)) }
 {
     if refusal == steps::CARRIED_OUT {
         return 0;
@@ -117,7 +117,7 @@ fn refused_one(refusal: u32) -> u32
 
 // Only a step of an AIC moves the figures of sources.
 fn follow_any<'a>(book: &'a mut Book, room: &'a Room, before: u32)
-    ensures { (f : Figures) (m : Machine) (n : ℕ) (x : Recorded) → Ready m → n < 4294967290 → (m.kind ≡ aicKind → before ≡ m.aic.depth) → Followed f m n book.old → Laid false (step m x).machine room.now → Followed (followedBy f m x) (step m x).machine (n + 1) book.new }
+    ensures { (f : Figures) (m : Machine) (n : ℕ) (x : Recorded) → Ready m → n < 4294967290 → (m.kind ≡ aic_kind → before ≡ m.aic.depth) → Followed f m n book.old → Laid false (step m x).machine room.now → Followed (followed_by f m x) (step m x).machine (n + 1) book.new }
 {
     if room[aic_room::layout::KIND] == kinds::AIC {
         aic_figures::follow(book, room, before);

@@ -9,8 +9,8 @@ use lib.Pow.{pow_pos, pow_mono, split, mod-mod-pow, ones_lt}
 use lib.ListN.{length}
 use lib.Dec.{ltb}
 use borrow.Author.Tests.{ltb-true, ltb-false}
-use Rattle.words.proofs.ChoiceLaws.{pick-cases}
-use Rattle.text.specs.Text.{hexDigit, hexOf}
+use Rattle.words.proofs.ChoiceLaws.{pick_cases}
+use Rattle.text.specs.Text.{hex_digit, hex_of}
 use Rattle.text.proofs.DigitLaws.{hex-row}
 use Rattle.text.specs.Bytes.{bytes_of}
 
@@ -57,9 +57,9 @@ abbrev nibbles : ℕ → ℕ
 nibbles zero = 0
 nibbles (suc n) = nibbles n * 65536 + 15
 
-abbrev digitsOf : List ℕ → List ℕ
-digitsOf [] = []
-digitsOf (y ∷ ys) = hexDigit (y % 16) ∷ digitsOf ys
+abbrev digits_of : List ℕ → List ℕ
+digits_of [] = []
+digits_of (y ∷ ys) = hex_digit (y % 16) ∷ digits_of ys
 
 -- ---- half bytes move apart
 
@@ -75,13 +75,13 @@ apart (p ∷ ps) =
 -- ---- the rule
 
 -- 48 is added, and 7 more from ten on
-rule : (d : ℕ) → d < 16 → d + 48 + 7 * ((d + 6) / 16) ≡ hexDigit d
-unfolding hexDigit
-rule d l = pick-cases (λ (b : ℕ). d + 48 + 7 * ((d + 6) / 16) ≡ b) (ltb d 10) (λ e. omega (arith, ltb-true d 10 e)) (λ e. omega (arith, ltb-false d 10 e))
+rule : (d : ℕ) → d < 16 → d + 48 + 7 * ((d + 6) / 16) ≡ hex_digit d
+unfolding hex_digit
+rule d l = pick_cases (λ (b : ℕ). d + 48 + 7 * ((d + 6) / 16) ≡ b) (ltb d 10) (λ e. omega (arith, ltb-true d 10 e)) (λ e. omega (arith, ltb-false d 10 e))
 
 -- every byte is the digit of its half byte
 ruled : (ys : List ℕ)
-    → bytes_of (length ys) (packed ys + all (length ys) 48 + 7 * bit_and ((packed ys + all (length ys) 6) / 16) (all (length ys) 1)) ≡ digitsOf ys
+    → bytes_of (length ys) (packed ys + all (length ys) 48 + 7 * bit_and ((packed ys + all (length ys) 6) / 16) (all (length ys) 1)) ≡ digits_of ys
 unfolding bytes_of
 ruled [] = refl
 ruled (y ∷ ys) =
@@ -92,11 +92,11 @@ ruled (y ∷ ys) =
     let letters : bit_and ((w * 256 + y % 16 + (s * 256 + 6)) / 16) (o * 256 + 1) ≡ bit_and ((w + s) / 16) o * 256 + (y % 16 + 6) / 16 = parted 7 1 ((w * 256 + y % 16 + (s * 256 + 6)) / 16) o ((w + s) / 16) ((y % 16 + 6) / 16) (omega arith) (omega arith) in
     let z = all n 48 in
     let k = bit_and ((w + s) / 16) o in
-    let r : y % 16 + 48 + 7 * ((y % 16 + 6) / 16) ≡ hexDigit (y % 16) = rule (y % 16) (omega arith) in
-    let first : (w * 256 + y % 16 + (z * 256 + 48) + 7 * (k * 256 + (y % 16 + 6) / 16)) % 256 ≡ hexDigit (y % 16) = omega arith ∙ r in
+    let r : y % 16 + 48 + 7 * ((y % 16 + 6) / 16) ≡ hex_digit (y % 16) = rule (y % 16) (omega arith) in
+    let first : (w * 256 + y % 16 + (z * 256 + 48) + 7 * (k * 256 + (y % 16 + 6) / 16)) % 256 ≡ hex_digit (y % 16) = omega arith ∙ r in
     let rest : (w * 256 + y % 16 + (z * 256 + 48) + 7 * (k * 256 + (y % 16 + 6) / 16)) / 256 ≡ w + z + 7 * k = omega arith in
     ap (λ (a : ℕ). bytes_of (suc n) (w * 256 + y % 16 + (z * 256 + 48) + 7 * a)) letters ∙ ap₂ (λ (a b : ℕ). a ∷ bytes_of n b) first rest
-    ∙ ap (λ (l : List ℕ). hexDigit (y % 16) ∷ l) (ruled ys)
+    ∙ ap (λ (l : List ℕ). hex_digit (y % 16) ∷ l) (ruled ys)
 
 -- ---- all of it
 
@@ -156,7 +156,7 @@ halved-packed v l =
     ap (λ (c : ℕ). bit_and (c / 16) 0x000F000F000F000F + bit_and c 0x000F000F000F000F * 256) (spaced-wide v l) ∙ apart (bytes v)
 
 -- the digits of the half bytes are the digits of the word
-digits-row : (v : ℕ) → digitsOf (pairs (bytes v)) ≡ hexOf 8 v
+digits-row : (v : ℕ) → digits_of (pairs (bytes v)) ≡ hex_of 8 v
 digits-row v =
     let a : v / 16777216 / 16 ≡ v / 268435456 = omega arith in
     let b : v / 65536 / 16 ≡ v / 1048576 = omega arith in
@@ -164,7 +164,7 @@ digits-row v =
     rw (a, b, c) (hex-row v)
 
 pub eight : (v : ℕ) → v < 2 ^ 32
-    → bytes_of 8 (halved v + 0x3030303030303030 + 7 * bit_and ((halved v + 0x0606060606060606) / 16) 0x0101010101010101) ≡ hexOf 8 v
+    → bytes_of 8 (halved v + 0x3030303030303030 + 7 * bit_and ((halved v + 0x0606060606060606) / 16) 0x0101010101010101) ≡ hex_of 8 v
 eight v l =
     ap (λ (d : ℕ). bytes_of 8 (d + 0x3030303030303030 + 7 * bit_and ((d + 0x0606060606060606) / 16) 0x0101010101010101)) (halved-packed v l)
     ∙ ruled (pairs (bytes v)) ∙ digits-row v

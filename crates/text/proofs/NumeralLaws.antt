@@ -11,11 +11,11 @@ use lib.Dec.{ltb}
 use borrow.Author.Tests.{lt-ltb, le-ltb}
 use Rattle.words.specs.Choice.{pick}
 use Rattle.words.proofs.ChoiceLaws.{pick_true, pick-false, pick-ap}
-use Rattle.text.specs.Text.{decimal, decimalOf, last_of}
+use Rattle.text.specs.Text.{decimal, decimal_of, last_of}
 use Rattle.text.proofs.DigitLaws.{decimal-digits, length-below}
 use Rattle.text.specs.declared.room.Numeral.{Numeral}
 use Rattle.text.specs.Bytes.{bytes_of}
-use Rattle.text.specs.Numeral.{packed, keeps, numeralOf}
+use Rattle.text.specs.Numeral.{packed, keeps, numeral_of}
 use Rattle.text.proofs.BytesLaws.{positive, bytes-first}
 
 -- ---- made anew
@@ -59,28 +59,28 @@ length_last (suc k) n = length-append (last_of k (n / 10)) ((48 + n % 10) ∷ []
 
 -- a number of k digits, by their text
 pub numeral-made : (n k u : ℕ) (t : Numeral) (d : ℕ) → n < 100000 → last_of k n ≡ decimal n → u ≡ 256 ^ (k - 1) → d ≡ packed (last_of k n)
-    → t ≡ record { digits = d; width = k; unit = u; last = n % 10 } → t ≡ numeralOf n
-unfolding numeralOf
+    → t ≡ record { digits = d; width = k; unit = u; last = n % 10 } → t ≡ numeral_of n
+unfolding numeral_of
 numeral-made n k u t d h e f g i =
     i ∙ rw (f, g) (ap (λ (w : ℕ). record { digits = packed (last_of k n); width = w; unit = 256 ^ (w - 1); last = n % 10 }) (sym (length_last k n)))
     ∙ ap (λ (l : List ℕ). keeps l (n % 10)) e ∙ pick_true _ (lt-ltb n 100000 h)
 
-pub numeral-none : (n : ℕ) (t : Numeral) → 100000 ≤ n → t ≡ record { digits = 0; width = 0; unit = 0; last = 9 } → t ≡ numeralOf n
-unfolding numeralOf
+pub numeral-none : (n : ℕ) (t : Numeral) → 100000 ≤ n → t ≡ record { digits = 0; width = 0; unit = 0; last = 9 } → t ≡ numeral_of n
+unfolding numeral_of
 numeral-none n t h e = e ∙ pick-false (keeps (decimal n) (n % 10)) (le-ltb n 100000 h)
 
 -- ---- the next one
 
 -- all digits but the last
 abbrev prefix : ℕ → List ℕ
-prefix n = pick (ltb n 10) [] (decimalOf 19 (n / 10))
+prefix n = pick (ltb n 10) [] (decimal_of 19 (n / 10))
 
 parted : (n : ℕ) → decimal n ≡ prefix n ++ ((48 + n % 10) ∷ [])
-unfolding decimalOf
-parted n = sym (pick-ap (λ (l : List ℕ). l ++ ((48 + n % 10) ∷ [])) (ltb n 10) [] (decimalOf 19 (n / 10)))
+unfolding decimal_of
+parted n = sym (pick-ap (λ (l : List ℕ). l ++ ((48 + n % 10) ∷ [])) (ltb n 10) [] (decimal_of 19 (n / 10)))
 
 prefix_same : (n : ℕ) → n % 10 < 9 → prefix (n + 1) ≡ prefix n
-prefix_same n h = ap₂ (λ (b : Bool) (m : ℕ). pick b [] (decimalOf 19 m)) (go (dec_lt n 10)) e
+prefix_same n h = ap₂ (λ (b : Bool) (m : ℕ). pick b [] (decimal_of 19 m)) (go (dec_lt n 10)) e
   where
     e : (n + 1) / 10 ≡ n / 10
     e = omega arith
@@ -89,19 +89,19 @@ prefix_same n h = ap₂ (λ (b : Bool) (m : ℕ). pick b [] (decimalOf 19 m)) (g
     go (yes l) = lt-ltb (n + 1) 10 (omega arith) ∙ sym (lt-ltb n 10 l)
     go (no g) = le-ltb (n + 1) 10 (omega arith) ∙ sym (le-ltb n 10 (omega arith))
 
-packed-snoc : (a : List ℕ) (x : ℕ) → packed (a ++ (x ∷ [])) ≡ packed a + 256 ^ length a * x
+packed_snoc : (a : List ℕ) (x : ℕ) → packed (a ++ (x ∷ [])) ≡ packed a + 256 ^ length a * x
 unfolding packed
-packed-snoc [] x = omega arith
-packed-snoc (b ∷ a) x =
+packed_snoc [] x = omega arith
+packed_snoc (b ∷ a) x =
     let q : 256 ^ suc (length a) * x ≡ 256 * (256 ^ length a * x) = ap (λ (p : ℕ). p * x) (pow-succ' 256 (length a)) ∙ mul_assoc 256 (256 ^ length a) x in
-    omega (arith, packed-snoc a x, q)
+    omega (arith, packed_snoc a x, q)
 
 -- a text and its last byte
 ended : (a : List ℕ) (x last : ℕ) → keeps (a ++ (x ∷ [])) last ≡ record { digits = packed a + 256 ^ length a * x; width = length a + 1; unit = 256 ^ length a; last = last }
 ended a x last =
     let e : length (a ++ (x ∷ [])) ≡ length a + 1 = length-append a (x ∷ []) in
     let f : length a + 1 - 1 ≡ length a = omega arith in
-    rw (packed-snoc a x, e, f)
+    rw (packed_snoc a x, e, f)
 
 -- the last byte is one more
 raised : (a : List ℕ) (x last : ℕ) (t : Numeral) → t ≡ keeps (a ++ (x ∷ [])) last
@@ -112,18 +112,18 @@ raised a x last t e =
     ∙ ap (λ (d : ℕ). record { digits = d; width = length a + 1; unit = 256 ^ length a; last = last + 1 }) m ∙ sym (ended a (x + 1) (last + 1))
 
 -- a numeral that keeps a text
-pub short : (t : Numeral) (n : ℕ) → t ≡ numeralOf n → (t.last ≡ 9 → ⊥) → (n < 100000) × (t ≡ keeps (decimal n) (n % 10))
-unfolding numeralOf
+pub short : (t : Numeral) (n : ℕ) → t ≡ numeral_of n → (t.last ≡ 9 → ⊥) → (n < 100000) × (t ≡ keeps (decimal n) (n % 10))
+unfolding numeral_of
 short t n e h = go (dec_lt n 100000)
   where
     go : Dec (n < 100000) → (n < 100000) × (t ≡ keeps (decimal n) (n % 10))
     go (yes l) = (l, e ∙ sym (pick_true (record { digits = 0; width = 0; unit = 0; last = 9 }) (lt-ltb n 100000 l)))
     go (no g) = absurd (h (ap (λ (s : Numeral). s.last) (e ∙ sym (pick-false (keeps (decimal n) (n % 10)) (le-ltb n 100000 (omega arith))))))
 
-pub numeral-next : (t : Numeral) (n : ℕ) → t ≡ numeralOf n → (t.last ≡ 9 → ⊥)
-    → record { digits = t.digits + t.unit; width = t.width; unit = t.unit; last = t.last + 1 } ≡ numeralOf (n + 1)
-unfolding numeralOf
-numeral-next t n e h =
+pub numeral_next : (t : Numeral) (n : ℕ) → t ≡ numeral_of n → (t.last ≡ 9 → ⊥)
+    → record { digits = t.digits + t.unit; width = t.width; unit = t.unit; last = t.last + 1 } ≡ numeral_of (n + 1)
+unfolding numeral_of
+numeral_next t n e h =
     let s = short t n e h in
     let d : n % 10 < 9 = below n (λ (z : n % 10 ≡ 9). h (ap (λ (x : Numeral). x.last) s.1 ∙ z)) in
     let m : (n + 1) % 10 ≡ n % 10 + 1 = omega arith in
@@ -162,9 +162,9 @@ bounded (x ∷ l) (suc k) h m =
     omega (arith, p, q, pow-succ' 256 k)
 
 -- the text that a numeral keeps
-pub numeral-text : (t : Numeral) (n : ℕ) → t ≡ numeralOf n → (t.width ≡ 0 → ⊥) → (t.width ≤ 8) × (bytes_of t.width t.digits ≡ decimal n)
-unfolding numeralOf
-numeral-text t n e h = go (dec_lt n 100000)
+pub numeral_text : (t : Numeral) (n : ℕ) → t ≡ numeral_of n → (t.width ≡ 0 → ⊥) → (t.width ≤ 8) × (bytes_of t.width t.digits ≡ decimal n)
+unfolding numeral_of
+numeral_text t n e h = go (dec_lt n 100000)
   where
     go : Dec (n < 100000) → (t.width ≤ 8) × (bytes_of t.width t.digits ≡ decimal n)
     go (yes l) =
@@ -173,12 +173,12 @@ numeral-text t n e h = go (dec_lt n 100000)
     go (no g) = absurd (h (ap (λ (s : Numeral). s.width) (e ∙ sym (pick-false (keeps (decimal n) (n % 10)) (le-ltb n 100000 (omega arith))))))
 
 -- there is room for the next one
-pub numeral-fits : (t : Numeral) (n : ℕ) → t ≡ numeralOf n → (t.last ≡ 9 → ⊥) → (t.digits + t.unit < 2 ^ 64) × (t.last < 9)
+pub numeral-fits : (t : Numeral) (n : ℕ) → t ≡ numeral_of n → (t.last ≡ 9 → ⊥) → (t.digits + t.unit < 2 ^ 64) × (t.last < 9)
 numeral-fits t n e h =
     let s = short t n e h in
     let k = s.1 ∙ ap (λ (l : List ℕ). keeps l (n % 10)) (parted n) ∙ ended (prefix n) (48 + n % 10) (n % 10) in
     let p = prefix n in
-    let d : packed p + 256 ^ length p * (48 + n % 10) ≡ packed (decimal n) = sym (ap packed (parted n) ∙ packed-snoc p (48 + n % 10)) in
+    let d : packed p + 256 ^ length p * (48 + n % 10) ≡ packed (decimal n) = sym (ap packed (parted n) ∙ packed_snoc p (48 + n % 10)) in
     let b : packed (decimal n) < 256 ^ 5 = bounded (decimal n) 5 (decimal-bytes n) (length-below 20 5 n (omega arith) (omega (arith, s.0))) in
     let u : 256 ^ length p * 1 ≤ 256 ^ length p * (48 + n % 10) = mul-le-mul_left (256 ^ length p) (omega arith) in
     let l : t.last ≡ n % 10 = ap (λ (x : Numeral). x.last) k in

@@ -7,11 +7,11 @@ use native.Mathlib.Omega.{arith}
 use lib.ListN.{length, set, length-set}
 use lib.Seq.{set-set, set_comm}
 use Rattle.text.specs.Text.{push, write}
-use Rattle.text.proofs.WriteLaws.{room, length-write, write-append}
+use Rattle.text.proofs.WriteLaws.{room, length-write, write_append}
 
 -- a byte that finds room, and what follows
 in-room : (l : List ℕ) (at b : ℕ) (bs : List ℕ) → at < length l → write (l, at) (b ∷ bs) ≡ write (set l at b, at + 1) bs
-in-room l at b bs h = write-append (l, at) (b ∷ []) bs ∙ sym (ap (λ (o : List ℕ × ℕ). write o bs) (room l at b h))
+in-room l at b bs h = write_append (l, at) (b ∷ []) bs ∙ sym (ap (λ (o : List ℕ × ℕ). write o bs) (room l at b h))
 
 -- a byte before the place of a text may be stored before it or after it
 set-write : (l : List ℕ) (at i b : ℕ) (bs : List ℕ) → i < at → at + length bs ≤ length l → set (write (l, at) bs).0 i b ≡ (write (set l i b, at) bs).0

@@ -13,9 +13,9 @@ printable : bytes " !\"#$%&'()*+,-./0123456789:;<=>?@ABCDEFGHIJKLMNOPQRSTUVWXYZ[
 unfolding bytes
 printable = refl
 
-line-feed : bytes "\n" ≡ 10 ∷ []
+line_feed : bytes "\n" ≡ 10 ∷ []
 unfolding bytes
-line-feed = refl
+line_feed = refl
 
 nothing : bytes "" ≡ []
 unfolding bytes
@@ -30,4 +30,4 @@ unfolding counted
 behind what n = refl
 
 pub kept : Promises
-kept = record { printable = printable; lineFeed = line-feed; nothing = nothing; more = more; behind = behind }
+kept = record { printable = printable; line_feed = line_feed; nothing = nothing; more = more; behind = behind }

@@ -6,10 +6,10 @@ use native.Mathlib.Nat.{min-eq_left}
 use lib.ListN.{length, take, drop}
 use lib.Seq.{take_all}
 use Rattle.words.specs.Choice.{pick}
-use Rattle.text.specs.Text.{decimalOf, decimal, field, write, laid}
-use Rattle.text.specs.Promises.{worthAfter, Promises}
-use Rattle.text.proofs.DigitLaws.{digit-listed, length-hex, hex-nth, decimal-digits, decimal-worth, decimal-first}
-use Rattle.text.proofs.WriteLaws.{room, nothing, write-full, write-append, length-write, write-laid}
+use Rattle.text.specs.Text.{decimal_of, decimal, field, write, laid}
+use Rattle.text.specs.Promises.{worth_after, Promises}
+use Rattle.text.proofs.DigitLaws.{digit_listed, length-hex, hex-nth, decimal-digits, decimal-worth, decimal-first}
+use Rattle.text.proofs.WriteLaws.{room, nothing, write_full, write_append, length-write, write-laid}
 
 fits : (l bs : List ℕ) → length bs ≤ length l → write (l, 0) bs ≡ (bs ++ drop (length bs) l, length bs)
 unfolding laid
@@ -21,16 +21,16 @@ lays l bs = refl
 
 -- ---- digits
 
-worth-none : (v : ℕ) → worthAfter v [] ≡ v
-unfolding worthAfter
+worth-none : (v : ℕ) → worth_after v [] ≡ v
+unfolding worth_after
 worth-none v = refl
 
-worth-more : (v b : ℕ) (bs : List ℕ) → worthAfter v (b ∷ bs) ≡ worthAfter (10 * v + (b - 48)) bs
-unfolding worthAfter
+worth-more : (v b : ℕ) (bs : List ℕ) → worth_after v (b ∷ bs) ≡ worth_after (10 * v + (b - 48)) bs
+unfolding worth_after
 worth-more v b bs = refl
 
 zero-digit : decimal 0 ≡ 48 ∷ []
-unfolding decimalOf pick
+unfolding decimal_of pick
 zero-digit = refl
 
 field-bytes : (n : ℕ) → field n ≡ 32 ∷ decimal n
@@ -40,22 +40,22 @@ field-bytes n = refl
 pub kept : Promises
 kept =
     record {
-      hexDigits = λ d l. sym (digit-listed d l);
-      hexLength = length-hex 8;
-      hexNth = hex-nth 8;
-      decimalBytes = decimal-digits 20;
-      decimalWorth = decimal-worth 20;
-      worthNone = worth-none;
-      worthMore = worth-more;
-      decimalFirst = decimal-first 20;
-      decimalZero = zero-digit;
-      fieldBytes = field-bytes;
+      hex_digits = λ d l. sym (digit_listed d l);
+      hex_length = length-hex 8;
+      hex_nth = hex-nth 8;
+      decimal_bytes = decimal-digits 20;
+      decimal_worth = decimal-worth 20;
+      worth_none = worth-none;
+      worth_more = worth-more;
+      decimal_first = decimal-first 20;
+      decimal_zero = zero-digit;
+      field_bytes = field-bytes;
       fits = fits;
       partly = λ l bs. write-laid l bs ∙ lays l bs;
       lays = lays;
       none = λ l at. sym (nothing (l, at));
       byte = λ l at b h. sym (room l at b h);
-      full = λ l at bs h. write-full bs l at h;
-      parts = λ o a b. sym (write-append o a b);
-      sameLength = length-write;
+      full = λ l at bs h. write_full bs l at h;
+      parts = λ o a b. sym (write_append o a b);
+      same_length = length-write;
     }

@@ -9,23 +9,23 @@ use lib.ListN.{length, get_or, set, take, drop, length-set, length-append, drop_
 use lib.Seq.{drop-cons, set_out, set-append_seam, append_snoc, take-nil}
 use lib.Dec.{ltb}
 use borrow.Author.Tests.{lt-ltb, le-ltb}
-use Rattle.words.proofs.ChoiceLaws.{pick_true, pick-false, pick-cases}
+use Rattle.words.proofs.ChoiceLaws.{pick_true, pick-false, pick_cases}
 use Rattle.text.specs.Text.{push, write, laid}
 
 -- ---- texts one after the other
 
-pub write-append : (o : List ℕ × ℕ) (a b : List ℕ) → write o (a ++ b) ≡ write (write o a) b
+pub write_append : (o : List ℕ × ℕ) (a b : List ℕ) → write o (a ++ b) ≡ write (write o a) b
 unfolding write
-write-append o [] b = refl
-write-append o (x ∷ a) b = write-append (push o x) a b
+write_append o [] b = refl
+write_append o (x ∷ a) b = write_append (push o x) a b
 
 -- a text and then another
 pub and_then : (o : List ℕ × ℕ) {p q : List ℕ × ℕ} (a b : List ℕ) → p ≡ write o a → q ≡ write p b → q ≡ write o (a ++ b)
-and_then o a b e f = f ∙ ap (λ (x : List ℕ × ℕ). write x b) e ∙ sym (write-append o a b)
+and_then o a b e f = f ∙ ap (λ (x : List ℕ × ℕ). write x b) e ∙ sym (write_append o a b)
 
 -- what is left to write after a part of it
 pub rest_of : (o p : List ℕ × ℕ) (a b : List ℕ) → p ≡ write o a → write p b ≡ write o (a ++ b)
-rest_of o p a b e = ap (λ (x : List ℕ × ℕ). write x b) e ∙ sym (write-append o a b)
+rest_of o p a b e = ap (λ (x : List ℕ × ℕ). write x b) e ∙ sym (write_append o a b)
 
 -- eight bytes, one after the other
 pub eight-bytes : (o : List ℕ × ℕ) {p q r s t u v w : List ℕ × ℕ} (a b c d e f g h : ℕ) → p ≡ write o (a ∷ []) → q ≡ write p (b ∷ []) → r ≡ write q (c ∷ [])
@@ -59,23 +59,23 @@ pub same_length : (o p : List ℕ × ℕ) (a : List ℕ) → p ≡ write o a →
 same_length o p a e = ap (λ (x : List ℕ × ℕ). length x.0) e ∙ length-write o a
 
 -- a text goes no farther than it is long
-pub write-reach : (o : List ℕ × ℕ) (a : List ℕ) → (write o a).1 ≤ o.1 + length a
+pub write_reach : (o : List ℕ × ℕ) (a : List ℕ) → (write o a).1 ≤ o.1 + length a
 unfolding write
-write-reach o [] = omega arith
-write-reach o (x ∷ a) =
-    let h : (push o x).1 ≤ o.1 + 1 = pick-cases (λ (n : ℕ). n ≤ o.1 + 1) (ltb o.1 (length o.0)) (λ e. omega arith) (λ e. omega arith) in
-    omega (arith, write-reach (push o x) a)
+write_reach o [] = omega arith
+write_reach o (x ∷ a) =
+    let h : (push o x).1 ≤ o.1 + 1 = pick_cases (λ (n : ℕ). n ≤ o.1 + 1) (ltb o.1 (length o.0)) (λ e. omega arith) (λ e. omega arith) in
+    omega (arith, write_reach (push o x) a)
 
 pub reach : (o p : List ℕ × ℕ) (a : List ℕ) (k : ℕ) → p ≡ write o a → length a ≤ k → p.1 ≤ o.1 + k
-reach o p a k e h = rw e (omega (arith, write-reach o a))
+reach o p a k e h = rw e (omega (arith, write_reach o a))
 
 -- ---- what a text leaves in a buffer
 
 -- a full buffer takes nothing
-pub write-full : (bs l : List ℕ) (at : ℕ) → length l ≤ at → write (l, at) bs ≡ (l, at)
+pub write_full : (bs l : List ℕ) (at : ℕ) → length l ≤ at → write (l, at) bs ≡ (l, at)
 unfolding write
-write-full [] l at h = refl
-write-full (b ∷ bs) l at h = sym (ap (λ (o : List ℕ × ℕ). write o bs) (full l at b h)) ∙ write-full bs l at h
+write_full [] l at h = refl
+write_full (b ∷ bs) l at h = sym (ap (λ (o : List ℕ × ℕ). write o bs) (full l at b h)) ∙ write_full bs l at h
 
 pushed : (p q : List ℕ) (x b : ℕ) → push (p ++ x ∷ q, length p) b ≡ (p ++ b ∷ q, length p + 1)
 pushed p q x b =
@@ -83,19 +83,19 @@ pushed p q x b =
     rw (set-append_seam p x q b) (ap (λ (n : ℕ). (p ++ b ∷ q, n)) (sym (pick_true (length p) (lt-ltb (length p) (length (p ++ x ∷ q)) h))))
 
 -- p has been written; q is the rest of the buffer
-from-seam : (bs p q : List ℕ) → write (p ++ q, length p) bs ≡ (p ++ (take (length q) bs ++ drop (length bs) q), length p + min (length bs) (length q))
+from_seam : (bs p q : List ℕ) → write (p ++ q, length p) bs ≡ (p ++ (take (length q) bs ++ drop (length bs) q), length p + min (length bs) (length q))
 unfolding write
-from-seam [] p q = simp (take-nil, zero-min, add-zero)
-from-seam (b ∷ bs) p [] = simp (append-nil, min-zero, add-zero) (write-full (b ∷ bs) p (length p) (omega arith))
-from-seam (b ∷ bs) p (x ∷ q) =
+from_seam [] p q = simp (take-nil, zero-min, add-zero)
+from_seam (b ∷ bs) p [] = simp (append-nil, min-zero, add-zero) (write_full (b ∷ bs) p (length p) (omega arith))
+from_seam (b ∷ bs) p (x ∷ q) =
     let e : length (p ++ (b ∷ [])) ≡ length p + 1 = length-append p (b ∷ []) in
     let m : length p + 1 + min (length bs) (length q) ≡ length p + suc (min (length bs) (length q)) = omega arith in
-    simp (pushed p q x b, suc-min-suc) (simp (append_snoc, e, m) at (from-seam bs (p ++ (b ∷ [])) q))
+    simp (pushed p q x b, suc-min-suc) (simp (append_snoc, e, m) at (from_seam bs (p ++ (b ∷ [])) q))
 
 -- what appending from the start of a buffer comes to
 pub write-laid : (l bs : List ℕ) → write (l, 0) bs ≡ laid l bs
 unfolding laid
-write-laid l bs = from-seam bs [] l ∙ simp zero-add
+write-laid l bs = from_seam bs [] l ∙ simp zero-add
 
 -- what was laid counts bytes of the buffer, as `&out[..n]` asks
 pub laid-fits : (p : List ℕ × ℕ) (l bs : List ℕ) → p ≡ laid l bs → p.1 ≤ length p.0

@@ -14,5 +14,5 @@ abbrev pub keeps : List ℕ → ℕ → Numeral
 keeps text last = record { digits = packed text; width = length text; unit = 256 ^ (length text - 1); last = last }
 
 -- the text of a number of at most five digits; of a longer one no text is kept, and a last digit after which it is made anew
-unfoldable pub numeralOf : ℕ → Numeral
-numeralOf n = pick (ltb n 100000) (keeps (decimal n) (n % 10)) (record { digits = 0; width = 0; unit = 0; last = 9 })
+unfoldable pub numeral_of : ℕ → Numeral
+numeral_of n = pick (ltb n 100000) (keeps (decimal n) (n % 10)) (record { digits = 0; width = 0; unit = 0; last = 9 })

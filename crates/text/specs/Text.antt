@@ -11,22 +11,22 @@ abbrev pub newline : ℕ
 newline = 10
 
 -- a hexadecimal digit: 0 to 9 from 48 on, A to F from 65 on (01, House trace)
-unfoldable pub hexDigit : ℕ → ℕ
-hexDigit d = pick (ltb d 10) (48 + d) (55 + d)
+unfoldable pub hex_digit : ℕ → ℕ
+hex_digit d = pick (ltb d 10) (48 + d) (55 + d)
 
 -- the last digits of v to the base 16, so many of them, the highest first
-unfoldable pub hexOf : ℕ → ℕ → List ℕ
-hexOf zero v = []
-hexOf (suc digits) v = hexOf digits (v / 16) ++ (hexDigit (v % 16) ∷ [])
+unfoldable pub hex_of : ℕ → ℕ → List ℕ
+hex_of zero v = []
+hex_of (suc digits) v = hex_of digits (v / 16) ++ (hex_digit (v % 16) ∷ [])
 
 -- a word is written with eight digits (01, House trace)
 abbrev pub hex : ℕ → List ℕ
-hex v = hexOf 8 v
+hex v = hex_of 8 v
 
 -- the digits of n to the base 10, the highest first, none of them a leading 0; at most so many
-unfoldable pub decimalOf : ℕ → ℕ → List ℕ
-decimalOf zero n = []
-decimalOf (suc digits) n = pick (ltb n 10) ((48 + n % 10) ∷ []) (decimalOf digits (n / 10) ++ ((48 + n % 10) ∷ []))
+unfoldable pub decimal_of : ℕ → ℕ → List ℕ
+decimal_of zero n = []
+decimal_of (suc digits) n = pick (ltb n 10) ((48 + n % 10) ∷ []) (decimal_of digits (n / 10) ++ ((48 + n % 10) ∷ []))
 
 -- the last digits of n to the base 10, so many of them, the highest first, leading 0s among them
 unfoldable pub last_of : ℕ → ℕ → List ℕ
@@ -35,7 +35,7 @@ last_of (suc digits) n = last_of digits (n / 10) ++ ((48 + n % 10) ∷ [])
 
 -- a number is written with all its digits: 20 are enough for 64 bits
 abbrev pub decimal : ℕ → List ℕ
-decimal n = decimalOf 20 n
+decimal n = decimal_of 20 n
 
 -- a field of a line: a space and a number (01, House trace)
 unfoldable pub field : ℕ → List ℕ

@@ -1,6 +1,6 @@
 // Numbers as they are typed behind a command.
 ghost use Rattle.std.specs.Prelude.{◌≡◌, ◌+◌, ◌-◌, ◌*◌, ◌≤◌, ◌<◌};
-ghost use Rattle.text.specs.Typed.{goesOn, typed};
+ghost use Rattle.text.specs.Typed.{goes_on, typed};
 
 // The number that is typed; 0 for anything else.
 pub fn number(text: &[u8]) -> u32
@@ -22,7 +22,7 @@ pub fn number(text: &[u8]) -> u32
 
 // Whether another digit may follow.
 fn goes_on(v: u32, b: u8) -> bool
-    ensures { result ≡ goesOn v b }
+    ensures { result ≡ goes_on v b }
 {
     (48 <= b) & (b <= 57) & (v < 100000000)
 }

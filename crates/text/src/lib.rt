@@ -1,6 +1,6 @@
 // Text into a buffer that the caller lends. What finds no room is dropped, so no function here has to know how long a text is.
 ghost use Rattle.std.specs.Prelude.{◌≡◌, [], ◌∷◌, ◌<◌, ◌%◌};
-ghost use Rattle.text.specs.Text.{write, decimal, decimalOf, last_of, field, hex, hexDigit};
+ghost use Rattle.text.specs.Text.{write, decimal, decimal_of, last_of, field, hex, hex_digit};
 
 pub mod arguments;
 pub mod phrases;
@@ -69,7 +69,7 @@ pub fn put_field(out: &mut [u8], at: usize, n: u64) -> usize
 
 // The lowest hexadecimal digit of v.
 fn put_hex_digit(out: &mut [u8], at: usize, v: u32) -> usize
-    ensures { (out.new, result) ≡ write (out.old, at) (hexDigit (v % 16) ∷ []) }
+    ensures { (out.new, result) ≡ write (out.old, at) (hex_digit (v % 16) ∷ []) }
 {
     put(out, at, digit((v % 16) as usize))
 }
@@ -135,7 +135,7 @@ fn put_five(out: &mut [u8], at: usize, n: u32) -> usize
 
 // The decimal digits of n, at most `digits` of them.
 fn put_decimal_digits(out: &mut [u8], at: usize, n: u64, digits: u32) -> usize
-    ensures { (out.new, result) ≡ write (out.old, at) (decimalOf digits n) }
+    ensures { (out.new, result) ≡ write (out.old, at) (decimal_of digits n) }
 {
     if digits == 0 {
         return at;
@@ -150,7 +150,7 @@ fn put_decimal_digits(out: &mut [u8], at: usize, n: u64, digits: u32) -> usize
 // The hexadecimal digit of a number below 16.
 pub fn digit(d: usize) -> u8
     requires { d < 16 }
-    ensures { result ≡ hexDigit d }
+    ensures { result ≡ hex_digit d }
 {
     if d < 10 { 48 + d as u8 } else { 55 + d as u8 }
 }

@@ -3,7 +3,7 @@
 ghost use Rattle.std.specs.Prelude.{◌≡◌, [], ◌∷◌, ◌+◌, ◌%◌, ◌<◌, ◌≤◌, length};
 ghost use Rattle.text.specs.Text.{write, decimal, last_of, field, hex};
 ghost use Rattle.text.specs.Bytes.{bytes_of};
-ghost use Rattle.text.specs.Numeral.{packed, numeralOf};
+ghost use Rattle.text.specs.Numeral.{packed, numeral_of};
 
 use super::SPACE;
 
@@ -143,7 +143,7 @@ fn five_in(out: &mut [u8], at: usize, n: u32) -> usize
 
 // The text of a number in a word.
 pub fn numeral_of(n: u32) -> Numeral
-    ensures { result ≡ numeralOf n }
+    ensures { result ≡ numeral_of n }
 {
     if n < 10 {
         return kept(one_digit(n), 1, 1, n);
@@ -215,8 +215,8 @@ fn five_digits(n: u32) -> u64
 
 // The text of the next number: after a 9 it is made anew.
 pub fn following(t: Numeral, n: u32) -> Numeral
-    requires { (t ≡ numeralOf n) × (n < 4294967295) }
-    ensures { result ≡ numeralOf (n + 1) }
+    requires { (t ≡ numeral_of n) × (n < 4294967295) }
+    ensures { result ≡ numeral_of (n + 1) }
 {
     if t.last == 9 {
         let z = numeral_of(n + 1);

@@ -7,8 +7,8 @@ use native.Mathlib.Omega.{arith}
 use lib.Dec.{eqb, ltb}
 use borrow.Author.Tests.{lt-ltb, le-ltb, ltb-true, ltb-false}
 use Rattle.words.proofs.ChoiceLaws.{pick_true, pick-false}
-use Rattle.words.proofs.TruthLaws.{or-either, or-neither, or_left, or_right}
-use Rattle.steps.specs.Refusals.{carriedOut}
+use Rattle.words.proofs.TruthLaws.{or-either, or_neither, or_left, or_right}
+use Rattle.steps.specs.Refusals.{carried_out}
 use Rattle.totals.specs.declared.Added.{Added as Summed}
 use Rattle.totals.specs.Totals as Sums
 use Rattle.totals.proofs.TotalsLaws.{sum-passes, refused-passes}
@@ -17,56 +17,56 @@ use Rattle.totals.specs.Waits as Bounds
 use Rattle.totals.proofs.WaitLaws as Laws
 use Rattle.totals.specs.declared.sheets.Noted.{Noted}
 use Rattle.totals.specs.declared.sheets.Sheet.{Sheet}
-use Rattle.totals.specs.Sheet.{tooMuch, numbersPass, passes, counted, more, together, summed, added}
+use Rattle.totals.specs.Sheet.{too_much, numbers_pass, passes, counted, more, together, summed, added}
 use Rattle.totals.specs.SheetsPromises.{Passes}
 use Rattle.totals.specs.SheetsPromises as P
 
 -- ---- sums
 
 -- one of the five
-pub too_much : (a b : ℕ) → tooMuch a b ≡ true → 4294967295 < a + b
-unfolding tooMuch
-too_much a b e = ltb-true 4294967295 (a + b) e
+pub too_much_lem : (a b : ℕ) → too_much a b ≡ true → 4294967295 < a + b
+unfolding too_much
+too_much_lem a b e = ltb-true 4294967295 (a + b) e
 
-pub much-too : (a b : ℕ) → 4294967295 < a + b → tooMuch a b ≡ true
-unfolding tooMuch
-much-too a b l = lt-ltb 4294967295 (a + b) l
+pub much_too : (a b : ℕ) → 4294967295 < a + b → too_much a b ≡ true
+unfolding too_much
+much_too a b l = lt-ltb 4294967295 (a + b) l
 
-not-too : (a b : ℕ) → tooMuch a b ≡ false → a + b ≤ 4294967295
-unfolding tooMuch
-not-too a b e = ltb-false 4294967295 (a + b) e
+not_too : (a b : ℕ) → too_much a b ≡ false → a + b ≤ 4294967295
+unfolding too_much
+not_too a b e = ltb-false 4294967295 (a + b) e
 
 module _ (s : Sheet) (t : Noted) where
   abbrev steps : Bool
-  steps = tooMuch s.steps t.steps
+  steps = too_much s.steps t.steps
 
   abbrev refused : Bool
-  refused = tooMuch s.refused t.refused
+  refused = too_much s.refused t.refused
 
   abbrev marks : Bool
-  marks = tooMuch s.marks t.marks
+  marks = too_much s.marks t.marks
 
   abbrev idle : Bool
-  idle = tooMuch s.idle t.idle
+  idle = too_much s.idle t.idle
 
   abbrev left : Bool
-  left = tooMuch s.left t.left
+  left = too_much s.left t.left
 
   -- where none passes, each fits
-  pub fits : numbersPass s t ≡ false
+  pub fits : numbers_pass s t ≡ false
       → (s.steps + t.steps ≤ 4294967295) × (s.refused + t.refused ≤ 4294967295) × (s.marks + t.marks ≤ 4294967295)
       × (s.idle + t.idle ≤ 4294967295) × (s.left + t.left ≤ 4294967295)
-  unfolding numbersPass
+  unfolding numbers_pass
   fits e =
-      let a = or-neither (((steps || refused) || marks) || idle) left e in
-      let b = or-neither ((steps || refused) || marks) idle a.0 in
-      let c = or-neither (steps || refused) marks b.0 in
-      let d = or-neither steps refused c.0 in
-      (not-too _ _ d.0, not-too _ _ d.1, not-too _ _ c.1, not-too _ _ b.1, not-too _ _ a.1)
+      let a = or_neither (((steps || refused) || marks) || idle) left e in
+      let b = or_neither ((steps || refused) || marks) idle a.0 in
+      let c = or_neither (steps || refused) marks b.0 in
+      let d = or_neither steps refused c.0 in
+      (not_too _ _ d.0, not_too _ _ d.1, not_too _ _ c.1, not_too _ _ b.1, not_too _ _ a.1)
 
   -- what the code asks
-  pub passes-by : (q : Bool) (f : Summed) (w : Bounded) → q ≡ numbersPass s t → f ≡ Sums.added s.figures t.figures → w ≡ Bounds.added s.waits t.waits
-      → ((q || not (eqb f.refusal carriedOut)) || not (eqb w.refusal carriedOut)) ≡ passes s t
+  pub passes-by : (q : Bool) (f : Summed) (w : Bounded) → q ≡ numbers_pass s t → f ≡ Sums.added s.figures t.figures → w ≡ Bounds.added s.waits t.waits
+      → ((q || not (eqb f.refusal carried_out)) || not (eqb w.refusal carried_out)) ≡ passes s t
   unfolding passes
   passes-by q f w a b c = rw (a, b, c)
 
@@ -81,9 +81,9 @@ module _ (s : Sheet) (t : Noted) where
   unfolding added
   kept_on l = sym (pick-false _ (le-ltb t.strays 32 l))
 
-  pub full-up : passes s t ≡ true → summed s t ≡ record { refusal = 16; sheet = counted s (more s.full) s.unopened s.unkept }
+  pub full_up : passes s t ≡ true → summed s t ≡ record { refusal = 16; sheet = counted s (more s.full) s.unopened s.unkept }
   unfolding summed
-  full-up e = sym (pick_true _ e)
+  full_up e = sym (pick_true _ e)
 
   pub taken_in : passes s t ≡ false
       → summed s t ≡ record { refusal = 0; sheet = together s t (Sums.added s.figures t.figures).totals (Bounds.added s.waits t.waits).waits }

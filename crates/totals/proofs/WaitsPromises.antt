@@ -9,73 +9,73 @@ use lib.Dec.{eqb, ltb}
 use lib.ListN.{get_or, length}
 use borrow.Author.Tests.{lt-ltb, ltb-true, le-ltb, eqb-true, eq-eqb, ne_eqb, not-true}
 use Rattle.words.specs.Choice.{pick}
-use Rattle.words.specs.Counting.{anyBelow}
-use Rattle.words.proofs.ArrayLaws.{zeros-getD}
+use Rattle.words.specs.Counting.{any_below}
+use Rattle.words.proofs.ArrayLaws.{zeros_get_d}
 use Rattle.words.proofs.ChoiceLaws.{pick_true, pick-false}
-use Rattle.words.proofs.CountingLaws.{any_some, some-any}
+use Rattle.words.proofs.CountingLaws.{any_some, some_any}
 use Rattle.words.proofs.TruthLaws.{and_left, and_right, and_both, or-either, or_left, or_right, told, clash, not-holds}
 use Rattle.totals.specs.Totals as Sums
-use Rattle.totals.proofs.TotalsLaws.{length-joined, getD-joined}
+use Rattle.totals.proofs.TotalsLaws.{length-joined, get_d-joined}
 use Rattle.totals.specs.declared.waits.Waits.{Waits}
 use Rattle.totals.specs.declared.waits.Added.{Added}
-use Rattle.totals.specs.Waits.{noWaits, boundOf, larger, newly, chosen, passes, together, added}
+use Rattle.totals.specs.Waits.{no_waits, bound_of, larger, newly, chosen, passes, together, added}
 use Rattle.totals.specs.WaitsPromises.{Whole, Numbers, Terms, Passes, Promises}
-use Rattle.totals.proofs.WaitLaws.{length-chosen, getD-chosen, some-passes, passes-some}
+use Rattle.totals.proofs.WaitLaws.{length-chosen, get_d-chosen, some-passes, passes-some}
 
-empty : (i : ℕ) → Numbers noWaits i 0 0 0 × (boundOf noWaits i ≡ 0) × (get_or noWaits.first i 0 ≡ 0)
-unfolding noWaits boundOf
-empty i = let z = zeros-getD 32 i in (record { begun = z; unended = z; unbounded = z }, omega (arith, z), z)
+empty : (i : ℕ) → Numbers no_waits i 0 0 0 × (bound_of no_waits i ≡ 0) × (get_or no_waits.first i 0 ≡ 0)
+unfolding no_waits bound_of
+empty i = let z = zeros_get_d 32 i in (record { begun = z; unended = z; unbounded = z }, omega (arith, z), z)
 
-bound-is : (a : Waits) (i : ℕ) → boundOf a i
+bound-is : (a : Waits) (i : ℕ) → bound_of a i
     ≡ get_or a.pending i 0 + get_or a.edges i 0 + get_or a.commands i 0 + get_or a.turns i 0 + get_or a.closed i 0 + get_or a.remembered i 0
-unfolding boundOf
+unfolding bound_of
 bound-is a i = refl
 
 -- ---- 16
 
 module _ (a b : Waits) where
-  left_out : passes a b ≡ true → added a b ≡ record { refusal = 16; waits = a }
+  left_out_lem : passes a b ≡ true → added a b ≡ record { refusal = 16; waits = a }
   unfolding added
-  left_out e = sym (pick_true _ e)
+  left_out_lem e = sym (pick_true _ e)
 
   taken_in : passes a b ≡ false → added a b ≡ record { refusal = 0; waits = together a b }
   unfolding added
   taken_in e = sym (pick-false _ e)
 
-  told-16 : (added a b).refusal ≡ 16 → passes a b ≡ true
-  told-16 e = go (told (passes a b))
+  told_16 : (added a b).refusal ≡ 16 → passes a b ≡ true
+  told_16 e = go (told (passes a b))
     where
       go : (passes a b ≡ true) ⊎ (passes a b ≡ false) → passes a b ≡ true
       go (inl h) = h
       go (inr h) = absurd (omega (arith, e, ap (λ (x : Added). x.refusal) (taken_in h)))
 
-  told-0 : (added a b).refusal ≡ 0 → passes a b ≡ false
-  told-0 e = not-holds (passes a b) (λ h. absurd (omega (arith, e, ap (λ (x : Added). x.refusal) (left_out h))))
+  told_0 : (added a b).refusal ≡ 0 → passes a b ≡ false
+  told_0 e = not-holds (passes a b) (λ h. absurd (omega (arith, e, ap (λ (x : Added). x.refusal) (left_out_lem h))))
 
   sixteen : ((added a b).refusal ≡ 16) ↔ ((i : ℕ) × (i < 32) × Passes a b i)
-  sixteen = ((λ e. some-passes a b (told-16 e)), (λ h. ap (λ (x : Added). x.refusal) (left_out (passes-some a b h.0 h.1 h.2))))
+  sixteen = ((λ e. some-passes a b (told_16 e)), (λ h. ap (λ (x : Added). x.refusal) (left_out_lem (passes-some a b h.0 h.1 h.2))))
 
   not-refused : (added a b).refusal ≢ 16 → (added a b).refusal ≡ 0
-  not-refused n = ap (λ (x : Added). x.refusal) (taken_in (not-holds (passes a b) (λ h. n (ap (λ (x : Added). x.refusal) (left_out h)))))
+  not-refused n = ap (λ (x : Added). x.refusal) (taken_in (not-holds (passes a b) (λ h. n (ap (λ (x : Added). x.refusal) (left_out_lem h)))))
 
-  leftOut : (added a b).refusal ≡ 16 → (added a b).waits ≡ a
-  leftOut e = ap (λ (x : Added). x.waits) (left_out (told-16 e))
+  left_out : (added a b).refusal ≡ 16 → (added a b).waits ≡ a
+  left_out e = ap (λ (x : Added). x.waits) (left_out_lem (told_16 e))
 
-  waits-are : (added a b).refusal ≡ 0 → (added a b).waits ≡ together a b
-  waits-are e = ap (λ (x : Added). x.waits) (taken_in (told-0 e))
+  waits_are : (added a b).refusal ≡ 0 → (added a b).waits ≡ together a b
+  waits_are e = ap (λ (x : Added). x.waits) (taken_in (told_0 e))
 
 -- ---- source by source
 
 -- one array of numbers joined, one of numbers chosen
 joined : (a b : List ℕ) (i : ℕ) → length a ≡ 32 → length b ≡ 32 → i < 32 → get_or (zip_with ◌+◌ a b) i 0 ≡ get_or a i 0 + get_or b i 0
-joined a b i la lb l = getD-joined ◌+◌ a b i (omega (arith, la)) (omega (arith, lb))
+joined a b i la lb l = get_d-joined ◌+◌ a b i (omega (arith, la)) (omega (arith, lb))
 
 module _ (p : ℕ → Bool) (a b : List ℕ) (la : length a ≡ 32) (lb : length b ≡ 32) where
   second : (i : ℕ) → i < 32 → p i ≡ true → get_or (chosen p a b) i 0 ≡ get_or b i 0
-  second i l e = getD-chosen p a b i (omega (arith, la)) (omega (arith, lb)) ∙ sym (pick_true _ e)
+  second i l e = get_d-chosen p a b i (omega (arith, la)) (omega (arith, lb)) ∙ sym (pick_true _ e)
 
   first : (i : ℕ) → i < 32 → p i ≡ false → get_or (chosen p a b) i 0 ≡ get_or a i 0
-  first i l e = getD-chosen p a b i (omega (arith, la)) (omega (arith, lb)) ∙ sym (pick-false _ e)
+  first i l e = get_d-chosen p a b i (omega (arith, la)) (omega (arith, lb)) ∙ sym (pick-false _ e)
 
   long : length (chosen p a b) ≡ 32
   long = length-chosen p 0 a b (la ∙ sym lb) ∙ la
@@ -134,21 +134,21 @@ module _ (a b : Waits) (w : Whole a) (v : Whole b) where
         remembered = long _ _ _ w.remembered v.remembered;
       }
 
-  is-larger : (i : ℕ) → boundOf a i < boundOf b i → larger a b i ≡ true
+  is-larger : (i : ℕ) → bound_of a i < bound_of b i → larger a b i ≡ true
   unfolding larger
-  is-larger i h = lt-ltb (boundOf a i) (boundOf b i) h
+  is-larger i h = lt-ltb (bound_of a i) (bound_of b i) h
 
-  not-larger : (i : ℕ) → boundOf b i ≤ boundOf a i → larger a b i ≡ false
+  not-larger : (i : ℕ) → bound_of b i ≤ bound_of a i → larger a b i ≡ false
   unfolding larger
-  not-larger i h = le-ltb (boundOf a i) (boundOf b i) h
+  not-larger i h = le-ltb (bound_of a i) (bound_of b i) h
 
-  first-stays : (i : ℕ) → i < 32 → get_or a.first i 0 ≢ 0 → get_or (together a b).first i 0 ≡ get_or a.first i 0
+  first_stays : (i : ℕ) → i < 32 → get_or a.first i 0 ≢ 0 → get_or (together a b).first i 0 ≡ get_or a.first i 0
   unfolding together newly
-  first-stays i l n = first (newly a b) _ _ w.first v.first i l (ap (λ (t : Bool). t && not (eqb (get_or b.first i 0) 0)) (ne_eqb (get_or a.first i 0) 0 n))
+  first_stays i l n = first (newly a b) _ _ w.first v.first i l (ap (λ (t : Bool). t && not (eqb (get_or b.first i 0) 0)) (ne_eqb (get_or a.first i 0) 0 n))
 
-  first-comes : (i : ℕ) → i < 32 → get_or a.first i 0 ≡ 0 → get_or (together a b).first i 0 ≡ get_or b.first i 0
+  first_comes : (i : ℕ) → i < 32 → get_or a.first i 0 ≡ 0 → get_or (together a b).first i 0 ≡ get_or b.first i 0
   unfolding together newly
-  first-comes i l z = go (told (eqb (get_or b.first i 0) 0))
+  first_comes i l z = go (told (eqb (get_or b.first i 0) 0))
     where
       at_a : eqb (get_or a.first i 0) 0 ≡ true
       at_a = eq-eqb (get_or a.first i 0) 0 z
@@ -173,22 +173,22 @@ module _ (a b : Waits) (w : Whole a) (v : Whole b) where
   lengths = go (told (passes a b))
     where
       go : (passes a b ≡ true) ⊎ (passes a b ≡ false) → Whole (added a b).waits
-      go (inl h) = rw (ap (λ (x : Added). x.waits) (left_out a b h)) w
+      go (inl h) = rw (ap (λ (x : Added). x.waits) (left_out_lem a b h)) w
       go (inr h) = rw (ap (λ (x : Added). x.waits) (taken_in a b h)) (whole-together a b w v)
 
 pub kept : Promises
 kept =
     record {
       empty = empty;
-      boundIs = bound-is;
+      bound_is = bound-is;
       sixteen = sixteen;
-      notRefused = not-refused;
-      leftOut = leftOut;
-      sums = λ a b w v z i l. rw (waits-are a b z) (sums-together a b w v i l);
-      more = λ a b w v z i l h. rw (waits-are a b z) (more-together a b w v i l (is-larger a b w v i h));
-      notMore = λ a b w v z i l h. rw (waits-are a b z) (same-together a b w v i l (not-larger a b w v i h));
-      firstStays = λ a b w v z i l n. rw (waits-are a b z) (first-stays a b w v i l n);
-      firstComes = λ a b w v z i l n. rw (waits-are a b z) (first-comes a b w v i l n);
-      newlyIs = newly-is;
+      not_refused = not-refused;
+      left_out = left_out;
+      sums = λ a b w v z i l. rw (waits_are a b z) (sums-together a b w v i l);
+      more = λ a b w v z i l h. rw (waits_are a b z) (more-together a b w v i l (is-larger a b w v i h));
+      not_more = λ a b w v z i l h. rw (waits_are a b z) (same-together a b w v i l (not-larger a b w v i h));
+      first_stays = λ a b w v z i l n. rw (waits_are a b z) (first_stays a b w v i l n);
+      first_comes = λ a b w v z i l n. rw (waits_are a b z) (first_comes a b w v i l n);
+      newly_is = newly-is;
       lengths = lengths;
     }

@@ -3,7 +3,7 @@
 use Rattle.std.specs.Prelude.{ℕ, ◌+◌, Bool, not, ◌||◌, List, eqb, ltb, replicate}
 use Rattle.words.specs.Choice.{pick}
 use Rattle.words.specs.Word.{either}
-use Rattle.steps.specs.Refusals.{carriedOut, overfull}
+use Rattle.steps.specs.Refusals.{carried_out, overfull}
 use Rattle.totals.specs.declared.Totals.{Totals}
 use Rattle.totals.specs.Totals as Sums
 use Rattle.totals.specs.declared.waits.Waits.{Waits}
@@ -17,8 +17,8 @@ abbrev pub astray : ℕ
 astray = 18
 
 -- no name is read
-unfoldable pub noSheet : Sheet
-noSheet =
+unfoldable pub no_sheet : Sheet
+no_sheet =
     record {
       named = 0;
       full = 0;
@@ -31,7 +31,7 @@ noSheet =
       left = 0;
       used = 0;
       figures = Sums.zeros;
-      waits = Bounds.noWaits;
+      waits = Bounds.no_waits;
       trace = replicate 32 0;
     }
 
@@ -63,20 +63,20 @@ counted s full unopened unkept =
 -- ---- sums
 
 -- a sum would pass 4,294,967,295 (02, 11/12)
-unfoldable pub tooMuch : ℕ → ℕ → Bool
-tooMuch a b = ltb 4294967295 (a + b)
+unfoldable pub too_much : ℕ → ℕ → Bool
+too_much a b = ltb 4294967295 (a + b)
 
 -- one that is of no source
-unfoldable pub numbersPass : Sheet → Noted → Bool
-numbersPass s t =
-    (((tooMuch s.steps t.steps || tooMuch s.refused t.refused) || tooMuch s.marks t.marks) || tooMuch s.idle t.idle)
-    || tooMuch s.left t.left
+unfoldable pub numbers_pass : Sheet → Noted → Bool
+numbers_pass s t =
+    (((too_much s.steps t.steps || too_much s.refused t.refused) || too_much s.marks t.marks) || too_much s.idle t.idle)
+    || too_much s.left t.left
 
 -- any sum of the page: one of these, the handlers started of some source, or a number of its waits (02, 11/12)
 unfoldable pub passes : Sheet → Noted → Bool
 passes s t =
-    (numbersPass s t || not (eqb (Sums.added s.figures t.figures).refusal carriedOut))
-    || not (eqb (Bounds.added s.waits t.waits).refusal carriedOut)
+    (numbers_pass s t || not (eqb (Sums.added s.figures t.figures).refusal carried_out))
+    || not (eqb (Bounds.added s.waits t.waits).refusal carried_out)
 
 -- for each source the number of the name whose wait first has no bound: this one's, where none before it has such a wait
 unfoldable pub first_of : Sheet → Noted → List ℕ
@@ -109,7 +109,7 @@ summed s t =
     pick (passes s t)
     (record { refusal = overfull; sheet = counted s (more s.full) s.unopened s.unkept })
     (record {
-      refusal = carriedOut;
+      refusal = carried_out;
       sheet = together s t (Sums.added s.figures t.figures).totals (Bounds.added s.waits t.waits).waits;
     })
 
@@ -118,5 +118,5 @@ unfoldable pub added : Sheet → Noted → Added
 added s t = pick (ltb t.strays 32) (record { refusal = astray; sheet = counted s s.full s.unopened (more s.unkept) }) (summed s t)
 
 -- a name that cannot be opened or read: 17 (02, 11/12)
-unfoldable pub leftUnopened : Sheet → Sheet
-leftUnopened s = counted s s.full (more s.unopened) s.unkept
+unfoldable pub left_unopened : Sheet → Sheet
+left_unopened s = counted s s.full (more s.unopened) s.unkept

@@ -9,7 +9,7 @@ use Rattle.totals.specs.Waits as Bounds
 use Rattle.totals.specs.WaitsPromises.{Numbers}
 use Rattle.totals.specs.declared.sheets.Noted.{Noted}
 use Rattle.totals.specs.declared.sheets.Sheet.{Sheet}
-use Rattle.totals.specs.Sheet.{noSheet, more, added, leftUnopened}
+use Rattle.totals.specs.Sheet.{no_sheet, more, added, left_unopened}
 
 -- a sum of the page would pass 4,294,967,295: steps, refused steps, marks, idle ends, entries left open, and of some source the handlers started, the waits
 -- that began, those that never ended and those without a bound
@@ -60,27 +60,27 @@ pub record Taken (s : Sheet) (t : Noted) (u : Sheet) : Type 0 where
 
 pub record Promises : Type 0 where
   -- before any name every figure is 0
-  pub empty : Names noSheet 0 0 0 0 × (noSheet.steps ≡ 0) × (noSheet.refused ≡ 0) × (noSheet.marks ≡ 0) × (noSheet.idle ≡ 0) × (noSheet.left ≡ 0)
-      × (noSheet.used ≡ 0)
-  pub emptySource : (i : ℕ) → Source noSheet.figures i 0 0 0 × Numbers noSheet.waits i 0 0 0 × (Bounds.boundOf noSheet.waits i ≡ 0)
-      × (get_or noSheet.waits.first i 0 ≡ 0) × (get_or noSheet.trace i 0 ≡ 0)
+  pub empty : Names no_sheet 0 0 0 0 × (no_sheet.steps ≡ 0) × (no_sheet.refused ≡ 0) × (no_sheet.marks ≡ 0) × (no_sheet.idle ≡ 0) × (no_sheet.left ≡ 0)
+      × (no_sheet.used ≡ 0)
+  pub empty_source : (i : ℕ) → Source no_sheet.figures i 0 0 0 × Numbers no_sheet.waits i 0 0 0 × (Bounds.bound_of no_sheet.waits i ≡ 0)
+      × (get_or no_sheet.waits.first i 0 ≡ 0) × (get_or no_sheet.trace i 0 ≡ 0)
   -- numbers of names grow by one and stop at 4,294,967,295
-  pub oneMore : (n : ℕ) → n < 4294967295 → more n ≡ n + 1
+  pub one_more : (n : ℕ) → n < 4294967295 → more n ≡ n + 1
   pub no_more : (n : ℕ) → 4294967295 ≤ n → more n ≡ n
   -- 18 is given exactly if a source strays from the table, 16 exactly if none does and a sum of the page would pass 4,294,967,295, and else 0
   pub eighteen : (s : Sheet) (t : Noted) → ((added s t).refusal ≡ 18) ↔ (t.strays < 32)
   pub sixteen : (s : Sheet) (t : Noted) → ((added s t).refusal ≡ 16) ↔ ((32 ≤ t.strays) × Passes s t)
   pub taken : (s : Sheet) (t : Noted) → ((added s t).refusal ≡ 0) ↔ ((32 ≤ t.strays) × (Passes s t → ⊥))
   -- a trace left out changes nothing but the number of names and of those left out so
-  pub leftBy18 : (s : Sheet) (t : Noted) → (added s t).refusal ≡ 18
+  pub left_by_18 : (s : Sheet) (t : Noted) → (added s t).refusal ≡ 18
       → Alike (added s t).sheet s × Names (added s t).sheet (more s.named) s.full s.unopened (more s.unkept)
-  pub leftBy16 : (s : Sheet) (t : Noted) → (added s t).refusal ≡ 16
+  pub left_by_16 : (s : Sheet) (t : Noted) → (added s t).refusal ≡ 16
       → Alike (added s t).sheet s × Names (added s t).sheet (more s.named) (more s.full) s.unopened s.unkept
-  pub leftBy17 : (s : Sheet) → Alike (leftUnopened s) s × Names (leftUnopened s) (more s.named) s.full (more s.unopened) s.unkept
+  pub left_by_17 : (s : Sheet) → Alike (left_unopened s) s × Names (left_unopened s) (more s.named) s.full (more s.unopened) s.unkept
   -- one that is counted is put to every figure
   pub counted : (s : Sheet) (t : Noted) → (added s t).refusal ≡ 0 → Taken s t (added s t).sheet
   -- the number of the name with which a source first has a wait without a bound: this one's where the source had none, and has one in this trace
-  pub firstIs : (s : Sheet) (t : Noted) → (added s t).refusal ≡ 0 → length s.trace ≡ 32 → (i : ℕ) → i < 32
+  pub first_is : (s : Sheet) (t : Noted) → (added s t).refusal ≡ 0 → length s.trace ≡ 32 → (i : ℕ) → i < 32
       → get_or s.waits.first i 0 ≡ 0 → get_or t.waits.first i 0 ≢ 0 → get_or (added s t).sheet.trace i 0 ≡ more s.named
-  pub firstStays : (s : Sheet) (t : Noted) → (added s t).refusal ≡ 0 → length s.trace ≡ 32 → (i : ℕ) → i < 32
+  pub first_stays : (s : Sheet) (t : Noted) → (added s t).refusal ≡ 0 → length s.trace ≡ 32 → (i : ℕ) → i < 32
       → (get_or s.waits.first i 0 ≢ 0) ⊎ (get_or t.waits.first i 0 ≡ 0) → get_or (added s t).sheet.trace i 0 ≡ get_or s.trace i 0

@@ -2,8 +2,8 @@
 use Rattle.std.specs.Prelude.{ℕ, ◌+◌, max, Bool, true, not, ◌&&◌, ltb, get_or, replicate}
 use mathlib.Core.List.{List, [], ◌∷◌, zip_with}
 use Rattle.words.specs.Choice.{pick}
-use Rattle.words.specs.Counting.{anyBelow}
-use Rattle.steps.specs.Refusals.{carriedOut, overfull}
+use Rattle.words.specs.Counting.{any_below}
+use Rattle.steps.specs.Refusals.{carried_out, overfull}
 use Rattle.totals.specs.declared.Totals.{Totals}
 use Rattle.totals.specs.declared.Added.{Added}
 
@@ -15,7 +15,7 @@ zeros = record { started = replicate 32 0; waited = replicate 32 0; entries = re
 
 -- the handlers started of some source would add up to more than 4,294,967,295 (02, 11/12)
 unfoldable pub passes : List ℕ → List ℕ → Bool
-passes a b = anyBelow 32 (λ i. ltb 4294967295 (get_or a i 0 + get_or b i 0))
+passes a b = any_below 32 (λ i. ltb 4294967295 (get_or a i 0 + get_or b i 0))
 
 -- both together, source by source: handlers started are added, of the other two figures the larger one stays (02, 11/12)
 unfoldable pub together : Totals → Totals → Totals
@@ -31,18 +31,18 @@ unfoldable pub added : Totals → Totals → Added
 added t f =
     pick (passes t.started f.started)
     (record { refusal = overfull; totals = t })
-    (record { refusal = carriedOut; totals = together t f })
+    (record { refusal = carried_out; totals = together t f })
 
 -- ---- many traces, in the order in which they are named
 
-unfoldable pub addedAll : Totals → List Totals → Totals
-addedAll t [] = t
-addedAll t (f ∷ fs) = addedAll (added t f).totals fs
+unfoldable pub added_all : Totals → List Totals → Totals
+added_all t [] = t
+added_all t (f ∷ fs) = added_all (added t f).totals fs
 
 -- no trace is left out
-unfoldable pub allIn : Totals → List Totals → Bool
-allIn t [] = true
-allIn t (f ∷ fs) = not (passes t.started f.started) && allIn (added t f).totals fs
+unfoldable pub all_in : Totals → List Totals → Bool
+all_in t [] = true
+all_in t (f ∷ fs) = not (passes t.started f.started) && all_in (added t f).totals fs
 
 -- the same traces in another order
 pub data Reordered : List Totals → List Totals → Type 0 where

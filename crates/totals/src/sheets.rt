@@ -1,6 +1,6 @@
 // The figures of the tuning sheet: those of one trace, and those of all that are named, added up (02, 11/12 and 12/12).
 ghost use Rattle.std.specs.Prelude.{◌≡◌, false};
-ghost use Rattle.totals.specs.Sheet.{noSheet, more, counted, tooMuch, numbersPass, first_of, together, summed, added, leftUnopened};
+ghost use Rattle.totals.specs.Sheet.{no_sheet, more, counted, too_much, numbers_pass, first_of, together, summed, added, left_unopened};
 
 use super::Totals;
 use super::waits::Waits;
@@ -58,7 +58,7 @@ const MOST: u32 = 4294967295;
 
 // The sheet of no name.
 pub fn none() -> Sheet
-    ensures { result ≡ noSheet }
+    ensures { result ≡ no_sheet }
 {
     let f = super::none();
     let w = super::waits::none();
@@ -95,7 +95,7 @@ pub fn add(s: Sheet, t: Noted) -> Added
 
 // The sheet with a name that cannot be opened or read.
 pub fn unopened(s: Sheet) -> Sheet
-    ensures { result ≡ leftUnopened s }
+    ensures { result ≡ left_unopened s }
 {
     counted(s, s.full, more(s.unopened), s.unkept)
 }
@@ -148,7 +148,7 @@ fn counted(s: Sheet, full: u32, unopened: u32, unkept: u32) -> Sheet
 
 // One name more, with its trace: the figures and the waits are those of both.
 fn together(s: Sheet, t: Noted, figures: Totals, waits: Waits) -> Sheet
-    requires { numbersPass s t ≡ false }
+    requires { numbers_pass s t ≡ false }
     ensures { result ≡ together s t figures waits }
 {
     let first = first_of(s, t);
@@ -182,7 +182,7 @@ fn first_of(s: Sheet, t: Noted) -> [u32; 32]
 
 // Whether one of the sums that are of no source would pass 4,294,967,295.
 fn numbers_pass(s: Sheet, t: Noted) -> bool
-    ensures { result ≡ numbersPass s t }
+    ensures { result ≡ numbers_pass s t }
 {
     too_much(s.steps, t.steps)
         | too_much(s.refused, t.refused)
@@ -192,7 +192,7 @@ fn numbers_pass(s: Sheet, t: Noted) -> bool
 }
 
 fn too_much(a: u32, b: u32) -> bool
-    ensures { result ≡ tooMuch a b }
+    ensures { result ≡ too_much a b }
 {
     MOST - a < b
 }

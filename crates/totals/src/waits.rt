@@ -2,7 +2,7 @@
 ghost use Rattle.std.specs.Prelude.{◌≡◌, Bool, false, ℕ, ◌+◌, ◌<◌};
 ghost use Rattle.words.specs.Choice.{pick};
 ghost use Rattle.words.specs.Word.{bit, word_of};
-ghost use Rattle.totals.specs.Waits.{noWaits, boundOf, larger, newly, chosen, termsOf, passes, together, added};
+ghost use Rattle.totals.specs.Waits.{no_waits, bound_of, larger, newly, chosen, terms_of, passes, together, added};
 
 // For each source: the waits that began, never ended and have no bound, the step that first took one its bound (0 for none), and the handlers that the first
 // wait with the largest bound allows to be started, term by term.
@@ -40,7 +40,7 @@ struct Terms {
 
 // Those of no trace.
 pub fn none() -> Waits
-    ensures { result ≡ noWaits }
+    ensures { result ≡ no_waits }
 {
     Waits {
         begun: [0; 32],
@@ -126,7 +126,7 @@ fn together(a: Waits, b: Waits) -> Waits
 
 // The six terms of the larger bound of each source.
 fn terms_of(a: Waits, b: Waits) -> Terms
-    ensures { result ≡ termsOf a b }
+    ensures { result ≡ terms_of a b }
 {
     let more = larger_word(a, b);
     let ap = a.pending;
@@ -214,7 +214,7 @@ fn is_new(a: Waits, b: Waits, i: u32) -> bool
 // The bound of source i, term by term added up: handlers.
 fn bound_at(a: Waits, i: u32) -> u64
     requires { i < 32 }
-    ensures { result ≡ boundOf a i }
+    ensures { result ≡ bound_of a i }
 {
     let k = i as usize;
     six(

@@ -1,7 +1,7 @@
 // What stands in a trace where a step would begin: its kind and the numbers that go with it, or the end (01, "House trace"; 02, 2/12).
 ghost use Rattle.std.specs.Prelude.{◌≡◌};
-ghost use Rattle.trace.specs.Steps.{operandsOf, plain, twoNumbers, byThird, bySecond, byFirst, by_kind, stepAt};
-ghost use Rattle.trace.specs.Trace.{turnAt};
+ghost use Rattle.trace.specs.Steps.{operands_of, plain, two_numbers, by_third, by_second, by_first, by_kind, step_at};
+ghost use Rattle.trace.specs.Trace.{turn_at};
 
 pub mod turns;
 
@@ -24,7 +24,7 @@ pub const LINE: u32 = 3;
 // One turn of a loop over the steps of a trace, at a place and with `left` of its limit: the next step, or how the trace ends. Where `told`, a
 // privilege number follows each offset.
 pub fn turn_at(trace: &[u8], at: usize, left: u32, told: bool) -> Turn
-    ensures { result ≡ turnAt told trace.now at left }
+    ensures { result ≡ turn_at told trace.now at left }
 {
     if trace.len() <= at {
         return Turn::Ended(steps::CARRIED_OUT, trace.len());
@@ -37,7 +37,7 @@ pub fn turn_at(trace: &[u8], at: usize, left: u32, told: bool) -> Turn
 
 // The step at a place of a trace. Where no byte is left that is a number cut short: a turn looks for the end first.
 fn step_at(trace: &[u8], at: usize, told: bool) -> Turn
-    ensures { result ≡ stepAt told trace.now at }
+    ensures { result ≡ step_at told trace.now at }
 {
     by_kind(trace, at, told, read_number(trace, at))
 }
@@ -59,7 +59,7 @@ fn by_kind(trace: &[u8], at: usize, told: bool, n: Number) -> Turn
 
 // The step of a kind whose first number is n.
 fn by_first(trace: &[u8], told: bool, kind: u32, n: Number) -> Turn
-    ensures { result ≡ byFirst told trace.now kind n }
+    ensures { result ≡ by_first told trace.now kind n }
 {
     match n {
         Number::Refused(refusal, p) => Turn::Ended(refusal, p),
@@ -74,7 +74,7 @@ fn by_first(trace: &[u8], told: bool, kind: u32, n: Number) -> Turn
 
 // The step of a kind with the numbers x and n.
 fn by_second(trace: &[u8], told: bool, kind: u32, x: u32, n: Number) -> Turn
-    ensures { result ≡ bySecond told trace.now kind x n }
+    ensures { result ≡ by_second told trace.now kind x n }
 {
     match n {
         Number::Refused(refusal, p) => Turn::Ended(refusal, p),
@@ -89,7 +89,7 @@ fn by_second(trace: &[u8], told: bool, kind: u32, x: u32, n: Number) -> Turn
 
 // The write of this offset and privilege whose value is n.
 fn by_third(offset: u32, privilege: u32, n: Number) -> Turn
-    ensures { result ≡ byThird offset privilege n }
+    ensures { result ≡ by_third offset privilege n }
 {
     match n {
         Number::Refused(refusal, p) => Turn::Ended(refusal, p),
@@ -115,7 +115,7 @@ fn plain(x: Step) -> Recorded
 
 // The step of a kind that goes with two numbers.
 fn two_numbers(kind: u32, x: u32, y: u32) -> Recorded
-    ensures { result ≡ twoNumbers kind x y }
+    ensures { result ≡ two_numbers kind x y }
 {
     if kind == READ {
         return Recorded {
@@ -131,7 +131,7 @@ fn two_numbers(kind: u32, x: u32, y: u32) -> Recorded
 
 // How many numbers go with a kind of step, 0 with one that is not known.
 fn operands(told: bool, kind: u32) -> u32
-    ensures { result ≡ operandsOf told kind }
+    ensures { result ≡ operands_of told kind }
 {
     if kind == READ {
         if told {

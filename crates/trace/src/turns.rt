@@ -2,11 +2,11 @@
 // A loop asks `sure(quick(..), ..)`: so `quick` is small and calls nothing that is not, and becomes a part of the loop.
 ghost use Rattle.std.specs.Prelude.{◌≡◌, ◌<◌, ◌≤◌, ◌+◌, length};
 ghost use Rattle.numbers.specs.declared.Number.TheVariants.{Value};
-ghost use Rattle.numbers.specs.Number.{numberAt};
+ghost use Rattle.numbers.specs.Number.{number_at};
 ghost use Rattle.trace.specs.declared.Turn.TheVariants.{Found, Ended};
-ghost use Rattle.trace.specs.Steps.{readKind, stepAt};
-ghost use Rattle.trace.specs.Trace.{turnAt};
-ghost use Rattle.trace.specs.Turns.{endedKind, unsureKind, made, step_of, turn_of, toldOf, Spare, privilegeAt};
+ghost use Rattle.trace.specs.Steps.{read_kind, step_at};
+ghost use Rattle.trace.specs.Trace.{turn_at};
+ghost use Rattle.trace.specs.Turns.{ended_kind, unsure_kind, made, step_of, turn_of, told_of, Spare, privilege_at};
 
 use super::Turn;
 use numbers::Short;
@@ -31,7 +31,7 @@ pub const UNSURE: u32 = 4;
 // The turn at a place with `left` of the limit, where it is a step of short numbers and as many bytes are there as its longest form has, seven: one
 // test of the length serves for all of them. Else UNSURE, as at an end. Where `told`, a privilege number follows each offset.
 pub fn quick(trace: &[u8], at: usize, left: u32, told: bool) -> Told
-    ensures { ((result.kind ≡ unsureKind → ⊥) → turn_of result ≡ turnAt told trace.now at left) × (result.kind < 5) × ((result.kind ≡ unsureKind → ⊥) → result ≡ toldOf (turnAt told trace.now at left)) }
+    ensures { ((result.kind ≡ unsure_kind → ⊥) → turn_of result ≡ turn_at told trace.now at left) × (result.kind < 5) × ((result.kind ≡ unsure_kind → ⊥) → result ≡ told_of (turn_at told trace.now at left)) }
 {
     if trace.len() < 7 {
         return unsure();
@@ -47,15 +47,15 @@ pub fn quick(trace: &[u8], at: usize, left: u32, told: bool) -> Told
 
 // The turn at a place, whatever its numbers are.
 pub fn slow(trace: &[u8], at: usize, left: u32, told: bool) -> Told
-    ensures { (turn_of result ≡ turnAt told trace.now at left) × (result.kind < 4) × (result ≡ toldOf (turnAt told trace.now at left)) }
+    ensures { (turn_of result ≡ turn_at told trace.now at left) × (result.kind < 4) × (result ≡ told_of (turn_at told trace.now at left)) }
 {
     told_of(super::turn_at(trace, at, left, told))
 }
 
 // What `quick` has answered of this turn, or the slow answer where that is UNSURE.
 pub fn sure(q: Told, trace: &[u8], at: usize, left: u32, told: bool) -> Told
-    requires { ((q.kind ≡ unsureKind → ⊥) → turn_of q ≡ turnAt told trace.now at left) × (q.kind < 5) × ((q.kind ≡ unsureKind → ⊥) → q ≡ toldOf (turnAt told trace.now at left)) }
-    ensures { (turn_of result ≡ turnAt told trace.now at left) × (result.kind < 4) × (result ≡ toldOf (turnAt told trace.now at left)) }
+    requires { ((q.kind ≡ unsure_kind → ⊥) → turn_of q ≡ turn_at told trace.now at left) × (q.kind < 5) × ((q.kind ≡ unsure_kind → ⊥) → q ≡ told_of (turn_at told trace.now at left)) }
+    ensures { (turn_of result ≡ turn_at told trace.now at left) × (result.kind < 4) × (result ≡ told_of (turn_at told trace.now at left)) }
 {
     if q.kind == UNSURE {
         return slow(trace, at, left, told);
@@ -66,7 +66,7 @@ pub fn sure(q: Told, trace: &[u8], at: usize, left: u32, told: bool) -> Told
 // The step at a place, if its numbers are short.
 fn quick_step(trace: &[u8], at: usize, told: bool) -> Told
     requires { at + 7 ≤ length trace.now }
-    ensures { ((result.kind ≡ unsureKind → ⊥) → turn_of result ≡ stepAt told trace.now at) × (result.kind < 5) × ((result.kind ≡ unsureKind → ⊥) → Spare result) }
+    ensures { ((result.kind ≡ unsure_kind → ⊥) → turn_of result ≡ step_at told trace.now at) × (result.kind < 5) × ((result.kind ≡ unsure_kind → ⊥) → Spare result) }
 {
     let kind = numbers::wide(trace[at]);
     if (0 < kind) & (kind < 4) {
@@ -78,7 +78,7 @@ fn quick_step(trace: &[u8], at: usize, told: bool) -> Told
 // The step of a kind that is one byte at a place, if its other numbers are short.
 fn by_kind(trace: &[u8], at: usize, told: bool, kind: u32) -> Told
     requires { (at + 7 ≤ length trace.now) × ((0 < kind) × (kind < 4)) }
-    ensures { ((result.kind ≡ unsureKind → ⊥) → numberAt trace.now at ≡ Value kind (at + 1) → turn_of result ≡ stepAt told trace.now at) × (result.kind < 5) × ((result.kind ≡ unsureKind → ⊥) → Spare result) }
+    ensures { ((result.kind ≡ unsure_kind → ⊥) → number_at trace.now at ≡ Value kind (at + 1) → turn_of result ≡ step_at told trace.now at) × (result.kind < 5) × ((result.kind ≡ unsure_kind → ⊥) → Spare result) }
 {
     let a = short_in(trace, at + 1);
     if a.next == 0 {
@@ -101,7 +101,7 @@ fn by_kind(trace: &[u8], at: usize, told: bool, kind: u32) -> Told
 // The privilege after the first number of a step, if it is short; where none is told, 1 and no byte.
 fn privilege_at(trace: &[u8], at: usize, told: bool, kind: u32) -> Short
     requires { at + 2 ≤ length trace.now }
-    ensures { ((result.next ≡ 0 → ⊥) → privilegeAt told kind trace.now at ≡ Value result.value result.next) × (result.next ≤ at + 2) }
+    ensures { ((result.next ≡ 0 → ⊥) → privilege_at told kind trace.now at ≡ Value result.value result.next) × (result.next ≤ at + 2) }
 {
     if told & (kind != super::LINE) {
         return short_in(trace, at);
@@ -115,7 +115,7 @@ fn privilege_at(trace: &[u8], at: usize, told: bool, kind: u32) -> Short
 // The number at a place, if it has one byte or two; two bytes are there.
 fn short_in(trace: &[u8], at: usize) -> Short
     requires { at + 2 ≤ length trace.now }
-    ensures { ((result.next ≡ 0 → ⊥) → numberAt trace.now at ≡ Value result.value result.next) × (result.next ≤ at + 2) }
+    ensures { ((result.next ≡ 0 → ⊥) → number_at trace.now at ≡ Value result.value result.next) × (result.next ≤ at + 2) }
 {
     let a = numbers::wide(trace[at]);
     if a < 128 {
@@ -160,7 +160,7 @@ fn by_step(x: Step, privilege: u32, next: usize) -> Told
 
 // An end.
 fn ended(refusal: u32, offset: usize) -> Told
-    ensures { (turn_of result ≡ Ended refusal offset) × (result.kind ≡ endedKind) × Spare result }
+    ensures { (turn_of result ≡ Ended refusal offset) × (result.kind ≡ ended_kind) × Spare result }
 {
     Told {
         kind: ENDED,
@@ -174,7 +174,7 @@ fn ended(refusal: u32, offset: usize) -> Told
 
 // A step of a kind.
 fn found(kind: u32, x: u32, y: u32, privilege: u32, next: usize) -> Told
-    ensures { (0 < kind → turn_of result ≡ Found (made (step_of kind x y) privilege) next) × (result.kind ≡ kind) × (0 < kind → (kind ≡ readKind → y ≡ 0) → Spare result) }
+    ensures { (0 < kind → turn_of result ≡ Found (made (step_of kind x y) privilege) next) × (result.kind ≡ kind) × (0 < kind → (kind ≡ read_kind → y ≡ 0) → Spare result) }
 {
     Told {
         kind,
@@ -188,7 +188,7 @@ fn found(kind: u32, x: u32, y: u32, privilege: u32, next: usize) -> Told
 
 // What says nothing.
 fn unsure() -> Told
-    ensures { result.kind ≡ unsureKind }
+    ensures { result.kind ≡ unsure_kind }
 {
     Told {
         kind: UNSURE,

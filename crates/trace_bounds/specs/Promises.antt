@@ -6,18 +6,18 @@ use Rattle.text.specs.Text.{field, laid}
 use Rattle.text.specs.Phrases.{bytes}
 use Rattle.aic_record.specs.declared.Aic.{Aic}
 use Rattle.aic_bounds.specs.Bounds.{bound_at}
-use Rattle.aic_bounds.specs.Over.{boundedOf, waitsBegun, waitsUnended, waitsUnbounded}
+use Rattle.aic_bounds.specs.Over.{bounded_of, waits_begun, waits_unended, waits_unbounded}
 use Rattle.aic_bounds.specs.Promises.{Whole}
-use Rattle.aic_bounds.specs.Figures.{noFigures}
+use Rattle.aic_bounds.specs.Figures.{no_figures}
 use Rattle.aic_bounds.specs.FiguresPromises.{Tells}
-use Rattle.beginning.specs.Begin.{beginOf}
-use Rattle.beginning.specs.Play.{recordsOf}
+use Rattle.beginning.specs.Begin.{begin_of}
+use Rattle.beginning.specs.Play.{records_of}
 use Rattle.lines.specs.Listing.{end_of}
-use Rattle.tally.specs.Promises.{aicOf, playedOf}
-use Rattle.trace_bounds.specs.Waits.{Wait, waitsOf}
-use Rattle.trace_bounds.specs.Lines.{waitLines, lastLine}
-use Rattle.trace_bounds.specs.Listing.{isListed, boundText}
-use Rattle.trace_bounds.specs.Figures.{figuresIn}
+use Rattle.tally.specs.Promises.{aic_of, played_of}
+use Rattle.trace_bounds.specs.Waits.{Wait, waits_of}
+use Rattle.trace_bounds.specs.Lines.{wait_lines, last_line}
+use Rattle.trace_bounds.specs.Listing.{is_listed, bound_text}
+use Rattle.trace_bounds.specs.Figures.{figures_in}
 
 -- it ends by the first of these steps, whose number is m; 0 is told where there is none
 abbrev pub EndedAt : List Step → ℕ → ℕ → Type 0
@@ -42,37 +42,37 @@ Each P (w ∷ ws) = P w × Each P ws
 
 -- the trace begins, is of an AIC, and the number is that of a source that may wait
 abbrev pub Asked : List ℕ → ℕ → Type 0
-Asked s k = ((beginOf s).refusal ≡ 0) × ((beginOf s).machine.kind ≡ 0) × ((1 ≤ k) × (k ≤ 31))
+Asked s k = ((begin_of s).refusal ≡ 0) × ((begin_of s).machine.kind ≡ 0) × ((1 ≤ k) × (k ≤ 31))
 
 pub record Promises : Type 0 where
   -- ---- the waits
 
   -- each wait that is told is one of the run, and as many are told as begin (02, 11/12)
-  pub each : (s : Aic) (k : ℕ) (xs : List Step) → Each (Told k s xs) (waitsOf k s xs)
-  pub many : (s : Aic) (k : ℕ) (xs : List Step) → length (waitsOf k s xs) ≡ waitsBegun k s xs
+  pub each : (s : Aic) (k : ℕ) (xs : List Step) → Each (Told k s xs) (waits_of k s xs)
+  pub many : (s : Aic) (k : ℕ) (xs : List Step) → length (waits_of k s xs) ≡ waits_begun k s xs
   -- ---- the text
 
   -- there are lines exactly if the trace begins, is of an AIC, and the source is one of 1 to 31
-  pub listedIf : (s : List ℕ) (k : ℕ) → (isListed s k ≡ true) ↔ Asked s k
+  pub listed_if : (s : List ℕ) (k : ℕ) → (is_listed s k ≡ true) ↔ Asked s k
   -- then they are those of the waits over the steps played, at most 20,000, a last line for all of them, and E where the trace ends in one
-  pub lines : (s : List ℕ) (k : ℕ) → isListed s k ≡ true
-      → boundText s k
-      ≡ waitLines (waitsOf k (aicOf s) (playedOf s 20000))
-      ++ lastLine k (waitsBegun k (aicOf s) (playedOf s 20000)) (waitsUnended k (aicOf s) (playedOf s 20000)) (waitsUnbounded k (aicOf s) (playedOf s 20000))
-      (boundedOf k (aicOf s) (playedOf s 20000))
-      ++ end_of (recordsOf s 20000).refusal (recordsOf s 20000).offset
+  pub lines : (s : List ℕ) (k : ℕ) → is_listed s k ≡ true
+      → bound_text s k
+      ≡ wait_lines (waits_of k (aic_of s) (played_of s 20000))
+      ++ last_line k (waits_begun k (aic_of s) (played_of s 20000)) (waits_unended k (aic_of s) (played_of s 20000)) (waits_unbounded k (aic_of s) (played_of s 20000))
+      (bounded_of k (aic_of s) (played_of s 20000))
+      ++ end_of (records_of s 20000).refusal (records_of s 20000).offset
   -- else a line says why there are none
-  pub notBegun : (s : List ℕ) (k : ℕ) → (beginOf s).refusal ≢ 0
-      → boundText s k ≡ bytes "no bound: the trace has no beginning, E" ++ field (beginOf s).refusal ++ field (beginOf s).place ++ bytes "\n"
-  pub notAic : (s : List ℕ) (k : ℕ) → (beginOf s).refusal ≡ 0 → (beginOf s).machine.kind ≢ 0
-      → boundText s k ≡ bytes "no bound: the trace is not of an AIC, and no source of another controller waits\n"
-  pub notSource : (s : List ℕ) (k : ℕ) → (beginOf s).refusal ≡ 0 → (beginOf s).machine.kind ≡ 0 → ((1 ≤ k) × (k ≤ 31) → ⊥)
-      → boundText s k ≡ bytes "no bound: a source that waits is a number from 1 to 31\n"
+  pub not_begun : (s : List ℕ) (k : ℕ) → (begin_of s).refusal ≢ 0
+      → bound_text s k ≡ bytes "no bound: the trace has no beginning, E" ++ field (begin_of s).refusal ++ field (begin_of s).place ++ bytes "\n"
+  pub not_aic : (s : List ℕ) (k : ℕ) → (begin_of s).refusal ≡ 0 → (begin_of s).machine.kind ≢ 0
+      → bound_text s k ≡ bytes "no bound: the trace is not of an AIC, and no source of another controller waits\n"
+  pub not_source : (s : List ℕ) (k : ℕ) → (begin_of s).refusal ≡ 0 → (begin_of s).machine.kind ≡ 0 → ((1 ≤ k) × (k ≤ 31) → ⊥)
+      → bound_text s k ≡ bytes "no bound: a source that waits is a number from 1 to 31\n"
   -- a text has at most so many bytes, so a buffer of that many takes it whole
-  pub most : (s : List ℕ) (k : ℕ) → length (boundText s k) ≤ 1940334
-  pub takes : (l s : List ℕ) (k : ℕ) → 1940334 ≤ length l → laid l (boundText s k) ≡ (boundText s k ++ drop (length (boundText s k)) l, length (boundText s k))
+  pub most : (s : List ℕ) (k : ℕ) → length (bound_text s k) ≤ 1940334
+  pub takes : (l s : List ℕ) (k : ℕ) → 1940334 ≤ length l → laid l (bound_text s k) ≡ (bound_text s k ++ drop (length (bound_text s k)) l, length (bound_text s k))
   -- ---- the figures
 
   -- they tell the waits over the steps played, whatever their limit; where no lines are written there are none
-  pub figures : (s : List ℕ) (limit k : ℕ) → isListed s k ≡ true → Tells k (aicOf s) (playedOf s limit) (figuresIn s limit k)
-  pub noneElse : (s : List ℕ) (limit k : ℕ) → isListed s k ≡ false → figuresIn s limit k ≡ noFigures
+  pub figures : (s : List ℕ) (limit k : ℕ) → is_listed s k ≡ true → Tells k (aic_of s) (played_of s limit) (figures_in s limit k)
+  pub none_else : (s : List ℕ) (limit k : ℕ) → is_listed s k ≡ false → figures_in s limit k ≡ no_figures

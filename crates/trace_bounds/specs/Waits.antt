@@ -5,7 +5,7 @@ use Rattle.steps.specs.declared.Step.{Step}
 use Rattle.aic_record.specs.declared.Aic.{Aic}
 use Rattle.aic.specs.Model.{step}
 use Rattle.aic_bounds.specs.declared.Bound.{Bound}
-use Rattle.aic_bounds.specs.Bounds.{idle, boundAfter}
+use Rattle.aic_bounds.specs.Bounds.{idle, bound_after}
 
 -- the numbers of the step by which it begins and of the step by which it ends, 0 where the run ends first; what is observed of it before that step
 pub record Wait : Type 0 where
@@ -25,12 +25,12 @@ abbrev pub ends : Bound → Bound → Bool
 ends b c = ltb 1 b.wait && ltb c.wait 2
 
 -- the waits of source k that stand or begin, n steps having gone before: b is observed, of a wait that began by this step if it waits
-unfoldable pub waitsFrom : ℕ → ℕ → ℕ → Bound → Aic → List Step → List Wait
-waitsFrom k n began b s [] = only_if (ltb 1 b.wait) (waited began 0 b)
-waitsFrom k n began b s (x ∷ xs) =
-    only_if (ends b (boundAfter k (n + 1) b s x)) (waited began (n + 1) b)
-    ++ waitsFrom k (n + 1) (pick (ltb b.wait 2) (n + 1) began) (boundAfter k (n + 1) b s x) (step s x).aic xs
+unfoldable pub waits_from : ℕ → ℕ → ℕ → Bound → Aic → List Step → List Wait
+waits_from k n began b s [] = only_if (ltb 1 b.wait) (waited began 0 b)
+waits_from k n began b s (x ∷ xs) =
+    only_if (ends b (bound_after k (n + 1) b s x)) (waited began (n + 1) b)
+    ++ waits_from k (n + 1) (pick (ltb b.wait 2) (n + 1) began) (bound_after k (n + 1) b s x) (step s x).aic xs
 
 -- those of a run from a record in which it does not wait, as after reset; the first step of the run is 1
-unfoldable pub waitsOf : ℕ → Aic → List Step → List Wait
-waitsOf k s xs = waitsFrom k 0 0 (idle 0) s xs
+unfoldable pub waits_of : ℕ → Aic → List Step → List Wait
+waits_of k s xs = waits_from k 0 0 (idle 0) s xs

@@ -1,21 +1,21 @@
 // The waits of a source of an AIC over a trace, each with its bound (02, 11/12 and 12/12): as text, in a buffer that the caller lends, and as figures.
 ghost use Rattle.std.specs.Prelude.{◌≡◌, true, false, ◌-◌, ◌<◌, ◌≤◌, length};
 ghost use Rattle.words.specs.Choice.{pick};
-ghost use Rattle.steps.specs.Refusals.{carriedOut};
+ghost use Rattle.steps.specs.Refusals.{carried_out};
 ghost use Rattle.text.specs.Text.{write, laid};
-ghost use Rattle.trace.specs.Trace.{stepsFrom};
-ghost use Rattle.kinds.specs.Kinds.{aicKind};
+ghost use Rattle.trace.specs.Trace.{steps_from};
+ghost use Rattle.kinds.specs.Kinds.{aic_kind};
 ghost use Rattle.aic_record.specs.Sound.{sound};
 ghost use Rattle.aic_record.specs.Promises.{Shaped};
-ghost use Rattle.aic_bounds.specs.Bounds.{boundOf};
-ghost use Rattle.aic_bounds.specs.Figures.{figuresOf, largestNow, unendedNow};
-ghost use Rattle.beginning.specs.Begin.{beginOf};
-ghost use Rattle.tally.specs.Tally.{stepsIn};
-ghost use Rattle.trace_bounds.specs.Waits.{waited, only_if, waitsOf};
-ghost use Rattle.trace_bounds.specs.Lines.{endWords, termWords, boundWords, waitLine, waitLines, mostWords, lastLine};
-ghost use Rattle.trace_bounds.specs.Lines.{noBeginning, noWaits, noSource};
-ghost use Rattle.trace_bounds.specs.Listing.{isSource, isListed, lines_of, boundText};
-ghost use Rattle.trace_bounds.specs.Figures.{figuresIn, countsOf, termsOf};
+ghost use Rattle.aic_bounds.specs.Bounds.{bound_of};
+ghost use Rattle.aic_bounds.specs.Figures.{figures_of, largest_now, unended_now};
+ghost use Rattle.beginning.specs.Begin.{begin_of};
+ghost use Rattle.tally.specs.Tally.{steps_in};
+ghost use Rattle.trace_bounds.specs.Waits.{waited, only_if, waits_of};
+ghost use Rattle.trace_bounds.specs.Lines.{end_words, term_words, bound_words, wait_line, wait_lines, most_words, last_line};
+ghost use Rattle.trace_bounds.specs.Lines.{no_beginning, no_waits, no_source};
+ghost use Rattle.trace_bounds.specs.Listing.{is_source, is_listed, lines_of, bound_text};
+ghost use Rattle.trace_bounds.specs.Figures.{figures_in, counts_of, terms_of};
 
 use aic_bounds::Bound;
 use aic_bounds::figures::Figures;
@@ -47,7 +47,7 @@ const MOST: u32 = 20000;
 
 // The waits of a source over a trace, or why there are none, from the start of the buffer on; what finds no room is dropped.
 pub fn list(trace: &[u8], source: u32, out: &mut [u8]) -> Listed
-    ensures { ((out.new, result.bytes) ≡ laid out.old (boundText trace.now source)) × (result.listed ≡ isListed trace.now source) }
+    ensures { ((out.new, result.bytes) ≡ laid out.old (bound_text trace.now source)) × (result.listed ≡ is_listed trace.now source) }
 {
     let b = beginning::begin(trace);
     if b.refusal != steps::CARRIED_OUT {
@@ -62,8 +62,8 @@ pub fn list(trace: &[u8], source: u32, out: &mut [u8]) -> Listed
 
 // Those of a trace that has begun.
 fn list_begun(trace: &[u8], source: u32, b: Begun, out: &mut [u8]) -> Listed
-    requires { (b ≡ beginOf trace.now) × (b.refusal ≡ carriedOut) }
-    ensures { ((out.new, result.bytes) ≡ laid out.old (boundText trace.now source)) × (result.listed ≡ isListed trace.now source) }
+    requires { (b ≡ begin_of trace.now) × (b.refusal ≡ carried_out) }
+    ensures { ((out.new, result.bytes) ≡ laid out.old (bound_text trace.now source)) × (result.listed ≡ is_listed trace.now source) }
 {
     let m = b.machine;
     if m.kind != kinds::AIC {
@@ -78,8 +78,8 @@ fn list_begun(trace: &[u8], source: u32, b: Begun, out: &mut [u8]) -> Listed
 
 // Those of a trace of an AIC.
 fn list_aic(trace: &[u8], source: u32, b: Begun, out: &mut [u8]) -> Listed
-    requires { (b ≡ beginOf trace.now) × (b.refusal ≡ carriedOut) × (b.machine.kind ≡ aicKind) }
-    ensures { ((out.new, result.bytes) ≡ laid out.old (boundText trace.now source)) × (result.listed ≡ isListed trace.now source) }
+    requires { (b ≡ begin_of trace.now) × (b.refusal ≡ carried_out) × (b.machine.kind ≡ aic_kind) }
+    ensures { ((out.new, result.bytes) ≡ laid out.old (bound_text trace.now source)) × (result.listed ≡ is_listed trace.now source) }
 {
     if is_source(source) {
         let m = b.machine;
@@ -98,7 +98,7 @@ fn list_aic(trace: &[u8], source: u32, b: Begun, out: &mut [u8]) -> Listed
 
 // Whether a source may wait: source 0 is always fast.
 fn is_source(source: u32) -> bool
-    ensures { result ≡ isSource source }
+    ensures { result ≡ is_source source }
 {
     (1 <= source) & (source <= 31)
 }
@@ -106,7 +106,7 @@ fn is_source(source: u32) -> bool
 // The lines of a source from a place of the trace on.
 fn put_lines(trace: &[u8], source: u32, start: usize, first: Aic, out: &mut [u8]) -> usize
     requires { (sound first ≡ true) × Shaped first × (source < 32) × (length trace.now ≤ 65536) }
-    ensures { (out.new, result) ≡ laid out.old (lines_of source first (stepsFrom false 20000 trace.now start)) }
+    ensures { (out.new, result) ≡ laid out.old (lines_of source first (steps_from false 20000 trace.now start)) }
 {
     let t = tell_steps(trace, MOST, source, start, first, out);
     let n = put_last(out, t.bytes, source, t.figures);
@@ -115,7 +115,7 @@ fn put_lines(trace: &[u8], source: u32, start: usize, first: Aic, out: &mut [u8]
 
 // The figures of all waits of a source over at most `limit` steps of a trace; none where it has none to be listed.
 pub fn figures(trace: &[u8], limit: u32, source: u32) -> Figures
-    ensures { result ≡ figuresIn trace.now limit source }
+    ensures { result ≡ figures_in trace.now limit source }
 {
     let b = beginning::begin(trace);
     let m = b.machine;
@@ -130,7 +130,7 @@ pub fn figures(trace: &[u8], limit: u32, source: u32) -> Figures
 // The waits that began, of these those that did not end and those without a bound; the number of the first step by which one has none, 0 where all have
 // one.
 pub fn counts_of(f: Figures) -> [u32; 4]
-    ensures { result ≡ countsOf f }
+    ensures { result ≡ counts_of f }
 {
     let unended = aic_bounds::figures::unended_now(f);
     [f.begun, unended, f.unbounded, f.first]
@@ -138,7 +138,7 @@ pub fn counts_of(f: Figures) -> [u32; 4]
 
 // The six terms of the largest bound: handlers.
 pub fn terms_of(f: Figures) -> [u32; 6]
-    ensures { result ≡ termsOf f }
+    ensures { result ≡ terms_of f }
 {
     let b = aic_bounds::figures::largest_now(f);
     [
@@ -153,7 +153,7 @@ pub fn terms_of(f: Figures) -> [u32; 6]
 
 // The largest bound: handlers.
 pub fn most(f: Figures) -> u64
-    ensures { result ≡ boundOf (largestNow f) }
+    ensures { result ≡ bound_of (largest_now f) }
 {
     aic_bounds::figures::bound_of(aic_bounds::figures::largest_now(f))
 }
@@ -171,9 +171,9 @@ fn tell_steps(
     out: &mut [u8],
 ) -> Told
     requires { (sound first ≡ true) × Shaped first × (source < 32) × (length trace.now ≤ 65536) }
-    ensures text { (out.new, result.bytes) ≡ write (out.old, 0) (waitLines (waitsOf source first (stepsIn (stepsFrom false limit trace.now start).steps))) }
-    ensures figures { result.figures ≡ figuresOf source first (stepsIn (stepsFrom false limit trace.now start).steps) }
-    ensures ending { (result.refusal ≡ (stepsFrom false limit trace.now start).refusal) × (result.offset ≡ (stepsFrom false limit trace.now start).offset) }
+    ensures text { (out.new, result.bytes) ≡ write (out.old, 0) (wait_lines (waits_of source first (steps_in (steps_from false limit trace.now start).steps))) }
+    ensures figures { result.figures ≡ figures_of source first (steps_in (steps_from false limit trace.now start).steps) }
+    ensures ending { (result.refusal ≡ (steps_from false limit trace.now start).refusal) × (result.offset ≡ (steps_from false limit trace.now start).offset) }
 {
     let mut at = start;
     let mut s = first;
@@ -217,7 +217,7 @@ fn tell_steps(
 
 // The line of a wait, if there is one.
 fn put_if(out: &mut [u8], at: usize, there: bool, began: u32, ended: u32, b: Bound) -> usize
-    ensures { (out.new, result) ≡ write (out.old, at) (waitLines (only_if there (waited began ended b))) }
+    ensures { (out.new, result) ≡ write (out.old, at) (wait_lines (only_if there (waited began ended b))) }
 {
     if there {
         return put_wait(out, at, began, ended, b);
@@ -227,7 +227,7 @@ fn put_if(out: &mut [u8], at: usize, there: bool, began: u32, ended: u32, b: Bou
 
 // The line of a wait.
 fn put_wait(out: &mut [u8], at: usize, began: u32, ended: u32, b: Bound) -> usize
-    ensures { (out.new, result) ≡ write (out.old, at) (waitLine (waited began ended b)) }
+    ensures { (out.new, result) ≡ write (out.old, at) (wait_line (waited began ended b)) }
 {
     let c = text::phrases::put_counted(out, at, b"began by step ", began);
     let d = put_ended(out, c, ended);
@@ -247,7 +247,7 @@ fn less_two(n: u32) -> u32
 
 // By which step it ended.
 fn put_ended(out: &mut [u8], at: usize, ended: u32) -> usize
-    ensures { (out.new, result) ≡ write (out.old, at) (endWords ended) }
+    ensures { (out.new, result) ≡ write (out.old, at) (end_words ended) }
 {
     if ended == 0 {
         return text::put_all(out, at, b", not ended");
@@ -257,7 +257,7 @@ fn put_ended(out: &mut [u8], at: usize, ended: u32) -> usize
 
 // Its bound, or by which step it has none.
 fn put_bound(out: &mut [u8], at: usize, b: Bound) -> usize
-    ensures { (out.new, result) ≡ write (out.old, at) (boundWords b) }
+    ensures { (out.new, result) ≡ write (out.old, at) (bound_words b) }
 {
     if b.broke == 0 {
         let c = text::put_all(out, at, b", at most ");
@@ -274,7 +274,7 @@ fn put_bound(out: &mut [u8], at: usize, b: Bound) -> usize
 
 // The terms of its bound.
 fn put_terms(out: &mut [u8], at: usize, b: Bound) -> usize
-    ensures { (out.new, result) ≡ write (out.old, at) (termWords b) }
+    ensures { (out.new, result) ≡ write (out.old, at) (term_words b) }
 {
     let c = text::phrases::put_counted(out, at, b" handlers: pending ", b.pending);
     let d = text::phrases::put_counted(out, c, b", edges ", b.edges);
@@ -286,7 +286,7 @@ fn put_terms(out: &mut [u8], at: usize, b: Bound) -> usize
 
 // The last line: all waits of a source.
 fn put_last(out: &mut [u8], at: usize, source: u32, f: Figures) -> usize
-    ensures { (out.new, result) ≡ write (out.old, at) (lastLine source f.begun (unendedNow f) f.unbounded (boundOf (largestNow f))) }
+    ensures { (out.new, result) ≡ write (out.old, at) (last_line source f.begun (unended_now f) f.unbounded (bound_of (largest_now f))) }
 {
     let a = text::phrases::put_counted(out, at, b"source ", source);
     let b = text::phrases::put_counted(out, a, b": waits ", f.begun);
@@ -303,7 +303,7 @@ fn put_last(out: &mut [u8], at: usize, source: u32, f: Figures) -> usize
 
 // The largest bound, where a wait has one.
 fn put_most(out: &mut [u8], at: usize, begun: u32, unbounded: u32, handlers: u64) -> usize
-    ensures { (out.new, result) ≡ write (out.old, at) (mostWords begun unbounded handlers) }
+    ensures { (out.new, result) ≡ write (out.old, at) (most_words begun unbounded handlers) }
 {
     if unbounded < begun {
         let a = text::put_all(out, at, b"; handlers started in one with a bound at most ");
@@ -314,7 +314,7 @@ fn put_most(out: &mut [u8], at: usize, begun: u32, unbounded: u32, handlers: u64
 
 // The trace has no beginning: the refusal and its offset.
 fn put_no_beginning(out: &mut [u8], refusal: u32, offset: usize) -> usize
-    ensures { (out.new, result) ≡ laid out.old (noBeginning refusal offset) }
+    ensures { (out.new, result) ≡ laid out.old (no_beginning refusal offset) }
 {
     let a = text::put_all(out, 0, b"no bound: the trace has no beginning, E");
     let b = text::put_field(out, a, refusal as u64);
@@ -324,7 +324,7 @@ fn put_no_beginning(out: &mut [u8], refusal: u32, offset: usize) -> usize
 
 // Its controller has no source that waits.
 fn put_no_waits(out: &mut [u8]) -> usize
-    ensures { (out.new, result) ≡ laid out.old noWaits }
+    ensures { (out.new, result) ≡ laid out.old no_waits }
 {
     text::put_all(
         out,
@@ -335,7 +335,7 @@ fn put_no_waits(out: &mut [u8]) -> usize
 
 // The number is that of no source that waits.
 fn put_no_source(out: &mut [u8]) -> usize
-    ensures { (out.new, result) ≡ laid out.old noSource }
+    ensures { (out.new, result) ≡ laid out.old no_source }
 {
     text::put_all(
         out,

@@ -39,24 +39,24 @@ heading name ds = opening ++ bytes "$scope module " ++ name ++ bytes "$end\n" ++
 -- ---- values
 
 -- the last binary digits of v, at most so many, the highest first; where these hold v, none of them is a leading 0: digits that are left out are 0 (18.2.2)
-unfoldable pub binaryOf : ℕ → ℕ → List ℕ
-binaryOf zero v = []
-binaryOf (suc digits) v = pick (ltb v 2) ((48 + v % 2) ∷ []) (binaryOf digits (v / 2) ++ ((48 + v % 2) ∷ []))
+unfoldable pub binary_of : ℕ → ℕ → List ℕ
+binary_of zero v = []
+binary_of (suc digits) v = pick (ltb v 2) ((48 + v % 2) ∷ []) (binary_of digits (v / 2) ++ ((48 + v % 2) ∷ []))
 
 -- the value of the kth signal: a digit and the identifier where it has one bit, else b, the digits, a space and the identifier (18.2.1, 18.2.2)
 unfoldable pub change : ℕ → ℕ → ℕ → List ℕ
 change width k v =
-    pick (eqb width 1) ((48 + v % 2) ∷ identifier k ∷ newline ∷ []) ((98 ∷ []) ++ binaryOf width v ++ (space ∷ identifier k ∷ newline ∷ []))
+    pick (eqb width 1) ((48 + v % 2) ∷ identifier k ∷ newline ∷ []) ((98 ∷ []) ++ binary_of width v ++ (space ∷ identifier k ∷ newline ∷ []))
 
 -- all values of signals of these widths, the first of them the kth
-unfoldable pub valuesFrom : ℕ → List ℕ → List ℕ → List ℕ
-valuesFrom k [] now = []
-valuesFrom k (w ∷ ws) now = change w k (get_or now k 0) ++ valuesFrom (k + 1) ws now
+unfoldable pub values_from : ℕ → List ℕ → List ℕ → List ℕ
+values_from k [] now = []
+values_from k (w ∷ ws) now = change w k (get_or now k 0) ++ values_from (k + 1) ws now
 
 -- of those values only what differs from the ones before
-unfoldable pub changesFrom : ℕ → List ℕ → List ℕ → List ℕ → List ℕ
-changesFrom k [] before now = []
-changesFrom k (w ∷ ws) before now = pick (eqb (get_or before k 0) (get_or now k 0)) [] (change w k (get_or now k 0)) ++ changesFrom (k + 1) ws before now
+unfoldable pub changes_from : ℕ → List ℕ → List ℕ → List ℕ → List ℕ
+changes_from k [] before now = []
+changes_from k (w ∷ ws) before now = pick (eqb (get_or before k 0) (get_or now k 0)) [] (change w k (get_or now k 0)) ++ changes_from (k + 1) ws before now
 
 -- ---- ticks
 
@@ -65,17 +65,17 @@ unfoldable pub tick : ℕ → List ℕ
 tick n = (35 ∷ []) ++ decimal n ++ (newline ∷ [])
 
 -- tick 0: every value (18.2.3)
-unfoldable pub firstTick : List ℕ → List ℕ → List ℕ
-firstTick ws now = tick 0 ++ bytes "$dumpvars\n" ++ valuesFrom 0 ws now ++ bytes "$end\n"
+unfoldable pub first_tick : List ℕ → List ℕ → List ℕ
+first_tick ws now = tick 0 ++ bytes "$dumpvars\n" ++ values_from 0 ws now ++ bytes "$end\n"
 
 -- any other: what changed
-unfoldable pub nextTick : ℕ → List ℕ → List ℕ → List ℕ → List ℕ
-nextTick n ws before now = tick n ++ changesFrom 0 ws before now
+unfoldable pub next_tick : ℕ → List ℕ → List ℕ → List ℕ → List ℕ
+next_tick n ws before now = tick n ++ changes_from 0 ws before now
 
 -- the ticks after tick n, one for each list of values
-unfoldable pub ticksFrom : ℕ → List ℕ → List ℕ → List (List ℕ) → List ℕ
-ticksFrom n ws before [] = []
-ticksFrom n ws before (now ∷ rest) = nextTick (n + 1) ws before now ++ ticksFrom (n + 1) ws now rest
+unfoldable pub ticks_from : ℕ → List ℕ → List ℕ → List (List ℕ) → List ℕ
+ticks_from n ws before [] = []
+ticks_from n ws before (now ∷ rest) = next_tick (n + 1) ws before now ++ ticks_from (n + 1) ws now rest
 
 -- the refusal that ends a trace and its offset, as a listing's last line has them; nothing where there is none (01, House trace; 18.2.3)
 unfoldable pub ending : ℕ → ℕ → List ℕ
@@ -83,4 +83,4 @@ ending refusal offset = pick (eqb refusal 0) [] (bytes "$comment E" ++ field ref
 
 -- what follows a heading: the first values, the ticks, and how the trace ended
 unfoldable pub ticks : List ℕ → List ℕ → List (List ℕ) → ℕ → ℕ → List ℕ
-ticks ws first rest refusal offset = firstTick ws first ++ ticksFrom 0 ws first rest ++ ending refusal offset
+ticks ws first rest refusal offset = first_tick ws first ++ ticks_from 0 ws first rest ++ ending refusal offset

@@ -18,38 +18,38 @@ lines_of (b ∷ bs) = pick (eqb b newline) ([] ∷ lines_of bs) (before b (lines
 -- ---- values
 
 -- what binary digits are worth after some worth v, up to the space, and the identifier behind it
-unfoldable pub digitsAfter : ℕ → List ℕ → ℕ × ℕ
-digitsAfter v [] = (v, 0)
-digitsAfter v (b ∷ bs) = pick (eqb b space) (v, get_or bs 0 0) (digitsAfter (2 * v + (b - 48)) bs)
+unfoldable pub digits_after : ℕ → List ℕ → ℕ × ℕ
+digits_after v [] = (v, 0)
+digits_after v (b ∷ bs) = pick (eqb b space) (v, get_or bs 0 0) (digits_after (2 * v + (b - 48)) bs)
 
 -- a table with the value of an identifier put anew
 abbrev pub put : List ℕ → ℕ × ℕ → List ℕ
 put t c = set t (c.1 - 33) c.0
 
 -- the table after a line: b begins the digits of a value, 0 and 1 are one; no other line has a value
-unfoldable pub lineRead : List ℕ → List ℕ → List ℕ
-lineRead t [] = t
-lineRead t (b ∷ bs) = pick (eqb b 98) (put t (digitsAfter 0 bs)) (pick (eqb b 48 || eqb b 49) (put t (b - 48, get_or bs 0 0)) t)
+unfoldable pub line_read : List ℕ → List ℕ → List ℕ
+line_read t [] = t
+line_read t (b ∷ bs) = pick (eqb b 98) (put t (digits_after 0 bs)) (pick (eqb b 48 || eqb b 49) (put t (b - 48, get_or bs 0 0)) t)
 
 -- ---- ticks
 
 -- the tables at the end of each tick; # begins the next one
-unfoldable pub tablesFrom : List ℕ → List (List ℕ) → List (List ℕ)
-tablesFrom t [] = t ∷ []
-tablesFrom t (l ∷ ls) = pick (eqb (get_or l 0 0) 35) (t ∷ tablesFrom t ls) (tablesFrom (lineRead t l) ls)
+unfoldable pub tables_from : List ℕ → List (List ℕ) → List (List ℕ)
+tables_from t [] = t ∷ []
+tables_from t (l ∷ ls) = pick (eqb (get_or l 0 0) 35) (t ∷ tables_from t ls) (tables_from (line_read t l) ls)
 
 -- those of a text that declares n signals; what stands before the first # is no tick's
 unfoldable pub replay : ℕ → List ℕ → List (List ℕ)
-replay n text = drop 1 (tablesFrom (replicate n 0) (lines_of text))
+replay n text = drop 1 (tables_from (replicate n 0) (lines_of text))
 
 -- ---- what is declared
 
 -- the identifier that a line declares: behind its third space
-unfoldable pub behindSpace : ℕ → List ℕ → ℕ
-behindSpace n [] = 0
-behindSpace n (b ∷ bs) = pick (eqb b space) (pick (eqb n 0) (get_or bs 0 0) (behindSpace (n - 1) bs)) (behindSpace n bs)
+unfoldable pub behind_space : ℕ → List ℕ → ℕ
+behind_space n [] = 0
+behind_space n (b ∷ bs) = pick (eqb b space) (pick (eqb n 0) (get_or bs 0 0) (behind_space (n - 1) bs)) (behind_space n bs)
 
 -- the identifiers that are declared, by the lines that begin with $v
 unfoldable pub identifiers : List (List ℕ) → List ℕ
 identifiers [] = []
-identifiers (l ∷ ls) = pick (eqb (get_or l 1 0) 118) (behindSpace 2 l ∷ identifiers ls) (identifiers ls)
+identifiers (l ∷ ls) = pick (eqb (get_or l 1 0) 118) (behind_space 2 l ∷ identifiers ls) (identifiers ls)

@@ -3,7 +3,7 @@
 ghost use Rattle.std.specs.Prelude.{◌≡◌, [], ◌∷◌, ◌++◌, ◌+◌, ◌%◌, eqb, get_or};
 ghost use Rattle.words.specs.Choice.{pick};
 ghost use Rattle.text.specs.Text.{write, space, newline};
-ghost use Rattle.vcd.specs.Dump.{opening, declared, declaration, binaryOf, change, valuesFrom, changesFrom, tick, firstTick, nextTick, ending};
+ghost use Rattle.vcd.specs.Dump.{opening, declared, declaration, binary_of, change, values_from, changes_from, tick, first_tick, next_tick, ending};
 
 use text::{NEWLINE, SPACE};
 
@@ -60,7 +60,7 @@ pub fn put_change(out: &mut [u8], at: usize, width: u32, k: u32, v: u32) -> usiz
 
 // The values of all signals of these widths.
 pub fn put_values(out: &mut [u8], at: usize, widths: &[u32], values: &[u32]) -> usize
-    ensures { (out.new, result) ≡ write (out.old, at) (valuesFrom 0 widths.now values.now) }
+    ensures { (out.new, result) ≡ write (out.old, at) (values_from 0 widths.now values.now) }
 {
     let mut next = at;
     let mut k: usize = 0;
@@ -79,7 +79,7 @@ pub fn put_changes(
     before: &[u32],
     values: &[u32],
 ) -> usize
-    ensures { (out.new, result) ≡ write (out.old, at) (changesFrom 0 widths.now before.now values.now) }
+    ensures { (out.new, result) ≡ write (out.old, at) (changes_from 0 widths.now before.now values.now) }
 {
     let mut next = at;
     let mut k: usize = 0;
@@ -109,7 +109,7 @@ fn put_if_changed(out: &mut [u8], at: usize, width: u32, k: u32, u: u32, v: u32)
 
 // A value that is no single bit.
 fn put_bits(out: &mut [u8], at: usize, width: u32, k: u32, v: u32) -> usize
-    ensures { (out.new, result) ≡ write (out.old, at) ((98 ∷ []) ++ binaryOf width v ++ (space ∷ (33 + k % 94) ∷ newline ∷ [])) }
+    ensures { (out.new, result) ≡ write (out.old, at) ((98 ∷ []) ++ binary_of width v ++ (space ∷ (33 + k % 94) ∷ newline ∷ [])) }
 {
     let a = text::put(out, at, b'b');
     let b = put_binary(out, a, v, width);
@@ -118,7 +118,7 @@ fn put_bits(out: &mut [u8], at: usize, width: u32, k: u32, v: u32) -> usize
 
 // The binary digits of v, at most `digits` of them.
 fn put_binary(out: &mut [u8], at: usize, v: u32, digits: u32) -> usize
-    ensures { (out.new, result) ≡ write (out.old, at) (binaryOf digits v) }
+    ensures { (out.new, result) ≡ write (out.old, at) (binary_of digits v) }
 {
     if digits == 0 {
         return at;
@@ -153,7 +153,7 @@ pub fn put_tick(out: &mut [u8], at: usize, n: u32) -> usize
 
 // Tick 0: every value.
 pub fn put_first(out: &mut [u8], at: usize, widths: &[u32], values: &[u32]) -> usize
-    ensures { (out.new, result) ≡ write (out.old, at) (firstTick widths.now values.now) }
+    ensures { (out.new, result) ≡ write (out.old, at) (first_tick widths.now values.now) }
 {
     let a = text::put_all(out, at, b"#0\n$dumpvars\n");
     let b = put_values(out, a, widths, values);
@@ -169,7 +169,7 @@ pub fn put_next(
     before: &[u32],
     values: &[u32],
 ) -> usize
-    ensures { (out.new, result) ≡ write (out.old, at) (nextTick n widths.now before.now values.now) }
+    ensures { (out.new, result) ≡ write (out.old, at) (next_tick n widths.now before.now values.now) }
 {
     let a = put_tick(out, at, n);
     put_changes(out, a, widths, before, values)

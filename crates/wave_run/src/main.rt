@@ -2,7 +2,7 @@
 // line on standard error says so.
 ghost use Rattle.std.specs.Prelude.{◌≡◌, List, ℕ, ◌≤◌, length};
 ghost use Rattle.text.specs.Text.{laid};
-ghost use Rattle.waves.specs.Waves.{wavesOf};
+ghost use Rattle.waves.specs.Waves.{waves_of};
 
 // The most steps that are played.
 const LIMIT: u32 = 20000;
@@ -34,7 +34,7 @@ fn tell(what: &[u8]) {
 
 // The waves that are printed.
 fn dumped(trace: &[u8], out: &mut [u8]) -> usize
-    ensures { (out.new, result) ≡ laid out.old (wavesOf trace.now 20000) }
+    ensures { (out.new, result) ≡ laid out.old (waves_of trace.now 20000) }
 {
     waves::waves(trace, LIMIT, out)
 }
@@ -42,7 +42,7 @@ fn dumped(trace: &[u8], out: &mut [u8]) -> usize
 // A buffer that any such waves fit.
 fn room() -> [u8; 4280737]
     ensures value { 4280737 ≡ length result }
-    ensures any { (s : List ℕ) → length (wavesOf s 20000) ≤ length result }
+    ensures any { (s : List ℕ) → length (waves_of s 20000) ≤ length result }
 {
     [0; 4280737]
 }

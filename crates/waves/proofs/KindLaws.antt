@@ -6,7 +6,7 @@ use native.Mathlib.Omega.{arith}
 use lib.ListN.{length, take, replicate, length-append, length-map}
 use lib.Seq.{take-append_seam}
 use Rattle.text.specs.Text.{write}
-use Rattle.vcd.specs.Dump.{firstTick, nextTick}
+use Rattle.vcd.specs.Dump.{first_tick, next_tick}
 use Rattle.waves.specs.Signals.{Row, rows, widths, eleven}
 
 count-widths : (kind : ℕ) → length (widths kind) ≡ length (rows kind)
@@ -25,11 +25,11 @@ module _ (kind k : ℕ) (w : List ℕ) (ek : k ≡ length (rows kind)) (ew : w �
       let a = ap length ew ∙ length-append (widths kind) (replicate (11 - length (widths kind)) 0) in
       omega (arith, a, count-widths kind)
 
-  pub cut-long : k ≡ length (take k w)
-  cut-long = ek ∙ sym (count-widths kind) ∙ ap length (sym cut)
+  pub cut_long : k ≡ length (take k w)
+  cut_long = ek ∙ sym (count-widths kind) ∙ ap length (sym cut)
 
-  pub first-cut : (o q : List ℕ × ℕ) (v : List ℕ) → q ≡ write o (firstTick (take k w) v) → q ≡ write o (firstTick (widths kind) v)
-  first-cut o q v e = e ∙ ap (λ (l : List ℕ). write o (firstTick l v)) cut
+  pub first_cut : (o q : List ℕ × ℕ) (v : List ℕ) → q ≡ write o (first_tick (take k w) v) → q ≡ write o (first_tick (widths kind) v)
+  first_cut o q v e = e ∙ ap (λ (l : List ℕ). write o (first_tick l v)) cut
 
-  pub next-cut : (o q : List ℕ × ℕ) (n : ℕ) (u v : List ℕ) → q ≡ write o (nextTick n (take k w) u v) → q ≡ write o (nextTick n (widths kind) u v)
-  next-cut o q n u v e = e ∙ ap (λ (l : List ℕ). write o (nextTick n l u v)) cut
+  pub next_cut : (o q : List ℕ × ℕ) (n : ℕ) (u v : List ℕ) → q ≡ write o (next_tick n (take k w) u v) → q ≡ write o (next_tick n (widths kind) u v)
+  next_cut o q n u v e = e ∙ ap (λ (l : List ℕ). write o (next_tick n l u v)) cut

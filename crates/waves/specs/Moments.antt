@@ -6,7 +6,7 @@ use Rattle.machine.specs.declared.record.Machine.{Machine}
 use Rattle.machine.specs.declared.Answer.{Answer}
 use Rattle.machine.specs.Steps.{step}
 use Rattle.lines.specs.Listing.{letter}
-use Rattle.vcd.specs.Dump.{ticksFrom, ending}
+use Rattle.vcd.specs.Dump.{ticks_from, ending}
 use Rattle.waves.specs.Signals.{Moment, moment, widths, values}
 
 -- the moment after the start: no step yet, so no letter
@@ -18,10 +18,10 @@ abbrev pub after : Recorded → Answer → Moment
 after x a = moment a.refusal a.value (letter x.step a.refusal) a.machine
 
 -- those after some steps, refused ones among them
-unfoldable pub momentsFrom : Machine → List Recorded → List Moment
-momentsFrom m [] = []
-momentsFrom m (x ∷ xs) = after x (step m x) ∷ momentsFrom (step m x).machine xs
+unfoldable pub moments_from : Machine → List Recorded → List Moment
+moments_from m [] = []
+moments_from m (x ∷ xs) = after x (step m x) ∷ moments_from (step m x).machine xs
 
 -- what follows the ticks of n steps, with the values before: the ticks of step records, and how they end
-unfoldable pub restFrom : ℕ → List ℕ → Machine → Trace → List ℕ
-restFrom n before m t = ticksFrom n (widths m.kind) before (map values (momentsFrom m t.steps)) ++ ending t.refusal t.offset
+unfoldable pub rest_from : ℕ → List ℕ → Machine → Trace → List ℕ
+rest_from n before m t = ticks_from n (widths m.kind) before (map values (moments_from m t.steps)) ++ ending t.refusal t.offset

@@ -5,14 +5,14 @@ use Rattle.words.specs.Counting.{one}
 use Rattle.text.specs.Phrases.{bytes}
 use Rattle.vcd.specs.Dump.{Signal}
 use Rattle.kinds.specs.Kinds.{by_kind}
-use Rattle.aic_record.specs.Last.{lastSource, lastLevel}
-use Rattle.aic_sources.specs.Pending.{pendingWord}
-use Rattle.aic.specs.Model.{outputs as aicOutputs}
+use Rattle.aic_record.specs.Last.{last_source, last_level}
+use Rattle.aic_sources.specs.Pending.{pending_word}
+use Rattle.aic.specs.Model.{outputs as aic_outputs}
 use Rattle.coreinterrupt.specs.Side.{raw, status}
-use Rattle.coreinterrupt.specs.Model.{outputs as coreOutputs}
-use Rattle.cic_registers.specs.Hosts.{outputs as cicOutputs}
-use Rattle.cic_indexed.specs.Model.{outputs as indexedOutputs}
-use Rattle.aintc_registers.specs.Model.{outputs as aintcOutputs}
+use Rattle.coreinterrupt.specs.Model.{outputs as core_outputs}
+use Rattle.cic_registers.specs.Hosts.{outputs as cic_outputs}
+use Rattle.cic_indexed.specs.Model.{outputs as indexed_outputs}
+use Rattle.aintc_registers.specs.Model.{outputs as aintc_outputs}
 use Rattle.machine.specs.declared.record.Machine.{Machine}
 use Rattle.machine.specs.Machine.{indexed}
 
@@ -38,59 +38,59 @@ row name width value = record { name = bytes name; width = width; value = value 
 -- ---- the tables
 
 -- of every kind: the number by which the step is refused, the value read, and R, W, L or X in ASCII, 0 before the first step (01, House trace)
-abbrev pub ofEvery : List Row
-ofEvery = row "refusal" 8 (λ x. x.refusal) ∷ row "value" 32 (λ x. x.value) ∷ row "step" 8 (λ x. x.letter) ∷ []
+abbrev pub of_every : List Row
+of_every = row "refusal" 8 (λ x. x.refusal) ∷ row "value" 32 (λ x. x.value) ∷ row "step" 8 (λ x. x.letter) ∷ []
 
 -- an AIC: its outputs, how many entries are open, the source and the level of the last one, and three words with a bit for each source (01, AIC)
-abbrev pub ofAic : List Row
-ofAic =
-    row "irq" 1 (λ x. one (aicOutputs x.machine.aic).irq) ∷ row "fiq" 1 (λ x. one (aicOutputs x.machine.aic).fiq)
-    ∷ row "entries" 4 (λ x. (aicOutputs x.machine.aic).entries)
-    ∷ row "source" 5 (λ x. lastSource x.machine.aic) ∷ row "level" 8 (λ x. lastLevel x.machine.aic)
-    ∷ row "lines" 32 (λ x. x.machine.aic.lines) ∷ row "pending" 32 (λ x. pendingWord x.machine.aic) ∷ row "enabled" 32 (λ x. x.machine.aic.enabled)
+abbrev pub of_aic : List Row
+of_aic =
+    row "irq" 1 (λ x. one (aic_outputs x.machine.aic).irq) ∷ row "fiq" 1 (λ x. one (aic_outputs x.machine.aic).fiq)
+    ∷ row "entries" 4 (λ x. (aic_outputs x.machine.aic).entries)
+    ∷ row "source" 5 (λ x. last_source x.machine.aic) ∷ row "level" 8 (λ x. last_level x.machine.aic)
+    ∷ row "lines" 32 (λ x. x.machine.aic.lines) ∷ row "pending" 32 (λ x. pending_word x.machine.aic) ∷ row "enabled" 32 (λ x. x.machine.aic.enabled)
     ∷ []
 
 -- a CoreInterrupt: its outputs, and raw and status of both sides, with a bit for each source (01, CoreInterrupt; 004)
-abbrev pub ofCore : List Row
-ofCore =
-    row "irq" 1 (λ x. one (coreOutputs x.machine.core).irq) ∷ row "fiq" 1 (λ x. one (coreOutputs x.machine.core).fiq)
+abbrev pub of_core : List Row
+of_core =
+    row "irq" 1 (λ x. one (core_outputs x.machine.core).irq) ∷ row "fiq" 1 (λ x. one (core_outputs x.machine.core).fiq)
     ∷ row "irq_raw" 32 (λ x. raw x.machine.core.irq) ∷ row "irq_status" 32 (λ x. status x.machine.core.irq)
     ∷ row "fiq_raw" 8 (λ x. raw x.machine.core.fiq) ∷ row "fiq_status" 8 (λ x. status x.machine.core.fiq)
     ∷ []
 
 -- a CIC: how many hosts are asserted, and the number of the lowest, 256 where none is (01, CIC)
-abbrev pub ofCic : List Row
-ofCic = row "hosts" 9 (λ x. (cicOutputs x.machine.cic).hosts) ∷ row "lowest" 9 (λ x. (cicOutputs x.machine.cic).lowest) ∷ []
+abbrev pub of_cic : List Row
+of_cic = row "hosts" 9 (λ x. (cic_outputs x.machine.cic).hosts) ∷ row "lowest" 9 (λ x. (cic_outputs x.machine.cic).lowest) ∷ []
 
 -- the same with prioritised indices (02, 6/12)
-abbrev pub ofIndexed : List Row
-ofIndexed =
-    row "hosts" 9 (λ x. (indexedOutputs (indexed x.machine)).hosts) ∷ row "lowest" 9 (λ x. (indexedOutputs (indexed x.machine)).lowest) ∷ []
+abbrev pub of_indexed : List Row
+of_indexed =
+    row "hosts" 9 (λ x. (indexed_outputs (indexed x.machine)).hosts) ∷ row "lowest" 9 (λ x. (indexed_outputs (indexed x.machine)).lowest) ∷ []
 
 -- an AINTC: its outputs, and for each the input that is chosen with its priority, 0 and 0 where none is (02, 2/12; 000, 4.3)
-abbrev pub ofAintc : List Row
-ofAintc =
-    row "irq" 1 (λ x. one (aintcOutputs x.machine.aintc).irq) ∷ row "fiq" 1 (λ x. one (aintcOutputs x.machine.aintc).fiq)
+abbrev pub of_aintc : List Row
+of_aintc =
+    row "irq" 1 (λ x. one (aintc_outputs x.machine.aintc).irq) ∷ row "fiq" 1 (λ x. one (aintc_outputs x.machine.aintc).fiq)
     ∷ row "irq_number" 7 (λ x. x.machine.aintc.irq.number) ∷ row "irq_priority" 7 (λ x. x.machine.aintc.irq.priority)
     ∷ row "fiq_number" 7 (λ x. x.machine.aintc.fiq.number) ∷ row "fiq_priority" 7 (λ x. x.machine.aintc.fiq.priority)
     ∷ []
 
 -- what a kind has beside those of every kind
-unfoldable pub ownRows : ℕ → List Row
-ownRows kind = by_kind kind (record { aic = ofAic; core = ofCore; cic = ofCic; aintc = ofAintc; indexed = ofIndexed; none = [] })
+unfoldable pub own_rows : ℕ → List Row
+own_rows kind = by_kind kind (record { aic = of_aic; core = of_core; cic = of_cic; aintc = of_aintc; indexed = of_indexed; none = [] })
 
 -- all of it
 unfoldable pub rows : ℕ → List Row
-rows kind = ofEvery ++ ownRows kind
+rows kind = of_every ++ own_rows kind
 
 -- ---- its columns
 
 -- what is declared of each signal
-abbrev pub declaredOf : List Row → List Signal
-declaredOf rs = map (λ (r : Row). record { name = r.name; width = r.width }) rs
+abbrev pub declared_of : List Row → List Signal
+declared_of rs = map (λ (r : Row). record { name = r.name; width = r.width }) rs
 
 unfoldable pub signals : ℕ → List Signal
-signals kind = declaredOf (rows kind)
+signals kind = declared_of (rows kind)
 
 -- how many bits each has
 unfoldable pub widths : ℕ → List ℕ

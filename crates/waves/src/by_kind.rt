@@ -1,9 +1,9 @@
 // The heading and the ticks of a dump for each kind of controller, as text in a buffer that the caller lends.
 ghost use Rattle.std.specs.Prelude.{◌≡◌};
 ghost use Rattle.text.specs.Text.{write};
-ghost use Rattle.vcd.specs.Dump.{heading, declarations, firstTick, nextTick};
+ghost use Rattle.vcd.specs.Dump.{heading, declarations, first_tick, next_tick};
 ghost use Rattle.kinds.specs.Kinds.{name};
-ghost use Rattle.waves.specs.Signals.{ownRows, declaredOf, signals, widths};
+ghost use Rattle.waves.specs.Signals.{own_rows, declared_of, signals, widths};
 
 use super::names;
 
@@ -23,7 +23,7 @@ pub(crate) fn put_heading(out: &mut [u8], at: usize, kind: u32) -> usize
 
 // Those that a kind has beside them; a CIC has the same with prioritised indices and without.
 fn put_own(out: &mut [u8], at: usize, kind: u32) -> usize
-    ensures { (out.new, result) ≡ write (out.old, at) (declarations 3 (declaredOf (ownRows kind))) }
+    ensures { (out.new, result) ≡ write (out.old, at) (declarations 3 (declared_of (own_rows kind))) }
 {
     if kind == kinds::AIC {
         return names::put_aic(out, at);
@@ -45,7 +45,7 @@ fn put_own(out: &mut [u8], at: usize, kind: u32) -> usize
 
 // Tick 0, of the signals of a kind.
 pub(crate) fn put_first(out: &mut [u8], at: usize, kind: u32, values: &[u32; 11]) -> usize
-    ensures { (out.new, result) ≡ write (out.old, at) (firstTick (widths kind) values.now) }
+    ensures { (out.new, result) ≡ write (out.old, at) (first_tick (widths kind) values.now) }
 {
     let w = super::signals::widths(kind);
     let n = super::signals::count(kind);
@@ -61,7 +61,7 @@ pub(crate) fn put_next(
     before: &[u32; 11],
     values: &[u32; 11],
 ) -> usize
-    ensures { (out.new, result) ≡ write (out.old, at) (nextTick n (widths kind) before.now values.now) }
+    ensures { (out.new, result) ≡ write (out.old, at) (next_tick n (widths kind) before.now values.now) }
 {
     let w = super::signals::widths(kind);
     let k = super::signals::count(kind);

@@ -1,11 +1,11 @@
 // The waves of a trace: the value change dump of what its machine shows after the start and after each step, as text in a buffer that the caller lends.
 ghost use Rattle.std.specs.Prelude.{◌≡◌};
-ghost use Rattle.steps.specs.Refusals.{carriedOut};
+ghost use Rattle.steps.specs.Refusals.{carried_out};
 ghost use Rattle.text.specs.Text.{write, laid};
-ghost use Rattle.trace.specs.Trace.{stepsFrom};
-ghost use Rattle.kinds.specs.Kinds.{tellsPrivilege};
-ghost use Rattle.beginning.specs.Begin.{beginOf};
-ghost use Rattle.waves.specs.Waves.{dumpOf, wavesOf};
+ghost use Rattle.trace.specs.Trace.{steps_from};
+ghost use Rattle.kinds.specs.Kinds.{tells_privilege};
+ghost use Rattle.beginning.specs.Begin.{begin_of};
+ghost use Rattle.waves.specs.Waves.{dump_of, waves_of};
 
 mod by_kind;
 mod moments;
@@ -17,7 +17,7 @@ use beginning::Begun;
 
 // The waves of a trace of which at most `limit` steps are played; answers how many bytes were written, and what finds no room is dropped.
 pub fn waves(trace: &[u8], limit: u32, out: &mut [u8]) -> usize
-    ensures { (out.new, result) ≡ laid out.old (wavesOf trace.now limit) }
+    ensures { (out.new, result) ≡ laid out.old (waves_of trace.now limit) }
 {
     let b = beginning::begin(trace);
     if b.refusal != steps::CARRIED_OUT {
@@ -28,8 +28,8 @@ pub fn waves(trace: &[u8], limit: u32, out: &mut [u8]) -> usize
 
 // Those of a trace that has begun.
 fn put_begun(trace: &[u8], limit: u32, b: Begun, out: &mut [u8]) -> usize
-    requires { (b ≡ beginOf trace.now) × (b.refusal ≡ carriedOut) }
-    ensures { (out.new, result) ≡ write (out.old, 0) (dumpOf b.machine (stepsFrom (tellsPrivilege b.machine.kind) limit trace.now b.place)) }
+    requires { (b ≡ begin_of trace.now) × (b.refusal ≡ carried_out) }
+    ensures { (out.new, result) ≡ write (out.old, 0) (dump_of b.machine (steps_from (tells_privilege b.machine.kind) limit trace.now b.place)) }
 {
     let m = b.machine;
     let start = ticks::put_start(out, m);

@@ -1,9 +1,9 @@
 // The ticks of the steps of a trace, in a buffer that the caller lends.
 ghost use Rattle.std.specs.Prelude.{◌≡◌};
 ghost use Rattle.text.specs.Text.{write};
-ghost use Rattle.trace.specs.Trace.{stepsFrom};
+ghost use Rattle.trace.specs.Trace.{steps_from};
 ghost use Rattle.machine.specs.RecordPromises.{Ready};
-ghost use Rattle.waves.specs.Moments.{restFrom};
+ghost use Rattle.waves.specs.Moments.{rest_from};
 
 use super::ticks;
 use machine::record::Machine;
@@ -22,7 +22,7 @@ pub(crate) fn put_steps(
     from: usize,
 ) -> usize
     requires { Ready first }
-    ensures { (out.new, result) ≡ write (out.old, from) (restFrom 0 values first (stepsFrom told limit trace.now start)) }
+    ensures { (out.new, result) ≡ write (out.old, from) (rest_from 0 values first (steps_from told limit trace.now start)) }
 {
     let mut before = values;
     let mut at = start;

@@ -2,11 +2,11 @@
 ghost use Rattle.std.specs.Prelude.{◌≡◌};
 ghost use Rattle.text.specs.Text.{write};
 ghost use Rattle.vcd.specs.Dump.{declarations};
-ghost use Rattle.waves.specs.Signals.{ofEvery, ofAic as aicRows, ofCore as coreRows, ofCic as cicRows, ofAintc as aintcRows, declaredOf};
+ghost use Rattle.waves.specs.Signals.{of_every, of_aic as aic_rows, of_core as core_rows, of_cic as cic_rows, of_aintc as aintc_rows, declared_of};
 
 // The signals of every kind.
 pub(crate) fn put_every(out: &mut [u8], at: usize) -> usize
-    ensures { (out.new, result) ≡ write (out.old, at) (declarations 0 (declaredOf ofEvery)) }
+    ensures { (out.new, result) ≡ write (out.old, at) (declarations 0 (declared_of of_every)) }
 {
     let a = vcd::put_declaration(out, at, 0, b"refusal", 8);
     let b = vcd::put_declaration(out, a, 1, b"value", 32);
@@ -15,7 +15,7 @@ pub(crate) fn put_every(out: &mut [u8], at: usize) -> usize
 
 // Those of an AIC beside them.
 pub(crate) fn put_aic(out: &mut [u8], at: usize) -> usize
-    ensures { (out.new, result) ≡ write (out.old, at) (declarations 3 (declaredOf aicRows)) }
+    ensures { (out.new, result) ≡ write (out.old, at) (declarations 3 (declared_of aic_rows)) }
 {
     let a = vcd::put_declaration(out, at, 3, b"irq", 1);
     let b = vcd::put_declaration(out, a, 4, b"fiq", 1);
@@ -29,7 +29,7 @@ pub(crate) fn put_aic(out: &mut [u8], at: usize) -> usize
 
 // Of a CoreInterrupt.
 pub(crate) fn put_core(out: &mut [u8], at: usize) -> usize
-    ensures { (out.new, result) ≡ write (out.old, at) (declarations 3 (declaredOf coreRows)) }
+    ensures { (out.new, result) ≡ write (out.old, at) (declarations 3 (declared_of core_rows)) }
 {
     let a = vcd::put_declaration(out, at, 3, b"irq", 1);
     let b = vcd::put_declaration(out, a, 4, b"fiq", 1);
@@ -41,7 +41,7 @@ pub(crate) fn put_core(out: &mut [u8], at: usize) -> usize
 
 // Of a CIC, with prioritised indices or without.
 pub(crate) fn put_cic(out: &mut [u8], at: usize) -> usize
-    ensures { (out.new, result) ≡ write (out.old, at) (declarations 3 (declaredOf cicRows)) }
+    ensures { (out.new, result) ≡ write (out.old, at) (declarations 3 (declared_of cic_rows)) }
 {
     let a = vcd::put_declaration(out, at, 3, b"hosts", 9);
     vcd::put_declaration(out, a, 4, b"lowest", 9)
@@ -49,7 +49,7 @@ pub(crate) fn put_cic(out: &mut [u8], at: usize) -> usize
 
 // Of an AINTC.
 pub(crate) fn put_aintc(out: &mut [u8], at: usize) -> usize
-    ensures { (out.new, result) ≡ write (out.old, at) (declarations 3 (declaredOf aintcRows)) }
+    ensures { (out.new, result) ≡ write (out.old, at) (declarations 3 (declared_of aintc_rows)) }
 {
     let a = vcd::put_declaration(out, at, 3, b"irq", 1);
     let b = vcd::put_declaration(out, a, 4, b"fiq", 1);

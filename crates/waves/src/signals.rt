@@ -1,9 +1,9 @@
 // What a wave shows of each kind of controller: how many signals it has, their widths, and their values after a step.
 ghost use Rattle.std.specs.Prelude.{◌≡◌, true, [], ◌∷◌, length};
-ghost use Rattle.aic_record.specs.Sound.{sound as aicSound};
-ghost use Rattle.coreinterrupt.specs.Model.{sound as coreSound};
-ghost use Rattle.aintc_registers.specs.Settle.{sound as aintcSound};
-ghost use Rattle.machine.specs.Machine.{ofAic, ofCore, ofAintc, sound};
+ghost use Rattle.aic_record.specs.Sound.{sound as aic_sound};
+ghost use Rattle.coreinterrupt.specs.Model.{sound as core_sound};
+ghost use Rattle.aintc_registers.specs.Settle.{sound as aintc_sound};
+ghost use Rattle.machine.specs.Machine.{of_aic, of_core, of_aintc, sound};
 ghost use Rattle.waves.specs.Signals.{moment, rows, widths, values, eleven};
 
 use aic_record::Aic;
@@ -40,8 +40,8 @@ pub(crate) fn values(refusal: u32, value: u32, letter: u32, m: Machine) -> [u32;
 }
 
 fn aic_values(refusal: u32, value: u32, letter: u32, s: Aic) -> [u32; 11]
-    requires { aicSound s ≡ true }
-    ensures { result ≡ eleven (values (moment refusal value letter (ofAic s))) }
+    requires { aic_sound s ≡ true }
+    ensures { result ≡ eleven (values (moment refusal value letter (of_aic s))) }
 {
     let o = aic::outputs_sound(s);
     let irq = words::one_if(o.irq);
@@ -55,8 +55,8 @@ fn aic_values(refusal: u32, value: u32, letter: u32, s: Aic) -> [u32; 11]
 }
 
 fn core_values(refusal: u32, value: u32, letter: u32, s: Core) -> [u32; 11]
-    requires { coreSound s ≡ true }
-    ensures { result ≡ eleven (values (moment refusal value letter (ofCore s))) }
+    requires { core_sound s ≡ true }
+    ensures { result ≡ eleven (values (moment refusal value letter (of_core s))) }
 {
     let o = coreinterrupt::outputs_sound(s);
     let irq = words::one_if(o.irq);
@@ -76,8 +76,8 @@ fn cic_values(refusal: u32, value: u32, letter: u32, o: cic_record::Signals) -> 
 }
 
 fn aintc_values(refusal: u32, value: u32, letter: u32, s: Aintc) -> [u32; 11]
-    requires { aintcSound s ≡ true }
-    ensures { result ≡ eleven (values (moment refusal value letter (ofAintc s))) }
+    requires { aintc_sound s ≡ true }
+    ensures { result ≡ eleven (values (moment refusal value letter (of_aintc s))) }
 {
     let o = aintc::outputs_sound(s);
     let irq = words::one_if(o.irq);

@@ -1,7 +1,7 @@
 // What a machine shows after its start and after a step, as the ticks of a dump in a buffer that the caller lends.
 ghost use Rattle.std.specs.Prelude.{◌≡◌, true, ◌++◌};
 ghost use Rattle.text.specs.Text.{write};
-ghost use Rattle.vcd.specs.Dump.{opening, declared, heading, firstTick, nextTick, ending};
+ghost use Rattle.vcd.specs.Dump.{opening, declared, heading, first_tick, next_tick, ending};
 ghost use Rattle.kinds.specs.Kinds.{name};
 ghost use Rattle.machine.specs.Machine.{sound};
 ghost use Rattle.lines.specs.Listing.{letter};
@@ -30,7 +30,7 @@ pub(crate) fn put_none(out: &mut [u8], refusal: u32, offset: usize) -> usize
 // The heading and tick 0 of a machine that is known to be sound: no step yet, so no letter.
 pub(crate) fn put_start(out: &mut [u8], m: Machine) -> Ticked
     requires { sound m ≡ true }
-    ensures { ((out.new, result.to) ≡ write (out.old, 0) (heading (name m.kind) (signals m.kind) ++ firstTick (widths m.kind) (values (moment 0 0 0 m)))) × (result.values ≡ eleven (values (moment 0 0 0 m))) }
+    ensures { ((out.new, result.to) ≡ write (out.old, 0) (heading (name m.kind) (signals m.kind) ++ first_tick (widths m.kind) (values (moment 0 0 0 m)))) × (result.values ≡ eleven (values (moment 0 0 0 m))) }
 {
     let kind = m.kind;
     let values = super::signals::values(steps::CARRIED_OUT, 0, 0, m);
@@ -51,7 +51,7 @@ pub(crate) fn put_step(
     m: Machine,
 ) -> Ticked
     requires { sound m ≡ true }
-    ensures { ((out.new, result.to) ≡ write (out.old, at) (nextTick n (widths m.kind) before.now (values (moment refusal value (letter step refusal) m)))) × (result.values ≡ eleven (values (moment refusal value (letter step refusal) m))) }
+    ensures { ((out.new, result.to) ≡ write (out.old, at) (next_tick n (widths m.kind) before.now (values (moment refusal value (letter step refusal) m)))) × (result.values ≡ eleven (values (moment refusal value (letter step refusal) m))) }
 {
     let letter = lines::letter_of(step, refusal) as u32;
     let values = super::signals::values(refusal, value, letter, m);

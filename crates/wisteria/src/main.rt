@@ -1,7 +1,7 @@
 // Prints the listing of the trace on standard input. Where the trace cannot be read, or its listing not be written, one line on standard error says so.
 ghost use Rattle.std.specs.Prelude.{◌≡◌, List, ℕ, ◌≤◌, length};
 ghost use Rattle.text.specs.Text.{laid};
-ghost use Rattle.lines.specs.Listing.{listingOf};
+ghost use Rattle.lines.specs.Listing.{listing_of};
 
 // The most steps that are played.
 const LIMIT: u32 = 20000;
@@ -33,7 +33,7 @@ fn tell(what: &[u8]) {
 
 // The listing that is printed.
 fn listed(trace: &[u8], out: &mut [u8]) -> usize
-    ensures { (out.new, result) ≡ laid out.old (listingOf trace.now 20000) }
+    ensures { (out.new, result) ≡ laid out.old (listing_of trace.now 20000) }
 {
     listing::list(trace, LIMIT, out)
 }
@@ -41,7 +41,7 @@ fn listed(trace: &[u8], out: &mut [u8]) -> usize
 // A buffer that any such listing fits.
 fn room() -> [u8; 580058]
     ensures value { 580058 ≡ length result }
-    ensures any { (s : List ℕ) → length (listingOf s 20000) ≤ length result }
+    ensures any { (s : List ℕ) → length (listing_of s 20000) ≤ length result }
 {
     [0; 580058]
 }

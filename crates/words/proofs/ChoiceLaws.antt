@@ -19,10 +19,10 @@ pub by-false : {A : Type 0} {t u : Bool} {b : A} (a : A) → u ≡ t → u ≡ f
 by-false a p e = pick-false a (sym p ∙ e)
 
 -- what follows on either side follows of the choice
-pub pick-cases : {A : Type 0} (P : A → Type 0) (t : Bool) {a b : A} → (t ≡ true → P a) → (t ≡ false → P b) → P (pick t a b)
+pub pick_cases : {A : Type 0} (P : A → Type 0) (t : Bool) {a b : A} → (t ≡ true → P a) → (t ≡ false → P b) → P (pick t a b)
 unfolding pick
-pick-cases P true f g = f refl
-pick-cases P false f g = g refl
+pick_cases P true f g = f refl
+pick_cases P false f g = g refl
 
 -- a function of a choice is the choice of its values
 pub pick-ap : {A B : Type 0} (f : A → B) (t : Bool) (a b : A) → f (pick t a b) ≡ pick t (f a) (f b)
@@ -31,10 +31,10 @@ pick-ap f true a b = refl
 pick-ap f false a b = refl
 
 -- what a function makes of both sides of a choice it makes of the choice
-pub pick-through : {A B : Type 0} (f : A → B) (t : Bool) {a b : A} {c d : B} → c ≡ f a → d ≡ f b → pick t c d ≡ f (pick t a b)
+pub pick_through : {A B : Type 0} (f : A → B) (t : Bool) {a b : A} {c d : B} → c ≡ f a → d ≡ f b → pick t c d ≡ f (pick t a b)
 unfolding pick
-pick-through f true p q = p
-pick-through f false p q = q
+pick_through f true p q = p
+pick_through f false p q = q
 
 -- where the test fails, of the one side
 pub pick-past : {A B : Type 0} (f : A → B) {t : Bool} (a : A) {b : A} (c : B) {d : B} → t ≡ false → d ≡ f b → pick t c d ≡ f (pick t a b)

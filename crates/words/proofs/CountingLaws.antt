@@ -7,8 +7,8 @@ use native.Mathlib.Nat.{add-zero, add-suc, add_assoc, le_of_suc-le-suc, eq-or-lt
 use native.Mathlib.Numerals.{add-one}
 use native.Mathlib.Decide.{dec_lt}
 use native.Mathlib.Omega.{arith}
-use Rattle.words.specs.Counting.{upto, anyBelow, all_below, one, countBelow, sumBelow, lowestBelow}
-use Rattle.words.proofs.ChoiceLaws.{pick-cases}
+use Rattle.words.specs.Counting.{upto, any_below, all_below, one, count_below, sum_below, lowest_below}
+use Rattle.words.proofs.ChoiceLaws.{pick_cases}
 use Rattle.words.proofs.TruthLaws.{and_left, and_right, and_both, or-either, or_left, or_right, clash, not-holds}
 
 -- ---- a loop with the invariant `x ≡ upto f z k`
@@ -30,80 +30,80 @@ upto_done f z n m p q e =
     e ∙ ap (upto f z) h
 
 -- the invariant at the end of any loop that counts to m
-pub at-end : {A : Type 0} (g : ℕ → A) (n m : ℕ) {x : A} → n ≤ m → m ≤ n → x ≡ g n → x ≡ g m
-at-end g n m p q e =
+pub at_end : {A : Type 0} (g : ℕ → A) (n m : ℕ) {x : A} → n ≤ m → m ≤ n → x ≡ g n → x ≡ g m
+at_end g n m p q e =
     let h : n ≡ m = omega arith in
     e ∙ ap g h
 
 -- ---- some number below n passes
 
-pub any-none-yet : (p : ℕ → Bool) → false ≡ anyBelow 0 p
-unfolding anyBelow
-any-none-yet p = refl
+pub any-none_yet : (p : ℕ → Bool) → false ≡ any_below 0 p
+unfolding any_below
+any-none_yet p = refl
 
 -- a turn of a loop that gathers: o so far, q of this one
-pub any-more : (p : ℕ → Bool) (n : ℕ) {o q : Bool} → o ≡ anyBelow n p → q ≡ p n → (o || q) ≡ anyBelow (n + 1) p
-unfolding anyBelow
-any-more p n e f = ap₂ (λ (a b : Bool). a || b) e f ∙ sym (ap (λ (k : ℕ). anyBelow k p) (add-one n))
+pub any-more : (p : ℕ → Bool) (n : ℕ) {o q : Bool} → o ≡ any_below n p → q ≡ p n → (o || q) ≡ any_below (n + 1) p
+unfolding any_below
+any-more p n e f = ap₂ (λ (a b : Bool). a || b) e f ∙ sym (ap (λ (k : ℕ). any_below k p) (add-one n))
 
 -- if some passes there is one
-pub any_some : (n : ℕ) (p : ℕ → Bool) → anyBelow n p ≡ true → (k : ℕ) × (k < n) × (p k ≡ true)
-unfolding anyBelow
+pub any_some : (n : ℕ) (p : ℕ → Bool) → any_below n p ≡ true → (k : ℕ) × (k < n) × (p k ≡ true)
+unfolding any_below
 any_some zero p e = absurd (false≢true e)
 any_some (suc n) p e =
     ⊎_elim
-    (λ (h : anyBelow n p ≡ true). let r = any_some n p h in (r.0, omega (arith, r.1), r.2))
+    (λ (h : any_below n p ≡ true). let r = any_some n p h in (r.0, omega (arith, r.1), r.2))
     (λ (h : p n ≡ true). (n, omega arith, h))
-    (or-either (anyBelow n p) (p n) e)
+    (or-either (any_below n p) (p n) e)
 
 -- if there is one some passes
-pub some-any : (n : ℕ) (p : ℕ → Bool) (k : ℕ) → k < n → p k ≡ true → anyBelow n p ≡ true
-unfolding anyBelow
-some-any zero p k l e = absurd (omega arith)
-some-any (suc n) p k l e =
+pub some_any : (n : ℕ) (p : ℕ → Bool) (k : ℕ) → k < n → p k ≡ true → any_below n p ≡ true
+unfolding any_below
+some_any zero p k l e = absurd (omega arith)
+some_any (suc n) p k l e =
     ⊎_elim
-    (λ (q : k ≡ n). or_right (anyBelow n p) (ap p (sym q) ∙ e))
-    (λ (q : k < n). or_left (p n) (some-any n p k q e))
+    (λ (q : k ≡ n). or_right (any_below n p) (ap p (sym q) ∙ e))
+    (λ (q : k < n). or_left (p n) (some_any n p k q e))
     (eq-or-lt_of_le (le_of_suc-le-suc l))
 
 -- if none passes, each fails
-pub any-fails : (n : ℕ) (p : ℕ → Bool) → anyBelow n p ≡ false → (k : ℕ) → k < n → p k ≡ false
-any-fails n p e k l = not-holds (p k) (λ h. clash (some-any n p k l h) e)
+pub any_fails : (n : ℕ) (p : ℕ → Bool) → any_below n p ≡ false → (k : ℕ) → k < n → p k ≡ false
+any_fails n p e k l = not-holds (p k) (λ h. clash (some_any n p k l h) e)
 
-pub any_none : (n : ℕ) (p : ℕ → Bool) → ((k : ℕ) → k < n → p k ≡ false) → anyBelow n p ≡ false
-any_none n p h = not-holds (anyBelow n p) (λ e. let r = any_some n p e in clash r.2 (h r.0 r.1))
+pub any_none : (n : ℕ) (p : ℕ → Bool) → ((k : ℕ) → k < n → p k ≡ false) → any_below n p ≡ false
+any_none n p h = not-holds (any_below n p) (λ e. let r = any_some n p e in clash r.2 (h r.0 r.1))
 
 -- tests that agree below n
-pub any_same : (n : ℕ) (p q : ℕ → Bool) → ((k : ℕ) → k < n → p k ≡ q k) → anyBelow n p ≡ anyBelow n q
-unfolding anyBelow
+pub any_same : (n : ℕ) (p q : ℕ → Bool) → ((k : ℕ) → k < n → p k ≡ q k) → any_below n p ≡ any_below n q
+unfolding any_below
 any_same zero p q h = refl
 any_same (suc n) p q h = rw (any_same n p q (λ k l. h k (omega arith)), h n (omega arith))
 
 -- the numbers below n + m: those below n, then m more
-pub any-add : (n m : ℕ) (p : ℕ → Bool) → anyBelow (n + m) p ≡ (anyBelow n p || anyBelow m (λ k. p (n + k)))
-unfolding anyBelow
-any-add n zero p = ap (λ (k : ℕ). anyBelow k p) (add-zero n) ∙ sym (or-false (anyBelow n p))
+pub any-add : (n m : ℕ) (p : ℕ → Bool) → any_below (n + m) p ≡ (any_below n p || any_below m (λ k. p (n + k)))
+unfolding any_below
+any-add n zero p = ap (λ (k : ℕ). any_below k p) (add-zero n) ∙ sym (or-false (any_below n p))
 any-add n (suc m) p =
-    ap (λ (k : ℕ). anyBelow k p) (add-suc n m) ∙ ap (λ (b : Bool). b || p (n + m)) (any-add n m p)
-    ∙ or_assoc (anyBelow n p) (anyBelow m (λ k. p (n + k))) (p (n + m))
+    ap (λ (k : ℕ). any_below k p) (add-suc n m) ∙ ap (λ (b : Bool). b || p (n + m)) (any-add n m p)
+    ∙ or_assoc (any_below n p) (any_below m (λ k. p (n + k))) (p (n + m))
 
 -- ---- every number below n passes
 
-pub all-none-yet : (p : ℕ → Bool) → true ≡ all_below 0 p
+pub all-none_yet : (p : ℕ → Bool) → true ≡ all_below 0 p
 unfolding all_below
-all-none-yet p = refl
+all-none_yet p = refl
 
 pub all_more : (p : ℕ → Bool) (n : ℕ) {o q : Bool} → o ≡ all_below n p → q ≡ p n → (o && q) ≡ all_below (n + 1) p
 unfolding all_below
 all_more p n e f = ap₂ (λ (a b : Bool). a && b) e f ∙ sym (ap (λ (k : ℕ). all_below k p) (add-one n))
 
-pub all-at : (n : ℕ) (p : ℕ → Bool) → all_below n p ≡ true → (k : ℕ) → k < n → p k ≡ true
+pub all_at : (n : ℕ) (p : ℕ → Bool) → all_below n p ≡ true → (k : ℕ) → k < n → p k ≡ true
 unfolding all_below
-all-at zero p e k l = absurd (omega arith)
-all-at (suc n) p e k l =
+all_at zero p e k l = absurd (omega arith)
+all_at (suc n) p e k l =
     ⊎_elim
     (λ (q : k ≡ n). ap p q ∙ and_right (all_below n p) (p n) e)
-    (λ (q : k < n). all-at n p (and_left (all_below n p) (p n) e) k q)
+    (λ (q : k < n). all_at n p (and_left (all_below n p) (p n) e) k q)
     (eq-or-lt_of_le (le_of_suc-le-suc l))
 
 pub at_all : (n : ℕ) (p : ℕ → Bool) → ((k : ℕ) → k < n → p k ≡ true) → all_below n p ≡ true
@@ -111,8 +111,8 @@ unfolding all_below
 at_all zero p h = refl
 at_all (suc n) p h = and_both (at_all n p (λ k l. h k (omega arith))) (h n (omega arith))
 
-pub all-fails : (n : ℕ) (p : ℕ → Bool) (k : ℕ) → k < n → p k ≡ false → all_below n p ≡ false
-all-fails n p k l e = not-holds (all_below n p) (λ h. clash (all-at n p h k l) e)
+pub all_fails : (n : ℕ) (p : ℕ → Bool) (k : ℕ) → k < n → p k ≡ false → all_below n p ≡ false
+all_fails n p k l e = not-holds (all_below n p) (λ h. clash (all_at n p h k l) e)
 
 pub all_same : (n : ℕ) (p q : ℕ → Bool) → ((k : ℕ) → k < n → p k ≡ q k) → all_below n p ≡ all_below n q
 unfolding all_below
@@ -127,63 +127,63 @@ all-add n (suc m) p =
     ∙ and_assoc (all_below n p) (all_below m (λ k. p (n + k))) (p (n + m))
 
 -- two `and`s of two parts, their inner parts changed over
-and-swap : (a b c d : Bool) → ((a && b) && (c && d)) ≡ ((a && c) && (b && d))
-and-swap true true c d = refl
-and-swap true false c d = sym (and-false c)
-and-swap false b c d = refl
+and_swap : (a b c d : Bool) → ((a && b) && (c && d)) ≡ ((a && c) && (b && d))
+and_swap true true c d = refl
+and_swap true false c d = sym (and-false c)
+and_swap false b c d = refl
 
 -- each number passes both tests exactly if each passes the one and each the other
 pub all-and : (n : ℕ) (p q : ℕ → Bool) → all_below n (λ k. p k && q k) ≡ (all_below n p && all_below n q)
 unfolding all_below
 all-and zero p q = refl
-all-and (suc n) p q = ap (λ (b : Bool). b && (p n && q n)) (all-and n p q) ∙ and-swap (all_below n p) (all_below n q) (p n) (q n)
+all-and (suc n) p q = ap (λ (b : Bool). b && (p n && q n)) (all-and n p q) ∙ and_swap (all_below n p) (all_below n q) (p n) (q n)
 
 -- ---- how many numbers below n pass
 
-pub one-le : (b : Bool) → one b ≤ 1
-one-le true = omega arith
-one-le false = omega arith
+pub one_le : (b : Bool) → one b ≤ 1
+one_le true = omega arith
+one_le false = omega arith
 
-pub count-none-yet : (p : ℕ → Bool) → ◌≡◌ {A = ℕ} 0 (countBelow 0 p)
-unfolding countBelow
-count-none-yet p = refl
+pub count-none_yet : (p : ℕ → Bool) → ◌≡◌ {A = ℕ} 0 (count_below 0 p)
+unfolding count_below
+count-none_yet p = refl
 
-pub count_same : (n : ℕ) (p q : ℕ → Bool) → ((k : ℕ) → k < n → p k ≡ q k) → countBelow n p ≡ countBelow n q
-unfolding countBelow
+pub count_same : (n : ℕ) (p q : ℕ → Bool) → ((k : ℕ) → k < n → p k ≡ q k) → count_below n p ≡ count_below n q
+unfolding count_below
 count_same zero p q h = refl
 count_same (suc n) p q h = ap₂ (λ (a : ℕ) (b : Bool). a + one b) (count_same n p q (λ k l. h k (omega arith))) (h n (omega arith))
 
-pub count_add : (n m : ℕ) (p : ℕ → Bool) → countBelow (n + m) p ≡ countBelow n p + countBelow m (λ k. p (n + k))
-unfolding countBelow
-count_add n zero p = ap (λ (k : ℕ). countBelow k p) (add-zero n) ∙ sym (add-zero (countBelow n p))
+pub count_add : (n m : ℕ) (p : ℕ → Bool) → count_below (n + m) p ≡ count_below n p + count_below m (λ k. p (n + k))
+unfolding count_below
+count_add n zero p = ap (λ (k : ℕ). count_below k p) (add-zero n) ∙ sym (add-zero (count_below n p))
 count_add n (suc m) p =
-    ap (λ (k : ℕ). countBelow k p) (add-suc n m) ∙ ap (λ (k : ℕ). k + one (p (n + m))) (count_add n m p)
-    ∙ add_assoc (countBelow n p) (countBelow m (λ k. p (n + k))) (one (p (n + m)))
+    ap (λ (k : ℕ). count_below k p) (add-suc n m) ∙ ap (λ (k : ℕ). k + one (p (n + m))) (count_add n m p)
+    ∙ add_assoc (count_below n p) (count_below m (λ k. p (n + k))) (one (p (n + m)))
 
-pub count-le : (n : ℕ) (p : ℕ → Bool) → countBelow n p ≤ n
-unfolding countBelow
-count-le zero p = omega arith
-count-le (suc n) p = omega (arith, count-le n p, one-le (p n))
+pub count_le : (n : ℕ) (p : ℕ → Bool) → count_below n p ≤ n
+unfolding count_below
+count_le zero p = omega arith
+count_le (suc n) p = omega (arith, count_le n p, one_le (p n))
 
 -- ---- sums
 
-pub sum-le : (n : ℕ) (f g : ℕ → ℕ) → ((k : ℕ) → k < n → f k ≤ g k) → sumBelow n f ≤ sumBelow n g
-unfolding sumBelow
-sum-le zero f g h = omega arith
-sum-le (suc n) f g h = omega (arith, sum-le n f g (λ k l. h k (omega arith)), h n (omega arith))
+pub sum_le : (n : ℕ) (f g : ℕ → ℕ) → ((k : ℕ) → k < n → f k ≤ g k) → sum_below n f ≤ sum_below n g
+unfolding sum_below
+sum_le zero f g h = omega arith
+sum_le (suc n) f g h = omega (arith, sum_le n f g (λ k l. h k (omega arith)), h n (omega arith))
 
-pub sum-add : (n : ℕ) (f g : ℕ → ℕ) → sumBelow n (λ k. f k + g k) ≡ sumBelow n f + sumBelow n g
-unfolding sumBelow
+pub sum-add : (n : ℕ) (f g : ℕ → ℕ) → sum_below n (λ k. f k + g k) ≡ sum_below n f + sum_below n g
+unfolding sum_below
 sum-add zero f g = refl
 sum-add (suc n) f g = omega (arith, sum-add n f g)
 
 -- one of the terms is at most the sum
-pub sum-at : (n : ℕ) (f : ℕ → ℕ) (j : ℕ) → j < n → f j ≤ sumBelow n f
-unfolding sumBelow
-sum-at zero f j l = absurd (omega arith)
-sum-at (suc n) f j l = go (dec_lt j n) (sum-at n f j)
+pub sum_at : (n : ℕ) (f : ℕ → ℕ) (j : ℕ) → j < n → f j ≤ sum_below n f
+unfolding sum_below
+sum_at zero f j l = absurd (omega arith)
+sum_at (suc n) f j l = go (dec_lt j n) (sum_at n f j)
   where
-    go : Dec (j < n) → (j < n → f j ≤ sumBelow n f) → f j ≤ sumBelow n f + f n
+    go : Dec (j < n) → (j < n → f j ≤ sum_below n f) → f j ≤ sum_below n f + f n
     go (yes m) ih = omega (arith, ih m)
     go (no g) ih =
         let e : n ≡ j = omega arith in
@@ -197,25 +197,25 @@ pub record Lowest (p : ℕ → Bool) (n r : ℕ) : Type 0 where
   pub before : (k : ℕ) → k < r → p k ≡ false
   pub found : r < n → p r ≡ true
 
-pub lowest-found : (n : ℕ) (p : ℕ → Bool) → Lowest p n (lowestBelow n p)
-unfolding lowestBelow
-lowest-found zero p = record { within = omega arith; before = λ k l. absurd (omega arith); found = λ l. absurd (omega arith) }
-lowest-found (suc n) p =
-    pick-cases (Lowest p (suc n)) (anyBelow n p) (earlier n p (lowestBelow n p) (lowest-found n p))
-    (λ e. pick-cases (Lowest p (suc n)) (p n) (λ h. record { within = omega arith; before = any-fails n p e; found = λ l. h }) (λ h. nowhere n p e h))
+pub lowest_found : (n : ℕ) (p : ℕ → Bool) → Lowest p n (lowest_below n p)
+unfolding lowest_below
+lowest_found zero p = record { within = omega arith; before = λ k l. absurd (omega arith); found = λ l. absurd (omega arith) }
+lowest_found (suc n) p =
+    pick_cases (Lowest p (suc n)) (any_below n p) (earlier n p (lowest_below n p) (lowest_found n p))
+    (λ e. pick_cases (Lowest p (suc n)) (p n) (λ h. record { within = omega arith; before = any_fails n p e; found = λ l. h }) (λ h. nowhere n p e h))
   where
-    earlier : (n : ℕ) (p : ℕ → Bool) (r : ℕ) → Lowest p n r → anyBelow n p ≡ true → Lowest p (suc n) r
+    earlier : (n : ℕ) (p : ℕ → Bool) (r : ℕ) → Lowest p n r → any_below n p ≡ true → Lowest p (suc n) r
     earlier n p r low e =
         record { within = omega (arith, low.within); before = low.before; found = λ l. low.found (inside (any_some n p e)) }
       where
         inside : (k : ℕ) × (k < n) × (p k ≡ true) → r < n
         inside s = ⊎_elim (λ (q : r ≡ n). clash s.2 (low.before s.0 (omega (arith, s.1)))) (λ (q : r < n). q) (eq-or-lt_of_le low.within)
 
-    nowhere : (n : ℕ) (p : ℕ → Bool) → anyBelow n p ≡ false → p n ≡ false → Lowest p (suc n) (suc n)
+    nowhere : (n : ℕ) (p : ℕ → Bool) → any_below n p ≡ false → p n ≡ false → Lowest p (suc n) (suc n)
     nowhere n p e h =
         record {
           within = omega arith;
-          before = λ k l. ⊎_elim (λ (q : k ≡ n). ap p q ∙ h) (λ (q : k < n). any-fails n p e k q) (eq-or-lt_of_le (le_of_suc-le-suc l));
+          before = λ k l. ⊎_elim (λ (q : k ≡ n). ap p q ∙ h) (λ (q : k < n). any_fails n p e k q) (eq-or-lt_of_le (le_of_suc-le-suc l));
           found = λ l. absurd (omega arith);
         }
 
@@ -229,7 +229,7 @@ lowest-one p n a b x y = go (dec_lt a b) (dec_lt b a)
     go (no q) (no s) = omega arith
 
 -- tests that agree below n have one lowest number
-pub lowest-same : (n : ℕ) (p q : ℕ → Bool) → ((k : ℕ) → k < n → p k ≡ q k) → lowestBelow n p ≡ lowestBelow n q
-unfolding lowestBelow
+pub lowest-same : (n : ℕ) (p q : ℕ → Bool) → ((k : ℕ) → k < n → p k ≡ q k) → lowest_below n p ≡ lowest_below n q
+unfolding lowest_below
 lowest-same zero p q h = refl
 lowest-same (suc n) p q h = rw (any_same n p q (λ k l. h k (omega arith)), lowest-same n p q (λ k l. h k (omega arith)), h n (omega arith))

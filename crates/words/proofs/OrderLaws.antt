@@ -8,7 +8,7 @@ use native.Mathlib.Decide.{ℕ_discrete, dec_lt}
 use lib.Dec.{eqb, ltb}
 use borrow.Author.Tests.{eqb-true, eq-eqb, ltb-true, lt-ltb, not-true}
 use Rattle.words.specs.Counting.{all_below}
-use Rattle.words.proofs.CountingLaws.{all-at, at_all}
+use Rattle.words.proofs.CountingLaws.{all_at, at_all}
 use Rattle.words.proofs.TruthLaws.{and_left, and_right, and_both, or-either, or_left, or_right, clash, not-holds, told}
 
 -- ---- a comparison of two numbers, and of two others where those are the same
@@ -28,22 +28,22 @@ module _ (x y p q u v : ℕ) where
 abbrev pub Lower : ℕ → ℕ → ℕ → ℕ → Type 0
 Lower x y u v = (x < y) ⊎ ((x ≡ y) × (u < v))
 
-pub lower-never : (x u : ℕ) → Lower x x u u → ⊥
-lower-never x u (inl l) = omega arith
-lower-never x u (inr (e, l)) = omega arith
+pub lower_never : (x u : ℕ) → Lower x x u u → ⊥
+lower_never x u (inl l) = omega arith
+lower_never x u (inr (e, l)) = omega arith
 
-pub lower-through : {x y z u v w : ℕ} → Lower x y u v → Lower y z v w → Lower x z u w
-lower-through (inl l) (inl m) = inl (omega arith)
-lower-through (inl l) (inr (f, m)) = inl (omega arith)
-lower-through (inr (e, l)) (inl m) = inl (omega arith)
-lower-through (inr (e, l)) (inr (f, m)) = inr (e ∙ f, omega arith)
+pub lower_through : {x y z u v w : ℕ} → Lower x y u v → Lower y z v w → Lower x z u w
+lower_through (inl l) (inl m) = inl (omega arith)
+lower_through (inl l) (inr (f, m)) = inl (omega arith)
+lower_through (inr (e, l)) (inl m) = inl (omega arith)
+lower_through (inr (e, l)) (inr (f, m)) = inr (e ∙ f, omega arith)
 
 -- the same where the second two are compared the other way round
-pub lower-across : {x y z u v w : ℕ} → Lower x y v u → Lower y z w v → Lower x z w u
-lower-across (inl l) (inl m) = inl (omega arith)
-lower-across (inl l) (inr (f, m)) = inl (omega arith)
-lower-across (inr (e, l)) (inl m) = inl (omega arith)
-lower-across (inr (e, l)) (inr (f, m)) = inr (e ∙ f, omega arith)
+pub lower_across : {x y z u v w : ℕ} → Lower x y v u → Lower y z w v → Lower x z w u
+lower_across (inl l) (inl m) = inl (omega arith)
+lower_across (inl l) (inr (f, m)) = inl (omega arith)
+lower_across (inr (e, l)) (inl m) = inl (omega arith)
+lower_across (inr (e, l)) (inr (f, m)) = inr (e ∙ f, omega arith)
 
 pub lower-either : (x y u v : ℕ) → u ≢ v → Lower x y u v ⊎ Lower y x v u
 lower-either x y u v d = go (dec_lt x y) (dec_lt y x) (dec_lt u v)
@@ -63,10 +63,10 @@ pub record Ranks (rank : ℕ → ℕ) (r : ℕ → ℕ → Bool) : Type 0 where
 module _ {rank : ℕ → ℕ} {r : ℕ → ℕ → Bool} (o : Ranks rank r) where
   -- none is before itself
   pub never : (a : ℕ) → r a a ≡ false
-  never a = not-holds (r a a) (λ h. lower-never (rank a) a (o.is a a h))
+  never a = not-holds (r a a) (λ h. lower_never (rank a) a (o.is a a h))
 
   pub through : (a b c : ℕ) → r a b ≡ true → r b c ≡ true → r a c ≡ true
-  through a b c h g = o.so a c (lower-across (o.is b c g) (o.is a b h))
+  through a b c h g = o.so a c (lower_across (o.is b c g) (o.is a b h))
 
   -- of two different numbers one is before the other
   pub either : (a b : ℕ) → a ≢ b → (r a b ≡ true) ⊎ (r b a ≡ true)
@@ -93,7 +93,7 @@ module _ (n : ℕ) (fit : ℕ → Bool) (r : ℕ → ℕ → Bool) (k : ℕ) whe
       ⊎_elim (λ (e : not (fit j) ≡ true). clash c (not-true (fit j) e))
       (λ (e : (eqb j k || r k j) ≡ true).
       ⊎_elim (λ (q : eqb j k ≡ true). absurd (d (eqb-true j k q))) (λ (q : r k j ≡ true). q) (or-either (eqb j k) (r k j) e))
-      (or-either (not (fit j)) (eqb j k || r k j) (all-at n (λ j. not (fit j) || (eqb j k || r k j)) h j l))
+      (or-either (not (fit j)) (eqb j k || r k j) (all_at n (λ j. not (fit j) || (eqb j k || r k j)) h j l))
 
   pub is-others : Others → others ≡ true
   is-others f = at_all n (λ j. not (fit j) || (eqb j k || r k j)) (λ j l. go j l (told (fit j)) (ℕ_discrete j k))

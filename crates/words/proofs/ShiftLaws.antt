@@ -6,7 +6,7 @@ use native.Mathlib.Nat.{zero-div, div-eq_of_lt, lt_of_lt_of_le, lt_of_not-le}
 use native.Mathlib.Omega.{arith}
 use lib.Dec.{eqb}
 use lib.Pow.{pow_mono, shr-shr}
-use Rattle.words.specs.Counting.{anyBelow}
+use Rattle.words.specs.Counting.{any_below}
 use Rattle.words.specs.Word.{bit}
 use Rattle.words.proofs.CountingLaws.{any_none, any-add}
 
@@ -20,9 +20,9 @@ pub bit-left : (n w i : ℕ) → w < 2 ^ n → (w / 2 ^ i ≡ 0 → ⊥) → i <
 bit-left n w i f l = lt_of_not-le (λ g. l (div-eq_of_lt (lt_of_lt_of_le f (pow_mono g))))
 
 -- the bits below i, and none from i on
-pub any_gone : (n w i : ℕ) (q : ℕ → Bool) → w / 2 ^ i ≡ 0 → i ≤ n → anyBelow i (λ j. bit w j && q j) ≡ anyBelow n (λ j. bit w j && q j)
+pub any_gone : (n w i : ℕ) (q : ℕ → Bool) → w / 2 ^ i ≡ 0 → i ≤ n → any_below i (λ j. bit w j && q j) ≡ any_below n (λ j. bit w j && q j)
 any_gone n w i q e l =
-    sym (or-false (anyBelow i (λ j. bit w j && q j)))
-    ∙ ap (λ (b : Bool). anyBelow i (λ j. bit w j && q j) || b)
+    sym (or-false (any_below i (λ j. bit w j && q j)))
+    ∙ ap (λ (b : Bool). any_below i (λ j. bit w j && q j) || b)
     (sym (any_none (n - i) (λ j. bit w (i + j) && q (i + j)) (λ j _. ap (λ (b : Bool). b && q (i + j)) (bit-gone w i j e))))
-    ∙ sym (any-add i (n - i) (λ j. bit w j && q j)) ∙ ap (λ (k : ℕ). anyBelow k (λ j. bit w j && q j)) (omega arith)
+    ∙ sym (any-add i (n - i) (λ j. bit w j && q j)) ∙ ap (λ (k : ℕ). any_below k (λ j. bit w j && q j)) (omega arith)

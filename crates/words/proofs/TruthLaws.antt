@@ -27,9 +27,9 @@ or-either true b e = inl refl
 or-either false b e = inr e
 
 -- an `or` that fails fails on both sides
-pub or-neither : (a b : Bool) → (a || b) ≡ false → (a ≡ false) × (b ≡ false)
-or-neither true b e = absurd (true≢false e)
-or-neither false b e = (refl, e)
+pub or_neither : (a b : Bool) → (a || b) ≡ false → (a ≡ false) × (b ≡ false)
+or_neither true b e = absurd (true≢false e)
+or_neither false b e = (refl, e)
 
 pub or_left : {a : Bool} (b : Bool) → a ≡ true → (a || b) ≡ true
 or_left b p = ap (λ (t : Bool). t || b) p
@@ -48,9 +48,9 @@ not-holds true h = absurd (h refl)
 not-holds false h = refl
 
 -- a test that does not fail holds
-pub not-fails : (t : Bool) → (t ≡ false → ⊥) → t ≡ true
-not-fails true h = refl
-not-fails false h = absurd (h refl)
+pub not_fails : (t : Bool) → (t ≡ false → ⊥) → t ≡ true
+not_fails true h = refl
+not_fails false h = absurd (h refl)
 
 -- two tests that hold together are one
 pub same_test : (a b : Bool) → (a ≡ true → b ≡ true) → (b ≡ true → a ≡ true) → a ≡ b
@@ -59,8 +59,8 @@ same_test false true f g = g refl
 same_test false false f g = refl
 
 -- equations that hold together are tested alike
-pub eqb-iff : (a b c d : ℕ) → (a ≡ b → c ≡ d) → (c ≡ d → a ≡ b) → eqb a b ≡ eqb c d
-eqb-iff a b c d f g = go (ℕ_discrete a b)
+pub eqb_iff : (a b c d : ℕ) → (a ≡ b → c ≡ d) → (c ≡ d → a ≡ b) → eqb a b ≡ eqb c d
+eqb_iff a b c d f g = go (ℕ_discrete a b)
   where
     go : Dec (a ≡ b) → eqb a b ≡ eqb c d
     go (yes p) = eq-eqb a b p ∙ sym (eq-eqb c d (f p))

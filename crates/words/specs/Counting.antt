@@ -8,9 +8,9 @@ upto f z zero = z
 upto f z (suc n) = f (upto f z n) n
 
 -- some number below n passes
-unfoldable pub anyBelow : ℕ → (ℕ → Bool) → Bool
-anyBelow zero p = false
-anyBelow (suc n) p = anyBelow n p || p n
+unfoldable pub any_below : ℕ → (ℕ → Bool) → Bool
+any_below zero p = false
+any_below (suc n) p = any_below n p || p n
 
 -- every number below n passes
 unfoldable pub all_below : ℕ → (ℕ → Bool) → Bool
@@ -23,16 +23,16 @@ one true = 1
 one false = 0
 
 -- how many numbers below n pass
-unfoldable pub countBelow : ℕ → (ℕ → Bool) → ℕ
-countBelow zero p = 0
-countBelow (suc n) p = countBelow n p + one (p n)
+unfoldable pub count_below : ℕ → (ℕ → Bool) → ℕ
+count_below zero p = 0
+count_below (suc n) p = count_below n p + one (p n)
 
 -- f 0 + f 1 + .. + f (n - 1)
-unfoldable pub sumBelow : ℕ → (ℕ → ℕ) → ℕ
-sumBelow zero f = 0
-sumBelow (suc n) f = sumBelow n f + f n
+unfoldable pub sum_below : ℕ → (ℕ → ℕ) → ℕ
+sum_below zero f = 0
+sum_below (suc n) f = sum_below n f + f n
 
 -- the lowest number below n that passes, n where none does
-unfoldable pub lowestBelow : ℕ → (ℕ → Bool) → ℕ
-lowestBelow zero p = 0
-lowestBelow (suc n) p = pick (anyBelow n p) (lowestBelow n p) (pick (p n) n (suc n))
+unfoldable pub lowest_below : ℕ → (ℕ → Bool) → ℕ
+lowest_below zero p = 0
+lowest_below (suc n) p = pick (any_below n p) (lowest_below n p) (pick (p n) n (suc n))

@@ -25,8 +25,8 @@ unfoldable pub without : ℕ → ℕ → ℕ
 without a b = word_of 32 (λ k. bit a k && not (bit b k))
 
 -- the word w with bit k as the test says; past the width nothing changes
-unfoldable pub withBit : ℕ → ℕ → Bool → ℕ
-withBit w k t = word_of 32 (λ j. pick (eqb j k) t (bit w j))
+unfoldable pub with_bit : ℕ → ℕ → Bool → ℕ
+with_bit w k t = word_of 32 (λ j. pick (eqb j k) t (bit w j))
 
 -- the word w with its bits from n on dropped
 unfoldable pub kept : ℕ → ℕ → ℕ

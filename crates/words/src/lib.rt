@@ -1,8 +1,8 @@
 // A word of sources: one bit for each of 32 sources. What these functions answer is defined bit by bit in specs/Word.antt.
 // The last two are for any crate: a test as a number, and the larger of two numbers.
 ghost use Rattle.std.specs.Prelude.{max, ◌≡◌};
-ghost use Rattle.words.specs.Counting.{one, countBelow, lowestBelow};
-ghost use Rattle.words.specs.Word.{bit, either, both, without, withBit, kept, clean};
+ghost use Rattle.words.specs.Counting.{one, count_below, lowest_below};
+ghost use Rattle.words.specs.Word.{bit, either, both, without, with_bit, kept, clean};
 
 // Whether bit k of w is set. No bit past the width is.
 pub fn has(w: u32, k: u32) -> bool
@@ -37,7 +37,7 @@ pub fn drop_bits(a: u32, b: u32) -> u32
 
 // The word w with bit k as t says. Past the width nothing changes.
 pub fn with_bit(w: u32, k: u32, t: bool) -> u32
-    ensures { result ≡ withBit w k t }
+    ensures { result ≡ with_bit w k t }
 {
     if 32 <= k {
         return w;
@@ -67,14 +67,14 @@ pub fn is_clean(n: u32, w: u32) -> bool
 
 // How many bits of w are set.
 pub fn count(w: u32) -> u32
-    ensures { result ≡ countBelow 32 (bit w) }
+    ensures { result ≡ count_below 32 (bit w) }
 {
     u32::count_ones(w)
 }
 
 // The lowest bit of w that is set, 32 where none is.
 pub fn lowest(w: u32) -> u32
-    ensures { result ≡ lowestBelow 32 (bit w) }
+    ensures { result ≡ lowest_below 32 (bit w) }
 {
     u32::trailing_zeros(w)
 }

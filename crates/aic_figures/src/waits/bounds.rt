@@ -6,10 +6,10 @@ ghost use Rattle.aic_record.specs.Mode.{priority};
 ghost use Rattle.aic_record.specs.Sound.{sound};
 ghost use Rattle.aic_room.specs.Room.{Laid};
 ghost use Rattle.aic_runs.specs.Counted.{carries};
-ghost use Rattle.aic_runs.specs.Promises.{rivalOf};
+ghost use Rattle.aic_runs.specs.Promises.{rival_of};
 ghost use Rattle.aic_runs.specs.Turns.{held};
 ghost use Rattle.aic_bounds.specs.Bounds.{fresh};
-ghost use Rattle.aic_bounds.specs.Following.{dues, plus, grownBy, boundBy};
+ghost use Rattle.aic_bounds.specs.Following.{dues, plus, grown_by, bound_by};
 
 use aic_bounds::{Bound, Marks};
 use aic_room::layout::{CLASS, DEPTH, EDGES, ENABLED, FORCED, LEVEL, MODE, SOURCE};
@@ -41,7 +41,7 @@ fn above(room: &Room, p: u32) -> u32
 // The sources ahead of source k that are not fast.
 fn rivals(room: &Room, k: u32) -> u32
     requires { k < 32 }
-    ensures { (t : Aic) → Laid t room.now → result ≡ word_of 32 (rivalOf t k) }
+    ensures { (t : Aic) → Laid t room.now → result ≡ word_of 32 (rival_of t k) }
 {
     let p = room[MODE + k as usize] % 8;
     let before = words::keep(k, room[CLASS + p as usize]);
@@ -92,7 +92,7 @@ fn with_due(room: &Room, n: u32, some: u32) -> u32
 // The bound of source k after the n-th step, which brought m: how it stands after it is w.
 pub(crate) fn bound_after(room: &Room, k: u32, w: u32, n: u32, b: Bound, m: Marks) -> Bound
     requires { k < 32 }
-    ensures { (t : Aic) → sound t ≡ true → Laid t room.now → result ≡ boundBy k w n b m t }
+    ensures { (t : Aic) → sound t ≡ true → Laid t room.now → result ≡ bound_by k w n b m t }
 {
     if w < 2 {
         return aic_bounds::idle(w);
@@ -128,7 +128,7 @@ fn fresh(room: &Room, k: u32) -> Bound
 
 // A wait that goes on.
 fn grown(room: &Room, w: u32, b: Bound, n: u32, m: Marks) -> Bound
-    ensures { (t : Aic) → sound t ≡ true → Laid t room.now → result ≡ grownBy w b n m t }
+    ensures { (t : Aic) → sound t ≡ true → Laid t room.now → result ≡ grown_by w b n m t }
 {
     let enabled = words::meet(b.rivals, room[ENABLED]);
     let on = words::join(b.on, enabled);

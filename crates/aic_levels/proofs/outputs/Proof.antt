@@ -2,7 +2,7 @@
 use mathlib.Core.Path.{sym, ◌∙◌}
 use Rattle.words.proofs.ChoiceLaws.{by-false}
 use Rattle.words.proofs.TruthLaws.{and_parts}
-use Rattle.aic_levels.specs.Model.{outputsWith}
+use Rattle.aic_levels.specs.Model.{outputs_with}
 use borrow.Author.Rules.{rules}
 use Rattle.aic_levels.proofs.outputs.Statement.{statement}
 use Rattle.aic_levels.proofs.outputs.Tie as tie
@@ -11,7 +11,7 @@ outputs-agreed-requires : tie.Need-outputs-agreed-requires
 outputs-agreed-requires c κs = sym (and_parts c.before.before.is-sound.ensures c.before.agrees.ensures) ∙ c.if1.true
 
 returns-2 : tie.Need-returns-2
-unfolding outputsWith
+unfolding outputs_with
 returns-2 c = by-false _ (and_parts c.before.before.is-sound.ensures c.before.agrees.ensures) c.if1.false
 
 pub outputs-spec : {M : Type 1} → statement M

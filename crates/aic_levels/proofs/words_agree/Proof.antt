@@ -7,7 +7,7 @@ use lib.Dec.{eqb}
 use lib.ListN.{get_or}
 use Rattle.words.specs.Counting.{all_below}
 use Rattle.words.specs.Word.{bit, word_of}
-use Rattle.words.proofs.CountingLaws.{at-end, all-none-yet, all_more}
+use Rattle.words.proofs.CountingLaws.{at_end, all-none_yet, all_more}
 use Rattle.aic_sources.specs.Search.{rank}
 use borrow.Author.Rules.{rules}
 use Rattle.aic_levels.proofs.words_agree.Statement.{statement}
@@ -21,7 +21,7 @@ abbrev decreases-loop : tie.decreases-loop
 decreases-loop waits mode levels same₀ p₀ same p = 8 - p
 
 loop-holds : tie.Need-loop-init invariant-loop decreases-loop
-loop-holds c = (omega arith, all-none-yet _)
+loop-holds c = (omega arith, all-none_yet _)
 
 loop-again : tie.Need-loop-preserved invariant-loop decreases-loop
 loop-again c =
@@ -36,7 +36,7 @@ loop-again c =
 returns : tie.Need-returns invariant-loop decreases-loop
 returns c =
     let a = c.before.before.args in
-    at-end (λ n. all_below n (λ q. eqb (get_or a.levels.now q 0) (word_of 32 (λ k. bit a.waits k && eqb (rank a.mode.now k) q)))) _ 8 c.before.loop.invariant.0 c.loop-test.false c.before.loop.invariant.1
+    at_end (λ n. all_below n (λ q. eqb (get_or a.levels.now q 0) (word_of 32 (λ k. bit a.waits k && eqb (rank a.mode.now k) q)))) _ 8 c.before.loop.invariant.0 c.loop-test.false c.before.loop.invariant.1
 
 pub words-agree-spec : {M : Type 1} → statement M
 words-agree-spec =

@@ -4,17 +4,17 @@ use mathlib.Core.Path.{ap, ◌∙◌}
 use lib.Dec.{leb}
 use borrow.Author.Tests.{eq-eqb, ne_eqb}
 use Rattle.words.proofs.ChoiceLaws.{pick_true, pick-false}
-use Rattle.aic_record.specs.Sound.{entryFits}
+use Rattle.aic_record.specs.Sound.{entry_fits}
 use borrow.Author.Rules.{rules}
 use Rattle.aic_record.proofs.entry_fits.Statement.{statement}
 use Rattle.aic_record.proofs.entry_fits.Tie as tie
 
 returns : tie.Need-returns
-unfolding entryFits
+unfolding entry_fits
 returns c = pick_true _ (eq-eqb _ _ c.if1.true)
 
 returns-2 : tie.Need-returns-2
-unfolding entryFits
+unfolding entry_fits
 returns-2 c =
     let a = c.before.before.args in
     ap (λ (b : Bool). leb a.source 31 && leb a.level 7 && b) c.is-over.ensures ∙ pick-false _ (ne_eqb _ _ c.before.if1.false)

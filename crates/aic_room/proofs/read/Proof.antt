@@ -1,5 +1,5 @@
 -- That `read` of src/lib.rt keeps its contract.
-use Rattle.aic_room.proofs.ReplyLaws.{few, ivr-done, read_done, read-stopped}
+use Rattle.aic_room.proofs.ReplyLaws.{few, ivr-done, read_done, read_stopped}
 use borrow.Author.Rules.{rules}
 use Rattle.aic_room.proofs.read.Statement.{statement}
 use Rattle.aic_room.proofs.read.Tie as tie
@@ -15,7 +15,7 @@ returns-2 c =
 returns-3 : tie.Need-returns-3
 returns-3 c =
     let x = c.before.before in
-    λ a ok h. read-stopped a _ _ _ ok x.before.Access-of.ensures _ x.read-refusal.ensures c.before.if2.false h c.refuse.ensures
+    λ a ok h. read_stopped a _ _ _ ok x.before.Access-of.ensures _ x.read-refusal.ensures c.before.if2.false h c.refuse.ensures
 
 pub read_spec : {M : Type 1} → statement M
 read_spec =

@@ -3,7 +3,7 @@ use mathlib.Core.Path.{◌∙◌}
 use borrow.Author.Tests.{ne_eqb}
 use Rattle.words.specs.Choice.{pick}
 use Rattle.words.proofs.ChoiceLaws.{pick-false}
-use Rattle.aic_registers.specs.Registers.{readAt}
+use Rattle.aic_registers.specs.Registers.{read_at}
 use Rattle.aic_room.proofs.HandlerLaws.{gives_as}
 use Rattle.aic_room.proofs.ReplyLaws.{gives_at}
 use borrow.Author.Rules.{rules}
@@ -11,15 +11,15 @@ use Rattle.aic_room.proofs.read_at.Statement.{statement}
 use Rattle.aic_room.proofs.read_at.Tie as tie
 
 returns : tie.Need-returns
-unfolding readAt pick
-returns c = λ a h l. gives_at (readAt a) c.before.before.match.keys1 (c.read-ivr.ensures a h)
+unfolding read_at pick
+returns c = λ a h l. gives_at (read_at a) c.before.before.match.keys1 (c.read-ivr.ensures a h)
 
 returns-2 : tie.Need-returns-2
-unfolding readAt pick
-returns-2 c = λ a h l. gives_at (readAt a) c.before.before.match.keys2 (c.read-fvr.ensures a h)
+unfolding read_at pick
+returns-2 c = λ a h l. gives_at (read_at a) c.before.before.match.keys2 (c.read-fvr.ensures a h)
 
 returns-3 : tie.Need-returns-3
-unfolding readAt
+unfolding read_at
 returns-3 c =
     let x = c.before.before in
     λ a h l. gives_as (pick-false _ (ne_eqb _ _ x.match.rest.1) ∙ pick-false _ (ne_eqb _ _ x.match.rest.0.1)) (h, c.read-stored.ensures a h l)

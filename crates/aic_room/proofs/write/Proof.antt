@@ -1,5 +1,5 @@
 -- That `write` of src/lib.rt keeps its contract.
-use Rattle.aic_room.proofs.ReplyLaws.{few, eoicr-done, write_done, write-stopped}
+use Rattle.aic_room.proofs.ReplyLaws.{few, eoicr-done, write_done, write_stopped}
 use borrow.Author.Rules.{rules}
 use Rattle.aic_room.proofs.write.Statement.{statement}
 use Rattle.aic_room.proofs.write.Tie as tie
@@ -15,7 +15,7 @@ returns-2 c =
 returns-3 : tie.Need-returns-3
 returns-3 c =
     let x = c.before.before in
-    λ a ok h. write-stopped a _ _ _ ok x.before.Access-of.ensures _ _ x.write-refusal.ensures c.before.if2.false h c.refuse.ensures
+    λ a ok h. write_stopped a _ _ _ ok x.before.Access-of.ensures _ _ x.write-refusal.ensures c.before.if2.false h c.refuse.ensures
 
 pub write_spec : {M : Type 1} → statement M
 write_spec =

@@ -4,9 +4,9 @@ use Prim.Native.Nat.{◌-◌, ◌≤◌}
 use native.Mathlib.Omega.{arith}
 use lib.ListN.{get_or}
 use Rattle.words.specs.Word.{bit, word_of}
-use Rattle.words.proofs.CountingLaws.{at-end}
-use Rattle.words.proofs.WordLaws.{wordOf-none-yet, wordOf-more}
-use Rattle.aic_sources.specs.Search.{modeWord}
+use Rattle.words.proofs.CountingLaws.{at_end}
+use Rattle.words.proofs.WordLaws.{word_of-none_yet, word_of-more}
+use Rattle.aic_sources.specs.Search.{mode_word}
 use borrow.Author.Rules.{rules}
 use Rattle.aic_sources.proofs.mode_word.Statement.{statement}
 use Rattle.aic_sources.proofs.mode_word.Tie as tie
@@ -18,19 +18,19 @@ abbrev decreases-loop : tie.decreases-loop
 decreases-loop mode j w₀ k₀ w k = 32 - k
 
 loop-holds : tie.Need-loop-init invariant-loop decreases-loop
-loop-holds c = (omega arith, wordOf-none-yet _)
+loop-holds c = (omega arith, word_of-none_yet _)
 
 loop-again : tie.Need-loop-preserved invariant-loop decreases-loop
 loop-again c =
     let a = c.before.before.before.before.before.args in
     let l = c.before.before.before.before.loop in
-    (omega arith, c.with-bit.ensures ∙ wordOf-more (λ i. bit (get_or a.mode.now i 0) a.j) l.k c.before.before.before.loop-test.true l.invariant.1 c.before.mode-bit.ensures)
+    (omega arith, c.with-bit.ensures ∙ word_of-more (λ i. bit (get_or a.mode.now i 0) a.j) l.k c.before.before.before.loop-test.true l.invariant.1 c.before.mode-bit.ensures)
 
 returns : tie.Need-returns invariant-loop decreases-loop
-unfolding modeWord
+unfolding mode_word
 returns c =
     let a = c.before.before.args in
-    at-end (λ n. word_of n (λ i. bit (get_or a.mode.now i 0) a.j)) _ 32 c.before.loop.invariant.0 c.loop-test.false c.before.loop.invariant.1
+    at_end (λ n. word_of n (λ i. bit (get_or a.mode.now i 0) a.j)) _ 32 c.before.loop.invariant.0 c.loop-test.false c.before.loop.invariant.1
 
 pub mode-word-spec : {M : Type 1} → statement M
 mode-word-spec =

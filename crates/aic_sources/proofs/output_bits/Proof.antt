@@ -1,7 +1,7 @@
 -- That `output_bits` of src/lib.rt keeps its contract.
 use mathlib.Core.Bool.{not, ◌&&◌}
 use lib.Dec.{ltb}
-use Rattle.words.proofs.CountingLaws.{one-le}
+use Rattle.words.proofs.CountingLaws.{one_le}
 use Rattle.aic_sources.proofs.SideLaws.{irq-from, fiq-from, bits-from}
 use native.Mathlib.Omega.{arith}
 use borrow.Author.Rules.{rules}
@@ -9,16 +9,16 @@ use Rattle.aic_sources.proofs.output_bits.Statement.{statement}
 use Rattle.aic_sources.proofs.output_bits.Tie as tie
 
 mul-result : tie.Need-overflow-mul-result
-mul-result c = omega (arith, c.one-if2.ensures, one-le (not c.before.before.before.before.has.result && ltb c.before.chosen-among.result 32))
+mul-result c = omega (arith, c.one-if2.ensures, one_le (not c.before.before.before.before.has.result && ltb c.before.chosen-among.result 32))
 
 add-result : tie.Need-overflow-add-result
 add-result c =
     omega (
       arith,
       c.one-if2.ensures,
-      one-le (not c.before.before.before.before.has.result && ltb c.before.chosen-among.result 32),
+      one_le (not c.before.before.before.before.has.result && ltb c.before.chosen-among.result 32),
       c.before.before.one-if.ensures,
-      one-le (not c.before.before.before.before.has.result && c.before.before.before.fast-among.result),
+      one_le (not c.before.before.before.before.has.result && c.before.before.before.fast-among.result),
     )
 
 returns : tie.Need-returns

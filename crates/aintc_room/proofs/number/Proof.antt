@@ -1,7 +1,7 @@
 -- That `number` of src/lib.rt keeps its contract.
 use mathlib.Core.Path.{◌≡◌, refl, sym, ap, ap₂, ◌∙◌}
 use mathlib.Core.Bool.{Bool, true}
-use Rattle.aintc_registers.specs.Model.{barred, accessNumber}
+use Rattle.aintc_registers.specs.Model.{barred, access_number}
 use Rattle.aintc_room.proofs.CellLaws.{guarded-is}
 use Rattle.aintc_room.proofs.RecordLaws.{flag}
 use Rattle.aintc_room.proofs.ReplyLaws.{number-privileged}
@@ -15,7 +15,7 @@ returns c = λ a h. number-privileged a.guarded _ _ _ c.if1.true
 returns-2 : tie.Need-returns-2
 returns-2 c =
     let x = c.before.before.before.before.args in
-    λ a h. c.access-number.ensures ∙ ap (λ (t : Bool). accessNumber true x.privilege t x.rest) (c.before.is-barred.ensures ∙ ap (λ (g : Bool). barred g x.privilege x.offset) (flag _ _ (guarded-is h)))
+    λ a h. c.access-number.ensures ∙ ap (λ (t : Bool). access_number true x.privilege t x.rest) (c.before.is-barred.ensures ∙ ap (λ (g : Bool). barred g x.privilege x.offset) (flag _ _ (guarded-is h)))
 
 pub number-spec : {M : Type 1} → statement M
 number-spec =

@@ -4,20 +4,20 @@ use mathlib.Core.Path.{refl, ◌≡◌, sym, ◌∙◌}
 use native.Mathlib.Omega.{arith}
 use borrow.Author.Tests.{not-true, not-false}
 use Rattle.kinds.specs.Kinds.{wanted}
-use Rattle.beginning.specs.Begin.{setupFrom, setupOf}
+use Rattle.beginning.specs.Begin.{setup_from, setup_of}
 use Rattle.beginning.proofs.BeginLaws.{setup-done, setup-damaged, setup-beyond, setup-taken}
 use borrow.Author.Rules.{rules}
 use Rattle.beginning.proofs.set_up.Statement.{statement}
 use Rattle.beginning.proofs.set_up.Tie as tie
 
 abbrev invariant-loop : tie.invariant-loop
-invariant-loop trace kind start c₀ at₀ k₀ left₀ c at k left = (setupFrom kind left k trace c at ≡ setupOf kind trace start) × (k + left ≡ wanted kind)
+invariant-loop trace kind start c₀ at₀ k₀ left₀ c at k left = (setup_from kind left k trace c at ≡ setup_of kind trace start) × (k + left ≡ wanted kind)
 
 abbrev decreases-loop : tie.decreases-loop
 decreases-loop trace kind start c₀ at₀ k₀ left₀ c at k left = left
 
 loop-holds : tie.Need-loop-init invariant-loop decreases-loop
-unfolding setupOf
+unfolding setup_of
 loop-holds c = rw (c.before.no-numbers.ensures, c.wanted.ensures) (refl, omega arith)
 
 returns : tie.Need-returns invariant-loop decreases-loop

@@ -2,7 +2,7 @@
 use lib.Dec.{ltb}
 use Rattle.coreinterrupt.specs.declared.Begun.{Begun}
 use Rattle.board_wires.specs.declared.Board.{Board}
-use Rattle.board.specs.Record.{withController, answered}
+use Rattle.board.specs.Record.{with_controller, answered}
 use Rattle.board.specs.Model.{checked, add}
 use Rattle.board.proofs.AnswerLaws.{taken, left, none-given}
 use mathlib.Core.Path.{sym, ap, ◌∙◌}
@@ -21,7 +21,7 @@ returns c =
     let s = c.before.before.before.before.before.start.ensures in
     taken b (c.before.before.before.checked.ensures ∙ ap (λ (x : Begun). checked b (ltb b.controllers 8) x.refusal) s)
     c.before.before.if1.true
-    (c.answer-of.ensures ∙ ap (λ (d : Board). answered d b.controllers) (c.before.with-controller.ensures ∙ ap (λ (x : Begun). withController b x.core) s))
+    (c.answer-of.ensures ∙ ap (λ (d : Board). answered d b.controllers) (c.before.with-controller.ensures ∙ ap (λ (x : Begun). with_controller b x.core) s))
 
 returns-2 : tie.Need-returns-2
 unfolding add

@@ -1,25 +1,25 @@
 -- That `is_named` of src/lib.rt keeps its contract.
-use Rattle.board.specs.Model.{isNamed}
+use Rattle.board.specs.Model.{is_named}
 use mathlib.Core.Path.{sym, ap, ◌∙◌}
 use borrow.Author.Rules.{rules}
 use Rattle.board.proofs.is_named.Statement.{statement}
 use Rattle.board.proofs.is_named.Tie as tie
 
 returns : tie.Need-returns
-unfolding isNamed
-returns c = sym (ap (isNamed c.before.before.args.b) c.enum_told.given.1)
+unfolding is_named
+returns c = sym (ap (is_named c.before.before.args.b) c.enum_told.given.1)
 
 returns-2 : tie.Need-returns-2
-unfolding isNamed
-returns-2 c = sym (ap (isNamed c.before.before.before.args.b) c.before.w.given.1)
+unfolding is_named
+returns-2 c = sym (ap (is_named c.before.before.before.args.b) c.before.w.given.1)
 
 returns-3 : tie.Need-returns-3
-unfolding isNamed
-returns-3 c = c.is-there.ensures ∙ sym (ap (isNamed c.before.before.before.before.args.b) c.before.before.w2.given.1)
+unfolding is_named
+returns-3 c = c.is-there.ensures ∙ sym (ap (is_named c.before.before.before.before.args.b) c.before.before.w2.given.1)
 
 returns-4 : tie.Need-returns-4
-unfolding isNamed
-returns-4 c = c.is-there2.ensures ∙ sym (ap (isNamed c.before.before.before.before.args.b) c.before.before.w3.given.1)
+unfolding is_named
+returns-4 c = c.is-there2.ensures ∙ sym (ap (is_named c.before.before.before.before.args.b) c.before.before.w3.given.1)
 
 pub is-named-spec : {M : Type 1} → statement M
 is-named-spec =

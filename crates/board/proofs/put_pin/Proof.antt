@@ -4,7 +4,7 @@ use lib.Dec.{ltb, leb}
 use Rattle.words.proofs.TruthLaws.{and_right}
 use Rattle.board_wires.specs.declared.Board.{Board}
 use Rattle.board.specs.Record.{answered}
-use Rattle.board.specs.Model.{putPin}
+use Rattle.board.specs.Model.{put_pin}
 use Rattle.board.proofs.AnswerLaws.{taken, left, none-given}
 use mathlib.Core.Path.{sym, ap, ◌∙◌}
 use borrow.Author.Tests.{leb-true}
@@ -20,13 +20,13 @@ cast-with-pin c =
     search rules
 
 returns : tie.Need-returns
-unfolding putPin
+unfolding put_pin
 returns c =
     taken c.before.before.before.before.args.b c.before.before.before.checked.ensures c.before.before.if1.true
     (c.answer-of.ensures ∙ ap (λ (d : Board). answered d 0) c.before.with-pin.ensures)
 
 returns-2 : tie.Need-returns-2
-unfolding putPin
+unfolding put_pin
 returns-2 c = left c.before.before.before.args.b _ c.before.before.checked.ensures c.before.if1.false c.refusal-of.ensures
 
 pub put-pin-spec : {M : Type 1} → statement M

@@ -4,7 +4,7 @@ use mathlib.Core.Bool.{Bool}
 use Rattle.coreinterrupt.specs.declared.Answer as alone
 use Rattle.coreinterrupt.specs.declared.Core.{Core}
 use Rattle.coreinterrupt.specs.Model as CoreInterrupt
-use Rattle.board.specs.Record.{withCore, answered}
+use Rattle.board.specs.Record.{with_core, answered}
 use Rattle.board.specs.Model.{checked, write}
 use Rattle.board.proofs.AnswerLaws.{taken, left, none-given, there-below}
 use borrow.Author.Rules.{rules}
@@ -25,7 +25,7 @@ returns c =
     let w = c.before.before.before.before.before.write.ensures ∙ ap (λ (x : Core). CoreInterrupt.write x a.offset a.value) k in
     let t = c.before.before.before.before.is-there.ensures in
     let n = c.before.before.before.checked.ensures ∙ ap₂ (λ (u : Bool) (x : alone.Answer). checked a.b u x.refusal) t w in
-    let d = c.before.with-core.ensures ∙ ap (λ (x : alone.Answer). withCore a.b a.c x.core) w in
+    let d = c.before.with-core.ensures ∙ ap (λ (x : alone.Answer). with_core a.b a.c x.core) w in
     taken a.b n c.before.before.if1.true (c.answer-of.ensures ∙ ap₂ answered d (ap (λ (x : alone.Answer). x.value) w))
 
 returns-2 : tie.Need-returns-2

@@ -1,23 +1,23 @@
 -- That `wire_number` of src/lib.rt keeps its contract.
-use Rattle.board_wires.specs.Wires.{wireNumber}
+use Rattle.board_wires.specs.Wires.{wire_number}
 use borrow.Author.Rules.{rules}
 use Rattle.board_wires.proofs.wire_number.Statement.{statement}
 use Rattle.board_wires.proofs.wire_number.Tie as tie
 
 returns : tie.Need-returns
-unfolding wireNumber
+unfolding wire_number
 returns c = rw c.enum_told.given.1
 
 returns-2 : tie.Need-returns-2
-unfolding wireNumber
+unfolding wire_number
 returns-2 c = rw c.before.before.w.given.1 c.number-from.ensures
 
 returns-3 : tie.Need-returns-3
-unfolding wireNumber
+unfolding wire_number
 returns-3 c = rw c.before.before.w2.given.1 c.number-from2.ensures
 
 returns-4 : tie.Need-returns-4
-unfolding wireNumber
+unfolding wire_number
 returns-4 c = rw c.before.before.w3.given.1 c.number-from3.ensures
 
 pub wire-number-spec : {M : Type 1} → statement M

@@ -1,7 +1,7 @@
 -- That `read_in` of src/lib.rt keeps its contract.
 use mathlib.Core.Path.{◌∙◌}
 use mathlib.Core.Bool.{true, false}
-use Rattle.cic_registers.specs.Model.{readAs}
+use Rattle.cic_registers.specs.Model.{read_as}
 use Rattle.cic_room.specs.Room.{plain}
 use Rattle.cic.proofs.FaceLaws.{answer-is, same-record}
 use borrow.Author.Rules.{rules}
@@ -14,7 +14,7 @@ returns c =
     let d = z.args.c in
     let h = c.before.before.before.lay.ensures z.requires in
     let x = c.before.read.ensures (plain false) d z.requires h in
-    c.answer-with.ensures ∙ answer-is (readAs true d z.args.offset) x.1 (same-record (plain false) d (readAs true d z.args.offset) h x)
+    c.answer-with.ensures ∙ answer-is (read_as true d z.args.offset) x.1 (same-record (plain false) d (read_as true d z.args.offset) h x)
 
 pub read-in-spec : {M : Type 1} → statement M
 read-in-spec = tie.close (tie.spec (λ c κs. search rules) (λ c κs. search rules) (λ c κs. search rules) returns)

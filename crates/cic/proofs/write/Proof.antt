@@ -1,5 +1,5 @@
 -- That `write` of src/lib.rt keeps its contract.
-use Rattle.cic_registers.specs.Model.{writeAs}
+use Rattle.cic_registers.specs.Model.{write_as}
 use Rattle.cic_registers.proofs.StepLaws.{write-unsound}
 use mathlib.Core.Bool.{Bool}
 use mathlib.Core.Path.{sym, ap, ◌∙◌}
@@ -8,12 +8,12 @@ use Rattle.cic.proofs.write.Statement.{statement}
 use Rattle.cic.proofs.write.Tie as tie
 
 returns : tie.Need-returns
-returns c = c.write-in.ensures ∙ ap (λ (t : Bool). writeAs t c.before.before.before.args.c c.before.before.before.args.offset c.before.before.before.args.value) (sym c.before.if1.true ∙ c.before.before.is-sound.ensures)
+returns c = c.write-in.ensures ∙ ap (λ (t : Bool). write_as t c.before.before.before.args.c c.before.before.before.args.offset c.before.before.before.args.value) (sym c.before.if1.true ∙ c.before.before.is-sound.ensures)
 
 returns-2 : tie.Need-returns-2
 returns-2 c =
     c.refusal-of.ensures ∙ sym (write-unsound c.before.before.before.args.c c.before.before.before.args.offset c.before.before.before.args.value)
-    ∙ ap (λ (t : Bool). writeAs t c.before.before.before.args.c c.before.before.before.args.offset c.before.before.before.args.value) (sym c.before.if1.false ∙ c.before.before.is-sound.ensures)
+    ∙ ap (λ (t : Bool). write_as t c.before.before.before.args.c c.before.before.before.args.offset c.before.before.before.args.value) (sym c.before.if1.false ∙ c.before.before.is-sound.ensures)
 
 pub write_spec : {M : Type 1} → statement M
 write_spec =

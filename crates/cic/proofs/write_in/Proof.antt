@@ -1,7 +1,7 @@
 -- That `write_in` of src/lib.rt keeps its contract.
 use mathlib.Core.Path.{◌∙◌}
 use mathlib.Core.Bool.{true, false}
-use Rattle.cic_registers.specs.Model.{writeAs}
+use Rattle.cic_registers.specs.Model.{write_as}
 use Rattle.cic_room.specs.Room.{plain}
 use Rattle.cic.proofs.FaceLaws.{answer-is}
 use borrow.Author.Rules.{rules}
@@ -13,7 +13,7 @@ returns c =
     let z = c.before.before.before.before.before.before in
     let d = z.args.c in
     let x = c.before.before.before.write.ensures (plain false) d z.requires (c.before.before.before.before.before.lay.ensures z.requires) in
-    c.answer-with.ensures ∙ answer-is (writeAs true d z.args.offset z.args.value) x.1 (c.before.record_of.ensures (plain false) _ x.0)
+    c.answer-with.ensures ∙ answer-is (write_as true d z.args.offset z.args.value) x.1 (c.before.record_of.ensures (plain false) _ x.0)
 
 pub write-in-spec : {M : Type 1} → statement M
 write-in-spec =

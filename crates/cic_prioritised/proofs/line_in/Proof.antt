@@ -13,7 +13,7 @@ returns c =
     let z = c.before.before.before.before.before.before in
     let p = z.args.p in
     let x = c.before.before.before.line.ensures p z.requires (c.before.before.before.before.before.lay.ensures z.requires) in
-    c.answer-with.ensures ∙ answer-is (line p z.args.number z.args.level) x.1 (c.before.record_of.ensures _ (kept.stepSound p (Line z.args.number z.args.level) z.requires) x.0)
+    c.answer-with.ensures ∙ answer-is (line p z.args.number z.args.level) x.1 (c.before.record_of.ensures _ (kept.step_sound p (Line z.args.number z.args.level) z.requires) x.0)
 
 pub line-in-spec : {M : Type 1} → statement M
 line-in-spec = tie.close (tie.spec (λ c κs. search rules) (λ c κs. search rules) (λ c κs. search rules) (λ c κs. search rules) returns)

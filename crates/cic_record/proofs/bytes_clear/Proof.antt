@@ -5,7 +5,7 @@ use lib.Dec.{eqb}
 use mathlib.Core.Path.{◌≡◌}
 use native.Mathlib.Omega.{arith}
 use Rattle.words.specs.Counting.{all_below}
-use Rattle.words.proofs.CountingLaws.{at-end}
+use Rattle.words.proofs.CountingLaws.{at_end}
 use Rattle.cic_record.proofs.SoundLaws.{clear-start, clear-more}
 use borrow.Author.Rules.{rules}
 use Rattle.cic_record.proofs.bytes_clear.Statement.{statement}
@@ -27,7 +27,7 @@ loop-again c =
     (omega (arith, l.invariant.0), (omega arith, clear-more a.m.now a.n l.i l.invariant.0 l.invariant.1.1 c.clear.ensures))
 
 returns : tie.Need-returns invariant-loop decreases-loop
-returns c = at-end (λ k. all_below (k - c.before.before.before.args.n) (λ j. eqb (get_or c.before.before.before.args.m.now (c.before.before.before.args.n + j) 0) 0)) c.before.loop.i _ c.before.loop.invariant.1.0 c.loop-test.false c.before.loop.invariant.1.1
+returns c = at_end (λ k. all_below (k - c.before.before.before.args.n) (λ j. eqb (get_or c.before.before.before.args.m.now (c.before.before.before.args.n + j) 0) 0)) c.before.loop.i _ c.before.loop.invariant.1.0 c.loop-test.false c.before.loop.invariant.1.1
 
 pub bytes-clear-spec : {M : Type 1} → statement M
 bytes-clear-spec =

@@ -6,7 +6,7 @@ use lib.Dec.{ltb}
 use mathlib.Core.Path.{◌≡◌}
 use native.Mathlib.Omega.{arith}
 use Rattle.words.specs.Counting.{all_below}
-use Rattle.words.proofs.CountingLaws.{all-none-yet, all_more, at-end}
+use Rattle.words.proofs.CountingLaws.{all-none_yet, all_more, at_end}
 use borrow.Author.Rules.{rules}
 use Rattle.cic_record.proofs.bytes_under.Statement.{statement}
 use Rattle.cic_record.proofs.bytes_under.Tie as tie
@@ -18,7 +18,7 @@ abbrev decreases-loop : tie.decreases-loop
 decreases-loop m n limit ok₀ i₀ ok i = n - i
 
 loop-holds : tie.Need-loop-init invariant-loop decreases-loop
-loop-holds c = (omega arith, all-none-yet _)
+loop-holds c = (omega arith, all-none_yet _)
 
 loop-again : tie.Need-loop-preserved invariant-loop decreases-loop
 loop-again c =
@@ -27,7 +27,7 @@ loop-again c =
     (omega arith, all_more (λ j. ltb (get_or a.m.now j 0) a.limit) l.i l.invariant.1 c.under.ensures)
 
 returns : tie.Need-returns invariant-loop decreases-loop
-returns c = at-end (λ k. all_below k (λ j. ltb (get_or c.before.before.before.args.m.now j 0) c.before.before.before.args.limit)) c.before.loop.i _ c.before.loop.invariant.0 c.loop-test.false c.before.loop.invariant.1
+returns c = at_end (λ k. all_below k (λ j. ltb (get_or c.before.before.before.args.m.now j 0) c.before.before.before.args.limit)) c.before.loop.i _ c.before.loop.invariant.0 c.loop-test.false c.before.loop.invariant.1
 
 pub bytes-under-spec : {M : Type 1} → statement M
 bytes-under-spec =

@@ -1,5 +1,5 @@
 -- That `maps_sound` of src/lib.rt keeps its contract.
-use Rattle.cic_record.specs.Sound.{mapsSound}
+use Rattle.cic_record.specs.Sound.{maps_sound}
 use Rattle.words.proofs.TruthLaws.{and_parts}
 use Rattle.cic_record.proofs.SoundLaws.{whole-map}
 use borrow.Author.Rules.{rules}
@@ -7,7 +7,7 @@ use Rattle.cic_record.proofs.maps_sound.Statement.{statement}
 use Rattle.cic_record.proofs.maps_sound.Tie as tie
 
 returns : tie.Need-returns
-unfolding mapsSound
+unfolding maps_sound
 returns c =
     let r = c.before.before.before.before.before.before.before.before.args.t1 in
     and_parts (whole-map 1024 r.systems r.channels r.channel (search rules) c.before.before.before.before.map-sound.ensures) (whole-map 256 r.channels r.hosts r.host (search rules) c.map-sound2.ensures)

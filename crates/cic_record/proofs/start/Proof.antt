@@ -1,7 +1,7 @@
 -- That `start` of src/lib.rt keeps its contract.
 use mathlib.Core.Path.{ap, ◌∙◌}
 use Rattle.cic_record.specs.Record.{begun}
-use Rattle.steps.specs.Refusals.{carriedOut, misconfigured}
+use Rattle.steps.specs.Refusals.{carried_out, misconfigured}
 use Rattle.cic_record.specs.Start.{start}
 use Rattle.words.proofs.ChoiceLaws.{by-true, by-false}
 use borrow.Author.Rules.{rules}
@@ -10,7 +10,7 @@ use Rattle.cic_record.proofs.start.Tie as tie
 
 returns : tie.Need-returns
 unfolding start
-returns c = ap (begun carriedOut) c.make.ensures ∙ by-true _ c.before.before.all-within.ensures c.before.if1.true
+returns c = ap (begun carried_out) c.make.ensures ∙ by-true _ c.before.before.all-within.ensures c.before.if1.true
 
 returns-2 : tie.Need-returns-2
 unfolding start

@@ -1,5 +1,5 @@
 -- That `words_sound` of src/lib.rt keeps its contract.
-use Rattle.cic_record.specs.Sound.{wordsSound}
+use Rattle.cic_record.specs.Sound.{words_sound}
 use Rattle.words.proofs.TruthLaws.{and_parts}
 use Rattle.cic_record.proofs.SoundLaws.{whole}
 use borrow.Author.Rules.{rules}
@@ -7,7 +7,7 @@ use Rattle.cic_record.proofs.words_sound.Statement.{statement}
 use Rattle.cic_record.proofs.words_sound.Tie as tie
 
 returns : tie.Need-returns
-unfolding wordsSound
+unfolding words_sound
 returns c =
     let r = c.before.before.before.before.before.before.before.before.before.before.before.before.before.before.before.before.args.t1 in
     and_parts (whole 32 r.systems r.lines (search rules) c.before.before.before.before.before.before.before.before.before.before.before.before.words-clean.ensures)

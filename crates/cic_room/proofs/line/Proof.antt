@@ -12,7 +12,7 @@ use Rattle.cic_registers.proofs.LayoutPromises as of-layout
 use Rattle.cic_registers.specs.Model.{moved}
 use Rattle.cic_registers.proofs.StepLaws.{line_refused, line-carried}
 use Rattle.cic_room.proofs.PutLaws.{systems-is}
-use Rattle.cic_room.proofs.ReplyLaws.{done-as, line-stops, line-goes}
+use Rattle.cic_room.proofs.ReplyLaws.{done_as, line_stops, line-goes}
 use borrow.Author.Rules.{rules}
 use Rattle.cic_room.proofs.line.Statement.{statement}
 use Rattle.cic_room.proofs.line.Tie as tie
@@ -22,7 +22,7 @@ returns c =
     let a = c.before.before.before.args in
     λ f d ok h.
     let n = systems-is h in
-    done-as (line_refused d a.number a.level (line-stops d.systems a.number a.level (sound-is d ok).counts.0.1 (sym (ap (λ (x : ℕ). (leb x a.number || leb 1024 a.number) || ltb 1 a.level) n) ∙ c.before.if1.true)) (λ q. absurd (omega (arith, q))))
+    done_as (line_refused d a.number a.level (line_stops d.systems a.number a.level (sound-is d ok).counts.0.1 (sym (ap (λ (x : ℕ). (leb x a.number || leb 1024 a.number) || ltb 1 a.level) n) ∙ c.before.if1.true)) (λ q. absurd (omega (arith, q))))
     (h, c.refuse.ensures)
 
 cast-t14 : tie.Need-overflow-cast-t14
@@ -43,7 +43,7 @@ returns-2 c =
     λ f d ok h.
     let n = systems-is h in
     let g = line-goes d.systems a.number a.level (sym (ap (λ (x : ℕ). (leb x a.number || leb 1024 a.number) || ltb 1 a.level) n) ∙ c.before.before.before.if1.false) in
-    done-as (line-carried d a.number a.level {a = answered (moved d (system a.number) (eqb a.level 1)) 0} g.0 refl refl) (c.before.move-line.ensures f d h, c.answer.ensures)
+    done_as (line-carried d a.number a.level {a = answered (moved d (system a.number) (eqb a.level 1)) 0} g.0 refl refl) (c.before.move-line.ensures f d h, c.answer.ensures)
 
 pub line-spec : {M : Type 1} → statement M
 line-spec =

@@ -1,11 +1,11 @@
 -- That `all_within` of src/lib.rt keeps its contract.
-use Rattle.coreinterrupt.specs.Model.{allWithin}
+use Rattle.coreinterrupt.specs.Model.{all_within}
 use borrow.Author.Rules.{rules}
 use Rattle.coreinterrupt.proofs.all_within.Statement.{statement}
 use Rattle.coreinterrupt.proofs.all_within.Tie as tie
 
 returns : tie.Need-returns
-unfolding allWithin
+unfolding all_within
 returns c = cc
 
 pub all-within-spec : {M : Type 1} → statement M

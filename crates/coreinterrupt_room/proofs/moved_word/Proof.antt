@@ -4,13 +4,13 @@ use mathlib.Core.Path.{◌≡◌, refl, ap, ap₂, ◌∙◌}
 use mathlib.Core.Bool.{Bool, true, false}
 use lib.Dec.{ltb}
 use Rattle.words.specs.Choice.{pick}
-use Rattle.words.specs.Word.{withBit}
+use Rattle.words.specs.Word.{with_bit}
 use borrow.Author.Rules.{rules}
 use Rattle.coreinterrupt_room.proofs.moved_word.Statement.{statement}
 use Rattle.coreinterrupt_room.proofs.moved_word.Tie as tie
 
 -- the word with the bit set, or cleared, as the level says
-by_level : (w k : ℕ) (high : Bool) → pick high (withBit w k true) (withBit w k false) ≡ withBit w k high
+by_level : (w k : ℕ) (high : Bool) → pick high (with_bit w k true) (with_bit w k false) ≡ with_bit w k high
 unfolding pick
 by_level w k true = refl
 by_level w k false = refl

@@ -4,26 +4,26 @@ use borrow.Author.Tests.{eq-eqb, ne_eqb}
 use Rattle.words.proofs.ChoiceLaws.{pick_true, pick-false}
 use Rattle.trace.specs.Turns.{step_of}
 use Rattle.coreinterrupt.specs.Model.{step}
-use Rattle.coreinterrupt_room.proofs.StepLaws.{done-as}
+use Rattle.coreinterrupt_room.proofs.StepLaws.{done_as}
 use borrow.Author.Rules.{rules}
 use Rattle.coreinterrupt_room.proofs.step.Statement.{statement}
 use Rattle.coreinterrupt_room.proofs.step.Tie as tie
 
 returns : tie.Need-returns
 unfolding step_of
-returns c = λ k ok h. done-as (ap (step k) (pick_true _ (eq-eqb _ _ c.before.before.if1.true))) (c.read.ensures k ok h)
+returns c = λ k ok h. done_as (ap (step k) (pick_true _ (eq-eqb _ _ c.before.before.if1.true))) (c.read.ensures k ok h)
 
 returns-2 : tie.Need-returns-2
 unfolding step_of
 returns-2 c =
     let x = c.before.before in
-    λ k ok h. done-as (ap (step k) (pick_true _ (eq-eqb _ _ x.if2.true) ∙ pick-false _ (ne_eqb _ _ x.before.if1.false))) (c.write.ensures k ok h)
+    λ k ok h. done_as (ap (step k) (pick_true _ (eq-eqb _ _ x.if2.true) ∙ pick-false _ (ne_eqb _ _ x.before.if1.false))) (c.write.ensures k ok h)
 
 returns-3 : tie.Need-returns-3
 unfolding step_of
 returns-3 c =
     let x = c.before.before in
-    λ k ok h. done-as (ap (step k) (pick-false _ (ne_eqb _ _ x.if2.false) ∙ pick-false _ (ne_eqb _ _ x.before.if1.false))) (c.line.ensures k ok h)
+    λ k ok h. done_as (ap (step k) (pick-false _ (ne_eqb _ _ x.if2.false) ∙ pick-false _ (ne_eqb _ _ x.before.if1.false))) (c.line.ensures k ok h)
 
 pub step_spec : {M : Type 1} → statement M
 step_spec =

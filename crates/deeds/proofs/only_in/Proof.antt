@@ -1,7 +1,7 @@
 -- That `only_in` of src/lib.rt keeps its contract.
 use Rattle.words.proofs.ArrayLaws.{filled}
 use Rattle.words.specs.Word.{without}
-use Rattle.deeds.proofs.TextLaws.{bitAt-without}
+use Rattle.deeds.proofs.TextLaws.{bit_at-without}
 use borrow.Author.Count.{below_none}
 use lib.ListN.{get_or, length, length-set}
 use mathlib.Core.Path.{◌≡◌, refl}
@@ -29,7 +29,7 @@ loop-again c =
     )
 
 returns : tie.Need-returns invariant-loop decreases-loop
-returns c = λ h l. bitAt-without c.before.loop.out c.before.before.args.t1 c.before.before.args.t2 h (c.before.loop.invariant.1.1 (h / 32) (omega arith))
+returns c = λ h l. bit_at-without c.before.loop.out c.before.before.args.t1 c.before.before.args.t2 h (c.before.loop.invariant.1.1 (h / 32) (omega arith))
 
 pub only-in-spec : {M : Type 1} → statement M
 only-in-spec =

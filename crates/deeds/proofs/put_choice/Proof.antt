@@ -3,12 +3,12 @@ use mathlib.Core.Path.{refl, ap, ◌∙◌}
 use Rattle.text.specs.Text.{write}
 use Rattle.text.proofs.WriteLaws.{same_length as same_len, nothing}
 use Rattle.words.proofs.ChoiceLaws.{pick_true, pick-false}
-use Rattle.deeds.specs.Deeds.{choiceWords}
+use Rattle.deeds.specs.Deeds.{choice_words}
 use Rattle.deeds.proofs.put_choice.Statement.{statement}
 use Rattle.deeds.proofs.put_choice.Tie as tie
 
 returns : tie.Need-returns
-unfolding choiceWords
+unfolding choice_words
 returns c =
     let p = c.before.before in
     let i = p.before.before in
@@ -16,7 +16,7 @@ returns c =
     ∙ ap (write _) (pick_true _ i.if1.true)
 
 returns-2 : tie.Need-returns-2
-unfolding choiceWords
+unfolding choice_words
 returns-2 c =
     let p = c.before.before in
     let i = p.before.before in
@@ -25,7 +25,7 @@ returns-2 c =
     ∙ pick-false _ i.before.if1.false)
 
 returns-3 : tie.Need-returns-3
-unfolding choiceWords
+unfolding choice_words
 returns-3 c =
     nothing _
     ∙ ap (write _) (pick-false _ c.if2.false

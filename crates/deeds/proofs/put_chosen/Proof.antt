@@ -4,17 +4,17 @@ use Rattle.text.specs.Text.{write}
 use Rattle.text.proofs.WriteLaws.{same_length as same_len, and_then, nothing}
 use Rattle.words.proofs.ChoiceLaws.{pick_true, pick-false}
 use Rattle.text.specs.Phrases.{bytes}
-use Rattle.deeds.specs.Deeds.{chosenWords}
+use Rattle.deeds.specs.Deeds.{chosen_words}
 use borrow.Author.Rules.{rules}
 use Rattle.deeds.proofs.put_chosen.Statement.{statement}
 use Rattle.deeds.proofs.put_chosen.Tie as tie
 
 returns : tie.Need-returns
-unfolding chosenWords
+unfolding chosen_words
 returns c = nothing _ ∙ ap (write _) (pick_true _ c.if1.true)
 
 returns-2 : tie.Need-returns-2
-unfolding chosenWords bytes
+unfolding chosen_words bytes
 returns-2 c =
     let p = c.before.before in
     let q = p.before.before.before.before in

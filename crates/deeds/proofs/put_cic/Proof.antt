@@ -1,13 +1,13 @@
 -- That `put_cic` of src/lib.rt keeps its contract.
 use mathlib.Core.Path.{refl, ap, ◌∙◌}
 use Rattle.text.proofs.WriteLaws.{same_length as same_len, and_then}
-use Rattle.deeds.specs.Deeds.{cicDeeds}
+use Rattle.deeds.specs.Deeds.{cic_deeds}
 use Rattle.text.specs.Phrases.{bytes}
 use Rattle.deeds.proofs.put_cic.Statement.{statement}
 use Rattle.deeds.proofs.put_cic.Tie as tie
 
 returns : tie.Need-returns
-unfolding cicDeeds bytes
+unfolding cic_deeds bytes
 returns c =
     let p = c.before.before in
     and_then _ _ _ p.before.before.before.before.before.put-gains.ensures p.put-gains2.ensures

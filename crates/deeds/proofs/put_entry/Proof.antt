@@ -5,29 +5,29 @@ use Rattle.text.proofs.WriteLaws.{same_length as same_len, nothing}
 use borrow.Author.Tests.{lt-ltb, le-ltb}
 use Rattle.words.proofs.ChoiceLaws.{pick_true, pick-false}
 use Rattle.text.specs.Phrases.{bytes}
-use Rattle.deeds.specs.Deeds.{entryWords}
-use Rattle.deeds.proofs.TextLaws.{opened-text, closed-text, ends-true, ends-false}
+use Rattle.deeds.specs.Deeds.{entry_words}
+use Rattle.deeds.proofs.TextLaws.{opened_text, closed_text, ends-true, ends-false}
 use Rattle.deeds.proofs.put_entry.Statement.{statement}
 use Rattle.deeds.proofs.put_entry.Tie as tie
 
 returns : tie.Need-returns
-unfolding entryWords
+unfolding entry_words
 returns c =
     let p = c.before.before in
     let i = p.before.before in
-    opened-text _ _ _ _ _ _ p.put-opened.ensures i.before.before.before.before.before.last-source.ensures i.before.before.before.before.last-level.ensures
+    opened_text _ _ _ _ _ _ p.put-opened.ensures i.before.before.before.before.before.last-source.ensures i.before.before.before.before.last-level.ensures
     ∙ ap (write _) (pick_true _ (lt-ltb _ _ i.if1.true))
 
 returns-2 : tie.Need-returns-2
-unfolding entryWords
+unfolding entry_words
 returns-2 c =
     let p = c.before.before in
     let i = p.before.before in
-    closed-text _ _ _ _ p.put-closed.ensures i.before.before.before.before.before.before.last-source2.ensures
+    closed_text _ _ _ _ p.put-closed.ensures i.before.before.before.before.before.before.last-source2.ensures
     ∙ ap (write _) (pick_true _ (lt-ltb _ _ i.if2.true) ∙ pick-false _ (le-ltb _ _ i.before.before.before.if1.false))
 
 returns-3 : tie.Need-returns-3
-unfolding entryWords bytes
+unfolding entry_words bytes
 returns-3 c =
     let p = c.before.before in
     let i = p.before.before.before in
@@ -35,7 +35,7 @@ returns-3 c =
     ∙ ap (write _) (ends-true _ _ _ _ i.before.before.before.before.before.before.before.before.before.before.before.ends.ensures i.if3.true ∙ pick-false _ (le-ltb _ _ i.before.before.if2.false) ∙ pick-false _ (le-ltb _ _ i.before.before.before.before.before.if1.false))
 
 returns-4 : tie.Need-returns-4
-unfolding entryWords
+unfolding entry_words
 returns-4 c =
     nothing _
     ∙ ap (write _) (ends-false _ _ _ _ c.before.before.before.before.before.before.before.before.before.before.before.ends.ensures c.if3.false ∙ pick-false _ (le-ltb _ _ c.before.before.if2.false) ∙ pick-false _ (le-ltb _ _ c.before.before.before.before.before.if1.false))

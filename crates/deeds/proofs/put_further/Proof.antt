@@ -5,17 +5,17 @@ use Rattle.text.proofs.WriteLaws.{same_length as same_len, and_then, nothing}
 use borrow.Author.Tests.{eq-eqb, ne_eqb}
 use Rattle.words.proofs.ChoiceLaws.{pick_true, pick-false}
 use Rattle.text.specs.Phrases.{bytes}
-use Rattle.deeds.specs.Deeds.{furtherWords}
+use Rattle.deeds.specs.Deeds.{further_words}
 use borrow.Author.Rules.{rules}
 use Rattle.deeds.proofs.put_further.Statement.{statement}
 use Rattle.deeds.proofs.put_further.Tie as tie
 
 returns : tie.Need-returns
-unfolding furtherWords
+unfolding further_words
 returns c = nothing _ ∙ ap (write _) (pick_true _ (eq-eqb _ _ c.if1.true))
 
 returns-2 : tie.Need-returns-2
-unfolding furtherWords bytes
+unfolding further_words bytes
 returns-2 c =
     let p = c.before.before in
     let q = p.before.before.before.before.before in

@@ -4,20 +4,20 @@ use Rattle.text.specs.Text.{write}
 use Rattle.text.proofs.WriteLaws.{same_length as same_len, and_then, nothing}
 use borrow.Author.Tests.{eq-eqb, ne_eqb}
 use Rattle.words.proofs.ChoiceLaws.{pick_true, pick-false}
-use Rattle.deeds.specs.Deeds.{hostWords}
+use Rattle.deeds.specs.Deeds.{host_words}
 use borrow.Author.Rules.{rules}
 use Rattle.deeds.proofs.put_hosts.Statement.{statement}
 use Rattle.deeds.proofs.put_hosts.Tie as tie
 
 returns : tie.Need-returns
-unfolding hostWords
+unfolding host_words
 returns c = nothing _ ∙ ap (write _) (pick_true _ (eq-eqb _ _ c.if1.true))
 
 put-further-requires : tie.Need-put-further-requires
 put-further-requires c κs = search rules
 
 returns-2 : tie.Need-returns-2
-unfolding hostWords
+unfolding host_words
 returns-2 c =
     let p = c.before.before in
     let q = p.before.before.before.before in

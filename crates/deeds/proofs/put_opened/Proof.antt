@@ -5,12 +5,12 @@ use Rattle.text.proofs.WriteLaws.{same_length as same_len}
 use borrow.Author.Tests.{eq-eqb, ne_eqb}
 use Rattle.words.proofs.ChoiceLaws.{pick_true, pick-false}
 use Rattle.text.specs.Phrases.{bytes}
-use Rattle.deeds.specs.Deeds.{openedWords}
+use Rattle.deeds.specs.Deeds.{opened_words}
 use Rattle.deeds.proofs.put_opened.Statement.{statement}
 use Rattle.deeds.proofs.put_opened.Tie as tie
 
 returns : tie.Need-returns
-unfolding openedWords bytes
+unfolding opened_words bytes
 returns c =
     let p = c.before.before in
     let i = p.before.before.before in
@@ -18,7 +18,7 @@ returns c =
     ∙ ap (write _) (pick_true _ (eq-eqb _ _ i.if1.true))
 
 returns-2 : tie.Need-returns-2
-unfolding openedWords bytes
+unfolding opened_words bytes
 returns-2 c =
     let p = c.before.before in
     let i = p.before.before.before.before in

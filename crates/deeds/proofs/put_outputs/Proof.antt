@@ -2,39 +2,39 @@
 use mathlib.Core.Path.{refl, ap, ◌∙◌}
 use Rattle.text.specs.Text.{write}
 use Rattle.text.proofs.WriteLaws.{same_length as same_len, nothing}
-use Rattle.kinds.proofs.KindLaws.{at-aic, at-core, at-cic, at-aintc, at_indexed, at_none}
-use Rattle.deeds.specs.Deeds.{outputWords}
+use Rattle.kinds.proofs.KindLaws.{at_aic, at_core, at-cic, at_aintc, at_indexed, at_none}
+use Rattle.deeds.specs.Deeds.{output_words}
 use Rattle.deeds.proofs.put_outputs.Statement.{statement}
 use Rattle.deeds.proofs.put_outputs.Tie as tie
 
 returns : tie.Need-returns
-unfolding outputWords
+unfolding output_words
 returns c =
     let p = c.before.before in
-    p.put_sides.ensures ∙ ap (write _) (at-aic _ _ p.before.before.if1.true)
+    p.put_sides.ensures ∙ ap (write _) (at_aic _ _ p.before.before.if1.true)
 
 returns-2 : tie.Need-returns-2
-unfolding outputWords
+unfolding output_words
 returns-2 c =
     let p = c.before.before in
-    p.put-sides2.ensures ∙ ap (write _) (at-core _ _ p.before.before.if2.true)
+    p.put-sides2.ensures ∙ ap (write _) (at_core _ _ p.before.before.if2.true)
 
 returns-3 : tie.Need-returns-3
-unfolding outputWords
+unfolding output_words
 returns-3 c = nothing _ ∙ ap (write _) (at-cic _ _ c.if3.true)
 
 returns-4 : tie.Need-returns-4
-unfolding outputWords
+unfolding output_words
 returns-4 c =
     let p = c.before.before in
-    p.put-sides3.ensures ∙ ap (write _) (at-aintc _ _ p.before.before.if4.true)
+    p.put-sides3.ensures ∙ ap (write _) (at_aintc _ _ p.before.before.if4.true)
 
 returns-5 : tie.Need-returns-5
-unfolding outputWords
+unfolding output_words
 returns-5 c = nothing _ ∙ ap (write _) (at_indexed _ _ c.if5.true)
 
 returns-6 : tie.Need-returns-6
-unfolding outputWords
+unfolding output_words
 returns-6 c = nothing _ ∙ ap (write _) (at_none _ _ c.before.before.before.before.if1.false c.before.before.before.if2.false c.before.before.if3.false c.before.if4.false c.if5.false)
 
 pub put-outputs-spec : {M : Type 1} → statement M

@@ -1,7 +1,7 @@
 -- That `put_sides` of src/lib.rt keeps its contract.
 use mathlib.Core.Path.{refl, ap, ◌∙◌}
 use Rattle.text.proofs.WriteLaws.{same_length as same_len, and_then}
-use Rattle.deeds.proofs.TextLaws.{sides-text}
+use Rattle.deeds.proofs.TextLaws.{sides_text}
 use Rattle.text.specs.Phrases.{bytes}
 use Rattle.deeds.proofs.put_sides.Statement.{statement}
 use Rattle.deeds.proofs.put_sides.Tie as tie
@@ -11,7 +11,7 @@ unfolding bytes
 returns c =
     let p = c.before.before in
     let q = p.before.before.before.before.before.before in
-    sides-text _ _ _ _ _ _ _ q.put-turn.ensures p.put-turn2.ensures q.before.before.before.before.before.shown.ensures q.before.before.before.before.shown2.ensures
+    sides_text _ _ _ _ _ _ _ q.put-turn.ensures p.put-turn2.ensures q.before.before.before.before.before.shown.ensures q.before.before.before.before.shown2.ensures
 
 pub put-sides-spec : {M : Type 1} → statement M
 put-sides-spec =

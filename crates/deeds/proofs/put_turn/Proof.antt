@@ -4,18 +4,18 @@ use Rattle.text.specs.Text.{write}
 use Rattle.text.proofs.WriteLaws.{same_length as same_len, nothing}
 use borrow.Author.Tests.{eq-eqb, ne_eqb}
 use Rattle.words.proofs.ChoiceLaws.{pick_true, pick-false}
-use Rattle.deeds.specs.Deeds.{turnWords}
+use Rattle.deeds.specs.Deeds.{turn_words}
 use Rattle.deeds.proofs.put_turn.Statement.{statement}
 use Rattle.deeds.proofs.put_turn.Tie as tie
 
 returns : tie.Need-returns
-unfolding turnWords
+unfolding turn_words
 returns c =
     nothing _
     ∙ ap (write _) (pick_true _ (eq-eqb _ _ c.if1.true))
 
 returns-2 : tie.Need-returns-2
-unfolding turnWords
+unfolding turn_words
 returns-2 c =
     let p = c.before.before in
     let i = p.before.before in
@@ -24,7 +24,7 @@ returns-2 c =
     ∙ pick-false _ (ne_eqb _ _ i.before.if1.false))
 
 returns-3 : tie.Need-returns-3
-unfolding turnWords
+unfolding turn_words
 returns-3 c =
     let p = c.before.before in
     let i = p.before.before in

@@ -4,7 +4,7 @@ use lib.ListN.{length}
 use mathlib.Core.Path.{◌≡◌, refl, ◌∙◌}
 use Prim.Native.Nat.{◌-◌}
 use native.Mathlib.Omega.{arith}
-use Rattle.drawing.proofs.FreeLaws.{free-here, free_on, free-over}
+use Rattle.drawing.proofs.FreeLaws.{free_here, free_on, free-over}
 use borrow.Author.Rules.{rules}
 use Rattle.drawing.proofs.free.Statement.{statement}
 use Rattle.drawing.proofs.free.Tie as tie
@@ -21,7 +21,7 @@ loop-holds c = refl
 returns : tie.Need-returns invariant-loop decreases-loop
 returns c =
     let e = c.before in
-    free-here _ _ _ e.before.before.loop-test.true (omega (arith, e.entries-of.ensures)) ∙ e.before.before.before.loop.invariant
+    free_here _ _ _ e.before.before.loop-test.true (omega (arith, e.entries-of.ensures)) ∙ e.before.before.before.loop.invariant
 
 loop-again : tie.Need-loop-preserved invariant-loop decreases-loop
 loop-again c =

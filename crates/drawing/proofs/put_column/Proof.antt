@@ -1,12 +1,12 @@
 -- That `put_column` of src/lib.rt keeps its contract.
 use Rattle.text.proofs.WriteLaws.{and_then}
-use Rattle.drawing.specs.Drawing.{columnText}
+use Rattle.drawing.specs.Drawing.{column_text}
 use borrow.Author.Rules.{rules}
 use Rattle.drawing.proofs.put_column.Statement.{statement}
 use Rattle.drawing.proofs.put_column.Tie as tie
 
 returns : tie.Need-returns
-unfolding columnText
+unfolding column_text
 returns c =
     let c4 = c.before.before in
     let c3 = c4.before.before.before.before in

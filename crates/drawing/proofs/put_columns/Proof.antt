@@ -1,6 +1,6 @@
 -- That `put_columns` of src/lib.rt keeps its contract.
-use Rattle.drawing.proofs.ColumnLaws.{columns-on, columns-over}
-use Rattle.drawing.specs.Drawing.{columnTexts}
+use Rattle.drawing.proofs.ColumnLaws.{columns_on, columns-over}
+use Rattle.drawing.specs.Drawing.{column_texts}
 use Rattle.text.proofs.WriteLaws.{rest_of, nothing, same_length as same_len}
 use Rattle.text.specs.Text.{write}
 use native.Mathlib.Omega.{arith}
@@ -13,7 +13,7 @@ use Rattle.drawing.proofs.put_columns.Tie as tie
 
 abbrev invariant-loop : tie.invariant-loop
 invariant-loop out₀ at first ws next₀ k₀ out next k =
-    (write (out, next) (columnTexts (length ws - k) first ws k) ≡ write (out₀, at) (columnTexts (length ws - 1) first ws 1)) × (length out ≡ length out₀) × (1 ≤ k)
+    (write (out, next) (column_texts (length ws - k) first ws k) ≡ write (out₀, at) (column_texts (length ws - 1) first ws 1)) × (length out ≡ length out₀) × (1 ≤ k)
 
 abbrev decreases-loop : tie.decreases-loop
 decreases-loop out₀ at first ws next₀ k₀ out next k = length ws - k
@@ -26,7 +26,7 @@ loop-again c =
     let p = c.before.before in
     let l = p.before.before.before.before in
     let a = l.before.before.before.args in
-    (rest_of _ _ _ _ p.put-column.ensures ∙ ap (write _) (columns-on a.first a.ws.now l.loop.k p.before.before.before.loop-test.true) ∙ l.loop.invariant.0, same_len _ _ _ p.put-column.ensures ∙ l.loop.invariant.1, search rules)
+    (rest_of _ _ _ _ p.put-column.ensures ∙ ap (write _) (columns_on a.first a.ws.now l.loop.k p.before.before.before.loop-test.true) ∙ l.loop.invariant.0, same_len _ _ _ p.put-column.ensures ∙ l.loop.invariant.1, search rules)
 
 returns : tie.Need-returns invariant-loop decreases-loop
 returns c =

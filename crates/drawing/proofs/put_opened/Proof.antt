@@ -1,7 +1,7 @@
 -- That `put_opened` of src/lib.rt keeps its contract.
-use Rattle.drawing.proofs.BarLaws.{opened-on, opened-over}
-use Rattle.drawing.specs.Bars.{openedFrom}
-use Rattle.drawing.specs.Drawing.{barTexts}
+use Rattle.drawing.proofs.BarLaws.{opened_on, opened-over}
+use Rattle.drawing.specs.Bars.{opened_from}
+use Rattle.drawing.specs.Drawing.{bar_texts}
 use Rattle.text.proofs.WriteLaws.{rest_of, nothing, same_length as same_len}
 use Rattle.text.specs.Text.{write}
 use native.Mathlib.Omega.{arith}
@@ -14,7 +14,7 @@ use Rattle.drawing.proofs.put_opened.Tie as tie
 
 abbrev invariant-loop : tie.invariant-loop
 invariant-loop out₀ at ws next₀ k₀ out next k =
-    (write (out, next) (barTexts (openedFrom (length ws - k) ws k)) ≡ write (out₀, at) (barTexts (openedFrom (length ws - 1) ws 1))) × (length out ≡ length out₀) × (1 ≤ k)
+    (write (out, next) (bar_texts (opened_from (length ws - k) ws k)) ≡ write (out₀, at) (bar_texts (opened_from (length ws - 1) ws 1))) × (length out ≡ length out₀) × (1 ≤ k)
 
 abbrev decreases-loop : tie.decreases-loop
 decreases-loop out₀ at ws next₀ k₀ out next k = length ws - k
@@ -26,7 +26,7 @@ loop-again : tie.Need-loop-preserved invariant-loop decreases-loop
 loop-again c =
     let p = c.before.before in
     let l = p.before.before.before in
-    (rest_of _ _ _ _ p.put-opening.ensures ∙ ap (write _) (opened-on _ _ p.before.before.loop-test.true) ∙ l.loop.invariant.0, same_len _ _ _ p.put-opening.ensures ∙ l.loop.invariant.1, search rules)
+    (rest_of _ _ _ _ p.put-opening.ensures ∙ ap (write _) (opened_on _ _ p.before.before.loop-test.true) ∙ l.loop.invariant.0, same_len _ _ _ p.put-opening.ensures ∙ l.loop.invariant.1, search rules)
 
 returns : tie.Need-returns invariant-loop decreases-loop
 returns c =

@@ -1,5 +1,5 @@
 -- That `put_stay` of src/lib.rt keeps its contract.
-use Rattle.drawing.specs.Drawing.{barText}
+use Rattle.drawing.specs.Drawing.{bar_text}
 use Rattle.drawing.proofs.FreeLaws.{free-within}
 use native.Mathlib.Omega.{arith}
 use mathlib.Core.Path.{◌∙◌}
@@ -16,7 +16,7 @@ put-bar-requires c κs =
     (omega (arith, h.0), omega (arith, h.1))
 
 returns : tie.Need-returns
-unfolding barText
+unfolding bar_text
 returns c =
     let b = c.before.before in
     let l = b.before.before in

@@ -1,10 +1,10 @@
 -- That `put_stayed` of src/lib.rt keeps its contract.
 use Rattle.drawing.proofs.BarLaws.{stayed-none, stayed-more}
 use Rattle.drawing.specs.Bars.{stayed}
-use Rattle.drawing.specs.Drawing.{barTexts}
+use Rattle.drawing.specs.Drawing.{bar_texts}
 use Rattle.text.proofs.WriteLaws.{same_length as same_len}
 use Rattle.text.specs.Text.{write}
-use Rattle.words.proofs.CountingLaws.{at-end}
+use Rattle.words.proofs.CountingLaws.{at_end}
 use native.Mathlib.Omega.{arith}
 use mathlib.Core.Path.{◌≡◌, ap, ◌∙◌}
 use Prim.Native.Nat.{ℕ, ◌≤◌, ◌-◌}
@@ -13,7 +13,7 @@ use Rattle.drawing.proofs.put_stayed.Statement.{statement}
 use Rattle.drawing.proofs.put_stayed.Tie as tie
 
 abbrev invariant-loop : tie.invariant-loop
-invariant-loop out₀ at ws source level n next₀ place₀ out next place = (place ≤ n) × ((out, next) ≡ write (out₀, at) (barTexts (stayed place ws source level)))
+invariant-loop out₀ at ws source level n next₀ place₀ out next place = (place ≤ n) × ((out, next) ≡ write (out₀, at) (bar_texts (stayed place ws source level)))
 
 abbrev decreases-loop : tie.decreases-loop
 decreases-loop out₀ at ws source level n next₀ place₀ out next place = n - place
@@ -35,8 +35,8 @@ returns : tie.Need-returns invariant-loop decreases-loop
 returns c =
     let s = c.before.before in
     let a = s.before.before.before.before.before.args in
-    at-end (λ n. write (a.out.now, a.at) (barTexts (stayed n a.ws.now a.source.now a.level.now))) _ _ c.before.loop.invariant.0 c.loop-test.false c.before.loop.invariant.1
-    ∙ ap (λ (n : ℕ). write (a.out.now, a.at) (barTexts (stayed n a.ws.now a.source.now a.level.now))) s.stay.ensures
+    at_end (λ n. write (a.out.now, a.at) (bar_texts (stayed n a.ws.now a.source.now a.level.now))) _ _ c.before.loop.invariant.0 c.loop-test.false c.before.loop.invariant.1
+    ∙ ap (λ (n : ℕ). write (a.out.now, a.at) (bar_texts (stayed n a.ws.now a.source.now a.level.now))) s.stay.ensures
 
 pub put-stayed-spec : {M : Type 1} → statement M
 put-stayed-spec =

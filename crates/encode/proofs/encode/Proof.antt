@@ -5,8 +5,8 @@ use native.Mathlib.Omega.{arith}
 use lib.ListN.{length, take, drop}
 use Rattle.text.specs.Text.{write}
 use Rattle.text.proofs.WriteLaws.{rest_of, nothing, write-laid, same_length as same-length-of}
-use Rattle.encode.proofs.PlaceLaws.{place-sought, place-within}
-use Rattle.encode.specs.Encode.{longestTrace, Encoding, encoded}
+use Rattle.encode.proofs.PlaceLaws.{place_sought, place-within}
+use Rattle.encode.specs.Encode.{longest_trace, Encoding, encoded}
 use Rattle.encode.proofs.EncodeLaws.{stops-within, size-within, left_of, left-first, left-none, left-refused, left-more}
 use borrow.Author.Rules.{rules}
 use Rattle.encode.proofs.encode.Statement.{statement}
@@ -16,7 +16,7 @@ abbrev invariant-loop : tie.invariant-loop
 invariant-loop text out₀ place₀ kind₀ size₀ lines₀ at₀ out place kind size lines at =
     ((left_of text lines at kind size).refusal ≡ (encoded text).refusal)
     × (write (out, place) (left_of text lines at kind size).bytes ≡ write (out₀, 0) (encoded text).bytes)
-    × (length out ≡ length out₀) × (size ≤ longestTrace) × (lines ≤ at) × (at ≤ 5242881)
+    × (length out ≡ length out₀) × (size ≤ longest_trace) × (lines ≤ at) × (at ≤ 5242881)
 
 abbrev decreases-loop : tie.decreases-loop
 decreases-loop text out₀ place₀ kind₀ size₀ lines₀ at₀ out place kind size lines at = length text + 1 - at
@@ -35,12 +35,12 @@ loop-holds c =
 sub-line-of : tie.Need-overflow-sub-line-of invariant-loop decreases-loop
 sub-line-of c =
     let l = c.before.before in
-    omega (arith, c.find.ensures, (place-sought 10 l.before.before.before.args.text.now l.loop.at).from)
+    omega (arith, c.find.ensures, (place_sought 10 l.before.before.before.args.text.now l.loop.at).from)
 
 part-line-of-start : tie.Need-slice-bounds-line-of-start invariant-loop decreases-loop
 part-line-of-start c =
     let l = c.before.before in
-    omega (arith, c.find.ensures, (place-sought 10 l.before.before.before.args.text.now l.loop.at).from)
+    omega (arith, c.find.ensures, (place_sought 10 l.before.before.before.args.text.now l.loop.at).from)
 
 part-line-of-end : tie.Need-slice-bounds-line-of-end invariant-loop decreases-loop
 part-line-of-end c =
@@ -70,13 +70,13 @@ sub-put-statement : tie.Need-overflow-sub-put-statement invariant-loop decreases
 sub-put-statement c =
     let f = c.before.before.before.before.before in
     let l = f.before.before in
-    omega (arith, f.find.ensures, (place-sought 10 l.before.before.before.args.text.now l.loop.at).from)
+    omega (arith, f.find.ensures, (place_sought 10 l.before.before.before.args.text.now l.loop.at).from)
 
 part-put-statement-start : tie.Need-slice-bounds-put-statement-start invariant-loop decreases-loop
 part-put-statement-start c =
     let f = c.before.before.before.before.before in
     let l = f.before.before in
-    omega (arith, f.find.ensures, (place-sought 10 l.before.before.before.args.text.now l.loop.at).from)
+    omega (arith, f.find.ensures, (place_sought 10 l.before.before.before.args.text.now l.loop.at).from)
 
 part-put-statement-end : tie.Need-slice-bounds-put-statement-end invariant-loop decreases-loop
 part-put-statement-end c =
@@ -105,7 +105,7 @@ loop-less : tie.Need-loop-smaller invariant-loop decreases-loop
 loop-less c =
     let f = c.before.before.before.before.before.before.before.before.before.before in
     let l = f.before.before in
-    omega (arith, f.find.ensures, (place-sought 10 l.before.before.before.args.text.now l.loop.at).from, f.before.loop-test.true)
+    omega (arith, f.find.ensures, (place_sought 10 l.before.before.before.args.text.now l.loop.at).from, f.before.loop-test.true)
 
 loop-again : tie.Need-loop-preserved invariant-loop decreases-loop
 loop-again c =
@@ -120,7 +120,7 @@ loop-again c =
       rest_of _ _ _ _ c.before.before.before.put-statement.ensures ∙ ap (write _) (sym (ap (λ (e : Encoding). e.bytes) x)) ∙ l.loop.invariant.1,
       same-length-of _ _ _ c.before.before.before.put-statement.ensures ∙ l.loop.invariant.2,
       size-within f.find.result l.loop.kind l.loop.size _ s.line_of.result s.line_of.ensures z,
-      omega (arith, l.loop.invariant.4, f.find.ensures, (place-sought 10 t l.loop.at).from),
+      omega (arith, l.loop.invariant.4, f.find.ensures, (place_sought 10 t l.loop.at).from),
       omega (arith, stops-within f.find.result l.loop.kind l.loop.size _ s.line_of.result s.line_of.ensures z),
     )
 

@@ -5,26 +5,26 @@ use Rattle.words.proofs.ChoiceLaws.{pick_true, pick-false}
 use Rattle.text.specs.Text.{write}
 use Rattle.text.proofs.WriteLaws.{and_then}
 use Rattle.text.specs.Phrases.{bytes, counted}
-use Rattle.encode.specs.Lines.{expectedWords}
+use Rattle.encode.specs.Lines.{expected_words}
 use borrow.Author.Rules.{rules}
 use Rattle.encode.proofs.put_expected.Statement.{statement}
 use Rattle.encode.proofs.put_expected.Tie as tie
 
 returns : tie.Need-returns
-unfolding expectedWords bytes counted
+unfolding expected_words bytes counted
 returns c =
     c.before.before.put_all_lem.ensures
     ∙ ap (write _) (pick_true _ (eq-eqb _ _ c.before.before.before.before.before.if1.true))
 
 returns-2 : tie.Need-returns-2
-unfolding expectedWords bytes counted
+unfolding expected_words bytes counted
 returns-2 c =
     c.before.before.put-all2.ensures
     ∙ ap (write _) (pick_true _ (eq-eqb _ _ c.before.before.before.before.before.if2.true)
     ∙ pick-false _ (ne_eqb _ _ c.before.before.before.before.before.before.if1.false))
 
 returns-3 : tie.Need-returns-3
-unfolding expectedWords bytes counted
+unfolding expected_words bytes counted
 returns-3 c =
     and_then _ _ _ c.before.before.before.before.before.before.put-all3.ensures c.before.before.put-decimal.ensures
     ∙ ap (write _) (pick_true _ (eq-eqb _ _ c.before.before.before.before.before.before.before.before.before.if3.true)
@@ -32,7 +32,7 @@ returns-3 c =
     ∙ pick-false _ (ne_eqb _ _ c.before.before.before.before.before.before.before.before.before.before.before.if1.false))
 
 returns-4 : tie.Need-returns-4
-unfolding expectedWords bytes counted
+unfolding expected_words bytes counted
 returns-4 c =
     and_then _ _ _ c.before.before.before.before.before.before.put-all4.ensures c.before.before.put-decimal2.ensures
     ∙ ap (write _) (pick_true _ (eq-eqb _ _ c.before.before.before.before.before.before.before.before.before.if4.true)
@@ -41,7 +41,7 @@ returns-4 c =
     ∙ pick-false _ (ne_eqb _ _ c.before.before.before.before.before.before.before.before.before.before.before.before.if1.false))
 
 returns-5 : tie.Need-returns-5
-unfolding expectedWords bytes counted
+unfolding expected_words bytes counted
 returns-5 c =
     c.before.before.put-all5.ensures
     ∙ ap (write _) (pick_true _ (eq-eqb _ _ c.before.before.before.before.before.if5.true)
@@ -51,7 +51,7 @@ returns-5 c =
     ∙ pick-false _ (ne_eqb _ _ c.before.before.before.before.before.before.before.before.before.if1.false))
 
 returns-6 : tie.Need-returns-6
-unfolding expectedWords bytes counted
+unfolding expected_words bytes counted
 returns-6 c =
     c.before.before.put-all6.ensures
     ∙ ap (write _) (pick-false _ (ne_eqb _ _ c.before.before.before.before.before.if5.false)

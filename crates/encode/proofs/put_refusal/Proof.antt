@@ -2,13 +2,13 @@
 use mathlib.Core.Path.{◌∙◌}
 use Rattle.text.proofs.WriteLaws.{and_then, write-laid}
 use Rattle.text.specs.Phrases.{bytes, counted}
-use Rattle.encode.specs.Lines.{refusedLine}
+use Rattle.encode.specs.Lines.{refused_line}
 use borrow.Author.Rules.{rules}
 use Rattle.encode.proofs.put_refusal.Statement.{statement}
 use Rattle.encode.proofs.put_refusal.Tie as tie
 
 returns : tie.Need-returns
-unfolding refusedLine bytes counted
+unfolding refused_line bytes counted
 returns c =
     let c4 = c.before.before in
     let c3 = c4.before.before.before.before in

@@ -1,5 +1,5 @@
 use Rattle.text.specs.Phrases.{bytes}
-use Rattle.explain.specs.Explain.{cicDocument}
+use Rattle.explain.specs.Explain.{cic_document}
 use borrow.Author.Rules.{rules}
 use Rattle.explain.proofs.put_cic_document.Statement.{statement}
 use Rattle.explain.proofs.put_cic_document.Tie as tie
@@ -21,7 +21,7 @@ same_length c = search rules
 
 -- src/lib.rt:443:1
 returns : tie.Need-returns
-unfolding cicDocument bytes
+unfolding cic_document bytes
 returns c = c.before.before.put_all_lem.ensures
 
 pub put-cic-document-spec : {M : Type 1} → statement M

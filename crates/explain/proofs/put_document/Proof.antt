@@ -2,8 +2,8 @@ use mathlib.Core.Path.{◌≡◌, refl, sym, ap, ◌∙◌}
 use Rattle.text.specs.Text.{write}
 use Rattle.text.proofs.WriteLaws.{and_then, nothing, write-laid, same_length as same-length-of}
 use Rattle.text.specs.Phrases.{bytes}
-use Rattle.kinds.proofs.KindLaws.{at-aic, at-core, at-cic, at-aintc, at_indexed, at_none}
-use Rattle.explain.specs.Explain.{documentWords}
+use Rattle.kinds.proofs.KindLaws.{at_aic, at_core, at-cic, at_aintc, at_indexed, at_none}
+use Rattle.explain.specs.Explain.{document_words}
 use borrow.Author.Rules.{rules}
 use Rattle.explain.proofs.put_document.Statement.{statement}
 use Rattle.explain.proofs.put_document.Tie as tie
@@ -26,8 +26,8 @@ same_length c = search rules
 
 -- src/lib.rt:417:9
 returns : tie.Need-returns
-unfolding documentWords bytes
-returns c = c.before.before.put_all_lem.ensures ∙ ap (write _) (at-aic _ _ c.before.before.before.before.before.if1.true)
+unfolding document_words bytes
+returns c = c.before.before.put_all_lem.ensures ∙ ap (write _) (at_aic _ _ c.before.before.before.before.before.if1.true)
 
 -- src/lib.rt:424:39
 slice-aggregate-put-all-2 : tie.Need-slice-aggregate-put-all-2
@@ -43,8 +43,8 @@ same-length-2 c = search rules
 
 -- src/lib.rt:424:9
 returns-2 : tie.Need-returns-2
-unfolding documentWords bytes
-returns-2 c = c.before.before.put-all2.ensures ∙ ap (write _) (at-core _ _ c.before.before.before.before.before.if2.true)
+unfolding document_words bytes
+returns-2 c = c.before.before.put-all2.ensures ∙ ap (write _) (at_core _ _ c.before.before.before.before.before.if2.true)
 
 -- src/lib.rt:427:9
 put-cic-document-requires : tie.Need-put-cic-document-requires
@@ -56,7 +56,7 @@ same-length-3 c = search rules
 
 -- src/lib.rt:427:9
 returns-3 : tie.Need-returns-3
-unfolding documentWords bytes
+unfolding document_words bytes
 returns-3 c = c.before.before.put-cic-document.ensures ∙ ap (write _) (at-cic _ _ c.before.before.before.before.if3.true)
 
 -- src/lib.rt:433:13
@@ -73,8 +73,8 @@ same-length-4 c = search rules
 
 -- src/lib.rt:430:9
 returns-4 : tie.Need-returns-4
-unfolding documentWords bytes
-returns-4 c = c.before.before.put-all3.ensures ∙ ap (write _) (at-aintc _ _ c.before.before.before.before.before.if4.true)
+unfolding document_words bytes
+returns-4 c = c.before.before.put-all3.ensures ∙ ap (write _) (at_aintc _ _ c.before.before.before.before.before.if4.true)
 
 -- src/lib.rt:437:9
 put-cic-document-requires-2 : tie.Need-put-cic-document-requires-2
@@ -86,12 +86,12 @@ same-length-5 c = search rules
 
 -- src/lib.rt:437:9
 returns-5 : tie.Need-returns-5
-unfolding documentWords bytes
+unfolding document_words bytes
 returns-5 c = c.before.before.put-cic-document2.ensures ∙ ap (write _) (at_indexed _ _ c.before.before.before.before.if5.true)
 
 -- src/lib.rt:413:1
 returns-6 : tie.Need-returns-6
-unfolding documentWords bytes
+unfolding document_words bytes
 returns-6 c =
     let p = c.before.before in
     nothing _ ∙ ap (write _) (at_none _ _ p.before.before.if1.false p.before.if2.false p.if3.false c.before.if4.false c.if5.false)

@@ -1,6 +1,6 @@
 use Rattle.text.proofs.WriteLaws.{and_then, nothing, write-laid, same_length as same-length-of}
 use Rattle.text.specs.Phrases.{bytes}
-use Rattle.explain.specs.Explain.{endLine}
+use Rattle.explain.specs.Explain.{end_line}
 use borrow.Author.Rules.{rules}
 use Rattle.explain.proofs.put_end_line.Statement.{statement}
 use Rattle.explain.proofs.put_end_line.Tie as tie
@@ -49,7 +49,7 @@ same_length c = search rules
 
 -- src/lib.rt:205:1
 returns : tie.Need-returns
-unfolding endLine bytes
+unfolding end_line bytes
 returns c =
     let c6 = c.before.before in
     let c5 = c6.before.before.before.before in

@@ -3,7 +3,7 @@ use Rattle.text.specs.Text.{write}
 use borrow.Author.Tests.{eq-eqb, ne_eqb, lt-ltb, le-ltb}
 use Rattle.words.proofs.ChoiceLaws.{pick_true, pick-false, by-true, by-false}
 use Rattle.text.specs.Phrases.{bytes}
-use Rattle.explain.specs.Explain.{endReason}
+use Rattle.explain.specs.Explain.{end_reason}
 use borrow.Author.Rules.{rules}
 use Rattle.explain.proofs.put_end_reason.Statement.{statement}
 use Rattle.explain.proofs.put_end_reason.Tie as tie
@@ -25,7 +25,7 @@ same_length c = search rules
 
 -- src/lib.rt:220:9
 returns : tie.Need-returns
-unfolding endReason bytes
+unfolding end_reason bytes
 returns c =
     c.before.before.put_all_lem.ensures
     ∙ ap (write _) (pick_true _ (eq-eqb _ _ c.before.before.before.before.before.if1.true))
@@ -44,7 +44,7 @@ same-length-2 c = search rules
 
 -- src/lib.rt:227:9
 returns-2 : tie.Need-returns-2
-unfolding endReason bytes
+unfolding end_reason bytes
 returns-2 c =
     c.before.before.put-all2.ensures
     ∙ ap (write _) (pick_true _ (eq-eqb _ _ c.before.before.before.before.before.if2.true)
@@ -64,7 +64,7 @@ same-length-3 c = search rules
 
 -- src/lib.rt:234:9
 returns-3 : tie.Need-returns-3
-unfolding endReason bytes
+unfolding end_reason bytes
 returns-3 c =
     c.before.before.put-all3.ensures
     ∙ ap (write _) (pick_true _ (eq-eqb _ _ c.before.before.before.before.before.if3.true)
@@ -85,7 +85,7 @@ same-length-4 c = search rules
 
 -- src/lib.rt:237:9
 returns-4 : tie.Need-returns-4
-unfolding endReason bytes
+unfolding end_reason bytes
 returns-4 c =
     c.before.before.put-all4.ensures
     ∙ ap (write _) (pick_true _ (eq-eqb _ _ c.before.before.before.before.before.if4.true)
@@ -107,7 +107,7 @@ same-length-5 c = search rules
 
 -- src/lib.rt:216:1
 returns-5 : tie.Need-returns-5
-unfolding endReason bytes
+unfolding end_reason bytes
 returns-5 c =
     c.before.before.put-all5.ensures
     ∙ ap (write _) (pick-false _ (ne_eqb _ _ c.before.before.before.before.before.if4.false)

@@ -2,8 +2,8 @@ use mathlib.Core.Path.{◌≡◌, refl, sym, ap, ◌∙◌}
 use Rattle.text.specs.Text.{write}
 use Rattle.text.proofs.WriteLaws.{and_then, nothing, write-laid, same_length as same-length-of}
 use Rattle.text.specs.Phrases.{bytes}
-use Rattle.kinds.proofs.KindLaws.{at-aic, at-core, at-cic, at-aintc, at_indexed, at_none}
-use Rattle.explain.specs.Stated.{kindWord}
+use Rattle.kinds.proofs.KindLaws.{at_aic, at_core, at-cic, at_aintc, at_indexed, at_none}
+use Rattle.explain.specs.Stated.{kind_word}
 use borrow.Author.Rules.{rules}
 use Rattle.explain.proofs.put_kind.Statement.{statement}
 use Rattle.explain.proofs.put_kind.Tie as tie
@@ -25,8 +25,8 @@ same_length c = search rules
 
 -- src/lib.rt:258:9
 returns : tie.Need-returns
-unfolding kindWord bytes
-returns c = c.before.before.put_all_lem.ensures ∙ ap (write _) (at-aic _ _ c.before.before.before.before.before.if1.true)
+unfolding kind_word bytes
+returns c = c.before.before.put_all_lem.ensures ∙ ap (write _) (at_aic _ _ c.before.before.before.before.before.if1.true)
 
 -- src/lib.rt:261:39
 slice-aggregate-put-all-2 : tie.Need-slice-aggregate-put-all-2
@@ -42,8 +42,8 @@ same-length-2 c = search rules
 
 -- src/lib.rt:261:9
 returns-2 : tie.Need-returns-2
-unfolding kindWord bytes
-returns-2 c = c.before.before.put-all2.ensures ∙ ap (write _) (at-core _ _ c.before.before.before.before.before.if2.true)
+unfolding kind_word bytes
+returns-2 c = c.before.before.put-all2.ensures ∙ ap (write _) (at_core _ _ c.before.before.before.before.before.if2.true)
 
 -- src/lib.rt:264:39
 slice-aggregate-put-all-3 : tie.Need-slice-aggregate-put-all-3
@@ -59,7 +59,7 @@ same-length-3 c = search rules
 
 -- src/lib.rt:264:9
 returns-3 : tie.Need-returns-3
-unfolding kindWord bytes
+unfolding kind_word bytes
 returns-3 c = c.before.before.put-all3.ensures ∙ ap (write _) (at-cic _ _ c.before.before.before.before.before.if3.true)
 
 -- src/lib.rt:267:39
@@ -76,8 +76,8 @@ same-length-4 c = search rules
 
 -- src/lib.rt:267:9
 returns-4 : tie.Need-returns-4
-unfolding kindWord bytes
-returns-4 c = c.before.before.put-all4.ensures ∙ ap (write _) (at-aintc _ _ c.before.before.before.before.before.if4.true)
+unfolding kind_word bytes
+returns-4 c = c.before.before.put-all4.ensures ∙ ap (write _) (at_aintc _ _ c.before.before.before.before.before.if4.true)
 
 -- src/lib.rt:270:39
 slice-aggregate-put-all-5 : tie.Need-slice-aggregate-put-all-5
@@ -93,12 +93,12 @@ same-length-5 c = search rules
 
 -- src/lib.rt:270:9
 returns-5 : tie.Need-returns-5
-unfolding kindWord bytes
+unfolding kind_word bytes
 returns-5 c = c.before.before.put-all5.ensures ∙ ap (write _) (at_indexed _ _ c.before.before.before.before.before.if5.true)
 
 -- src/lib.rt:254:1
 returns-6 : tie.Need-returns-6
-unfolding kindWord bytes
+unfolding kind_word bytes
 returns-6 c =
     let p = c.before.before in
     nothing _ ∙ ap (write _) (at_none _ _ p.before.before.if1.false p.before.if2.false p.if3.false c.before.if4.false c.if5.false)

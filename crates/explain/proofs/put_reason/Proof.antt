@@ -3,7 +3,7 @@ use Rattle.text.specs.Text.{write}
 use borrow.Author.Tests.{eq-eqb, ne_eqb, lt-ltb, le-ltb}
 use Rattle.words.proofs.ChoiceLaws.{pick_true, pick-false, by-true, by-false}
 use Rattle.text.specs.Phrases.{bytes}
-use Rattle.explain.specs.Explain.{reasonWords}
+use Rattle.explain.specs.Explain.{reason_words}
 use borrow.Author.Rules.{rules}
 use Rattle.explain.proofs.put_reason.Statement.{statement}
 use Rattle.explain.proofs.put_reason.Tie as tie
@@ -26,7 +26,7 @@ same_length c = search rules
 
 -- src/lib.rt:509:9
 returns : tie.Need-returns
-unfolding reasonWords bytes
+unfolding reason_words bytes
 returns c =
     c.before.before.put_all_lem.ensures
     ∙ ap (write _) (pick_true _ (eq-eqb _ _ c.before.before.before.before.before.if1.true))
@@ -45,7 +45,7 @@ same-length-2 c = search rules
 
 -- src/lib.rt:512:9
 returns-2 : tie.Need-returns-2
-unfolding reasonWords bytes
+unfolding reason_words bytes
 returns-2 c =
     c.before.before.put-all2.ensures
     ∙ ap (write _) (pick_true _ (eq-eqb _ _ c.before.before.before.before.before.if2.true)
@@ -65,7 +65,7 @@ same-length-3 c = search rules
 
 -- src/lib.rt:515:9
 returns-3 : tie.Need-returns-3
-unfolding reasonWords bytes
+unfolding reason_words bytes
 returns-3 c =
     c.before.before.put-all3.ensures
     ∙ ap (write _) (pick_true _ (eq-eqb _ _ c.before.before.before.before.before.if3.true)
@@ -86,7 +86,7 @@ same-length-4 c = search rules
 
 -- src/lib.rt:518:9
 returns-4 : tie.Need-returns-4
-unfolding reasonWords bytes
+unfolding reason_words bytes
 returns-4 c =
     c.before.before.put-all4.ensures
     ∙ ap (write _) (pick_true _ (eq-eqb _ _ c.before.before.before.before.before.if4.true)
@@ -104,7 +104,7 @@ same-length-5 c = search rules
 
 -- src/lib.rt:521:9
 returns-5 : tie.Need-returns-5
-unfolding reasonWords bytes
+unfolding reason_words bytes
 returns-5 c =
     c.before.before.put-limit.ensures
     ∙ ap (write _) (pick_true _ (eq-eqb _ _ c.before.before.before.before.if5.true)
@@ -127,7 +127,7 @@ same-length-6 c = search rules
 
 -- src/lib.rt:524:9
 returns-6 : tie.Need-returns-6
-unfolding reasonWords bytes
+unfolding reason_words bytes
 returns-6 c =
     c.before.before.put-all5.ensures
     ∙ ap (write _) (pick_true _ (eq-eqb _ _ c.before.before.before.before.before.if6.true)
@@ -151,7 +151,7 @@ same-length-7 c = search rules
 
 -- src/lib.rt:505:1
 returns-7 : tie.Need-returns-7
-unfolding reasonWords bytes
+unfolding reason_words bytes
 returns-7 c =
     c.before.before.put-all6.ensures
     ∙ ap (write _) (pick-false _ (ne_eqb _ _ c.before.before.before.before.before.if6.false)

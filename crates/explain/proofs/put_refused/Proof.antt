@@ -1,6 +1,6 @@
 use Rattle.text.proofs.WriteLaws.{and_then, nothing, write-laid, same_length as same-length-of}
 use Rattle.text.specs.Phrases.{bytes}
-use Rattle.explain.specs.Explain.{refusedWords}
+use Rattle.explain.specs.Explain.{refused_words}
 use borrow.Author.Rules.{rules}
 use Rattle.explain.proofs.put_refused.Statement.{statement}
 use Rattle.explain.proofs.put_refused.Tie as tie
@@ -36,7 +36,7 @@ same_length c = search rules
 
 -- src/lib.rt:496:1
 returns : tie.Need-returns
-unfolding refusedWords bytes
+unfolding refused_words bytes
 returns c =
     let c3 = c.before.before in
     let c2 = c3.before.before.before.before in

@@ -3,8 +3,8 @@ use mathlib.Core.Path.{sym, ◌∙◌}
 use lib.Seq.{length-take-le}
 use Rattle.text.proofs.WriteLaws.{and_then, write-laid, laid-fits}
 use Rattle.text.specs.Phrases.{bytes}
-use Rattle.explain.specs.Explain.{stepLine, commented}
-use Rattle.explain.proofs.StatedLaws.{column-so, stated-fits}
+use Rattle.explain.specs.Explain.{step_line, commented}
+use Rattle.explain.proofs.StatedLaws.{column_so, stated-fits}
 use borrow.Author.Rules.{rules}
 use Rattle.explain.proofs.put_step_line.Statement.{statement}
 use Rattle.explain.proofs.put_step_line.Tie as tie
@@ -16,7 +16,7 @@ slice-aggregate-put-column : tie.Need-slice-aggregate-put-column
 slice-aggregate-put-column c = sym (length-take-le _ _ (laid-fits _ _ _ (c.before.before.before.put-stated.ensures ∙ write-laid _ _)))
 
 returns : tie.Need-returns
-unfolding stepLine commented bytes
+unfolding step_line commented bytes
 returns c =
     let c5 = c.before.before in
     let c4 = c5.before.before.before.before in
@@ -24,7 +24,7 @@ returns c =
     let c2 = c3.before.before.before.before.before in
     let c1 = c2.before.before.before.before in
     and_then _ _ _ (and_then _ _ _ (and_then _ _ _
-    (column-so _ _ _ _ _ c1.put-stated.ensures (stated-fits _ _) c2.put-column.ensures)
+    (column_so _ _ _ _ _ c1.put-stated.ensures (stated-fits _ _) c2.put-column.ensures)
     c3.put_all_lem.ensures) c4.put-step-words.ensures) c5.put.ensures
 
 pub put-step-line-spec : {M : Type 1} → statement M

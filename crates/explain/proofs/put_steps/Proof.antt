@@ -4,11 +4,11 @@ use mathlib.Core.Path.{◌≡◌, ap, sym, ◌∙◌}
 use native.Mathlib.Omega.{arith}
 use lib.ListN.{length}
 use Rattle.text.specs.Text.{write}
-use Rattle.trace.specs.Trace.{stepsFrom}
-use Rattle.trace.proofs.TraceLaws.{turn-found}
+use Rattle.trace.specs.Trace.{steps_from}
+use Rattle.trace.proofs.TraceLaws.{turn_found}
 use Rattle.machine.specs.RecordPromises.{Ready}
 use Rattle.beginning.proofs.PlayLaws.{next-ready}
-use Rattle.explain.specs.Explain.{textFrom}
+use Rattle.explain.specs.Explain.{text_from}
 use Rattle.explain.proofs.ExplainLaws.{text-ended, lined, text-told}
 use borrow.Author.Rules.{rules}
 use Rattle.explain.proofs.put_steps.Statement.{statement}
@@ -16,7 +16,7 @@ use Rattle.explain.proofs.put_steps.Tie as tie
 
 abbrev invariant-loop : tie.invariant-loop
 invariant-loop trace limit w start out₀ from told at₀ m₀ more₀ number₀ to₀ out at m more number to =
-    (write (out, to) (textFrom w told number m (stepsFrom told more trace at)) ≡ write (out₀, from) (textFrom w told 0 m₀ (stepsFrom told limit trace start)))
+    (write (out, to) (text_from w told number m (steps_from told more trace at)) ≡ write (out₀, from) (text_from w told 0 m₀ (steps_from told limit trace start)))
     × (length out ≡ length out₀) × (number + more ≡ limit) × Ready m
 
 abbrev decreases-loop : tie.decreases-loop
@@ -30,13 +30,13 @@ returns c =
     ∙ ap (write _) (text-ended _ _ _ _ _ _ _ _ _ (sym c.before.before.before.before.before.before.before.turn_at.ensures ∙ c.before.before.before.before.before.refusal.given.1)) ∙ l.loop.invariant.0)
 
 sub_more : tie.Need-overflow-sub-more invariant-loop decreases-loop
-sub_more c = omega (arith, (turn-found _ _ _ _ _ _ (sym c.before.before.before.before.turn_at.ensures ∙ c.before.before.x.given.1)).1.0)
+sub_more c = omega (arith, (turn_found _ _ _ _ _ _ (sym c.before.before.before.before.turn_at.ensures ∙ c.before.before.x.given.1)).1.0)
 
 add-number : tie.Need-overflow-add-number invariant-loop decreases-loop
-add-number c = omega (arith, (turn-found _ _ _ _ _ _ (sym c.before.before.before.before.turn_at.ensures ∙ c.before.before.x.given.1)).1.0)
+add-number c = omega (arith, (turn_found _ _ _ _ _ _ (sym c.before.before.before.before.turn_at.ensures ∙ c.before.before.x.given.1)).1.0)
 
 loop-less : tie.Need-loop-smaller invariant-loop decreases-loop
-loop-less c = omega (arith, (turn-found _ _ _ _ _ _ (sym c.before.before.before.before.before.before.before.before.before.turn_at.ensures ∙ c.before.before.before.before.before.before.before.x.given.1)).1.0)
+loop-less c = omega (arith, (turn_found _ _ _ _ _ _ (sym c.before.before.before.before.before.before.before.before.before.turn_at.ensures ∙ c.before.before.before.before.before.before.before.x.given.1)).1.0)
 
 loop-again : tie.Need-loop-preserved invariant-loop decreases-loop
 loop-again c =
@@ -45,7 +45,7 @@ loop-again c =
     let l = c.before.before.before.before.before.before.before.before.before.before.loop in (
       lined _ _ _ _ _ _ _ _ _ _ _ _ _ e a.step-sound.ensures c.before.before.before.put-shown.ensures l.invariant.0,
       search rules,
-      omega (arith, (turn-found _ _ _ _ _ _ e).1.0),
+      omega (arith, (turn_found _ _ _ _ _ _ e).1.0),
       next-ready _ _ _ a.step-sound.ensures l.invariant.3,
     )
 

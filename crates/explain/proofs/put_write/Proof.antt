@@ -1,17 +1,17 @@
 -- That `put_write` of src/lib.rt keeps its contract.
 use Rattle.text.proofs.WriteLaws.{and_then}
 use Rattle.text.specs.Phrases.{bytes}
-use Rattle.explain.specs.Stated.{writeStated}
-use Rattle.explain.proofs.StatedLaws.{offset-so}
+use Rattle.explain.specs.Stated.{write_stated}
+use Rattle.explain.proofs.StatedLaws.{offset_so}
 use borrow.Author.Rules.{rules}
 use Rattle.explain.proofs.put_write.Statement.{statement}
 use Rattle.explain.proofs.put_write.Tie as tie
 
 returns : tie.Need-returns
-unfolding writeStated bytes
+unfolding write_stated bytes
 returns c =
     and_then _ _ _
-    (and_then _ _ _ (and_then _ _ _ c.before.before.before.before.before.before.before.before.before.before.before.before.before.before.before.put_all_lem.ensures (offset-so _ _ _ _ c.before.before.before.before.before.before.before.before.before.before.before.before.offset-digits.ensures c.before.before.before.before.before.before.before.before.before.before.put-hex-field.ensures))
+    (and_then _ _ _ (and_then _ _ _ c.before.before.before.before.before.before.before.before.before.before.before.before.before.before.before.put_all_lem.ensures (offset_so _ _ _ _ c.before.before.before.before.before.before.before.before.before.before.before.before.offset-digits.ensures c.before.before.before.before.before.before.before.before.before.before.put-hex-field.ensures))
     c.before.before.before.before.before.before.put-privilege.ensures) c.before.before.put-hex-field2.ensures
 
 pub put-write-spec : {M : Type 1} → statement M

@@ -39,7 +39,7 @@ use denote.Triple.Table.{entered, cited}
 use denote.Triple.Walked.{says, Stays, stay_ref, stay_none, walk_of, AllGo, Goes-none, Goes-ref, Walks, ends_at, walked, walk_Meets}
 use denote.Exit.{yes}
 use denote.Triple.Clauses.{ensured, lasts}
-use Rattle.coreinterrupt_room.specs.Lent.{startOver, replyOf, leftBy}
+use Rattle.coreinterrupt_room.specs.Lent.{start_over, reply_of, left_by}
 use Rattle.coreinterrupt.specs.declared.Core.{Core}
 use Rattle.coreinterrupt.specs.declared.Answer.{Answer}
 use Rattle.coreinterrupt.specs.contracts.Core as T
@@ -52,7 +52,7 @@ use Rattle.coreinterrupt_room.specs.contracts.lent.start_over as callee
 use Rattle.coreinterrupt_room.proofs.lent.start_over.Symbol as callee-def
 use Rattle.coreinterrupt_room.proofs.lent.start_over.Symbol.{name as #callee}
 use Rattle.coreinterrupt_room.proofs.lent.start_over.Met as callee-thm
-use Rattle.coreinterrupt_room.proofs.ValueLaws.{vals, reply-val, spelt-as, rec-is, reply-is}
+use Rattle.coreinterrupt_room.proofs.ValueLaws.{vals, reply-val, spelt_as, rec-is, reply-is}
 use Rattle.exports.specs.contracts.wisteria_core_start.Key.{name as #lent}
 use Rattle.exports.specs.contracts.wisteria_core_start as lent
 use Rattle.exports.proofs.wisteria_core_start.Statement as stated
@@ -67,8 +67,8 @@ module _ {M : Type 1} {𝓤 : Ura M} (𝓛 : Logic 𝓤) (mem : Memory → SProp
   Callee = triple_of 𝓛 callee.signature (callee.spec 𝓛 mem run)
 
   -- of its `ensured`, the clause alone: it has no `&mut`, so what is said of last values is dropped
-  said : (h : Core) (x₁ : ℕ) (x₂ : ℕ) (x₃ : ℕ) (x₄ : ℕ) (r : Answer) → ent 𝓤 (ensured 𝓛 callee.ended (callee.clauses 𝓛 mem run) tt (h, (x₁, (x₂, (x₃, (x₄, tt))))) tt r) (fact 𝓤 (r ≡ startOver h x₁ x₂ x₃ x₄))
-  said h x₁ x₂ x₃ x₄ r = ex_e 𝓤 _ (λ ws. snd∗ 𝓤 (sem 𝓛 (lasts callee.ended tt (h, (x₁, (x₂, (x₃, (x₄, tt))))) ws)) (fact 𝓤 (r ≡ startOver h x₁ x₂ x₃ x₄)))
+  said : (h : Core) (x₁ : ℕ) (x₂ : ℕ) (x₃ : ℕ) (x₄ : ℕ) (r : Answer) → ent 𝓤 (ensured 𝓛 callee.ended (callee.clauses 𝓛 mem run) tt (h, (x₁, (x₂, (x₃, (x₄, tt))))) tt r) (fact 𝓤 (r ≡ start_over h x₁ x₂ x₃ x₄))
+  said h x₁ x₂ x₃ x₄ r = ex_e 𝓤 _ (λ ws. snd∗ 𝓤 (sem 𝓛 (lasts callee.ended tt (h, (x₁, (x₂, (x₃, (x₄, tt))))) ws)) (fact 𝓤 (r ≡ start_over h x₁ x₂ x₃ x₄)))
 
 module _ {M : Type 1} {𝓤 : Ura M} (𝓛 : Logic 𝓤) (at_mem : Memory → SProp 𝓤) (run : Routine → Fun 𝓤) (κ : Lft) (q : Share) (b o : ℕ) (γ : GName) (h : Core) (x₁ : ℕ) (x₂ : ℕ) (x₃ : ℕ) (x₄ : ℕ) (x₁-ok : x₁ < 2 ^ 32) (x₂-ok : x₂ < 2 ^ 32) (x₃-ok : x₃ < 2 ^ 32) (x₄-ok : x₄ < 2 ^ 32) where
   open 𝓛 use {H, A}
@@ -82,13 +82,13 @@ module _ {M : Type 1} {𝓤 : Ura M} (𝓛 : Logic 𝓤) (at_mem : Memory → SP
   abbrev Post : Val → SProp 𝓤
   Post = (walk_of 𝓛 lent.ended stayed (lent.clauses 𝓛 at_mem run)).post (((κ, tt), (q, tt), tt, x, at), tt)
 
-  exits : (r : Answer) (u : Val) → Is U.the_row r (u ∷ []) → r ≡ startOver h x₁ x₂ x₃ x₄ → ent 𝓤 (sep 𝓤 (A.obs γ ((T.the_row).coded.code r.core)) (sep 𝓤 (A.bor κ (Body (mem T.the_row) b o γ)) (A.lft κ q))) (Post (reply-val (replyOf r)))
+  exits : (r : Answer) (u : Val) → Is U.the_row r (u ∷ []) → r ≡ start_over h x₁ x₂ x₃ x₄ → ent 𝓤 (sep 𝓤 (A.obs γ ((T.the_row).coded.code r.core)) (sep 𝓤 (A.bor κ (Body (mem T.the_row) b o γ)) (A.lft κ q))) (Post (reply-val (reply_of r)))
   exits r u is e =
       qed 𝓛 (‵ (fobs γ ((T.the_row).coded.code r.core)) ∷ ‵ (fbor κ (Body (mem T.the_row) b o γ)) ∷ ‵ (flft κ q) ∷ []) ∵
-      suffices ! _ (ends_at 𝓛 lent.ended stayed (lent.clauses 𝓛 at_mem run) (((κ, tt), (q, tt), tt, x, at), tt) (reply-val (replyOf r)) (replyOf r) (r.core, (tt, (tt, (tt, (tt, tt))))) (tt, (tt, (tt, (tt, (tt, tt)))))) $
-      says ! (ap leftBy e) $ nothing ! $ move ! (3 ∷ 0 ∷ []) $ join ! $
+      suffices ! _ (ends_at 𝓛 lent.ended stayed (lent.clauses 𝓛 at_mem run) (((κ, tt), (q, tt), tt, x, at), tt) (reply-val (reply_of r)) (reply_of r) (r.core, (tt, (tt, (tt, (tt, tt))))) (tt, (tt, (tt, (tt, (tt, tt)))))) $
+      says ! (ap left_by e) $ nothing ! $ move ! (3 ∷ 0 ∷ []) $ join ! $
       frame ! $ feq_i ! (List Val) (vptr b o ∷ []) (vptr b o ∷ []) refl $ fjoin3 ! $ nothing ! $ owned ! u32 (Is u32) (uint_Makes 𝓛 w32) x₄ _ (refl, x₄-ok) $ fjoin ! $ owned ! u32 (Is u32) (uint_Makes 𝓛 w32) x₃ _ (refl, x₃-ok) $ fjoin ! $ owned ! u32 (Is u32) (uint_Makes 𝓛 w32) x₂ _ (refl, x₂-ok) $ fjoin ! $ owned ! u32 (Is u32) (uint_Makes 𝓛 w32) x₁ _ (refl, x₁-ok) $ fjoin ! $ move ! (1 ∷ 0 ∷ []) $ fjoin ! $
-      owned ! Q.the_row (Is Q.the_row) (LL.makes Q.the_type Q'.the_plain 𝓛) (replyOf r) _ (reply-is r u is) $ move ! (1 ∷ 0 ∷ []) $ done !
+      owned ! Q.the_row (Is Q.the_row) (LL.makes Q.the_type Q'.the_plain 𝓛) (reply_of r) _ (reply-is r u is) $ move ! (1 ∷ 0 ∷ []) $ done !
 
   -- what `start_over` is passed: the record's own part goes to it, what the rest owns is made anew
   abbrev to : (Callee 𝓛 at_mem run).Ghost
@@ -113,15 +113,15 @@ module _ {M : Type 1} {𝓤 : Ura M} (𝓛 : Logic 𝓤) (at_mem : Memory → SP
         move ! (1 ∷ []) $ use1 𝓛 (raw ((Callee 𝓛 at_mem run).pre to)) asked $
         calls_at ! fm (Callee 𝓛 at_mem run) known to (and_then ! (load ! (from ! (stop !)) (look ! 5 refl)) (and_then ! (load ! (from ! (stop !)) (look ! 15 refl)) (and_then ! (load ! (from ! (stop !)) (look ! 13 refl)) (and_then ! (load ! (from ! (stop !)) (look ! 11 refl)) (and_then ! (load ! (from ! (stop !)) (look ! 9 refl)) (no_more !)))))) (λ u.
         use1 𝓛 (later (some (λ (r : Answer). (‵ ftrue ⊛ ‵ ((U.the_row).own_val r (u ∷ []))) ⊛ raw (ensured 𝓛 callee.ended (callee.clauses 𝓛 at_mem run) tt (h, (x₁, (x₂, (x₃, (x₄, tt))))) tt r)))) (id⊢ 𝓤 _) $ await ! tt $ pick ! (λ r.
-        split ! $ move ! (1 ∷ []) $ use1 𝓛 (raw (fact 𝓤 (r ≡ startOver h x₁ x₂ x₃ x₄))) (said 𝓛 at_mem run h x₁ x₂ x₃ x₄ r) $ heard ! (r ≡ startOver h x₁ x₂ x₃ x₄) (λ e. split ! $ drop ! $
+        split ! $ move ! (1 ∷ []) $ use1 𝓛 (raw (fact 𝓤 (r ≡ start_over h x₁ x₂ x₃ x₄))) (said 𝓛 at_mem run h x₁ x₂ x₃ x₄ r) $ heard ! (r ≡ start_over h x₁ x₂ x₃ x₄) (λ e. split ! $ drop ! $
         peeks ! U.the_row (Is U.the_row) (shows 𝓛 U.the_row) r (u ∷ []) (λ is.
         -- [the answer; the record's cell; the open borrow; obs; auth; the last local; …; room for _0; …]
         land ! (from ! (stop !)) (init ! 7 refl ((LL.lawful U.the_type U'.the_laws 𝓛).typed r _ is).0) $
-        rewrite ! 7 (λ (w : Val). ‵ (fat full_share U'.mir l₆ 0 w)) (spelt-as r u is) refl $
+        rewrite ! 7 (λ (w : Val). ‵ (fat full_share U'.mir l₆ 0 w)) (spelt_as r u is) refl $
         assigns ! (of_opd ! (load ! (from ! (fld ! refl (stop !))) (look_in ! 7 (sub ! 2 refl (whole !))))) (from ! (hop ! (look ! 17 refl) (stop !)))
         (store_raw ! 1 refl ((LL.lawful T.the_type T'.the_laws 𝓛).typed r.core (vals r.core) (rec-is r u is)).0) $
         assigns ! (agg ! (and_then ! (load ! (from ! (fld ! refl (stop !))) (look_in ! 7 (sub ! 0 refl (whole !)))) (and_then ! (load ! (from ! (fld ! refl (stop !))) (look_in ! 7 (sub ! 1 refl (whole !)))) (no_more !)))) (from ! (stop !))
-        (init ! 19 refl ((LL.lawful Q.the_type Q'.the_laws 𝓛).typed (replyOf r) _ (reply-is r u is)).0) $
+        (init ! 19 refl ((LL.lawful Q.the_type Q'.the_laws 𝓛).typed (reply_of r) _ (reply-is r u is)).0) $
         drop ! $ owned ! T.the_row (Is T.the_row) (LL.makes T.the_type T'.the_plain 𝓛) r.core _ (rec-is r u is) $ move ! (1 ∷ 0 ∷ []) $ closes ! tt T.the_row r.core (vals r.core) b o $
         returns ! (look ! 17 refl) $ forget ! 3 refl $ forget ! 5 refl $ forget ! 7 refl $ forget ! 9 refl $ forget ! 11 refl $ forget ! 13 refl $ forget ! 15 refl $ forget ! 17 refl $
         move ! (17 ∷ 18 ∷ []) $ free1 ! $ move ! (15 ∷ 16 ∷ []) $ free1 ! $ move ! (13 ∷ 14 ∷ []) $ free1 ! $ move ! (11 ∷ 12 ∷ []) $ free1 ! $ move ! (9 ∷ 10 ∷ []) $ free1 ! $ move ! (7 ∷ 8 ∷ []) $ free1 ! $ move ! (5 ∷ 6 ∷ []) $ free1 ! $ move ! (3 ∷ 4 ∷ []) $ free1 ! $ free0 ! $

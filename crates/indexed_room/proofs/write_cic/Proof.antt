@@ -1,5 +1,5 @@
 -- That `write_cic` of src/lib.rt keeps its contract.
-use Rattle.cic_registers.specs.Model.{writeAs}
+use Rattle.cic_registers.specs.Model.{write_as}
 use mathlib.Core.Bool.{true}
 use Rattle.cic_indexed.proofs.SoundLaws.{sound-cic}
 use Rattle.indexed_room.specs.Room.{framed}
@@ -17,7 +17,7 @@ returns-2 c =
     let a = x.before.args in
     λ p ok h.
     let d = c.before.before.write2.ensures (framed p) p.cic (sound-cic p ok) h in
-    (c.renew.ensures (framed p) (writeAs true p.cic a.offset a.v).cic p.cic.channel (map-written p a.offset a.v x.if1.false h) d.0, d.1)
+    (c.renew.ensures (framed p) (write_as true p.cic a.offset a.v).cic p.cic.channel (map-written p a.offset a.v x.if1.false h) d.0, d.1)
 
 pub write-cic-spec : {M : Type 1} → statement M
 write-cic-spec =

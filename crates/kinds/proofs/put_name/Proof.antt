@@ -3,18 +3,18 @@ use mathlib.Core.Path.{ap, ◌∙◌}
 use Rattle.text.proofs.WriteLaws.{nothing}
 use Rattle.text.specs.Text.{write}
 use Rattle.kinds.specs.Kinds.{name}
-use Rattle.kinds.proofs.KindLaws.{at-aic, at-core, at-cic, at-aintc, at_indexed, at_none}
+use Rattle.kinds.proofs.KindLaws.{at_aic, at_core, at-cic, at_aintc, at_indexed, at_none}
 use borrow.Author.Rules.{rules}
 use Rattle.kinds.proofs.put_name.Statement.{statement}
 use Rattle.kinds.proofs.put_name.Tie as tie
 
 returns : tie.Need-returns
 unfolding name
-returns c = c.before.before.put_all_lem.ensures ∙ ap (write _) (at-aic _ _ c.before.before.before.before.before.if1.true)
+returns c = c.before.before.put_all_lem.ensures ∙ ap (write _) (at_aic _ _ c.before.before.before.before.before.if1.true)
 
 returns-2 : tie.Need-returns-2
 unfolding name
-returns-2 c = c.before.before.put-all2.ensures ∙ ap (write _) (at-core _ _ c.before.before.before.before.before.if2.true)
+returns-2 c = c.before.before.put-all2.ensures ∙ ap (write _) (at_core _ _ c.before.before.before.before.before.if2.true)
 
 returns-3 : tie.Need-returns-3
 unfolding name
@@ -22,7 +22,7 @@ returns-3 c = c.before.before.put-all3.ensures ∙ ap (write _) (at-cic _ _ c.be
 
 returns-4 : tie.Need-returns-4
 unfolding name
-returns-4 c = c.before.before.put-all4.ensures ∙ ap (write _) (at-aintc _ _ c.before.before.before.before.before.if4.true)
+returns-4 c = c.before.before.put-all4.ensures ∙ ap (write _) (at_aintc _ _ c.before.before.before.before.before.if4.true)
 
 returns-5 : tie.Need-returns-5
 unfolding name

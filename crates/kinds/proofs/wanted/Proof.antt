@@ -1,17 +1,17 @@
 -- That `wanted` of src/lib.rt keeps its contract.
 use mathlib.Core.Path.{refl}
 use Rattle.kinds.specs.Kinds.{wanted}
-use Rattle.kinds.proofs.KindLaws.{at-aic, at-core, at-cic, at_indexed, at_rest}
+use Rattle.kinds.proofs.KindLaws.{at_aic, at_core, at-cic, at_indexed, at_rest}
 use Rattle.kinds.proofs.wanted.Statement.{statement}
 use Rattle.kinds.proofs.wanted.Tie as tie
 
 returns : tie.Need-returns
 unfolding wanted
-returns c = at-aic _ _ c.if1.true
+returns c = at_aic _ _ c.if1.true
 
 returns-2 : tie.Need-returns-2
 unfolding wanted
-returns-2 c = at-core _ _ c.if2.true
+returns-2 c = at_core _ _ c.if2.true
 
 returns-3 : tie.Need-returns-3
 unfolding wanted

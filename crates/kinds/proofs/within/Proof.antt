@@ -2,7 +2,7 @@
 use mathlib.Core.Path.{refl, ◌∙◌}
 use mathlib.Core.Bool.{false}
 use Rattle.kinds.specs.Kinds.{within}
-use Rattle.kinds.proofs.KindLaws.{at-aic, at-core, at-cic, at_indexed, at_rest}
+use Rattle.kinds.proofs.KindLaws.{at_aic, at_core, at-cic, at_indexed, at_rest}
 use Rattle.coreinterrupt.proofs.within.Reads as within-reads''
 use Rattle.cic.proofs.within.Reads as within-reads'
 use borrow.Author.Rules.{rules}
@@ -11,11 +11,11 @@ use Rattle.kinds.proofs.within.Tie as tie
 
 returns : tie.Need-returns
 unfolding within
-returns c = c.within.ensures ∙ at-aic _ _ c.before.if1.true
+returns c = c.within.ensures ∙ at_aic _ _ c.before.if1.true
 
 returns-2 : tie.Need-returns-2
 unfolding within
-returns-2 c = c.within2.ensures ∙ at-core _ _ c.before.if2.true
+returns-2 c = c.within2.ensures ∙ at_core _ _ c.before.if2.true
 
 returns-3 : tie.Need-returns-3
 unfolding within

@@ -3,15 +3,15 @@ use Prim.Native.Nat.{ℕ}
 use mathlib.Core.Path.{ap, ◌∙◌}
 use lib.Dec.{eqb}
 use Rattle.words.specs.Choice.{pick}
-use Rattle.steps.specs.Refusals.{carriedOut}
-use Rattle.lines.specs.Listing.{letterBy}
+use Rattle.steps.specs.Refusals.{carried_out}
+use Rattle.lines.specs.Listing.{letter_by}
 use borrow.Author.Rules.{rules}
 use Rattle.lines.proofs.letter_by.Statement.{statement}
 use Rattle.lines.proofs.letter_by.Tie as tie
 
 returns : tie.Need-returns
-unfolding letterBy
-returns c = c.unless-refused.ensures ∙ ap (λ (l : ℕ). pick (eqb c.before.before.args.refusal carriedOut) l 88) c.before.letter-by-number.ensures
+unfolding letter_by
+returns c = c.unless-refused.ensures ∙ ap (λ (l : ℕ). pick (eqb c.before.before.args.refusal carried_out) l 88) c.before.letter-by-number.ensures
 
 pub letter-by-spec : {M : Type 1} → statement M
 letter-by-spec = tie.close (tie.spec (λ c κs. search rules) (λ c κs. search rules) returns)

@@ -1,5 +1,5 @@
 -- That `put_numbered_line` of src/lib.rt keeps its contract.
-use Rattle.text.proofs.NumeralLaws.{numeral-text}
+use Rattle.text.proofs.NumeralLaws.{numeral_text}
 use Rattle.lines.proofs.BehindLaws.{as_line}
 use borrow.Author.Rules.{rules}
 use Rattle.lines.proofs.put_numbered_line.Statement.{statement}
@@ -8,7 +8,7 @@ use Rattle.lines.proofs.put_numbered_line.Tie as tie
 numbered-in-requires : tie.Need-numbered-in-requires
 numbered-in-requires c κs =
     let h = c.before.before in
-    (h.has_room.ensures c.before.if2.true, (numeral-text _ _ h.before.before.before.before.requires h.before.if1.false).0)
+    (h.has_room.ensures c.before.if2.true, (numeral_text _ _ h.before.before.before.before.requires h.before.if1.false).0)
 
 returns-2 : tie.Need-returns-2
 returns-2 c =

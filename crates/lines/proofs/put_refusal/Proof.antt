@@ -1,12 +1,12 @@
 -- That `put_refusal` of src/lib.rt keeps its contract.
 use Rattle.text.proofs.WriteLaws.{and_then}
-use Rattle.lines.specs.Listing.{endLine}
+use Rattle.lines.specs.Listing.{end_line}
 use borrow.Author.Rules.{rules}
 use Rattle.lines.proofs.put_refusal.Statement.{statement}
 use Rattle.lines.proofs.put_refusal.Tie as tie
 
 returns : tie.Need-returns
-unfolding endLine
+unfolding end_line
 returns c = let c4 = c.before.before in
     let c3 = c4.before.before.before.before in
     let c2 = c3.before.before.before.before in

@@ -2,7 +2,7 @@
 use mathlib.Core.Path.{refl, ap, ◌∙◌}
 use Rattle.text.specs.Text.{write}
 use Rattle.beginning.proofs.BeginningLaws.{begin-ready}
-use Rattle.lines.proofs.LineLaws.{text-as}
+use Rattle.lines.proofs.LineLaws.{text_as}
 use borrow.Author.Rules.{rules}
 use Rattle.listing.proofs.list_any.Statement.{statement}
 use Rattle.listing.proofs.list_any.Tie as tie
@@ -12,7 +12,7 @@ list-steps-requires c κs = let p = c.before.before.before.before.before.require
 
 returns : tie.Need-returns
 returns c = let l = c.before.before in
-    l.list_steps.ensures ∙ ap (write _) (text-as _ _ _ _ _ _ _ _ refl l.before.before.tells-privilege.ensures)
+    l.list_steps.ensures ∙ ap (write _) (text_as _ _ _ _ _ _ _ _ refl l.before.before.tells-privilege.ensures)
 
 pub list-any-spec : {M : Type 1} → statement M
 list-any-spec = tie.close (tie.spec (λ c κs. search rules) list-steps-requires (λ c. search rules) returns)

@@ -1,7 +1,7 @@
 -- That `lay` of src/lib.rt keeps its contract.
 use mathlib.Core.Path.{◌∙◌}
 use Rattle.machine.proofs.MachineLaws.{sound-cic}
-use Rattle.machine_room.proofs.RoomLaws.{aic-laid, core-laid, cic-laid, aintc-laid, indexed-laid-as, last-kind}
+use Rattle.machine_room.proofs.RoomLaws.{aic-laid, core-laid, cic-laid, aintc-laid, indexed-laid_as, last-kind}
 use borrow.Author.Rules.{rules}
 use Rattle.machine_room.proofs.lay.Statement.{statement}
 use Rattle.machine_room.proofs.lay.Tie as tie
@@ -29,7 +29,7 @@ returns-4 c =
 returns-5 : tie.Need-returns-5
 returns-5 c =
     let m = c.before.before.before.before.before.before.before.before.before.before.args.m in
-    λ ok. indexed-laid-as _ m _ _ c.before.indexed.ensures (last-kind m ok c.before.before.before.before.before.before.before.before.if1.false c.before.before.before.before.before.before.if2.false c.before.before.before.before.if3.false c.before.before.if4.false) ok c.lay4.ensures
+    λ ok. indexed-laid_as _ m _ _ c.before.indexed.ensures (last-kind m ok c.before.before.before.before.before.before.before.before.if1.false c.before.before.before.before.before.before.if2.false c.before.before.before.before.if3.false c.before.before.if4.false) ok c.lay4.ensures
 
 pub lay-spec : {M : Type 1} → statement M
 lay-spec =

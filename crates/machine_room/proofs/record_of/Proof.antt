@@ -2,7 +2,7 @@
 use mathlib.Core.Path.{◌∙◌}
 use Rattle.cic_room.specs.Room.{plain}
 use Rattle.machine.specs.Machine.{indexed}
-use Rattle.machine.proofs.MachineLaws.{sound-aic, sound-aintc, sound-indexed}
+use Rattle.machine.proofs.MachineLaws.{sound_aic, sound_aintc, sound-indexed}
 use Rattle.machine_room.proofs.RoomLaws.{of-kind, not-kind, aic-record, core-record, cic-record, aintc-record, indexed-record, last-kind}
 use borrow.Author.Rules.{rules}
 use Rattle.machine_room.proofs.record_of.Statement.{statement}
@@ -12,7 +12,7 @@ returns : tie.Need-returns
 returns c =
     λ kept m ok h b.
     let k = of-kind h c.before.if1.true in
-    aic-record c.before.before.before.args.first m _ k b (c.record_of.ensures m.aic (sound-aic m k ∙ ok) (h.aic k))
+    aic-record c.before.before.before.args.first m _ k b (c.record_of.ensures m.aic (sound_aic m k ∙ ok) (h.aic k))
 
 returns-2 : tie.Need-returns-2
 returns-2 c =
@@ -30,7 +30,7 @@ returns-4 : tie.Need-returns-4
 returns-4 c =
     λ kept m ok h b.
     let k = of-kind h c.before.if4.true in
-    aintc-record c.before.before.before.before.before.before.before.before.before.args.first m _ k b (c.record-of4.ensures m.aintc (sound-aintc m k ∙ ok) (h.aintc k))
+    aintc-record c.before.before.before.before.before.before.before.before.before.args.first m _ k b (c.record-of4.ensures m.aintc (sound_aintc m k ∙ ok) (h.aintc k))
 
 returns-5 : tie.Need-returns-5
 returns-5 c =

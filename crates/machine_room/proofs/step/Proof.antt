@@ -1,11 +1,11 @@
 -- That `step` of src/lib.rt keeps its contract.
 use mathlib.Core.Path.{refl, sym, ◌∙◌}
 use native.Mathlib.Omega.{arith}
-use Rattle.cic_registers.specs.Model.{stepAs}
+use Rattle.cic_registers.specs.Model.{step_as}
 use Rattle.cic_room.specs.Room.{plain}
 use Rattle.trace.proofs.TurnLaws.{step-read, step-write}
 use Rattle.machine.specs.Machine.{indexed}
-use Rattle.machine.proofs.MachineLaws.{sound-aic, sound-core, sound-cic, sound-aintc, sound-indexed}
+use Rattle.machine.proofs.MachineLaws.{sound_aic, sound_core, sound-cic, sound_aintc, sound-indexed}
 use Rattle.machine_room.proofs.RoomLaws.{of-kind, told-kind, told-step, line_step, last_step, aic-done, core-done, cic-done, aintc-done, indexed-done}
 use borrow.Author.Rules.{rules}
 use Rattle.machine_room.proofs.step.Statement.{statement}
@@ -19,7 +19,7 @@ returns c =
     λ kept m ok h.
     let k = of-kind h (told-kind _ _ 0 1 f.requires.1 (omega arith) e) in
     let t = told-step _ _ 0 1 f.requires.1 (omega arith) e in
-    aic-done kept m _ _ _ _ k (step-read _ _ _ t) (c.read.ensures m.aic (sound-aic m k ∙ ok) (h.aic k))
+    aic-done kept m _ _ _ _ k (step-read _ _ _ t) (c.read.ensures m.aic (sound_aic m k ∙ ok) (h.aic k))
 
 returns-2 : tie.Need-returns-2
 returns-2 c =
@@ -29,7 +29,7 @@ returns-2 c =
     λ kept m ok h.
     let k = of-kind h (told-kind _ _ 0 2 f.requires.1 (omega arith) e) in
     let t = told-step _ _ 0 2 f.requires.1 (omega arith) e in
-    aic-done kept m _ _ _ _ k (step-write _ _ _ t) (c.write.ensures m.aic (sound-aic m k ∙ ok) (h.aic k))
+    aic-done kept m _ _ _ _ k (step-write _ _ _ t) (c.write.ensures m.aic (sound_aic m k ∙ ok) (h.aic k))
 
 returns-3 : tie.Need-returns-3
 returns-3 c =
@@ -39,7 +39,7 @@ returns-3 c =
     λ kept m ok h.
     let k = of-kind h (told-kind _ _ 0 3 f.requires.1 (omega arith) e) in
     let t = told-step _ _ 0 3 f.requires.1 (omega arith) e in
-    aic-done kept m _ _ _ _ k (line_step _ _ _ t) (c.line.ensures m.aic (sound-aic m k ∙ ok) (h.aic k))
+    aic-done kept m _ _ _ _ k (line_step _ _ _ t) (c.line.ensures m.aic (sound_aic m k ∙ ok) (h.aic k))
 
 returns-4 : tie.Need-returns-4
 returns-4 c =
@@ -49,7 +49,7 @@ returns-4 c =
     λ kept m ok h.
     let k = of-kind h (told-kind _ _ 1 1 f.requires.1 (omega arith) e) in
     let t = told-step _ _ 1 1 f.requires.1 (omega arith) e in
-    core-done kept m _ _ _ _ k (step-read _ _ _ t) (c.read2.ensures m.core (sound-core m k ∙ ok) (h.core k))
+    core-done kept m _ _ _ _ k (step-read _ _ _ t) (c.read2.ensures m.core (sound_core m k ∙ ok) (h.core k))
 
 returns-5 : tie.Need-returns-5
 returns-5 c =
@@ -59,7 +59,7 @@ returns-5 c =
     λ kept m ok h.
     let k = of-kind h (told-kind _ _ 1 2 f.requires.1 (omega arith) e) in
     let t = told-step _ _ 1 2 f.requires.1 (omega arith) e in
-    core-done kept m _ _ _ _ k (step-write _ _ _ t) (c.write2.ensures m.core (sound-core m k ∙ ok) (h.core k))
+    core-done kept m _ _ _ _ k (step-write _ _ _ t) (c.write2.ensures m.core (sound_core m k ∙ ok) (h.core k))
 
 returns-6 : tie.Need-returns-6
 returns-6 c =
@@ -69,10 +69,10 @@ returns-6 c =
     λ kept m ok h.
     let k = of-kind h (told-kind _ _ 1 3 f.requires.1 (omega arith) e) in
     let t = told-step _ _ 1 3 f.requires.1 (omega arith) e in
-    core-done kept m _ _ _ _ k (line_step _ _ _ t) (c.line2.ensures m.core (sound-core m k ∙ ok) (h.core k))
+    core-done kept m _ _ _ _ k (line_step _ _ _ t) (c.line2.ensures m.core (sound_core m k ∙ ok) (h.core k))
 
 returns-7 : tie.Need-returns-7
-unfolding stepAs
+unfolding step_as
 returns-7 c =
     let p = c.before.before.before in
     let f = p.before.before in
@@ -84,7 +84,7 @@ returns-7 c =
     cic-done kept m _ _ _ _ k o (step-read _ _ _ t) (c.read3.ensures (plain kept) m.cic o (h.cic k))
 
 returns-8 : tie.Need-returns-8
-unfolding stepAs
+unfolding step_as
 returns-8 c =
     let p = c.before.before.before in
     let f = p.before.before in
@@ -96,7 +96,7 @@ returns-8 c =
     cic-done kept m _ _ _ _ k o (step-write _ _ _ t) (c.write3.ensures (plain kept) m.cic o (h.cic k))
 
 returns-9 : tie.Need-returns-9
-unfolding stepAs
+unfolding step_as
 returns-9 c =
     let p = c.before.before.before in
     let f = p.before.before in
@@ -115,7 +115,7 @@ returns-10 c =
     λ kept m ok h.
     let k = of-kind h (told-kind _ _ 3 1 f.requires.1 (omega arith) e) in
     let t = told-step _ _ 3 1 f.requires.1 (omega arith) e in
-    aintc-done kept m _ _ _ _ k (step-read _ _ _ t) (c.read4.ensures m.aintc (sound-aintc m k ∙ ok) (h.aintc k))
+    aintc-done kept m _ _ _ _ k (step-read _ _ _ t) (c.read4.ensures m.aintc (sound_aintc m k ∙ ok) (h.aintc k))
 
 returns-11 : tie.Need-returns-11
 returns-11 c =
@@ -125,7 +125,7 @@ returns-11 c =
     λ kept m ok h.
     let k = of-kind h (told-kind _ _ 3 2 f.requires.1 (omega arith) e) in
     let t = told-step _ _ 3 2 f.requires.1 (omega arith) e in
-    aintc-done kept m _ _ _ _ k (step-write _ _ _ t) (c.write4.ensures m.aintc (sound-aintc m k ∙ ok) (h.aintc k))
+    aintc-done kept m _ _ _ _ k (step-write _ _ _ t) (c.write4.ensures m.aintc (sound_aintc m k ∙ ok) (h.aintc k))
 
 returns-12 : tie.Need-returns-12
 returns-12 c =
@@ -135,7 +135,7 @@ returns-12 c =
     λ kept m ok h.
     let k = of-kind h (told-kind _ _ 3 3 f.requires.1 (omega arith) e) in
     let t = told-step _ _ 3 3 f.requires.1 (omega arith) e in
-    aintc-done kept m _ _ _ _ k (line_step _ _ _ t) (c.line4.ensures m.aintc (sound-aintc m k ∙ ok) (h.aintc k))
+    aintc-done kept m _ _ _ _ k (line_step _ _ _ t) (c.line4.ensures m.aintc (sound_aintc m k ∙ ok) (h.aintc k))
 
 returns-13 : tie.Need-returns-13
 returns-13 c =

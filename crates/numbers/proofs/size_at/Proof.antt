@@ -1,5 +1,5 @@
 -- That `size_at` of src/lib.rt keeps its contract.
-use Rattle.numbers.proofs.NumberLaws.{closes_at, all-open, size-found, size_none}
+use Rattle.numbers.proofs.NumberLaws.{closes_at, all_open, size_found, size_none}
 use lib.Dec.{ltb}
 use borrow.Author.Tests.{lt-ltb, le-ltb}
 use Prim.Native.Nat.{ℕ, ◌-◌, ◌<◌, ◌≤◌}
@@ -23,14 +23,14 @@ returns : tie.Need-returns invariant-loop decreases-loop
 returns c =
     let b = c.before in
     let l = b.before.before in
-    size-found _ _ _ (search rules) l.loop.invariant.1 (ap (λ (x : ℕ). ltb x 128) (sym b.byte_at.ensures) ∙ lt-ltb _ _ c.if1.true)
+    size_found _ _ _ (search rules) l.loop.invariant.1 (ap (λ (x : ℕ). ltb x 128) (sym b.byte_at.ensures) ∙ lt-ltb _ _ c.if1.true)
 
 loop-again : tie.Need-loop-preserved invariant-loop decreases-loop
 loop-again c =
     let b = c.before in
     let l = b.before.before in
     let a = l.before.before.args in
-    (search rules, all-open a.trace.now a.at _ l.loop.invariant.1 (ap (λ (x : ℕ). ltb x 128) (sym b.byte_at.ensures) ∙ le-ltb _ _ c.if1.false))
+    (search rules, all_open a.trace.now a.at _ l.loop.invariant.1 (ap (λ (x : ℕ). ltb x 128) (sym b.byte_at.ensures) ∙ le-ltb _ _ c.if1.false))
 
 returns-2 : tie.Need-returns-2 invariant-loop decreases-loop
 returns-2 c = size_none _ _ _ c.before.loop.invariant.0 (search rules) c.before.loop.invariant.1

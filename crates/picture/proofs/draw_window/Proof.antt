@@ -7,8 +7,8 @@ use lib.ListN.{replicate, length-replicate}
 use lib.Seq.{length-take-le}
 use Rattle.text.specs.Text.{laid}
 use Rattle.text.proofs.WriteLaws.{laid-fits}
-use Rattle.trace.specs.Trace.{stepsFrom}
-use Rattle.trace.proofs.TraceLaws.{steps-limited}
+use Rattle.trace.specs.Trace.{steps_from}
+use Rattle.trace.proofs.TraceLaws.{steps_limited}
 use Rattle.picture.proofs.PictureLaws.{few, drawn-is}
 use borrow.Author.Rules.{rules}
 use Rattle.picture.proofs.draw_window.Statement.{statement}
@@ -24,9 +24,9 @@ draw-requires : tie.Need-draw-requires
 draw-requires c κs =
     let f = c.before.before.before.before.before.before.before in
     let a = f.before.before.before.before in (
-      few a.args.first a.args.steps a.args.m (stepsFrom false 20000 a.args.trace.now a.args.start) a.requires.3 (replicate 501 0)
+      few a.args.first a.args.steps a.args.m (steps_from false 20000 a.args.trace.now a.args.start) a.requires.3 (replicate 501 0)
           (length-replicate {0} {A = ℕ} 501 0) _ f.fill.ensures.0,
-      omega (arith, a.requires.2, steps-limited false 20000 a.args.trace.now a.args.start),
+      omega (arith, a.requires.2, steps_limited false 20000 a.args.trace.now a.args.start),
     )
 
 returns : tie.Need-returns
@@ -35,7 +35,7 @@ returns c =
     let a = f.before.before.before.before in
     c.before.before.draw.ensures
     ∙ ap (laid _)
-    (drawn-is a.args.first a.args.steps a.args.m (stepsFrom false 20000 a.args.trace.now a.args.start) a.requires.3 (replicate 501 0)
+    (drawn-is a.args.first a.args.steps a.args.m (steps_from false 20000 a.args.trace.now a.args.start) a.requires.3 (replicate 501 0)
     (length-replicate {0} {A = ℕ} 501 0) _ f.fill.ensures.0 _ _ f.fill.ensures.1 f.fill.ensures.2)
 
 pub draw-window-spec : {M : Type 1} → statement M

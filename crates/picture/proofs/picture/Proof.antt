@@ -1,7 +1,7 @@
 -- That `picture` of src/lib.rt keeps its contract.
 use mathlib.Core.Path.{ap, ◌∙◌}
 use Rattle.text.specs.Text.{laid}
-use Rattle.picture.proofs.PictureLaws.{no-beginning, not-begun}
+use Rattle.picture.proofs.PictureLaws.{no_beginning_lem, not-begun}
 use borrow.Author.Rules.{rules}
 use Rattle.picture.proofs.picture.Statement.{statement}
 use Rattle.picture.proofs.picture.Tie as tie
@@ -10,7 +10,7 @@ returns : tie.Need-returns
 returns c =
     let i = c.before.before.before.before in
     let b = i.before.before.begin.ensures in (
-      c.before.before.put-no-beginning.ensures ∙ ap (laid _) (no-beginning _ _ _ _ b i.if1.true),
+      c.before.before.put-no-beginning.ensures ∙ ap (laid _) (no_beginning_lem _ _ _ _ b i.if1.true),
       not-begun _ _ _ _ b i.if1.true,
     )
 

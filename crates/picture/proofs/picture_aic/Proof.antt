@@ -2,7 +2,7 @@
 use mathlib.Core.Path.{sym, ap, ◌∙◌}
 use native.Mathlib.Omega.{arith}
 use Rattle.text.specs.Text.{laid}
-use Rattle.picture.proofs.PictureLaws.{inside_is, is-ready, as_many, wrong-window, a-picture, if-inside}
+use Rattle.picture.proofs.PictureLaws.{inside_is, is-ready, as_many, wrong-window, a_picture, if-inside}
 use borrow.Author.Rules.{rules}
 use Rattle.picture.proofs.picture_aic.Statement.{statement}
 use Rattle.picture.proofs.picture_aic.Tie as tie
@@ -26,7 +26,7 @@ returns c =
     let p = i.before in
     let a = p.before.before.before.before in
     let h = sym i.inside.ensures ∙ c.before.before.before.before.if1.true in (
-      c.before.before.draw-window.ensures ∙ ap (laid _) (a-picture _ _ _ _ a.requires.0 a.requires.1 a.requires.2 _ p.play-steps.ensures h),
+      c.before.before.draw-window.ensures ∙ ap (laid _) (a_picture _ _ _ _ a.requires.0 a.requires.1 a.requires.2 _ p.play-steps.ensures h),
       sym h ∙ if-inside _ _ _ _ a.requires.0 a.requires.1 a.requires.2 _ p.play-steps.ensures,
     )
 

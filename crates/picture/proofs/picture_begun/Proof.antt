@@ -1,7 +1,7 @@
 -- That `picture_begun` of src/lib.rt keeps its contract.
 use mathlib.Core.Path.{ap, ◌∙◌}
 use Rattle.text.specs.Text.{laid}
-use Rattle.picture.proofs.PictureLaws.{no-entries, not-aic}
+use Rattle.picture.proofs.PictureLaws.{no_entries_lem, not_aic}
 use borrow.Author.Rules.{rules}
 use Rattle.picture.proofs.picture_begun.Statement.{statement}
 use Rattle.picture.proofs.picture_begun.Tie as tie
@@ -10,8 +10,8 @@ returns : tie.Need-returns
 returns c =
     let i = c.before.before.before.before in
     let a = i.before.before.before.before.before in (
-      c.before.before.put-no-entries.ensures ∙ ap (laid _) (no-entries _ _ _ _ a.requires.0 a.requires.1 i.if1.true),
-      not-aic _ _ _ _ a.requires.0 a.requires.1 i.if1.true,
+      c.before.before.put-no-entries.ensures ∙ ap (laid _) (no_entries_lem _ _ _ _ a.requires.0 a.requires.1 i.if1.true),
+      not_aic _ _ _ _ a.requires.0 a.requires.1 i.if1.true,
     )
 
 pub picture-begun-spec : {M : Type 1} → statement M

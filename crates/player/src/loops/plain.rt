@@ -1,10 +1,10 @@
 // Plays and lists the steps of a trace on a machine of any kind (01, "House trace"; 02, 2/12).
 ghost use Rattle.std.specs.Prelude.{◌≡◌};
 ghost use Rattle.text.specs.Text.{write};
-ghost use Rattle.trace.specs.Trace.{stepsFrom};
+ghost use Rattle.trace.specs.Trace.{steps_from};
 ghost use Rattle.machine.specs.RecordPromises.{Ready};
 ghost use Rattle.beginning.specs.Play.{report};
-ghost use Rattle.lines.specs.Listing.{textFrom};
+ghost use Rattle.lines.specs.Listing.{text_from};
 
 use beginning::reports::Played;
 use machine::record::Machine;
@@ -13,7 +13,7 @@ use trace::Turn;
 // Plays the steps from a place on; where `told`, they tell their privilege. The limit falls by one with each step.
 pub fn play_steps(trace: &[u8], limit: u32, told: bool, start: usize, first: Machine) -> Played
     requires { Ready first }
-    ensures { result ≡ report 0 first (stepsFrom told limit trace.now start) }
+    ensures { result ≡ report 0 first (steps_from told limit trace.now start) }
 {
     let mut at = start;
     let mut m = first;
@@ -51,7 +51,7 @@ pub fn list_steps(
     from: usize,
 ) -> usize
     requires { Ready first }
-    ensures { (out.new, result) ≡ write (out.old, from) (textFrom 0 first (stepsFrom told limit trace.now start)) }
+    ensures { (out.new, result) ≡ write (out.old, from) (text_from 0 first (steps_from told limit trace.now start)) }
 {
     let mut at = start;
     let mut m = first;

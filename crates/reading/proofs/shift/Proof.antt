@@ -3,7 +3,7 @@ use Prim.Native.Nat.{◌≤◌, ◌-◌, ◌+◌}
 use mathlib.Core.Path.{◌≡◌, ◌∙◌}
 use lib.ListN.{length}
 use borrow.Author.Rules.{rules}
-use Rattle.reading.proofs.ShiftLaws.{moved, none-moved, moves-on, all_moved}
+use Rattle.reading.proofs.ShiftLaws.{moved, none-moved, moves_on, all_moved}
 use Rattle.reading.proofs.shift.Statement.{statement}
 use Rattle.reading.proofs.shift.Tie as tie
 
@@ -21,7 +21,7 @@ loop-again c =
     let turn = c.before.before.loop in (
       search rules,
       search rules,
-      moves-on _ _ _ _ _ turn.invariant.0 turn.invariant.2 (search rules),
+      moves_on _ _ _ _ _ turn.invariant.0 turn.invariant.2 (search rules),
       search rules,
     )
 

@@ -2,26 +2,26 @@
 use mathlib.Core.Path.{◌∙◌}
 use borrow.Author.Tests.{eq-eqb, ne_eqb}
 use Rattle.words.proofs.ChoiceLaws.{pick_true, pick-false}
-use Rattle.register_names.specs.Table.{countBy}
+use Rattle.register_names.specs.Table.{count_by}
 use borrow.Author.Rules.{rules}
 use Rattle.register_names.proofs.count_by.Statement.{statement}
 use Rattle.register_names.proofs.count_by.Tie as tie
 
 returns : tie.Need-returns
-unfolding countBy
+unfolding count_by
 returns c =
     c.words-of.ensures
     ∙ pick_true _ (eq-eqb _ _ c.before.if1.true)
 
 returns-2 : tie.Need-returns-2
-unfolding countBy
+unfolding count_by
 returns-2 c =
     c.quarters-of.ensures
     ∙ pick_true _ (eq-eqb _ _ c.before.if2.true)
     ∙ pick-false _ (ne_eqb _ _ c.before.before.if1.false)
 
 returns-3 : tie.Need-returns-3
-unfolding countBy
+unfolding count_by
 returns-3 c =
     c.quarters-of2.ensures
     ∙ pick_true _ (eq-eqb _ _ c.before.if3.true)
@@ -29,7 +29,7 @@ returns-3 c =
     ∙ pick-false _ (ne_eqb _ _ c.before.before.before.if1.false)
 
 returns-4 : tie.Need-returns-4
-unfolding countBy
+unfolding count_by
 returns-4 c =
     c.words-of2.ensures
     ∙ pick_true _ (eq-eqb _ _ c.before.if4.true)
@@ -38,7 +38,7 @@ returns-4 c =
     ∙ pick-false _ (ne_eqb _ _ c.before.before.before.before.if1.false)
 
 returns-5 : tie.Need-returns-5
-unfolding countBy
+unfolding count_by
 returns-5 c =
     c.at_most.ensures
     ∙ pick_true _ (eq-eqb _ _ c.before.if5.true)
@@ -48,7 +48,7 @@ returns-5 c =
     ∙ pick-false _ (ne_eqb _ _ c.before.before.before.before.before.if1.false)
 
 returns-6 : tie.Need-returns-6
-unfolding countBy
+unfolding count_by
 returns-6 c =
     pick-false _ (ne_eqb _ _ c.if5.false)
     ∙ pick-false _ (ne_eqb _ _ c.before.if4.false)

@@ -3,16 +3,16 @@ use mathlib.Core.Path.{refl}
 use Rattle.words.specs.Choice.{pick}
 use Rattle.text.proofs.WriteLaws.{same_length as same-length-of}
 use Rattle.text.specs.Phrases.{bytes}
-use Rattle.register_names.specs.Maps.{aintcRows}
-use Rattle.register_names.specs.Table.{digitOf, twoAt, fourAt, until, countBy, first_at, countAt, stepAt, name_at, sectionFrom, sectionAt, row_at, rows_from}
+use Rattle.register_names.specs.Maps.{aintc_rows}
+use Rattle.register_names.specs.Table.{digit_of, two_at, four_at, until, count_by, first_at, count_at, step_at, name_at, section_from, section_at, row_at, rows_from}
 use Rattle.register_names.proofs.TableLaws.{as-map}
 use borrow.Author.Rules.{rules}
 use Rattle.register_names.proofs.put_aintc.Statement.{statement}
 use Rattle.register_names.proofs.put_aintc.Tie as tie
 
 returns : tie.Need-returns
-unfolding rows_from row_at first_at countAt countBy stepAt name_at sectionFrom sectionAt fourAt twoAt digitOf until bytes pick
-returns c = as-map _ _ _ _ _ aintcRows _ c.before.before.put-place.ensures refl refl
+unfolding rows_from row_at first_at count_at count_by step_at name_at section_from section_at four_at two_at digit_of until bytes pick
+returns c = as-map _ _ _ _ _ aintc_rows _ c.before.before.put-place.ensures refl refl
 
 pub put-aintc-spec : {M : Type 1} → statement M
 put-aintc-spec = tie.close (tie.spec (λ c. refl) (λ c κs. search rules) (λ c. same-length-of _ _ _ (returns c)) returns)

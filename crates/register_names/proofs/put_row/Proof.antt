@@ -1,7 +1,7 @@
 -- That `put_row` of src/lib.rt keeps its contract.
 use Rattle.text.proofs.WriteLaws.{same_length as same-length-of}
 use borrow.Author.Rules.{rules}
-use Rattle.register_names.proofs.TableLaws.{words-of}
+use Rattle.register_names.proofs.TableLaws.{words_of}
 use Rattle.register_names.proofs.put_row.Statement.{statement}
 use Rattle.register_names.proofs.put_row.Tie as tie
 
@@ -11,7 +11,7 @@ returns c =
     let t = s.before.before.before.before.before in
     let p = t.before.before.before.before in
     let a = p.before.before.before.before.args in
-    words-of a.table.now a.k a.o _ _ _ _ _ _ p.put.ensures t.put-title.ensures s.before.before.section-from.ensures s.put-section.ensures
+    words_of a.table.now a.k a.o _ _ _ _ _ _ p.put.ensures t.put-title.ensures s.before.before.section-from.ensures s.put-section.ensures
 
 pub put-row-spec : {M : Type 1} → statement M
 put-row-spec = tie.close (tie.spec (λ c κs. search rules) (λ c κs. search rules) (λ c κs. search rules) (λ c κs. search rules) (λ c. same-length-of _ _ _ (returns c)) returns)

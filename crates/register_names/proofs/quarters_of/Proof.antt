@@ -2,16 +2,16 @@
 use borrow.Author.Tests.{le-leb, lt-leb}
 use Rattle.words.proofs.ChoiceLaws.{pick_true, pick-false}
 use borrow.Author.Rules.{rules}
-use Rattle.register_names.specs.Rows.{thereOf}
+use Rattle.register_names.specs.Rows.{there_of}
 use Rattle.register_names.proofs.quarters_of.Statement.{statement}
 use Rattle.register_names.proofs.quarters_of.Tie as tie
 
 returns : tie.Need-returns
-unfolding thereOf
+unfolding there_of
 returns c = pick_true _ (le-leb _ _ c.if1.true)
 
 returns-2 : tie.Need-returns-2
-unfolding thereOf
+unfolding there_of
 returns-2 c = pick-false _ (lt-leb _ _ c.if1.false)
 
 pub quarters-of-spec : {M : Type 1} → statement M

@@ -2,27 +2,27 @@
 use Prim.Native.Nat.{◌-◌, ◌/◌, ◌≤◌}
 use mathlib.Core.Path.{◌≡◌}
 use lib.ListN.{length}
-use Rattle.register_names.specs.Table.{rowFrom}
+use Rattle.register_names.specs.Table.{row_from}
 use native.Mathlib.Omega.{arith}
 use borrow.Author.Rules.{rules}
-use Rattle.register_names.proofs.TableLaws.{row-begin, row-found, row-turn, row-none}
+use Rattle.register_names.proofs.TableLaws.{row_begin, row_found, row-turn, row-none}
 use Rattle.register_names.proofs.row_of.Statement.{statement}
 use Rattle.register_names.proofs.row_of.Tie as tie
 
 abbrev invariant-loop : tie.invariant-loop
-invariant-loop table n o k₀ k = (rowFrom table n o k (length table / 64 - k) ≡ rowFrom table n o 0 (length table / 64)) × (k ≤ length table / 64)
+invariant-loop table n o k₀ k = (row_from table n o k (length table / 64 - k) ≡ row_from table n o 0 (length table / 64)) × (k ≤ length table / 64)
 
 abbrev decreases-loop : tie.decreases-loop
 decreases-loop table n o k₀ k = length table / 64 - k
 
 loop-holds : tie.Need-loop-init invariant-loop decreases-loop
-loop-holds c = (row-begin _ _ _ _, omega arith)
+loop-holds c = (row_begin _ _ _ _, omega arith)
 
 returns : tie.Need-returns invariant-loop decreases-loop
 returns c =
     let l = c.before.before.before in
     let a = l.before.before.args in
-    row-found a.table.now a.n a.o l.loop.k _ _ c.before.before.loop-test.true c.before.stands_at.ensures c.if1.true l.loop.invariant.0
+    row_found a.table.now a.n a.o l.loop.k _ _ c.before.before.loop-test.true c.before.stands_at.ensures c.if1.true l.loop.invariant.0
 
 loop-again : tie.Need-loop-preserved invariant-loop decreases-loop
 loop-again c =

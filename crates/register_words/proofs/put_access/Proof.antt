@@ -5,12 +5,12 @@ use Rattle.text.proofs.WriteLaws.{same_length as same_len}
 use borrow.Author.Tests.{lt-ltb, le-ltb}
 use Rattle.words.proofs.ChoiceLaws.{pick_true, pick-false}
 use Rattle.text.specs.Phrases.{bytes}
-use Rattle.register_words.specs.Registers.{accessWords}
+use Rattle.register_words.specs.Registers.{access_words}
 use Rattle.register_words.proofs.put_access.Statement.{statement}
 use Rattle.register_words.proofs.put_access.Tie as tie
 
 returns : tie.Need-returns
-unfolding accessWords bytes
+unfolding access_words bytes
 returns c =
     let p = c.before.before in
     let i = p.before.before.before in
@@ -18,7 +18,7 @@ returns c =
     ∙ ap (write _) (pick_true _ (lt-ltb _ _ i.if1.true))
 
 returns-2 : tie.Need-returns-2
-unfolding accessWords bytes
+unfolding access_words bytes
 returns-2 c =
     let p = c.before.before in
     let i = p.before.before in
@@ -27,7 +27,7 @@ returns-2 c =
     ∙ pick-false _ (le-ltb _ _ i.before.if1.false))
 
 returns-3 : tie.Need-returns-3
-unfolding accessWords bytes
+unfolding access_words bytes
 returns-3 c =
     let p = c.before.before in
     let i = p.before.before.before in

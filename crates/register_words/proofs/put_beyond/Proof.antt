@@ -5,12 +5,12 @@ use Rattle.text.proofs.WriteLaws.{same_length as same_len}
 use borrow.Author.Tests.{lt-ltb, le-ltb}
 use Rattle.words.proofs.ChoiceLaws.{pick_true, pick-false}
 use Rattle.text.specs.Phrases.{bytes}
-use Rattle.register_words.specs.Registers.{beyondWords}
+use Rattle.register_words.specs.Registers.{beyond_words}
 use Rattle.register_words.proofs.put_beyond.Statement.{statement}
 use Rattle.register_words.proofs.put_beyond.Tie as tie
 
 returns : tie.Need-returns
-unfolding beyondWords bytes
+unfolding beyond_words bytes
 returns c =
     let p = c.before.before in
     let i = p.before.before.before in
@@ -18,7 +18,7 @@ returns c =
     ∙ ap (write _) (pick_true _ (lt-ltb _ _ i.if1.true))
 
 returns-2 : tie.Need-returns-2
-unfolding beyondWords bytes
+unfolding beyond_words bytes
 returns-2 c =
     let p = c.before.before in
     let i = p.before.before.before in
@@ -27,7 +27,7 @@ returns-2 c =
     ∙ pick-false _ (le-ltb _ _ i.before.if1.false))
 
 returns-3 : tie.Need-returns-3
-unfolding beyondWords bytes
+unfolding beyond_words bytes
 returns-3 c =
     let p = c.before.before in
     let i = p.before.before.before in
@@ -37,7 +37,7 @@ returns-3 c =
     ∙ pick-false _ (le-ltb _ _ i.before.before.if1.false))
 
 returns-4 : tie.Need-returns-4
-unfolding beyondWords bytes
+unfolding beyond_words bytes
 returns-4 c =
     let p = c.before.before in
     let i = p.before.before.before in
@@ -48,7 +48,7 @@ returns-4 c =
     ∙ pick-false _ (le-ltb _ _ i.before.before.before.if1.false))
 
 returns-5 : tie.Need-returns-5
-unfolding beyondWords bytes
+unfolding beyond_words bytes
 returns-5 c =
     let p = c.before.before in
     let i = p.before.before.before in
@@ -60,7 +60,7 @@ returns-5 c =
     ∙ pick-false _ (le-ltb _ _ i.before.before.before.before.if1.false))
 
 returns-6 : tie.Need-returns-6
-unfolding beyondWords bytes
+unfolding beyond_words bytes
 returns-6 c =
     let p = c.before.before in
     let i = p.before.before.before in

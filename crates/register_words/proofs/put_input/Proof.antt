@@ -5,12 +5,12 @@ use Rattle.text.proofs.WriteLaws.{same_length as same_len, nothing}
 use borrow.Author.Tests.{lt-ltb, le-ltb}
 use Rattle.words.proofs.ChoiceLaws.{pick_true, pick-false}
 use Rattle.text.specs.Phrases.{bytes}
-use Rattle.register_words.specs.Registers.{inputWords}
+use Rattle.register_words.specs.Registers.{input_words}
 use Rattle.register_words.proofs.put_input.Statement.{statement}
 use Rattle.register_words.proofs.put_input.Tie as tie
 
 returns : tie.Need-returns
-unfolding inputWords bytes
+unfolding input_words bytes
 returns c =
     let p = c.before.before in
     let i = p.before.before.before in
@@ -18,7 +18,7 @@ returns c =
     ∙ ap (write _) (pick_true _ (lt-ltb _ _ i.if1.true))
 
 returns-2 : tie.Need-returns-2
-unfolding inputWords bytes
+unfolding input_words bytes
 returns-2 c =
     let p = c.before.before in
     let i = p.before.before.before in
@@ -27,7 +27,7 @@ returns-2 c =
     ∙ pick-false _ (le-ltb _ _ i.before.if1.false))
 
 returns-3 : tie.Need-returns-3
-unfolding inputWords bytes
+unfolding input_words bytes
 returns-3 c =
     nothing _
     ∙ ap (write _) (pick-false _ (le-ltb _ _ c.if2.false)

@@ -5,12 +5,12 @@ use Rattle.text.proofs.WriteLaws.{same_length as same_len}
 use borrow.Author.Tests.{lt-ltb, le-ltb}
 use Rattle.words.proofs.ChoiceLaws.{pick_true, pick-false}
 use Rattle.text.specs.Phrases.{bytes}
-use Rattle.register_words.specs.Registers.{levelWords}
+use Rattle.register_words.specs.Registers.{level_words}
 use Rattle.register_words.proofs.put_level.Statement.{statement}
 use Rattle.register_words.proofs.put_level.Tie as tie
 
 returns : tie.Need-returns
-unfolding levelWords bytes
+unfolding level_words bytes
 returns c =
     let p = c.before.before in
     let i = p.before.before.before in
@@ -18,7 +18,7 @@ returns c =
     ∙ ap (write _) (pick_true _ (lt-ltb _ _ i.if1.true))
 
 returns-2 : tie.Need-returns-2
-unfolding levelWords bytes
+unfolding level_words bytes
 returns-2 c =
     let p = c.before.before in
     let i = p.before.before.before in

@@ -1,12 +1,12 @@
 -- That `put_place` of src/lib.rt keeps its contract.
 use mathlib.Core.Path.{refl, ap, ◌∙◌}
 use Rattle.text.proofs.WriteLaws.{same_length as same_len, and_then}
-use Rattle.register_words.specs.Registers.{placeWords}
+use Rattle.register_words.specs.Registers.{place_words}
 use Rattle.register_words.proofs.put_place.Statement.{statement}
 use Rattle.register_words.proofs.put_place.Tie as tie
 
 returns : tie.Need-returns
-unfolding placeWords
+unfolding place_words
 returns c =
     c.before.before.put-place-at.ensures
 

@@ -2,43 +2,43 @@
 use mathlib.Core.Path.{refl, ap, ◌∙◌}
 use Rattle.text.specs.Text.{write}
 use Rattle.text.proofs.WriteLaws.{same_length as same_len, nothing}
-use Rattle.kinds.proofs.KindLaws.{at-aic, at-core, at-cic, at-aintc, at_indexed, at_none}
-use Rattle.register_words.specs.Registers.{writtenWords}
+use Rattle.kinds.proofs.KindLaws.{at_aic, at_core, at-cic, at_aintc, at_indexed, at_none}
+use Rattle.register_words.specs.Registers.{written_words}
 use Rattle.register_words.proofs.put_written.Statement.{statement}
 use Rattle.register_words.proofs.put_written.Tie as tie
 
 returns : tie.Need-returns
-unfolding writtenWords
+unfolding written_words
 returns c =
     let p = c.before.before in
-    p.put-aic.ensures ∙ ap (write _) (at-aic _ _ p.before.before.if1.true)
+    p.put-aic.ensures ∙ ap (write _) (at_aic _ _ p.before.before.if1.true)
 
 returns-2 : tie.Need-returns-2
-unfolding writtenWords
+unfolding written_words
 returns-2 c =
     let p = c.before.before in
-    p.put-core.ensures ∙ ap (write _) (at-core _ _ p.before.before.if2.true)
+    p.put-core.ensures ∙ ap (write _) (at_core _ _ p.before.before.if2.true)
 
 returns-3 : tie.Need-returns-3
-unfolding writtenWords
+unfolding written_words
 returns-3 c =
     let p = c.before.before in
     p.put-cic.ensures ∙ ap (write _) (at-cic _ _ p.before.before.if3.true)
 
 returns-4 : tie.Need-returns-4
-unfolding writtenWords
+unfolding written_words
 returns-4 c =
     let p = c.before.before in
-    p.put-aintc.ensures ∙ ap (write _) (at-aintc _ _ p.before.before.if4.true)
+    p.put-aintc.ensures ∙ ap (write _) (at_aintc _ _ p.before.before.if4.true)
 
 returns-5 : tie.Need-returns-5
-unfolding writtenWords
+unfolding written_words
 returns-5 c =
     let p = c.before.before in
     p.put-indexed.ensures ∙ ap (write _) (at_indexed _ _ p.before.before.if5.true)
 
 returns-6 : tie.Need-returns-6
-unfolding writtenWords
+unfolding written_words
 returns-6 c = nothing _ ∙ ap (write _) (at_none _ _ c.before.before.before.before.if1.false c.before.before.before.if2.false c.before.before.if3.false c.before.if4.false c.if5.false)
 
 pub put-written-spec : {M : Type 1} → statement M

@@ -5,17 +5,17 @@ use Rattle.words.proofs.ChoiceLaws.{pick_true, pick-false}
 use Rattle.text.specs.Text.{write}
 use Rattle.text.proofs.WriteLaws.{and_then, nothing}
 use Rattle.text.specs.Phrases.{bytes}
-use Rattle.report.specs.Printed.{endedAt}
+use Rattle.report.specs.Printed.{ended_at}
 use borrow.Author.Rules.{rules}
 use Rattle.report.proofs.put_ended.Statement.{statement}
 use Rattle.report.proofs.put_ended.Tie as tie
 
 returns : tie.Need-returns
-unfolding endedAt
+unfolding ended_at
 returns c = nothing _ ∙ ap (write _) (pick_true _ (eq-eqb _ _ c.if1.true))
 
 returns-2 : tie.Need-returns-2
-unfolding endedAt bytes
+unfolding ended_at bytes
 returns-2 c =
     let c3 = c.before.before in
     let c2 = c3.before.before.before.before in

@@ -2,13 +2,13 @@
 use mathlib.Core.Path.{◌∙◌}
 use Rattle.text.proofs.WriteLaws.{and_then, write-laid}
 use Rattle.text.specs.Phrases.{bytes}
-use Rattle.report.specs.Printed.{leftOutLine}
+use Rattle.report.specs.Printed.{left_out_line}
 use borrow.Author.Rules.{rules}
 use Rattle.report.proofs.put_left_out.Statement.{statement}
 use Rattle.report.proofs.put_left_out.Tie as tie
 
 returns : tie.Need-returns
-unfolding leftOutLine bytes
+unfolding left_out_line bytes
 returns c =
     let c2 = c.before.before in
     let c1 = c2.before.before.before.before in

@@ -1,13 +1,13 @@
 -- That `put_source` of src/lib.rt keeps its contract.
 use Rattle.text.proofs.WriteLaws.{and_then, same_length as same_len}
 use Rattle.text.specs.Phrases.{bytes}
-use Rattle.report.specs.Printed.{sourceLine}
+use Rattle.report.specs.Printed.{source_line}
 use borrow.Author.Rules.{rules}
 use Rattle.report.proofs.put_source.Statement.{statement}
 use Rattle.report.proofs.put_source.Tie as tie
 
 returns : tie.Need-returns
-unfolding sourceLine bytes
+unfolding source_line bytes
 returns c =
     let c5 = c.before.before in
     let c4 = c5.before.before.before.before in

@@ -2,13 +2,13 @@
 use mathlib.Core.Path.{◌∙◌}
 use Rattle.text.proofs.WriteLaws.{and_then, write-laid}
 use Rattle.text.specs.Phrases.{bytes}
-use Rattle.report.specs.Printed.{traceLine}
+use Rattle.report.specs.Printed.{trace_line}
 use borrow.Author.Rules.{rules}
 use Rattle.report.proofs.put_trace.Statement.{statement}
 use Rattle.report.proofs.put_trace.Tie as tie
 
 returns : tie.Need-returns
-unfolding traceLine bytes
+unfolding trace_line bytes
 returns c =
     let c4 = c.before.before in
     let c3 = c4.before.before.before.before in

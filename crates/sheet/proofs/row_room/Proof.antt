@@ -5,14 +5,14 @@ use native.Mathlib.Omega.{arith}
 use mathlib.Core.Path.{◌≡◌, sym}
 use lib.ListN.{length, replicate, length-replicate}
 use Rattle.totals.specs.declared.sheets.Noted.{Noted}
-use Rattle.sheet.specs.Rows.{traceRow, leftOutRow}
-use Rattle.sheet.proofs.PageSizeLaws.{length-trace, length-left-out}
+use Rattle.sheet.specs.Rows.{trace_row, left_out_row}
+use Rattle.sheet.proofs.PageSizeLaws.{length_trace, length-left_out}
 use Rattle.sheet.proofs.row_room.Statement.{statement}
 use Rattle.sheet.proofs.row_room.Tie as tie
 
 enough : (n refusal step source : ℕ) (t : Noted) (name : List ℕ) → length name ≤ 4096
-    → (length (traceRow n t name) ≤ 25060) × (length (leftOutRow n refusal step source name) ≤ 25060)
-enough n refusal step source t name h = (omega (arith, length-trace n t name), omega (arith, length-left-out n refusal step source name))
+    → (length (trace_row n t name) ≤ 25060) × (length (left_out_row n refusal step source name) ≤ 25060)
+enough n refusal step source t name h = (omega (arith, length_trace n t name), omega (arith, length-left_out n refusal step source name))
 
 returns : tie.Need-returns
 returns c =

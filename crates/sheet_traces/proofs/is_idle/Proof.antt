@@ -3,7 +3,7 @@ use Prim.Native.Nat.{ℕ}
 use mathlib.Core.Path.{◌≡◌, ap, ◌∙◌}
 use mathlib.Core.Bool.{◌&&◌}
 use lib.Dec.{eqb}
-use Rattle.trace.specs.Steps.{writeKind}
+use Rattle.trace.specs.Steps.{write_kind}
 use Rattle.aic_registers.specs.Map.{eoicr}
 use Rattle.aic_runs.specs.Counted.{carried}
 use Rattle.sheet_traces.proofs.WatchLaws.{idle-is}
@@ -14,7 +14,7 @@ returns : tie.Need-returns
 unfolding carried
 returns c =
     let a = c.args in
-    λ s y h e. ap (λ (d : ℕ). ((a.carried && eqb a.kind writeKind) && eqb a.x eoicr) && eqb d 0) e ∙ idle-is s a.kind a.x y a.carried h
+    λ s y h e. ap (λ (d : ℕ). ((a.carried && eqb a.kind write_kind) && eqb a.x eoicr) && eqb d 0) e ∙ idle-is s a.kind a.x y a.carried h
 
 pub is-idle-spec : {M : Type 1} → statement M
 is-idle-spec = tie.close (tie.spec returns)

@@ -2,7 +2,7 @@
 use mathlib.Core.Path.{sym, ap, ◌∙◌}
 use mathlib.Core.Bool.{false}
 use Rattle.tally.specs.declared.Tallied.{Tallied}
-use Rattle.totals.specs.Waits.{noWaits}
+use Rattle.totals.specs.Waits.{no_waits}
 use Rattle.sheet_traces.specs.Noted.{noted, unseen}
 use Rattle.sheet_traces.proofs.NoteLaws.{starts_is, both-parts, of_other}
 use borrow.Author.Rules.{rules}
@@ -21,7 +21,7 @@ returns-2 : tie.Need-returns-2
 returns-2 c =
     let i = c.before.before in
     let b = i.before.before.before.before in
-    c.note-other.ensures ∙ ap (λ (f : Tallied). noted f false unseen noWaits) c.before.figures.ensures
+    c.note-other.ensures ∙ ap (λ (f : Tallied). noted f false unseen no_waits) c.before.figures.ensures
     ∙ sym (of_other _ _ _ (sym (starts_is _ _ b.begin.ensures) ∙ i.if1.false))
 
 pub note-spec : {M : Type 1} → statement M

@@ -1,6 +1,6 @@
 -- That `note_aic` of src/lib.rt keeps its contract.
 use mathlib.Core.Path.{◌∙◌}
-use Rattle.sheet_traces.proofs.NoteLaws.{is-sound, is-shaped, is-shut, is-short, few-steps, note-is}
+use Rattle.sheet_traces.proofs.NoteLaws.{is-sound, is_shaped, is_shut, is-short, few_steps, note-is}
 use borrow.Author.Rules.{rules}
 use Rattle.sheet_traces.proofs.note_aic.Statement.{statement}
 use Rattle.sheet_traces.proofs.note_aic.Tie as tie
@@ -9,10 +9,10 @@ play-steps-requires : tie.Need-play-steps-requires
 play-steps-requires c κs =
     let p = c.before.before.requires in (
       is-sound _ _ p.0 p.1 p.2,
-      is-shaped _ _ p.0 p.1 p.2,
-      is-shut _ _ p.0 p.1 p.2,
+      is_shaped _ _ p.0 p.1 p.2,
+      is_shut _ _ p.0 p.1 p.2,
       is-short _ _ p.0 p.1 p.2,
-      few-steps _ _ p.0 p.1 p.2 _,
+      few_steps _ _ p.0 p.1 p.2 _,
     )
 
 returns : tie.Need-returns

@@ -5,24 +5,24 @@ use mathlib.Core.Bool.{true, not}
 use native.Mathlib.Omega.{arith}
 use lib.Dec.{eqb}
 use lib.ListN.{length}
-use Rattle.words.proofs.CountingLaws.{one-le}
-use Rattle.steps.specs.Refusals.{carriedOut}
+use Rattle.words.proofs.CountingLaws.{one_le}
+use Rattle.steps.specs.Refusals.{carried_out}
 use Rattle.aic_record.specs.declared.Aic.{Aic}
 use Rattle.aic_record.specs.Sound.{sound}
 use Rattle.aic_room.specs.Room.{Laid}
-use Rattle.aic_waits.specs.Following.{noFigures as noTotals}
+use Rattle.aic_waits.specs.Following.{no_figures as no_totals}
 use Rattle.aic_figures.specs.Book.{Kept as Counted}
-use Rattle.aic_bounds.specs.Figures.{noFigures}
+use Rattle.aic_bounds.specs.Figures.{no_figures}
 use Rattle.aic_figures.specs.WaitsBook.{Kept}
-use Rattle.sheet_traces.specs.Following.{watchedFirst}
-use Rattle.sheet_traces.proofs.LoopLaws.{Watching, begins, played-whole, small, some_left, stands, met, watches-on}
+use Rattle.sheet_traces.specs.Following.{watched_first}
+use Rattle.sheet_traces.proofs.LoopLaws.{Watching, begins, played-whole, small, some_left, stands, met, watches_on}
 use borrow.Author.Rules.{rules}
 use Rattle.sheet_traces.proofs.play_steps.Statement.{statement}
 use Rattle.sheet_traces.proofs.play_steps.Tie as tie
 
 abbrev invariant-loop : tie.invariant-loop
 invariant-loop trace limit start table room₀ counts₀ book₀ w₀ at₀ left₀ n₀ refused₀ room counts book w at left n refused =
-    (first : Aic) → sound first ≡ true → length trace ≤ 65536 → Laid first room₀ → w₀ ≡ watchedFirst table first → Counted noTotals first 0 counts₀ → Kept (λ k. noFigures) book₀
+    (first : Aic) → sound first ≡ true → length trace ≤ 65536 → Laid first room₀ → w₀ ≡ watched_first table first → Counted no_totals first 0 counts₀ → Kept (λ k. no_figures) book₀
     → Watching trace limit start table first n refused left at w room counts book
 
 abbrev decreases-loop : tie.decreases-loop
@@ -57,7 +57,7 @@ add-refused c =
     let f = l.before.before.before.before.before.before in
     let p = f.requires in
     let g = l.loop.invariant f.args.first p.0 p.3 (l.before.before.before.before.lay.ensures p.1) l.before.watch-first.ensures (l.before.before.before.start.ensures f.args.first p.2) l.before.before.start2.ensures in
-    omega (arith, g.few, small _ g s.turn.ensures p.3 i.if1.false, c.one-if.ensures, one-le (not (eqb c.before.before.before.refusal-in.result carriedOut)))
+    omega (arith, g.few, small _ g s.turn.ensures p.3 i.if1.false, c.one-if.ensures, one_le (not (eqb c.before.before.before.refusal-in.result carried_out)))
 
 watched-after-requires : tie.Need-watched-after-requires invariant-loop decreases-loop
 watched-after-requires c κs =
@@ -104,7 +104,7 @@ loop-again c =
     λ first ok n h e j k.
     let g = l.loop.invariant first ok n h e j k in
     let t = s.turn.ensures in
-    watches-on _ g t n i.if1.false a.step.new.0 a.step.ensures _ _ _ _ refl r.refusal-in.ensures m.marks.ensures b.brought.ensures _ _ c.follow2.new.0
+    watches_on _ g t n i.if1.false a.step.new.0 a.step.ensures _ _ _ _ refl r.refusal-in.ensures m.marks.ensures b.brought.ensures _ _ c.follow2.new.0
     y.follow.new.0
     (o.watched-after.ensures g.aic _ g.ok g.laid.shaped (stands _ g t n i.if1.false a.step.new.0 a.step.ensures)
     (met _ g t n i.if1.false a.step.new.0 a.step.ensures _ _ _ _ refl r.refusal-in.ensures m.marks.ensures b.brought.ensures _ d.is-idle.ensures))

@@ -1,9 +1,9 @@
 -- That `watched_anew` of src/lib.rt keeps its contract.
 use native.Mathlib.Omega.{arith}
-use Rattle.words.proofs.CountingLaws.{one-le}
+use Rattle.words.proofs.CountingLaws.{one_le}
 use Rattle.aic.proofs.SoundLaws.{step-sound}
 use Rattle.aic_room.proofs.CellLaws.{depth_is, enabled-is}
-use Rattle.sheet_traces.proofs.WatchLaws.{kept-if-same, watched-from}
+use Rattle.sheet_traces.proofs.WatchLaws.{kept_if-same, watched-from}
 use borrow.Author.Rules.{rules}
 use Rattle.sheet_traces.proofs.watched_anew.Statement.{statement}
 use Rattle.sheet_traces.proofs.watched_anew.Tie as tie
@@ -11,13 +11,13 @@ use Rattle.sheet_traces.proofs.watched_anew.Tie as tie
 add-marks : tie.Need-overflow-add-marks
 add-marks c =
     let o = c.before in
-    omega (arith, o.before.before.before.before.before.before.requires.0, o.one-if.ensures, one-le o.before.opened-mark.result)
+    omega (arith, o.before.before.before.before.before.before.requires.0, o.one-if.ensures, one_le o.before.opened-mark.result)
 
 add-ends : tie.Need-overflow-add-ends
 add-ends c =
     let o = c.before in
     let a = o.before.before.before.before.before.before.before.before in
-    omega (arith, a.requires.1, o.one-if2.ensures, one-le a.args.idle)
+    omega (arith, a.requires.1, o.one-if2.ensures, one_le a.args.idle)
 
 returns : tie.Need-returns
 returns c =
@@ -31,7 +31,7 @@ returns c =
     λ r x ok h laid q.
     watched-from b.args.table b.args.n b.args.w r x
     m.one-if.ensures (o.opened-mark.ensures r x ok h laid q.depth) e.one-if2.ensures q.ends (depth_is laid) j.join.ensures (enabled-is laid)
-    (s.strays-after.ensures _ (step-sound r x h ok) laid (kept-if-same b.args.table b.args.w r x _ laid q)) a.either.ensures
+    (s.strays-after.ensures _ (step-sound r x h ok) laid (kept_if-same b.args.table b.args.w r x _ laid q)) a.either.ensures
 
 pub watched-anew-spec : {M : Type 1} → statement M
 watched-anew-spec =

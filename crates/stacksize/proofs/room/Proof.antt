@@ -5,7 +5,7 @@ use Rattle.stacksize.proofs.room.Statement.{statement}
 use Rattle.stacksize.proofs.room.Tie as tie
 
 returns : tie.Need-returns
-returns c = (refl, kept.answerMost)
+returns c = (refl, kept.answer_most)
 
 pub room-spec : {M : Type 1} → statement M
 room-spec = tie.close (tie.spec returns)

@@ -1,7 +1,7 @@
 -- That `print` of src/lib.rt keeps its contract.
 use mathlib.Core.Path.{ap, ◌∙◌}
 use Rattle.text.specs.Text.{laid}
-use Rattle.table_text.proofs.TextLaws.{no-beginning, not-begun}
+use Rattle.table_text.proofs.TextLaws.{no_beginning_lem, not-begun}
 use borrow.Author.Rules.{rules}
 use Rattle.table_text.proofs.print.Statement.{statement}
 use Rattle.table_text.proofs.print.Tie as tie
@@ -11,7 +11,7 @@ returns c =
     let p = c.before.before in
     let i = p.before.before in
     let b = i.before.before.begin.ensures in
-    (p.put-no-beginning.ensures ∙ ap (laid _) (no-beginning _ _ b i.if1.true), not-begun _ _ b i.if1.true)
+    (p.put-no-beginning.ensures ∙ ap (laid _) (no_beginning_lem _ _ b i.if1.true), not-begun _ _ b i.if1.true)
 
 pub print-spec : {M : Type 1} → statement M
 print-spec =

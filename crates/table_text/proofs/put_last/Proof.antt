@@ -1,13 +1,13 @@
 -- That `put_last` of src/lib.rt keeps its contract.
 use Rattle.text.proofs.WriteLaws.{and_then}
 use Rattle.text.specs.Phrases.{bytes}
-use Rattle.table_text.specs.Text.{lastLines}
+use Rattle.table_text.specs.Text.{last_lines}
 use borrow.Author.Rules.{rules}
 use Rattle.table_text.proofs.put_last.Statement.{statement}
 use Rattle.table_text.proofs.put_last.Tie as tie
 
 returns : tie.Need-returns
-unfolding lastLines bytes
+unfolding last_lines bytes
 returns c =
     let c3 = c.before.before in
     let c2 = c3.before.before.before.before.before in

@@ -2,13 +2,13 @@
 use mathlib.Core.Path.{◌∙◌}
 use Rattle.text.proofs.WriteLaws.{write-laid}
 use Rattle.text.specs.Phrases.{bytes}
-use Rattle.table_text.specs.Text.{noTable}
+use Rattle.table_text.specs.Text.{no_table}
 use borrow.Author.Rules.{rules}
 use Rattle.table_text.proofs.put_no_table.Statement.{statement}
 use Rattle.table_text.proofs.put_no_table.Tie as tie
 
 returns : tie.Need-returns
-unfolding noTable bytes
+unfolding no_table bytes
 returns c = c.before.before.put_all_lem.ensures ∙ write-laid _ _
 
 pub put-no-table-spec : {M : Type 1} → statement M

@@ -1,13 +1,13 @@
 -- That `put_source` of src/lib.rt keeps its contract.
 use Rattle.text.proofs.WriteLaws.{and_then}
 use Rattle.text.specs.Phrases.{bytes}
-use Rattle.table_text.specs.Text.{sourceLine}
+use Rattle.table_text.specs.Text.{source_line}
 use borrow.Author.Rules.{rules}
 use Rattle.table_text.proofs.put_source.Statement.{statement}
 use Rattle.table_text.proofs.put_source.Tie as tie
 
 returns : tie.Need-returns
-unfolding sourceLine bytes
+unfolding source_line bytes
 returns c =
     let c4 = c.before.before in
     let c3 = c4.before.before.before.before in

@@ -5,7 +5,7 @@ use native.Mathlib.Omega.{arith}
 use lib.ListN.{length}
 use Rattle.text.specs.Text.{write}
 use Rattle.text.proofs.WriteLaws.{same_length as same-length-of}
-use Rattle.table_text.specs.Text.{sourceLines}
+use Rattle.table_text.specs.Text.{source_lines}
 use Rattle.table_text.proofs.TextLaws.{sources-turn, sources-done}
 use borrow.Author.Rules.{rules}
 use Rattle.table_text.proofs.put_sources.Statement.{statement}
@@ -13,7 +13,7 @@ use Rattle.table_text.proofs.put_sources.Tie as tie
 
 abbrev invariant-loop : tie.invariant-loop
 invariant-loop out₀ at modes next₀ i₀ out next i =
-    (write (out, next) (sourceLines modes (32 - i) i) ≡ write (out₀, at) (sourceLines modes 32 0)) × (length out ≡ length out₀) × (i ≤ 32)
+    (write (out, next) (source_lines modes (32 - i) i) ≡ write (out₀, at) (source_lines modes 32 0)) × (length out ≡ length out₀) × (i ≤ 32)
 
 abbrev decreases-loop : tie.decreases-loop
 decreases-loop out₀ at modes next₀ i₀ out next i = 32 - i

@@ -1,13 +1,13 @@
 -- That `put_table` of src/lib.rt keeps its contract.
 use mathlib.Core.Path.{◌∙◌}
 use Rattle.text.proofs.WriteLaws.{and_then, write-laid}
-use Rattle.table_text.specs.Text.{tableText}
+use Rattle.table_text.specs.Text.{table_text}
 use borrow.Author.Rules.{rules}
 use Rattle.table_text.proofs.put_table.Statement.{statement}
 use Rattle.table_text.proofs.put_table.Tie as tie
 
 returns : tie.Need-returns
-unfolding tableText
+unfolding table_text
 returns c =
     let c3 = c.before.before in
     let c2 = c3.before.before.before.before in

@@ -2,9 +2,9 @@
 use Prim.Native.Nat.{◌≤◌, ◌-◌, ◌+◌, ◌*◌}
 use mathlib.Core.Path.{refl, ◌∙◌, ◌≡◌}
 use lib.ListN.{get_or}
-use Rattle.tables.specs.Reading.{everyThird}
+use Rattle.tables.specs.Reading.{every_third}
 use Rattle.tables.specs.Passes.{room}
-use Rattle.tables.proofs.FillLaws.{room-none, room-more, room-full}
+use Rattle.tables.proofs.FillLaws.{room-none, room-more, room_full}
 use borrow.Author.Rules.{rules}
 use Rattle.tables.proofs.every_third.Statement.{statement}
 use Rattle.tables.proofs.every_third.Tie as tie
@@ -24,8 +24,8 @@ loop-again c =
     (search rules, room-more 32 c.before.loop.i (λ j. get_or a.t1 (3 * j + a.first) 0) _ _ (search rules) c.before.loop.invariant.1 refl)
 
 returns : tie.Need-returns invariant-loop decreases-loop
-unfolding everyThird
-returns c = c.before.loop.invariant.1 ∙ room-full 32 c.before.loop.i _ (search rules) c.before.loop.invariant.0
+unfolding every_third
+returns c = c.before.loop.invariant.1 ∙ room_full 32 c.before.loop.i _ (search rules) c.before.loop.invariant.0
 
 pub every-third-spec : {M : Type 1} → statement M
 every-third-spec =

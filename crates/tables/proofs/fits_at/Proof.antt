@@ -1,11 +1,11 @@
 -- That `fits_at` of src/lib.rt keeps its contract.
 use mathlib.Core.Path.{refl}
-use Rattle.tables.specs.Reading.{fitsAt}
+use Rattle.tables.specs.Reading.{fits_at}
 use Rattle.tables.proofs.fits_at.Statement.{statement}
 use Rattle.tables.proofs.fits_at.Tie as tie
 
 returns : tie.Need-returns
-unfolding fitsAt
+unfolding fits_at
 returns c = refl
 
 pub fits-at-spec : {M : Type 1} → statement M

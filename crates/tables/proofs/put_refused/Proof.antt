@@ -1,13 +1,13 @@
 -- That `put_refused` of src/lib.rt keeps its contract.
 use mathlib.Core.Path.{◌∙◌}
 use Rattle.text.proofs.WriteLaws.{and_then, write-laid}
-use Rattle.tables.specs.Reading.{refusedLine}
+use Rattle.tables.specs.Reading.{refused_line}
 use borrow.Author.Rules.{rules}
 use Rattle.tables.proofs.put_refused.Statement.{statement}
 use Rattle.tables.proofs.put_refused.Tie as tie
 
 returns : tie.Need-returns
-unfolding refusedLine
+unfolding refused_line
 returns c =
     let c4 = c.before.before in
     let c3 = c4.before.before.before.before in

@@ -3,8 +3,8 @@ use Prim.Native.Nat.{ℕ, ◌+◌, ◌*◌, ◌≤◌, ◌<◌, ◌-◌, ◌^◌
 use mathlib.Core.Path.{◌≡◌, refl}
 use native.Mathlib.Omega.{arith}
 use lib.ListN.{length, get_or, drop}
-use Rattle.tables.proofs.NumberLaws.{digit-small, times-small, capped_small, worth-turn, digits-fault, digits_more, digits-done}
-use Rattle.tables.specs.Number.{digit, worthFrom}
+use Rattle.tables.proofs.NumberLaws.{digit_small, times_small, capped_small, worth-turn, digits_fault, digits_more, digits-done}
+use Rattle.tables.specs.Number.{digit, worth_from}
 use Rattle.tables.specs.Passes.{capped}
 use borrow.Author.Rules.{rules}
 use Rattle.tables.proofs.read_digits.Statement.{statement}
@@ -12,7 +12,7 @@ use Rattle.tables.proofs.read_digits.Tie as tie
 
 abbrev invariant-loop : tie.invariant-loop
 invariant-loop digits base worth₀ k₀ worth k =
-    (k ≤ length digits) × (worth ≤ 2 ^ 32) × (capped (worthFrom base worth (drop k digits)) ≡ capped (worthFrom base 0 digits))
+    (k ≤ length digits) × (worth ≤ 2 ^ 32) × (capped (worth_from base worth (drop k digits)) ≡ capped (worth_from base 0 digits))
     × ((j : ℕ) → j < k → digit (get_or digits j 0) < base)
 
 abbrev decreases-loop : tie.decreases-loop
@@ -24,17 +24,17 @@ loop-holds c = (search rules, search rules, refl, λ j l. absurd (search rules))
 returns : tie.Need-returns invariant-loop decreases-loop
 returns c =
     let l = c.before.before.before.before in
-    digits-fault l.before.before.args.base c.before.digit-of.result l.loop.k _ (search rules) c.before.digit-of.ensures c.if1.true
+    digits_fault l.before.before.args.base c.before.digit-of.result l.loop.k _ (search rules) c.before.digit-of.ensures c.if1.true
 
 mul-capped-at : tie.Need-overflow-mul-capped-at invariant-loop decreases-loop
 mul-capped-at c =
     let l = c.before.before.before.before in
-    omega (arith, times-small _ _ l.before.before.requires.1 l.loop.invariant.1)
+    omega (arith, times_small _ _ l.before.before.requires.1 l.loop.invariant.1)
 
 add-capped-at : tie.Need-overflow-add-capped-at invariant-loop decreases-loop
 add-capped-at c =
     let l = c.before.before.before.before in
-    omega (arith, times-small _ _ l.before.before.requires.1 l.loop.invariant.1, c.before.digit-of.ensures, digit-small (get_or l.before.before.args.digits.now l.loop.k 0))
+    omega (arith, times_small _ _ l.before.before.requires.1 l.loop.invariant.1, c.before.digit-of.ensures, digit_small (get_or l.before.before.args.digits.now l.loop.k 0))
 
 loop-again : tie.Need-loop-preserved invariant-loop decreases-loop
 loop-again c =

@@ -3,15 +3,15 @@ use Prim.Native.Nat.{ℕ}
 use mathlib.Core.Path.{sym, ap, ◌∙◌}
 use lib.Seq.{length-take-le}
 use lib.ListN.{replicate, length-replicate}
-use Rattle.tables.proofs.ReadLaws.{too_long, not-long}
+use Rattle.tables.proofs.ReadLaws.{too_long_lem, not_long}
 use Rattle.tables.proofs.NameLaws.{length-cleared, written-whole, written-fits}
-use Rattle.tables.specs.Reading.{readBare}
+use Rattle.tables.specs.Reading.{read_bare}
 use borrow.Author.Rules.{rules}
 use Rattle.tables.proofs.read_table.Statement.{statement}
 use Rattle.tables.proofs.read_table.Tie as tie
 
 returns : tie.Need-returns
-returns c = too_long _ _ c.before.if1.true c.refused-at.ensures
+returns c = too_long_lem _ _ c.before.if1.true c.refused-at.ensures
 
 slice-aggregate-clear : tie.Need-slice-aggregate-clear
 slice-aggregate-clear c = sym (length-replicate {0} {A = ℕ} 65536 0)
@@ -26,7 +26,7 @@ returns-2 : tie.Need-returns-2
 returns-2 c =
     let s = c.before.before.before.before.before.before.before.args.text.now in
     let l = c.before.before.before.before.before.if1.false in
-    not-long s _ l (c.read-bare.ensures ∙ ap readBare (written-whole _ (replicate 65536 0) _ (rw (length-cleared s, length-replicate {0} {A = ℕ} 65536 0) l) c.before.before.before.clear.ensures))
+    not_long s _ l (c.read-bare.ensures ∙ ap read_bare (written-whole _ (replicate 65536 0) _ (rw (length-cleared s, length-replicate {0} {A = ℕ} 65536 0) l) c.before.before.before.clear.ensures))
 
 pub read-table-spec : {M : Type 1} → statement M
 read-table-spec =

@@ -5,14 +5,14 @@ use mathlib.Core.Bool.{false}
 use lib.ListN.{length, drop}
 use Rattle.text.specs.Text.{write}
 use Rattle.text.proofs.WriteLaws.{same_length as same-length-of}
-use Rattle.tables.specs.Typed.{bareFrom}
+use Rattle.tables.specs.Typed.{bare_from}
 use Rattle.tables.proofs.BareLaws.{bare-turn, bare-done}
 use borrow.Author.Rules.{rules}
 use Rattle.tables.proofs.strip.Statement.{statement}
 use Rattle.tables.proofs.strip.Tie as tie
 
 abbrev invariant-loop : tie.invariant-loop
-invariant-loop text out₀ at₀ inside₀ k₀ out at inside k = (write (out, at) (bareFrom inside (drop k text)) ≡ write (out₀, 0) (bareFrom false text)) × (length out ≡ length out₀)
+invariant-loop text out₀ at₀ inside₀ k₀ out at inside k = (write (out, at) (bare_from inside (drop k text)) ≡ write (out₀, 0) (bare_from false text)) × (length out ≡ length out₀)
 
 abbrev decreases-loop : tie.decreases-loop
 decreases-loop text out₀ at₀ inside₀ k₀ out at inside k = length text - k

@@ -1,12 +1,12 @@
 -- That `follow_any` of src/lib.rt keeps its contract.
 use mathlib.Core.Path.{◌≡◌, sym, ap, subst, ◌∙◌}
-use Rattle.kinds.specs.Kinds.{aicKind}
+use Rattle.kinds.specs.Kinds.{aic_kind}
 use Rattle.aic_record.specs.declared.Aic.{Aic}
 use Rattle.aic_room.specs.Room.{Laid}
 use Rattle.aic_figures.specs.Book.{Kept}
-use Rattle.machine.proofs.MachineLaws.{sound-aic}
+use Rattle.machine.proofs.MachineLaws.{sound_aic}
 use Rattle.machine.proofs.StepLaws.{step-kind}
-use Rattle.tally.proofs.TurnLaws.{aic-after, follow-aic, follow-other}
+use Rattle.tally.proofs.TurnLaws.{aic-after, follow_aic, follow-other}
 use borrow.Author.Rules.{rules}
 use Rattle.tally.proofs.follow_any.Statement.{statement}
 use Rattle.tally.proofs.follow_any.Tie as tie
@@ -15,10 +15,10 @@ returns : tie.Need-returns
 returns c =
     let a = c.before.before.before.before.args in
     λ f m n x r l e h d.
-    let z : m.kind ≡ aicKind = sym (step-kind m x) ∙ sym d.kind ∙ c.before.before.if1.true in
+    let z : m.kind ≡ aic_kind = sym (step-kind m x) ∙ sym d.kind ∙ c.before.before.if1.true in
     let k : Kept f m.aic n a.book.now = subst (λ (s : Aic). Kept f s n a.book.now) (h.2 z) h.1 in
-    follow-aic f m n x a.book.now h _ z
-    (c.follow.ensures f m.aic n x.step (sound-aic m z ∙ r.0) r.1 l (e z) k
+    follow_aic f m n x a.book.now h _ z
+    (c.follow.ensures f m.aic n x.step (sound_aic m z ∙ r.0) r.1 l (e z) k
     (subst (λ (s : Aic). Laid s a.room.now) (aic-after m x z) (d.aic (step-kind m x ∙ z))))
 
 returns-2 : tie.Need-returns-2

@@ -5,7 +5,7 @@ use borrow.Author.Rules.{rules}
 use borrow.Fn.PlainCycle.{Measures, is, falls, and}
 use Rattle.text.specs.Text.{write}
 use Rattle.text.proofs.WriteLaws.{and_then, nothing}
-use Rattle.text.proofs.DigitLaws.{decimal-none, decimal-last, decimal-more}
+use Rattle.text.proofs.DigitLaws.{decimal-none, decimal_last, decimal-more}
 use Rattle.text.proofs.put_decimal_digits.Reads as self
 use Rattle.text.proofs.put_decimal_digits.Kinds as kinds
 use Rattle.text.proofs.+put_decimal_digits.Lts-put_decimal_digits as lts
@@ -29,7 +29,7 @@ pub +put-decimal-digits-spec : {M : Type 1} → statement M
     (λ c. search rules)
     (λ c.
     let p = c.before.before in
-    p.put.ensures ∙ ap (write _) (decimal-last _ _ p.before.before.before.if1.false p.before.before.if2.true))
+    p.put.ensures ∙ ap (write _) (decimal_last _ _ p.before.before.before.if1.false p.before.before.if2.true))
     (λ c. search rules)
     (λ c κs. search rules)
     (λ c. search rules)

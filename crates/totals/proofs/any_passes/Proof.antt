@@ -6,22 +6,22 @@ use lib.Dec.{ltb}
 use lib.ListN.{get_or}
 use mir.Val.{Fits}
 use mir.Syntax.{w32}
-use Rattle.words.specs.Counting.{anyBelow}
-use Rattle.words.proofs.CountingLaws.{any-none-yet, any-more, at-end}
+use Rattle.words.specs.Counting.{any_below}
+use Rattle.words.proofs.CountingLaws.{any-none_yet, any-more, at_end}
 use Rattle.totals.specs.Totals.{passes}
-use Rattle.totals.proofs.TotalsLaws.{passes-here}
+use Rattle.totals.proofs.TotalsLaws.{passes_here}
 use borrow.Author.Rules.{rules}
 use Rattle.totals.proofs.any_passes.Statement.{statement}
 use Rattle.totals.proofs.any_passes.Tie as tie
 
 abbrev invariant-loop : tie.invariant-loop
-invariant-loop a b past₀ i₀ past i = (i ≤ 32) × (past ≡ anyBelow i (λ j. ltb 4294967295 (get_or a j 0 + get_or b j 0)))
+invariant-loop a b past₀ i₀ past i = (i ≤ 32) × (past ≡ any_below i (λ j. ltb 4294967295 (get_or a j 0 + get_or b j 0)))
 
 abbrev decreases-loop : tie.decreases-loop
 decreases-loop a b past₀ i₀ past i = 32 - i
 
 loop-holds : tie.Need-loop-init invariant-loop decreases-loop
-loop-holds c = (omega arith, any-none-yet _)
+loop-holds c = (omega arith, any-none_yet _)
 
 sub-past : tie.Need-overflow-sub-past invariant-loop decreases-loop
 sub-past c = let h : Fits w32 (get_or c.before.before.args.t1 c.before.loop.i 0) = search rules in omega arith
@@ -30,11 +30,11 @@ loop-again : tie.Need-loop-preserved invariant-loop decreases-loop
 loop-again c =
     let a = c.before.before.args in
     let h : Fits w32 (get_or a.t1 c.before.loop.i 0) = search rules in
-    (search rules, any-more _ _ c.before.loop.invariant.1 (passes-here (get_or a.t1 c.before.loop.i 0) (get_or a.t2 c.before.loop.i 0) (omega arith)))
+    (search rules, any-more _ _ c.before.loop.invariant.1 (passes_here (get_or a.t1 c.before.loop.i 0) (get_or a.t2 c.before.loop.i 0) (omega arith)))
 
 returns : tie.Need-returns invariant-loop decreases-loop
 unfolding passes
-returns c = at-end (λ n. anyBelow n (λ j. ltb 4294967295 (get_or c.before.before.args.t1 j 0 + get_or c.before.before.args.t2 j 0))) _ _ c.before.loop.invariant.0 c.loop-test.false c.before.loop.invariant.1
+returns c = at_end (λ n. any_below n (λ j. ltb 4294967295 (get_or c.before.before.args.t1 j 0 + get_or c.before.before.args.t2 j 0))) _ _ c.before.loop.invariant.0 c.loop-test.false c.before.loop.invariant.1
 
 pub any-passes-spec : {M : Type 1} → statement M
 any-passes-spec =

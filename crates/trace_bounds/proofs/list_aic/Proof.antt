@@ -1,7 +1,7 @@
 -- That `list_aic` of src/lib.rt keeps its contract.
 use mathlib.Core.Path.{sym, ap, ◌∙◌}
 use Rattle.text.specs.Text.{laid}
-use Rattle.trace_bounds.proofs.ListLaws.{source-small, is-sound, is-shaped, is-short, no_source, if-source, the-lines}
+use Rattle.trace_bounds.proofs.ListLaws.{source_small, is-sound, is_shaped, is-short, no_source_lem, if_source, the_lines}
 use borrow.Author.Rules.{rules}
 use Rattle.trace_bounds.proofs.list_aic.Statement.{statement}
 use Rattle.trace_bounds.proofs.list_aic.Tie as tie
@@ -13,8 +13,8 @@ put-lines-requires c κs =
     let a = n.before.before.before in
     let k = a.args.source in (
       is-sound _ k _ a.requires.0 a.requires.1 a.requires.2,
-      is-shaped _ k _ a.requires.0 a.requires.1 a.requires.2,
-      source-small k (sym n.is-source.ensures ∙ i.if1.true),
+      is_shaped _ k _ a.requires.0 a.requires.1 a.requires.2,
+      source_small k (sym n.is-source.ensures ∙ i.if1.true),
       is-short _ k _ a.requires.0 a.requires.1 a.requires.2,
     )
 
@@ -25,8 +25,8 @@ returns c =
     let n = i.before in
     let a = n.before.before.before in
     let h = sym n.is-source.ensures ∙ i.if1.true in (
-      p.put-lines.ensures ∙ ap (laid _) (the-lines _ _ _ a.requires.0 a.requires.1 a.requires.2 h),
-      sym h ∙ if-source _ _ _ a.requires.0 a.requires.1 a.requires.2,
+      p.put-lines.ensures ∙ ap (laid _) (the_lines _ _ _ a.requires.0 a.requires.1 a.requires.2 h),
+      sym h ∙ if_source _ _ _ a.requires.0 a.requires.1 a.requires.2,
     )
 
 returns-2 : tie.Need-returns-2
@@ -36,8 +36,8 @@ returns-2 c =
     let n = i.before in
     let a = n.before.before.before in
     let h = sym n.is-source.ensures ∙ i.if1.false in (
-      p.put-no-source.ensures ∙ ap (laid _) (no_source _ _ _ a.requires.0 a.requires.1 a.requires.2 h),
-      sym h ∙ if-source _ _ _ a.requires.0 a.requires.1 a.requires.2,
+      p.put-no-source.ensures ∙ ap (laid _) (no_source_lem _ _ _ a.requires.0 a.requires.1 a.requires.2 h),
+      sym h ∙ if_source _ _ _ a.requires.0 a.requires.1 a.requires.2,
     )
 
 pub list-aic-spec : {M : Type 1} → statement M

@@ -1,14 +1,14 @@
 -- That `put_last` of src/lib.rt keeps its contract.
 use Rattle.text.proofs.WriteLaws.{and_then}
 use Rattle.text.specs.Phrases.{bytes}
-use Rattle.trace_bounds.specs.Lines.{lastLine}
+use Rattle.trace_bounds.specs.Lines.{last_line}
 use Rattle.trace_bounds.proofs.LineLaws.{last_made}
 use borrow.Author.Rules.{rules}
 use Rattle.trace_bounds.proofs.put_last.Statement.{statement}
 use Rattle.trace_bounds.proofs.put_last.Tie as tie
 
 returns : tie.Need-returns
-unfolding lastLine bytes
+unfolding last_line bytes
 returns c =
     let c6 = c.before.before in
     let c5 = c6.before.before.before.before in

@@ -1,8 +1,8 @@
 -- That `put_lines` of src/lib.rt keeps its contract.
 use mathlib.Core.Bool.{false}
 use native.Mathlib.Omega.{arith}
-use Rattle.trace.specs.Trace.{stepsFrom}
-use Rattle.trace.proofs.TraceLaws.{steps-limited}
+use Rattle.trace.specs.Trace.{steps_from}
+use Rattle.trace.proofs.TraceLaws.{steps_limited}
 use Rattle.trace_bounds.proofs.ListLaws.{lines-made}
 use borrow.Author.Rules.{rules}
 use Rattle.trace_bounds.proofs.put_lines.Statement.{statement}
@@ -14,8 +14,8 @@ returns c =
     let l = e.before.before.before.before in
     let t = l.before.before.before.before in
     let a = t.before.before.before.before in
-    lines-made a.args.source a.args.first (stepsFrom false 20000 a.args.trace.now a.args.start) _ _ _ _ _ _ _
-    (omega (arith, steps-limited false 20000 a.args.trace.now a.args.start))
+    lines-made a.args.source a.args.first (steps_from false 20000 a.args.trace.now a.args.start) _ _ _ _ _ _ _
+    (omega (arith, steps_limited false 20000 a.args.trace.now a.args.start))
     t.tell-steps.ensures.0
     t.tell-steps.ensures.1.0
     t.tell-steps.ensures.1.1

@@ -2,13 +2,13 @@
 use mathlib.Core.Path.{◌∙◌}
 use Rattle.text.proofs.WriteLaws.{and_then, write-laid}
 use Rattle.text.specs.Phrases.{bytes}
-use Rattle.trace_bounds.specs.Lines.{noBeginning}
+use Rattle.trace_bounds.specs.Lines.{no_beginning}
 use borrow.Author.Rules.{rules}
 use Rattle.trace_bounds.proofs.put_no_beginning.Statement.{statement}
 use Rattle.trace_bounds.proofs.put_no_beginning.Tie as tie
 
 returns : tie.Need-returns
-unfolding noBeginning bytes
+unfolding no_beginning bytes
 returns c =
     let c4 = c.before.before in
     let c3 = c4.before.before.before.before in

@@ -2,13 +2,13 @@
 use mathlib.Core.Path.{◌∙◌}
 use Rattle.text.proofs.WriteLaws.{write-laid}
 use Rattle.text.specs.Phrases.{bytes}
-use Rattle.trace_bounds.specs.Lines.{noWaits}
+use Rattle.trace_bounds.specs.Lines.{no_waits}
 use borrow.Author.Rules.{rules}
 use Rattle.trace_bounds.proofs.put_no_waits.Statement.{statement}
 use Rattle.trace_bounds.proofs.put_no_waits.Tie as tie
 
 returns : tie.Need-returns
-unfolding noWaits bytes
+unfolding no_waits bytes
 returns c = c.before.before.put_all_lem.ensures ∙ write-laid _ _
 
 pub put-no-waits-spec : {M : Type 1} → statement M

@@ -1,13 +1,13 @@
 -- That `put_terms` of src/lib.rt keeps its contract.
 use Rattle.text.proofs.WriteLaws.{and_then}
 use Rattle.text.specs.Phrases.{bytes}
-use Rattle.trace_bounds.specs.Lines.{termWords}
+use Rattle.trace_bounds.specs.Lines.{term_words}
 use borrow.Author.Rules.{rules}
 use Rattle.trace_bounds.proofs.put_terms.Statement.{statement}
 use Rattle.trace_bounds.proofs.put_terms.Tie as tie
 
 returns : tie.Need-returns
-unfolding termWords bytes
+unfolding term_words bytes
 returns c =
     let c6 = c.before.before in
     let c5 = c6.before.before.before.before.before in

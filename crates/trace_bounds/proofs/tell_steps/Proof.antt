@@ -3,8 +3,8 @@ use Prim.Native.Nat.{◌≤◌, ◌<◌}
 use mathlib.Core.Path.{◌≡◌, sym, ◌∙◌}
 use native.Mathlib.Omega.{arith}
 use lib.ListN.{length}
-use Rattle.trace.proofs.TraceLaws.{turn-found}
-use Rattle.trace_bounds.proofs.WaitLaws.{Telling, begins, told_text, told-figures, told-ending, small, tells-on}
+use Rattle.trace.proofs.TraceLaws.{turn_found}
+use Rattle.trace_bounds.proofs.WaitLaws.{Telling, begins, told_text, told_figures, told-ending, small, tells_on}
 use borrow.Author.Rules.{rules}
 use Rattle.trace_bounds.proofs.tell_steps.Statement.{statement}
 use Rattle.trace_bounds.proofs.tell_steps.Tie as tie
@@ -28,7 +28,7 @@ returns c =
     let t = r.before.before in
     let g = t.before.loop.invariant.0 in
     let e = sym t.turn_at.ensures ∙ r.refusal.given.1 in
-    (told_text _ _ _ _ _ _ _ _ _ _ _ _ _ _ g _ _ e _ p.put_if.ensures, (told-figures _ _ _ _ _ _ _ _ _ _ _ _ _ _ g _ _ e, told-ending _ _ _ _ _ _ _ _ _ _ _ _ _ _ g _ _ e))
+    (told_text _ _ _ _ _ _ _ _ _ _ _ _ _ _ g _ _ e _ p.put_if.ensures, (told_figures _ _ _ _ _ _ _ _ _ _ _ _ _ _ g _ _ e, told-ending _ _ _ _ _ _ _ _ _ _ _ _ _ _ g _ _ e))
 
 step-sound-requires : tie.Need-step-sound-requires invariant-loop decreases-loop
 step-sound-requires c κs = c.before.before.before.before.loop.invariant.0.ready
@@ -48,13 +48,13 @@ sub-left : tie.Need-overflow-sub-left invariant-loop decreases-loop
 sub-left c =
     let a = c.before.before.before.before.before.before.before.before.before.before.before.before.before in
     let x = a.before.before in
-    omega (arith, (turn-found _ _ _ _ _ _ (sym x.before.before.turn_at.ensures ∙ x.x.given.1)).1.0)
+    omega (arith, (turn_found _ _ _ _ _ _ (sym x.before.before.turn_at.ensures ∙ x.x.given.1)).1.0)
 
 loop-less : tie.Need-loop-smaller invariant-loop decreases-loop
 loop-less c =
     let a = c.before.before.before.before.before.before.before.before.before.before.before.before.before in
     let x = a.before.before in
-    omega (arith, (turn-found _ _ _ _ _ _ (sym x.before.before.turn_at.ensures ∙ x.x.given.1)).1.0)
+    omega (arith, (turn_found _ _ _ _ _ _ (sym x.before.before.turn_at.ensures ∙ x.x.given.1)).1.0)
 
 loop-again : tie.Need-loop-preserved invariant-loop decreases-loop
 loop-again c =
@@ -66,7 +66,7 @@ loop-again c =
     let x = a.before.before in
     let t = x.before.before in
     let l = t.before.loop in (
-      tells-on _ _ _ _ _ _ _ _ _ _ _ _ _ _ l.invariant.0 l.invariant.2 _ _ (sym t.turn_at.ensures ∙ x.x.given.1) _ _ _ _ _ _ _ a.step-sound.ensures w.stands.ensures
+      tells_on _ _ _ _ _ _ _ _ _ _ _ _ _ _ l.invariant.0 l.invariant.2 _ _ (sym t.turn_at.ensures ∙ x.x.given.1) _ _ _ _ _ _ _ a.step-sound.ensures w.stands.ensures
           m.marks-of.ensures p.put-if2.ensures b.either.ensures c.figures-after.ensures,
       l.invariant.1,
       l.invariant.2,

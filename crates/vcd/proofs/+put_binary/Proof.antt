@@ -5,7 +5,7 @@ use borrow.Author.Rules.{rules}
 use borrow.Fn.PlainCycle.{Measures, is, falls, and}
 use Rattle.text.specs.Text.{write}
 use Rattle.text.proofs.WriteLaws.{and_then, nothing}
-use Rattle.vcd.proofs.BinaryLaws.{binary-none, binary-last, binary-more}
+use Rattle.vcd.proofs.BinaryLaws.{binary-none, binary_last, binary-more}
 use Rattle.vcd.proofs.put_binary.Reads as self
 use Rattle.vcd.proofs.put_binary.Kinds as kinds
 use Rattle.vcd.proofs.+put_binary.Lts-put_binary as lts
@@ -29,7 +29,7 @@ pub +put-binary-spec : {M : Type 1} → statement M
     (λ c. search rules)
     (λ c.
     let p = c.before.before in
-    p.put.ensures ∙ ap (write _) (binary-last _ _ p.before.before.before.if1.false p.before.before.if2.true))
+    p.put.ensures ∙ ap (write _) (binary_last _ _ p.before.before.before.if1.false p.before.before.if2.true))
     (λ c. search rules)
     (λ c κs. search rules)
     (λ c. search rules)

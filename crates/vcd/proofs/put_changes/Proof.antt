@@ -4,7 +4,7 @@ use mathlib.Core.Path.{◌≡◌, refl, ◌∙◌}
 use lib.ListN.{length, drop}
 use Rattle.text.specs.Text.{write}
 use Rattle.text.proofs.WriteLaws.{same_length as same-length-of}
-use Rattle.vcd.specs.Dump.{changesFrom}
+use Rattle.vcd.specs.Dump.{changes_from}
 use Rattle.vcd.proofs.ChangeLaws.{changes-turn, changes-done}
 use borrow.Author.Rules.{rules}
 use Rattle.vcd.proofs.put_changes.Statement.{statement}
@@ -12,7 +12,7 @@ use Rattle.vcd.proofs.put_changes.Tie as tie
 
 abbrev invariant-loop : tie.invariant-loop
 invariant-loop out₀ at widths before values next₀ k₀ out next k =
-    (write (out, next) (changesFrom k (drop k widths) before values) ≡ write (out₀, at) (changesFrom 0 widths before values)) × (length out ≡ length out₀)
+    (write (out, next) (changes_from k (drop k widths) before values) ≡ write (out₀, at) (changes_from 0 widths before values)) × (length out ≡ length out₀)
 
 abbrev decreases-loop : tie.decreases-loop
 decreases-loop out₀ at widths before values next₀ k₀ out next k = length widths - k

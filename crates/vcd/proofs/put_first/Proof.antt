@@ -1,15 +1,15 @@
 -- That `put_first` of src/lib.rt keeps its contract.
 use Rattle.text.proofs.WriteLaws.{and_then}
 use Rattle.words.specs.Choice.{pick}
-use Rattle.text.specs.Text.{decimalOf}
+use Rattle.text.specs.Text.{decimal_of}
 use Rattle.text.specs.Phrases.{bytes}
-use Rattle.vcd.specs.Dump.{tick, firstTick}
+use Rattle.vcd.specs.Dump.{tick, first_tick}
 use borrow.Author.Rules.{rules}
 use Rattle.vcd.proofs.put_first.Statement.{statement}
 use Rattle.vcd.proofs.put_first.Tie as tie
 
 returns : tie.Need-returns
-unfolding firstTick tick decimalOf pick bytes
+unfolding first_tick tick decimal_of pick bytes
 returns c =
     let c3 = c.before.before in
     let c2 = c3.before.before.before.before.before in

@@ -4,7 +4,7 @@ use mathlib.Core.Path.{◌≡◌, refl, ◌∙◌}
 use lib.ListN.{length, drop}
 use Rattle.text.specs.Text.{write}
 use Rattle.text.proofs.WriteLaws.{same_length as same-length-of}
-use Rattle.vcd.specs.Dump.{valuesFrom}
+use Rattle.vcd.specs.Dump.{values_from}
 use Rattle.vcd.proofs.ChangeLaws.{values-turn, values-done}
 use borrow.Author.Rules.{rules}
 use Rattle.vcd.proofs.put_values.Statement.{statement}
@@ -12,7 +12,7 @@ use Rattle.vcd.proofs.put_values.Tie as tie
 
 abbrev invariant-loop : tie.invariant-loop
 invariant-loop out₀ at widths values next₀ k₀ out next k =
-    (write (out, next) (valuesFrom k (drop k widths) values) ≡ write (out₀, at) (valuesFrom 0 widths values)) × (length out ≡ length out₀)
+    (write (out, next) (values_from k (drop k widths) values) ≡ write (out₀, at) (values_from 0 widths values)) × (length out ≡ length out₀)
 
 abbrev decreases-loop : tie.decreases-loop
 decreases-loop out₀ at widths values next₀ k₀ out next k = length widths - k

@@ -1,12 +1,12 @@
 -- That `better` of src/figures.rt keeps its contract.
-use Rattle.aic_bounds.proofs.FigureLaws.{better-second, better-first}
+use Rattle.aic_bounds.proofs.FigureLaws.{better_second, better-first}
 use borrow.Author.Rules.{rules}
 use Rattle.aic_bounds.proofs.figures.better.Statement.{statement}
 use Rattle.aic_bounds.proofs.figures.better.Tie as tie
 
 returns : tie.Need-returns
 returns c =
-    better-second _ _ c.before.before.before.has-bound.ensures c.before.before.bound_of.ensures c.before.bound-of2.ensures c.if1.true
+    better_second _ _ c.before.before.before.has-bound.ensures c.before.before.bound_of.ensures c.before.bound-of2.ensures c.if1.true
 
 returns-2 : tie.Need-returns-2
 returns-2 c =

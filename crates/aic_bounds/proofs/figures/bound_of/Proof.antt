@@ -1,11 +1,11 @@
 -- That `bound_of` of src/figures.rt keeps its contract.
-use Rattle.aic_bounds.specs.Bounds.{boundOf}
+use Rattle.aic_bounds.specs.Bounds.{bound_of}
 use borrow.Author.Rules.{rules}
 use Rattle.aic_bounds.proofs.figures.bound_of.Statement.{statement}
 use Rattle.aic_bounds.proofs.figures.bound_of.Tie as tie
 
 returns : tie.Need-returns
-unfolding boundOf
+unfolding bound_of
 returns c = search rules
 
 pub bound-of-spec : {M : Type 1} → statement M

@@ -13,12 +13,12 @@ use Rattle.aic_record.specs.declared.Aic.{Aic}
 use Rattle.aic_record.specs.Promises.{Shaped}
 use Rattle.aic_record.specs.Sound.{sound}
 use Rattle.aic.specs.Model.{step}
-use Rattle.aic_runs.specs.Counted.{startedBy}
+use Rattle.aic_runs.specs.Counted.{started_by}
 use Rattle.aic_runs.specs.Runs.{run}
 use Rattle.aic_runs.proofs.SoundRuns.{run_sound}
 use Rattle.aic_room.proofs.CellLaws.{depth_is, enabled-is}
 use Rattle.aic_room.proofs.LevelLaws.{laid-stale}
-use Rattle.aic_waits.specs.Following.{startedFrom}
+use Rattle.aic_waits.specs.Following.{started_from}
 use Rattle.aic_waits.proofs.FigureLaws.{none_more}
 use Rattle.aic_waits.proofs.TellLaws.{tells}
 use Rattle.aic_figures.specs.WaitsBook.{word_in, Moved}
@@ -58,10 +58,10 @@ returns-2 c =
     let new = c.move-on.new.0 in
     λ f s x ok h e k l.
     let u = (step s x).aic in
-    let by : startedFrom a.before u ≡ startedBy s x = ap (λ (d : ℕ). startedFrom d u) e ∙ tells s x h.2 ok in
+    let by : started_from a.before u ≡ started_by s x = ap (λ (d : ℕ). started_from d u) e ∙ tells s x h.2 ok in
     let m = c.move-on.ensures f u (then-sound s x h ok) l k in
     kept_on f s x a.n a.m a.book.now k new
-    (subst (λ (q : ℕ). Moved (startedBy s x) q a.n a.m u a.book.now new) (w.ensures u (laid-stale l))
+    (subst (λ (q : ℕ). Moved (started_by s x) q a.n a.m u a.book.now new) (w.ensures u (laid-stale l))
     (subst (λ (q : ℕ). Moved q w.result a.n a.m u a.book.now new) by m))
 
 pub follow-spec : {M : Type 1} → statement M

@@ -1,6 +1,6 @@
 -- That `grow_all` of src/waits.rt keeps its contract.
 use mathlib.Core.Path.{refl}
-use Rattle.aic_figures.proofs.WaitsKeptLaws.{stands-still, few-edges, few-commands, few-turns, few-closed, stands-grown}
+use Rattle.aic_figures.proofs.WaitsKeptLaws.{stands-still, few-edges, few-commands, few-turns, few_closed, stands-grown}
 use borrow.Author.Rules.{rules}
 use Rattle.aic_figures.proofs.waits.grow_all.Statement.{statement}
 use Rattle.aic_figures.proofs.waits.grow_all.Tie as tie
@@ -24,7 +24,7 @@ returns-2 c =
     let e₁ = g₁.ensures d.size (few-edges f m b₀ d) in
     let e₂ = g₂.ensures e₁.size (few-commands f m b₀ d b₁ e₁) in
     let e₃ = g₃.ensures e₂.size (few-turns f m b₀ d b₁ e₁ b₂ e₂) in
-    stands-grown f m b₀ d b₁ e₁ b₂ e₂ b₃ e₃ g₄.new.0 (g₄.ensures e₃.size (few-closed f m b₀ d b₁ e₁ b₂ e₂ b₃ e₃))
+    stands-grown f m b₀ d b₁ e₁ b₂ e₂ b₃ e₃ g₄.new.0 (g₄.ensures e₃.size (few_closed f m b₀ d b₁ e₁ b₂ e₂ b₃ e₃))
 
 pub grow-all-spec : {M : Type 1} → statement M
 grow-all-spec = tie.close (tie.spec returns (λ c κs. search rules) (λ c κs. search rules) (λ c κs. search rules) (λ c κs. search rules) returns-2)

@@ -8,7 +8,7 @@ use borrow.Author.Tests.{eqb-true, not-true}
 use Rattle.words.specs.Word.{bit}
 use Rattle.words.proofs.TruthLaws.{and_left, and_right}
 use Rattle.aic_room.proofs.CellLaws.{enabled-is}
-use Rattle.aic_figures.specs.WaitsBook.{rowAfter, row_at, word_in, Rows}
+use Rattle.aic_figures.specs.WaitsBook.{row_after, row_at, word_in, Rows}
 use borrow.Author.Rules.{rules}
 use Rattle.aic_figures.proofs.waits.move_all.Statement.{statement}
 use Rattle.aic_figures.proofs.waits.move_all.Tie as tie
@@ -26,7 +26,7 @@ returns-2 c =
     let a = c.before.before.before.before.before.before.before.args in
     let old = a.book.now in
     λ f t ok h k w.
-    subst (λ (v : ℕ). Rows (λ i. rowAfter i (bit a.was i) (bit a.is i) a.n a.m t (row_at old i)) v old c.move-rows.new.0) c.before.join.ensures
+    subst (λ (v : ℕ). Rows (λ i. row_after i (bit a.was i) (bit a.is i) a.n a.m t (row_at old i)) v old c.move-rows.new.0) c.before.join.ensures
     (c.move-rows.ensures t ok h k.size)
 
 pub move-all-spec : {M : Type 1} → statement M

@@ -2,8 +2,8 @@
 use Prim.Native.Nat.{ℕ}
 use mathlib.Core.Path.{◌≡◌, sym, ap, subst, ◌∙◌}
 use Rattle.words.specs.Word.{bit}
-use Rattle.aic_figures.specs.WaitsBook.{rowAfter, row_at, Rows}
-use Rattle.aic_figures.proofs.WaitsKeptLaws.{between, stands-between, between-on, rows-steady}
+use Rattle.aic_figures.specs.WaitsBook.{row_after, row_at, Rows}
+use Rattle.aic_figures.proofs.WaitsKeptLaws.{between, stands-between, between_on, rows-steady}
 use borrow.Author.Rules.{rules}
 use Rattle.aic_figures.proofs.waits.move_steady.Statement.{statement}
 use Rattle.aic_figures.proofs.waits.move_steady.Tie as tie
@@ -22,11 +22,11 @@ returns c =
     let b₁ = r₁.new.0 in
     let b₂ = g.new.0 in
     λ f t ok h k ew same steady.
-    let d₁ = subst (λ (w : ℕ). Rows (λ i. rowAfter i (bit was i) (bit is i) n m t (row_at old i)) w old b₁) c.before.before.before.before.before.before.before.drop-bits.ensures
+    let d₁ = subst (λ (w : ℕ). Rows (λ i. row_after i (bit was i) (bit is i) n m t (row_at old i)) w old b₁) c.before.before.before.before.before.before.before.drop-bits.ensures
     (r₁.ensures t ok h k.size) in
     let e = g.ensures (between f t n m was is old k ew) (stands-between f t n m was is old k ew b₁ d₁)
-    (λ i l p. between-on f t n m was is old k ew b₁ d₁ i l (sym (ap (λ (w : ℕ). bit w i) c.before.before.before.before.meet.ensures) ∙ p)) in
-    let d₃ = subst (λ (w : ℕ). Rows (λ i. rowAfter i (bit was i) (bit is i) n m t (row_at b₂ i)) w b₂ r₃.new.0) c.before.drop-bits2.ensures (r₃.ensures t ok h e.0.size) in
+    (λ i l p. between_on f t n m was is old k ew b₁ d₁ i l (sym (ap (λ (w : ℕ). bit w i) c.before.before.before.before.meet.ensures) ∙ p)) in
+    let d₃ = subst (λ (w : ℕ). Rows (λ i. row_after i (bit was i) (bit is i) n m t (row_at b₂ i)) w b₂ r₃.new.0) c.before.drop-bits2.ensures (r₃.ensures t ok h e.0.size) in
     rows-steady f t n m was is old k ew b₁ d₁ same steady b₂ e.0 e.1 r₃.new.0 d₃
 
 pub move-steady-spec : {M : Type 1} → statement M

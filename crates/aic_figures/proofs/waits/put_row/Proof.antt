@@ -7,7 +7,7 @@ use lib.Dec.{eqb, ltb}
 use lib.ListN.{length, get_or}
 use borrow.Author.Tests.{le-ltb}
 use Rattle.aic_figures.specs.WaitsBook.{Columns, Cells}
-use Rattle.aic_figures.proofs.ColumnLaws.{cells-none, cells-more, next-number, row_put}
+use Rattle.aic_figures.proofs.ColumnLaws.{cells-none, cells-more, next_number, row_put}
 use borrow.Author.Rules.{rules}
 use Rattle.aic_figures.proofs.waits.put_row.Statement.{statement}
 use Rattle.aic_figures.proofs.waits.put_row.Tie as tie
@@ -28,7 +28,7 @@ loop-again c =
     let a = s.args in (
       omega arith,
       λ h. cells-more (λ x y. ltb x l.j && eqb y a.k) (λ x y. ltb x (l.j + 1) && eqb y a.k) (λ x y. get_or a.t3 x 0) a.book.now l.book l.j a.k _
-          (omega (arith, c.loop-test.true)) s.requires (next-number l.j a.k) refl (l.invariant.1 h),
+          (omega (arith, c.loop-test.true)) s.requires (next_number l.j a.k) refl (l.invariant.1 h),
     )
 
 returns : tie.Need-returns invariant-loop decreases-loop

@@ -5,14 +5,14 @@ use native.Mathlib.Omega.{arith}
 use borrow.Author.Count.{below_none}
 use lib.ListN.{length, get_or, length-set}
 use Rattle.words.proofs.ArrayLaws.{filled}
-use Rattle.aic_figures.specs.WaitsBook.{cellIn}
+use Rattle.aic_figures.specs.WaitsBook.{cell_in}
 use Rattle.aic_figures.proofs.ColumnLaws.{row_told}
 use borrow.Author.Rules.{rules}
 use Rattle.aic_figures.proofs.waits.row_at.Statement.{statement}
 use Rattle.aic_figures.proofs.waits.row_at.Tie as tie
 
 abbrev invariant-loop : tie.invariant-loop
-invariant-loop book k row₀ j₀ row j = (j ≤ 18) × (length row ≡ 18) × ((a : ℕ) → a < j → get_or row a 0 ≡ cellIn book a k)
+invariant-loop book k row₀ j₀ row j = (j ≤ 18) × (length row ≡ 18) × ((a : ℕ) → a < j → get_or row a 0 ≡ cell_in book a k)
 
 abbrev decreases-loop : tie.decreases-loop
 decreases-loop book k row₀ j₀ row j = 18 - j
@@ -24,7 +24,7 @@ loop-again : tie.Need-loop-preserved invariant-loop decreases-loop
 loop-again c =
     let l = c.before.before.loop in
     let a = c.before.before.before.args in
-    (omega arith, simp length-set l.invariant.1, filled l.row (λ x. cellIn a.book.now x a.k) l.j (omega (arith, l.invariant.1)) l.invariant.2 _ refl)
+    (omega arith, simp length-set l.invariant.1, filled l.row (λ x. cell_in a.book.now x a.k) l.j (omega (arith, l.invariant.1)) l.invariant.2 _ refl)
 
 returns : tie.Need-returns invariant-loop decreases-loop
 returns c =

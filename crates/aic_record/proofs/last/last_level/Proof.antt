@@ -1,11 +1,11 @@
 -- That `last_level` of src/last.rt keeps its contract.
-use Rattle.aic_record.specs.Last.{lastLevel}
+use Rattle.aic_record.specs.Last.{last_level}
 use borrow.Author.Rules.{rules}
 use Rattle.aic_record.proofs.last.last_level.Statement.{statement}
 use Rattle.aic_record.proofs.last.last_level.Tie as tie
 
 returns : tie.Need-returns
-unfolding lastLevel
+unfolding last_level
 returns c = search rules
 
 pub last-level-spec : {M : Type 1} → statement M

@@ -1,7 +1,7 @@
 -- That `read_at` of src/registers.rt keeps its contract.
 use Rattle.words.specs.Choice.{pick}
 use Rattle.aic_registers.specs.Handlers.{answered}
-use Rattle.aic_registers.specs.Registers.{readAt}
+use Rattle.aic_registers.specs.Registers.{read_at}
 use borrow.Author.Tests.{ne_eqb}
 use Rattle.words.proofs.ChoiceLaws.{pick-false}
 use mathlib.Core.Path.{sym, ap, ◌∙◌}
@@ -10,15 +10,15 @@ use Rattle.aic_registers.proofs.registers.read_at.Statement.{statement}
 use Rattle.aic_registers.proofs.registers.read_at.Tie as tie
 
 returns : tie.Need-returns
-unfolding readAt pick
-returns c = c.read-ivr.ensures ∙ sym (ap (readAt c.before.before.args.s) c.before.match.keys1)
+unfolding read_at pick
+returns c = c.read-ivr.ensures ∙ sym (ap (read_at c.before.before.args.s) c.before.match.keys1)
 
 returns-2 : tie.Need-returns-2
-unfolding readAt pick
-returns-2 c = c.read-fvr.ensures ∙ sym (ap (readAt c.before.before.args.s) c.before.match.keys2)
+unfolding read_at pick
+returns-2 c = c.read-fvr.ensures ∙ sym (ap (read_at c.before.before.args.s) c.before.match.keys2)
 
 returns-3 : tie.Need-returns-3
-unfolding readAt
+unfolding read_at
 returns-3 c = c.answer-of.ensures ∙ ap (answered c.before.before.before.args.s) c.before.read-stored.ensures ∙ pick-false _ (ne_eqb _ _ c.before.before.match.rest.1) ∙ pick-false _ (ne_eqb _ _ c.before.before.match.rest.0.1)
 
 pub read-at-spec : {M : Type 1} → statement M

@@ -1,6 +1,6 @@
 -- That `read_stored` of src/registers.rt keeps its contract.
 use Rattle.words.specs.Choice.{pick}
-use Rattle.aic_registers.specs.Registers.{outputBits, stored}
+use Rattle.aic_registers.specs.Registers.{output_bits, stored}
 use borrow.Author.Tests.{ne_eqb, lt-ltb, le-ltb}
 use Rattle.words.proofs.ChoiceLaws.{pick_true, pick-false}
 use mathlib.Core.Path.{sym, ap, ◌∙◌}
@@ -29,7 +29,7 @@ unfolding stored pick
 returns-5 c = sym (ap (stored c.before.before.before.args.s) c.match.keys3)
 
 returns-6 : tie.Need-returns-6
-unfolding stored outputBits pick
+unfolding stored output_bits pick
 returns-6 c = c.output-bits.ensures ∙ sym (ap (stored c.before.before.before.before.args.s) c.before.match.keys4)
 
 returns-7 : tie.Need-returns-7

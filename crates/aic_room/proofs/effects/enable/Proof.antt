@@ -2,8 +2,8 @@
 use mathlib.Core.Path.{ap, ◌∙◌}
 use Prim.Native.Nat.{ℕ}
 use Rattle.words.specs.Word.{either}
-use Rattle.aic_record.specs.Record.{withEnabled}
-use Rattle.aic_registers.specs.Effects.{enabledBy}
+use Rattle.aic_record.specs.Record.{with_enabled}
+use Rattle.aic_registers.specs.Effects.{enabled_by}
 use Rattle.aic_room.proofs.CellLaws.{laid_as, enabled-is}
 use Rattle.aic_room.proofs.LevelLaws.{laid-stale}
 use borrow.Author.Rules.{rules}
@@ -11,11 +11,11 @@ use Rattle.aic_room.proofs.effects.enable.Statement.{statement}
 use Rattle.aic_room.proofs.effects.enable.Tie as tie
 
 returns : tie.Need-returns
-unfolding enabledBy
+unfolding enabled_by
 returns c =
     let x = c.before.before in
     let y = x.before.before in
-    λ a h. laid_as (ap (withEnabled a) (y.join.ensures ∙ ap (λ (w : ℕ). either w y.before.before.args.v) (enabled-is h))) (c.renew.ensures _ (x.put-enabled.ensures a (laid-stale h)))
+    λ a h. laid_as (ap (with_enabled a) (y.join.ensures ∙ ap (λ (w : ℕ). either w y.before.before.args.v) (enabled-is h))) (c.renew.ensures _ (x.put-enabled.ensures a (laid-stale h)))
 
 pub enable-spec : {M : Type 1} → statement M
 enable-spec =

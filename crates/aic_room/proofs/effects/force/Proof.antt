@@ -1,8 +1,8 @@
 -- That `force` of src/effects.rt keeps its contract.
 use mathlib.Core.Path.{ap, ap₂, ◌∙◌}
 use Rattle.words.specs.Word.{either}
-use Rattle.aic_record.specs.Record.{withForced}
-use Rattle.aic_registers.specs.Effects.{forcedBy}
+use Rattle.aic_record.specs.Record.{with_forced}
+use Rattle.aic_registers.specs.Effects.{forced_by}
 use Rattle.aic_room.proofs.CellLaws.{laid_as, forced-is}
 use Rattle.aic_room.proofs.LevelLaws.{laid-stale}
 use borrow.Author.Rules.{rules}
@@ -10,11 +10,11 @@ use Rattle.aic_room.proofs.effects.force.Statement.{statement}
 use Rattle.aic_room.proofs.effects.force.Tie as tie
 
 returns : tie.Need-returns
-unfolding forcedBy
+unfolding forced_by
 returns c =
     let x = c.before.before in
     let y = x.before.before in
-    λ a h. laid_as (ap (withForced a) (y.join.ensures ∙ ap₂ either (forced-is h) y.before.drop-bits.ensures)) (c.renew.ensures _ (x.put-forced.ensures a (laid-stale h)))
+    λ a h. laid_as (ap (with_forced a) (y.join.ensures ∙ ap₂ either (forced-is h) y.before.drop-bits.ensures)) (c.renew.ensures _ (x.put-forced.ensures a (laid-stale h)))
 
 pub force-spec : {M : Type 1} → statement M
 force-spec =

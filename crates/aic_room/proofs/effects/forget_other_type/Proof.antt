@@ -2,7 +2,7 @@
 use mathlib.Core.Path.{ap, ◌∙◌}
 use mathlib.Core.Bool.{false}
 use Prim.Native.Nat.{ℕ}
-use Rattle.words.specs.Word.{withBit}
+use Rattle.words.specs.Word.{with_bit}
 use Rattle.words.proofs.ChoiceLaws.{pick_true, pick-false}
 use Rattle.aic_room.proofs.CellLaws.{memory-is}
 use Rattle.aic_room.proofs.EffectLaws.{type-other, type-same}
@@ -15,7 +15,7 @@ returns c =
     let x = c.before.before in
     let t = x.before.before in
     let s = t.before.before in
-    λ a h. c.with-bit.ensures ∙ ap (λ (w : ℕ). withBit w s.args.k false) (memory-is h) ∙ pick_true _ (type-other h _ s.requires _ _ _ t.type-of.ensures x.before.type-of2.ensures x.if1.true)
+    λ a h. c.with-bit.ensures ∙ ap (λ (w : ℕ). with_bit w s.args.k false) (memory-is h) ∙ pick_true _ (type-other h _ s.requires _ _ _ t.type-of.ensures x.before.type-of2.ensures x.if1.true)
 
 returns-2 : tie.Need-returns-2
 returns-2 c =

@@ -2,7 +2,7 @@
 use mathlib.Core.Path.{ap, ◌∙◌}
 use mathlib.Core.Bool.{true}
 use Prim.Native.Nat.{ℕ}
-use Rattle.words.specs.Word.{withBit}
+use Rattle.words.specs.Word.{with_bit}
 use Rattle.words.proofs.ChoiceLaws.{by-true, by-false}
 use Rattle.aic_room.proofs.CellLaws.{memory-is}
 use borrow.Author.Rules.{rules}
@@ -12,7 +12,7 @@ use Rattle.aic_room.proofs.effects.remember.Tie as tie
 returns : tie.Need-returns
 returns c =
     let x = c.before.before in
-    λ a h. c.with-bit.ensures ∙ ap (λ (w : ℕ). withBit w x.before.before.args.k true) (memory-is h) ∙ by-true _ (x.before.rises.ensures a h) x.if1.true
+    λ a h. c.with-bit.ensures ∙ ap (λ (w : ℕ). with_bit w x.before.before.args.k true) (memory-is h) ∙ by-true _ (x.before.rises.ensures a h) x.if1.true
 
 returns-2 : tie.Need-returns-2
 returns-2 c = λ a h. memory-is h ∙ by-false _ (c.before.before.rises.ensures a h) c.before.if1.false

@@ -1,14 +1,14 @@
 -- That `level_below` of src/handlers.rt keeps its contract.
 use borrow.Author.Tests.{eq-eqb}
 use Rattle.words.proofs.ChoiceLaws.{pick_true}
-use Rattle.aic_record.specs.Sound.{levelBelow}
+use Rattle.aic_record.specs.Sound.{level_below}
 use Rattle.aic_room.proofs.HandlerLaws.{below-told}
 use borrow.Author.Rules.{rules}
 use Rattle.aic_room.proofs.handlers.level_below.Statement.{statement}
 use Rattle.aic_room.proofs.handlers.level_below.Tie as tie
 
 returns : tie.Need-returns
-unfolding levelBelow
+unfolding level_below
 returns c = λ a h l. pick_true _ (eq-eqb _ _ c.if1.true)
 
 returns-2 : tie.Need-returns-2

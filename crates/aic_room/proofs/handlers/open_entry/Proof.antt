@@ -3,7 +3,7 @@ use mathlib.Core.Path.{ap}
 use Prim.Native.Nat.{ℕ, ◌+◌}
 use native.Mathlib.Omega.{arith}
 use lib.ListN.{set}
-use Rattle.aic_record.specs.Record.{withHandlers}
+use Rattle.aic_record.specs.Record.{with_handlers}
 use Rattle.aic_registers.specs.Handlers.{opened}
 use Rattle.aic_room.proofs.CellLaws.{laid_as, depth_is}
 use Rattle.aic_room.proofs.HandlerLaws.{last-opened}
@@ -19,7 +19,7 @@ unfolding opened
 returns-2 c =
     let x = c.before.before in
     let s = x.before.before.args in
-    λ a h l. laid_as (ap (λ (d : ℕ). withHandlers a (set a.source d s.k) (set a.level d s.level) (d + 1)) (depth_is h)) (c.put-entry.ensures a h (last-opened h _ _ (omega (arith, x.if1.false))))
+    λ a h l. laid_as (ap (λ (d : ℕ). with_handlers a (set a.source d s.k) (set a.level d s.level) (d + 1)) (depth_is h)) (c.put-entry.ensures a h (last-opened h _ _ (omega (arith, x.if1.false))))
 
 pub open-entry-spec : {M : Type 1} → statement M
 open-entry-spec =

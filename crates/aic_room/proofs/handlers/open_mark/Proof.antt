@@ -5,7 +5,7 @@ use native.Mathlib.Omega.{arith}
 use borrow.Author.Tests.{le-ltb}
 use lib.ListN.{get_or, set}
 use Rattle.words.proofs.ChoiceLaws.{pick-false}
-use Rattle.aic_record.specs.Record.{withHandlers}
+use Rattle.aic_record.specs.Record.{with_handlers}
 use Rattle.aic_registers.specs.Handlers.{marked}
 use Rattle.aic_registers.proofs.CallLaws.{marked_by}
 use Rattle.aic_room.proofs.CellLaws.{laid_as, depth_is, last-is}
@@ -24,7 +24,7 @@ returns-2 c =
     let room = x.before.before.args.room.now in
     λ a h.
     let l : a.depth < 8 = omega (arith, depth_is h, x.if1.false) in
-    laid_as (ap (λ (d : ℕ). withHandlers a (set a.source d 0) (set a.level d (get_or room 19 0)) (d + 1)) (depth_is h) ∙ marked_by a _ l (last-is h))
+    laid_as (ap (λ (d : ℕ). with_handlers a (set a.source d 0) (set a.level d (get_or room 19 0)) (d + 1)) (depth_is h) ∙ marked_by a _ l (last-is h))
     (c.put-entry.ensures a h (last-opened h _ _ (omega (arith, x.if1.false))))
 
 pub open-mark-spec : {M : Type 1} → statement M

@@ -3,7 +3,7 @@ use mathlib.Core.Path.{ap, ◌∙◌}
 use Prim.Native.Nat.{ℕ}
 use Rattle.words.specs.Word.{bit}
 use Rattle.words.proofs.ChoiceLaws.{by-true, by-false}
-use Rattle.aic_registers.specs.Handlers.{ivrRead}
+use Rattle.aic_registers.specs.Handlers.{ivr_read}
 use Rattle.aic_room.proofs.CellLaws.{debug-is}
 use Rattle.aic_room.proofs.HandlerLaws.{gives_as}
 use borrow.Author.Rules.{rules}
@@ -11,13 +11,13 @@ use Rattle.aic_room.proofs.handlers.read_ivr.Statement.{statement}
 use Rattle.aic_room.proofs.handlers.read_ivr.Tie as tie
 
 returns : tie.Need-returns
-unfolding ivrRead
+unfolding ivr_read
 returns c =
     let x = c.before.before in
     λ a h. gives_as (by-true _ (x.before.has.ensures ∙ ap (λ (w : ℕ). bit w 0) (debug-is h)) x.if1.true) (c.look-ivr.ensures a h)
 
 returns-2 : tie.Need-returns-2
-unfolding ivrRead
+unfolding ivr_read
 returns-2 c =
     let x = c.before.before in
     λ a h. gives_as (by-false _ (x.before.has.ensures ∙ ap (λ (w : ℕ). bit w 0) (debug-is h)) x.if1.false) (c.take-ivr.ensures a h)

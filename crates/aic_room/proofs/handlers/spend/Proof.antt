@@ -2,7 +2,7 @@
 use mathlib.Core.Path.{ap, ◌∙◌}
 use mathlib.Core.Bool.{false}
 use Prim.Native.Nat.{ℕ}
-use Rattle.words.specs.Word.{bit, withBit}
+use Rattle.words.specs.Word.{bit, with_bit}
 use Rattle.words.proofs.ChoiceLaws.{by-true, by-false}
 use Rattle.aic_sources.proofs.PendingLaws.{bit-edges}
 use Rattle.aic_registers.specs.Handlers.{spent}
@@ -19,7 +19,7 @@ returns c =
     let x = w.before.before.before in
     let s = x.before.before.before in
     λ a h. laid_as (by-true _ (x.before.has.ensures ∙ ap (λ (n : ℕ). bit n s.args.k) (edges-is h) ∙ bit-edges a _ s.requires) x.if1.true)
-    (c.renew-level.ensures a _ (put-spent h _ _ (priority-is h _ s.requires) _ _ (w.with-bit.ensures ∙ ap (λ (n : ℕ). withBit n s.args.k false) (memory-is h))))
+    (c.renew-level.ensures a _ (put-spent h _ _ (priority-is h _ s.requires) _ _ (w.with-bit.ensures ∙ ap (λ (n : ℕ). with_bit n s.args.k false) (memory-is h))))
 
 returns-2 : tie.Need-returns-2
 unfolding spent

@@ -5,13 +5,13 @@ use native.Mathlib.Omega.{arith}
 use lib.ListN.{set}
 use Rattle.words.proofs.CountingLaws.{upto-none, upto-more, upto_done}
 use Rattle.rooms.specs.Parts.{stored}
-use Rattle.aic_room.specs.Room.{classWord}
+use Rattle.aic_room.specs.Room.{class_word}
 use borrow.Author.Rules.{rules}
 use Rattle.aic_room.proofs.layout.lay_classes.Statement.{statement}
 use Rattle.aic_room.proofs.layout.lay_classes.Tie as tie
 
 abbrev invariant-loop : tie.invariant-loop
-invariant-loop room₀ mode p₀ room p = (p ≤ 8) × (room ≡ stored 32 (classWord mode) room₀ p)
+invariant-loop room₀ mode p₀ room p = (p ≤ 8) × (room ≡ stored 32 (class_word mode) room₀ p)
 
 abbrev decreases-loop : tie.decreases-loop
 decreases-loop room₀ mode p₀ room p = 8 - p

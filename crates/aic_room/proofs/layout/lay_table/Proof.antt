@@ -5,13 +5,13 @@ use native.Mathlib.Omega.{arith}
 use lib.ListN.{set}
 use Rattle.words.proofs.CountingLaws.{upto-none, upto-more, upto_done}
 use Rattle.rooms.specs.Parts.{stored}
-use Rattle.aic_levels.specs.Levels.{highestOf}
+use Rattle.aic_levels.specs.Levels.{highest_of}
 use borrow.Author.Rules.{rules}
 use Rattle.aic_room.proofs.layout.lay_table.Statement.{statement}
 use Rattle.aic_room.proofs.layout.lay_table.Tie as tie
 
 abbrev invariant-loop : tie.invariant-loop
-invariant-loop room₀ b₀ room b = (b ≤ 256) × (room ≡ stored 256 highestOf room₀ b)
+invariant-loop room₀ b₀ room b = (b ≤ 256) × (room ≡ stored 256 highest_of room₀ b)
 
 abbrev decreases-loop : tie.decreases-loop
 decreases-loop room₀ b₀ room b = 256 - b

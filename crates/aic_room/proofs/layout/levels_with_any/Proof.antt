@@ -6,8 +6,8 @@ use native.Mathlib.Omega.{arith}
 use lib.Dec.{eqb}
 use lib.ListN.{get_or}
 use Rattle.words.specs.Word.{word_of}
-use Rattle.words.proofs.CountingLaws.{at-end}
-use Rattle.words.proofs.WordLaws.{wordOf-none-yet, wordOf-more}
+use Rattle.words.proofs.CountingLaws.{at_end}
+use Rattle.words.proofs.WordLaws.{word_of-none_yet, word_of-more}
 use borrow.Author.Rules.{rules}
 use Rattle.aic_room.proofs.layout.levels_with_any.Statement.{statement}
 use Rattle.aic_room.proofs.layout.levels_with_any.Tie as tie
@@ -19,17 +19,17 @@ abbrev decreases-loop : tie.decreases-loop
 decreases-loop room any₀ p₀ any p = 8 - p
 
 loop-holds : tie.Need-loop-init invariant-loop decreases-loop
-loop-holds c = (omega arith, wordOf-none-yet _)
+loop-holds c = (omega arith, word_of-none_yet _)
 
 loop-again : tie.Need-loop-preserved invariant-loop decreases-loop
 loop-again c =
     let l = c.before.before.before.loop in
     let a = c.before.before.before.before.args in
-    (omega arith, c.with-bit.ensures ∙ wordOf-more (λ i. not (eqb (get_or a.room.now (24 + i) 0) 0)) l.p (omega arith) l.invariant.1 refl)
+    (omega arith, c.with-bit.ensures ∙ word_of-more (λ i. not (eqb (get_or a.room.now (24 + i) 0) 0)) l.p (omega arith) l.invariant.1 refl)
 
 returns : tie.Need-returns invariant-loop decreases-loop
 returns c =
-    at-end (λ n. word_of n (λ i. not (eqb (get_or c.before.before.args.room.now (24 + i) 0) 0))) _ 8 c.before.loop.invariant.0 c.loop-test.false
+    at_end (λ n. word_of n (λ i. not (eqb (get_or c.before.before.args.room.now (24 + i) 0) 0))) _ 8 c.before.loop.invariant.0 c.loop-test.false
     c.before.loop.invariant.1
 
 pub levels-with-any-spec : {M : Type 1} → statement M

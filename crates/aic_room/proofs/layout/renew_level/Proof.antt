@@ -1,5 +1,5 @@
 -- That `renew_level` of src/layout.rt keeps its contract.
-use Rattle.aic_room.proofs.OneLaws.{stale-at, renewed-at}
+use Rattle.aic_room.proofs.OneLaws.{stale_at, renewed_at}
 use borrow.Author.Rules.{rules}
 use Rattle.aic_room.proofs.layout.renew_level.Statement.{statement}
 use Rattle.aic_room.proofs.layout.renew_level.Tie as tie
@@ -8,7 +8,7 @@ returns : tie.Need-returns
 returns c =
     let x = c.before.before in
     let y = x.before.before in
-    λ a b h. renewed-at a b _ _ _ _ _ y.before.before.requires h (y.waiting.ensures b (stale-at h)) x.meet.ensures c.with-bit.ensures
+    λ a b h. renewed_at a b _ _ _ _ _ y.before.before.requires h (y.waiting.ensures b (stale_at h)) x.meet.ensures c.with-bit.ensures
 
 pub renew-level-spec : {M : Type 1} → statement M
 renew-level-spec =

@@ -2,7 +2,7 @@
 use mathlib.Core.Path.{sym, ◌∙◌}
 use Rattle.words.proofs.ChoiceLaws.{by-false}
 use Rattle.words.proofs.TruthLaws.{and_parts}
-use Rattle.aic_levels.specs.Model.{stepWith}
+use Rattle.aic_levels.specs.Model.{step_with}
 use borrow.Author.Rules.{rules}
 use Rattle.aic_room.proofs.pair.step.Statement.{statement}
 use Rattle.aic_room.proofs.pair.step.Tie as tie
@@ -11,7 +11,7 @@ step-agreed-requires : tie.Need-step-agreed-requires
 step-agreed-requires c κs = sym (and_parts c.before.before.is-sound.ensures c.before.agrees.ensures) ∙ c.if1.true
 
 returns-2 : tie.Need-returns-2
-unfolding stepWith
+unfolding step_with
 returns-2 c = by-false _ (and_parts c.before.before.is-sound.ensures c.before.agrees.ensures) c.if1.false
 
 pub step_spec : {M : Type 1} → statement M

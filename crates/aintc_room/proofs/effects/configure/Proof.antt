@@ -3,7 +3,7 @@ use mathlib.Core.Path.{◌≡◌, refl, sym, ap, ap₂, ◌∙◌}
 use Rattle.words.proofs.ChoiceLaws.{pick_true, pick-false}
 use Rattle.words.specs.Counting.{one}
 use Rattle.aintc_registers.specs.Effects.{configured}
-use Rattle.aintc_room.proofs.CellLaws.{laid_as, put-autoidle}
+use Rattle.aintc_room.proofs.CellLaws.{laid_as, put_autoidle}
 use borrow.Author.Rules.{rules}
 use Rattle.aintc_room.proofs.effects.configure.Statement.{statement}
 use Rattle.aintc_room.proofs.effects.configure.Tie as tie
@@ -14,7 +14,7 @@ returns c = λ a h. laid_as (pick_true _ (sym c.before.before.before.has.ensures
 
 returns-2 : tie.Need-returns-2
 unfolding configured
-returns-2 c = λ a h. laid_as (pick-false _ (sym c.before.before.before.has.ensures ∙ c.before.before.if1.false)) (put-autoidle h _ _ (c.one-if.ensures ∙ ap one c.before.has2.ensures))
+returns-2 c = λ a h. laid_as (pick-false _ (sym c.before.before.before.has.ensures ∙ c.before.before.if1.false)) (put_autoidle h _ _ (c.one-if.ensures ∙ ap one c.before.has2.ensures))
 
 pub configure-spec : {M : Type 1} → statement M
 configure-spec =

@@ -6,13 +6,13 @@ use lib.ListN.{get_or, set}
 use Rattle.words.specs.Counting.{upto}
 use Rattle.words.proofs.CountingLaws.{upto-none, upto-more, upto_done}
 use Rattle.rooms.specs.Parts.{stored}
-use Rattle.aintc_room.specs.Room.{bitsWord}
+use Rattle.aintc_room.specs.Room.{bits_word}
 use borrow.Author.Rules.{rules}
 use Rattle.aintc_room.proofs.layout.lay_bits.Statement.{statement}
 use Rattle.aintc_room.proofs.layout.lay_bits.Tie as tie
 
 abbrev invariant-loop : tie.invariant-loop
-invariant-loop room₀ routes j₀ room j = (j ≤ 28) × (room ≡ stored 32 (bitsWord routes) room₀ j)
+invariant-loop room₀ routes j₀ room j = (j ≤ 28) × (room ≡ stored 32 (bits_word routes) room₀ j)
 
 abbrev decreases-loop : tie.decreases-loop
 decreases-loop room₀ routes j₀ room j = 28 - j

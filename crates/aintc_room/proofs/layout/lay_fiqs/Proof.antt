@@ -6,13 +6,13 @@ use lib.ListN.{get_or, set}
 use Rattle.words.specs.Counting.{upto}
 use Rattle.words.proofs.CountingLaws.{upto-none, upto-more, upto_done}
 use Rattle.rooms.specs.Parts.{stored}
-use Rattle.aintc_room.specs.Room.{fiqWord}
+use Rattle.aintc_room.specs.Room.{fiq_word}
 use borrow.Author.Rules.{rules}
 use Rattle.aintc_room.proofs.layout.lay_fiqs.Statement.{statement}
 use Rattle.aintc_room.proofs.layout.lay_fiqs.Tie as tie
 
 abbrev invariant-loop : tie.invariant-loop
-invariant-loop room₀ routes n₀ room n = (n ≤ 4) × (room ≡ stored 28 (fiqWord routes) room₀ n)
+invariant-loop room₀ routes n₀ room n = (n ≤ 4) × (room ≡ stored 28 (fiq_word routes) room₀ n)
 
 abbrev decreases-loop : tie.decreases-loop
 decreases-loop room₀ routes n₀ room n = 4 - n

@@ -5,7 +5,7 @@ use native.Mathlib.Omega.{arith}
 use Rattle.aintc_record.specs.declared.Aintc.{Aintc}
 use Rattle.aintc_room.specs.Room.{Laid}
 use Rattle.aintc_room.specs.First.{held, halves, SomeOf}
-use Rattle.aintc_room.proofs.SearchLaws.{halves-held, Least, least-all, turned, first-least}
+use Rattle.aintc_room.proofs.SearchLaws.{halves-held, Least, least-all, turned, first_least}
 use borrow.Author.Rules.{rules}
 use Rattle.aintc_room.proofs.search.first_of.Statement.{statement}
 use Rattle.aintc_room.proofs.search.first_of.Tie as tie
@@ -41,7 +41,7 @@ returns c =
     let p = held a.w0 a.w1 a.w2 a.w3 in
     let z : l.k ≡ 0 = omega (arith, c.before.loop-test.false) in
     λ s h o. let i = l.invariant.1 s h o in
-    first-least s p (halves l.low l.high) _ (subst (λ (n : ℕ). Least s p (halves l.low l.high) n) z i) (c.highest-of.ensures i.some)
+    first_least s p (halves l.low l.high) _ (subst (λ (n : ℕ). Least s p (halves l.low l.high) n) z i) (c.highest-of.ensures i.some)
 
 pub first-of-spec : {M : Type 1} → statement M
 first-of-spec =

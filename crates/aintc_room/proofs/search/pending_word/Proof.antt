@@ -1,5 +1,5 @@
 -- That `pending_word` of src/search.rt keeps its contract.
-use Rattle.aintc_room.proofs.SearchLaws.{pending-fast, pending-slow}
+use Rattle.aintc_room.proofs.SearchLaws.{pending-fast, pending_slow}
 use borrow.Author.Rules.{rules}
 use Rattle.aintc_room.proofs.search.pending_word.Statement.{statement}
 use Rattle.aintc_room.proofs.search.pending_word.Tie as tie
@@ -8,7 +8,7 @@ returns : tie.Need-returns
 returns c = let x = c.before.before.before in λ a h. pending-fast h _ _ _ x.before.requires (x.open-word.ensures a h) _ c.before.if1.true c.meet.ensures
 
 returns-2 : tie.Need-returns-2
-returns-2 c = let x = c.before.before.before in λ a h. pending-slow h _ _ _ x.before.requires (x.open-word.ensures a h) _ c.before.if1.false c.drop-bits.ensures
+returns-2 c = let x = c.before.before.before in λ a h. pending_slow h _ _ _ x.before.requires (x.open-word.ensures a h) _ c.before.if1.false c.drop-bits.ensures
 
 pub pending-word-spec : {M : Type 1} → statement M
 pending-word-spec =

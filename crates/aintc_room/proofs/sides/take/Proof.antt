@@ -1,12 +1,12 @@
 -- That `take` of src/sides.rt keeps its contract.
 use mathlib.Core.Path.{◌≡◌, refl, sym, ap, ap₂, ◌∙◌}
-use Rattle.aintc_room.proofs.SideLaws.{taken-on, taken-off}
+use Rattle.aintc_room.proofs.SideLaws.{taken_on, taken-off}
 use borrow.Author.Rules.{rules}
 use Rattle.aintc_room.proofs.sides.take.Statement.{statement}
 use Rattle.aintc_room.proofs.sides.take.Tie as tie
 
 returns : tie.Need-returns
-returns c = λ a h free t. taken-on a c.before.before.before.before.args.fast _ t _ _ h c.before.before.before.place_of.ensures.0 refl c.if1.true free
+returns c = λ a h free t. taken_on a c.before.before.before.before.args.fast _ t _ _ h c.before.before.before.place_of.ensures.0 refl c.if1.true free
 
 returns-2 : tie.Need-returns-2
 returns-2 c = λ a h free t. taken-off a c.before.before.before.before.args.fast _ t _ h refl c.if1.false

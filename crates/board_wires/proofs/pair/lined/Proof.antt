@@ -1,7 +1,7 @@
 -- That `lined` of src/pair.rt keeps its contract.
 use Rattle.board_wires.specs.Pair.{lined}
 use Rattle.board_wires.proofs.PairLaws.{lined-none, lined-more}
-use Rattle.words.proofs.CountingLaws.{at-end}
+use Rattle.words.proofs.CountingLaws.{at_end}
 use native.Mathlib.Omega.{arith}
 use Prim.Native.Nat.{◌≤◌, ◌-◌}
 use mathlib.Core.Path.{◌≡◌}
@@ -26,7 +26,7 @@ loop-again c =
     )
 
 returns : tie.Need-returns invariant-loop decreases-loop
-returns c = at-end (lined _ _) _ _ c.before.loop.invariant.0 c.loop-test.false c.before.loop.invariant.1
+returns c = at_end (lined _ _) _ _ c.before.loop.invariant.0 c.loop-test.false c.before.loop.invariant.1
 
 pub lined-spec : {M : Type 1} → statement M
 lined-spec = tie.close (tie.spec invariant-loop decreases-loop loop-holds (λ c κs. search rules) (λ c κs. search rules) (λ c. search rules) (λ c. search rules) loop-again returns)

@@ -2,7 +2,7 @@
 use Rattle.cic_held.proofs.SearchLaws.{found_here, found_nowhere, none_left, looks}
 use Rattle.words.proofs.ShiftLaws.{bit-left}
 use Rattle.words.specs.Word.{bit}
-use Rattle.cic_record.specs.Kinds.{system, channelIn}
+use Rattle.cic_record.specs.Kinds.{system, channel_in}
 use Rattle.cic_held.specs.Search.{lit}
 use borrow.Author.Count.{below_more, below_none}
 use lib.Dec.{eqb}
@@ -52,7 +52,7 @@ loop-again c =
 returns-2 : tie.Need-returns-2 invariant-loop decreases-loop
 returns-2 c =
     let l = c.before.loop in
-    found_nowhere _ 32 (none_left c.before.before.args.w l.i (λ j. eqb (channelIn c.before.before.args.channel.now (system (c.before.before.args.base + j))).0 c.before.before.args.k.0) (sym l.invariant.1.0 ∙ c.loop-test.false) l.invariant.1.1)
+    found_nowhere _ 32 (none_left c.before.before.args.w l.i (λ j. eqb (channel_in c.before.before.args.channel.now (system (c.before.before.args.base + j))).0 c.before.before.args.k.0) (sym l.invariant.1.0 ∙ c.loop-test.false) l.invariant.1.1)
 
 pub first-of-spec : {M : Type 1} → statement M
 first-of-spec =

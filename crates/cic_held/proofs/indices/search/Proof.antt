@@ -1,5 +1,5 @@
 -- That `search` of src/indices.rt keeps its contract.
-use Rattle.cic_held.proofs.SearchLaws.{NoneBefore, word-lowest, found_word, word_none, found-no-word}
+use Rattle.cic_held.proofs.SearchLaws.{NoneBefore, word_lowest, found_word, word_none, found_no_word}
 use Rattle.words.specs.Word.{kept}
 use mathlib.Core.Path.{◌≡◌, ap₂, ◌∙◌}
 use native.Mathlib.Omega.{arith}
@@ -31,7 +31,7 @@ returns c =
     let a = c.before.before.before.before.before.before.before.before.args in
     let w = c.before.before.keep in
     let low =
-    word-lowest a.systems a.status.now a.enable.now a.channel.now a.k l.j l.base w.result l.invariant.1.1.0
+    word_lowest a.systems a.status.now a.enable.now a.channel.now a.k l.j l.base w.result l.invariant.1.1.0
     (w.ensures ∙ ap₂ (λ (n x : ℕ). kept n x) l.invariant.1.0 c.before.before.before.meet.ensures) c.before.first-of.ensures
     in
     found_word a.systems a.status.now a.enable.now a.channel.now a.k l.j c.before.first-of.result low c.if1.true l.invariant.1.1.1
@@ -43,7 +43,7 @@ loop-again c =
     let t = c.before.before.before.before.before.before.before.loop-test in
     let w = c.before.before.before.keep in
     let low =
-    word-lowest a.systems a.status.now a.enable.now a.channel.now a.k l.j l.base w.result l.invariant.1.1.0
+    word_lowest a.systems a.status.now a.enable.now a.channel.now a.k l.j l.base w.result l.invariant.1.1.0
     (w.ensures ∙ ap₂ (λ (n x : ℕ). kept n x) l.invariant.1.0 c.before.before.before.before.meet.ensures) c.before.before.first-of.ensures
     in (
       omega (arith, t.true, l.invariant.1.0),
@@ -60,7 +60,7 @@ returns-2 : tie.Need-returns-2 invariant-loop decreases-loop
 returns-2 c =
     let l = c.before.loop in
     let a = c.before.before.args in
-    found-no-word a.systems a.status.now a.enable.now a.channel.now a.k l.j (omega (arith, c.loop-test.false, l.invariant.1.0)) l.invariant.0 l.invariant.1.1.1
+    found_no_word a.systems a.status.now a.enable.now a.channel.now a.k l.j (omega (arith, c.loop-test.false, l.invariant.1.0)) l.invariant.0 l.invariant.1.1.1
 
 pub search-spec : {M : Type 1} → statement M
 search-spec =

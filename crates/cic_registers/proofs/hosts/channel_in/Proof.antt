@@ -1,12 +1,12 @@
 -- That `channel_in` of src/hosts.rt keeps its contract.
 use mathlib.Core.Path.{ap}
-use Rattle.cic_record.specs.Kinds.{channelNumber}
+use Rattle.cic_record.specs.Kinds.{channel_number}
 use borrow.Author.Rules.{rules}
 use Rattle.cic_registers.proofs.hosts.channel_in.Statement.{statement}
 use Rattle.cic_registers.proofs.hosts.channel_in.Tie as tie
 
 returns : tie.Need-returns
-returns c = (ap channelNumber c.wide.ensures.0, c.wide.ensures.1)
+returns c = (ap channel_number c.wide.ensures.0, c.wide.ensures.1)
 
 pub channel-in-spec : {M : Type 1} → statement M
 channel-in-spec = tie.close (tie.spec (λ c. search rules) (λ c. search rules) (λ c κs. search rules) returns)

@@ -1,6 +1,6 @@
 -- That `lowest_of` of src/hosts.rt keeps its contract.
-use Rattle.words.proofs.ArrayLaws.{lowest-word, lowest-nowhere}
-use Rattle.words.proofs.CountingLaws.{lowest-found}
+use Rattle.words.proofs.ArrayLaws.{lowest_word, lowest_nowhere}
+use Rattle.words.proofs.CountingLaws.{lowest_found}
 use Rattle.words.specs.Word.{bit}
 use borrow.Author.Count.{below_more, below_none}
 use lib.ListN.{get_or}
@@ -25,7 +25,7 @@ loop-holds c = (omega arith, below_none _)
 add-result : tie.Need-overflow-add-result invariant-loop decreases-loop
 add-result c =
     let l = c.before.before.before.loop in
-    let low = lowest-found 32 (bit (get_or c.before.before.before.before.args.t1 l.k 0)) in
+    let low = lowest_found 32 (bit (get_or c.before.before.before.before.args.t1 l.k 0)) in
     omega (arith, c.lowest.ensures, low.within)
 
 returns : tie.Need-returns invariant-loop decreases-loop
@@ -33,13 +33,13 @@ returns c =
     let l = c.before.before.before.loop in
     let ws = c.before.before.before.before.args.t1 in
     let f : Fits w32 (get_or ws l.k 0) = search rules in
-    ap (λ (n : ℕ). 32 * l.k + n) c.lowest.ensures ∙ lowest-word ws 8 l.k (omega arith) f.fits c.before.if1.true l.invariant.1
+    ap (λ (n : ℕ). 32 * l.k + n) c.lowest.ensures ∙ lowest_word ws 8 l.k (omega arith) f.fits c.before.if1.true l.invariant.1
 
 loop-again : tie.Need-loop-preserved invariant-loop decreases-loop
 loop-again c = (omega arith, below_more _ _ c.before.before.loop.invariant.1 c.if1.false)
 
 returns-2 : tie.Need-returns-2 invariant-loop decreases-loop
-returns-2 c = lowest-nowhere c.before.before.args.t1 8 (λ i l. c.before.loop.invariant.1 i (omega arith))
+returns-2 c = lowest_nowhere c.before.before.args.t1 8 (λ i l. c.before.loop.invariant.1 i (omega arith))
 
 pub lowest-of-spec : {M : Type 1} → statement M
 lowest-of-spec =

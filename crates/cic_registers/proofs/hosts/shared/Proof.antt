@@ -1,5 +1,5 @@
 -- That `shared` of src/hosts.rt keeps its contract.
-use Rattle.words.proofs.ArrayLaws.{filled, bitAt-both}
+use Rattle.words.proofs.ArrayLaws.{filled, bit_at-both}
 use Rattle.words.specs.Word.{both}
 use borrow.Author.Count.{below_none}
 use lib.ListN.{get_or, length, length-set}
@@ -28,7 +28,7 @@ loop-again c =
     )
 
 returns : tie.Need-returns invariant-loop decreases-loop
-returns c = λ h l. bitAt-both c.before.loop.out c.before.before.args.t1 c.before.before.args.t2 h (c.before.loop.invariant.1.1 (h / 32) (omega arith))
+returns c = λ h l. bit_at-both c.before.loop.out c.before.before.args.t1 c.before.before.args.t2 h (c.before.loop.invariant.1.1 (h / 32) (omega arith))
 
 pub shared-spec : {M : Type 1} → statement M
 shared-spec =

@@ -1,9 +1,9 @@
 -- That `visit` of src/hosts.rt keeps its contract.
 use Rattle.cic_registers.proofs.ScanLaws.{marked, passed}
-use Rattle.cic_record.specs.Kinds.{hostIn}
+use Rattle.cic_record.specs.Kinds.{host_in}
 use Rattle.cic_record.specs.declared.Host.{Host}
 use Rattle.cic_record.specs.declared.Channel.{Channel}
-use Rattle.words.specs.Array.{withBitAt}
+use Rattle.words.specs.Array.{with_bit_at}
 use lib.ListN.{length, length-set}
 use native.Mathlib.Omega.{arith}
 use mathlib.Core.Path.{ap, ◌∙◌}
@@ -12,13 +12,13 @@ use Rattle.cic_registers.proofs.hosts.visit.Statement.{statement}
 use Rattle.cic_registers.proofs.hosts.visit.Tie as tie
 
 returns : tie.Need-returns
-unfolding withBitAt
+unfolding with_bit_at
 returns c =
     let a = c.before.before.before.before.before.args in
     let p = c.before.before.before.before.before.requires in
     let h = c.before.before.host-in in
     let k = c.before.before.before.channel-in in (
-      λ n. marked a.out.now _ a.on _ h.result.0 n (omega (arith, p.1, h.ensures.1)) c.before.before.before.before.if1.true (ap (λ (x : Host). x.0) h.ensures.0 ∙ ap (λ (x : Channel). (hostIn a.host.now x).0) k.ensures.0) c.mark.ensures,
+      λ n. marked a.out.now _ a.on _ h.result.0 n (omega (arith, p.1, h.ensures.1)) c.before.before.before.before.if1.true (ap (λ (x : Host). x.0) h.ensures.0 ∙ ap (λ (x : Channel). (host_in a.host.now x).0) k.ensures.0) c.mark.ensures,
       ap length c.mark.ensures ∙ simp length-set p.1,
     )
 

@@ -3,7 +3,7 @@ use mathlib.Core.Path.{refl, sym, ◌∙◌}
 use Prim.Native.Nat.{◌-◌}
 use native.Mathlib.Omega.{arith}
 use Rattle.cic_room.specs.Room.{permitted}
-use Rattle.cic_room.proofs.AssertLaws.{not-admitted, admitted-low, admitted-high}
+use Rattle.cic_room.proofs.AssertLaws.{not_admitted, admitted-low, admitted-high}
 use Rattle.cic_room.proofs.KeptLaws.{not-true, not-false}
 use borrow.Author.Rules.{rules}
 use Rattle.cic_room.proofs.counts.admit.Statement.{statement}
@@ -12,7 +12,7 @@ use Rattle.cic_room.proofs.counts.admit.Tie as tie
 returns : tie.Need-returns
 returns c =
     let o = c.before.before.before in
-    λ f d r b a u x g y z k t. (k, not-admitted (permitted d) o.args.room.now o.args.h.0 0 o.requires z k (sym (c.before.is-permitted.ensures f d k) ∙ not-true _ c.if1.true) t)
+    λ f d r b a u x g y z k t. (k, not_admitted (permitted d) o.args.room.now o.args.h.0 0 o.requires z k (sym (c.before.is-permitted.ensures f d k) ∙ not-true _ c.if1.true) t)
 
 returns-2 : tie.Need-returns-2
 returns-2 c =

@@ -2,10 +2,10 @@
 use Prim.Native.Nat.{◌-◌}
 use native.Mathlib.Omega.{arith}
 use Rattle.cic_room.specs.Room.{permitted}
-use Rattle.cic_room.specs.Tables.{hostAt, loadBy}
-use Rattle.cic_room.proofs.AssertLaws.{shown-anew}
+use Rattle.cic_room.specs.Tables.{host_at, load_by}
+use Rattle.cic_room.proofs.AssertLaws.{shown_anew}
 use Rattle.cic_room.proofs.KeptLaws.{on-counted, dim-bare, kept-told, bare-told}
-use Rattle.cic_room.proofs.KeptLaws.{dim-on}
+use Rattle.cic_room.proofs.KeptLaws.{dim_on}
 use borrow.Author.Rules.{rules}
 use Rattle.cic_room.proofs.counts.show_anew.Statement.{statement}
 use Rattle.cic_room.proofs.counts.show_anew.Tie as tie
@@ -18,9 +18,9 @@ returns-2 c =
     let o = c.before.before.before.before.before.before in
     λ f d ws u.
     let on = kept-told u.held c.before.before.before.before.if1.false in
-    let t = dim-on on u in
-    let r = shown-anew (permitted d) (loadBy (hostAt d) ws) o.args.room.now _ _ (c.before.before.count-asserted.ensures f d _ _ _ _ _ (loadBy (hostAt d) ws) u.held t)
-    (c.lowest-from.ensures f d _ _ _ _ _ (loadBy (hostAt d) ws) u.held t (λ h l. absurd (omega (arith, l)))) u.held t in
+    let t = dim_on on u in
+    let r = shown_anew (permitted d) (load_by (host_at d) ws) o.args.room.now _ _ (c.before.before.count-asserted.ensures f d _ _ _ _ _ (load_by (host_at d) ws) u.held t)
+    (c.lowest-from.ensures f d _ _ _ _ _ (load_by (host_at d) ws) u.held t (λ h l. absurd (omega (arith, l)))) u.held t in
     on-counted on r.0 u.long r.1
 
 pub show-anew-spec : {M : Type 1} → statement M

@@ -3,8 +3,8 @@ use mathlib.Core.Path.{ap, ◌∙◌}
 use Prim.Native.Nat.{ℕ, ◌-◌}
 use lib.ListN.{set}
 use Rattle.words.specs.Word.{without}
-use Rattle.cic_record.specs.Record.{withStatus}
-use Rattle.cic_registers.specs.Bits.{bitsCleared}
+use Rattle.cic_record.specs.Record.{with_status}
+use Rattle.cic_registers.specs.Bits.{bits_cleared}
 use Rattle.cic_room.proofs.PutLaws.{status-is}
 use Rattle.cic_room.proofs.RoomLaws.{laid_as}
 use borrow.Author.Rules.{rules}
@@ -12,13 +12,13 @@ use Rattle.cic_room.proofs.laid.clear_status.Statement.{statement}
 use Rattle.cic_room.proofs.laid.clear_status.Tie as tie
 
 returns : tie.Need-returns
-unfolding bitsCleared
+unfolding bits_cleared
 returns c =
     let x = c.before.before in
     let a = x.before.before in
     let k = a.args.k in
     λ f d h.
-    laid_as (ap (λ (w : ℕ). withStatus d (set d.status k w)) (x.drop-bits.ensures ∙ ap (λ (w : ℕ). without w a.args.v) (status-is h k a.requires)))
+    laid_as (ap (λ (w : ℕ). with_status d (set d.status k w)) (x.drop-bits.ensures ∙ ap (λ (w : ℕ). without w a.args.v) (status-is h k a.requires)))
     (c.store-status.ensures f d h)
 
 pub clear-status-spec : {M : Type 1} → statement M

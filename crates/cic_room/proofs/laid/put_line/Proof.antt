@@ -3,23 +3,23 @@ use mathlib.Core.Path.{ap, ◌∙◌}
 use Prim.Native.Nat.{ℕ, ◌-◌, ◌/◌, ◌%◌}
 use native.Mathlib.Omega.{arith}
 use lib.ListN.{set}
-use Rattle.words.specs.Array.{withBitAt}
-use Rattle.words.specs.Word.{withBit}
-use Rattle.cic_record.specs.Record.{withLines}
-use Rattle.cic_room.proofs.PutLaws.{lines-is, laid-lines}
+use Rattle.words.specs.Array.{with_bit_at}
+use Rattle.words.specs.Word.{with_bit}
+use Rattle.cic_record.specs.Record.{with_lines}
+use Rattle.cic_room.proofs.PutLaws.{lines-is, laid_lines}
 use Rattle.cic_room.proofs.RoomLaws.{laid_as}
 use borrow.Author.Rules.{rules}
 use Rattle.cic_room.proofs.laid.put_line.Statement.{statement}
 use Rattle.cic_room.proofs.laid.put_line.Tie as tie
 
 returns : tie.Need-returns
-unfolding withBitAt
+unfolding with_bit_at
 returns c =
     let a = c.before.before.before in
     let n = a.args.s.0 in
     λ f d h.
-    laid_as (ap (λ (x : ℕ). withLines d (set d.lines (n / 32) x)) (c.with-bit.ensures ∙ ap (λ (x : ℕ). withBit x (n % 32) a.args.high) (lines-is h (n / 32) (omega (arith, a.requires)))))
-    (laid-lines h (n / 32) _ (omega (arith, a.requires)))
+    laid_as (ap (λ (x : ℕ). with_lines d (set d.lines (n / 32) x)) (c.with-bit.ensures ∙ ap (λ (x : ℕ). with_bit x (n % 32) a.args.high) (lines-is h (n / 32) (omega (arith, a.requires)))))
+    (laid_lines h (n / 32) _ (omega (arith, a.requires)))
 
 pub put-line-spec : {M : Type 1} → statement M
 put-line-spec =

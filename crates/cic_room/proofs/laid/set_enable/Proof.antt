@@ -4,8 +4,8 @@ use Prim.Native.Nat.{ℕ, ◌-◌}
 use lib.ListN.{set}
 use Rattle.words.specs.Array.{rest_at}
 use Rattle.words.specs.Word.{either, kept}
-use Rattle.cic_record.specs.Record.{withEnable}
-use Rattle.cic_registers.specs.Bits.{bitsSet}
+use Rattle.cic_record.specs.Record.{with_enable}
+use Rattle.cic_registers.specs.Bits.{bits_set}
 use Rattle.cic_room.proofs.PutLaws.{systems-is, enable-is}
 use Rattle.cic_room.proofs.RoomLaws.{laid_as}
 use borrow.Author.Rules.{rules}
@@ -13,14 +13,14 @@ use Rattle.cic_room.proofs.laid.set_enable.Statement.{statement}
 use Rattle.cic_room.proofs.laid.set_enable.Tie as tie
 
 returns : tie.Need-returns
-unfolding bitsSet
+unfolding bits_set
 returns c =
     let x = c.before.before in
     let y = x.before.before in
     let a = y.before.before.before in
     let k = a.args.k in
     λ f d h.
-    laid_as (ap (λ (w : ℕ). withEnable d (set d.enable k w))
+    laid_as (ap (λ (w : ℕ). with_enable d (set d.enable k w))
     (x.join.ensures ∙ ap₂ (λ (w n : ℕ). either w n) (enable-is h k a.requires) (y.keep.ensures ∙ ap (λ (n : ℕ). kept n a.args.v) (y.before.rest-at.ensures ∙ ap (λ (n : ℕ). rest_at n k) (systems-is h)))))
     (c.store-enable.ensures f d h)
 

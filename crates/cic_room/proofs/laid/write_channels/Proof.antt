@@ -8,7 +8,7 @@ use Rattle.cic_room.proofs.KeptLaws.{kept-told, bare-told}
 use Rattle.cic_room.proofs.MapLaws.{new_word}
 use Rattle.cic_room.proofs.PutLaws.{systems-is}
 use Rattle.cic_room.proofs.RoomLaws.{held_of, standing, laid_of}
-use Rattle.cic_room.proofs.WriteLaws.{channels-bare, stale-channel}
+use Rattle.cic_room.proofs.WriteLaws.{channels-bare, stale_channel}
 use borrow.Author.Rules.{rules}
 use Rattle.cic_room.proofs.laid.write_channels.Statement.{statement}
 use Rattle.cic_room.proofs.laid.write_channels.Tie as tie
@@ -24,7 +24,7 @@ returns-2 c =
     λ f d ok l h.
     let n = systems-is h in
     channels-bare f d k a.args.v _ a.requires
-    (new_word 1024 d.systems k a.args.v d.channel h.shaped.3 (omega (arith, a.requires)) _ l x.1.1 (sound-is d ok).spareChannels
+    (new_word 1024 d.systems k a.args.v d.channel h.shaped.3 (omega (arith, a.requires)) _ l x.1.1 (sound-is d ok).spare_channels
     (λ m. x.0 (omega (arith, m, n))) (λ m. x.1.0 (omega (arith, m, n)) ∙ ap (λ (y : ℕ). kept (8 * (y - 4 * k)) a.args.v) n))
     (bare-told (held_of h) c.if2.true) h
 
@@ -38,8 +38,8 @@ returns-3 c =
     let on = kept-told (held_of h) c.before.before.before.before.if2.false in
     let z = standing h in
     laid_of (c.renew-word.ensures f _
-    (stale-channel f d k a.args.v _ a.requires
-    (new_word 1024 d.systems k a.args.v d.channel h.shaped.3 (omega (arith, a.requires)) _ l x.1.1 (sound-is d ok).spareChannels
+    (stale_channel f d k a.args.v _ a.requires
+    (new_word 1024 d.systems k a.args.v d.channel h.shaped.3 (omega (arith, a.requires)) _ l x.1.1 (sound-is d ok).spare_channels
     (λ m. x.0 (omega (arith, m, n))) (λ m. x.1.0 (omega (arith, m, n)) ∙ ap (λ (y : ℕ). kept (8 * (y - 4 * k)) a.args.v) n))
     _ on z.words (c.before.before.take-four.ensures f d z.active on z.counted)))
 

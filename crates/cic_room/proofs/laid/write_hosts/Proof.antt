@@ -8,7 +8,7 @@ use Rattle.cic_room.proofs.KeptLaws.{kept-told, bare-told}
 use Rattle.cic_room.proofs.MapLaws.{new_word}
 use Rattle.cic_room.proofs.PutLaws.{channels-is}
 use Rattle.cic_room.proofs.WriteLaws.{hosts-bare, hosts-written}
-use Rattle.cic_room.proofs.WriteLaws.{put-hosts}
+use Rattle.cic_room.proofs.WriteLaws.{put_hosts}
 use borrow.Author.Rules.{rules}
 use Rattle.cic_room.proofs.laid.write_hosts.Statement.{statement}
 use Rattle.cic_room.proofs.laid.write_hosts.Tie as tie
@@ -23,9 +23,9 @@ returns-2 c =
     let x = c.before.before.existing.ensures in
     λ f d ok l h.
     let n = channels-is h in
-    let w = (new_word 256 d.channels k a.args.v d.host h.shaped.4 (omega (arith, a.requires)) _ l x.1.1 (sound-is d ok).spareHosts
+    let w = (new_word 256 d.channels k a.args.v d.host h.shaped.4 (omega (arith, a.requires)) _ l x.1.1 (sound-is d ok).spare_hosts
     (λ m. x.0 (omega (arith, m, n))) (λ m. x.1.0 (omega (arith, m, n)) ∙ ap (λ (y : ℕ). kept (8 * (y - 4 * k)) a.args.v) n)) in
-    hosts-bare a.args.room.now k a.args.v _ a.requires h w (bare-told (put-hosts a.args.room.now k a.args.v _ a.requires h w) c.if2.true)
+    hosts-bare a.args.room.now k a.args.v _ a.requires h w (bare-told (put_hosts a.args.room.now k a.args.v _ a.requires h w) c.if2.true)
 
 returns-3 : tie.Need-returns-3
 returns-3 c =
@@ -34,10 +34,10 @@ returns-3 c =
     let x = c.before.before.before.before.before.before.before.before.before.before.existing.ensures in
     λ f d ok l h.
     let n = channels-is h in
-    let w = (new_word 256 d.channels k a.args.v d.host h.shaped.4 (omega (arith, a.requires)) _ l x.1.1 (sound-is d ok).spareHosts
+    let w = (new_word 256 d.channels k a.args.v d.host h.shaped.4 (omega (arith, a.requires)) _ l x.1.1 (sound-is d ok).spare_hosts
     (λ m. x.0 (omega (arith, m, n))) (λ m. x.1.0 (omega (arith, m, n)) ∙ ap (λ (y : ℕ). kept (8 * (y - 4 * k)) a.args.v) n)) in
     hosts-written a.args.room.now k a.args.v _ a.requires h w _ _ _ _
-    (kept-told (put-hosts a.args.room.now k a.args.v _ a.requires h w) c.before.before.before.before.before.before.before.before.if2.false)
+    (kept-told (put_hosts a.args.room.now k a.args.v _ a.requires h w) c.before.before.before.before.before.before.before.before.if2.false)
     (c.before.before.before.before.before.before.move-byte.ensures f _) (c.before.before.before.before.move-byte2.ensures f _) (c.before.before.move-byte3.ensures f _) (c.move-byte4.ensures f _)
 
 pub write-hosts-spec : {M : Type 1} → statement M

@@ -4,11 +4,11 @@ use Prim.Native.Nat.{◌-◌, ◌/◌, ◌<◌, ◌≤◌}
 use native.Mathlib.Omega.{arith}
 use borrow.Author.Tests.{leb-false}
 use lib.Dec.{ltb, leb}
-use Rattle.words.proofs.TruthLaws.{or-neither}
+use Rattle.words.proofs.TruthLaws.{or_neither}
 use Rattle.cic_record.proofs.PartsLaws.{sound-parts}
 use Rattle.cic_registers.proofs.LayoutPromises as of-layout
 use Rattle.cic_room.proofs.PutLaws.{hosts-is, allow-is}
-use Rattle.cic_room.proofs.ReplyLaws.{at-enables, at_none, word-as, told-nothing, told-allow}
+use Rattle.cic_room.proofs.ReplyLaws.{at_enables, at_none, word_as, told-nothing, told_allow}
 use borrow.Author.Tests.{ltb-false}
 use borrow.Author.Rules.{rules}
 use Rattle.cic_room.proofs.reads.read_high.Statement.{statement}
@@ -20,7 +20,7 @@ returns c = let a = c.before.before in λ f d ok h. c.refuse.ensures ∙ told-no
 sub-k : tie.Need-overflow-sub-k
 sub-k c =
     let o = c.before.args.offset in
-    let q = or-neither (ltb o 0x1500) (leb 0x1520 o) c.if1.false in
+    let q = or_neither (ltb o 0x1500) (leb 0x1520 o) c.if1.false in
     let l : 0x1500 ≤ o = ltb-false o 0x1500 q.0 in
     let m : o < 0x1520 = leb-false 0x1520 o q.1 in
     omega (arith, l)
@@ -28,7 +28,7 @@ sub-k c =
 mul-if-any : tie.Need-overflow-mul-if-any
 mul-if-any c =
     let o = c.before.args.offset in
-    let q = or-neither (ltb o 0x1500) (leb 0x1520 o) c.if1.false in
+    let q = or_neither (ltb o 0x1500) (leb 0x1520 o) c.if1.false in
     let l : 0x1500 ≤ o = ltb-false o 0x1500 q.0 in
     let m : o < 0x1520 = leb-false 0x1520 o q.1 in
     omega (arith, l, m)
@@ -36,7 +36,7 @@ mul-if-any c =
 element-copy-out-if-any-2 : tie.Need-element-copy-out-if-any-2
 element-copy-out-if-any-2 c =
     let o = c.before.before.args.offset in
-    let q = or-neither (ltb o 0x1500) (leb 0x1520 o) c.before.if1.false in
+    let q = or_neither (ltb o 0x1500) (leb 0x1520 o) c.before.if1.false in
     let l : 0x1500 ≤ o = ltb-false o 0x1500 q.0 in
     let m : o < 0x1520 = leb-false 0x1520 o q.1 in
     omega (arith, l, m)
@@ -46,12 +46,12 @@ returns-2 c =
     let a = c.before.before.before.before in
     let o = a.args.offset in
     let k = (o - 0x1500) / 4 in
-    let q = or-neither (ltb o 0x1500) (leb 0x1520 o) c.before.before.before.if1.false in
+    let q = or_neither (ltb o 0x1500) (leb 0x1520 o) c.before.before.before.if1.false in
     let l : 0x1500 ≤ o = ltb-false o 0x1500 q.0 in
     let m : o < 0x1520 = leb-false 0x1520 o q.1 in
     λ f d ok h.
     c.if-any.ensures
-    ∙ told-allow d o k _ _ (at-enables o a.requires.1 l m) (hosts-is h) (allow-is h k (omega (arith, l, m)) ∙ word-as 8 d.hosts d.allow k (omega (arith, l, m)) (sound-parts d ok).allow)
+    ∙ told_allow d o k _ _ (at_enables o a.requires.1 l m) (hosts-is h) (allow-is h k (omega (arith, l, m)) ∙ word_as 8 d.hosts d.allow k (omega (arith, l, m)) (sound-parts d ok).allow)
 
 pub read-high-spec : {M : Type 1} → statement M
 read-high-spec =

@@ -6,7 +6,7 @@ use Rattle.cic_record.proofs.RuleLaws.{sound-is}
 use Rattle.cic_registers.proofs.LayoutPromises as of-layout
 use Rattle.cic_room.proofs.PutLaws.{systems-is, channels-is}
 use Rattle.cic_room.proofs.RoomLaws.{held_of}
-use Rattle.cic_room.proofs.ReplyLaws.{at-channels, at-hosts, map-as, told-channels, told-hosts}
+use Rattle.cic_room.proofs.ReplyLaws.{at_channels, at_hosts, map_as, told_channels, told_hosts}
 use borrow.Author.Rules.{rules}
 use Rattle.cic_room.proofs.reads.read_map.Statement.{statement}
 use Rattle.cic_room.proofs.reads.read_map.Tie as tie
@@ -19,8 +19,8 @@ returns c =
     let l = c.before.before.before.if1.true in
     λ f d ok h.
     c.if-any.ensures
-    ∙ told-channels d o k _ _ (at-channels o a.requires.1.1 a.requires.0 l) (systems-is h)
-    ((held_of h).channel.holds k (omega (arith, l, a.requires.0)) ∙ map-as d.systems 1024 d.channel k (sound-is d ok).counts.0.1 (omega (arith, l, a.requires.0)) (sound-is d ok).spareChannels)
+    ∙ told_channels d o k _ _ (at_channels o a.requires.1.1 a.requires.0 l) (systems-is h)
+    ((held_of h).channel.holds k (omega (arith, l, a.requires.0)) ∙ map_as d.systems 1024 d.channel k (sound-is d ok).counts.0.1 (omega (arith, l, a.requires.0)) (sound-is d ok).spare_channels)
 
 returns-2 : tie.Need-returns-2
 returns-2 c =
@@ -30,8 +30,8 @@ returns-2 c =
     let l = c.before.before.before.if1.false in
     λ f d ok h.
     c.if-any2.ensures
-    ∙ told-hosts d o k _ _ (at-hosts o a.requires.1.1 (omega (arith, l)) a.requires.1.0) (channels-is h)
-    ((held_of h).host.holds k (omega (arith, l, a.requires.1.0)) ∙ map-as d.channels 256 d.host k (sound-is d ok).counts.1.0.1 (omega (arith, l, a.requires.1.0)) (sound-is d ok).spareHosts)
+    ∙ told_hosts d o k _ _ (at_hosts o a.requires.1.1 (omega (arith, l)) a.requires.1.0) (channels-is h)
+    ((held_of h).host.holds k (omega (arith, l, a.requires.1.0)) ∙ map_as d.channels 256 d.host k (sound-is d ok).counts.1.0.1 (omega (arith, l, a.requires.1.0)) (sound-is d ok).spare_hosts)
 
 pub read-map-spec : {M : Type 1} → statement M
 read-map-spec =

@@ -5,7 +5,7 @@ use lib.ListN.{get_or, length-replicate}
 use Rattle.cic_record.specs.Promises.{Shaped}
 use Rattle.cic_room.proofs.LayLaws.{laid-first}
 use mathlib.Core.List.{[], ◌∷◌}
-use Rattle.cic_room.proofs.CopyLaws.{copied-as}
+use Rattle.cic_room.proofs.CopyLaws.{copied_as}
 use borrow.Author.Rules.{rules}
 use Rattle.cic_room.proofs.transfer.copies.Statement.{statement}
 use Rattle.cic_room.proofs.transfer.copies.Tie as tie
@@ -32,7 +32,7 @@ returns c =
     let c7 = c.copy-channel.ensures e6 in
     λ ok.
     laid-first d z.args.kept _ _ _ _ _ _ _ ok shaped
-    (copied-as (λ k _. ap (λ (x : ℕ). get_or (2 ∷ d.systems ∷ d.channels ∷ d.hosts ∷ d.revision ∷ d.global ∷ x ∷ []) k 0) c.before.before.before.before.before.before.before.before.before.before.before.before.before.before.before.before.before.before.before.before.before.one-if.ensures) c1) c2 c3 c4 c5 c6 c7
+    (copied_as (λ k _. ap (λ (x : ℕ). get_or (2 ∷ d.systems ∷ d.channels ∷ d.hosts ∷ d.revision ∷ d.global ∷ x ∷ []) k 0) c.before.before.before.before.before.before.before.before.before.before.before.before.before.before.before.before.before.before.before.before.before.one-if.ensures) c1) c2 c3 c4 c5 c6 c7
 
 pub copies-spec : {M : Type 1} → statement M
 copies-spec =

@@ -3,7 +3,7 @@ use mathlib.Core.Path.{◌≡◌}
 use Prim.Native.Nat.{◌-◌, ◌≤◌}
 use native.Mathlib.Omega.{arith}
 use lib.ListN.{length}
-use Rattle.cic_registers.specs.Maps.{mapRead}
+use Rattle.cic_registers.specs.Maps.{map_read}
 use Rattle.cic_room.specs.Copies.{Copied}
 use Rattle.cic_room.proofs.CopyLaws.{copied_none, copied_more, copied_all}
 use borrow.Author.Rules.{rules}
@@ -11,7 +11,7 @@ use Rattle.cic_room.proofs.transfer.copy_host.Statement.{statement}
 use Rattle.cic_room.proofs.transfer.copy_host.Tie as tie
 
 abbrev invariant-loop : tie.invariant-loop
-invariant-loop room₀ m k₀ room k = (k ≤ 64) × (length room₀ ≡ 2048 → Copied 192 k (mapRead 256 m) room₀ room)
+invariant-loop room₀ m k₀ room k = (k ≤ 64) × (length room₀ ≡ 2048 → Copied 192 k (map_read 256 m) room₀ room)
 
 abbrev decreases-loop : tie.decreases-loop
 decreases-loop room₀ m k₀ room k = 64 - k

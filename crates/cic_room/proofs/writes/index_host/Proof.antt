@@ -6,14 +6,14 @@ use native.Mathlib.Omega.{arith}
 use borrow.Author.Tests.{lt-ltb, le-ltb}
 use lib.Dec.{ltb, leb}
 use lib.ListN.{get_or}
-use Rattle.words.specs.Array.{withBitAt}
+use Rattle.words.specs.Array.{with_bit_at}
 use Rattle.steps.specs.Refusals.{beyond}
-use Rattle.cic_record.specs.Record.{withAllow}
+use Rattle.cic_record.specs.Record.{with_allow}
 use Rattle.cic_record.proofs.RuleLaws.{sound-is}
 use Rattle.cic_registers.proofs.LayoutPromises as of-layout
 use Rattle.cic_registers.specs.Registers.{unless}
 use Rattle.cic_room.proofs.PutLaws.{hosts-is}
-use Rattle.cic_room.proofs.ReplyLaws.{carried, stopped, within-limit, past-limit, past_first, before-both}
+use Rattle.cic_room.proofs.ReplyLaws.{carried, stopped, within_limit, past_limit, past_first, before-both}
 use borrow.Author.Rules.{rules}
 use Rattle.cic_room.proofs.writes.index_host.Statement.{statement}
 use Rattle.cic_room.proofs.writes.index_host.Tie as tie
@@ -23,7 +23,7 @@ returns c =
     let a = c.before.before.before.args in
     λ f d ok h.
     let e = sym (ap (λ (x : ℕ). leb x a.v || leb 256 a.v) (hosts-is h)) ∙ c.before.if1.true in
-    stopped d (withAllow d (withBitAt d.allow a.v a.on)) (unless (ltb a.v d.hosts)) beyond (past-limit (le-ltb a.v d.hosts (past_first d.hosts 256 a.v (sound-is d ok).counts.1.1.1 e))) (λ q. absurd (omega (arith, q))) c.refuse.ensures h
+    stopped d (with_allow d (with_bit_at d.allow a.v a.on)) (unless (ltb a.v d.hosts)) beyond (past_limit (le-ltb a.v d.hosts (past_first d.hosts 256 a.v (sound-is d ok).counts.1.1.1 e))) (λ q. absurd (omega (arith, q))) c.refuse.ensures h
 
 cast-t12 : tie.Need-overflow-cast-t12
 cast-t12 c =
@@ -42,7 +42,7 @@ returns-2 c =
     let a = c.before.before.before.before.before.args in
     λ f d ok h.
     let e = sym (ap (λ (x : ℕ). leb x a.v || leb 256 a.v) (hosts-is h)) ∙ c.before.before.before.if1.false in
-    carried d (withAllow d (withBitAt d.allow a.v a.on)) (unless (ltb a.v d.hosts)) (within-limit (lt-ltb a.v d.hosts (before-both d.hosts 256 a.v e).0)) c.answer.ensures (c.before.mark-host.ensures f d h)
+    carried d (with_allow d (with_bit_at d.allow a.v a.on)) (unless (ltb a.v d.hosts)) (within_limit (lt-ltb a.v d.hosts (before-both d.hosts 256 a.v e).0)) c.answer.ensures (c.before.mark-host.ensures f d h)
 
 pub index-host-spec : {M : Type 1} → statement M
 index-host-spec =

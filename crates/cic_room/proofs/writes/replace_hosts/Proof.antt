@@ -1,11 +1,11 @@
 -- That `replace_hosts` of src/writes.rt keeps its contract.
 use Prim.Native.Nat.{◌-◌, ◌*◌}
 use native.Mathlib.Omega.{arith}
-use Rattle.steps.specs.Refusals.{absent, writeAccess}
+use Rattle.steps.specs.Refusals.{absent, write_access}
 use Rattle.cic_registers.specs.declared.layout.Register.TheVariants.{HostEnable}
-use Rattle.cic_registers.specs.Map.{accessOf, ifAny}
+use Rattle.cic_registers.specs.Map.{access_of, if_any}
 use Rattle.cic_registers.proofs.LayoutPromises as of-layout
-use Rattle.cic_registers.specs.Registers.{valueRefusal, writtenTo}
+use Rattle.cic_registers.specs.Registers.{value_refusal, written_to}
 use Rattle.cic_room.proofs.PutLaws.{hosts-is}
 use Rattle.cic_room.proofs.ReplyLaws.{carried, stopped, there, not_there}
 use borrow.Author.Rules.{rules}
@@ -13,12 +13,12 @@ use Rattle.cic_room.proofs.writes.replace_hosts.Statement.{statement}
 use Rattle.cic_room.proofs.writes.replace_hosts.Tie as tie
 
 returns : tie.Need-returns
-unfolding accessOf valueRefusal writtenTo
-returns c = let a = c.before.before.before.args in λ f d ok h. stopped d (writtenTo d (HostEnable a.k) a.v) (writeAccess (ifAny (32 * a.k) d.hosts) 0) absent (not_there (32 * a.k) d.hosts 0 (omega (arith, c.before.if1.true, hosts-is h))) (λ q. absurd (omega (arith, q))) c.refuse.ensures h
+unfolding access_of value_refusal written_to
+returns c = let a = c.before.before.before.args in λ f d ok h. stopped d (written_to d (HostEnable a.k) a.v) (write_access (if_any (32 * a.k) d.hosts) 0) absent (not_there (32 * a.k) d.hosts 0 (omega (arith, c.before.if1.true, hosts-is h))) (λ q. absurd (omega (arith, q))) c.refuse.ensures h
 
 returns-2 : tie.Need-returns-2
-unfolding accessOf valueRefusal writtenTo
-returns-2 c = let a = c.before.before.before.before.before.args in λ f d ok h. carried d (writtenTo d (HostEnable a.k) a.v) (writeAccess (ifAny (32 * a.k) d.hosts) 0) (there (32 * a.k) d.hosts 0 (omega (arith, c.before.before.before.if1.false, hosts-is h))) c.answer.ensures (c.before.replace-hosts.ensures f d h)
+unfolding access_of value_refusal written_to
+returns-2 c = let a = c.before.before.before.before.before.args in λ f d ok h. carried d (written_to d (HostEnable a.k) a.v) (write_access (if_any (32 * a.k) d.hosts) 0) (there (32 * a.k) d.hosts 0 (omega (arith, c.before.before.before.if1.false, hosts-is h))) c.answer.ensures (c.before.replace-hosts.ensures f d h)
 
 pub replace-hosts-spec : {M : Type 1} → statement M
 replace-hosts-spec =

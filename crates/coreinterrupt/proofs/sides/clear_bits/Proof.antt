@@ -1,11 +1,11 @@
 -- That `clear_bits` of src/sides.rt keeps its contract.
-use Rattle.coreinterrupt.specs.Side.{clearBits}
+use Rattle.coreinterrupt.specs.Side.{clear_bits}
 use borrow.Author.Rules.{rules}
 use Rattle.coreinterrupt.proofs.sides.clear_bits.Statement.{statement}
 use Rattle.coreinterrupt.proofs.sides.clear_bits.Tie as tie
 
 returns : tie.Need-returns
-unfolding clearBits
+unfolding clear_bits
 returns c = rw (c.drop-bits.ensures, c.before.keep.ensures)
 
 pub clear-bits-spec : {M : Type 1} → statement M

@@ -1,33 +1,33 @@
 -- That `read` of src/sides.rt keeps its contract.
 use Rattle.coreinterrupt.proofs.SidesTableLaws.{read_past}
-use Rattle.coreinterrupt.specs.Side.{sideRead}
+use Rattle.coreinterrupt.specs.Side.{side_read}
 use native.Mathlib.Omega.{arith}
 use borrow.Author.Rules.{rules}
 use Rattle.coreinterrupt.proofs.sides.read.Statement.{statement}
 use Rattle.coreinterrupt.proofs.sides.read.Tie as tie
 
 returns : tie.Need-returns
-unfolding sideRead
+unfolding side_read
 returns c = rw c.match.keys1
 
 returns-2 : tie.Need-returns-2
-unfolding sideRead
+unfolding side_read
 returns-2 c = rw c.match.keys2
 
 returns-3 : tie.Need-returns-3
-unfolding sideRead
+unfolding side_read
 returns-3 c = rw c.match.keys3
 
 returns-4 : tie.Need-returns-4
-unfolding sideRead
+unfolding side_read
 returns-4 c = rw c.match.keys4
 
 returns-5 : tie.Need-returns-5
-unfolding sideRead
+unfolding side_read
 returns-5 c = rw (c.raw.ensures, c.before.match.keys5)
 
 returns-6 : tie.Need-returns-6
-unfolding sideRead
+unfolding side_read
 returns-6 c = rw (c.status.ensures, c.before.match.keys6)
 
 returns-7 : tie.Need-returns-7

@@ -2,7 +2,7 @@
 use Prim.Native.Nat.{◌≤◌, ◌-◌}
 use mathlib.Core.Path.{◌≡◌}
 use native.Mathlib.Omega.{arith}
-use Rattle.words.proofs.CountingLaws.{at-end}
+use Rattle.words.proofs.CountingLaws.{at_end}
 use Rattle.text.specs.Text.{write}
 use Rattle.text.proofs.WriteLaws.{same_length as same_len}
 use Rattle.drawing.specs.Frame.{rows}
@@ -33,7 +33,7 @@ same_length c = same_len _ _ _ c.before.loop.invariant.1
 returns : tie.Need-returns invariant-loop decreases-loop
 returns c =
     let a = c.before.before.before.args in
-    at-end (λ n. write (a.out.now, a.at) (rows n)) _ _ c.before.loop.invariant.0 c.loop-test.false c.before.loop.invariant.1
+    at_end (λ n. write (a.out.now, a.at) (rows n)) _ _ c.before.loop.invariant.0 c.loop-test.false c.before.loop.invariant.1
 
 pub put-rows-spec : {M : Type 1} → statement M
 put-rows-spec =

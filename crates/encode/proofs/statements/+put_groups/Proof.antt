@@ -5,7 +5,7 @@ use borrow.Author.Rules.{rules}
 use borrow.Fn.PlainCycle.{Measures, is, falls, and}
 use Rattle.text.specs.Text.{write}
 use Rattle.text.proofs.WriteLaws.{and_then, nothing}
-use Rattle.encode.proofs.ByteLaws.{groups_none, groups-last, groups-more}
+use Rattle.encode.proofs.ByteLaws.{groups_none, groups_last, groups-more}
 use Rattle.encode.proofs.statements.put_groups.Reads as self
 use Rattle.encode.proofs.statements.put_groups.Kinds as kinds
 use Rattle.encode.proofs.statements.+put_groups.Lts-put_groups as lts
@@ -28,7 +28,7 @@ pub +put-groups-spec : {M : Type 1} → statement M
     (λ c. search rules)
     (λ c.
     let p = c.before.before in
-    p.put.ensures ∙ ap (write _) (groups-last _ _ p.before.before.before.if1.false p.before.before.if2.true))
+    p.put.ensures ∙ ap (write _) (groups_last _ _ p.before.before.before.if1.false p.before.before.if2.true))
     (λ c. search rules)
     (λ c. search rules)
     (λ c κs. search rules)

@@ -2,7 +2,7 @@
 use Prim.Native.Nat.{◌^◌, ◌<◌}
 use native.Mathlib.Omega.{arith}
 use Rattle.encode.proofs.ByteLaws.{groups-most}
-use Rattle.encode.proofs.NumberLaws.{size-least, by-missing, by-more, by_said}
+use Rattle.encode.proofs.NumberLaws.{size_least, by_missing, by-more, by_said}
 use borrow.Author.Rules.{rules}
 use Rattle.encode.proofs.statements.by_numbers.Statement.{statement}
 use Rattle.encode.proofs.statements.by_numbers.Tie as tie
@@ -11,7 +11,7 @@ returns : tie.Need-returns
 returns c =
     let n = c.before.before.before.before.before in
     let a = n.before.before.args in
-    by-missing a.line.now a.o _ n.numbers-in.ensures _ c.before.before.if1.true c.goes-astray.ensures
+    by_missing a.line.now a.o _ n.numbers-in.ensures _ c.before.before.if1.true c.goes-astray.ensures
 
 returns-2 : tie.Need-returns-2
 returns-2 c =
@@ -24,7 +24,7 @@ add-t12 c =
     let n = c.before.before.before.before.before.before.before.before in
     let a = n.before.before.args in
     let h : a.o.numbers < 2 ^ 32 = search rules in
-    omega (arith, size-least a.line.now a.o _ n.numbers-in.ensures, c.before.type_size.ensures, groups-most 5 a.o.first)
+    omega (arith, size_least a.line.now a.o _ n.numbers-in.ensures, c.before.type_size.ensures, groups-most 5 a.o.first)
 
 returns-3 : tie.Need-returns-3
 returns-3 c =

@@ -2,17 +2,17 @@
 use mathlib.Core.Path.{◌∙◌}
 use borrow.Author.Tests.{eq-eqb, ne_eqb}
 use Rattle.words.proofs.ChoiceLaws.{pick_true, pick-false}
-use Rattle.encode.specs.Statements.{byOpening}
+use Rattle.encode.specs.Statements.{by_opening}
 use borrow.Author.Rules.{rules}
 use Rattle.encode.proofs.statements.by_opening.Statement.{statement}
 use Rattle.encode.proofs.statements.by_opening.Tie as tie
 
 returns : tie.Need-returns
-unfolding byOpening
+unfolding by_opening
 returns c = c.by-numbers.ensures ∙ pick_true _ (eq-eqb _ _ c.before.if1.true)
 
 returns-2 : tie.Need-returns-2
-unfolding byOpening
+unfolding by_opening
 returns-2 c = c.goes-astray.ensures ∙ pick-false _ (ne_eqb _ _ c.before.if1.false)
 
 pub by-opening-spec : {M : Type 1} → statement M

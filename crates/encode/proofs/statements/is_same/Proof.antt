@@ -3,7 +3,7 @@ use Prim.Native.Nat.{◌-◌}
 use mathlib.Core.Path.{◌≡◌, refl}
 use lib.ListN.{length, drop}
 use Rattle.encode.specs.Words.{same}
-use Rattle.encode.proofs.WordLaws.{same-apart, same_turn, same-fault, same-done}
+use Rattle.encode.proofs.WordLaws.{same_apart, same_turn, same_fault, same-done}
 use borrow.Author.Rules.{rules}
 use Rattle.encode.proofs.statements.is_same.Statement.{statement}
 use Rattle.encode.proofs.statements.is_same.Tie as tie
@@ -15,7 +15,7 @@ abbrev decreases-loop : tie.decreases-loop
 decreases-loop a b k₀ k = length a - k
 
 returns : tie.Need-returns invariant-loop decreases-loop
-returns c = same-apart _ _ c.if1.true
+returns c = same_apart _ _ c.if1.true
 
 loop-holds : tie.Need-loop-init invariant-loop decreases-loop
 loop-holds c = refl
@@ -24,7 +24,7 @@ returns-2 : tie.Need-returns-2 invariant-loop decreases-loop
 returns-2 c =
     let l = c.before.before.before.before in
     let a = l.before.before.args in
-    same-fault a.a.now a.b.now l.loop.k _ (search rules) (search rules) l.loop.invariant c.if2.true
+    same_fault a.a.now a.b.now l.loop.k _ (search rules) (search rules) l.loop.invariant c.if2.true
 
 loop-again : tie.Need-loop-preserved invariant-loop decreases-loop
 loop-again c =

@@ -5,11 +5,11 @@ use native.Mathlib.Omega.{arith}
 use lib.ListN.{length}
 use Rattle.text.specs.Text.{write}
 use Rattle.text.proofs.WriteLaws.{and_then, nothing, same_length as same-length-of}
-use Rattle.tables.specs.Typed.{pastNth}
+use Rattle.tables.specs.Typed.{past_nth}
 use Rattle.tables.proofs.ReadLaws.{next-is}
 use Rattle.tables.proofs.SeekLaws.{past-within}
 use Rattle.encode.specs.Bytes.{bytes_of}
-use Rattle.encode.specs.Statements.{valuesIn}
+use Rattle.encode.specs.Statements.{values_in}
 use Rattle.encode.proofs.PlaceLaws.{first-is}
 use Rattle.encode.proofs.NumberLaws.{next-worth, values-none, values-more}
 use borrow.Author.Rules.{rules}
@@ -18,7 +18,7 @@ use Rattle.encode.proofs.statements.put_values.Tie as tie
 
 abbrev invariant-loop : tie.invariant-loop
 invariant-loop out₀ at line n past₀ place₀ k₀ out past place k =
-    (k ≤ n) × (past ≡ pastNth line (k + 1)) × ((out, place) ≡ write (out₀, at) (bytes_of (valuesIn line k))) × (length out ≡ length out₀)
+    (k ≤ n) × (past ≡ past_nth line (k + 1)) × ((out, place) ≡ write (out₀, at) (bytes_of (values_in line k))) × (length out ≡ length out₀)
 
 abbrev decreases-loop : tie.decreases-loop
 decreases-loop out₀ at line n past₀ place₀ k₀ out past place k = n - k
@@ -49,7 +49,7 @@ returns c =
     let l = c.before.loop in
     let a = c.before.before.before.before.before.args in
     let e : l.k ≡ a.n = omega (arith, l.invariant.0, c.loop-test.false) in
-    l.invariant.2 ∙ ap (write _) (ap (λ (k : ℕ). bytes_of (valuesIn a.line.now k)) e)
+    l.invariant.2 ∙ ap (write _) (ap (λ (k : ℕ). bytes_of (values_in a.line.now k)) e)
 
 pub put-values-spec : {M : Type 1} → statement M
 put-values-spec =

@@ -1,6 +1,6 @@
 -- That `size_of` of src/statements.rt keeps its contract.
 use native.Mathlib.Omega.{arith}
-use Rattle.encode.proofs.ByteLaws.{size-one, size-more, size-last}
+use Rattle.encode.proofs.ByteLaws.{size-one, size-more, size_last}
 use borrow.Author.Rules.{rules}
 use Rattle.encode.proofs.statements.size_of.Statement.{statement}
 use Rattle.encode.proofs.statements.size_of.Tie as tie
@@ -31,7 +31,7 @@ returns-5 c =
     let h = c.before.before.before.if1.false in
     let i = c.before.before.if2.false in
     let j = c.before.if3.false in
-    size-more 4 _ 4 h (size-more 3 _ 3 (omega (arith, i)) (size-more 2 _ 2 (omega (arith, j)) (size-more 1 _ 1 (omega (arith, c.if4.false)) (size-last _))))
+    size-more 4 _ 4 h (size-more 3 _ 3 (omega (arith, i)) (size-more 2 _ 2 (omega (arith, j)) (size-more 1 _ 1 (omega (arith, c.if4.false)) (size_last _))))
 
 pub size-of-spec : {M : Type 1} → statement M
 size-of-spec = tie.close (tie.spec returns returns-2 returns-3 returns-4 returns-5)

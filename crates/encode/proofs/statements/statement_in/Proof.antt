@@ -5,14 +5,14 @@ use Prim.Native.Nat.{ℕ}
 use native.Mathlib.Omega.{arith}
 use borrow.Author.Tests.{eq-eqb, ne_eqb}
 use Rattle.words.proofs.ChoiceLaws.{pick_true, pick-false}
-use Rattle.encode.specs.Statements.{openingOf, byOpening, statementIn}
-use Rattle.encode.proofs.PlaceLaws.{first-is, first-ordered, first-within, first_word}
+use Rattle.encode.specs.Statements.{opening_of, by_opening, statement_in}
+use Rattle.encode.proofs.PlaceLaws.{first-is, first_ordered, first-within, first_word}
 use borrow.Author.Rules.{rules}
 use Rattle.encode.proofs.statements.statement_in.Statement.{statement}
 use Rattle.encode.proofs.statements.statement_in.Tie as tie
 
 returns : tie.Need-returns
-unfolding statementIn
+unfolding statement_in
 returns c =
     let n = c.before.before in
     let a = n.before.before.args in
@@ -21,12 +21,12 @@ returns c =
 sub-opening-of : tie.Need-overflow-sub-opening-of
 sub-opening-of c =
     let n = c.before in
-    first-ordered n.before.before.args.line.now _ n.read_next.ensures
+    first_ordered n.before.before.args.line.now _ n.read_next.ensures
 
 part-opening-of-start : tie.Need-slice-bounds-opening-of-start
 part-opening-of-start c =
     let n = c.before in
-    first-ordered n.before.before.args.line.now _ n.read_next.ensures
+    first_ordered n.before.before.args.line.now _ n.read_next.ensures
 
 part-opening-of-end : tie.Need-slice-bounds-opening-of-end
 part-opening-of-end c =
@@ -34,13 +34,13 @@ part-opening-of-end c =
     first-within n.before.before.args.line.now _ n.read_next.ensures
 
 returns-2 : tie.Need-returns-2
-unfolding statementIn
+unfolding statement_in
 returns-2 c =
     let n = c.before.before.before.before in
     let a = n.before.before.args in
     let s = a.line.now in
     c.by-opening.ensures
-    ∙ ap (byOpening s) (c.before.Opening-of.ensures ∙ ap (openingOf a.kind) (first_word s _ n.read_next.ensures))
+    ∙ ap (by_opening s) (c.before.Opening-of.ensures ∙ ap (opening_of a.kind) (first_word s _ n.read_next.ensures))
     ∙ pick-false _ (ne_eqb _ _ (λ z. c.before.before.before.if1.false ((first-is s _ n.read_next.ensures).start ∙ z)))
 
 pub statement-in-spec : {M : Type 1} → statement M

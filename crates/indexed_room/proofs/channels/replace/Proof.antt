@@ -2,13 +2,13 @@
 use mathlib.Core.Bool.{not, ◌&&◌, ◌||◌}
 use lib.Dec.{eqb}
 use Rattle.indexed_room.specs.Words.{one_of}
-use Rattle.indexed_room.proofs.WordLaws.{renewing-as, same_byte, both_bytes}
+use Rattle.indexed_room.proofs.WordLaws.{renewing_as, same_byte, both_bytes}
 use borrow.Author.Rules.{rules}
 use Rattle.indexed_room.proofs.channels.replace.Statement.{statement}
 use Rattle.indexed_room.proofs.channels.replace.Tie as tie
 
 returns : tie.Need-returns
-returns c = λ f d rest g h. renewing-as (same_byte _ _ rest c.if1.true) h
+returns c = λ f d rest g h. renewing_as (same_byte _ _ rest c.if1.true) h
 
 returns-2 : tie.Need-returns-2
 returns-2 c =
@@ -16,7 +16,7 @@ returns-2 c =
     let a = s.from.0 in
     let b = s.to.0 in
     λ f d rest g h.
-    renewing-as (both_bytes a b rest)
+    renewing_as (both_bytes a b rest)
     (c.enter.ensures f d (λ j. (one_of a b j || rest j) && not (eqb j a)) g (c.before.before.look-again.ensures f d (λ j. one_of a b j || rest j) h))
 
 pub replace_spec : {M : Type 1} → statement M

@@ -3,13 +3,13 @@ use Prim.Native.Nat.{◌-◌, ◌≤◌}
 use native.Mathlib.Omega.{arith}
 use Rattle.cic_held.specs.declared.Prioritised.{Prioritised}
 use Rattle.indexed_room.specs.Room.{Laid}
-use Rattle.indexed_room.proofs.HoldLaws.{clearedTo, clear_none, clear-more, clear-done}
+use Rattle.indexed_room.proofs.HoldLaws.{cleared_to, clear_none, clear-more, clear-done}
 use borrow.Author.Rules.{rules}
 use Rattle.indexed_room.proofs.holds.clear.Statement.{statement}
 use Rattle.indexed_room.proofs.holds.clear.Tie as tie
 
 abbrev invariant-loop : tie.invariant-loop
-invariant-loop room₀ mode k₀ room k = (k ≤ 256) × ((p : Prioritised) → Laid p room₀ → Laid (clearedTo p k) room)
+invariant-loop room₀ mode k₀ room k = (k ≤ 256) × ((p : Prioritised) → Laid p room₀ → Laid (cleared_to p k) room)
 
 abbrev decreases-loop : tie.decreases-loop
 decreases-loop room₀ mode k₀ room k = 256 - k

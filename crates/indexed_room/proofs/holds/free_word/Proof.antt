@@ -4,16 +4,16 @@ use Prim.Native.Nat.{◌-◌, ◌≤◌}
 use native.Mathlib.Omega.{arith}
 use Rattle.words.specs.Counting.{upto}
 use Rattle.cic_held.specs.declared.Prioritised.{Prioritised}
-use Rattle.cic_held.specs.Held.{prioritised, withHosts}
+use Rattle.cic_held.specs.Held.{prioritised, with_hosts}
 use Rattle.indexed_room.specs.Room.{Laid}
-use Rattle.indexed_room.proofs.HoldLaws.{freeTurn, free-none, free_more, free-done}
+use Rattle.indexed_room.proofs.HoldLaws.{free_turn, free-none, free_more, free-done}
 use borrow.Author.Rules.{rules}
 use Rattle.indexed_room.proofs.holds.free_word.Statement.{statement}
 use Rattle.indexed_room.proofs.holds.free_word.Tie as tie
 
 abbrev invariant-loop : tie.invariant-loop
 invariant-loop room₀ k v j₀ room j =
-    (j ≤ 32) × ((p : Prioritised) → Laid p room₀ → Laid (prioritised p.cic (withHosts p.held (upto (freeTurn k v) p.held.host j))) room)
+    (j ≤ 32) × ((p : Prioritised) → Laid p room₀ → Laid (prioritised p.cic (with_hosts p.held (upto (free_turn k v) p.held.host j))) room)
 
 abbrev decreases-loop : tie.decreases-loop
 decreases-loop room₀ k v j₀ room j = 32 - j

@@ -1,7 +1,7 @@
 -- That `read_host` of src/own.rt keeps its contract.
 use native.Mathlib.Omega.{arith}
 use Rattle.indexed_room.proofs.HoldLaws.{host-held-is, mode-is}
-use Rattle.indexed_room.proofs.ReplyLaws.{host-refused, host-there, host-read}
+use Rattle.indexed_room.proofs.ReplyLaws.{host-refused, host_there, host-read}
 use borrow.Author.Rules.{rules}
 use Rattle.indexed_room.proofs.own.read_host.Statement.{statement}
 use Rattle.indexed_room.proofs.own.read_host.Tie as tie
@@ -13,7 +13,7 @@ returns c =
 returns-2 : tie.Need-returns-2
 returns-2 c =
     let x = c.before.before.before in
-    λ p ok h. absurd (omega (arith, host-there p _ _ (x.before.before.host-access.ensures p h) x.before.read-refusal.ensures ok x.if1.false, c.before.if2.true))
+    λ p ok h. absurd (omega (arith, host_there p _ _ (x.before.before.host-access.ensures p h) x.before.read-refusal.ensures ok x.if1.false, c.before.if2.true))
 
 returns-3 : tie.Need-returns-3
 returns-3 c =
@@ -21,7 +21,7 @@ returns-3 c =
     let b = x.before.before.before.before.before.before in
     let a = b.before.before in
     λ p ok h.
-    let below = host-there p _ _ (a.before.before.host-access.ensures p h) a.before.read-refusal.ensures ok a.if1.false in
+    let below = host_there p _ _ (a.before.before.host-access.ensures p h) a.before.read-refusal.ensures ok a.if1.false in
     host-read p _ _ (a.before.before.host-access.ensures p h) a.before.read-refusal.ensures _ _ _ ok a.if1.false (host-held-is p h _ below)
     (x.before.index-IsWord.ensures p ok h) (x.hold-after.ensures p (mode-is p h)) (c.before.hold-host.ensures p h) c.answer.ensures
 

@@ -1,11 +1,11 @@
 -- That `write_control` of src/own.rt keeps its contract.
-use Rattle.indexed_room.proofs.ReplyLaws.{control-unwritten, control-written}
+use Rattle.indexed_room.proofs.ReplyLaws.{control_unwritten, control-written}
 use borrow.Author.Rules.{rules}
 use Rattle.indexed_room.proofs.own.write_control.Statement.{statement}
 use Rattle.indexed_room.proofs.own.write_control.Tie as tie
 
 returns : tie.Need-returns
-returns c = λ p h. control-unwritten p _ _ c.before.before.write-refusal.ensures c.before.if1.true h c.refuse.ensures
+returns c = λ p h. control_unwritten p _ _ c.before.before.write-refusal.ensures c.before.if1.true h c.refuse.ensures
 
 returns-2 : tie.Need-returns-2
 returns-2 c =

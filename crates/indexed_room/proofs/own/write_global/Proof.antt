@@ -1,11 +1,11 @@
 -- That `write_global` of src/own.rt keeps its contract.
-use Rattle.indexed_room.proofs.ReplyLaws.{global-unwritten, global-written}
+use Rattle.indexed_room.proofs.ReplyLaws.{global_unwritten, global-written}
 use borrow.Author.Rules.{rules}
 use Rattle.indexed_room.proofs.own.write_global.Statement.{statement}
 use Rattle.indexed_room.proofs.own.write_global.Tie as tie
 
 returns : tie.Need-returns
-returns c = λ p v h. global-unwritten p _ v c.before.before.write-refusal.ensures c.before.if1.true h c.refuse.ensures
+returns c = λ p v h. global_unwritten p _ v c.before.before.write-refusal.ensures c.before.if1.true h c.refuse.ensures
 
 returns-2 : tie.Need-returns-2
 returns-2 c =

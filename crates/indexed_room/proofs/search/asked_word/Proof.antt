@@ -1,7 +1,7 @@
 -- That `asked_word` of src/search.rt keeps its contract.
 use mathlib.Core.Path.{sym, subst}
 use Prim.Native.Nat.{ℕ, ◌<◌}
-use Rattle.words.proofs.WordLaws.{both-lt}
+use Rattle.words.proofs.WordLaws.{both_lt}
 use Rattle.cic_indexed.proofs.SoundLaws.{sound-cic}
 use Rattle.indexed_room.proofs.FirstLaws.{asked-some, asked_of}
 use borrow.Author.Rules.{rules}
@@ -17,7 +17,7 @@ returns c = (
 returns-2 : tie.Need-returns-2
 returns-2 c =
     let x = c.before.before.before in (
-      subst (λ (n : ℕ). n < 4294967296) (sym c.meet.ensures) (both-lt _ _),
+      subst (λ (n : ℕ). n < 4294967296) (sym c.meet.ensures) (both_lt _ _),
       λ p ok h. asked_of {p = p} h _ _ _ _ _ _ (sound-cic p ok) x.before.before.before.requires x.before.whole.ensures.0 x.if1.false c.before.members.ensures c.meet.ensures,
     )
 

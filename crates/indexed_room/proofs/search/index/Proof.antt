@@ -3,14 +3,14 @@ use mathlib.Core.Path.{◌≡◌, ap}
 use mathlib.Core.Bool.{true}
 use Prim.Native.Nat.{◌-◌, ◌≤◌}
 use native.Mathlib.Omega.{arith}
-use Rattle.words.proofs.HopLaws.{lowest-in}
+use Rattle.words.proofs.HopLaws.{lowest_in}
 use Rattle.cic_record.specs.declared.System.{System}
 use Rattle.cic_held.specs.declared.Prioritised.{Prioritised}
 use Rattle.cic_held.specs.Held.{sound}
 use Rattle.cic_indexed.proofs.SoundLaws.{sound-cic}
 use Rattle.indexed_room.specs.Room.{Laid}
-use Rattle.indexed_room.proofs.AskLaws.{NoneAsked, none_more, lowest-busy, index-here, index-ended}
-use Rattle.indexed_room.proofs.FirstLaws.{idle-host}
+use Rattle.indexed_room.proofs.AskLaws.{NoneAsked, none_more, lowest-busy, index_here, index-ended}
+use Rattle.indexed_room.proofs.FirstLaws.{idle_host}
 use borrow.Author.Rules.{rules}
 use Rattle.indexed_room.proofs.search.index.Statement.{statement}
 use Rattle.indexed_room.proofs.search.index.Tie as tie
@@ -22,7 +22,7 @@ abbrev decreases-loop : tie.decreases-loop
 decreases-loop room every h w₀ w = 8 - w
 
 returns : tie.Need-returns invariant-loop decreases-loop
-returns c = λ p ok l. idle-host {p = p} l _ _ (sound-cic p ok) c.before.before.before.requires c.if1.true
+returns c = λ p ok l. idle_host {p = p} l _ _ (sound-cic p ok) c.before.before.before.requires c.if1.true
 
 loop-holds : tie.Need-loop-init invariant-loop decreases-loop
 loop-holds c = (omega arith, λ p ok l k b. absurd (omega (arith, b)))
@@ -30,15 +30,15 @@ loop-holds c = (omega arith, λ p ok l k b. absurd (omega (arith, b)))
 add-t19 : tie.Need-overflow-add-t19 invariant-loop decreases-loop
 add-t19 c =
     let l = c.before.before.before.before.loop in
-    omega (arith, c.before.before.before.loop-test.true, (lowest-in _ _ c.before.before.asked-word.ensures.0 c.before.if2.true c.lowest.ensures).0)
+    omega (arith, c.before.before.before.loop-test.true, (lowest_in _ _ c.before.before.asked-word.ensures.0 c.before.if2.true c.lowest.ensures).0)
 
 cast-t20 : tie.Need-overflow-cast-t20 invariant-loop decreases-loop
 cast-t20 c =
-    omega (arith, c.before.before.before.loop-test.true, (lowest-in _ _ c.before.before.asked-word.ensures.0 c.before.if2.true c.lowest.ensures).0)
+    omega (arith, c.before.before.before.loop-test.true, (lowest_in _ _ c.before.before.asked-word.ensures.0 c.before.if2.true c.lowest.ensures).0)
 
 first-of-requires : tie.Need-first-of-requires invariant-loop decreases-loop
 first-of-requires c κs =
-    omega (arith, c.before.before.before.loop-test.true, (lowest-in _ _ c.before.before.asked-word.ensures.0 c.before.if2.true c.lowest.ensures).0)
+    omega (arith, c.before.before.before.loop-test.true, (lowest_in _ _ c.before.before.asked-word.ensures.0 c.before.if2.true c.lowest.ensures).0)
 
 returns-2 : tie.Need-returns-2 invariant-loop decreases-loop
 returns-2 c =
@@ -48,7 +48,7 @@ returns-2 c =
     let j = c.before.before.lowest.ensures in
     let n = c.before.before.before.if2.true in
     λ p ok h.
-    index-here p.cic _ _ l.w _ _ (sound-cic p ok) (l.invariant.1 p ok h) (a.1 p ok h) a.0 n j _
+    index_here p.cic _ _ l.w _ _ (sound-cic p ok) (l.invariant.1 p ok h) (a.1 p ok h) a.0 n j _
     (ap (λ (s : System). s.0) (c.before.first-of.ensures p ok h (lowest-busy p.cic _ _ l.w _ _ (sound-cic p ok) (l.invariant.1 p ok h) (a.1 p ok h) a.0 n j)))
 
 loop-less : tie.Need-loop-smaller invariant-loop decreases-loop

@@ -4,14 +4,14 @@ use native.Mathlib.Omega.{arith}
 use Rattle.words.specs.Counting.{upto}
 use Rattle.cic_record.specs.declared.Cic.{Cic}
 use Rattle.cic_room.specs.Room.{Frame, Laid}
-use Rattle.indexed_room.specs.Room.{withHeld}
-use Rattle.indexed_room.proofs.TransferLaws.{holdTurn, held_none, held_more, held_all}
+use Rattle.indexed_room.specs.Room.{with_held}
+use Rattle.indexed_room.proofs.TransferLaws.{hold_turn, held_none, held_more, held_all}
 use borrow.Author.Rules.{rules}
 use Rattle.indexed_room.proofs.transfer.lay_held.Statement.{statement}
 use Rattle.indexed_room.proofs.transfer.lay_held.Tie as tie
 
 abbrev invariant-loop : tie.invariant-loop
-invariant-loop room₀ held k₀ room k = (k ≤ 256) × ((f : Frame) (c : Cic) → Laid f c room₀ → Laid (withHeld f (upto (holdTurn held) f.held k)) c room)
+invariant-loop room₀ held k₀ room k = (k ≤ 256) × ((f : Frame) (c : Cic) → Laid f c room₀ → Laid (with_held f (upto (hold_turn held) f.held k)) c room)
 
 abbrev decreases-loop : tie.decreases-loop
 decreases-loop room₀ held k₀ room k = 256 - k

@@ -4,7 +4,7 @@ use Prim.Native.Nat.{ℕ, ◌-◌, ◌≤◌}
 use native.Mathlib.Omega.{arith}
 use lib.ListN.{get_or}
 use Rattle.words.specs.Counting.{all_below}
-use Rattle.words.proofs.CountingLaws.{at-end, all-none-yet, all_more}
+use Rattle.words.proofs.CountingLaws.{at_end, all-none_yet, all_more}
 use Rattle.kinds.specs.Kinds.{within}
 use Rattle.machine_room.specs.Controller.{accepted}
 use Rattle.machine_room.proofs.ControllerLaws.{wanted-most}
@@ -19,7 +19,7 @@ abbrev decreases-loop : tie.decreases-loop
 decreases-loop kind wanted numbers ok₀ n₀ ok n = wanted - n
 
 loop-holds : tie.Need-loop-init invariant-loop decreases-loop
-loop-holds c = (omega arith, all-none-yet _)
+loop-holds c = (omega arith, all-none_yet _)
 
 array-read : tie.Need-array-read-within invariant-loop decreases-loop
 array-read c = omega (arith, c.loop-test.true, c.before.before.before.wanted.ensures, wanted-most c.before.before.before.before.args.kind)
@@ -31,7 +31,7 @@ returns : tie.Need-returns invariant-loop decreases-loop
 unfolding accepted
 returns c =
     let a = c.before.before.before.before.args in
-    at-end (λ n. all_below n (λ j. within a.kind j (get_or a.c.numbers j 0))) _ _ c.before.loop.invariant.0 c.loop-test.false c.before.loop.invariant.1
+    at_end (λ n. all_below n (λ j. within a.kind j (get_or a.c.numbers j 0))) _ _ c.before.loop.invariant.0 c.loop-test.false c.before.loop.invariant.1
     ∙ ap (λ (w : ℕ). all_below w (λ j. within a.kind j (get_or a.c.numbers j 0))) c.before.before.before.wanted.ensures
 
 pub is-accepted-spec : {M : Type 1} → statement M

@@ -5,7 +5,7 @@ use mathlib.Core.Path.{◌≡◌, sym, ap, ◌∙◌, subst}
 use Rattle.machine.specs.declared.record.Machine.{Machine}
 use Rattle.machine_room.specs.Room.{Beside}
 use Rattle.machine_room.specs.Controller.{Stands}
-use Rattle.machine_room.proofs.ControllerLaws.{withKind, alone}
+use Rattle.machine_room.proofs.ControllerLaws.{with_kind, alone}
 use borrow.Author.Rules.{rules}
 use Rattle.machine_room.proofs.controller.is_controller.Statement.{statement}
 use Rattle.machine_room.proofs.controller.is_controller.Tie as tie
@@ -18,7 +18,7 @@ returns c =
       λ e. (_, l.0 e),
       λ e n s.
           let a = alone w n s in
-          let b = subst (λ (f : Machine). Beside (withKind f (get_or w 0 0)) a.0) (sym r.before.before.empty.ensures) a.2 in
+          let b = subst (λ (f : Machine). Beside (with_kind f (get_or w 0 0)) a.0) (sym r.before.before.empty.ensures) a.2 in
           l.1 e (subst (λ (m : Machine). Stands w m) (sym (r.record_of.ensures true a.0 a.1.0 a.1.1 b)) a.1),
     )
 

@@ -7,7 +7,7 @@ use Prim.Native.Nat.{ℕ}
 use Rattle.words.proofs.TruthLaws.{clash}
 use Rattle.machine_room.specs.Room.{Laid}
 use Rattle.machine_room.proofs.Promises.{kept as rooms}
-use Rattle.machine_room.proofs.ControllerLaws.{same-equal, equal-same}
+use Rattle.machine_room.proofs.ControllerLaws.{same_equal, equal-same}
 use borrow.Author.Rules.{rules}
 use Rattle.machine_room.proofs.controller.is_laid.Statement.{statement}
 use Rattle.machine_room.proofs.controller.is_laid.Tie as tie
@@ -20,7 +20,7 @@ returns c =
     let again = c.before.before.before.lay.ensures ok in
     let long : length a.t1 ≡ 2048 = search rules in
     let size = rooms.size true a.m _ ok again in (
-      λ e. (ok, subst (λ (r : List ℕ). Laid true a.m r) (sym (same-equal a.t1 _ long size (sym c.is_same.ensures ∙ e))) again),
+      λ e. (ok, subst (λ (r : List ℕ). Laid true a.m r) (sym (same_equal a.t1 _ long size (sym c.is_same.ensures ∙ e))) again),
       λ e s. clash (equal-same a.t1 _ (rooms.determined true a.m _ _ ok s.1 again)) (sym c.is_same.ensures ∙ e),
     )
 

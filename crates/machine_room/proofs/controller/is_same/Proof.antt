@@ -5,7 +5,7 @@ use native.Mathlib.Omega.{arith}
 use lib.Dec.{eqb}
 use lib.ListN.{get_or}
 use Rattle.words.specs.Counting.{all_below}
-use Rattle.words.proofs.CountingLaws.{at-end, all-none-yet, all_more}
+use Rattle.words.proofs.CountingLaws.{at_end, all-none_yet, all_more}
 use Rattle.machine_room.specs.Controller.{same}
 use borrow.Author.Rules.{rules}
 use Rattle.machine_room.proofs.controller.is_same.Statement.{statement}
@@ -18,7 +18,7 @@ abbrev decreases-loop : tie.decreases-loop
 decreases-loop a b same₀ k₀ same k = 2048 - k
 
 loop-holds : tie.Need-loop-init invariant-loop decreases-loop
-loop-holds c = (omega arith, all-none-yet _)
+loop-holds c = (omega arith, all-none_yet _)
 
 loop-again : tie.Need-loop-preserved invariant-loop decreases-loop
 loop-again c =
@@ -31,7 +31,7 @@ returns : tie.Need-returns invariant-loop decreases-loop
 unfolding same
 returns c =
     let a = c.before.before.args in
-    at-end (λ n. all_below n (λ j. eqb (get_or a.a.now j 0) (get_or a.b.now j 0))) _ 2048 c.before.loop.invariant.0 c.loop-test.false c.before.loop.invariant.1
+    at_end (λ n. all_below n (λ j. eqb (get_or a.a.now j 0) (get_or a.b.now j 0))) _ 2048 c.before.loop.invariant.0 c.loop-test.false c.before.loop.invariant.1
 
 pub is-same-spec : {M : Type 1} → statement M
 is-same-spec =

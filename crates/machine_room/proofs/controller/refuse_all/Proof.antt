@@ -3,17 +3,17 @@ use mathlib.Core.Path.{◌≡◌, refl, ◌∙◌}
 use Prim.Native.Nat.{ℕ, ◌-◌, ◌≤◌}
 use native.Mathlib.Omega.{arith}
 use lib.ListN.{length, length-set}
-use Rattle.words.proofs.CountingLaws.{at-end}
+use Rattle.words.proofs.CountingLaws.{at_end}
 use Rattle.steps.specs.Refusals.{unsound}
 use Rattle.rooms.specs.Reply.{reply}
-use Rattle.machine_room.specs.Batch.{answersIn}
+use Rattle.machine_room.specs.Batch.{answers_in}
 use Rattle.machine_room.proofs.BatchLaws.{refused_none, refused-more}
 use borrow.Author.Rules.{rules}
 use Rattle.machine_room.proofs.controller.refuse_all.Statement.{statement}
 use Rattle.machine_room.proofs.controller.refuse_all.Tie as tie
 
 abbrev invariant-loop : tie.invariant-loop
-invariant-loop answers₀ n k₀ answers k = (k ≤ n) × (length answers ≡ length answers₀) × (answers ≡ answersIn (λ _. reply unsound 0) answers₀ k)
+invariant-loop answers₀ n k₀ answers k = (k ≤ n) × (length answers ≡ length answers₀) × (answers ≡ answers_in (λ _. reply unsound 0) answers₀ k)
 
 abbrev decreases-loop : tie.decreases-loop
 decreases-loop answers₀ n k₀ answers k = n - k
@@ -32,7 +32,7 @@ loop-again c =
 returns : tie.Need-returns invariant-loop decreases-loop
 returns c =
     let l = c.before.loop in
-    at-end (λ n. answersIn (λ _. reply unsound 0) c.before.before.args.answers.now n) _ _ l.invariant.0 c.loop-test.false l.invariant.2
+    at_end (λ n. answers_in (λ _. reply unsound 0) c.before.before.args.answers.now n) _ _ l.invariant.0 c.loop-test.false l.invariant.2
 
 pub refuse-all-spec : {M : Type 1} → statement M
 refuse-all-spec =

@@ -1,13 +1,13 @@
 -- That `take` of src/controller.rt keeps its contract.
 use mathlib.Core.Path.{◌≡◌}
 use mathlib.Core.Bool.{true}
-use Rattle.machine_room.proofs.BatchLaws.{takes, takes_none, step-kinds}
+use Rattle.machine_room.proofs.BatchLaws.{takes, takes_none, step_kinds}
 use borrow.Author.Rules.{rules}
 use Rattle.machine_room.proofs.controller.take.Statement.{statement}
 use Rattle.machine_room.proofs.controller.take.Tie as tie
 
 step-requires : tie.Need-step-requires
-step-requires c κs = step-kinds _ c.before.if1.true
+step-requires c κs = step_kinds _ c.before.if1.true
 
 returns : tie.Need-returns
 returns c m s = takes m _ _ _ _ c.before.before.if1.true s (c.step.ensures true m s.0 s.1)

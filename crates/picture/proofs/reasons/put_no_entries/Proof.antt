@@ -2,13 +2,13 @@
 use mathlib.Core.Path.{◌∙◌}
 use Rattle.text.proofs.WriteLaws.{write-laid}
 use Rattle.text.specs.Phrases.{bytes}
-use Rattle.picture.specs.Lines.{noEntries}
+use Rattle.picture.specs.Lines.{no_entries}
 use borrow.Author.Rules.{rules}
 use Rattle.picture.proofs.reasons.put_no_entries.Statement.{statement}
 use Rattle.picture.proofs.reasons.put_no_entries.Tie as tie
 
 returns : tie.Need-returns
-unfolding noEntries bytes
+unfolding no_entries bytes
 returns c = c.before.before.put_all_lem.ensures ∙ write-laid _ _
 
 pub put-no-entries-spec : {M : Type 1} → statement M

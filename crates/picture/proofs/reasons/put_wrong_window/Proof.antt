@@ -2,13 +2,13 @@
 use mathlib.Core.Path.{◌∙◌}
 use Rattle.text.proofs.WriteLaws.{and_then, write-laid}
 use Rattle.text.specs.Phrases.{bytes}
-use Rattle.picture.specs.Lines.{wrongWindow}
+use Rattle.picture.specs.Lines.{wrong_window}
 use borrow.Author.Rules.{rules}
 use Rattle.picture.proofs.reasons.put_wrong_window.Statement.{statement}
 use Rattle.picture.proofs.reasons.put_wrong_window.Tie as tie
 
 returns : tie.Need-returns
-unfolding wrongWindow bytes
+unfolding wrong_window bytes
 returns c =
     let c2 = c.before.before in
     let c1 = c2.before.before.before.before in

@@ -3,7 +3,7 @@ use mathlib.Core.Path.{ap}
 use mathlib.Core.Bool.{false}
 use native.Mathlib.Omega.{arith}
 use Rattle.machine.specs.declared.record.Machine.{Machine}
-use Rattle.trace.proofs.TraceLaws.{steps-limited}
+use Rattle.trace.proofs.TraceLaws.{steps_limited}
 use Rattle.picture.proofs.ColumnLaws.{played-ready, machine-before, filled}
 use borrow.Author.Rules.{rules}
 use Rattle.picture.proofs.window.fill.Statement.{statement}
@@ -12,7 +12,7 @@ use Rattle.picture.proofs.window.fill.Tie as tie
 -- the window begins with one of the steps that are played
 sub-lesser-2 : tie.Need-overflow-sub-lesser-2
 sub-lesser-2 c = let a = c.before.before.before.before.before.before.before.before.before.before in
-    omega (arith, a.requires.1, a.requires.2, steps-limited false a.args.limit a.args.trace.now a.args.start)
+    omega (arith, a.requires.1, a.requires.2, steps_limited false a.args.limit a.args.trace.now a.args.start)
 
 put-steps-requires : tie.Need-put-steps-requires
 put-steps-requires c κs = let p = c.before.before.before.before.before.before.before.before.before in

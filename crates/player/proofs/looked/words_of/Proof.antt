@@ -4,7 +4,7 @@ use borrow.Author.Tests.{eq-eqb, ne_eqb}
 use Rattle.words.proofs.ChoiceLaws.{pick_true, pick-false}
 use Rattle.cic_held.specs.declared.Prioritised.{Prioritised}
 use Rattle.cic_prioritised.specs.declared.looked.Looked.{Looked}
-use Rattle.cic_prioritised.specs.Looking.{lookAt}
+use Rattle.cic_prioritised.specs.Looking.{look_at}
 use Rattle.player.specs.After.{words_of}
 use borrow.Author.Rules.{rules}
 use Rattle.player.proofs.looked.words_of.Statement.{statement}
@@ -18,7 +18,7 @@ returns-2 : tie.Need-returns-2
 unfolding words_of
 returns-2 c =
     let a = c.before.before.before.before.args in
-    ap (λ (l : Looked). l.words) (c.look_at.ensures ∙ ap (λ (p : Prioritised). lookAt p a.offset) c.before.indexed.ensures)
+    ap (λ (l : Looked). l.words) (c.look_at.ensures ∙ ap (λ (p : Prioritised). look_at p a.offset) c.before.indexed.ensures)
     ∙ pick_true 0 (eq-eqb a.m.kind 4 c.before.before.if1.false)
 
 pub words-of-spec : {M : Type 1} → statement M

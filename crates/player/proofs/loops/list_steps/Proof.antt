@@ -4,20 +4,20 @@ use mathlib.Core.Bool.{true}
 use native.Mathlib.Omega.{arith}
 use lib.ListN.{length}
 use Rattle.text.specs.Text.{write}
-use Rattle.text.specs.Numeral.{numeralOf}
-use Rattle.trace.proofs.TurnLaws.{ends-here, found_here}
+use Rattle.text.specs.Numeral.{numeral_of}
+use Rattle.trace.proofs.TurnLaws.{ends_here, found_here}
 use Rattle.machine.specs.declared.record.Machine.{Machine}
 use Rattle.machine.specs.RecordPromises.{Ready}
 use Rattle.lines.proofs.LineLaws.{text-ended}
 use Rattle.machine_room.specs.Room.{Laid}
-use Rattle.player.proofs.LoopLaws.{Listing, stands, lists-on}
+use Rattle.player.proofs.LoopLaws.{Listing, stands, lists_on}
 use borrow.Author.Rules.{rules}
 use Rattle.player.proofs.loops.list_steps.Statement.{statement}
 use Rattle.player.proofs.loops.list_steps.Tie as tie
 
 abbrev invariant-loop : tie.invariant-loop
 invariant-loop trace limit told start out₀ from room₀ place₀ more₀ number₀ numeral₀ to₀ out room place more number numeral to =
-    ((first : Machine) → Laid true first room₀ → Ready first → Listing trace limit told start first (out₀, from) number more place (out, to) room) × (length out ≡ length out₀) × (numeral ≡ numeralOf number)
+    ((first : Machine) → Laid true first room₀ → Ready first → Listing trace limit told start first (out₀, from) number more place (out, to) room) × (length out ≡ length out₀) × (numeral ≡ numeral_of number)
 
 abbrev decreases-loop : tie.decreases-loop
 decreases-loop trace limit told start out₀ from room₀ place₀ more₀ number₀ numeral₀ to₀ out room place more number numeral to = more
@@ -34,7 +34,7 @@ returns c =
     let f = l.before.before.before.before.before in
     let p = f.requires in
     let g = l.loop.invariant.0 f.args.first (l.before.before.lay.ensures p.0) p in
-    e.put-end.ensures ∙ ap (write _) (text-ended _ _ _ _ _ _ _ _ (ends-here _ _ _ _ _ s.sure.ensures.0 i.if1.true)) ∙ g.listing
+    e.put-end.ensures ∙ ap (write _) (text-ended _ _ _ _ _ _ _ _ (ends_here _ _ _ _ _ s.sure.ensures.0 i.if1.true)) ∙ g.listing
 
 -- a step that is found is of kind 1, 2 or 3
 step-requires : tie.Need-step-requires invariant-loop decreases-loop
@@ -86,7 +86,7 @@ loop-again c =
     let i = a.before.before in
     let s = i.before.before in
     let l = s.before.before.loop in (
-      λ first h r. lists-on _ _ _ _ (l.invariant.0 first h r) s.sure.ensures.0 i.if1.false a.step.ensures v.before.refusal-in.ensures v.value_in.ensures
+      λ first h r. lists_on _ _ _ _ (l.invariant.0 first h r) s.sure.ensures.0 i.if1.false a.step.ensures v.before.refusal-in.ensures v.value_in.ensures
           o.columns.ensures p.put-numbered.ensures,
       search rules,
       w.following.ensures,

@@ -2,7 +2,7 @@
 use mathlib.Core.Path.{refl, ◌∙◌}
 use mathlib.Core.Bool.{false}
 use native.Mathlib.Omega.{arith}
-use Rattle.trace.proofs.TurnLaws.{ends-here, found_here}
+use Rattle.trace.proofs.TurnLaws.{ends_here, found_here}
 use Rattle.beginning.proofs.PlayLaws.{report-ended}
 use Rattle.player.proofs.LoopLaws.{Going, stands, goes_on}
 use borrow.Author.Rules.{rules}
@@ -28,7 +28,7 @@ returns c =
     let g = s.before.before.loop.invariant in
     let t = g.stood in
     rw (c.record_of.ensures false t.machine t.ready.0 t.laid t.beside)
-    (report-ended _ _ _ _ _ _ _ _ (ends-here _ _ _ _ _ s.sure.ensures.0 i.if1.true) ∙ g.reported)
+    (report-ended _ _ _ _ _ _ _ _ (ends_here _ _ _ _ _ s.sure.ensures.0 i.if1.true) ∙ g.reported)
 
 -- a step that is found is of kind 1, 2 or 3
 step-requires : tie.Need-step-requires invariant-loop decreases-loop

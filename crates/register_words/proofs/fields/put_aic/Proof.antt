@@ -5,12 +5,12 @@ use Rattle.text.proofs.WriteLaws.{same_length as same_len, nothing}
 use borrow.Author.Tests.{eq-eqb, ne_eqb, lt-ltb, le-ltb}
 use Rattle.words.proofs.ChoiceLaws.{pick_true, pick-false}
 use Rattle.text.specs.Phrases.{bytes}
-use Rattle.register_words.specs.Fields.{aicFields}
+use Rattle.register_words.specs.Fields.{aic_fields}
 use Rattle.register_words.proofs.fields.put_aic.Statement.{statement}
 use Rattle.register_words.proofs.fields.put_aic.Tie as tie
 
 returns : tie.Need-returns
-unfolding aicFields bytes
+unfolding aic_fields bytes
 returns c =
     let p = c.before.before in
     let i = p.before.before in
@@ -18,14 +18,14 @@ returns c =
     ∙ ap (write _) (pick_true _ (lt-ltb _ _ i.if1.true))
 
 returns-2 : tie.Need-returns-2
-unfolding aicFields bytes
+unfolding aic_fields bytes
 returns-2 c =
     nothing _
     ∙ ap (write _) (pick_true _ (lt-ltb _ _ c.if2.true)
     ∙ pick-false _ (le-ltb _ _ c.before.if1.false))
 
 returns-3 : tie.Need-returns-3
-unfolding aicFields bytes
+unfolding aic_fields bytes
 returns-3 c =
     let p = c.before.before in
     let i = p.before.before.before in
@@ -35,7 +35,7 @@ returns-3 c =
     ∙ pick-false _ (le-ltb _ _ i.before.before.if1.false))
 
 returns-4 : tie.Need-returns-4
-unfolding aicFields bytes
+unfolding aic_fields bytes
 returns-4 c =
     let p = c.before.before in
     let i = p.before.before.before.before in
@@ -46,7 +46,7 @@ returns-4 c =
     ∙ pick-false _ (le-ltb _ _ i.before.before.before.if1.false))
 
 returns-5 : tie.Need-returns-5
-unfolding aicFields bytes
+unfolding aic_fields bytes
 returns-5 c =
     nothing _
     ∙ ap (write _) (pick_true _ (lt-ltb _ _ c.if5.true)
@@ -56,7 +56,7 @@ returns-5 c =
     ∙ pick-false _ (le-ltb _ _ c.before.before.before.before.if1.false))
 
 returns-6 : tie.Need-returns-6
-unfolding aicFields bytes
+unfolding aic_fields bytes
 returns-6 c =
     let p = c.before.before in
     let i = p.before.before in
@@ -69,7 +69,7 @@ returns-6 c =
     ∙ pick-false _ (le-ltb _ _ i.before.before.before.before.before.if1.false))
 
 returns-7 : tie.Need-returns-7
-unfolding aicFields bytes
+unfolding aic_fields bytes
 returns-7 c =
     nothing _
     ∙ ap (write _) (pick-false _ (le-ltb _ _ c.if6.false)

@@ -6,12 +6,12 @@ use borrow.Author.Tests.{lt-ltb, le-ltb}
 use Rattle.words.proofs.ChoiceLaws.{pick_true, pick-false}
 use Rattle.text.specs.Phrases.{bytes}
 use borrow.Author.Rules.{rules}
-use Rattle.register_words.specs.Fields.{aintcFields}
+use Rattle.register_words.specs.Fields.{aintc_fields}
 use Rattle.register_words.proofs.fields.put_aintc.Statement.{statement}
 use Rattle.register_words.proofs.fields.put_aintc.Tie as tie
 
 returns : tie.Need-returns
-unfolding aintcFields bytes
+unfolding aintc_fields bytes
 returns c =
     let p = c.before.before in
     let i = p.before.before in
@@ -19,7 +19,7 @@ returns c =
     ∙ ap (write _) (pick_true _ (lt-ltb _ _ i.if1.true))
 
 returns-2 : tie.Need-returns-2
-unfolding aintcFields bytes
+unfolding aintc_fields bytes
 returns-2 c =
     let p = c.before.before in
     let i = p.before.before.before in
@@ -28,7 +28,7 @@ returns-2 c =
     ∙ pick-false _ (le-ltb _ _ i.before.if1.false))
 
 returns-3 : tie.Need-returns-3
-unfolding aintcFields bytes
+unfolding aintc_fields bytes
 returns-3 c =
     let p = c.before.before in
     let i = p.before.before in
@@ -38,7 +38,7 @@ returns-3 c =
     ∙ pick-false _ (le-ltb _ _ i.before.before.if1.false))
 
 returns-4 : tie.Need-returns-4
-unfolding aintcFields bytes
+unfolding aintc_fields bytes
 returns-4 c =
     nothing _
     ∙ ap (write _) (pick-false _ (le-ltb _ _ c.if3.false)

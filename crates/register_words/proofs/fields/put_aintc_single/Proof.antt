@@ -5,12 +5,12 @@ use Rattle.text.proofs.WriteLaws.{same_length as same_len, nothing}
 use borrow.Author.Tests.{eq-eqb, ne_eqb}
 use Rattle.words.proofs.ChoiceLaws.{pick_true, pick-false}
 use Rattle.text.specs.Phrases.{bytes}
-use Rattle.register_words.specs.Fields.{aintcSingles}
+use Rattle.register_words.specs.Fields.{aintc_singles}
 use Rattle.register_words.proofs.fields.put_aintc_single.Statement.{statement}
 use Rattle.register_words.proofs.fields.put_aintc_single.Tie as tie
 
 returns : tie.Need-returns
-unfolding aintcSingles bytes
+unfolding aintc_singles bytes
 returns c =
     let p = c.before.before in
     let i = p.before.before.before.before in
@@ -18,7 +18,7 @@ returns c =
     ∙ ap (write _) (pick_true _ (eq-eqb _ _ i.if1.true))
 
 returns-2 : tie.Need-returns-2
-unfolding aintcSingles bytes
+unfolding aintc_singles bytes
 returns-2 c =
     let p = c.before.before in
     let i = p.before.before.before.before in
@@ -27,7 +27,7 @@ returns-2 c =
     ∙ pick-false _ (ne_eqb _ _ i.before.if1.false))
 
 returns-3 : tie.Need-returns-3
-unfolding aintcSingles bytes
+unfolding aintc_singles bytes
 returns-3 c =
     let p = c.before.before in
     let i = p.before.before.before in
@@ -37,7 +37,7 @@ returns-3 c =
     ∙ pick-false _ (ne_eqb _ _ i.before.before.if1.false))
 
 returns-4 : tie.Need-returns-4
-unfolding aintcSingles bytes
+unfolding aintc_singles bytes
 returns-4 c =
     let p = c.before.before in
     let i = p.before.before.before.before in
@@ -48,7 +48,7 @@ returns-4 c =
     ∙ pick-false _ (ne_eqb _ _ i.before.before.before.if1.false))
 
 returns-5 : tie.Need-returns-5
-unfolding aintcSingles bytes
+unfolding aintc_singles bytes
 returns-5 c =
     let p = c.before.before in
     let i = p.before.before.before in
@@ -60,7 +60,7 @@ returns-5 c =
     ∙ pick-false _ (ne_eqb _ _ i.before.before.before.before.if1.false))
 
 returns-6 : tie.Need-returns-6
-unfolding aintcSingles bytes
+unfolding aintc_singles bytes
 returns-6 c =
     nothing _
     ∙ ap (write _) (pick-false _ (ne_eqb _ _ c.if5.false)

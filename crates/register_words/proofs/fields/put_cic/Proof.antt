@@ -6,13 +6,13 @@ use borrow.Author.Tests.{lt-ltb, le-ltb}
 use Rattle.words.proofs.ChoiceLaws.{pick_true, pick-false}
 use Rattle.text.specs.Phrases.{bytes}
 use borrow.Author.Rules.{rules}
-use Rattle.register_words.specs.Fields.{cicFields}
+use Rattle.register_words.specs.Fields.{cic_fields}
 use borrow.Author.Rules.{rules}
 use Rattle.register_words.proofs.fields.put_cic.Statement.{statement}
 use Rattle.register_words.proofs.fields.put_cic.Tie as tie
 
 returns : tie.Need-returns
-unfolding cicFields bytes
+unfolding cic_fields bytes
 returns c =
     let p = c.before.before in
     let i = p.before.before in
@@ -20,7 +20,7 @@ returns c =
     ∙ ap (write _) (pick_true _ (lt-ltb _ _ i.if1.true))
 
 returns-2 : tie.Need-returns-2
-unfolding cicFields bytes
+unfolding cic_fields bytes
 returns-2 c =
     let p = c.before.before in
     let i = p.before.before.before in
@@ -29,7 +29,7 @@ returns-2 c =
     ∙ pick-false _ (le-ltb _ _ i.before.if1.false))
 
 returns-3 : tie.Need-returns-3
-unfolding cicFields bytes
+unfolding cic_fields bytes
 returns-3 c =
     let p = c.before.before in
     let i = p.before.before.before.before in
@@ -39,7 +39,7 @@ returns-3 c =
     ∙ pick-false _ (le-ltb _ _ i.before.before.if1.false))
 
 returns-4 : tie.Need-returns-4
-unfolding cicFields bytes
+unfolding cic_fields bytes
 returns-4 c =
     let p = c.before.before in
     let i = p.before.before.before.before in
@@ -50,7 +50,7 @@ returns-4 c =
     ∙ pick-false _ (le-ltb _ _ i.before.before.before.if1.false))
 
 returns-5 : tie.Need-returns-5
-unfolding cicFields bytes
+unfolding cic_fields bytes
 returns-5 c =
     nothing _
     ∙ ap (write _) (pick_true _ (lt-ltb _ _ c.if5.true)
@@ -60,7 +60,7 @@ returns-5 c =
     ∙ pick-false _ (le-ltb _ _ c.before.before.before.before.if1.false))
 
 returns-6 : tie.Need-returns-6
-unfolding cicFields bytes
+unfolding cic_fields bytes
 returns-6 c =
     let p = c.before.before in
     let i = p.before.before.before in
@@ -73,7 +73,7 @@ returns-6 c =
     ∙ pick-false _ (le-ltb _ _ i.before.before.before.before.before.if1.false))
 
 returns-7 : tie.Need-returns-7
-unfolding cicFields bytes
+unfolding cic_fields bytes
 returns-7 c =
     nothing _
     ∙ ap (write _) (pick-false _ (le-ltb _ _ c.if6.false)

@@ -5,12 +5,12 @@ use Rattle.text.proofs.WriteLaws.{same_length as same_len, nothing}
 use borrow.Author.Tests.{eq-eqb, ne_eqb, lt-ltb, le-ltb}
 use Rattle.words.proofs.ChoiceLaws.{pick_true, pick-false}
 use Rattle.text.specs.Phrases.{bytes}
-use Rattle.register_words.specs.Fields.{cicSingles}
+use Rattle.register_words.specs.Fields.{cic_singles}
 use Rattle.register_words.proofs.fields.put_cic_single.Statement.{statement}
 use Rattle.register_words.proofs.fields.put_cic_single.Tie as tie
 
 returns : tie.Need-returns
-unfolding cicSingles bytes
+unfolding cic_singles bytes
 returns c =
     let p = c.before.before in
     let i = p.before.before.before in
@@ -18,14 +18,14 @@ returns c =
     ∙ ap (write _) (pick_true _ (eq-eqb _ _ i.if1.true))
 
 returns-2 : tie.Need-returns-2
-unfolding cicSingles bytes
+unfolding cic_singles bytes
 returns-2 c =
     nothing _
     ∙ ap (write _) (pick_true _ (lt-ltb _ _ c.if2.true)
     ∙ pick-false _ (ne_eqb _ _ c.before.if1.false))
 
 returns-3 : tie.Need-returns-3
-unfolding cicSingles bytes
+unfolding cic_singles bytes
 returns-3 c =
     let p = c.before.before in
     let i = p.before.before.before in
@@ -35,7 +35,7 @@ returns-3 c =
     ∙ pick-false _ (ne_eqb _ _ i.before.before.if1.false))
 
 returns-4 : tie.Need-returns-4
-unfolding cicSingles bytes
+unfolding cic_singles bytes
 returns-4 c =
     nothing _
     ∙ ap (write _) (pick_true _ (lt-ltb _ _ c.if4.true)
@@ -44,7 +44,7 @@ returns-4 c =
     ∙ pick-false _ (ne_eqb _ _ c.before.before.before.if1.false))
 
 returns-5 : tie.Need-returns-5
-unfolding cicSingles bytes
+unfolding cic_singles bytes
 returns-5 c =
     let p = c.before.before in
     let i = p.before.before.before in
@@ -56,7 +56,7 @@ returns-5 c =
     ∙ pick-false _ (ne_eqb _ _ i.before.before.before.before.if1.false))
 
 returns-6 : tie.Need-returns-6
-unfolding cicSingles bytes
+unfolding cic_singles bytes
 returns-6 c =
     nothing _
     ∙ ap (write _) (pick-false _ (le-ltb _ _ c.if5.false)

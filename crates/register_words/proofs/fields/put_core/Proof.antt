@@ -4,12 +4,12 @@ use Rattle.text.specs.Text.{write}
 use Rattle.text.proofs.WriteLaws.{same_length as same_len, nothing}
 use borrow.Author.Tests.{lt-ltb, le-ltb}
 use Rattle.words.proofs.ChoiceLaws.{pick_true, pick-false}
-use Rattle.register_words.specs.Fields.{coreFields}
+use Rattle.register_words.specs.Fields.{core_fields}
 use Rattle.register_words.proofs.fields.put_core.Statement.{statement}
 use Rattle.register_words.proofs.fields.put_core.Tie as tie
 
 returns : tie.Need-returns
-unfolding coreFields
+unfolding core_fields
 returns c =
     let p = c.before.before in
     let i = p.before.before in
@@ -17,14 +17,14 @@ returns c =
     ∙ ap (write _) (pick_true _ (lt-ltb _ _ i.if1.true))
 
 returns-2 : tie.Need-returns-2
-unfolding coreFields
+unfolding core_fields
 returns-2 c =
     nothing _
     ∙ ap (write _) (pick_true _ (lt-ltb _ _ c.if2.true)
     ∙ pick-false _ (le-ltb _ _ c.before.if1.false))
 
 returns-3 : tie.Need-returns-3
-unfolding coreFields
+unfolding core_fields
 returns-3 c =
     let p = c.before.before in
     let i = p.before.before in
@@ -34,7 +34,7 @@ returns-3 c =
     ∙ pick-false _ (le-ltb _ _ i.before.before.if1.false))
 
 returns-4 : tie.Need-returns-4
-unfolding coreFields
+unfolding core_fields
 returns-4 c =
     nothing _
     ∙ ap (write _) (pick-false _ (le-ltb _ _ c.if3.false)

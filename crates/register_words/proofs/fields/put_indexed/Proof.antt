@@ -5,12 +5,12 @@ use Rattle.text.proofs.WriteLaws.{same_length as same_len}
 use borrow.Author.Tests.{eq-eqb, ne_eqb}
 use Rattle.words.proofs.ChoiceLaws.{pick_true, pick-false}
 use Rattle.text.specs.Phrases.{bytes}
-use Rattle.register_words.specs.Fields.{indexedFields}
+use Rattle.register_words.specs.Fields.{indexed_fields}
 use Rattle.register_words.proofs.fields.put_indexed.Statement.{statement}
 use Rattle.register_words.proofs.fields.put_indexed.Tie as tie
 
 returns : tie.Need-returns
-unfolding indexedFields bytes
+unfolding indexed_fields bytes
 returns c =
     let p = c.before.before in
     let i = p.before.before.before in
@@ -18,7 +18,7 @@ returns c =
     ∙ ap (write _) (pick_true _ (eq-eqb _ _ i.if1.true))
 
 returns-2 : tie.Need-returns-2
-unfolding indexedFields bytes
+unfolding indexed_fields bytes
 returns-2 c =
     let p = c.before.before in
     let i = p.before.before in

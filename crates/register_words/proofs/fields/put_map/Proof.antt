@@ -1,7 +1,7 @@
 -- That `put_map` of src/fields.rt keeps its contract.
 use mathlib.Core.Path.{refl, ap, ◌∙◌}
 use Rattle.text.proofs.WriteLaws.{same_length as same_len, and_then}
-use Rattle.register_words.proofs.FieldLaws.{map-text}
+use Rattle.register_words.proofs.FieldLaws.{map_text}
 use borrow.Author.Rules.{rules}
 use Rattle.register_words.proofs.fields.put_map.Statement.{statement}
 use Rattle.register_words.proofs.fields.put_map.Tie as tie
@@ -13,7 +13,7 @@ returns c =
     let b = d.before.before.before.before in
     let a = b.before.before.before.before in
     let z = a.before.before.before.before in
-    map-text _ _ _ _ _ _ _ _ _ _ _ z.put-counted.ensures a.put-counted2.ensures b.put_byte.ensures d.put-byte2.ensures e.put-byte3.ensures
+    map_text _ _ _ _ _ _ _ _ _ _ _ z.put-counted.ensures a.put-counted2.ensures b.put_byte.ensures d.put-byte2.ensures e.put-byte3.ensures
 
 pub put-map-spec : {M : Type 1} → statement M
 put-map-spec =

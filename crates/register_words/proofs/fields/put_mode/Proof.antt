@@ -1,9 +1,9 @@
 -- That `put_mode` of src/fields.rt keeps its contract.
 use mathlib.Core.Path.{refl, ap, ◌∙◌}
 use Rattle.text.proofs.WriteLaws.{same_length as same_len, and_then}
-use Rattle.register_words.specs.Fields.{modeWords}
+use Rattle.register_words.specs.Fields.{mode_words}
 use Rattle.text.specs.Phrases.{bytes}
-use Rattle.register_words.proofs.FieldLaws.{mode-text}
+use Rattle.register_words.proofs.FieldLaws.{mode_text}
 use Rattle.register_words.proofs.fields.put_mode.Statement.{statement}
 use Rattle.register_words.proofs.fields.put_mode.Tie as tie
 
@@ -12,7 +12,7 @@ unfolding bytes
 returns c =
     let p = c.before.before in
     let q = p.before.before.before.before.before in
-    mode-text _ _ _ _ _ _ q.put-type.ensures p.put-counted.ensures q.before.before.has.ensures
+    mode_text _ _ _ _ _ _ q.put-type.ensures p.put-counted.ensures q.before.before.has.ensures
 
 pub put-mode-spec : {M : Type 1} → statement M
 put-mode-spec =

@@ -5,7 +5,7 @@ use Rattle.text.proofs.WriteLaws.{same_length as same_len}
 use borrow.Author.Tests.{eq-eqb, ne_eqb}
 use Rattle.words.proofs.ChoiceLaws.{pick_true, pick-false}
 use Rattle.text.specs.Phrases.{bytes}
-use Rattle.register_words.proofs.FieldLaws.{more-as}
+use Rattle.register_words.proofs.FieldLaws.{more_as}
 use Rattle.register_words.proofs.fields.put_numbers.Statement.{statement}
 use Rattle.register_words.proofs.fields.put_numbers.Tie as tie
 
@@ -20,7 +20,7 @@ unfolding bytes
 returns-2 c =
     let p = c.before.before in
     let q = p.before.before.before.before in
-    more-as _ _ _ _ _ _ q.put-told.ensures p.put-more.ensures q.before.before.count.ensures
+    more_as _ _ _ _ _ _ q.put-told.ensures p.put-more.ensures q.before.before.count.ensures
     ∙ ap (write _) (pick-false _ (ne_eqb _ _ q.before.before.before.if1.false))
 
 pub put-numbers-spec : {M : Type 1} → statement M

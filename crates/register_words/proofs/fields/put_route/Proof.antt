@@ -2,7 +2,7 @@
 use mathlib.Core.Path.{refl, ap, ◌∙◌}
 use Rattle.text.proofs.WriteLaws.{same_length as same_len, and_then}
 use Rattle.text.specs.Phrases.{bytes}
-use Rattle.register_words.proofs.FieldLaws.{route-text}
+use Rattle.register_words.proofs.FieldLaws.{route_text}
 use borrow.Author.Rules.{rules}
 use Rattle.register_words.proofs.fields.put_route.Statement.{statement}
 use Rattle.register_words.proofs.fields.put_route.Tie as tie
@@ -12,7 +12,7 @@ unfolding bytes
 returns c =
     let p = c.before.before in
     let q = p.before.before.before.before in
-    route-text _ _ _ _ _ q.put-either.ensures p.put-decimal.ensures q.before.before.before.before.has.ensures
+    route_text _ _ _ _ _ q.put-either.ensures p.put-decimal.ensures q.before.before.before.before.has.ensures
 
 pub put-route-spec : {M : Type 1} → statement M
 put-route-spec =

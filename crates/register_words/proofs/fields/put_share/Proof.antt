@@ -1,7 +1,7 @@
 -- That `put_share` of src/fields.rt keeps its contract.
 use mathlib.Core.Path.{refl, ap, ◌∙◌}
 use Rattle.text.proofs.WriteLaws.{same_length as same_len, and_then}
-use Rattle.register_words.proofs.FieldLaws.{share-text}
+use Rattle.register_words.proofs.FieldLaws.{share_text}
 use borrow.Author.Rules.{rules}
 use Rattle.register_words.proofs.fields.put_share.Statement.{statement}
 use Rattle.register_words.proofs.fields.put_share.Tie as tie
@@ -9,7 +9,7 @@ use Rattle.register_words.proofs.fields.put_share.Tie as tie
 returns : tie.Need-returns
 returns c =
     let p = c.before.before in
-    share-text _ _ _ _ _ _ _ _ p.put-bits.ensures p.before.before.keep.ensures p.before.before.before.rest.ensures
+    share_text _ _ _ _ _ _ _ _ p.put-bits.ensures p.before.before.keep.ensures p.before.before.before.rest.ensures
 
 pub put-share-spec : {M : Type 1} → statement M
 put-share-spec =

@@ -3,11 +3,11 @@ use mathlib.Core.Path.{◌≡◌, refl, ap, ◌∙◌}
 use Prim.Native.Nat.{◌-◌, ◌≤◌}
 use native.Mathlib.Omega.{arith}
 use lib.ListN.{length}
-use Rattle.words.specs.Counting.{one, countBelow}
+use Rattle.words.specs.Counting.{one, count_below}
 use Rattle.words.specs.Word.{bit}
 use Rattle.text.specs.Text.{write}
 use Rattle.text.proofs.WriteLaws.{same_length as same_len, and_then, nothing}
-use Rattle.register_words.specs.Fields.{toldBelow}
+use Rattle.register_words.specs.Fields.{told_below}
 use Rattle.register_words.proofs.FieldLaws.{told_none, told_more, lower-none, lower-more, one_bit, told-all}
 use borrow.Author.Rules.{rules}
 use Rattle.register_words.proofs.fields.put_told.Statement.{statement}
@@ -15,7 +15,7 @@ use Rattle.register_words.proofs.fields.put_told.Tie as tie
 
 abbrev invariant-loop : tie.invariant-loop
 invariant-loop out₀ at base w next₀ told₀ n₀ out next told n =
-    (n ≤ 32) × (told ≤ n) × (told ≡ countBelow n (bit w)) × ((out, next) ≡ write (out₀, at) (toldBelow base w n)) × (length out ≡ length out₀)
+    (n ≤ 32) × (told ≤ n) × (told ≡ count_below n (bit w)) × ((out, next) ≡ write (out₀, at) (told_below base w n)) × (length out ≡ length out₀)
 
 abbrev decreases-loop : tie.decreases-loop
 decreases-loop out₀ at base w next₀ told₀ n₀ out next told n = 32 - n

@@ -5,12 +5,12 @@ use Rattle.text.proofs.WriteLaws.{same_length as same_len}
 use borrow.Author.Tests.{eq-eqb, ne_eqb}
 use Rattle.words.proofs.ChoiceLaws.{pick_true, pick-false}
 use Rattle.text.specs.Phrases.{bytes}
-use Rattle.register_words.specs.Fields.{typeWords}
+use Rattle.register_words.specs.Fields.{type_words}
 use Rattle.register_words.proofs.fields.put_type.Statement.{statement}
 use Rattle.register_words.proofs.fields.put_type.Tie as tie
 
 returns : tie.Need-returns
-unfolding typeWords bytes
+unfolding type_words bytes
 returns c =
     let p = c.before.before in
     let i = p.before.before.before.before in
@@ -18,7 +18,7 @@ returns c =
     ∙ ap (write _) (pick_true _ (eq-eqb _ _ i.if1.true))
 
 returns-2 : tie.Need-returns-2
-unfolding typeWords bytes
+unfolding type_words bytes
 returns-2 c =
     let p = c.before.before in
     let i = p.before.before.before.before in
@@ -27,7 +27,7 @@ returns-2 c =
     ∙ pick-false _ (ne_eqb _ _ i.before.if1.false))
 
 returns-3 : tie.Need-returns-3
-unfolding typeWords bytes
+unfolding type_words bytes
 returns-3 c =
     let p = c.before.before in
     let i = p.before.before.before in
@@ -37,7 +37,7 @@ returns-3 c =
     ∙ pick-false _ (ne_eqb _ _ i.before.before.if1.false))
 
 returns-4 : tie.Need-returns-4
-unfolding typeWords bytes
+unfolding type_words bytes
 returns-4 c =
     let p = c.before.before in
     let i = p.before.before.before in

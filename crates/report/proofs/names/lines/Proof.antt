@@ -3,7 +3,7 @@ use Prim.Native.Nat.{◌≤◌, ◌-◌, ◌+◌}
 use mathlib.Core.Path.{refl}
 use native.Mathlib.Omega.{arith}
 use lib.ListN.{length}
-use Rattle.report.specs.Lines.{feedsBefore}
+use Rattle.report.specs.Lines.{feeds_before}
 use Rattle.report.proofs.LineLaws.{line-within, name-within}
 use Rattle.report.specs.Put.{Put}
 use Rattle.report.proofs.PutLaws.{put-none}
@@ -13,7 +13,7 @@ use Rattle.report.proofs.names.lines.Statement.{statement}
 use Rattle.report.proofs.names.lines.Tie as tie
 
 abbrev invariant-loop : tie.invariant-loop
-invariant-loop s skipping sum₀ skips₀ at₀ sum skips at = (at ≤ length s) × Put sum₀.totals (feedsBefore s at) sum.totals
+invariant-loop s skipping sum₀ skips₀ at₀ sum skips at = (at ≤ length s) × Put sum₀.totals (feeds_before s at) sum.totals
 
 abbrev decreases-loop : tie.decreases-loop
 decreases-loop s skipping sum₀ skips₀ at₀ sum skips at = (length s + 1) - at

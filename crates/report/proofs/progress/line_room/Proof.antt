@@ -4,16 +4,16 @@ use mathlib.Core.List.{List}
 use mathlib.Core.Path.{◌≡◌, sym}
 use native.Mathlib.Omega.{arith}
 use lib.ListN.{length, replicate, length-replicate}
-use Rattle.report.specs.Printed.{traceLine, leftOutLine}
-use Rattle.report.proofs.SizeLaws.{length-trace, length-left-out}
+use Rattle.report.specs.Printed.{trace_line, left_out_line}
+use Rattle.report.proofs.SizeLaws.{length_trace, length-left_out}
 use Rattle.report.proofs.progress.line_room.Statement.{statement}
 use Rattle.report.proofs.progress.line_room.Tie as tie
 
 -- the longest name that is told has 4,096 bytes
 enough : (played refused refusal offset : ℕ) (name : List ℕ) → played < 2 ^ 32 → refused < 2 ^ 32 → refusal < 2 ^ 32 → length name ≤ 4096
-    → (length (traceLine played refused refusal offset name) ≤ 4183) × (length (leftOutLine refusal name) ≤ 4183)
+    → (length (trace_line played refused refusal offset name) ≤ 4183) × (length (left_out_line refusal name) ≤ 4183)
 enough played refused refusal offset name p q r h =
-    (omega (arith, length-trace played refused refusal offset name p q r), omega (arith, length-left-out refusal name r))
+    (omega (arith, length_trace played refused refusal offset name p q r), omega (arith, length-left_out refusal name r))
 
 returns : tie.Need-returns
 returns c = let long : 4183 ≡ length {A = ℕ} (replicate 4183 0) = sym (length-replicate {0} {A = ℕ} 4183 0) in

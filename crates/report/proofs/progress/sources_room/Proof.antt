@@ -2,13 +2,13 @@
 use Prim.Native.Nat.{ℕ}
 use mathlib.Core.Path.{◌≡◌, sym}
 use lib.ListN.{length, replicate, length-replicate}
-use Rattle.report.proofs.SizeLaws.{length-sources}
+use Rattle.report.proofs.SizeLaws.{length_sources}
 use Rattle.report.proofs.progress.sources_room.Statement.{statement}
 use Rattle.report.proofs.progress.sources_room.Tie as tie
 
 returns : tie.Need-returns
 returns c = let long : 4384 ≡ length {A = ℕ} (replicate 4384 0) = sym (length-replicate {0} {A = ℕ} 4384 0) in
-    (long, λ t w. rw (sym long) (length-sources t w))
+    (long, λ t w. rw (sym long) (length_sources t w))
 
 pub sources-room-spec : {M : Type 1} → statement M
 sources-room-spec = tie.close (tie.spec returns)

@@ -1,13 +1,13 @@
 -- That `put_empty_cell` of src/cells.rt keeps its contract.
 use Rattle.text.specs.Phrases.{bytes}
-use Rattle.sheet.specs.Texts.{emptyCell}
+use Rattle.sheet.specs.Texts.{empty_cell}
 use Rattle.text.proofs.WriteLaws.{and_then, same_length as same_len}
 use borrow.Author.Rules.{rules}
 use Rattle.sheet.proofs.cells.put_empty_cell.Statement.{statement}
 use Rattle.sheet.proofs.cells.put_empty_cell.Tie as tie
 
 returns : tie.Need-returns
-unfolding emptyCell bytes
+unfolding empty_cell bytes
 returns c =
     let c2 = c.before.before in
     let c1 = c2.before.before.before.before.before in

@@ -1,13 +1,13 @@
 -- That `put_source_cell` of src/cells.rt keeps its contract.
 use Rattle.text.specs.Phrases.{bytes}
-use Rattle.sheet.specs.Texts.{sourceCell}
+use Rattle.sheet.specs.Texts.{source_cell}
 use Rattle.text.proofs.WriteLaws.{and_then, same_length as same_len}
 use borrow.Author.Rules.{rules}
 use Rattle.sheet.proofs.cells.put_source_cell.Statement.{statement}
 use Rattle.sheet.proofs.cells.put_source_cell.Tie as tie
 
 returns : tie.Need-returns
-unfolding sourceCell bytes
+unfolding source_cell bytes
 returns c =
     let c3 = c.before.before in
     let c2 = c3.before.before.before.before.before in

@@ -1,13 +1,13 @@
 -- That `put_head` of src/end.rt keeps its contract.
 use Rattle.text.specs.Phrases.{bytes}
-use Rattle.sheet.specs.End.{headPart}
+use Rattle.sheet.specs.End.{head_part}
 use Rattle.text.proofs.WriteLaws.{and_then, same_length as same_len}
 use borrow.Author.Rules.{rules}
 use Rattle.sheet.proofs.end.put_head.Statement.{statement}
 use Rattle.sheet.proofs.end.put_head.Tie as tie
 
 returns : tie.Need-returns
-unfolding headPart bytes
+unfolding head_part bytes
 returns c =
     let c4 = c.before.before in
     let c3 = c4.before.before.before.before.before in

@@ -1,13 +1,13 @@
 -- That `put_hidden` of src/end.rt keeps its contract.
 use Rattle.text.specs.Phrases.{bytes}
-use Rattle.sheet.specs.End.{hiddenLine}
+use Rattle.sheet.specs.End.{hidden_line}
 use Rattle.text.proofs.WriteLaws.{and_then, same_length as same_len}
 use borrow.Author.Rules.{rules}
 use Rattle.sheet.proofs.end.put_hidden.Statement.{statement}
 use Rattle.sheet.proofs.end.put_hidden.Tie as tie
 
 returns : tie.Need-returns
-unfolding hiddenLine bytes
+unfolding hidden_line bytes
 returns c =
     let c3 = c.before.before in
     let c2 = c3.before.before.before.before.before in

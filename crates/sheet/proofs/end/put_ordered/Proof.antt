@@ -1,12 +1,12 @@
 -- That `put_ordered` of src/end.rt keeps its contract.
-use Rattle.sheet.specs.End.{sourcesOf}
+use Rattle.sheet.specs.End.{sources_of}
 use Rattle.text.proofs.WriteLaws.{and_then, same_length as same_len}
 use borrow.Author.Rules.{rules}
 use Rattle.sheet.proofs.end.put_ordered.Statement.{statement}
 use Rattle.sheet.proofs.end.put_ordered.Tie as tie
 
 returns : tie.Need-returns
-unfolding sourcesOf
+unfolding sources_of
 returns c =
     let c5 = c.before.before in
     let c4 = c5.before.before.before.before in

@@ -1,12 +1,12 @@
 -- That `put_page` of src/end.rt keeps its contract.
-use Rattle.sheet.specs.End.{pageEnd}
+use Rattle.sheet.specs.End.{page_end}
 use Rattle.text.proofs.WriteLaws.{and_then, same_length as same_len}
 use borrow.Author.Rules.{rules}
 use Rattle.sheet.proofs.end.put_page.Statement.{statement}
 use Rattle.sheet.proofs.end.put_page.Tie as tie
 
 returns : tie.Need-returns
-unfolding pageEnd
+unfolding page_end
 returns c =
     let c4 = c.before.before in
     let c3 = c4.before.before.before.before in

@@ -1,13 +1,13 @@
 -- That `put_row` of src/end.rt keeps its contract.
 use Rattle.text.specs.Phrases.{bytes}
-use Rattle.sheet.specs.End.{headRow}
+use Rattle.sheet.specs.End.{head_row}
 use Rattle.text.proofs.WriteLaws.{and_then, same_length as same_len}
 use borrow.Author.Rules.{rules}
 use Rattle.sheet.proofs.end.put_row.Statement.{statement}
 use Rattle.sheet.proofs.end.put_row.Tie as tie
 
 returns : tie.Need-returns
-unfolding headRow bytes
+unfolding head_row bytes
 returns c =
     let c5 = c.before.before in
     let c4 = c5.before.before.before.before.before in

@@ -2,7 +2,7 @@
 use Prim.Native.Nat.{ℕ}
 use Rattle.sheet.proofs.OrderLaws.{order-fits}
 use Rattle.sheet.proofs.PageLaws.{laid-taken}
-use Rattle.sheet.specs.End.{sourcesOf, sourcesPart}
+use Rattle.sheet.specs.End.{sources_of, sources_part}
 use Rattle.text.proofs.WriteLaws.{laid-fits}
 use Rattle.text.specs.Text.{write}
 use borrow.Author.Rules.{rules}
@@ -19,13 +19,13 @@ slice-aggregate-put-ordered : tie.Need-slice-aggregate-put-ordered
 slice-aggregate-put-ordered c = sym (length-take-le _ _ (laid-fits _ _ _ c.before.before.before.put_order.ensures))
 
 returns : tie.Need-returns
-unfolding sourcesPart
+unfolding sources_part
 returns c =
     let p = c.before.before in
     let o = p.before.before.before.before in
     let a = o.before.before.before.before.args in
     p.put-ordered.ensures
-    ∙ ap (λ (is : List ℕ). write (a.out.now, a.at) (sourcesOf is a.t a.names.now a.lengths a.s))
+    ∙ ap (λ (is : List ℕ). write (a.out.now, a.at) (sources_of is a.t a.names.now a.lengths a.s))
     (laid-taken _ _ _ o.put_order.ensures (order-fits a.t a.s.used))
 
 pub put-sources-spec : {M : Type 1} → statement M

@@ -1,13 +1,13 @@
 -- That `put_sources_head` of src/end.rt keeps its contract.
 use Rattle.text.specs.Phrases.{bytes}
-use Rattle.sheet.specs.End.{sourcesHead}
+use Rattle.sheet.specs.End.{sources_head}
 use Rattle.text.proofs.WriteLaws.{same_length as same_len}
 use borrow.Author.Rules.{rules}
 use Rattle.sheet.proofs.end.put_sources_head.Statement.{statement}
 use Rattle.sheet.proofs.end.put_sources_head.Tie as tie
 
 returns : tie.Need-returns
-unfolding sourcesHead bytes
+unfolding sources_head bytes
 returns c =
     let c1 = c.before.before in
     c1.put_all_lem.ensures

@@ -1,13 +1,13 @@
 -- That `put_traces` of src/end.rt keeps its contract.
 use Rattle.text.specs.Phrases.{bytes}
-use Rattle.sheet.specs.End.{tracesNamed}
+use Rattle.sheet.specs.End.{traces_named}
 use Rattle.text.proofs.WriteLaws.{and_then, same_length as same_len}
 use borrow.Author.Rules.{rules}
 use Rattle.sheet.proofs.end.put_traces.Statement.{statement}
 use Rattle.sheet.proofs.end.put_traces.Tie as tie
 
 returns : tie.Need-returns
-unfolding tracesNamed bytes
+unfolding traces_named bytes
 returns c =
     let c5 = c.before.before in
     let c4 = c5.before.before.before.before.before in

@@ -1,13 +1,13 @@
 -- That `put_page` of src/head.rt keeps its contract.
 use Rattle.text.specs.Phrases.{bytes}
-use Rattle.sheet.specs.Head.{styleTables, stylePaper, tracesHead, pageHead}
+use Rattle.sheet.specs.Head.{style_tables, style_paper, traces_head, page_head}
 use Rattle.text.proofs.WriteLaws.{and_then, same_length as same_len}
 use borrow.Author.Rules.{rules}
 use Rattle.sheet.proofs.head.put_page.Statement.{statement}
 use Rattle.sheet.proofs.head.put_page.Tie as tie
 
 returns : tie.Need-returns
-unfolding pageHead styleTables stylePaper tracesHead bytes
+unfolding page_head style_tables style_paper traces_head bytes
 returns c =
     let c4 = c.before.before in
     let c3 = c4.before.before.before.before.before in

@@ -1,13 +1,13 @@
 -- That `put_start` of src/head.rt keeps its contract.
 use Rattle.text.specs.Phrases.{bytes}
-use Rattle.sheet.specs.Head.{documentHead, styleParts}
+use Rattle.sheet.specs.Head.{document_head, style_parts}
 use Rattle.text.proofs.WriteLaws.{and_then, same_length as same_len}
 use borrow.Author.Rules.{rules}
 use Rattle.sheet.proofs.head.put_start.Statement.{statement}
 use Rattle.sheet.proofs.head.put_start.Tie as tie
 
 returns : tie.Need-returns
-unfolding documentHead styleParts bytes
+unfolding document_head style_parts bytes
 returns c =
     let c2 = c.before.before in
     let c1 = c2.before.before.before.before.before in

@@ -1,7 +1,7 @@
 -- That `owner` of src/levels.rt keeps its contract.
 use Prim.Native.Nat.{◌-◌, ◌<◌, ◌≤◌, ℕ}
 use Rattle.sheet.proofs.PageLaws.{none_more}
-use Rattle.sheet.proofs.TurnLaws.{lowest-here, lowest-none}
+use Rattle.sheet.proofs.TurnLaws.{lowest_here, lowest-none}
 use Rattle.sheet.specs.Levels.{owner, owns}
 use borrow.Author.Rules.{rules}
 use mathlib.Core.Bool.{false}
@@ -24,7 +24,7 @@ unfolding owner
 returns c =
     let l = c.before.before.before in
     let a = l.before.args in
-    lowest-here (owns a.t a.l a.n) l.loop.i c.before.before.loop-test.true l.loop.invariant.1 (sym c.before.owns.ensures ∙ c.if1.true)
+    lowest_here (owns a.t a.l a.n) l.loop.i c.before.before.loop-test.true l.loop.invariant.1 (sym c.before.owns.ensures ∙ c.if1.true)
 
 loop-again : tie.Need-loop-preserved invariant-loop decreases-loop
 loop-again c =

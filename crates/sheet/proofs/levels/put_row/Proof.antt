@@ -1,13 +1,13 @@
 -- That `put_row` of src/levels.rt keeps its contract.
 use Rattle.text.specs.Phrases.{bytes}
-use Rattle.sheet.specs.Levels.{levelRow}
+use Rattle.sheet.specs.Levels.{level_row}
 use Rattle.text.proofs.WriteLaws.{and_then, same_length as same_len}
 use borrow.Author.Rules.{rules}
 use Rattle.sheet.proofs.levels.put_row.Statement.{statement}
 use Rattle.sheet.proofs.levels.put_row.Tie as tie
 
 returns : tie.Need-returns
-unfolding levelRow bytes
+unfolding level_row bytes
 returns c =
     let c8 = c.before.before in
     let c7 = c8.before.before.before.before.before in

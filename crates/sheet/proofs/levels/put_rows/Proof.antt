@@ -1,7 +1,7 @@
 -- That `put_rows` of src/levels.rt keeps its contract.
 use Prim.Native.Nat.{◌-◌, ◌≤◌}
 use Rattle.sheet.proofs.TurnLaws.{down-done, down_turn}
-use Rattle.sheet.specs.Levels.{levelRow}
+use Rattle.sheet.specs.Levels.{level_row}
 use Rattle.sheet.specs.Texts.{down}
 use Rattle.text.proofs.WriteLaws.{same_length as same_len}
 use Rattle.text.specs.Text.{write}
@@ -13,7 +13,7 @@ use Rattle.sheet.proofs.levels.put_rows.Statement.{statement}
 use Rattle.sheet.proofs.levels.put_rows.Tie as tie
 
 abbrev invariant-loop : tie.invariant-loop
-invariant-loop out₀ at t names lengths next₀ l₀ out next l = (l ≤ 8) × (write (out, next) (down (levelRow t names lengths) l) ≡ write (out₀, at) (down (levelRow t names lengths) 8)) × (length out ≡ length out₀)
+invariant-loop out₀ at t names lengths next₀ l₀ out next l = (l ≤ 8) × (write (out, next) (down (level_row t names lengths) l) ≡ write (out₀, at) (down (level_row t names lengths) 8)) × (length out ≡ length out₀)
 
 abbrev decreases-loop : tie.decreases-loop
 decreases-loop out₀ at t names lengths next₀ l₀ out next l = l
@@ -27,12 +27,12 @@ loop-again c =
     let l = p.before.before.before in
     let a = l.before.before.before.args in
     let h = p.before.before.loop-test.true in
-    (omega (arith, l.loop.invariant.0), down_turn (levelRow a.t a.names.now a.lengths) l.loop.l (l.loop.l - 1) _ _ _ (omega (arith, h)) p.put-row.ensures l.loop.invariant.1, same_len _ _ _ p.put-row.ensures ∙ l.loop.invariant.2)
+    (omega (arith, l.loop.invariant.0), down_turn (level_row a.t a.names.now a.lengths) l.loop.l (l.loop.l - 1) _ _ _ (omega (arith, h)) p.put-row.ensures l.loop.invariant.1, same_len _ _ _ p.put-row.ensures ∙ l.loop.invariant.2)
 
 returns : tie.Need-returns invariant-loop decreases-loop
 returns c =
     let a = c.before.before.before.before.args in
-    down-done (levelRow a.t a.names.now a.lengths) c.before.loop.l _ _ c.loop-test.false c.before.loop.invariant.1
+    down-done (level_row a.t a.names.now a.lengths) c.before.loop.l _ _ c.loop-test.false c.before.loop.invariant.1
 
 pub put-rows-spec : {M : Type 1} → statement M
 put-rows-spec =

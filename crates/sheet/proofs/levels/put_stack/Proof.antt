@@ -1,12 +1,12 @@
 -- That `put_stack` of src/levels.rt keeps its contract.
-use Rattle.sheet.specs.Levels.{stackPart}
+use Rattle.sheet.specs.Levels.{stack_part}
 use Rattle.text.proofs.WriteLaws.{and_then, same_length as same_len}
 use borrow.Author.Rules.{rules}
 use Rattle.sheet.proofs.levels.put_stack.Statement.{statement}
 use Rattle.sheet.proofs.levels.put_stack.Tie as tie
 
 returns : tie.Need-returns
-unfolding stackPart
+unfolding stack_part
 returns c =
     let c3 = c.before.before in
     let c2 = c3.before.before.before.before in

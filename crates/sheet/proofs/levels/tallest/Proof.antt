@@ -3,7 +3,7 @@ use Prim.Native.Nat.{◌-◌, ◌≤◌}
 use Rattle.sheet.proofs.PageLaws.{tallest-more}
 use Rattle.sheet.specs.Levels.{tallest}
 use Rattle.sheet.specs.Sources.{most}
-use Rattle.words.proofs.CountingLaws.{at-end}
+use Rattle.words.proofs.CountingLaws.{at_end}
 use borrow.Author.Rules.{rules}
 use mathlib.Core.Path.{◌≡◌, refl}
 use native.Mathlib.Omega.{arith}
@@ -24,7 +24,7 @@ loop-again : tie.Need-loop-preserved invariant-loop decreases-loop
 loop-again c = (omega arith, tallest-more _ _ _ _ _ c.before.before.before.loop.invariant.1 c.before.level-bytes.ensures c.larger.ensures)
 
 returns : tie.Need-returns invariant-loop decreases-loop
-returns c = at-end (tallest c.before.before.args.t) _ 8 c.before.loop.invariant.0 c.loop-test.false c.before.loop.invariant.1
+returns c = at_end (tallest c.before.before.args.t) _ 8 c.before.loop.invariant.0 c.loop-test.false c.before.loop.invariant.1
 
 pub tallest-spec : {M : Type 1} → statement M
 tallest-spec =

@@ -1,13 +1,13 @@
 -- That `put_meaning` of src/meaning.rt keeps its contract.
 use Rattle.text.specs.Phrases.{bytes}
-use Rattle.sheet.specs.Meaning.{meaningFirst, meaningLast, meaning}
+use Rattle.sheet.specs.Meaning.{meaning_first, meaning_last, meaning}
 use Rattle.text.proofs.WriteLaws.{and_then, same_length as same_len}
 use borrow.Author.Rules.{rules}
 use Rattle.sheet.proofs.meaning.put_meaning.Statement.{statement}
 use Rattle.sheet.proofs.meaning.put_meaning.Tie as tie
 
 returns : tie.Need-returns
-unfolding meaning meaningFirst meaningLast bytes
+unfolding meaning meaning_first meaning_last bytes
 returns c =
     let c2 = c.before.before in
     let c1 = c2.before.before.before.before.before in

@@ -4,7 +4,7 @@ use Rattle.sheet.proofs.TurnLaws.{chosen_more, chosen_none}
 use Rattle.sheet.specs.Order.{chosen, stands}
 use Rattle.text.proofs.WriteLaws.{same_length as same_len}
 use Rattle.text.specs.Text.{write}
-use Rattle.words.proofs.CountingLaws.{at-end}
+use Rattle.words.proofs.CountingLaws.{at_end}
 use borrow.Author.Rules.{rules}
 use mathlib.Core.Path.{◌≡◌}
 use native.Mathlib.Omega.{arith}
@@ -34,7 +34,7 @@ same_length c = same_len _ _ _ c.before.loop.invariant.1
 returns : tie.Need-returns invariant-loop decreases-loop
 returns c =
     let a = c.before.before.before.args in
-    at-end (λ n. write (a.out.now, a.at) (chosen (stands a.t a.used a.fast a.l) n)) _ _ c.before.loop.invariant.0 c.loop-test.false c.before.loop.invariant.1
+    at_end (λ n. write (a.out.now, a.at) (chosen (stands a.t a.used a.fast a.l) n)) _ _ c.before.loop.invariant.0 c.loop-test.false c.before.loop.invariant.1
 
 pub put-level-spec : {M : Type 1} → statement M
 put-level-spec =

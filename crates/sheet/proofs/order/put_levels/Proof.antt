@@ -1,7 +1,7 @@
 -- That `put_levels` of src/order.rt keeps its contract.
 use Prim.Native.Nat.{◌-◌, ◌≤◌}
 use Rattle.sheet.proofs.TurnLaws.{down-done, down_turn}
-use Rattle.sheet.specs.Order.{byLevel, chosen, stands}
+use Rattle.sheet.specs.Order.{by_level, chosen, stands}
 use Rattle.sheet.specs.Texts.{down}
 use Rattle.text.proofs.WriteLaws.{same_length as same_len}
 use Rattle.text.specs.Text.{write}
@@ -30,7 +30,7 @@ loop-again c =
     (omega (arith, l.loop.invariant.0), down_turn (λ l. chosen (stands a.t a.used a.fast l) 32) l.loop.l (l.loop.l - 1) _ _ _ (omega (arith, h)) p.put-level.ensures l.loop.invariant.1, same_len _ _ _ p.put-level.ensures ∙ l.loop.invariant.2)
 
 returns : tie.Need-returns invariant-loop decreases-loop
-unfolding byLevel
+unfolding by_level
 returns c =
     let a = c.before.before.before.args in
     down-done (λ l. chosen (stands a.t a.used a.fast l) 32) c.before.loop.l _ _ c.loop-test.false c.before.loop.invariant.1

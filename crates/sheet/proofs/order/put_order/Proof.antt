@@ -1,5 +1,5 @@
 -- That `put_order` of src/order.rt keeps its contract.
-use Rattle.sheet.specs.Order.{inOrder}
+use Rattle.sheet.specs.Order.{in_order}
 use Rattle.text.proofs.WriteLaws.{and_then, write-laid}
 use borrow.Author.Rules.{rules}
 use mathlib.Core.Path.{◌∙◌}
@@ -7,7 +7,7 @@ use Rattle.sheet.proofs.order.put_order.Statement.{statement}
 use Rattle.sheet.proofs.order.put_order.Tie as tie
 
 returns : tie.Need-returns
-unfolding inOrder
+unfolding in_order
 returns c =
     let c2 = c.before.before in
     let c1 = c2.before.before.before.before in

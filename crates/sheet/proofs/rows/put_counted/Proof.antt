@@ -1,13 +1,13 @@
 -- That `put_counted` of src/rows.rt keeps its contract.
 use Rattle.text.specs.Phrases.{bytes}
-use Rattle.sheet.specs.Rows.{traceRow}
+use Rattle.sheet.specs.Rows.{trace_row}
 use Rattle.text.proofs.WriteLaws.{and_then, same_length as same_len}
 use borrow.Author.Rules.{rules}
 use Rattle.sheet.proofs.rows.put_counted.Statement.{statement}
 use Rattle.sheet.proofs.rows.put_counted.Tie as tie
 
 returns : tie.Need-returns
-unfolding traceRow bytes
+unfolding trace_row bytes
 returns c =
     let c7 = c.before.before in
     let c6 = c7.before.before.before.before in

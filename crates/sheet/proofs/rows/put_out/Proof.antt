@@ -1,13 +1,13 @@
 -- That `put_out` of src/rows.rt keeps its contract.
 use Rattle.text.specs.Phrases.{bytes}
-use Rattle.sheet.specs.Rows.{leftOutRow}
+use Rattle.sheet.specs.Rows.{left_out_row}
 use Rattle.text.proofs.WriteLaws.{and_then, same_length as same_len}
 use borrow.Author.Rules.{rules}
 use Rattle.sheet.proofs.rows.put_out.Statement.{statement}
 use Rattle.sheet.proofs.rows.put_out.Tie as tie
 
 returns : tie.Need-returns
-unfolding leftOutRow bytes
+unfolding left_out_row bytes
 returns c =
     let c4 = c.before.before in
     let c3 = c4.before.before.before.before.before in

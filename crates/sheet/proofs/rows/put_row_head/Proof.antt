@@ -1,13 +1,13 @@
 -- That `put_row_head` of src/rows.rt keeps its contract.
 use Rattle.text.specs.Phrases.{bytes}
-use Rattle.sheet.specs.Rows.{rowHead}
+use Rattle.sheet.specs.Rows.{row_head}
 use Rattle.text.proofs.WriteLaws.{and_then, same_length as same_len}
 use borrow.Author.Rules.{rules}
 use Rattle.sheet.proofs.rows.put_row_head.Statement.{statement}
 use Rattle.sheet.proofs.rows.put_row_head.Tie as tie
 
 returns : tie.Need-returns
-unfolding rowHead bytes
+unfolding row_head bytes
 returns c =
     let c4 = c.before.before in
     let c3 = c4.before.before.before.before.before in

@@ -1,6 +1,6 @@
 -- That `put_ahead` of src/sources.rt keeps its contract.
 use Rattle.text.specs.Phrases.{bytes}
-use Rattle.sheet.specs.Sources.{aheadCell}
+use Rattle.sheet.specs.Sources.{ahead_cell}
 use Rattle.text.specs.Text.{write}
 use Rattle.words.proofs.ChoiceLaws.{by-false, by-true}
 use borrow.Author.Rules.{rules}
@@ -9,7 +9,7 @@ use Rattle.sheet.proofs.sources.put_ahead.Statement.{statement}
 use Rattle.sheet.proofs.sources.put_ahead.Tie as tie
 
 returns : tie.Need-returns
-unfolding aheadCell bytes
+unfolding ahead_cell bytes
 returns c =
     let p = c.before.before in
     let n = p.before.before.before.before in
@@ -17,7 +17,7 @@ returns c =
     (p.put-source-cell.ensures ∙ ap (write _) (by-true _ n.before.before.is_normal.ensures n.before.if1.true))
 
 returns-2 : tie.Need-returns-2
-unfolding aheadCell bytes
+unfolding ahead_cell bytes
 returns-2 c =
     let p = c.before.before in
     p.put-empty-cell.ensures ∙ ap (write _) (by-false _ p.before.before.before.before.is_normal.ensures p.before.before.before.if1.false)

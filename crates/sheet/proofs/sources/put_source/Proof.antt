@@ -1,13 +1,13 @@
 -- That `put_source` of src/sources.rt keeps its contract.
 use Rattle.text.specs.Phrases.{bytes}
-use Rattle.sheet.specs.Sources.{sourceRow}
+use Rattle.sheet.specs.Sources.{source_row}
 use Rattle.text.proofs.WriteLaws.{and_then, same_length as same_len}
 use borrow.Author.Rules.{rules}
 use Rattle.sheet.proofs.sources.put_source.Statement.{statement}
 use Rattle.sheet.proofs.sources.put_source.Tie as tie
 
 returns : tie.Need-returns
-unfolding sourceRow bytes
+unfolding source_row bytes
 returns c =
     let c5 = c.before.before in
     let c4 = c5.before.before.before.before.before in

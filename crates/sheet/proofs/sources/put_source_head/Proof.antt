@@ -1,13 +1,13 @@
 -- That `put_source_head` of src/sources.rt keeps its contract.
 use Rattle.text.specs.Phrases.{bytes}
-use Rattle.sheet.specs.Sources.{sourceHead}
+use Rattle.sheet.specs.Sources.{source_head}
 use Rattle.text.proofs.WriteLaws.{and_then, same_length as same_len}
 use borrow.Author.Rules.{rules}
 use Rattle.sheet.proofs.sources.put_source_head.Statement.{statement}
 use Rattle.sheet.proofs.sources.put_source_head.Tie as tie
 
 returns : tie.Need-returns
-unfolding sourceHead bytes
+unfolding source_head bytes
 returns c =
     let c4 = c.before.before in
     let c3 = c4.before.before.before.before.before in

@@ -1,13 +1,13 @@
 -- That `put_started` of src/sources.rt keeps its contract.
 use Rattle.text.specs.Phrases.{bytes}
-use Rattle.sheet.specs.Sources.{startedCells}
+use Rattle.sheet.specs.Sources.{started_cells}
 use Rattle.text.proofs.WriteLaws.{and_then, same_length as same_len}
 use borrow.Author.Rules.{rules}
 use Rattle.sheet.proofs.sources.put_started.Statement.{statement}
 use Rattle.sheet.proofs.sources.put_started.Tie as tie
 
 returns : tie.Need-returns
-unfolding startedCells bytes
+unfolding started_cells bytes
 returns c =
     let c7 = c.before.before in
     let c6 = c7.before.before.before.before.before.before in

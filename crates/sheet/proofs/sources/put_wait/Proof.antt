@@ -1,13 +1,13 @@
 -- That `put_wait` of src/sources.rt keeps its contract.
 use Rattle.text.specs.Phrases.{bytes}
-use Rattle.sheet.specs.Sources.{waitsRow}
+use Rattle.sheet.specs.Sources.{waits_row}
 use Rattle.text.proofs.WriteLaws.{and_then, same_length as same_len}
 use borrow.Author.Rules.{rules}
 use Rattle.sheet.proofs.sources.put_wait.Statement.{statement}
 use Rattle.sheet.proofs.sources.put_wait.Tie as tie
 
 returns : tie.Need-returns
-unfolding waitsRow bytes
+unfolding waits_row bytes
 returns c =
     let c9 = c.before.before in
     let c8 = c9.before.before.before.before.before in

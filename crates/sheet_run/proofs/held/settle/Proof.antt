@@ -5,7 +5,7 @@ use native.Mathlib.Omega.{arith}
 use lib.Seq.{length-take-le}
 use Rattle.totals.specs.declared.sheets.Sheet.{Sheet}
 use Rattle.sheet_run.specs.declared.progress.Sum.{Sum}
-use Rattle.sheet_run.proofs.PutLaws.{put-none, put-shut}
+use Rattle.sheet_run.proofs.PutLaws.{put-none, put_shut}
 use borrow.Author.Rules.{rules}
 use Rattle.sheet_run.proofs.held.settle.Statement.{statement}
 use Rattle.sheet_run.proofs.held.settle.Tie as tie
@@ -20,7 +20,7 @@ returns-2 : tie.Need-returns-2
 returns-2 c = (omega (arith, c.standing2.ensures.0, c.before.if2.true), put-none _ _ _ (ap (λ (m : Sum). m.sheet) c.standing2.ensures.1))
 
 returns-3 : tie.Need-returns-3
-returns-3 c = (omega (arith, c.standing3.ensures.0), put-shut _ _ _ (ap (λ (m : Sum). m.sheet) c.standing3.ensures.1 ∙ c.before.unopened.ensures))
+returns-3 c = (omega (arith, c.standing3.ensures.0), put_shut _ _ _ (ap (λ (m : Sum). m.sheet) c.standing3.ensures.1 ∙ c.before.unopened.ensures))
 
 pub settle-spec : {M : Type 1} → statement M
 settle-spec =

@@ -1,11 +1,11 @@
 -- That `has_forcing` of src/kept.rt keeps its contract.
-use Rattle.stack.specs.Kept.{sameForcing}
+use Rattle.stack.specs.Kept.{same_forcing}
 use borrow.Author.Rules.{rules}
 use Rattle.stack.proofs.kept.has_forcing.Statement.{statement}
 use Rattle.stack.proofs.kept.has_forcing.Tie as tie
 
 returns : tie.Need-returns
-unfolding sameForcing
+unfolding same_forcing
 returns c =
     rw (c.before.before.one-if.ensures, c.one-if2.ensures, c.before.before.before.has.ensures, c.before.has2.ensures)
 

@@ -4,14 +4,14 @@ use mathlib.Core.Path.{◌≡◌, sym, ◌∙◌}
 use mathlib.Core.Bool.{true}
 use native.Mathlib.Omega.{arith}
 use borrow.Author.Tests.{not-true}
-use Rattle.stack.specs.Kept.{sourceKeeps}
-use Rattle.stack.proofs.KeptLaws.{holds, next-keeps, unkept-here, unkept-end}
+use Rattle.stack.specs.Kept.{source_keeps}
+use Rattle.stack.proofs.KeptLaws.{holds, next-keeps, unkept_here, unkept_end}
 use borrow.Author.Rules.{rules}
 use Rattle.stack.proofs.kept.unkept.Statement.{statement}
 use Rattle.stack.proofs.kept.unkept.Tie as tie
 
 abbrev invariant-loop : tie.invariant-loop
-invariant-loop t s i₀ i = (i ≤ 32) × ((k : ℕ) → k < i → sourceKeeps t s k ≡ true)
+invariant-loop t s i₀ i = (i ≤ 32) × ((k : ℕ) → k < i → source_keeps t s k ≡ true)
 
 abbrev decreases-loop : tie.decreases-loop
 decreases-loop t s i₀ i = 32 - i
@@ -23,7 +23,7 @@ returns : tie.Need-returns invariant-loop decreases-loop
 returns c =
     let l = c.before.before.before.loop in
     let a = c.before.before.before.before.args in
-    unkept-here a.t a.s l.i c.before.before.loop-test.true l.invariant.1 (sym c.before.source_keeps.ensures ∙ not-true _ c.if1.true)
+    unkept_here a.t a.s l.i c.before.before.loop-test.true l.invariant.1 (sym c.before.source_keeps.ensures ∙ not-true _ c.if1.true)
 
 loop-again : tie.Need-loop-preserved invariant-loop decreases-loop
 loop-again c =
@@ -34,7 +34,7 @@ loop-again c =
 returns-2 : tie.Need-returns-2 invariant-loop decreases-loop
 returns-2 c =
     let a = c.before.before.args in
-    unkept-end a.t a.s c.before.loop.i c.before.loop.invariant.0 c.loop-test.false c.before.loop.invariant.1
+    unkept_end a.t a.s c.before.loop.i c.before.loop.invariant.0 c.loop-test.false c.before.loop.invariant.1
 
 pub unkept-spec : {M : Type 1} → statement M
 unkept-spec =

@@ -4,7 +4,7 @@ use mathlib.Core.Path.{sym, ap, ◌∙◌}
 use mathlib.Core.List.{List}
 use lib.Seq.{length-take-le}
 use lib.ListN.{replicate, length-replicate}
-use Rattle.tables.specs.Typed.{nthStart}
+use Rattle.tables.specs.Typed.{nth_start}
 use Rattle.tables.specs.Names.{behind}
 use Rattle.tables.proofs.BareLaws.{bare-whole, bare-fits}
 use borrow.Author.Rules.{rules}
@@ -24,7 +24,7 @@ returns : tie.Need-returns
 unfolding behind
 returns c =
     let a = c.before.before.before.before.before.before in
-    c.nth-start.ensures ∙ ap (λ (x : List ℕ). nthStart x (3 * a.args.i + 3)) (bare-whole a.args.text.now (replicate 65536 0) _ (rw (length-replicate {0} {A = ℕ} 65536 0) a.requires.0) c.before.before.before.strip.ensures)
+    c.nth-start.ensures ∙ ap (λ (x : List ℕ). nth_start x (3 * a.args.i + 3)) (bare-whole a.args.text.now (replicate 65536 0) _ (rw (length-replicate {0} {A = ℕ} 65536 0) a.requires.0) c.before.before.before.strip.ensures)
 
 pub find-behind-spec : {M : Type 1} → statement M
 find-behind-spec =

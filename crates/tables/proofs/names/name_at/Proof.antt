@@ -2,7 +2,7 @@
 use Prim.Native.Nat.{◌+◌}
 use native.Mathlib.Omega.{arith}
 use mathlib.Core.Path.{sym, ◌∙◌}
-use Rattle.tables.proofs.NameLaws.{run-most, named-as, named-yes, named-no}
+use Rattle.tables.proofs.NameLaws.{run-most, named_as, named-yes, named_no}
 use borrow.Author.Rules.{rules}
 use Rattle.tables.proofs.names.name_at.Statement.{statement}
 use Rattle.tables.proofs.names.name_at.Tie as tie
@@ -23,13 +23,13 @@ returns : tie.Need-returns
 returns c =
     let a = c.before.before.before.before.before.before.before.args in
     let n = c.before.before.before.before.before.run_of in
-    named-yes a.text.now a.at _ n.ensures (sym (named-as a.text.now a.at n.result _ _ _ _ n.ensures c.before.before.before.before.byte_or.ensures c.before.before.before.byte-or2.ensures c.before.before.byte-or3.ensures c.before.is_name.ensures) ∙ c.if1.true)
+    named-yes a.text.now a.at _ n.ensures (sym (named_as a.text.now a.at n.result _ _ _ _ n.ensures c.before.before.before.before.byte_or.ensures c.before.before.before.byte-or2.ensures c.before.before.byte-or3.ensures c.before.is_name.ensures) ∙ c.if1.true)
 
 returns-2 : tie.Need-returns-2
 returns-2 c =
     let a = c.before.before.before.before.before.before.before.args in
     let n = c.before.before.before.before.before.run_of in
-    named-no a.text.now a.at (sym (named-as a.text.now a.at n.result _ _ _ _ n.ensures c.before.before.before.before.byte_or.ensures c.before.before.before.byte-or2.ensures c.before.before.byte-or3.ensures c.before.is_name.ensures) ∙ c.if1.false)
+    named_no a.text.now a.at (sym (named_as a.text.now a.at n.result _ _ _ _ n.ensures c.before.before.before.before.byte_or.ensures c.before.before.before.byte-or2.ensures c.before.before.byte-or3.ensures c.before.is_name.ensures) ∙ c.if1.false)
 
 pub name-at-spec : {M : Type 1} → statement M
 name-at-spec =

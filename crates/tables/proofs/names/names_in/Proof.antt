@@ -5,7 +5,7 @@ use mathlib.Core.Path.{sym, ap, ◌∙◌}
 use lib.Seq.{length-take-le}
 use lib.ListN.{length, replicate, length-replicate}
 use Rattle.tables.specs.Named.{places_of}
-use Rattle.tables.proofs.NameLaws.{written-whole, written-fits, names-are}
+use Rattle.tables.proofs.NameLaws.{written-whole, written-fits, names_are}
 use borrow.Author.Rules.{rules}
 use Rattle.tables.proofs.names.names_in.Statement.{statement}
 use Rattle.tables.proofs.names.names_in.Tie as tie
@@ -29,7 +29,7 @@ returns c =
     let a = c.before.before.before.before.before.before.before.before.before.before in
     let p = c.before.before.before.before.take-names in
     c.names_at.ensures
-    ∙ names-are a.args.text.now p.result (p.ensures.1 ∙ ap places_of (written-whole a.args.text.now (replicate 65536 0) _ (rw (length-replicate {0} {A = ℕ} 65536 0) a.requires) c.before.before.before.before.before.before.before.put_all_lem.ensures))
+    ∙ names_are a.args.text.now p.result (p.ensures.1 ∙ ap places_of (written-whole a.args.text.now (replicate 65536 0) _ (rw (length-replicate {0} {A = ℕ} 65536 0) a.requires) c.before.before.before.before.before.before.before.put_all_lem.ensures))
 
 pub names-in-spec : {M : Type 1} → statement M
 names-in-spec =

@@ -2,13 +2,13 @@
 use Prim.Native.Nat.{ℕ, ◌≤◌, ◌<◌, ◌-◌}
 use mathlib.Core.Path.{◌≡◌}
 use mathlib.Core.Bool.{false}
-use Rattle.tables.proofs.NameLaws.{notName, run_is, run_more, not-name}
+use Rattle.tables.proofs.NameLaws.{not_name, run_is, run_more, not-name}
 use borrow.Author.Rules.{rules}
 use Rattle.tables.proofs.names.run_of.Statement.{statement}
 use Rattle.tables.proofs.names.run_of.Tie as tie
 
 abbrev invariant-loop : tie.invariant-loop
-invariant-loop text at k₀ k = (k ≤ 25) × ((j : ℕ) → j < k → notName text at j ≡ false)
+invariant-loop text at k₀ k = (k ≤ 25) × ((j : ℕ) → j < k → not_name text at j ≡ false)
 
 abbrev decreases-loop : tie.decreases-loop
 decreases-loop text at k₀ k = 25 - k

@@ -3,7 +3,7 @@ use Prim.Native.Nat.{ℕ, ◌≤◌, ◌<◌, ◌-◌}
 use mathlib.Core.Path.{◌≡◌, refl, sym, ◌∙◌}
 use mathlib.Core.Bool.{false}
 use native.Mathlib.Omega.{arith}
-use Rattle.tables.specs.Typed.{pastNth}
+use Rattle.tables.specs.Typed.{past_nth}
 use Rattle.tables.proofs.SeekLaws.{past-within}
 use Rattle.tables.proofs.ReadLaws.{next-is}
 use Rattle.tables.proofs.SlipLaws.{Over, next-over, over-is, over-more}
@@ -12,13 +12,13 @@ use Rattle.tables.proofs.slips.first_over.Statement.{statement}
 use Rattle.tables.proofs.slips.first_over.Tie as tie
 
 abbrev invariant-loop : tie.invariant-loop
-invariant-loop cleared past₀ n₀ past n = (n ≤ 98) × (past ≡ pastNth cleared n) × ((k : ℕ) → k < n → Over cleared k ≡ false)
+invariant-loop cleared past₀ n₀ past n = (n ≤ 98) × (past ≡ past_nth cleared n) × ((k : ℕ) → k < n → Over cleared k ≡ false)
 
 abbrev decreases-loop : tie.decreases-loop
 decreases-loop cleared past₀ n₀ past n = 98 - n
 
 loop-holds : tie.Need-loop-init invariant-loop decreases-loop
-loop-holds c = (search rules, unfold pastNth in refl, λ k l. absurd (search rules))
+loop-holds c = (search rules, unfold past_nth in refl, λ k l. absurd (search rules))
 
 read-next-requires : tie.Need-read-next-requires invariant-loop decreases-loop
 read-next-requires c κs = rw c.before.loop.invariant.1 (past-within _ _)

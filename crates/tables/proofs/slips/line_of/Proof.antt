@@ -4,7 +4,7 @@ use native.Mathlib.Omega.{arith}
 use mathlib.Core.Path.{◌≡◌}
 use lib.Dec.{eqb}
 use lib.ListN.{get_or}
-use Rattle.words.proofs.CountingLaws.{one-le}
+use Rattle.words.proofs.CountingLaws.{one_le}
 use Rattle.tables.specs.Slips.{line_of}
 use Rattle.tables.proofs.SlipLaws.{line_first, line-more, line-most, line-done}
 use borrow.Author.Rules.{rules}
@@ -24,7 +24,7 @@ add-lines : tie.Need-overflow-add-lines invariant-loop decreases-loop
 add-lines c =
     let l = c.before.before.loop in
     let a = c.before.before.before.before in
-    omega (arith, a.requires, l.invariant.0, l.invariant.1, line-most a.args.text.now l.k, c.feeds-at.ensures, one-le (eqb (get_or a.args.text.now l.k 0) 10))
+    omega (arith, a.requires, l.invariant.0, l.invariant.1, line-most a.args.text.now l.k, c.feeds-at.ensures, one_le (eqb (get_or a.args.text.now l.k 0) 10))
 
 loop-again : tie.Need-loop-preserved invariant-loop decreases-loop
 loop-again c =

@@ -4,25 +4,25 @@ use borrow.Author.Tests.{eq-eqb, ne_eqb}
 use Rattle.words.proofs.ChoiceLaws.{pick_true, pick-false}
 use Rattle.text.specs.Text.{write}
 use Rattle.text.specs.Phrases.{bytes}
-use Rattle.tables.specs.Slips.{expectedWords}
+use Rattle.tables.specs.Slips.{expected_words}
 use borrow.Author.Rules.{rules}
 use Rattle.tables.proofs.slips.put_expected.Statement.{statement}
 use Rattle.tables.proofs.slips.put_expected.Tie as tie
 
 returns : tie.Need-returns
-unfolding expectedWords bytes
+unfolding expected_words bytes
 returns c = c.before.before.put_all_lem.ensures ∙ ap (write _) (pick_true _ c.before.before.before.before.before.if1.true)
 
 returns-2 : tie.Need-returns-2
-unfolding expectedWords bytes
+unfolding expected_words bytes
 returns-2 c = c.before.before.put-all2.ensures ∙ ap (write _) (pick_true _ (eq-eqb _ _ c.before.before.before.before.before.if2.true) ∙ pick-false _ c.before.before.before.before.before.before.if1.false)
 
 returns-3 : tie.Need-returns-3
-unfolding expectedWords bytes
+unfolding expected_words bytes
 returns-3 c = c.before.before.put-all3.ensures ∙ ap (write _) (pick_true _ c.before.before.before.before.before.if3.true ∙ pick-false _ (ne_eqb _ _ c.before.before.before.before.before.before.if2.false) ∙ pick-false _ c.before.before.before.before.before.before.before.if1.false)
 
 returns-4 : tie.Need-returns-4
-unfolding expectedWords bytes
+unfolding expected_words bytes
 returns-4 c = c.before.before.put-all4.ensures ∙ ap (write _) (pick-false _ c.before.before.before.before.before.if3.false ∙ pick-false _ (ne_eqb _ _ c.before.before.before.before.before.before.if2.false) ∙ pick-false _ c.before.before.before.before.before.before.before.if1.false)
 
 pub put-expected-spec : {M : Type 1} → statement M

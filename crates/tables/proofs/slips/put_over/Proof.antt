@@ -8,14 +8,14 @@ use Rattle.text.specs.Text.{write}
 use Rattle.text.proofs.WriteLaws.{nothing, and_then}
 use Rattle.tables.proofs.SeekLaws.{past-within, nth-within}
 use Rattle.tables.proofs.ReadLaws.{next-is}
-use Rattle.tables.specs.Slips.{told, overLine}
+use Rattle.tables.specs.Slips.{told, over_line}
 use Rattle.tables.proofs.SlipLaws.{start-past, over-told}
 use borrow.Author.Rules.{rules}
 use Rattle.tables.proofs.slips.put_over.Statement.{statement}
 use Rattle.tables.proofs.slips.put_over.Tie as tie
 
 returns : tie.Need-returns
-unfolding overLine
+unfolding over_line
 returns c = nothing _ ∙ ap (write _) (pick_true _ (eq-eqb _ _ c.if1.true))
 
 read-next-requires : tie.Need-read-next-requires

@@ -11,13 +11,13 @@ use Rattle.text.proofs.WriteLaws.{write-laid}
 use Rattle.text.specs.Phrases.{bytes}
 use Rattle.tables.specs.Names.{cleared}
 use Rattle.tables.proofs.NameLaws.{length-cleared, written-whole, written-fits}
-use Rattle.tables.specs.Slips.{slipIn, slipLine}
+use Rattle.tables.specs.Slips.{slip_in, slip_line}
 use borrow.Author.Rules.{rules}
 use Rattle.tables.proofs.slips.put_slip.Statement.{statement}
 use Rattle.tables.proofs.slips.put_slip.Tie as tie
 
 returns : tie.Need-returns
-unfolding slipLine bytes
+unfolding slip_line bytes
 returns c = c.before.before.put_all_lem.ensures ∙ write-laid _ _ ∙ ap (laid _) (pick_true _ (lt-ltb _ _ c.before.before.before.before.before.if1.true))
 
 slice-aggregate-clear : tie.Need-slice-aggregate-clear
@@ -36,12 +36,12 @@ put-slip-in-requires c κs =
     omega (arith, length-cleared s, ap length (written-whole (cleared s) (replicate 65536 0) _ (rw (length-cleared s, length-replicate {0} {A = ℕ} 65536 0) l) c.before.before.before.clear.ensures))
 
 returns-2 : tie.Need-returns-2
-unfolding slipLine
+unfolding slip_line
 returns-2 c =
     let s = c.before.before.before.before.before.before.before.before.before.before.before.args.text.now in
     let l = c.before.before.before.before.before.before.before.before.if1.false in
     c.before.before.put-slip-in.ensures ∙ write-laid _ _
-    ∙ ap (laid _) (ap (slipIn s) (written-whole (cleared s) (replicate 65536 0) _ (rw (length-cleared s, length-replicate {0} {A = ℕ} 65536 0) l) c.before.before.before.before.before.before.clear.ensures) ∙ pick-false _ (le-ltb _ _ l))
+    ∙ ap (laid _) (ap (slip_in s) (written-whole (cleared s) (replicate 65536 0) _ (rw (length-cleared s, length-replicate {0} {A = ℕ} 65536 0) l) c.before.before.before.before.before.before.clear.ensures) ∙ pick-false _ (le-ltb _ _ l))
 
 pub put-slip-spec : {M : Type 1} → statement M
 put-slip-spec =

@@ -2,14 +2,14 @@
 use Prim.Native.Nat.{◌-◌}
 use mathlib.Core.Path.{◌≡◌, refl, sym, ◌∙◌}
 use lib.ListN.{length, drop}
-use Rattle.text.specs.Typed.{typedAfter, typed}
-use Rattle.text.proofs.TypedLaws.{digit-of, typed-on, typed-off, typed-done}
+use Rattle.text.specs.Typed.{typed_after, typed}
+use Rattle.text.proofs.TypedLaws.{digit_of, typed_on, typed-off, typed-done}
 use borrow.Author.Rules.{rules}
 use Rattle.text.proofs.arguments.number.Statement.{statement}
 use Rattle.text.proofs.arguments.number.Tie as tie
 
 abbrev invariant-loop : tie.invariant-loop
-invariant-loop text v₀ k₀ v k = typedAfter v (drop k text) ≡ typed text
+invariant-loop text v₀ k₀ v k = typed_after v (drop k text) ≡ typed text
 
 abbrev decreases-loop : tie.decreases-loop
 decreases-loop text v₀ k₀ v k = length text - k
@@ -23,10 +23,10 @@ returns c = typed-off _ _ _ c.before.before.before.loop-test.true (sym c.before.
 
 loop-again : tie.Need-loop-preserved invariant-loop decreases-loop
 loop-again c =
-    typed-on _ _ _ _ c.with-digit.ensures c.before.before.before.before.loop-test.true (sym c.before.before.goes_on.ensures ∙ c.before.if1.true) ∙ c.before.before.before.before.before.loop.invariant
+    typed_on _ _ _ _ c.with-digit.ensures c.before.before.before.before.loop-test.true (sym c.before.before.goes_on.ensures ∙ c.before.if1.true) ∙ c.before.before.before.before.before.loop.invariant
 
 with-digit-requires : tie.Need-with-digit-requires invariant-loop decreases-loop
-with-digit-requires c κs = digit-of _ _ (sym c.before.goes_on.ensures ∙ c.if1.true)
+with-digit-requires c κs = digit_of _ _ (sym c.before.goes_on.ensures ∙ c.if1.true)
 
 returns-2 : tie.Need-returns-2 invariant-loop decreases-loop
 returns-2 c = typed-done _ _ _ c.loop-test.false ∙ c.before.loop.invariant

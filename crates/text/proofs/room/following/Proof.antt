@@ -1,6 +1,6 @@
 -- That `following` of src/room.rt keeps its contract.
 use native.Mathlib.Omega.{arith}
-use Rattle.text.proofs.NumeralLaws.{numeral-next, numeral-fits}
+use Rattle.text.proofs.NumeralLaws.{numeral_next, numeral-fits}
 use borrow.Author.Rules.{rules}
 use Rattle.text.proofs.room.following.Statement.{statement}
 use Rattle.text.proofs.room.following.Tie as tie
@@ -16,7 +16,7 @@ add-t7 c =
 returns-2 : tie.Need-returns-2
 returns-2 c =
     let p = c.before.before in
-    numeral-next _ _ p.before.before.requires.0 p.if1.false
+    numeral_next _ _ p.before.before.requires.0 p.if1.false
 
 pub following-spec : {M : Type 1} → statement M
 following-spec =

@@ -1,11 +1,11 @@
 -- That `numbers_pass` of src/sheets.rt keeps its contract.
-use Rattle.totals.specs.Sheet.{numbersPass}
+use Rattle.totals.specs.Sheet.{numbers_pass}
 use borrow.Author.Rules.{rules}
 use Rattle.totals.proofs.sheets.numbers_pass.Statement.{statement}
 use Rattle.totals.proofs.sheets.numbers_pass.Tie as tie
 
 returns : tie.Need-returns
-unfolding numbersPass
+unfolding numbers_pass
 returns c =
     let d = c.before in
     let e = d.before in

@@ -4,7 +4,7 @@ use mathlib.Core.Path.{◌≡◌, sym, ap, ap₂, ◌∙◌}
 use mathlib.Core.Bool.{not, ◌||◌}
 use lib.Dec.{eqb}
 use Rattle.words.proofs.ChoiceLaws.{by-true, by-false}
-use Rattle.words.proofs.TruthLaws.{or-neither}
+use Rattle.words.proofs.TruthLaws.{or_neither}
 use Rattle.totals.specs.declared.Added.{Added as Summed}
 use Rattle.totals.specs.declared.waits.Added.{Added as Bounded}
 use Rattle.totals.specs.declared.sheets.Sheet.{Sheet}
@@ -31,8 +31,8 @@ together-requires c κs =
     let n = i.before.before.before in
     let w = n.before in
     sym n.numbers-pass.ensures
-    ∙ (or-neither n.numbers-pass.result (not (eqb w.before.add.result.refusal 0))
-    (or-neither (n.numbers-pass.result || not (eqb w.before.add.result.refusal 0)) (not (eqb w.add2.result.refusal 0)) i.if1.false).0).0
+    ∙ (or_neither n.numbers-pass.result (not (eqb w.before.add.result.refusal 0))
+    (or_neither (n.numbers-pass.result || not (eqb w.before.add.result.refusal 0)) (not (eqb w.add2.result.refusal 0)) i.if1.false).0).0
 
 returns-2 : tie.Need-returns-2
 unfolding summed

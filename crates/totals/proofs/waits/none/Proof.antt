@@ -1,11 +1,11 @@
 -- That `none` of src/waits.rt keeps its contract.
 use mathlib.Core.Path.{refl}
-use Rattle.totals.specs.Waits.{noWaits}
+use Rattle.totals.specs.Waits.{no_waits}
 use Rattle.totals.proofs.waits.none.Statement.{statement}
 use Rattle.totals.proofs.waits.none.Tie as tie
 
 returns : tie.Need-returns
-unfolding noWaits
+unfolding no_waits
 returns c = refl
 
 pub none_spec : {M : Type 1} → statement M

@@ -2,7 +2,7 @@
 use Prim.Native.Nat.{ℕ}
 use mathlib.Core.Path.{◌≡◌, ap, ◌∙◌}
 use Rattle.words.specs.Word.{bit}
-use Rattle.words.proofs.WordLaws.{bit-wordOf}
+use Rattle.words.proofs.WordLaws.{bit-word_of}
 use Rattle.totals.specs.Waits.{newly, together}
 use Rattle.totals.proofs.WaitLaws.{fits}
 use borrow.Author.Rules.{rules}
@@ -32,7 +32,7 @@ returns c =
       s1.sums.ensures,
       s2.sums2.ensures,
       s3.sums3.ensures,
-      f.chosen.ensures (newly a.a a.b) (λ i l. ap (λ (v : ℕ). bit v i) n.newly.ensures ∙ bit-wordOf 32 (newly a.a a.b) i l),
+      f.chosen.ensures (newly a.a a.b) (λ i l. ap (λ (v : ℕ). bit v i) n.newly.ensures ∙ bit-word_of 32 (newly a.a a.b) i l),
       t.terms-of.ensures,
     )
 

@@ -1,7 +1,7 @@
 -- That `by_kind` of src/turns.rt keeps its contract.
 use mathlib.Core.Path.{refl, sym, ◌∙◌}
 use native.Mathlib.Omega.{arith}
-use Rattle.trace.proofs.TurnsStepLaws.{read_found, other-found}
+use Rattle.trace.proofs.TurnsStepLaws.{read_found, other_found}
 use borrow.Author.Rules.{rules}
 use Rattle.trace.proofs.turns.by_kind.Statement.{statement}
 use Rattle.trace.proofs.turns.by_kind.Tie as tie
@@ -36,7 +36,7 @@ returns-5 c =
       λ n e.
           c.found2.ensures.0 b.requires.1.0
           ∙ sym
-          (other-found _ _ _ _ _ _ _ _ _ _ b.args.told y.before.if3.false b.requires.1.0 b.requires.1.1 e (a.short-in.ensures.0 p.before.if1.false)
+          (other_found _ _ _ _ _ _ _ _ _ _ b.args.told y.before.if3.false b.requires.1.0 b.requires.1.1 e (a.short-in.ensures.0 p.before.if1.false)
           (p.privilege-at.ensures.0 y.before.before.if2.false) (y.short-in2.ensures.0 c.before.if4.false)),
       omega (arith, c.found2.ensures.1, b.requires.1.1),
       λ n. c.found2.ensures.2 b.requires.1.0 (λ e. absurd (y.before.if3.false e)),

@@ -1,7 +1,7 @@
 -- That `quick` of src/turns.rt keeps its contract.
 use mathlib.Core.Path.{◌∙◌}
 use native.Mathlib.Omega.{arith}
-use Rattle.trace.proofs.TurnLaws.{turn_step, exact-as}
+use Rattle.trace.proofs.TurnLaws.{turn_step, exact_as}
 use borrow.Author.Rules.{rules}
 use Rattle.trace.proofs.turns.quick.Statement.{statement}
 use Rattle.trace.proofs.turns.quick.Tie as tie
@@ -20,7 +20,7 @@ returns-4 c =
     let t = c.quick-step.ensures in
     let x = c.before.before.before.before.before.args in
     let s = turn_step x.told x.trace.now x.at x.left (omega (arith, c.before.before.if2.false, c.before.before.before.if1.false)) c.before.if3.false in
-    (λ n. t.0 n ∙ s, t.1, λ n. exact-as _ _ (omega (arith, t.1, n)) (t.2 n) (t.0 n ∙ s))
+    (λ n. t.0 n ∙ s, t.1, λ n. exact_as _ _ (omega (arith, t.1, n)) (t.2 n) (t.0 n ∙ s))
 
 pub quick-spec : {M : Type 1} → statement M
 quick-spec =

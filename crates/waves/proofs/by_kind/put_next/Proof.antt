@@ -1,5 +1,5 @@
 -- That `put_next` of src/by_kind.rt keeps its contract.
-use Rattle.waves.proofs.KindLaws.{cut_fits, cut-long, next-cut}
+use Rattle.waves.proofs.KindLaws.{cut_fits, cut_long, next_cut}
 use borrow.Author.Rules.{rules}
 use Rattle.waves.proofs.by_kind.put_next.Statement.{statement}
 use Rattle.waves.proofs.by_kind.put_next.Tie as tie
@@ -8,11 +8,11 @@ array-share-prefix-w : tie.Need-array-share-prefix-w
 array-share-prefix-w c = cut_fits _ _ _ c.before.count.ensures c.before.before.widths.ensures
 
 slice-aggregate-put-next : tie.Need-slice-aggregate-put-next
-slice-aggregate-put-next c = cut-long _ _ _ c.before.before.count.ensures c.before.before.before.widths.ensures
+slice-aggregate-put-next c = cut_long _ _ _ c.before.before.count.ensures c.before.before.before.widths.ensures
 
 returns : tie.Need-returns
 returns c = let k = c.before.before.before.before.before.before.before in
-    next-cut _ _ _ k.count.ensures k.before.widths.ensures _ _ _ _ _ c.before.before.put_next.ensures
+    next_cut _ _ _ k.count.ensures k.before.widths.ensures _ _ _ _ _ c.before.before.put_next.ensures
 
 pub put-next-spec : {M : Type 1} → statement M
 put-next-spec =

@@ -4,11 +4,11 @@ use mathlib.Core.Path.{◌≡◌, ap, sym, ◌∙◌}
 use native.Mathlib.Omega.{arith}
 use lib.ListN.{length}
 use Rattle.text.specs.Text.{write}
-use Rattle.trace.specs.Trace.{stepsFrom}
-use Rattle.trace.proofs.TraceLaws.{turn-found}
+use Rattle.trace.specs.Trace.{steps_from}
+use Rattle.trace.proofs.TraceLaws.{turn_found}
 use Rattle.machine.specs.RecordPromises.{Ready}
 use Rattle.beginning.proofs.PlayLaws.{next-ready}
-use Rattle.waves.specs.Moments.{restFrom}
+use Rattle.waves.specs.Moments.{rest_from}
 use Rattle.waves.proofs.StepLaws.{rest_ended, ticked}
 use borrow.Author.Rules.{rules}
 use Rattle.waves.proofs.moments.put_steps.Statement.{statement}
@@ -16,7 +16,7 @@ use Rattle.waves.proofs.moments.put_steps.Tie as tie
 
 abbrev invariant-loop : tie.invariant-loop
 invariant-loop trace limit told start out₀ from before₀ at₀ m₀ more₀ number₀ to₀ out before at m more number to =
-    (write (out, to) (restFrom number before m (stepsFrom told more trace at)) ≡ write (out₀, from) (restFrom 0 before₀ m₀ (stepsFrom told limit trace start)))
+    (write (out, to) (rest_from number before m (steps_from told more trace at)) ≡ write (out₀, from) (rest_from 0 before₀ m₀ (steps_from told limit trace start)))
     × (length out ≡ length out₀) × (number + more ≡ limit) × Ready m
 
 abbrev decreases-loop : tie.decreases-loop
@@ -30,11 +30,11 @@ returns c = let p = c.before.before in
 -- a step is found only while something is left of the limit
 sub_more : tie.Need-overflow-sub-more invariant-loop decreases-loop
 sub_more c = let m = c.before.before.before.before.before in
-    omega (arith, (turn-found _ _ _ _ _ _ (sym m.turn_at.ensures ∙ c.before.before.before.x.given.1)).1.0)
+    omega (arith, (turn_found _ _ _ _ _ _ (sym m.turn_at.ensures ∙ c.before.before.before.x.given.1)).1.0)
 
 add-number : tie.Need-overflow-add-number invariant-loop decreases-loop
 add-number c = let m = c.before.before.before.before.before in
-    omega (arith, (turn-found _ _ _ _ _ _ (sym m.turn_at.ensures ∙ c.before.before.before.x.given.1)).1.0)
+    omega (arith, (turn_found _ _ _ _ _ _ (sym m.turn_at.ensures ∙ c.before.before.before.x.given.1)).1.0)
 
 put-step-requires : tie.Need-put-step-requires invariant-loop decreases-loop
 put-step-requires c κs = let a = c.before.before.before in
@@ -42,7 +42,7 @@ put-step-requires c κs = let a = c.before.before.before in
 
 loop-less : tie.Need-loop-smaller invariant-loop decreases-loop
 loop-less c = let a = c.before.before.before.before.before.before.before in
-    omega (arith, (turn-found _ _ _ _ _ _ (sym a.before.before.before.before.turn_at.ensures ∙ a.before.before.x.given.1)).1.0)
+    omega (arith, (turn_found _ _ _ _ _ _ (sym a.before.before.before.before.turn_at.ensures ∙ a.before.before.x.given.1)).1.0)
 
 loop-again : tie.Need-loop-preserved invariant-loop decreases-loop
 loop-again c = let p = c.before.before.before in
@@ -53,7 +53,7 @@ loop-again c = let p = c.before.before.before in
     let t = p.put_step.ensures in (
       ticked _ _ _ _ _ _ _ _ _ _ _ _ _ _ e a.step-sound.ensures t.1 t.0 l.invariant.0,
       search rules,
-      omega (arith, (turn-found _ _ _ _ _ _ e).1.0),
+      omega (arith, (turn_found _ _ _ _ _ _ e).1.0),
       next-ready _ _ _ a.step-sound.ensures l.invariant.3,
     )
 

@@ -2,17 +2,17 @@
 use mathlib.Core.Path.{ap}
 use mathlib.Core.List.{List, map}
 use Rattle.waves.specs.Signals.{Row, widths, eleven}
-use Rattle.waves.proofs.SignalLaws.{rows-aic, rows-core, rows-cic, rows-aintc, rows-indexed, rows_none}
+use Rattle.waves.proofs.SignalLaws.{rows_aic, rows_core, rows-cic, rows_aintc, rows-indexed, rows_none}
 use Rattle.waves.proofs.signals.widths.Statement.{statement}
 use Rattle.waves.proofs.signals.widths.Tie as tie
 
 returns : tie.Need-returns
 unfolding widths
-returns c = ap (λ (l : List Row). eleven (map (λ (r : Row). r.width) l)) ((rows-aic _ c.if1.true))
+returns c = ap (λ (l : List Row). eleven (map (λ (r : Row). r.width) l)) ((rows_aic _ c.if1.true))
 
 returns-2 : tie.Need-returns-2
 unfolding widths
-returns-2 c = ap (λ (l : List Row). eleven (map (λ (r : Row). r.width) l)) ((rows-core _ c.if2.true))
+returns-2 c = ap (λ (l : List Row). eleven (map (λ (r : Row). r.width) l)) ((rows_core _ c.if2.true))
 
 returns-3 : tie.Need-returns-3
 unfolding widths
@@ -20,7 +20,7 @@ returns-3 c = ap (λ (l : List Row). eleven (map (λ (r : Row). r.width) l)) ((r
 
 returns-4 : tie.Need-returns-4
 unfolding widths
-returns-4 c = ap (λ (l : List Row). eleven (map (λ (r : Row). r.width) l)) ((rows-aintc _ c.if4.true))
+returns-4 c = ap (λ (l : List Row). eleven (map (λ (r : Row). r.width) l)) ((rows_aintc _ c.if4.true))
 
 returns-5 : tie.Need-returns-5
 unfolding widths

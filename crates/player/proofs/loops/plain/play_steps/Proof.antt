@@ -2,8 +2,8 @@
 use Prim.Native.Nat.{◌+◌}
 use mathlib.Core.Path.{◌≡◌, sym, ◌∙◌}
 use native.Mathlib.Omega.{arith}
-use Rattle.trace.specs.Trace.{stepsFrom}
-use Rattle.trace.proofs.TraceLaws.{turn-found}
+use Rattle.trace.specs.Trace.{steps_from}
+use Rattle.trace.proofs.TraceLaws.{turn_found}
 use Rattle.machine.specs.RecordPromises.{Ready}
 use Rattle.beginning.specs.Play.{report}
 use Rattle.beginning.proofs.PlayLaws.{report-ended, played, next-ready}
@@ -13,7 +13,7 @@ use Rattle.player.proofs.loops.plain.play_steps.Tie as tie
 
 abbrev invariant-loop : tie.invariant-loop
 invariant-loop trace limit told start at₀ m₀ left₀ count₀ at m left count =
-    (report count m (stepsFrom told left trace at) ≡ report 0 m₀ (stepsFrom told limit trace start)) × (count + left ≡ limit) × Ready m
+    (report count m (steps_from told left trace at) ≡ report 0 m₀ (steps_from told limit trace start)) × (count + left ≡ limit) × Ready m
 
 abbrev decreases-loop : tie.decreases-loop
 decreases-loop trace limit told start at₀ m₀ left₀ count₀ at m left count = left
@@ -25,22 +25,22 @@ returns c = let m = c.before.before.before in
 -- a step is found only while something is left of the limit
 sub-left : tie.Need-overflow-sub-left invariant-loop decreases-loop
 sub-left c = let m = c.before.before.before.before.before in
-    omega (arith, (turn-found _ _ _ _ _ _ (sym m.turn_at.ensures ∙ c.before.before.before.x.given.1)).1.0)
+    omega (arith, (turn_found _ _ _ _ _ _ (sym m.turn_at.ensures ∙ c.before.before.before.x.given.1)).1.0)
 
 add-count : tie.Need-overflow-add-count invariant-loop decreases-loop
 add-count c = let m = c.before.before.before.before.before in
-    omega (arith, (turn-found _ _ _ _ _ _ (sym m.turn_at.ensures ∙ c.before.before.before.x.given.1)).1.0)
+    omega (arith, (turn_found _ _ _ _ _ _ (sym m.turn_at.ensures ∙ c.before.before.before.x.given.1)).1.0)
 
 loop-less : tie.Need-loop-smaller invariant-loop decreases-loop
 loop-less c = let m = c.before.before.before.before.before in
-    omega (arith, (turn-found _ _ _ _ _ _ (sym m.turn_at.ensures ∙ c.before.before.before.x.given.1)).1.0)
+    omega (arith, (turn_found _ _ _ _ _ _ (sym m.turn_at.ensures ∙ c.before.before.before.x.given.1)).1.0)
 
 loop-again : tie.Need-loop-preserved invariant-loop decreases-loop
 loop-again c = let m = c.before.before.before.before.before in
     let e = sym m.turn_at.ensures ∙ c.before.before.before.x.given.1 in
     let l = m.before.loop in (
       played _ _ _ _ _ _ _ _ _ _ e c.before.step-sound.ensures l.invariant.0,
-      omega (arith, (turn-found _ _ _ _ _ _ e).1.0),
+      omega (arith, (turn_found _ _ _ _ _ _ e).1.0),
       next-ready _ _ _ c.before.step-sound.ensures l.invariant.2,
     )
 
