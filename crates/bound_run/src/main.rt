@@ -1,5 +1,7 @@
 // Prints the waits of a source over the trace on standard input, each with its bound: the argument is the number of the source. Where there are none to be
 // listed, the trace cannot be read or the lines not be written, one line on standard error says so.
+#![tactic(auto)]
+
 ghost use Rattle.std.specs.Prelude.{◌≡◌, List, ℕ, ◌≤◌, length};
 ghost use Rattle.trace_bounds.specs.Listing.{boundText};
 

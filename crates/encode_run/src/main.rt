@@ -1,5 +1,7 @@
 // Prints the bytes of the trace that standard input has as text. Where the text is refused, nothing is printed, and one line on standard error says in which
 // line and what was expected; one line says so too where the text cannot be read, or the trace not be written.
+#![tactic(auto)]
+
 ghost use Rattle.std.specs.Prelude.{◌≡◌, length};
 
 use encode::Refusal;

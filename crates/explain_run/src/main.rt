@@ -1,6 +1,8 @@
 // Prints the explanation of the trace on standard input: its statements, and what each step that is played did. With two arguments it prints the lines of a
 // window: the first is the number of its first step, the second how many steps it has. Where an argument is no such number, the trace cannot be read or its
 // explanation not be written, one line on standard error says so.
+#![tactic(auto)]
+
 ghost use Rattle.std.specs.Prelude.{◌≡◌, List, ℕ, ◌≤◌, length};
 ghost use Rattle.words.specs.Choice.{pick};
 ghost use Rattle.text.specs.Text.{laid};

@@ -1,5 +1,7 @@
 // Prints the picture of a window of the trace on standard input, as SVG: the first argument is the number of its first step, the second how many steps it
 // has. Where there is no such picture, the trace cannot be read or the picture not be written, one line on standard error says so.
+#![tactic(auto)]
+
 ghost use Rattle.std.specs.Prelude.{◌≡◌, List, ℕ, ◌≤◌, length};
 ghost use Rattle.picture.specs.Picture.{pictureOf};
 

@@ -1,9 +1,11 @@
 // Reading a file, or standard input, into a room that the caller lends.
+#![tactic(auto)]
+
 ghost use Rattle.std.specs.Prelude.{◌≡◌, ◌≤◌, length};
 ghost use Rattle.reading.specs.Shifted.{shifted};
 
 // What came of reading: so many bytes at the start of the room, and whether it could not be opened or read.
-#[derive(Drop)]
+#[derive(Clone, Copy)]
 pub struct Came {
     pub bytes: usize,
     pub failed: bool,

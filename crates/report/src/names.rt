@@ -9,7 +9,7 @@ use super::{held, traces};
 
 // What is left of the names that were read: the place where a name begins that has no line feed yet, and the report after those before it, and whether
 // that name is passed over as too long.
-#[derive(Drop)]
+#[derive(Clone, Copy)]
 struct Rest {
     at: usize,
     skipping: bool,
@@ -17,7 +17,7 @@ struct Rest {
 }
 
 // The report after all names, and whether reading them failed.
-#[derive(Drop)]
+#[derive(Clone, Copy)]
 pub struct Taken {
     pub failed: bool,
     pub sum: Sum,

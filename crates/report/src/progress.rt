@@ -9,7 +9,7 @@ ghost use Rattle.report.specs.Promises.{Words};
 use totals::Totals;
 
 // The report so far: the totals, and whether every line of it could be written.
-#[derive(Drop)]
+#[derive(Clone, Copy)]
 pub struct Sum {
     pub totals: Totals,
     pub written: bool,

@@ -12,7 +12,7 @@ const SHOWN: usize = 4096;
 
 // How many bytes of a begun name stand at the start of the room, whether a name that is too long is passed over, whether more names may come, whether
 // reading them failed, and the sheet so far.
-#[derive(Drop)]
+#[derive(Clone, Copy)]
 pub struct State {
     pub held: usize,
     pub skipping: bool,

@@ -1,6 +1,8 @@
 // Prints the tuning sheet over the traces whose names stand on standard input, one to a line: the argument is the name of the typed table's file. The page's
 // beginning comes first, a row for each name as its trace is played, then all the rest. Of a table that is refused there is no page: one line on standard error
 // says why; so it does where the table or the names cannot be read, or the page cannot be written.
+#![tactic(auto)]
+
 ghost use Rattle.std.specs.Prelude.{◌≡◌, List, ℕ, ◌≤◌, length};
 ghost use Rattle.tables.specs.Slips.{slipLine};
 

@@ -9,7 +9,7 @@ use stack::Table;
 
 // What is left of the names that were read: the place where a name begins that has no line feed yet, and the sheet after those before it, and whether
 // that name is passed over as too long.
-#[derive(Drop)]
+#[derive(Clone, Copy)]
 struct Rest {
     at: usize,
     skipping: bool,
@@ -17,7 +17,7 @@ struct Rest {
 }
 
 // The sheet after all names, and whether reading them failed.
-#[derive(Drop)]
+#[derive(Clone, Copy)]
 pub struct Taken {
     pub failed: bool,
     pub sum: Sum,

@@ -5,7 +5,7 @@ ghost use Rattle.totals.specs.Sheet.{noSheet, leftUnopened};
 use totals::sheets::Sheet;
 
 // The sheet so far: its figures, and whether every row of it could be written.
-#[derive(Drop)]
+#[derive(Clone, Copy)]
 pub struct Sum {
     pub sheet: Sheet,
     pub written: bool,

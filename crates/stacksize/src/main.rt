@@ -1,5 +1,7 @@
 // Prints the stack size of the typed table on standard input; of a refused table also, on standard error, the line that leads to the slip. Where the
 // table cannot be read, or its line not be written, one line on standard error says so.
+#![tactic(auto)]
+
 ghost use Rattle.std.specs.Prelude.{◌≡◌, List, ℕ, ◌≤◌, length};
 ghost use Rattle.tables.specs.Reading.{answerTo};
 ghost use Rattle.tables.specs.Slips.{slipLine};

@@ -1,5 +1,7 @@
 // Prints the priority table that the trace on standard input leaves in an AIC, as it is typed. Where there is none, the trace cannot be read or the table not
 // be written, one line on standard error says so.
+#![tactic(auto)]
+
 ghost use Rattle.std.specs.Prelude.{◌≡◌, List, ℕ, ◌≤◌, length};
 ghost use Rattle.table_text.specs.Text.{text_of};
 

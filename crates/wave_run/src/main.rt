@@ -1,5 +1,7 @@
 // Prints the waves of the trace on standard input, a value change dump for a wave viewer. Where the trace cannot be read, or its waves not be written, one
 // line on standard error says so.
+#![tactic(auto)]
+
 ghost use Rattle.std.specs.Prelude.{◌≡◌, List, ℕ, ◌≤◌, length};
 ghost use Rattle.text.specs.Text.{laid};
 ghost use Rattle.waves.specs.Waves.{wavesOf};

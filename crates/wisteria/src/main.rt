@@ -1,4 +1,6 @@
 // Prints the listing of the trace on standard input. Where the trace cannot be read, or its listing not be written, one line on standard error says so.
+#![tactic(auto)]
+
 ghost use Rattle.std.specs.Prelude.{◌≡◌, List, ℕ, ◌≤◌, length};
 ghost use Rattle.text.specs.Text.{laid};
 ghost use Rattle.lines.specs.Listing.{listingOf};

@@ -1,6 +1,8 @@
 // Prints the report over the traces whose names stand on standard input, one to a line: a line for each name as its trace is played, then a line for each
 // source. Where the names cannot be read, or the report cannot be written, one line on standard error says so.
 
+#![tactic(auto)]
+
 fn main() {
     let mut names = room();
     let first = report::progress::none();
