@@ -7,41 +7,41 @@ ghost use Rattle.std.specs.Prelude.{◌≡◌, length};
 use encode::Refusal;
 
 // One byte more is read than a text may have, so that a longer one is told apart.
-fn main() {
+fn main(rt: HostRuntime) {
     let mut input = text_room();
-    let came = reading::read(0, &mut input);
+    let came = reading::read(&mut rt.reader(), &mut input);
     if came.failed {
-        tell(b"encode: the text could not be read\n");
+        tell(&rt, b"encode: the text could not be read\n");
         return;
     }
     let n = came.bytes;
-    print(&input[..n]);
+    print(&rt, &input[..n]);
 }
 
 // Writes the trace to standard output, or why there is none to standard error.
-fn print(text: &[u8]) {
+fn print(rt: &HostRuntime, text: &[u8]) {
     let mut out = [0u8; 65536];
     let e = encode::encode(text, &mut out);
     let r = e.refusal;
     let k = e.bytes;
     if r.expected != encode::statements::AS_IT_SHOULD_BE {
-        say(r);
+        say(rt, r);
         return;
     }
-    if !io::write_all(1, &out[..k]) {
-        tell(b"encode: the trace could not be written\n");
+    if rt.write_all(&out[..k]).is_err() {
+        tell(rt, b"encode: the trace could not be written\n");
     }
 }
 
 // The line of a refusal, which never has more bytes than this.
-fn say(r: Refusal) {
+fn say(rt: &HostRuntime, r: Refusal) {
     let mut line = [0u8; 120];
     let k = encode::put_refusal(&mut line, r);
-    tell(&line[..k]);
+    tell(rt, &line[..k]);
 }
 
-fn tell(what: &[u8]) {
-    io::write_all(2, what);
+fn tell(rt: &HostRuntime, what: &[u8]) {
+    let _ = rt.stderr().write_all(what);
 }
 
 // A room for the longest text and a byte more.

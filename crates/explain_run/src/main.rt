@@ -8,34 +8,44 @@ ghost use Rattle.words.specs.Choice.{pick};
 ghost use Rattle.text.specs.Text.{laid};
 ghost use Rattle.explain.specs.Explain.{explainedOf, explainedWindow};
 
+use std::env::FillError;
+use std::rt::Env;
+
 // The most steps that are played.
 const LIMIT: u32 = 20000;
 
 // One byte more is read than a trace may have, so that a longer one is told apart.
-fn main() {
-    let whole = os::arg_count() <= 1;
-    let first = argument(1);
-    let steps = argument(2);
+fn main(rt: HostRuntime) {
+    let whole = has_none(&rt);
+    let first = argument(&rt, 1);
+    let steps = argument(&rt, 2);
     if misses(whole, first, steps) {
         tell(
+            &rt,
             b"explain: a window is the number of its first step and how many steps it has, each a decimal number from 1 on\n",
         );
         return;
     }
     let mut input = [0u8; 65537];
-    let came = reading::read(0, &mut input);
+    let came = reading::read(&mut rt.reader(), &mut input);
     if came.failed {
-        tell(b"explain: the trace could not be read\n");
+        tell(&rt, b"explain: the trace could not be read\n");
         return;
     }
     let n = came.bytes;
-    print(&input[..n], whole, first, steps);
+    print(&rt, &input[..n], whole, first, steps);
+}
+
+// Whether no argument was given.
+fn has_none(rt: &HostRuntime) -> bool {
+    let mut none = [0u8; 1];
+    matches!(rt.arg(1, &mut none), Err(FillError::NotPresent))
 }
 
 // The number that the ith argument is; 0, which no window has, where it is none.
-fn argument(i: usize) -> u32 {
+fn argument(rt: &HostRuntime, i: usize) -> u32 {
     let mut typed = [0u8; 16];
-    let n = os::arg(i, &mut typed);
+    let n = rt.arg(i, &mut typed).unwrap_or(0);
     text::arguments::number(&typed[..n])
 }
 
@@ -48,16 +58,16 @@ fn misses(whole: bool, first: u32, steps: u32) -> bool {
 }
 
 // Writes the explanation to standard output.
-fn print(trace: &[u8], whole: bool, first: u32, steps: u32) {
+fn print(rt: &HostRuntime, trace: &[u8], whole: bool, first: u32, steps: u32) {
     let mut out = room();
     let k = explained(trace, whole, first, steps, &mut out);
-    if !io::write_all(1, &out[..k]) {
-        tell(b"explain: the explanation could not be written\n");
+    if rt.write_all(&out[..k]).is_err() {
+        tell(rt, b"explain: the explanation could not be written\n");
     }
 }
 
-fn tell(what: &[u8]) {
-    io::write_all(2, what);
+fn tell(rt: &HostRuntime, what: &[u8]) {
+    let _ = rt.stderr().write_all(what);
 }
 
 // What is printed of a whole trace, or of a window.

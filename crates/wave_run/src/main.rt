@@ -10,28 +10,28 @@ ghost use Rattle.waves.specs.Waves.{wavesOf};
 const LIMIT: u32 = 20000;
 
 // One byte more is read than a trace may have, so that a longer one is told apart.
-fn main() {
+fn main(rt: HostRuntime) {
     let mut input = [0u8; 65537];
-    let came = reading::read(0, &mut input);
+    let came = reading::read(&mut rt.reader(), &mut input);
     if came.failed {
-        tell(b"wave: the trace could not be read\n");
+        tell(&rt, b"wave: the trace could not be read\n");
         return;
     }
     let n = came.bytes;
-    print(&input[..n]);
+    print(&rt, &input[..n]);
 }
 
 // Writes the waves to standard output.
-fn print(trace: &[u8]) {
+fn print(rt: &HostRuntime, trace: &[u8]) {
     let mut out = room();
     let k = dumped(trace, &mut out);
-    if !io::write_all(1, &out[..k]) {
-        tell(b"wave: the waves could not be written\n");
+    if rt.write_all(&out[..k]).is_err() {
+        tell(rt, b"wave: the waves could not be written\n");
     }
 }
 
-fn tell(what: &[u8]) {
-    io::write_all(2, what);
+fn tell(rt: &HostRuntime, what: &[u8]) {
+    let _ = rt.stderr().write_all(what);
 }
 
 // The waves that are printed.

@@ -3,17 +3,17 @@
 
 #![tactic(auto)]
 
-fn main() {
+fn main(rt: HostRuntime) {
     let mut names = room();
     let first = report::progress::none();
-    let r = report::names::take(&mut names, first);
+    let r = report::names::take(&rt, &mut names, first);
     if r.failed {
-        tell(b"yearly: the names could not be read\n");
+        tell(&rt, b"yearly: the names could not be read\n");
         return;
     }
     let sum = r.sum;
-    if !report::progress::ended(sum) {
-        tell(b"yearly: the report could not be written\n");
+    if !report::progress::ended(&rt, sum) {
+        tell(&rt, b"yearly: the report could not be written\n");
     }
 }
 
@@ -22,6 +22,6 @@ fn room() -> [u8; 4097] {
     [0; 4097]
 }
 
-fn tell(what: &[u8]) {
-    io::write_all(2, what);
+fn tell(rt: &HostRuntime, what: &[u8]) {
+    let _ = rt.stderr().write_all(what);
 }
