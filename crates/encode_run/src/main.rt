@@ -2,13 +2,17 @@
 // line and what was expected; one line says so too where the text cannot be read, or the trace not be written.
 #![tactic(auto)]
 
-ghost use Rattle.std.specs.Prelude.{◌≡◌, length};
+ghost use Rattle.std.specs.Prelude.{◌≡◌, length, IfOk};
 
 use encode::Refusal;
+use std::alloc::{AllocError, Global};
 
 // One byte more is read than a text may have, so that a longer one is told apart.
 fn main(rt: HostRuntime) {
-    let mut input = text_room();
+    let Ok(mut input) = text_room(rt.alloc()) else {
+        tell(&rt, b"encode: there is no memory for the text\n");
+        return;
+    };
     let came = reading::read(&mut rt.reader(), &mut input);
     if came.failed {
         tell(&rt, b"encode: the text could not be read\n");
@@ -44,9 +48,9 @@ fn tell(rt: &HostRuntime, what: &[u8]) {
     let _ = rt.stderr().write_all(what);
 }
 
-// A room for the longest text and a byte more.
-fn text_room() -> [u8; 5242881]
-    ensures { 5242881 ≡ length result }
+// A room for the longest text and a byte more. It is on the heap, since a stack of 8 MB has no room for such an array and its copies.
+fn text_room(alloc: Global) -> Result<Vec<u8>, AllocError>
+    ensures { IfOk result (λ room. 5242881 ≡ length room.items) }
 {
-    [0; 5242881]
+    vec![in alloc; 0; 5242881]
 }

@@ -3,11 +3,12 @@
 // explanation not be written, one line on standard error says so.
 #![tactic(auto)]
 
-ghost use Rattle.std.specs.Prelude.{◌≡◌, List, ℕ, ◌≤◌, length};
+ghost use Rattle.std.specs.Prelude.{◌≡◌, List, ℕ, ◌≤◌, length, IfOk};
 ghost use Rattle.words.specs.Choice.{pick};
 ghost use Rattle.text.specs.Text.{laid};
 ghost use Rattle.explain.specs.Explain.{explainedOf, explainedWindow};
 
+use std::alloc::{AllocError, Global};
 use std::env::FillError;
 use std::rt::Env;
 
@@ -59,7 +60,10 @@ fn misses(whole: bool, first: u32, steps: u32) -> bool {
 
 // Writes the explanation to standard output.
 fn print(rt: &HostRuntime, trace: &[u8], whole: bool, first: u32, steps: u32) {
-    let mut out = room();
+    let Ok(mut out) = room(rt.alloc()) else {
+        tell(rt, b"explain: there is no memory for the explanation\n");
+        return;
+    };
     let k = explained(trace, whole, first, steps, &mut out);
     if rt.write_all(&out[..k]).is_err() {
         tell(rt, b"explain: the explanation could not be written\n");
@@ -80,11 +84,11 @@ fn explained(trace: &[u8], whole: bool, first: u32, steps: u32, out: &mut [u8]) 
     explain::explain_window(trace, LIMIT, first, steps, out)
 }
 
-// A buffer that any such explanation fits.
-fn room() -> [u8; 5242880]
-    ensures value { 5242880 ≡ length result }
-    ensures any { (s : List ℕ) → length (explainedOf s 20000) ≤ length result }
-    ensures window { (s : List ℕ) (first steps : ℕ) → length (explainedWindow s 20000 first steps) ≤ length result }
+// A buffer that any such explanation fits. It is on the heap, since a stack of 8 MB has no room for such an array and its copies.
+fn room(alloc: Global) -> Result<Vec<u8>, AllocError>
+    ensures value { IfOk result (λ out. 5242880 ≡ length out.items) }
+    ensures any { IfOk result (λ out. (s : List ℕ) → length (explainedOf s 20000) ≤ length out.items) }
+    ensures window { IfOk result (λ out. (s : List ℕ) (first steps : ℕ) → length (explainedWindow s 20000 first steps) ≤ length out.items) }
 {
-    [0; 5242880]
+    vec![in alloc; 0; 5242880]
 }

@@ -2,9 +2,11 @@
 // line on standard error says so.
 #![tactic(auto)]
 
-ghost use Rattle.std.specs.Prelude.{◌≡◌, List, ℕ, ◌≤◌, length};
+ghost use Rattle.std.specs.Prelude.{◌≡◌, List, ℕ, ◌≤◌, length, IfOk};
 ghost use Rattle.text.specs.Text.{laid};
 ghost use Rattle.waves.specs.Waves.{wavesOf};
+
+use std::alloc::{AllocError, Global};
 
 // The most steps that are played.
 const LIMIT: u32 = 20000;
@@ -23,7 +25,10 @@ fn main(rt: HostRuntime) {
 
 // Writes the waves to standard output.
 fn print(rt: &HostRuntime, trace: &[u8]) {
-    let mut out = room();
+    let Ok(mut out) = room(rt.alloc()) else {
+        tell(rt, b"wave: there is no memory for the waves\n");
+        return;
+    };
     let k = dumped(trace, &mut out);
     if rt.write_all(&out[..k]).is_err() {
         tell(rt, b"wave: the waves could not be written\n");
@@ -41,10 +46,10 @@ fn dumped(trace: &[u8], out: &mut [u8]) -> usize
     waves::waves(trace, LIMIT, out)
 }
 
-// A buffer that any such waves fit.
-fn room() -> [u8; 4280737]
-    ensures value { 4280737 ≡ length result }
-    ensures any { (s : List ℕ) → length (wavesOf s 20000) ≤ length result }
+// A buffer that any such waves fit. It is on the heap, since a stack of 8 MB has no room for such an array and its copies.
+fn room(alloc: Global) -> Result<Vec<u8>, AllocError>
+    ensures value { IfOk result (λ out. 4280737 ≡ length out.items) }
+    ensures any { IfOk result (λ out. (s : List ℕ) → length (wavesOf s 20000) ≤ length out.items) }
 {
-    [0; 4280737]
+    vec![in alloc; 0; 4280737]
 }
