@@ -1,4 +1,6 @@
 // The AT91 controller: its register map, its vector reads, its line steps and its outputs.
+#![tactic(auto)]
+
 ghost use Rattle.std.specs.Prelude.{◌≡◌, true};
 ghost use Rattle.aic_record.specs.Sound.{sound};
 ghost use Rattle.aic.specs.Model.{within, start, read, write, line, step, outputs};
@@ -11,14 +13,14 @@ use aic_registers::{Answer, answer_of, refusal_of};
 use steps::Step;
 
 // What a start answers: its refusal, and the record.
-#[derive(Drop)]
+#[derive(Clone, Copy)]
 pub struct Begun {
     pub refusal: u32,
     pub aic: Aic,
 }
 
 // The two outputs, active or not, and how many entries are open, handlers and marks.
-#[derive(Drop)]
+#[derive(Clone, Copy)]
 pub struct Signals {
     pub refusal: u32,
     pub irq: bool,

@@ -11,7 +11,7 @@ use aic_record::Aic;
 
 // What is observed of the wait that stands; what was observed of the first of the waits that have ended with the largest bound; how many waits have
 // begun, and how many of them have no bound; the first step by which one has none, 0 where all have one.
-#[derive(Drop)]
+#[derive(Clone, Copy)]
 pub struct Figures {
     pub bound: Bound,
     pub largest: Bound,

@@ -1,4 +1,6 @@
 // The bound of a wait of one source of the AT91 controller, told apart by its six terms and moved on step by step.
+#![tactic(auto)]
+
 ghost use Rattle.std.specs.Prelude.{◌≡◌, Bool, not, ◌&&◌, ◌||◌, ◌+◌, ◌-◌, ◌<◌, leb};
 ghost use Rattle.words.specs.Choice.{pick};
 ghost use Rattle.words.specs.Counting.{one, any_below};
@@ -22,7 +24,7 @@ use steps::Step;
 // How it stands with the wait of a source (0 it does not wait, 1 it is served, n + 2 it waits and n handlers of others were started), the word of its
 // rivals at the outset, those of them that count since they were enabled, the six terms so far, and the number of the step that rewrote a mode or a
 // forcing first, 0 while the bound holds.
-#[derive(Drop)]
+#[derive(Clone, Copy)]
 pub struct Bound {
     pub wait: u32,
     pub rivals: u32,
@@ -38,7 +40,7 @@ pub struct Bound {
 
 // What a step brings, as words of sources: edges, set commands to edge-triggered ones, turns of level-sensitive ones to active, and handlers of
 // level-sensitive ones closed while their lines are active; and whether it rewrote a mode or a forcing.
-#[derive(Drop)]
+#[derive(Clone, Copy)]
 pub struct Marks {
     pub edges: u32,
     pub commands: u32,

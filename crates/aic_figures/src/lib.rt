@@ -1,5 +1,7 @@
 // The figures of an AIC that stands in a room (02, 11/12), kept in a book beside it: a wait is the number of handlers started when it began, settled where
 // it ends, and a step after which the same sources ask and no entry has opened costs a test.
+#![tactic(auto)]
+
 ghost use Rattle.std.specs.Prelude.{◌≡◌, true, not, ◌&&◌, ◌||◌, ℕ, ◌+◌, ◌-◌, ◌<◌, ◌≤◌, max, eqb, ltb, length, get_or, set};
 ghost use Rattle.words.specs.Choice.{pick};
 ghost use Rattle.words.specs.Word.{bit, word_of};

@@ -1,4 +1,6 @@
 // The sources of the AT91 controller kept by level: a word for each priority, and a byte that says which words have any.
+#![tactic(auto)]
+
 ghost use Rattle.std.specs.Prelude.{◌≡◌, true, not, ◌&&◌, eqb, get_or};
 ghost use Rattle.words.specs.Counting.{all_below};
 ghost use Rattle.words.specs.Word.{bit, word_of};
@@ -16,14 +18,14 @@ use aic_record::Aic;
 pub mod table;
 
 // Bit k of word p: source k waits and has priority p. Bit p of `any`: word p is not 0.
-#[derive(Drop)]
+#[derive(Clone, Copy)]
 pub struct Levels {
     pub words: [u32; 8],
     pub any: u8,
 }
 
 // What a start answers: its refusal, the record and its levels.
-#[derive(Drop)]
+#[derive(Clone, Copy)]
 pub struct Begun {
     pub refusal: u32,
     pub aic: Aic,
@@ -31,7 +33,7 @@ pub struct Begun {
 }
 
 // What a step of a record and its levels answers: its refusal, the value read, and both after it.
-#[derive(Drop)]
+#[derive(Clone, Copy)]
 pub struct Answer {
     pub refusal: u32,
     pub value: u32,

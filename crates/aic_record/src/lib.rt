@@ -1,4 +1,6 @@
 // The AT91 controller's record: its registers, its line levels, its edge memories and its open entries.
+#![tactic(auto)]
+
 ghost use Rattle.std.specs.Prelude.{◌≡◌, not, ◌&&◌, ◌||◌, eqb, get_or, set};
 ghost use Rattle.words.specs.Choice.{pick};
 ghost use Rattle.words.specs.Counting.{all_below};
@@ -12,7 +14,7 @@ pub mod last;
 
 // One word has a bit for each of the 32 sources. `source` and `level` hold the open entries, the last one at `depth - 1`: handlers, and
 // spurious marks, whose source is 0.
-#[derive(Drop)]
+#[derive(Clone, Copy)]
 pub struct Aic {
     pub external: u32,
     pub lines: u32,
@@ -30,7 +32,7 @@ pub struct Aic {
 }
 
 // What a read of IVR in protect mode remembers: nothing (0), a source (1) with the priority and the vector that it had then, or that there was none (2).
-#[derive(Drop)]
+#[derive(Clone, Copy)]
 pub struct Seen {
     pub what: u32,
     pub source: u8,

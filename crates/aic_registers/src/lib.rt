@@ -1,4 +1,6 @@
 // The AT91 controller's registers: what each allows, what a read of it answers, and what a write of it or a line step does.
+#![tactic(auto)]
+
 ghost use Rattle.std.specs.Prelude.{◌≡◌};
 ghost use Rattle.aic_registers.specs.Handlers.{answered, refused};
 
@@ -10,7 +12,7 @@ pub mod registers;
 use aic_record::Aic;
 
 // What a step answers: its refusal, the value read, and the record after it.
-#[derive(Drop)]
+#[derive(Clone, Copy)]
 pub struct Answer {
     pub refusal: u32,
     pub value: u32,

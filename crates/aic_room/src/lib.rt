@@ -1,4 +1,6 @@
 // The steps and the outputs of an AT91 controller that stands in a room. What is refused leaves the room as it is.
+#![tactic(auto)]
+
 ghost use Rattle.std.specs.Prelude.{◌≡◌, true, ◌≤◌};
 ghost use Rattle.aic_record.specs.declared.Aic.{Aic};
 ghost use Rattle.aic_record.specs.Sound.{sound};

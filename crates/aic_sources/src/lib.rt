@@ -1,4 +1,6 @@
 // The AT91 controller's sources: which are pending, fast or candidates, which one is ahead of all others, and the two outputs.
+#![tactic(auto)]
+
 ghost use Rattle.std.specs.Prelude.{◌≡◌, not, ◌+◌, ◌*◌};
 ghost use Rattle.words.specs.Choice.{pick};
 ghost use Rattle.words.specs.Counting.{one};

@@ -1,5 +1,7 @@
 // What each source of the AT91 controller did over a run: handlers started, handlers started while it waited, entries open while it was open (02, 11/12).
 // Definitions and theorems; of code, how it stands with one source after a step by value. `aic_figures` follows all of them on the room.
+#![tactic(auto)]
+
 ghost use Rattle.std.specs.Prelude.{◌≡◌, ◌+◌, ◌<◌};
 ghost use Rattle.words.specs.Counting.{one};
 ghost use Rattle.words.specs.Word.{word_of};

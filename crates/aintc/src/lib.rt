@@ -1,4 +1,6 @@
 // The AINTC by value: its start, its steps and its outputs. A step lays the record into a room, is carried out there, and takes the record out again.
+#![tactic(auto)]
+
 ghost use Rattle.std.specs.Prelude.{◌≡◌, true};
 ghost use Rattle.rooms.specs.Reply.{told};
 ghost use Rattle.aintc_record.specs.declared.Aintc.{Aintc};

@@ -1,11 +1,13 @@
 // The AINTC's record: its registers, its line levels and the two chosen inputs (000, chapter 4).
+#![tactic(auto)]
+
 ghost use Rattle.std.specs.Prelude.{◌≡◌, get_or};
 ghost use Rattle.aintc_record.specs.Route.{priority_of};
 ghost use Rattle.aintc_record.specs.Record.{nobody, side, reset, blank};
 ghost use Rattle.aintc_record.specs.Bounds.{chosen_bounded, bounded};
 
 // The input that is chosen for an output, with the priority that it had then. While none is, both numbers are 0.
-#[derive(Drop)]
+#[derive(Clone, Copy)]
 pub struct Chosen {
     pub active: bool,
     pub number: u8,
@@ -14,7 +16,7 @@ pub struct Chosen {
 
 // Input k is bit k % 32 of word k / 32, and byte k of the routes: 2 * priority + 1 for FIQ, 2 * priority for IRQ. A mask of 1 masks.
 // `guarded` is the protection bit; `autoidle`, `turbo` and `funcidle` only gate clocks and have no effect here.
-#[derive(Drop)]
+#[derive(Clone, Copy)]
 pub struct Aintc {
     pub lines: [u32; 4],
     pub soft: [u32; 4],

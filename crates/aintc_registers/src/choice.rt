@@ -55,7 +55,7 @@ pub fn route_word(routes: &[u8; 128], base: u32, side: u8) -> u32
 // ---- the one before all others
 
 // What a search has come to: the best input so far, 128 if there is none, and the lowest priority that may take its place.
-#[derive(Drop)]
+#[derive(Clone, Copy)]
 pub struct Best {
     pub number: u32,
     pub limit: u8,

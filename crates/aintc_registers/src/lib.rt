@@ -1,5 +1,7 @@
 // The AINTC's registers: what each allows. What a read of one answers and what a write of it does is defined here; the code of that stands in
 // aintc_room.
+#![tactic(auto)]
+
 ghost use Rattle.std.specs.Prelude.{◌≡◌};
 ghost use Rattle.aintc_registers.specs.Registers.{refused};
 
@@ -10,7 +12,7 @@ pub mod model;
 use aintc_record::Aintc;
 
 // What a step answers: its refusal, the value read, and the record after it.
-#[derive(Drop)]
+#[derive(Clone, Copy)]
 pub struct Answer {
     pub refusal: u32,
     pub value: u32,

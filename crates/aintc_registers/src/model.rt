@@ -2,14 +2,14 @@
 use aintc_record::Aintc;
 
 // What a start answers: its refusal, and the record.
-#[derive(Drop)]
+#[derive(Clone, Copy)]
 pub struct Begun {
     pub refusal: u32,
     pub aintc: Aintc,
 }
 
 // The two outputs, active or not, and the input that is chosen for IRQ, 0 if none is.
-#[derive(Drop)]
+#[derive(Clone, Copy)]
 pub struct Signals {
     pub refusal: u32,
     pub irq: bool,

@@ -1,4 +1,6 @@
 // The AINTC in a room: what reads, writes and line steps do, and its outputs. What is refused leaves the room as it is.
+#![tactic(auto)]
+
 ghost use Rattle.std.specs.Prelude.{◌≡◌, true, ℕ, ◌<◌};
 ghost use Rattle.steps.specs.declared.Step.{Step};
 ghost use Rattle.aintc_record.specs.declared.Aintc.{Aintc};

@@ -1,4 +1,6 @@
 // How a trace begins: the machine that it names, and where its steps begin (01, "House trace"; 02, 2/12).
+#![tactic(auto)]
+
 ghost use Rattle.std.specs.Prelude.{◌≡◌};
 ghost use Rattle.beginning.specs.Begin.{refused_setup, setup_of, not_begun, by_setup, by_controller, begin_of};
 
@@ -9,7 +11,7 @@ use machine::record::Machine;
 use numbers::{Number, read_number};
 
 // The numbers of a configuration with the place after them, or the refusal with the place of the number at fault.
-#[derive(Drop)]
+#[derive(Clone, Copy)]
 pub struct Setup {
     pub refusal: u32,
     pub place: usize,
@@ -17,7 +19,7 @@ pub struct Setup {
 }
 
 // The machine at the first step with that step's place, or the refusal with its offset.
-#[derive(Drop)]
+#[derive(Clone, Copy)]
 pub struct Begun {
     pub refusal: u32,
     pub place: usize,

@@ -7,7 +7,7 @@ use super::Begun;
 use machine::record::Machine;
 
 // What a player reports: how many steps it played, refused ones among them, the machine after them, and the ending.
-#[derive(Drop)]
+#[derive(Clone, Copy)]
 pub struct Played {
     pub steps: u32,
     pub machine: Machine,

@@ -1,4 +1,6 @@
 // A board of up to eight CoreInterrupts by value: what is done to it and what it answers is defined in specs/Model.antt (02, 8/12).
+#![tactic(auto)]
+
 ghost use Rattle.std.specs.Prelude.{◌≡◌};
 ghost use Rattle.board.specs.Record.{empty};
 ghost use Rattle.board.specs.Model.{unless_refused, replied, checked, is_there, is_named, upward_refusal, add, connect, put_pin, read, write, silent, outputs, input, chain};
@@ -10,7 +12,7 @@ use coreinterrupt::{Core, Signals};
 use record::Answer;
 
 // What a question answers that changes nothing.
-#[derive(Drop)]
+#[derive(Clone, Copy)]
 pub struct Reply {
     pub refusal: u32,
     pub value: u32,

@@ -15,7 +15,7 @@ pub(crate) const INPUT_LIMIT: u32 = 40;
 pub(crate) const PIN_LIMIT: u32 = 320;
 
 // What a change or a register access answers.
-#[derive(Drop)]
+#[derive(Clone, Copy)]
 pub struct Answer {
     pub refusal: u32,
     pub value: u32,

@@ -1,6 +1,8 @@
 // Prints calls on boards of CoreInterrupts and what each was answered, one a line: first boards that were worked out by hand, then as many generated ones
 // as the number on standard input says (02, 8/12). No contract can say what stands on standard output: it is compared with the file `stdout`, and with an
 // independent model.
+#![tactic(auto)]
+
 mod cases;
 mod limits;
 mod lines;

@@ -4,7 +4,7 @@ use super::{lines, numbers, questions};
 use board_wires::Board;
 
 // A board, and the seed of what comes next.
-#[derive(Drop)]
+#[derive(Clone, Copy)]
 pub struct Tour {
     pub seed: u64,
     pub board: Board,

@@ -6,7 +6,7 @@ use super::{lines, questions, steps};
 use board_wires::Board;
 
 // What a tour does in one turn.
-#[derive(Drop)]
+#[derive(Clone, Copy)]
 enum Turn {
     Grow,
     Link,

@@ -1,4 +1,6 @@
 // The wires of a board of CoreInterrupts: its record, and what is read there of wires, pins and controllers (02, 8/12).
+#![tactic(auto)]
+
 ghost use Rattle.std.specs.Prelude.{◌≡◌, ◌<◌, ◌≤◌, ◌+◌, ltb};
 ghost use Rattle.words.specs.Choice.{pick};
 ghost use Rattle.board_wires.specs.Wires.{wire_of, wire_number, wire_in, pin_in, core_at, inputs_of, place_of};
@@ -9,7 +11,7 @@ pub mod pair;
 use coreinterrupt::Core;
 
 // What an input is wired to: nothing, a pin, or that activity of a controller.
-#[derive(Drop)]
+#[derive(Clone, Copy)]
 pub enum Wire {
     Nothing,
     Pin(u32),
@@ -19,7 +21,7 @@ pub enum Wire {
 
 // Input i of controller c is wire[40 * c + i]: 0 nothing, 1 + p pin p, 321 + d the IRQ of controller d, 329 + d its FIQ.
 // The controllers keep their lines low: the wires tell them.
-#[derive(Drop)]
+#[derive(Clone, Copy)]
 pub struct Board {
     pub controllers: u32,
     pub wire: [u16; 320],

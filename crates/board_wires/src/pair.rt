@@ -10,21 +10,21 @@ use coreinterrupt::Core;
 use coreinterrupt::sides::Side;
 
 // The values of the forty inputs: bit k of `irq` is input k, bit k of `fiq` is input 32 + k.
-#[derive(Drop)]
+#[derive(Clone, Copy)]
 pub struct Inputs {
     pub irq: u32,
     pub fiq: u32,
 }
 
 // Whether each output of a controller is active.
-#[derive(Drop)]
+#[derive(Clone, Copy)]
 pub struct Activities {
     pub irq: bool,
     pub fiq: bool,
 }
 
 // What was told of the lower controllers: bit d is that output of controller d.
-#[derive(Drop)]
+#[derive(Clone, Copy)]
 struct Told {
     irq: u32,
     fiq: u32,

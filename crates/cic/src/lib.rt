@@ -1,5 +1,7 @@
 // The KeyStone CIC without prioritisation, by value: start, reads, writes, lines, steps and outputs (01, CIC; 001). A step lays the record into a room,
 // is carried out there and takes the record out again.
+#![tactic(auto)]
+
 ghost use Rattle.std.specs.Prelude.{◌≡◌, true};
 ghost use Rattle.cic_record.specs.Sound.{within, sound};
 ghost use Rattle.cic_record.specs.Start.{start};

@@ -12,7 +12,7 @@ use cic_record::{Channel, Cic, Host, System};
 pub const NONE: u32 = 0x80000000;
 
 // What a search finds, and the status words of 32 system interrupts that it looks at.
-#[derive(Drop)]
+#[derive(Clone, Copy)]
 pub struct Found {
     pub index: u32,
     pub words: u32,

@@ -1,4 +1,6 @@
 // What a CIC with prioritised indices holds beside its record: the start, which records are sound, and words as they are held (02, 6/12; 001, 1.3.5 and 2.2.2).
+#![tactic(auto)]
+
 ghost use Rattle.std.specs.Prelude.{◌≡◌, ◌&&◌, ◌-◌, ◌≤◌, eqb, ltb, get_or};
 ghost use Rattle.words.specs.Counting.{all_below};
 ghost use Rattle.cic_record.specs.Kinds.{system};
@@ -10,7 +12,7 @@ use cic_record::{Cic, Host, System};
 
 // Whether prioritisation is chosen, whether a read of an index holds it, and what is held for the global index and for that of each host: 0 where
 // nothing is, 1 for the word of none, s + 2 for system interrupt s.
-#[derive(Drop)]
+#[derive(Clone, Copy)]
 pub struct Held {
     pub choice: u32,
     pub hold: u32,
@@ -19,21 +21,21 @@ pub struct Held {
 }
 
 // A CIC, and what is held beside it.
-#[derive(Drop)]
+#[derive(Clone, Copy)]
 pub struct Prioritised {
     pub cic: Cic,
     pub held: Held,
 }
 
 // What a start answers: its refusal, and the record.
-#[derive(Drop)]
+#[derive(Clone, Copy)]
 pub struct Begun {
     pub refusal: u32,
     pub prioritised: Prioritised,
 }
 
 // What a step answers: its refusal, the value read, and the record after it.
-#[derive(Drop)]
+#[derive(Clone, Copy)]
 pub struct Answer {
     pub refusal: u32,
     pub value: u32,

@@ -1,5 +1,7 @@
 // The CIC with prioritised indices: which registers only it has, and the definitions of its steps with what is promised of them
 // (02, 6/12; 001, 2.2.2, 2.2.10 and 2.2.17). The code of the steps stands in indexed_room, and by value in cic_prioritised.
+#![tactic(auto)]
+
 ghost use Rattle.std.specs.Prelude.{◌≡◌, get_or};
 ghost use Rattle.cic_indexed.specs.Registers.{host_access};
 
@@ -8,7 +10,7 @@ use cic_record::Host;
 use steps::Access;
 
 // Which of them stands at an offset; any other offset is the CIC's.
-#[derive(Drop)]
+#[derive(Clone, Copy)]
 pub enum Own {
     Elsewhere,
     Control,

@@ -1,5 +1,7 @@
 // The KeyStone CIC with prioritised indices by value: start, reads, writes, line steps, steps and outputs (02, 6/12; 001, 1.3.5). A step lays the record into
 // a room, is carried out there and takes the record out again.
+#![tactic(auto)]
+
 ghost use Rattle.std.specs.Prelude.{◌≡◌, true};
 ghost use Rattle.rooms.specs.Reply.{told};
 ghost use Rattle.cic_registers.specs.Hosts.{asserted};

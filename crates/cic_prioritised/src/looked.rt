@@ -13,7 +13,7 @@ use cic_record::{Cic, Host};
 use steps::{Access, Step};
 
 // What a read would answer, and the status words of 32 system interrupts that it would look at.
-#[derive(Drop)]
+#[derive(Clone, Copy)]
 pub struct Looked {
     pub refusal: u32,
     pub value: u32,

@@ -1,4 +1,6 @@
 // The CIC's record, its three kinds of number, the start, and which records are sound (01, CIC).
+#![tactic(auto)]
+
 ghost use Rattle.std.specs.Prelude.{◌≡◌, true, false, ◌&&◌, ◌+◌, ◌-◌, ◌≤◌, eqb, ltb, leb, get_or, length};
 ghost use Rattle.words.specs.Array.{clean_below};
 ghost use Rattle.words.specs.Counting.{all_below};
@@ -7,18 +9,18 @@ ghost use Rattle.cic_record.specs.Sound.{between, within, words_sound, entry_sou
 ghost use Rattle.cic_record.specs.Start.{fresh, configured, start};
 
 // A system interrupt, a channel and a host interrupt count three separate things: none can be passed for another.
-#[derive(Drop)]
+#[derive(Clone, Copy)]
 pub struct System(pub u16);
 
-#[derive(Drop)]
+#[derive(Clone, Copy)]
 pub struct Channel(pub u16);
 
-#[derive(Drop)]
+#[derive(Clone, Copy)]
 pub struct Host(pub u16);
 
 // One bit of `lines`, `status` and `enable` and one byte of `channel` for each system interrupt,
 // one byte of `host` for each channel, one bit of `allow` for each host interrupt.
-#[derive(Drop)]
+#[derive(Clone, Copy)]
 pub struct Cic {
     pub systems: u32,
     pub channels: u32,
@@ -34,7 +36,7 @@ pub struct Cic {
 }
 
 // The configured numbers, which no step changes.
-#[derive(Drop)]
+#[derive(Clone, Copy)]
 pub struct Size {
     pub systems: u32,
     pub channels: u32,
@@ -43,14 +45,14 @@ pub struct Size {
 }
 
 // What a start answers.
-#[derive(Drop)]
+#[derive(Clone, Copy)]
 pub struct Begun {
     pub refusal: u32,
     pub cic: Cic,
 }
 
 // What a step answers.
-#[derive(Drop)]
+#[derive(Clone, Copy)]
 pub struct Answer {
     pub refusal: u32,
     pub value: u32,
@@ -58,14 +60,14 @@ pub struct Answer {
 }
 
 // What a step answers without the record after it.
-#[derive(Drop)]
+#[derive(Clone, Copy)]
 pub struct Reply {
     pub refusal: u32,
     pub value: u32,
 }
 
 // How many hosts are asserted, and the lowest of them, 256 where none is.
-#[derive(Drop)]
+#[derive(Clone, Copy)]
 pub struct Signals {
     pub refusal: u32,
     pub hosts: u32,

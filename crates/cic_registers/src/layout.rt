@@ -3,7 +3,7 @@ ghost use Rattle.std.specs.Prelude.{◌≡◌};
 ghost use Rattle.cic_registers.specs.Map.{single_at, register_at};
 
 // The registers of 001, table 2-1, in its order; a register of a group with its number in the group.
-#[derive(Drop)]
+#[derive(Clone, Copy)]
 pub enum Register {
     Nothing,
     Revision,

@@ -1,4 +1,6 @@
 // The CIC in a room: what reads, writes and line steps do, and its outputs. What is refused leaves the room as it is.
+#![tactic(auto)]
+
 ghost use Rattle.std.specs.Prelude.{◌≡◌, true, ℕ};
 ghost use Rattle.cic_record.specs.declared.Cic.{Cic};
 ghost use Rattle.cic_record.specs.Sound.{sound};

@@ -1,4 +1,6 @@
 // CoreInterrupt by value: the model of 01, "CoreInterrupt". What each function answers is defined in specs/Model.antt.
+#![tactic(auto)]
+
 ghost use Rattle.std.specs.Prelude.{◌≡◌, true};
 ghost use Rattle.coreinterrupt.specs.Model.{side, with_side, sound, within, all_within, start, answered, refused, unless_refused, register, access, value_at, written, read, write, input, line_moved, line, step, outputs};
 
@@ -6,21 +8,21 @@ pub mod sides;
 
 // The controller: its FIQ side and its IRQ side.
 #[repr(C)]
-#[derive(Drop)]
+#[derive(Clone, Copy)]
 pub struct Core {
     pub fiq: sides::Side,
     pub irq: sides::Side,
 }
 
 // What a start answers.
-#[derive(Drop)]
+#[derive(Clone, Copy)]
 pub struct Begun {
     pub refusal: u32,
     pub core: Core,
 }
 
 // What a step answers.
-#[derive(Drop)]
+#[derive(Clone, Copy)]
 pub struct Answer {
     pub refusal: u32,
     pub value: u32,
@@ -28,7 +30,7 @@ pub struct Answer {
 }
 
 // Whether each output is active, and at which level it is.
-#[derive(Drop)]
+#[derive(Clone, Copy)]
 pub struct Signals {
     pub refusal: u32,
     pub irq: bool,

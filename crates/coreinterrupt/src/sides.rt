@@ -4,7 +4,7 @@ ghost use Rattle.coreinterrupt.specs.Side.{idle, with_inputs, with_soft, with_en
 
 // One side, FIQ or IRQ: how many sources it has, the active level of its output, its lines and its two stored registers.
 #[repr(C)]
-#[derive(Drop)]
+#[derive(Clone, Copy)]
 pub struct Side {
     pub count: u32,
     pub level: u32,

@@ -5,7 +5,7 @@ ghost use Rattle.coreinterrupt_room.specs.Lent.{start_over, step_told};
 
 // What a step or a start answers; the record stays with the caller.
 #[repr(C)]
-#[derive(Drop)]
+#[derive(Clone, Copy)]
 pub struct Reply {
     pub refusal: u32,
     pub value: u32,

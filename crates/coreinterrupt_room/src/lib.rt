@@ -1,4 +1,6 @@
 // CoreInterrupt in a room: where each number of its record stands, its steps and its outputs. What is refused leaves the room as it is.
+#![tactic(auto)]
+
 ghost use Rattle.std.specs.Prelude.{◌≡◌, true, ◌<◌, eqb, ltb};
 ghost use Rattle.words.specs.Choice.{pick};
 ghost use Rattle.words.specs.Word.{with_bit};

@@ -1,4 +1,6 @@
 // What a step did, in words, by the machine before it and the one after it, and which outputs it changed (docs/TEXT.md).
+#![tactic(auto)]
+
 ghost use Rattle.std.specs.Prelude.{◌≡◌, ◌++◌, ℕ, ◌<◌, not, ◌&&◌};
 ghost use Rattle.words.specs.Array.{bit_at};
 ghost use Rattle.text.specs.Text.{write};

@@ -1,4 +1,6 @@
 // The nesting of an AIC as a drawing, SVG, in a buffer that the caller lends.
+#![tactic(auto)]
+
 ghost use Rattle.std.specs.Prelude.{◌≡◌, [], ◌≤◌, ◌<◌, ◌-◌, ◌/◌, ◌%◌, length, get_or};
 ghost use Rattle.words.specs.Choice.{pick};
 ghost use Rattle.text.specs.Text.{write, laid};

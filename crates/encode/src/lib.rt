@@ -1,5 +1,7 @@
 // A trace that is typed as text, a statement to a line, as bytes in a buffer that the caller lends; or what was expected in the text, and in which line
 // (docs/TEXT.md).
+#![tactic(auto)]
+
 ghost use Rattle.std.specs.Prelude.{◌≡◌, ◌≤◌};
 ghost use Rattle.text.specs.Text.{write, laid};
 ghost use Rattle.encode.specs.Encode.{longest_trace, room_for, line_of, ended_by, encoded};
@@ -10,7 +12,7 @@ pub mod statements;
 use statements::Statement;
 
 // What was expected, 0 where nothing else was; the line, and the word in it, each counted from 1.
-#[derive(Drop)]
+#[derive(Clone, Copy)]
 pub struct Refusal {
     pub expected: u32,
     pub line: usize,
@@ -18,7 +20,7 @@ pub struct Refusal {
 }
 
 // What came of a text: its refusal, and how many bytes of the statements before that, or of all, are in the buffer.
-#[derive(Drop)]
+#[derive(Clone, Copy)]
 pub struct Encoded {
     pub refusal: Refusal,
     pub bytes: usize,

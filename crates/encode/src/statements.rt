@@ -10,7 +10,7 @@ ghost use Rattle.encode.specs.Statements.{statement_in, statement_of, numbers_of
 
 // What a line says: what was expected in it and as which word, counted from 1; the controller's kind behind it; the number of its first word, how many
 // words it has, and how many bytes they take.
-#[derive(Drop)]
+#[derive(Clone, Copy)]
 pub struct Statement {
     pub expected: u32,
     pub word: usize,
@@ -21,7 +21,7 @@ pub struct Statement {
 }
 
 // What the first word of a statement says: whether it is one, the controller's kind, its own number, and how many numbers follow it.
-#[derive(Drop)]
+#[derive(Clone, Copy)]
 struct Opening {
     expected: u32,
     kind: u32,
@@ -30,7 +30,7 @@ struct Opening {
 }
 
 // How many words behind the first are numbers, where the next one begins, and how many bytes the numbers take.
-#[derive(Drop)]
+#[derive(Clone, Copy)]
 struct Numbers {
     count: u32,
     start: usize,

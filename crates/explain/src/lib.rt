@@ -1,5 +1,7 @@
 // A trace explained, as text in a buffer that the caller lends: the statement of each step that is played, and what it did in the maker's words
 // (docs/TEXT.md, "A trace explained").
+#![tactic(auto)]
+
 ghost use Rattle.std.specs.Prelude.{◌≡◌, [], ◌∷◌, ◌++◌, ◌%◌, replicate};
 ghost use Rattle.words.specs.Choice.{pick};
 ghost use Rattle.steps.specs.Refusals.{carried_out};
@@ -24,7 +26,7 @@ use text::NEWLINE;
 use trace::Turn;
 
 // All lines; or those of `steps` steps from the step `first` on, counted from 1, and nothing else.
-#[derive(Drop)]
+#[derive(Clone, Copy)]
 pub struct Window {
     pub whole: bool,
     pub first: u32,
@@ -32,7 +34,7 @@ pub struct Window {
 }
 
 // A number of a trace and the place behind it; 0 and its own place where it is damaged.
-#[derive(Drop)]
+#[derive(Clone, Copy)]
 struct Said {
     value: u32,
     place: usize,

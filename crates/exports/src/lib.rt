@@ -1,6 +1,8 @@
 // The player, the listing, the words that a read looks at, the figures of a trace, the bounds of the waits of a source, the stack size of a typed table,
 // and CoreInterrupt on a lent record, for callers in Rust and C. A slice goes as a pointer and a length, in this order; a length and an offset are of the
 // width of a pointer. include/wisteria.h declares the functions for C, and says what a caller answers for.
+#![tactic(auto)]
+
 ghost use Rattle.std.specs.Prelude.{◌≡◌, [], ◌∷◌, ℕ};
 ghost use Rattle.text.specs.Text.{laid};
 ghost use Rattle.beginning.specs.Play.{play_of};

@@ -1,4 +1,6 @@
 // The CIC with prioritised indices in a room: what reads, writes and line steps do, and its outputs. What is refused leaves the room as it is.
+#![tactic(auto)]
+
 ghost use Rattle.std.specs.Prelude.{◌≡◌, true};
 ghost use Rattle.rooms.specs.Reply.{told};
 ghost use Rattle.trace.specs.Turns.{step_of};

@@ -1,12 +1,14 @@
 // The kinds of controller: the number and the name of each, the numbers that configure it, and whether its steps tell a privilege. What a kind does is
 // `machine`'s; above it only `player` and `listing` tell one kind from another, to choose its loop (01, "House trace"; 02, 2/12 and 6/12).
+#![tactic(auto)]
+
 ghost use Rattle.std.specs.Prelude.{◌≡◌};
 ghost use Rattle.text.specs.Text.{write};
 ghost use Rattle.kinds.specs.Kinds.{is_kind, wanted, within, tells_privilege, name};
 ghost use Rattle.kinds.specs.Configuration.{no_numbers, with_number};
 
 // The numbers of a configuration in their order; one that was not put yet is 0.
-#[derive(Drop)]
+#[derive(Clone, Copy)]
 pub struct Configuration {
     pub numbers: [u32; 5],
 }

@@ -1,4 +1,6 @@
 // The lines of a listing, as text in a buffer that the caller lends (01, "House trace").
+#![tactic(auto)]
+
 ghost use Rattle.std.specs.Prelude.{◌≡◌, true, [], ◌∷◌, ◌++◌, ◌+◌, ◌/◌, ◌^◌, ◌<◌, ◌≤◌, eqb, length};
 ghost use Rattle.std.specs.Int.Bits.{bit_or};
 ghost use Rattle.words.specs.Choice.{pick};

@@ -1,4 +1,6 @@
 // The listing of a recorded trace, as text in a buffer that the caller lends (01, "House trace"; 02, 2/12).
+#![tactic(auto)]
+
 ghost use Rattle.std.specs.Prelude.{◌≡◌};
 ghost use Rattle.steps.specs.Refusals.{carried_out};
 ghost use Rattle.text.specs.Text.{write, laid};

@@ -1,6 +1,8 @@
 // The steps of one controller of any kind. What a new kind does comes here, its record, start and columns to `machine_record`, its number, name and
 // configuration to `kinds`; of the crates above `player` and `listing` may choose a loop for it, and play it without one (01, "House trace"; 02, 2/12
 // and 6/12).
+#![tactic(auto)]
+
 ghost use Rattle.std.specs.Prelude.{◌≡◌, true};
 ghost use Rattle.aic_record.specs.Sound.{sound as aic_sound};
 ghost use Rattle.aic.specs.Model.{step as aic_step};
@@ -20,7 +22,7 @@ use record::Machine;
 use steps::Recorded;
 
 // The refusal, 0 for none, the value read, and the machine after the step.
-#[derive(Drop)]
+#[derive(Clone, Copy)]
 pub struct Answer {
     pub refusal: u32,
     pub value: u32,

@@ -13,7 +13,7 @@ use kinds::Configuration;
 
 // The record of each kind; only that of the machine's own kind is ever used. A CIC with prioritised indices has its own in two parts: `cic`, and in
 // `held` what is held beside it.
-#[derive(Drop)]
+#[derive(Clone, Copy)]
 pub struct Machine {
     pub kind: u32,
     pub aic: Aic,
@@ -24,7 +24,7 @@ pub struct Machine {
 }
 
 // The three numbers of a listing's line.
-#[derive(Drop)]
+#[derive(Clone, Copy)]
 pub struct Columns {
     pub first: u32,
     pub second: u32,

@@ -15,7 +15,7 @@ use machine::record::Machine;
 use rooms::Room;
 
 // The three numbers of a listing's line, or the refusal.
-#[derive(Drop)]
+#[derive(Clone, Copy)]
 pub struct Shown {
     pub refusal: u32,
     pub first: u32,

@@ -1,5 +1,7 @@
 // A controller of any kind in one room, which is lent: its steps and what it shows, by the kind in the first word. What a new kind does in its room
 // comes here, and no loop over steps names it (01, "House trace"; 02, 2/12 and 6/12).
+#![tactic(auto)]
+
 ghost use Rattle.std.specs.Prelude.{◌≡◌, Bool, true, ◌+◌, ◌*◌, ◌<◌};
 ghost use Rattle.aic_room.specs.Room.{Laid as AicLaid};
 ghost use Rattle.machine.specs.declared.record.Machine.{Machine};

@@ -1,17 +1,19 @@
 // A number of the house trace: groups of seven bits, the lowest first; the top bit of a byte says that another follows (01, "House trace").
+#![tactic(auto)]
+
 ghost use Rattle.std.specs.Prelude.{◌≡◌, ◌+◌, ◌≤◌, ◌<◌, length, get_or};
 ghost use Rattle.numbers.specs.declared.Number.TheVariants.{Value};
 ghost use Rattle.numbers.specs.Number.{size_at, worth_at, faulty, number_at};
 
 // The number at a place: its value with the place after it, or the refusal with the place of its first byte.
-#[derive(Drop)]
+#[derive(Clone, Copy)]
 pub enum Number {
     Value(u32, usize),
     Refused(u32, usize),
 }
 
 // A number of one byte or two with the place after it, which is 0 where there is no such number.
-#[derive(Drop)]
+#[derive(Clone, Copy)]
 pub struct Short {
     pub value: u32,
     pub next: usize,

@@ -1,4 +1,6 @@
 // The nesting of an AIC over a window of its trace as a picture, SVG, in a buffer that the caller lends; a line of text where there is no such picture.
+#![tactic(auto)]
+
 ghost use Rattle.std.specs.Prelude.{◌≡◌, false, ◌≤◌, length};
 ghost use Rattle.steps.specs.Refusals.{carried_out};
 ghost use Rattle.text.specs.Text.{laid};
@@ -15,7 +17,7 @@ use beginning::Begun;
 use machine::record::Machine;
 
 // Whether there is a picture, and how many bytes of it, or of the line of text, were written.
-#[derive(Drop)]
+#[derive(Clone, Copy)]
 pub struct Drawn {
     pub drawn: bool,
     pub bytes: usize,

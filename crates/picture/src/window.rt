@@ -11,7 +11,7 @@ use machine::record::Machine;
 use trace::Turn;
 
 // How many columns there are, and the sources and levels of the entries that were open before the window.
-#[derive(Drop)]
+#[derive(Clone, Copy)]
 pub struct Filled {
     pub count: usize,
     pub source: [u8; 8],

@@ -1,4 +1,6 @@
 // Plays a recorded trace on the machine that it names (01, "House trace"; 02, 2/12).
+#![tactic(auto)]
+
 ghost use Rattle.std.specs.Prelude.{◌≡◌};
 ghost use Rattle.steps.specs.Refusals.{carried_out};
 ghost use Rattle.beginning.specs.Begin.{begin_of};

@@ -1,32 +1,41 @@
 // Reading a file, or standard input, into a room that the caller lends.
+#![tactic(auto)]
+
 ghost use Rattle.std.specs.Prelude.{◌≡◌, ◌≤◌, length};
 ghost use Rattle.reading.specs.Shifted.{shifted};
 
+use std::fs;
+use std::io::Read;
+use std::rt::Files;
+
 // What came of reading: so many bytes at the start of the room, and whether it could not be opened or read.
-#[derive(Drop)]
+#[derive(Clone, Copy)]
 pub struct Came {
     pub bytes: usize,
     pub failed: bool,
 }
 
-// Reads the file of a name.
-pub fn read_file(name: &[u8], room: &mut [u8]) -> Came
+// Reads the file of a name. A name that is not UTF-8 is none that can be opened.
+pub fn read_file<R: Files>(rt: &R, name: &[u8], room: &mut [u8]) -> Came
     ensures { result.bytes ≤ length room.new }
 {
-    let file = os::open_read(name);
-    if file < 0 {
+    let Ok(path) = str::from_utf8(name) else {
         return Came {
             bytes: 0,
             failed: true,
         };
-    }
-    let came = read(file, room);
-    libc::close(file);
-    came
+    };
+    let Ok(mut file) = fs::open(rt, path) else {
+        return Came {
+            bytes: 0,
+            failed: true,
+        };
+    };
+    read(&mut file, room)
 }
 
-// Reads until the room is full, the file ends or a read fails, as that of a directory does. Standard input is file 0.
-pub fn read(file: i32, room: &mut [u8]) -> Came
+// Reads until the room is full, the file ends or a read fails, as that of a directory does.
+pub fn read<F: Read>(file: &mut F, room: &mut [u8]) -> Came
     ensures { result.bytes ≤ length room.new }
 {
     let mut at: usize = 0;
@@ -48,13 +57,18 @@ pub fn read(file: i32, room: &mut [u8]) -> Came
 }
 
 // What one read brings; no bytes at the end of a file.
-pub fn read_once(file: i32, room: &mut [u8]) -> Came
+pub fn read_once<F: Read>(file: &mut F, room: &mut [u8]) -> Came
     ensures { result.bytes ≤ length room.old }
 {
-    let got = libc::read(file, room);
-    Came {
-        bytes: io::count(got, room),
-        failed: got < 0,
+    match file.read(room) {
+        Ok(n) => Came {
+            bytes: n,
+            failed: false,
+        },
+        Err(_) => Came {
+            bytes: 0,
+            failed: true,
+        },
     }
 }
 

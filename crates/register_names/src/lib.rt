@@ -1,4 +1,6 @@
 // Names and sections of registers: the row that has an offset, by the makers' maps (specs/Maps.antt), which stand in src/rows.rt as specs/Table.antt says.
+#![tactic(auto)]
+
 ghost use Rattle.std.specs.Prelude.{◌≡◌, ◌+◌, ◌-◌, ◌/◌, ◌≤◌, ◌<◌, length, drop};
 ghost use Rattle.text.specs.Text.{write};
 ghost use Rattle.register_names.specs.Rows.{in_group, sectioned, place_in, there_of, at_most};
@@ -9,7 +11,7 @@ ghost use Rattle.register_names.specs.Table.{stands_by, stands_at, row_from, num
 mod rows;
 
 // What the configuration of a CIC counts; nothing of other controllers.
-#[derive(Drop)]
+#[derive(Clone, Copy)]
 struct Sizes {
     systems: u32,
     channels: u32,

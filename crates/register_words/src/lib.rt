@@ -1,4 +1,6 @@
 // What a step touches, in words: the register or the line, the fields of a write, and which number is beyond its limit (docs/TEXT.md).
+#![tactic(auto)]
+
 ghost use Rattle.std.specs.Prelude.{◌≡◌, eqb};
 ghost use Rattle.words.specs.Choice.{pick};
 ghost use Rattle.text.specs.Text.{write};

@@ -1,4 +1,6 @@
 // The year's report as text, in a buffer that the caller lends: a line for each trace named, and a line for each source (02, 11/12).
+#![tactic(auto)]
+
 ghost use Rattle.std.specs.Prelude.{◌≡◌};
 ghost use Rattle.text.specs.Text.{write, laid};
 ghost use Rattle.report.specs.Lines.{line_end, name_end};

@@ -9,7 +9,7 @@ ghost use Rattle.report.specs.Promises.{Words};
 use totals::Totals;
 
 // The report so far: the totals, and whether every line of it could be written.
-#[derive(Drop)]
+#[derive(Clone, Copy)]
 pub struct Sum {
     pub totals: Totals,
     pub written: bool,
@@ -27,37 +27,37 @@ pub fn none() -> Sum
 }
 
 // A name whose file cannot be opened or read: the totals are as they were.
-pub(crate) fn unopened(name: &[u8], sum: Sum) -> Sum
+pub(crate) fn unopened<R: Print>(rt: &R, name: &[u8], sum: Sum) -> Sum
     ensures { result.totals ≡ sum.totals }
 {
     let t = sum.totals;
     Sum {
         totals: t,
-        written: print_unopened(name),
+        written: print_unopened(rt, name),
     }
 }
 
 // The lines of the sources, unless a line before them could not be written; whether all could be.
-pub fn ended(sum: Sum) -> bool {
+pub fn ended<R: Print>(rt: &R, sum: Sum) -> bool {
     if !sum.written {
         return false;
     }
     let t = sum.totals;
-    print_sources(t)
+    print_sources(rt, t)
 }
 
 // The line of a name whose file cannot be opened or read.
-fn print_unopened(name: &[u8]) -> bool {
+fn print_unopened<R: Print>(rt: &R, name: &[u8]) -> bool {
     let mut out = line_room();
     let n = put_unopened(&mut out, name);
-    io::write_all(1, &out[..n])
+    rt.write_all(&out[..n]).is_ok()
 }
 
 // The lines of the sources; whether all could be written.
-fn print_sources(t: Totals) -> bool {
+fn print_sources<R: Print>(rt: &R, t: Totals) -> bool {
     let mut out = sources_room();
     let n = super::put_sources(&mut out, t);
-    io::write_all(1, &out[..n])
+    rt.write_all(&out[..n]).is_ok()
 }
 
 fn put_unopened(out: &mut [u8], name: &[u8]) -> usize

@@ -11,12 +11,13 @@ ghost use Rattle.report.specs.Put.{Put};
 use super::progress;
 use super::progress::Sum;
 use tally::Tallied;
+use std::rt::Files;
 
 // The most steps of a trace that are played.
 const LIMIT: u32 = 20000;
 
 // A name up to its line feed: the rest of one that is too long is passed over, and nothing is played once a line could not be written.
-pub(crate) fn pass(name: &[u8], skipping: bool, sum: Sum) -> Sum
+pub(crate) fn pass<R: Files + Print>(rt: &R, name: &[u8], skipping: bool, sum: Sum) -> Sum
     ensures { Put sum.totals (one (not skipping)) result.totals }
 {
     if skipping {
@@ -25,24 +26,24 @@ pub(crate) fn pass(name: &[u8], skipping: bool, sum: Sum) -> Sum
     if !sum.written {
         return sum;
     }
-    play(name, sum)
+    play(rt, name, sum)
 }
 
 // Plays the trace of a name. One byte more is read than a trace may have, so that a longer one is told apart.
-fn play(name: &[u8], sum: Sum) -> Sum
+fn play<R: Files + Print>(rt: &R, name: &[u8], sum: Sum) -> Sum
     ensures { Put sum.totals 1 result.totals }
 {
     let mut room = [0u8; 65537];
-    let came = reading::read_file(name, &mut room);
+    let came = reading::read_file(rt, name, &mut room);
     if came.failed {
-        return progress::unopened(name, sum);
+        return progress::unopened(rt, name, sum);
     }
     let n = came.bytes;
-    put_to(&room[..n], name, sum)
+    put_to(rt, &room[..n], name, sum)
 }
 
 // Puts the figures of a trace to the totals, and prints its line.
-fn put_to(trace: &[u8], name: &[u8], sum: Sum) -> Sum
+fn put_to<R: Print>(rt: &R, trace: &[u8], name: &[u8], sum: Sum) -> Sum
     ensures { result.totals ≡ (added sum.totals (tally_of trace.now 20000).figures).totals }
 {
     let f = tally::figures(trace, LIMIT);
@@ -52,15 +53,15 @@ fn put_to(trace: &[u8], name: &[u8], sum: Sum) -> Sum
     let after = a.totals;
     Sum {
         totals: after,
-        written: print_line(f, a.refusal, name),
+        written: print_line(rt, f, a.refusal, name),
     }
 }
 
 // The line of a trace that was played; whether it could be written.
-fn print_line(f: Tallied, refusal: u32, name: &[u8]) -> bool {
+fn print_line<R: Print>(rt: &R, f: Tallied, refusal: u32, name: &[u8]) -> bool {
     let mut out = progress::line_room();
     let n = put_line(&mut out, f, refusal, name);
-    io::write_all(1, &out[..n])
+    rt.write_all(&out[..n]).is_ok()
 }
 
 // Its steps where it is in the totals, else the refusal by which it is left out.

@@ -1,5 +1,7 @@
 // The page of the tuning sheet, byte for byte, in a buffer that the caller lends: its beginning, a row for each trace as it is read, and its end
 // (02, 4/12, 11/12 and 12/12). What finds no room is dropped; the rooms here take every page whole.
+#![tactic(auto)]
+
 ghost use Rattle.std.specs.Prelude.{◌≡◌, List, ℕ, ◌≤◌, length};
 ghost use Rattle.text.specs.Text.{laid};
 ghost use Rattle.stack.specs.declared.Table.{Table as Priorities};

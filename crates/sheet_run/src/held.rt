@@ -12,7 +12,7 @@ const SHOWN: usize = 4096;
 
 // How many bytes of a begun name stand at the start of the room, whether a name that is too long is passed over, whether more names may come, whether
 // reading them failed, and the sheet so far.
-#[derive(Drop)]
+#[derive(Clone, Copy)]
 pub struct State {
     pub held: usize,
     pub skipping: bool,
@@ -35,16 +35,17 @@ pub(crate) fn begin(first: Sum) -> State
 }
 
 // Reads more names behind those that are held.
-pub(crate) fn fill(names: &mut [u8], held: usize) -> Came
+pub(crate) fn fill<R: Input>(rt: &R, names: &mut [u8], held: usize) -> Came
     requires { held ≤ length names.old }
     ensures { held + result.bytes ≤ length names.new }
 {
-    reading::read_once(0, &mut names[held..])
+    reading::read_once(&mut rt.reader(), &mut names[held..])
 }
 
 // What is kept of a begun name: nothing where it is passed over, nor where it fills the room, for then it is too long to be opened. Of the one that is
 // passed over the first 4,096 bytes have been told, and it has been counted.
-pub(crate) fn settle(
+pub(crate) fn settle<R: Print>(
+    rt: &R,
     names: &[u8],
     held: usize,
     skipping: bool,
@@ -61,7 +62,7 @@ pub(crate) fn settle(
         return standing(held, false, sum, came);
     }
     let n = shown(names.len());
-    let told = progress::unopened(&names[..n], sum);
+    let told = progress::unopened(rt, &names[..n], sum);
     standing(0, true, told, came)
 }
 

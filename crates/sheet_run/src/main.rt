@@ -1,6 +1,8 @@
 // Prints the tuning sheet over the traces whose names stand on standard input, one to a line: the argument is the name of the typed table's file. The page's
 // beginning comes first, a row for each name as its trace is played, then all the rest. Of a table that is refused there is no page: one line on standard error
 // says why; so it does where the table or the names cannot be read, or the page cannot be written.
+#![tactic(auto)]
+
 ghost use Rattle.std.specs.Prelude.{◌≡◌, List, ℕ, ◌≤◌, length};
 ghost use Rattle.tables.specs.Slips.{slip_line};
 
@@ -11,68 +13,69 @@ mod traces;
 
 use progress::Sum;
 use stack::Table;
+use std::rt::Env;
 
 // One byte more is read than a table may have, so that a longer one is told apart.
-fn main() {
+fn main(rt: HostRuntime) {
     let mut name = [0u8; 4096];
-    let k = os::arg(1, &mut name);
+    let k = rt.arg(1, &mut name).unwrap_or(0);
     let mut text = [0u8; 65537];
-    let came = reading::read_file(&name[..k], &mut text);
+    let came = reading::read_file(&rt, &name[..k], &mut text);
     if came.failed {
-        tell(b"sheet_run: the table could not be read\n");
+        tell(&rt, b"sheet_run: the table could not be read\n");
         return;
     }
     let n = came.bytes;
-    check(&text[..n]);
+    check(&rt, &text[..n]);
 }
 
 // The page of a table that is not refused, and else its line.
-fn check(text: &[u8]) {
+fn check(rt: &HostRuntime, text: &[u8]) {
     let r = tables::read_table(text);
     let t = r.table;
     let needed = stack::needed_by(t);
     if (r.refusal == steps::CARRIED_OUT) & (needed.refusal == steps::CARRIED_OUT) {
-        print(text, t);
+        print(rt, text, t);
     } else {
-        refuse(text);
+        refuse(rt, text);
     }
 }
 
 // The line that leads to the slip of a refused table.
-fn refuse(text: &[u8]) {
+fn refuse(rt: &HostRuntime, text: &[u8]) {
     let mut line = slip_room();
     let k = tables::slips::put_slip(&mut line, text);
-    tell(b"sheet_run: ");
-    tell(&line[..k]);
+    tell(rt, b"sheet_run: ");
+    tell(rt, &line[..k]);
 }
 
-fn print(text: &[u8], t: Table) {
+fn print(rt: &HostRuntime, text: &[u8], t: Table) {
     let mut all = room();
     let first = progress::none();
-    if !begin() {
-        tell(b"sheet_run: the page could not be written\n");
+    if !begin(rt) {
+        tell(rt, b"sheet_run: the page could not be written\n");
         return;
     }
-    let r = names::take(&mut all, t, first);
+    let r = names::take(rt, &mut all, t, first);
     if r.failed {
-        tell(b"sheet_run: the names could not be read\n");
+        tell(rt, b"sheet_run: the names could not be read\n");
         return;
     }
     let sum = r.sum;
-    if !end(text, t, sum) {
-        tell(b"sheet_run: the page could not be written\n");
+    if !end(rt, text, t, sum) {
+        tell(rt, b"sheet_run: the page could not be written\n");
     }
 }
 
 // How the page begins; whether it could be written.
-fn begin() -> bool {
+fn begin(rt: &HostRuntime) -> bool {
     let mut out = sheet::head_room();
     let k = sheet::put_head(&mut out);
-    io::write_all(1, &out[..k])
+    rt.write_all(&out[..k]).is_ok()
 }
 
 // How it ends, unless a row before it could not be written; whether all could be.
-fn end(text: &[u8], t: Table, sum: Sum) -> bool {
+fn end(rt: &HostRuntime, text: &[u8], t: Table, sum: Sum) -> bool {
     if !sum.written {
         return false;
     }
@@ -82,7 +85,7 @@ fn end(text: &[u8], t: Table, sum: Sum) -> bool {
     let s = sum.sheet;
     let mut out = sheet::end_room();
     let k = sheet::put_end(&mut out, t, &bytes, lengths, s);
-    io::write_all(1, &out[..k])
+    rt.write_all(&out[..k]).is_ok()
 }
 
 // A buffer that any line of a slip fits.
@@ -98,6 +101,6 @@ fn room() -> [u8; 4097] {
     [0; 4097]
 }
 
-fn tell(what: &[u8]) {
-    io::write_all(2, what);
+fn tell(rt: &HostRuntime, what: &[u8]) {
+    let _ = rt.stderr().write_all(what);
 }

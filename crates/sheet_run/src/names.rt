@@ -6,10 +6,11 @@ use super::held::State;
 use super::progress::Sum;
 use super::{held, traces};
 use stack::Table;
+use std::rt::Files;
 
 // What is left of the names that were read: the place where a name begins that has no line feed yet, and the sheet after those before it, and whether
 // that name is passed over as too long.
-#[derive(Drop)]
+#[derive(Clone, Copy)]
 struct Rest {
     at: usize,
     skipping: bool,
@@ -17,7 +18,7 @@ struct Rest {
 }
 
 // The sheet after all names, and whether reading them failed.
-#[derive(Drop)]
+#[derive(Clone, Copy)]
 pub struct Taken {
     pub failed: bool,
     pub sum: Sum,
@@ -25,27 +26,27 @@ pub struct Taken {
 
 // Plays the trace of every name on standard input, of which `names` is the room. The last one may have no line feed; it is passed over where nothing of it is
 // held, or reading failed. The sheet is the one given, with the names put to it one after the other.
-pub(crate) fn take(names: &mut [u8], table: Table, first: Sum) -> Taken
+pub(crate) fn take<R: Files + Input + Print>(rt: &R, names: &mut [u8], table: Table, first: Sum) -> Taken
     ensures { Put table first.sheet result.sum.sheet }
 {
-    let s = all_names(names, table, first);
+    let s = all_names(rt, names, table, first);
     let held = s.held;
     let sum = s.sum;
     let none = s.failed | (held == 0);
     Taken {
         failed: s.failed,
-        sum: traces::pass(&names[..held], none, table, sum),
+        sum: traces::pass(rt, &names[..held], none, table, sum),
     }
 }
 
 // Plays the trace of every name that has a line feed. Nothing says that standard input ends: the turns are counted down from a number that no run uses up.
-fn all_names(names: &mut [u8], table: Table, first: Sum) -> State
+fn all_names<R: Files + Input + Print>(rt: &R, names: &mut [u8], table: Table, first: Sum) -> State
     ensures { (result.held ≤ length names.new) × Put table first.sheet result.sum.sheet }
 {
     let mut s = held::begin(first);
     let mut turns = u64::MAX;
     while turns > 0 {
-        s = turn(names, table, s);
+        s = turn(rt, names, table, s);
         turns = left(turns, s.going);
     }
     s
@@ -63,23 +64,23 @@ fn left(turns: u64, going: bool) -> u64
 }
 
 // Reads more names behind those that are held, plays the whole ones, and keeps the begun one.
-fn turn(names: &mut [u8], table: Table, s: State) -> State
+fn turn<R: Files + Input + Print>(rt: &R, names: &mut [u8], table: Table, s: State) -> State
     requires { s.held ≤ length names.old }
     ensures { (result.held ≤ length names.new) × Put table s.sum.sheet result.sum.sheet }
 {
     let held = s.held;
     let sum = s.sum;
-    let came = held::fill(names, held);
+    let came = held::fill(rt, names, held);
     let end = held + came.bytes;
-    let r = lines(&names[..end], s.skipping, table, sum);
+    let r = lines(rt, &names[..end], s.skipping, table, sum);
     let at = r.at;
     let rest = r.sum;
     reading::shift(names, at);
-    held::settle(names, end - at, r.skipping, table, rest, came)
+    held::settle(rt, names, end - at, r.skipping, table, rest, came)
 }
 
 // Plays the trace of each name that has a line feed, and tells where the one begins that has none.
-fn lines(s: &[u8], skipping: bool, table: Table, first: Sum) -> Rest
+fn lines<R: Files + Print>(rt: &R, s: &[u8], skipping: bool, table: Table, first: Sum) -> Rest
     ensures { (result.at ≤ length s.now) × Put table first.sheet result.sum.sheet }
 {
     let mut sum = first;
@@ -95,7 +96,7 @@ fn lines(s: &[u8], skipping: bool, table: Table, first: Sum) -> Rest
             };
         }
         let n = report::name_end(s, at, e);
-        sum = traces::pass(&s[at..n], skips, table, sum);
+        sum = traces::pass(rt, &s[at..n], skips, table, sum);
         skips = false;
         at = e + 1;
     }

@@ -11,12 +11,13 @@ use super::progress;
 use super::progress::Sum;
 use stack::Table;
 use totals::sheets::Noted;
+use std::rt::Files;
 
 // The most steps of a trace that are played.
 const LIMIT: u32 = 20000;
 
 // A name up to its line feed: the rest of one that is too long is passed over, and nothing is played once a row could not be written.
-pub(crate) fn pass(name: &[u8], skipping: bool, table: Table, sum: Sum) -> Sum
+pub(crate) fn pass<R: Files + Print>(rt: &R, name: &[u8], skipping: bool, table: Table, sum: Sum) -> Sum
     ensures { Put table sum.sheet result.sheet }
 {
     if skipping {
@@ -25,30 +26,30 @@ pub(crate) fn pass(name: &[u8], skipping: bool, table: Table, sum: Sum) -> Sum
     if !sum.written {
         return sum;
     }
-    play(name, table, sum)
+    play(rt, name, table, sum)
 }
 
 // Plays the trace of a name. One byte more is read than a trace may have, so that a longer one is told apart.
-fn play(name: &[u8], table: Table, sum: Sum) -> Sum
+fn play<R: Files + Print>(rt: &R, name: &[u8], table: Table, sum: Sum) -> Sum
     ensures { Put table sum.sheet result.sheet }
 {
     let mut room = [0u8; 65537];
-    let came = reading::read_file(name, &mut room);
+    let came = reading::read_file(rt, name, &mut room);
     if came.failed {
-        return progress::unopened(name, sum);
+        return progress::unopened(rt, name, sum);
     }
     let n = came.bytes;
-    put_to(&room[..n], name, table, sum)
+    put_to(rt, &room[..n], name, table, sum)
 }
 
 // Puts a trace to the figures, and prints its row.
-fn put_to(trace: &[u8], name: &[u8], table: Table, sum: Sum) -> Sum
+fn put_to<R: Print>(rt: &R, trace: &[u8], name: &[u8], table: Table, sum: Sum) -> Sum
     ensures { result.sheet ≡ (added sum.sheet (note_of trace.now 20000 table)).sheet }
 {
     let t = sheet_traces::note(trace, LIMIT, table);
     let a = totals::sheets::add(sum.sheet, t);
     let s = a.sheet;
-    let written = print_row(s.named, t, a.refusal, name);
+    let written = print_row(rt, s.named, t, a.refusal, name);
     Sum {
         sheet: s,
         written: written,
@@ -56,10 +57,10 @@ fn put_to(trace: &[u8], name: &[u8], table: Table, sum: Sum) -> Sum
 }
 
 // The row of the nth name, whose trace was played; whether it could be written.
-fn print_row(n: u32, t: Noted, refusal: u32, name: &[u8]) -> bool {
+fn print_row<R: Print>(rt: &R, n: u32, t: Noted, refusal: u32, name: &[u8]) -> bool {
     let mut out = sheet::row_room();
     let k = put_row(&mut out, n, t, refusal, name);
-    io::write_all(1, &out[..k])
+    rt.write_all(&out[..k]).is_ok()
 }
 
 // Its figures where it is counted, else the refusal by which it is left out.

@@ -1,4 +1,6 @@
 // What the tuning sheet takes from one trace: its figures, and of an AIC what was seen of it over the steps played (02, 4/12, 11/12 and 12/12).
+#![tactic(auto)]
+
 ghost use Rattle.std.specs.Prelude.{◌≡◌, true, false, ℕ, ◌≤◌, ◌<◌, eqb, length};
 ghost use Rattle.words.specs.Choice.{pick};
 ghost use Rattle.steps.specs.Refusals.{carried_out};
@@ -38,7 +40,7 @@ use trace::turns::Told;
 
 // Marks opened, ends of interrupt that found no entry open, entries open now, a word of the sources that were enabled; the lowest source that did not keep
 // the table in the first record that did not, 32 for none, and the step after which that was.
-#[derive(Drop)]
+#[derive(Clone, Copy)]
 pub struct Watched {
     pub marks: u32,
     pub idle: u32,
@@ -49,7 +51,7 @@ pub struct Watched {
 }
 
 // The report's figures of the steps played, what was seen over them, and the waits of all sources.
-#[derive(Drop)]
+#[derive(Clone, Copy)]
 pub struct Played {
     pub tallied: Tallied,
     pub watched: Watched,

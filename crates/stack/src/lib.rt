@@ -1,4 +1,6 @@
 // The stack that open handlers and marks need, in bytes (02, 4/12).
+#![tactic(auto)]
+
 ghost use Rattle.std.specs.Prelude.{◌≡◌, true, ◌<◌};
 ghost use Rattle.text.specs.Text.{write, laid};
 ghost use Rattle.stack.specs.Bytes.{is_of, taller, level_bytes, stack_bytes, source_within, within_limits, needed};
@@ -8,7 +10,7 @@ pub mod kept;
 
 // For each of the 32 sources its priority, its type and the frame of its handler in bytes; the word of forced sources; the frame of a mark in
 // bytes. The numbers are wide, so that those beyond their limits can be handed in and refused.
-#[derive(Drop)]
+#[derive(Clone, Copy)]
 pub struct Table {
     pub priority: [u32; 32],
     pub kind: [u32; 32],
@@ -18,7 +20,7 @@ pub struct Table {
 }
 
 // A refusal, or the stack size in bytes.
-#[derive(Drop)]
+#[derive(Clone, Copy)]
 pub struct Needed {
     pub refusal: u32,
     pub bytes: u32,

@@ -1,45 +1,47 @@
 // Prints the stack size of the typed table on standard input; of a refused table also, on standard error, the line that leads to the slip. Where the
 // table cannot be read, or its line not be written, one line on standard error says so.
+#![tactic(auto)]
+
 ghost use Rattle.std.specs.Prelude.{◌≡◌, List, ℕ, ◌≤◌, length};
 ghost use Rattle.tables.specs.Reading.{answer_to};
 ghost use Rattle.tables.specs.Slips.{slip_line};
 
 // One byte more is read than a table may have, so that a longer one is told apart.
-fn main() {
+fn main(rt: HostRuntime) {
     let mut input = [0u8; 65537];
-    let came = reading::read(0, &mut input);
+    let came = reading::read(&mut rt.reader(), &mut input);
     if came.failed {
-        tell(b"stacksize: the table could not be read\n");
+        tell(&rt, b"stacksize: the table could not be read\n");
         return;
     }
     let n = came.bytes;
-    print(&input[..n]);
+    print(&rt, &input[..n]);
 }
 
 // Writes the line that answers the table to standard output.
-fn print(text: &[u8]) {
+fn print(rt: &HostRuntime, text: &[u8]) {
     let mut out = room();
     let k = tables::put_answer(&mut out, text);
-    if !io::write_all(1, &out[..k]) {
-        tell(b"stacksize: the line could not be written\n");
+    if rt.write_all(&out[..k]).is_err() {
+        tell(rt, b"stacksize: the line could not be written\n");
         return;
     }
-    lead(text);
+    lead(rt, text);
 }
 
 // Tells where the slip of a refused table is.
-fn lead(text: &[u8]) {
+fn lead(rt: &HostRuntime, text: &[u8]) {
     let mut line = slip_room();
     let k = tables::slips::put_slip(&mut line, text);
     if k == 0 {
         return;
     }
-    tell(b"stacksize: ");
-    tell(&line[..k]);
+    tell(rt, b"stacksize: ");
+    tell(rt, &line[..k]);
 }
 
-fn tell(what: &[u8]) {
-    io::write_all(2, what);
+fn tell(rt: &HostRuntime, what: &[u8]) {
+    let _ = rt.stderr().write_all(what);
 }
 
 // A buffer that any line of a slip fits.

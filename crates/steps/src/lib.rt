@@ -1,9 +1,11 @@
 // What a recorded step is, and the numbers given when one is not carried out (01, "Numbers given when a step is not carried out"; 02, 2/12).
+#![tactic(auto)]
+
 ghost use Rattle.std.specs.Prelude.{◌≡◌};
 ghost use Rattle.steps.specs.Refusals.{read_access, write_access, read_refusal, write_refusal, line_refusal};
 
 // An access to a register, or a line that is put to a level. Offsets are in bytes.
-#[derive(Drop)]
+#[derive(Clone, Copy)]
 pub enum Step {
     Read(u32),
     Write(u32, u32),
@@ -11,7 +13,7 @@ pub enum Step {
 }
 
 // A step as a trace records it: what is done, and by which privilege, 1 where the trace does not say.
-#[derive(Drop)]
+#[derive(Clone, Copy)]
 pub struct Recorded {
     pub step: Step,
     pub privilege: u32,
@@ -20,7 +22,7 @@ pub struct Recorded {
 pub const PRIVILEGED: u32 = 1;
 
 // What the register at an offset may be used for.
-#[derive(Drop)]
+#[derive(Clone, Copy)]
 pub enum Access {
     NoRegister,
     ReadOnly,

@@ -1,36 +1,38 @@
 // Prints the priority table that the trace on standard input leaves in an AIC, as it is typed. Where there is none, the trace cannot be read or the table not
 // be written, one line on standard error says so.
+#![tactic(auto)]
+
 ghost use Rattle.std.specs.Prelude.{◌≡◌, List, ℕ, ◌≤◌, length};
 ghost use Rattle.table_text.specs.Text.{text_of};
 
 // One byte more is read than a trace may have, so that a longer one is told apart.
-fn main() {
+fn main(rt: HostRuntime) {
     let mut input = [0u8; 65537];
-    let came = reading::read(0, &mut input);
+    let came = reading::read(&mut rt.reader(), &mut input);
     if came.failed {
-        tell(b"table: the trace could not be read\n");
+        tell(&rt, b"table: the trace could not be read\n");
         return;
     }
     let n = came.bytes;
-    print(&input[..n]);
+    print(&rt, &input[..n]);
 }
 
 // Writes the table to standard output, or why there is none to standard error.
-fn print(trace: &[u8]) {
+fn print(rt: &HostRuntime, trace: &[u8]) {
     let mut out = room();
     let d = table_text::print(trace, &mut out);
     let k = d.bytes;
     if d.tabled {
-        if !io::write_all(1, &out[..k]) {
-            tell(b"table: the table could not be written\n");
+        if rt.write_all(&out[..k]).is_err() {
+            tell(rt, b"table: the table could not be written\n");
         }
     } else {
-        tell(&out[..k]);
+        tell(rt, &out[..k]);
     }
 }
 
-fn tell(what: &[u8]) {
-    io::write_all(2, what);
+fn tell(rt: &HostRuntime, what: &[u8]) {
+    let _ = rt.stderr().write_all(what);
 }
 
 // A buffer that any such text fits.

@@ -1,4 +1,6 @@
 // The priority table that a trace of an AIC leaves in the record, as it is typed, in a buffer that the caller lends (docs/STACK.md).
+#![tactic(auto)]
+
 ghost use Rattle.std.specs.Prelude.{◌≡◌, ◌<◌};
 ghost use Rattle.steps.specs.Refusals.{carried_out};
 ghost use Rattle.text.specs.Text.{write, laid};
@@ -11,7 +13,7 @@ use beginning::Begun;
 use text::NEWLINE;
 
 // Whether there is a table, and how many bytes of it, or of the line that says why there is none, were written.
-#[derive(Drop)]
+#[derive(Clone, Copy)]
 pub struct Tabled {
     pub tabled: bool,
     pub bytes: usize,

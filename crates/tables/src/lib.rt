@@ -1,4 +1,6 @@
 // A table as a person types it, and the line that answers it. A slip of the typing is refused where it stands, and nothing is guessed (docs/STACK.md).
+#![tactic(auto)]
+
 ghost use Rattle.std.specs.Prelude.{◌≡◌, ◌≤◌, ◌<◌, length};
 ghost use Rattle.words.specs.Choice.{pick};
 ghost use Rattle.text.specs.Text.{write, laid};
@@ -13,7 +15,7 @@ pub mod slips;
 use stack::Table;
 
 // What came of a text: the table, or a refusal with the byte offset of what is at fault.
-#[derive(Drop)]
+#[derive(Clone, Copy)]
 pub struct Reading {
     pub refusal: u32,
     pub offset: usize,
@@ -21,14 +23,14 @@ pub struct Reading {
 }
 
 // Whether characters are a number, and what it is worth; 2^32 stands for whatever is more.
-#[derive(Drop)]
+#[derive(Clone, Copy)]
 struct Typed {
     taken: bool,
     value: u64,
 }
 
 // The next number of a text, where it begins, and the offset behind it.
-#[derive(Drop)]
+#[derive(Clone, Copy)]
 pub struct Next {
     pub taken: bool,
     pub value: u64,
@@ -37,7 +39,7 @@ pub struct Next {
 }
 
 // How many of the 98 numbers come before the first fault, their values, and where the fault or what follows them begins.
-#[derive(Drop)]
+#[derive(Clone, Copy)]
 pub struct Values {
     pub count: usize,
     pub start: usize,

@@ -9,21 +9,21 @@ ghost use Rattle.tables.specs.Named.{places_of, names_in, no_names, names_of, by
 use super::{MOST, is_white, read_table, seek, strip};
 
 // The name of source i is `lengths[i]` bytes from 24 * i on, and zeros stand behind it.
-#[derive(Drop)]
+#[derive(Clone, Copy)]
 pub struct Names {
     pub bytes: [u8; 768],
     pub lengths: [u32; 32],
 }
 
 // Where a name begins, and how many bytes it has; 0 where there is none.
-#[derive(Drop)]
+#[derive(Clone, Copy)]
 struct Place {
     start: usize,
     count: u32,
 }
 
 // The place of each source's name.
-#[derive(Drop)]
+#[derive(Clone, Copy)]
 struct Places {
     starts: [usize; 32],
     counts: [u32; 32],

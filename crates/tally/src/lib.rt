@@ -1,4 +1,6 @@
 // The figures of one trace: the steps played and refused, and of an AIC what each source did over them (02, 11/12).
+#![tactic(auto)]
+
 ghost use Rattle.std.specs.Prelude.{◌≡◌, false, not, ℕ, ◌+◌, ◌<◌, ◌≤◌, eqb, length};
 ghost use Rattle.words.specs.Counting.{one};
 ghost use Rattle.steps.specs.Refusals.{carried_out};
@@ -21,7 +23,7 @@ use rooms::Room;
 use totals::Totals;
 
 // The steps played, the steps refused among them, how the trace ended and where, and the figures of each source.
-#[derive(Drop)]
+#[derive(Clone, Copy)]
 pub struct Tallied {
     pub steps: u32,
     pub refused: u32,

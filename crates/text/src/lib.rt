@@ -1,4 +1,6 @@
 // Text into a buffer that the caller lends. What finds no room is dropped, so no function here has to know how long a text is.
+#![tactic(auto)]
+
 ghost use Rattle.std.specs.Prelude.{◌≡◌, [], ◌∷◌, ◌<◌, ◌%◌};
 ghost use Rattle.text.specs.Text.{write, decimal, decimal_of, last_of, field, hex, hex_digit};
 

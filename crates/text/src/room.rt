@@ -9,7 +9,7 @@ use super::SPACE;
 
 // The text of a number of at most five digits in a word, its first byte in the lowest; how many bytes that is, and 1 where the last of them stands; and the
 // number's last digit. So the text of the next number is a sum, but after a 9. Of a longer number no text is kept.
-#[derive(Drop)]
+#[derive(Clone, Copy)]
 pub struct Numeral {
     pub digits: u64,
     pub width: usize,

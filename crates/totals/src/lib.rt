@@ -1,4 +1,6 @@
 // Adding the figures of traces up, source by source: handlers started add up and stop at 4,294,967,295, the two largest numbers stay the largest (02, 11/12).
+#![tactic(auto)]
+
 ghost use Rattle.std.specs.Prelude.{◌≡◌, false, ◌+◌, max};
 ghost use mathlib.Core.List.{zip_with};
 ghost use Rattle.totals.specs.Totals.{zeros, passes, together, added};
@@ -7,7 +9,7 @@ pub mod sheets;
 pub mod waits;
 
 // For each source, of one trace or of many: the handlers started, the most handlers started while it waited, and the most entries open while it was open.
-#[derive(Drop)]
+#[derive(Clone, Copy)]
 pub struct Totals {
     pub started: [u32; 32],
     pub waited: [u32; 32],
@@ -15,7 +17,7 @@ pub struct Totals {
 }
 
 // Totals with a trace put to them; or the refusal 16, and they are as they were.
-#[derive(Drop)]
+#[derive(Clone, Copy)]
 pub struct Added {
     pub refusal: u32,
     pub totals: Totals,

@@ -8,7 +8,7 @@ use super::waits::Waits;
 // What the sheet takes from one trace: the steps played and refused, marks opened, ends of interrupt that found no entry open, entries open after the last
 // step; how it ended and where; whether it starts an AIC; a word of the sources that are enabled in some record; the lowest source that does not keep the
 // table in the first record that does not (32 for none) and the step after which that is; the figures and the waits of each source.
-#[derive(Drop)]
+#[derive(Clone, Copy)]
 pub struct Noted {
     pub steps: u32,
     pub refused: u32,
@@ -27,7 +27,7 @@ pub struct Noted {
 
 // What the sheet says of all: the names read, those left out by 16, 17 and 18, and over the others sums and largest numbers; `trace` is the number of the
 // name whose wait first has no bound.
-#[derive(Drop)]
+#[derive(Clone, Copy)]
 pub struct Sheet {
     pub named: u32,
     pub full: u32,
@@ -45,7 +45,7 @@ pub struct Sheet {
 }
 
 // The sheet with a trace put to it; or 16 or 18, and it is left out.
-#[derive(Drop)]
+#[derive(Clone, Copy)]
 pub struct Added {
     pub refusal: u32,
     pub sheet: Sheet,

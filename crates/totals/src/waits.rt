@@ -6,7 +6,7 @@ ghost use Rattle.totals.specs.Waits.{no_waits, bound_of, larger, newly, chosen, 
 
 // For each source: the waits that began, never ended and have no bound, the step that first took one its bound (0 for none), and the handlers that the first
 // wait with the largest bound allows to be started, term by term.
-#[derive(Drop)]
+#[derive(Clone, Copy)]
 pub struct Waits {
     pub begun: [u32; 32],
     pub unended: [u32; 32],
@@ -21,14 +21,14 @@ pub struct Waits {
 }
 
 // Waits with those of a trace put to them; or the refusal 16, and they are as they were.
-#[derive(Drop)]
+#[derive(Clone, Copy)]
 pub struct Added {
     pub refusal: u32,
     pub waits: Waits,
 }
 
 // The six terms of a bound of each source: handlers.
-#[derive(Drop)]
+#[derive(Clone, Copy)]
 struct Terms {
     pending: [u32; 32],
     edges: [u32; 32],

@@ -1,4 +1,6 @@
 // What stands in a trace where a step would begin: its kind and the numbers that go with it, or the end (01, "House trace"; 02, 2/12).
+#![tactic(auto)]
+
 ghost use Rattle.std.specs.Prelude.{◌≡◌};
 ghost use Rattle.trace.specs.Steps.{operands_of, plain, two_numbers, by_third, by_second, by_first, by_kind, step_at};
 ghost use Rattle.trace.specs.Trace.{turn_at};
@@ -9,7 +11,7 @@ use numbers::{Number, read_number};
 use steps::{Recorded, Step};
 
 // A step with the place after it, or the end: the refusal that makes it with its offset, else 0 and the length.
-#[derive(Drop)]
+#[derive(Clone, Copy)]
 pub enum Turn {
     Found(Recorded, usize),
     Ended(u32, usize),

@@ -14,7 +14,7 @@ use steps::Step;
 
 // One turn as numbers: kind 0 is the end, with its refusal and the offset in `next`; 1 to 3 a step of that kind with the place after it;
 // UNSURE says nothing.
-#[derive(Drop)]
+#[derive(Clone, Copy)]
 pub struct Told {
     pub kind: u32,
     pub x: u32,

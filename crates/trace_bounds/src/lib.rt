@@ -1,4 +1,6 @@
 // The waits of a source of an AIC over a trace, each with its bound (02, 11/12 and 12/12): as text, in a buffer that the caller lends, and as figures.
+#![tactic(auto)]
+
 ghost use Rattle.std.specs.Prelude.{◌≡◌, true, false, ◌-◌, ◌<◌, ◌≤◌, length};
 ghost use Rattle.words.specs.Choice.{pick};
 ghost use Rattle.steps.specs.Refusals.{carried_out};
@@ -25,14 +27,14 @@ use text::NEWLINE;
 use trace::Turn;
 
 // Whether there are lines of waits, and how many bytes of them, or of the line that says why there are none, were written.
-#[derive(Drop)]
+#[derive(Clone, Copy)]
 pub struct Listed {
     pub listed: bool,
     pub bytes: usize,
 }
 
 // What was told of some steps: how far the text goes, the figures, and how the steps ended and where.
-#[derive(Drop)]
+#[derive(Clone, Copy)]
 pub struct Told {
     pub bytes: usize,
     pub figures: Figures,

@@ -1,5 +1,7 @@
 // The text of a value change dump, VCD, in a buffer that the caller lends: what is declared, the first values, and at each tick what changed
 // (IEEE 1364-2005, 18.2). What finds no room is dropped.
+#![tactic(auto)]
+
 ghost use Rattle.std.specs.Prelude.{◌≡◌, [], ◌∷◌, ◌++◌, ◌+◌, ◌%◌, eqb, get_or};
 ghost use Rattle.words.specs.Choice.{pick};
 ghost use Rattle.text.specs.Text.{write, space, newline};

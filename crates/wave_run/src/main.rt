@@ -1,48 +1,55 @@
 // Prints the waves of the trace on standard input, a value change dump for a wave viewer. Where the trace cannot be read, or its waves not be written, one
 // line on standard error says so.
-ghost use Rattle.std.specs.Prelude.{◌≡◌, List, ℕ, ◌≤◌, length};
+#![tactic(auto)]
+
+ghost use Rattle.std.specs.Prelude.{◌≡◌, List, ℕ, ◌≤◌, length, IfOk};
 ghost use Rattle.text.specs.Text.{laid};
-ghost use Rattle.waves.specs.Waves.{waves_of};
+ghost use Rattle.waves.specs.Waves.{wavesOf};
+
+use std::alloc::{AllocError, Global};
 
 // The most steps that are played.
 const LIMIT: u32 = 20000;
 
 // One byte more is read than a trace may have, so that a longer one is told apart.
-fn main() {
+fn main(rt: HostRuntime) {
     let mut input = [0u8; 65537];
-    let came = reading::read(0, &mut input);
+    let came = reading::read(&mut rt.reader(), &mut input);
     if came.failed {
-        tell(b"wave: the trace could not be read\n");
+        tell(&rt, b"wave: the trace could not be read\n");
         return;
     }
     let n = came.bytes;
-    print(&input[..n]);
+    print(&rt, &input[..n]);
 }
 
 // Writes the waves to standard output.
-fn print(trace: &[u8]) {
-    let mut out = room();
+fn print(rt: &HostRuntime, trace: &[u8]) {
+    let Ok(mut out) = room(rt.alloc()) else {
+        tell(rt, b"wave: there is no memory for the waves\n");
+        return;
+    };
     let k = dumped(trace, &mut out);
-    if !io::write_all(1, &out[..k]) {
-        tell(b"wave: the waves could not be written\n");
+    if rt.write_all(&out[..k]).is_err() {
+        tell(rt, b"wave: the waves could not be written\n");
     }
 }
 
-fn tell(what: &[u8]) {
-    io::write_all(2, what);
+fn tell(rt: &HostRuntime, what: &[u8]) {
+    let _ = rt.stderr().write_all(what);
 }
 
 // The waves that are printed.
 fn dumped(trace: &[u8], out: &mut [u8]) -> usize
-    ensures { (out.new, result) ≡ laid out.old (waves_of trace.now 20000) }
+    ensures { (out.new, result) ≡ laid out.old (wavesOf trace.now 20000) }
 {
     waves::waves(trace, LIMIT, out)
 }
 
-// A buffer that any such waves fit.
-fn room() -> [u8; 4280737]
-    ensures value { 4280737 ≡ length result }
-    ensures any { (s : List ℕ) → length (waves_of s 20000) ≤ length result }
+// A buffer that any such waves fit. It is on the heap, since a stack of 8 MB has no room for such an array and its copies.
+fn room(alloc: Global) -> Result<Vec<u8>, AllocError>
+    ensures value { IfOk result (λ out. 4280737 ≡ length out.items) }
+    ensures any { IfOk result (λ out. (s : List ℕ) → length (wavesOf s 20000) ≤ length out.items) }
 {
-    [0; 4280737]
+    vec![in alloc; 0; 4280737]
 }

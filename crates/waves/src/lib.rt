@@ -1,4 +1,6 @@
 // The waves of a trace: the value change dump of what its machine shows after the start and after each step, as text in a buffer that the caller lends.
+#![tactic(auto)]
+
 ghost use Rattle.std.specs.Prelude.{◌≡◌};
 ghost use Rattle.steps.specs.Refusals.{carried_out};
 ghost use Rattle.text.specs.Text.{write, laid};

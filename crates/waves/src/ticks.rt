@@ -12,7 +12,7 @@ use machine::record::Machine;
 use steps::Step;
 
 // Where the next byte goes, and the values that the last tick tells.
-#[derive(Drop)]
+#[derive(Clone, Copy)]
 pub struct Ticked {
     pub to: usize,
     pub values: [u32; 11],

@@ -1,4 +1,6 @@
 // Prints the listing of the trace on standard input. Where the trace cannot be read, or its listing not be written, one line on standard error says so.
+#![tactic(auto)]
+
 ghost use Rattle.std.specs.Prelude.{◌≡◌, List, ℕ, ◌≤◌, length};
 ghost use Rattle.text.specs.Text.{laid};
 ghost use Rattle.lines.specs.Listing.{listing_of};
@@ -7,28 +9,28 @@ ghost use Rattle.lines.specs.Listing.{listing_of};
 const LIMIT: u32 = 20000;
 
 // One byte more is read than a trace may have, so that a longer one is told apart.
-fn main() {
+fn main(rt: HostRuntime) {
     let mut input = [0u8; 65537];
-    let came = reading::read(0, &mut input);
+    let came = reading::read(&mut rt.reader(), &mut input);
     if came.failed {
-        tell(b"wisteria: the trace could not be read\n");
+        tell(&rt, b"wisteria: the trace could not be read\n");
         return;
     }
     let n = came.bytes;
-    print(&input[..n]);
+    print(&rt, &input[..n]);
 }
 
 // Writes the listing to standard output.
-fn print(trace: &[u8]) {
+fn print(rt: &HostRuntime, trace: &[u8]) {
     let mut out = room();
     let k = listed(trace, &mut out);
-    if !io::write_all(1, &out[..k]) {
-        tell(b"wisteria: the listing could not be written\n");
+    if rt.write_all(&out[..k]).is_err() {
+        tell(rt, b"wisteria: the listing could not be written\n");
     }
 }
 
-fn tell(what: &[u8]) {
-    io::write_all(2, what);
+fn tell(rt: &HostRuntime, what: &[u8]) {
+    let _ = rt.stderr().write_all(what);
 }
 
 // The listing that is printed.

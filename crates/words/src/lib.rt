@@ -1,5 +1,7 @@
 // A word of sources: one bit for each of 32 sources. What these functions answer is defined bit by bit in specs/Word.antt.
 // The last two are for any crate: a test as a number, and the larger of two numbers.
+#![tactic(auto)]
+
 ghost use Rattle.std.specs.Prelude.{max, ◌≡◌};
 ghost use Rattle.words.specs.Counting.{one, count_below, lowest_below};
 ghost use Rattle.words.specs.Word.{bit, either, both, without, with_bit, kept, clean};
