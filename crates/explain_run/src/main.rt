@@ -6,7 +6,7 @@
 ghost use Rattle.std.specs.Prelude.{◌≡◌, List, ℕ, ◌≤◌, length, IfOk};
 ghost use Rattle.words.specs.Choice.{pick};
 ghost use Rattle.text.specs.Text.{laid};
-ghost use Rattle.explain.specs.Explain.{explainedOf, explainedWindow};
+ghost use Rattle.explain.specs.Explain.{explained_of, explained_window};
 
 use std::alloc::{AllocError, Global};
 use std::env::FillError;
@@ -76,7 +76,7 @@ fn tell(rt: &HostRuntime, what: &[u8]) {
 
 // What is printed of a whole trace, or of a window.
 fn explained(trace: &[u8], whole: bool, first: u32, steps: u32, out: &mut [u8]) -> usize
-    ensures { (out.new, result) ≡ laid out.old (pick whole (explainedOf trace.now 20000) (explainedWindow trace.now 20000 first steps)) }
+    ensures { (out.new, result) ≡ laid out.old (pick whole (explained_of trace.now 20000) (explained_window trace.now 20000 first steps)) }
 {
     if whole {
         return explain::explain(trace, LIMIT, out);
@@ -87,8 +87,8 @@ fn explained(trace: &[u8], whole: bool, first: u32, steps: u32, out: &mut [u8]) 
 // A buffer that any such explanation fits. It is on the heap, since a stack of 8 MB has no room for such an array and its copies.
 fn room(alloc: Global) -> Result<Vec<u8>, AllocError>
     ensures value { IfOk result (λ out. 5242880 ≡ length out.items) }
-    ensures any { IfOk result (λ out. (s : List ℕ) → length (explainedOf s 20000) ≤ length out.items) }
-    ensures window { IfOk result (λ out. (s : List ℕ) (first steps : ℕ) → length (explainedWindow s 20000 first steps) ≤ length out.items) }
+    ensures any { IfOk result (λ out. (s : List ℕ) → length (explained_of s 20000) ≤ length out.items) }
+    ensures window { IfOk result (λ out. (s : List ℕ) (first steps : ℕ) → length (explained_window s 20000 first steps) ≤ length out.items) }
 {
     vec![in alloc; 0; 5242880]
 }

@@ -1,6 +1,6 @@
 // The names of the year's report, one to a line on standard input: each is taken in order, and its trace put to the report (02, 11/12).
 ghost use Rattle.std.specs.Prelude.{ℕ, ◌≤◌, ◌<◌, length};
-ghost use Rattle.report.specs.Lines.{feedsBefore};
+ghost use Rattle.report.specs.Lines.{feeds_before};
 ghost use Rattle.report.specs.Put.{Put};
 
 use super::held::State;
@@ -82,7 +82,7 @@ fn turn<R: Files + Input + Print>(rt: &R, names: &mut [u8], s: State) -> State
 // Plays the trace of each name that has a line feed, and tells where the one begins that has none. At most one trace is put to the totals for each line
 // feed.
 fn lines<R: Files + Print>(rt: &R, s: &[u8], skipping: bool, first: Sum) -> Rest
-    ensures { (result.at ≤ length s.now) × Put first.totals (feedsBefore s.now (length s.now)) result.sum.totals }
+    ensures { (result.at ≤ length s.now) × Put first.totals (feeds_before s.now (length s.now)) result.sum.totals }
 {
     let mut sum = first;
     let mut skips = skipping;

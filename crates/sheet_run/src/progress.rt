@@ -1,6 +1,6 @@
 // The sheet so far, and the row of a name that cannot be opened or read.
 ghost use Rattle.std.specs.Prelude.{◌≡◌};
-ghost use Rattle.totals.specs.Sheet.{noSheet, leftUnopened};
+ghost use Rattle.totals.specs.Sheet.{no_sheet, left_unopened};
 
 use totals::sheets::Sheet;
 
@@ -13,7 +13,7 @@ pub struct Sum {
 
 // Before any name: every figure is 0.
 pub(crate) fn none() -> Sum
-    ensures { result.sheet ≡ noSheet }
+    ensures { result.sheet ≡ no_sheet }
 {
     let s = totals::sheets::none();
     Sum {
@@ -24,7 +24,7 @@ pub(crate) fn none() -> Sum
 
 // A name whose file cannot be opened or read: it is counted, and no figure of a trace changes.
 pub(crate) fn unopened<R: Print>(rt: &R, name: &[u8], sum: Sum) -> Sum
-    ensures { result.sheet ≡ leftUnopened sum.sheet }
+    ensures { result.sheet ≡ left_unopened sum.sheet }
 {
     let s = totals::sheets::unopened(sum.sheet);
     let written = print_unopened(rt, s.named, name);

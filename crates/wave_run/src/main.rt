@@ -4,7 +4,7 @@
 
 ghost use Rattle.std.specs.Prelude.{◌≡◌, List, ℕ, ◌≤◌, length, IfOk};
 ghost use Rattle.text.specs.Text.{laid};
-ghost use Rattle.waves.specs.Waves.{wavesOf};
+ghost use Rattle.waves.specs.Waves.{waves_of};
 
 use std::alloc::{AllocError, Global};
 
@@ -41,7 +41,7 @@ fn tell(rt: &HostRuntime, what: &[u8]) {
 
 // The waves that are printed.
 fn dumped(trace: &[u8], out: &mut [u8]) -> usize
-    ensures { (out.new, result) ≡ laid out.old (wavesOf trace.now 20000) }
+    ensures { (out.new, result) ≡ laid out.old (waves_of trace.now 20000) }
 {
     waves::waves(trace, LIMIT, out)
 }
@@ -49,7 +49,7 @@ fn dumped(trace: &[u8], out: &mut [u8]) -> usize
 // A buffer that any such waves fit. It is on the heap, since a stack of 8 MB has no room for such an array and its copies.
 fn room(alloc: Global) -> Result<Vec<u8>, AllocError>
     ensures value { IfOk result (λ out. 4280737 ≡ length out.items) }
-    ensures any { IfOk result (λ out. (s : List ℕ) → length (wavesOf s 20000) ≤ length out.items) }
+    ensures any { IfOk result (λ out. (s : List ℕ) → length (waves_of s 20000) ≤ length out.items) }
 {
     vec![in alloc; 0; 4280737]
 }
