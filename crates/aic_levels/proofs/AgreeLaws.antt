@@ -15,7 +15,7 @@ use Rattle.steps.specs.Refusals.{carried_out}
 use Rattle.aic_record.specs.declared.Aic.{Aic}
 use Rattle.aic_record.specs.Sound.{sound}
 use Rattle.aic_sources.specs.Fast.{fast_asks, masked, fiq}
-use Rattle.aic_sources.specs.Normal.{waiting, candidates, irq}
+use Rattle.aic_sources.specs.Normal.{waiting, candidates}
 use Rattle.aic_sources.specs.Search.{rank, least_of}
 use Rattle.aic_sources.proofs.SearchLaws.{chosen-some}
 use Rattle.aic_levels.specs.declared.Levels.{Levels}

@@ -34,7 +34,7 @@ use Rattle.aic_registers.specs.Effects.{set_by, turns, moved}
 use Rattle.aic.specs.Model.{step}
 use Rattle.aic.proofs.HandlerLaws.{started-is, moved-is}
 use Rattle.aic.proofs.StepKindLaws.{with_store, kinds}
-use Rattle.aic_runs.specs.Counted.{starts, recalls, starts_of, rises, edges, commands, rewrites}
+use Rattle.aic_runs.specs.Counted.{recalls, starts_of, rises, edges, commands, rewrites}
 use Rattle.aic_runs.proofs.CountedLaws.{plain-start, write-start, line-start, no_start, look-start, take-chosen, mark-chosen, none_of, begin_source, begin-none, close_close, set_command, line_rise, mode-rewrite, forcing-rewrite}
 use Rattle.aic_runs.proofs.StepLaws.{unseen}
 use Rattle.aic_runs.specs.Turns.{closes_of, closes_hot, gains, due}

@@ -1,9 +1,9 @@
 -- A stretch in which a source waits, a start that keeps others waiting, source 0, and eight entries.
-use Prim.Native.Nat.{ℕ, zero, suc, ◌+◌, ◌-◌, ◌≤◌, ◌<◌, max}
-use mathlib.Core.Path.{◌≡◌, refl, sym, ap, ap₂, ◌∙◌}
-use mathlib.Core.Bool.{Bool, true, false, not, ◌&&◌, ◌||◌, and-false, or-false}
+use Prim.Native.Nat.{ℕ, ◌+◌, ◌-◌, ◌≤◌, ◌<◌, max}
+use mathlib.Core.Path.{◌≡◌, refl, sym, ap, ◌∙◌}
+use mathlib.Core.Bool.{Bool, true, false, not, ◌&&◌, and-false}
 use mathlib.Core.List.{List, [], ◌∷◌}
-use mathlib.Core.Logic.{◌↔◌, ◌≢◌, ◌⊎◌, inl, inr}
+use mathlib.Core.Logic.{◌↔◌, ◌≢◌}
 use native.Mathlib.Omega.{arith}
 use lib.Dec.{eqb, ltb}
 use lib.ListN.{get_or, set}
@@ -12,8 +12,8 @@ use Rattle.words.specs.Choice.{pick}
 use Rattle.words.specs.Counting.{one, any_below}
 use Rattle.words.specs.Word.{bit, with_bit}
 use Rattle.words.proofs.ChoiceLaws.{pick_cases, pick_true, pick-false}
-use Rattle.words.proofs.CountingLaws.{one_le, any_some, some_any}
-use Rattle.words.proofs.TruthLaws.{and_left, and_right, and_both, clash, not-holds, told}
+use Rattle.words.proofs.CountingLaws.{any_some, some_any}
+use Rattle.words.proofs.TruthLaws.{and_left, and_right, and_both, not-holds}
 use Rattle.words.proofs.WordLaws.{bit-cleared_if}
 use Rattle.steps.specs.declared.Step.{Step}
 use Rattle.aic_record.specs.declared.Aic.{Aic}
@@ -26,16 +26,15 @@ use Rattle.aic_record.proofs.SoundLaws.{sound-is}
 use Rattle.aic_sources.specs.Pending.{active, active_at, active_low, pending, asking}
 use Rattle.aic_sources.specs.Fast.{fast}
 use Rattle.aic_sources.specs.Normal.{waiting}
-use Rattle.aic_registers.specs.Handlers.{started_at}
 use Rattle.aic.specs.Model.{step}
 use Rattle.aic.proofs.Promises as Controller
 use Rattle.aic.proofs.HandlerLaws.{started-is}
 use Rattle.aic_runs.specs.Counted.{started_by, level_of, starts_of, starts_other}
-use Rattle.aic_runs.specs.Runs.{run, count, always}
+use Rattle.aic_runs.specs.Runs.{count, always}
 use Rattle.aic_runs.proofs.CountedLaws.{started-room}
 use Rattle.aic_runs.proofs.StepLaws.{start_law}
-use Rattle.aic_waits.specs.Figures.{started_of, wait_next, wait_after, standing, wait_most, waited_of, is_open, entries_now, entries_most}
-use Rattle.aic_waits.specs.Promises.{Waits, Wait}
+use Rattle.aic_waits.specs.Figures.{started_of, wait_next, wait_after, wait_most, is_open, entries_now, entries_most}
+use Rattle.aic_waits.specs.Promises.{Waits}
 use Rattle.aic_waits.proofs.TellLaws.{started_real}
 
 -- ---- one step more

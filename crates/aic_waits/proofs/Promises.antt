@@ -1,19 +1,18 @@
 -- The promises of the figures, kept.
-use Prim.Native.Nat.{ℕ, ◌+◌, ◌≤◌, ◌<◌}
+use Prim.Native.Nat.{ℕ, ◌<◌}
 use mathlib.Core.Path.{◌≡◌, refl, sym, ap, ◌∙◌}
-use mathlib.Core.List.{List, []}
+use mathlib.Core.List.{[]}
 use native.Mathlib.Omega.{arith}
-use lib.ListN.{get_or, length, replicate, get_or-replicate}
+use lib.ListN.{get_or, replicate, get_or-replicate}
 use Rattle.words.specs.Counting.{any_below}
 use Rattle.words.specs.Choice.{pick}
-use Rattle.steps.specs.declared.Step.{Step}
 use Rattle.aic_record.specs.declared.Aic.{Aic}
 use Rattle.aic_record.specs.Record.{reset}
 use Rattle.aic_record.proofs.Promises as Record
 use Rattle.aic_runs.specs.Runs.{count}
 use Rattle.aic_runs.proofs.Promises as Runs
 use Rattle.aic_waits.specs.Figures.{started_of, wait_most, waited_of, is_open, entries_now, entries_most, entries_of}
-use Rattle.aic_waits.specs.Following.{no_figures, figures_over}
+use Rattle.aic_waits.specs.Following.{no_figures}
 use Rattle.aic_waits.specs.Promises.{Promises}
 use Rattle.aic_waits.proofs.RunLaws.{Whole, started-run, waited-run, entries-run}
 use Rattle.aic_waits.proofs.TellLaws.{tells}

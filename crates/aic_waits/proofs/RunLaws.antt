@@ -1,14 +1,13 @@
 -- The figures of each source, step by step, are their definitions over the run.
 use Prim.Native.Nat.{ℕ, zero, suc, ◌+◌, ◌-◌, ◌≤◌, ◌<◌, max}
 use mathlib.Core.Path.{◌≡◌, refl, sym, ap, ap₂, ◌∙◌}
-use mathlib.Core.Bool.{Bool, true, false, not, ◌&&◌}
+use mathlib.Core.Bool.{Bool, not, ◌&&◌}
 use mathlib.Core.List.{List, [], ◌∷◌}
 use native.Mathlib.Omega.{arith}
 use native.Mathlib.Decide.{ℕ_discrete}
 use lib.Dec.{eqb, ltb}
 use lib.ListN.{get_or, set, length, length-set}
 use lib.Seq.{get_or-set_other, get_or-set_same}
-use Rattle.words.specs.Choice.{pick}
 use Rattle.words.specs.Counting.{one, upto}
 use Rattle.words.proofs.CountingLaws.{one_le}
 use Rattle.words.proofs.ChoiceLaws.{pick_cases}

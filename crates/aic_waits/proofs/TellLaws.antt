@@ -6,7 +6,7 @@ use mathlib.Core.Logic.{◌≢◌, ◌⊎◌, inl, inr}
 use native.Mathlib.Omega.{arith}
 use lib.Dec.{eqb, ltb}
 use native.Mathlib.Decide.{dec_lt}
-use lib.ListN.{get_or, set, length}
+use lib.ListN.{set, length}
 use lib.Seq.{get_or-set_same}
 use borrow.Author.Tests.{eqb-true, ltb-true}
 use Rattle.words.specs.Counting.{one}

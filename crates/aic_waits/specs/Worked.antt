@@ -1,6 +1,6 @@
 -- One run from reset, worked through: a level-sensitive source that is served with its line still high, a wait that never ends, entries below, marks, and
 -- a source that is fast for a while.
-use Rattle.std.specs.Prelude.{ℕ, List, [], ◌∷◌}
+use Rattle.std.specs.Prelude.{List, [], ◌∷◌}
 use Rattle.steps.specs.declared.Step.{Step}
 use Rattle.steps.specs.declared.Step.TheVariants.{Read, Write, Line}
 

@@ -4,14 +4,11 @@ use mathlib.Core.Path.{◌≡◌, refl}
 use mathlib.Core.Bool.{true}
 use mathlib.Core.List.{List, [], ◌∷◌, map}
 use native.Mathlib.Omega.{arith}
-use lib.ListN.{get_or}
-use Rattle.totals.specs.declared.Totals.{Totals}
 use Rattle.totals.specs.Totals.{zeros, all_in, Reordered}
 use Rattle.totals.specs.Promises.{Whole, Within, EachWhole, nothing, one, Alike}
 use Rattle.totals.proofs.Promises as Sums
 use Rattle.tally.proofs.Promises as Tally
 use Rattle.report.specs.Put.{figures_of, put_all}
-use Rattle.report.proofs.PutLaws.{put-none_yet, put-one-more}
 
 whole-zeros : Whole zeros
 unfolding zeros

@@ -1,22 +1,21 @@
 -- The promises of the report, kept.
-use Prim.Native.Nat.{ℕ, suc, ◌+◌, ◌≤◌, ◌<◌, min}
-use mathlib.Core.Path.{◌≡◌, refl, sym, ap, ◌∙◌}
+use Prim.Native.Nat.{ℕ, suc}
+use mathlib.Core.Path.{◌≡◌, refl, sym, ◌∙◌}
 use mathlib.Core.List.{List, [], ◌∷◌, ◌++◌, append-nil, append_assoc}
 use mathlib.Core.Logic.{◌≢◌}
 use native.Mathlib.Omega.{arith}
-use lib.Dec.{eqb}
-use lib.ListN.{length, get_or, drop}
+use lib.ListN.{get_or}
 use borrow.Author.Tests.{ne_eqb}
 use Rattle.words.specs.Choice.{pick}
 use Rattle.words.proofs.ChoiceLaws.{pick_true, pick-false}
-use Rattle.text.specs.Text.{decimal, decimal_of, field, laid}
+use Rattle.text.specs.Text.{decimal, decimal_of, field}
 use Rattle.text.proofs.Promises.{kept as texts}
 use Rattle.text.proofs.WriteLaws.{write-laid}
 use Rattle.text.specs.Phrases.{bytes, counted}
 use Rattle.totals.specs.declared.Totals.{Totals}
 use Rattle.report.specs.Lines.{line_end}
 use Rattle.report.specs.Printed.{named, ended_at, trace_line, left_out_line, source_line, source_lines}
-use Rattle.report.specs.Promises.{Promises, Whole}
+use Rattle.report.specs.Promises.{Promises}
 use Rattle.report.proofs.LineLaws.{line-over, line-within, end_before, end_at, name-short, name-whole, name-empty, feeds-none, feeds_feed, feeds_else}
 use Rattle.report.proofs.SizeLaws.{length_trace, length-left_out, length_sources}
 use Rattle.report.proofs.OrderLaws as order

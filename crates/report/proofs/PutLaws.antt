@@ -1,13 +1,13 @@
 -- Traces that are put to totals: none, one, and more after others.
 use Prim.Native.Nat.{ℕ, ◌+◌, ◌≤◌}
-use mathlib.Core.Path.{◌≡◌, refl, sym, ap, ◌∙◌}
+use mathlib.Core.Path.{◌≡◌, sym, ap, ◌∙◌}
 use mathlib.Core.Bool.{Bool, false, not}
 use mathlib.Core.List.{List, [], ◌∷◌, ◌++◌, map}
 use native.Mathlib.Omega.{arith}
-use lib.ListN.{length, length-append}
+use lib.ListN.{length-append}
 use Rattle.words.specs.Counting.{one}
 use Rattle.totals.specs.declared.Totals.{Totals}
-use Rattle.totals.specs.Totals.{added, added_all}
+use Rattle.totals.specs.Totals.{added}
 use Rattle.totals.proofs.Promises as Sums
 use Rattle.report.specs.Put.{figures_of, put_all, Put}
 

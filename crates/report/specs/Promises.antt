@@ -1,5 +1,5 @@
 -- What is promised of the report: the totals after traces, its words, how long its lines are at most, and where a line of names ends.
-use Rattle.std.specs.Prelude.{ℕ, ◌<◌, suc, ◌+◌, ◌-◌, ◌*◌, ◌≤◌, ◌^◌, ◌≡◌, true, List, [], ◌∷◌, map, ◌++◌, ◌≢◌, length, get_or, drop}
+use Rattle.std.specs.Prelude.{ℕ, ◌<◌, suc, ◌+◌, ◌-◌, ◌≤◌, ◌^◌, ◌≡◌, true, List, [], ◌∷◌, map, ◌++◌, ◌≢◌, length, get_or, drop}
 use Rattle.totals.specs.declared.Totals.{Totals}
 use Rattle.totals.specs.Totals.{zeros, added, all_in, Reordered}
 use Rattle.totals.specs.Promises.{Alike}

@@ -1,7 +1,7 @@
 -- The bytes of words: those of one word in two parts, and of a word that is put together from two.
 use Prim.Native.Nat.{ℕ, zero, suc, ◌+◌, ◌*◌, ◌/◌, ◌%◌, ◌^◌, ◌<◌}
 use mathlib.Core.Path.{◌≡◌, refl, sym, ap, ap₂, ◌∙◌}
-use mathlib.Core.List.{List, [], ◌∷◌, ◌++◌}
+use mathlib.Core.List.{List, ◌∷◌, ◌++◌}
 use native.Mathlib.Nat.{div-div-eq-div-mul, pow-succ', div-one, zero-add, pow-suc}
 use native.Mathlib.Omega.{arith}
 use lib.Arith.{mod-mul}

@@ -1,10 +1,10 @@
 -- Eight digits at once: the half bytes of a word move apart, and the rule of a digit is carried out on all of them.
-use Prim.Native.Nat.{ℕ, zero, suc, ◌+◌, ◌-◌, ◌*◌, ◌/◌, ◌%◌, ◌^◌, ◌<◌, ◌≤◌}
+use Prim.Native.Nat.{ℕ, zero, suc, ◌+◌, ◌-◌, ◌*◌, ◌/◌, ◌%◌, ◌^◌, ◌<◌}
 use mathlib.Core.Path.{◌≡◌, refl, sym, ap, ap₂, ◌∙◌}
 use mathlib.Core.List.{List, [], ◌∷◌}
 use native.Mathlib.Nat.{mod-lt, lt_of_lt_of_le, le-add_left}
 use native.Mathlib.Omega.{arith}
-use lib.Bits.{bit_and, and_block, and_mask, and_zero_r}
+use lib.Bits.{bit_and, and_block, and_mask}
 use lib.Pow.{pow_pos, pow_mono, split, mod-mod-pow, ones_lt}
 use lib.ListN.{length}
 use lib.Dec.{ltb}

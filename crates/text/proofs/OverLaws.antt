@@ -1,12 +1,12 @@
 -- A text over the end of another: what stood there before is gone.
-use Prim.Native.Nat.{ℕ, zero, suc, ◌+◌, ◌<◌, ◌≤◌}
+use Prim.Native.Nat.{ℕ, ◌+◌, ◌<◌, ◌≤◌}
 use mathlib.Core.Path.{◌≡◌, refl, sym, ap, ◌∙◌}
 use mathlib.Core.List.{List, [], ◌∷◌, ◌++◌}
 use native.Mathlib.Nat.{add-zero}
 use native.Mathlib.Omega.{arith}
 use lib.ListN.{length, set, length-set}
 use lib.Seq.{set-set, set_comm}
-use Rattle.text.specs.Text.{push, write}
+use Rattle.text.specs.Text.{write}
 use Rattle.text.proofs.WriteLaws.{room, length-write, write_append}
 
 -- a byte that finds room, and what follows

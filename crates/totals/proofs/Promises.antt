@@ -1,7 +1,7 @@
 -- The promises of totals are kept: 16 by the 32 sums, and the order of the traces makes no difference.
 use Prim.Native.Nat.{ℕ, ◌+◌, ◌≤◌, ◌<◌, max}
 use mathlib.Core.Path.{◌≡◌, refl, sym, ap, ◌∙◌}
-use mathlib.Core.Bool.{Bool, true, false, not, ◌&&◌}
+use mathlib.Core.Bool.{Bool, true, false, not}
 use mathlib.Core.List.{List, [], ◌∷◌, zip_with}
 use mathlib.Core.Logic.{◌↔◌, ◌⊎◌, inl, inr}
 use native.Mathlib.Omega.{arith}
@@ -12,13 +12,13 @@ use Rattle.words.specs.Choice.{pick}
 use Rattle.words.specs.Counting.{any_below}
 use Rattle.words.proofs.ArrayLaws.{zeros_get_d}
 use Rattle.words.proofs.ChoiceLaws.{pick_true, pick-false}
-use Rattle.words.proofs.CountingLaws.{any_some, some_any, any_none}
+use Rattle.words.proofs.CountingLaws.{any_some, some_any}
 use Rattle.words.proofs.TruthLaws.{and_left, and_right, and_both, told, not-holds}
 use Rattle.totals.specs.declared.Totals.{Totals}
 use Rattle.totals.specs.declared.Added.{Added}
 use Rattle.totals.specs.Totals.{zeros, passes, together, added, added_all, all_in, Reordered, none, keep, swap, then}
 use Rattle.totals.specs.Worked.{only}
-use Rattle.totals.specs.Promises.{Whole, Within, EachWhole, nothing, one, Source, Promises}
+use Rattle.totals.specs.Promises.{Whole, Within, EachWhole, one, Source, Promises}
 use Rattle.totals.proofs.TotalsLaws.{length-joined, get_d-joined, fit_at}
 
 -- ---- one trace more

@@ -1,25 +1,19 @@
 -- Which sums of the sheet pass, and how it is with one name more.
 use Prim.Native.Nat.{ℕ, ◌+◌, ◌≤◌, ◌<◌}
-use mathlib.Core.Path.{◌≡◌, refl, sym, ap, ◌∙◌}
+use mathlib.Core.Path.{◌≡◌, sym}
 use mathlib.Core.Bool.{Bool, true, false, not, ◌||◌}
-use mathlib.Core.Logic.{◌⊎◌, inl, inr}
-use native.Mathlib.Omega.{arith}
-use lib.Dec.{eqb, ltb}
+use lib.Dec.{eqb}
 use borrow.Author.Tests.{lt-ltb, le-ltb, ltb-true, ltb-false}
 use Rattle.words.proofs.ChoiceLaws.{pick_true, pick-false}
-use Rattle.words.proofs.TruthLaws.{or-either, or_neither, or_left, or_right}
+use Rattle.words.proofs.TruthLaws.{or_neither}
 use Rattle.steps.specs.Refusals.{carried_out}
 use Rattle.totals.specs.declared.Added.{Added as Summed}
 use Rattle.totals.specs.Totals as Sums
-use Rattle.totals.proofs.TotalsLaws.{sum-passes, refused-passes}
 use Rattle.totals.specs.declared.waits.Added.{Added as Bounded}
 use Rattle.totals.specs.Waits as Bounds
-use Rattle.totals.proofs.WaitLaws as Laws
 use Rattle.totals.specs.declared.sheets.Noted.{Noted}
 use Rattle.totals.specs.declared.sheets.Sheet.{Sheet}
 use Rattle.totals.specs.Sheet.{too_much, numbers_pass, passes, counted, more, together, summed, added}
-use Rattle.totals.specs.SheetsPromises.{Passes}
-use Rattle.totals.specs.SheetsPromises as P
 
 -- ---- sums
 

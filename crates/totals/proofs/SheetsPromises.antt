@@ -1,15 +1,14 @@
 -- The promises of the sheet's figures are kept.
 use Prim.Native.Nat.{ℕ, ◌+◌, ◌≤◌, ◌<◌}
-use mathlib.Core.Path.{◌≡◌, refl, sym, ap, ◌∙◌, subst}
+use mathlib.Core.Path.{◌≡◌, refl, sym, ap, ◌∙◌}
 use mathlib.Core.Bool.{Bool, true, false, not, ◌||◌}
 use mathlib.Core.List.{List}
 use mathlib.Core.Logic.{◌↔◌, ◌≢◌, ◌⊎◌, inl, inr}
 use native.Mathlib.Omega.{arith}
 use native.Mathlib.Decide.{dec_lt}
-use lib.Dec.{eqb, ltb}
+use lib.Dec.{eqb}
 use lib.ListN.{get_or, length, replicate, length-replicate, get_or-replicate}
-use borrow.Author.Tests.{lt-ltb, le-ltb, eqb-true, not-true}
-use Rattle.words.specs.Word.{bit}
+use borrow.Author.Tests.{lt-ltb, le-ltb, eqb-true}
 use Rattle.words.proofs.ArrayLaws.{zeros_get_d}
 use Rattle.words.proofs.ChoiceLaws.{pick_true, pick-false}
 use Rattle.words.proofs.TruthLaws.{or-either, or_neither, or_left, or_right, told, clash, not-holds}
@@ -26,7 +25,7 @@ use Rattle.totals.proofs.WaitLaws as Laws
 use Rattle.totals.specs.declared.sheets.Noted.{Noted}
 use Rattle.totals.specs.declared.sheets.Sheet.{Sheet}
 use Rattle.totals.specs.declared.sheets.Added.{Added}
-use Rattle.totals.specs.Sheet.{no_sheet, more, counted, too_much, numbers_pass, passes, first_of, together, summed, added, left_unopened}
+use Rattle.totals.specs.Sheet.{no_sheet, more, counted, too_much, numbers_pass, passes, first_of, together, added, left_unopened}
 use Rattle.totals.specs.SheetsPromises.{Promises, Passes, Alike, Names, Taken}
 use Rattle.totals.specs.SheetsPromises as P
 use Rattle.totals.proofs.SheetLaws.{too_much_lem, much_too, strayed, kept_on, full_up, taken_in}

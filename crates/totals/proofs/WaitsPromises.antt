@@ -1,20 +1,16 @@
 -- The promises of waits added up are kept.
 use Prim.Native.Nat.{ℕ, ◌+◌, ◌≤◌, ◌<◌}
 use mathlib.Core.Path.{◌≡◌, refl, sym, ap, ◌∙◌}
-use mathlib.Core.Bool.{Bool, true, false, not, ◌&&◌, ◌||◌}
+use mathlib.Core.Bool.{Bool, true, false, not, ◌&&◌}
 use mathlib.Core.List.{List, zip_with}
 use mathlib.Core.Logic.{◌↔◌, ◌≢◌, ◌⊎◌, inl, inr}
 use native.Mathlib.Omega.{arith}
-use lib.Dec.{eqb, ltb}
+use lib.Dec.{eqb}
 use lib.ListN.{get_or, length}
-use borrow.Author.Tests.{lt-ltb, ltb-true, le-ltb, eqb-true, eq-eqb, ne_eqb, not-true}
-use Rattle.words.specs.Choice.{pick}
-use Rattle.words.specs.Counting.{any_below}
+use borrow.Author.Tests.{lt-ltb, le-ltb, eqb-true, eq-eqb, ne_eqb, not-true}
 use Rattle.words.proofs.ArrayLaws.{zeros_get_d}
 use Rattle.words.proofs.ChoiceLaws.{pick_true, pick-false}
-use Rattle.words.proofs.CountingLaws.{any_some, some_any}
-use Rattle.words.proofs.TruthLaws.{and_left, and_right, and_both, or-either, or_left, or_right, told, clash, not-holds}
-use Rattle.totals.specs.Totals as Sums
+use Rattle.words.proofs.TruthLaws.{and_left, and_right, and_both, told, clash, not-holds}
 use Rattle.totals.proofs.TotalsLaws.{length-joined, get_d-joined}
 use Rattle.totals.specs.declared.waits.Waits.{Waits}
 use Rattle.totals.specs.declared.waits.Added.{Added}

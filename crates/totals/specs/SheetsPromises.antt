@@ -1,10 +1,8 @@
 -- What is promised of the figures of the tuning sheet.
-use Rattle.std.specs.Prelude.{ℕ, ◌+◌, ◌≤◌, ◌<◌, ◌≡◌, Bool, ◌||◌, ◌↔◌, ◌≢◌, ◌⊎◌, get_or, length}
+use Rattle.std.specs.Prelude.{ℕ, ◌+◌, ◌≤◌, ◌<◌, ◌≡◌, ◌||◌, ◌↔◌, ◌≢◌, ◌⊎◌, get_or, length}
 use Rattle.words.specs.Word.{bit}
-use Rattle.totals.specs.declared.Totals.{Totals}
 use Rattle.totals.specs.Totals as Sums
 use Rattle.totals.specs.Promises.{Source}
-use Rattle.totals.specs.declared.waits.Waits.{Waits}
 use Rattle.totals.specs.Waits as Bounds
 use Rattle.totals.specs.WaitsPromises.{Numbers}
 use Rattle.totals.specs.declared.sheets.Noted.{Noted}

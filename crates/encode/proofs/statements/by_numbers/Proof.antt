@@ -24,13 +24,13 @@ add-t12 c =
     let n = c.before.before.before.before.before.before.before.before in
     let a = n.before.before.args in
     let h : a.o.numbers < 2 ^ 32 = search rules in
-    omega (arith, size_least a.line.now a.o _ n.numbers-in.ensures, c.before.type_size.ensures, groups-most 5 a.o.first)
+    omega (arith, size_least a.line.now a.o _ n.numbers-in.ensures, c.before.size-of.ensures, groups-most 5 a.o.first)
 
 returns-3 : tie.Need-returns-3
 returns-3 c =
     let n = c.before.before.before.before.before.before.before.before in
     let a = n.before.before.args in
-    by_said a.line.now a.o _ n.numbers-in.ensures _ c.before.before.before.before.before.if1.false c.before.before.before.if2.false c.before.type_size.ensures
+    by_said a.line.now a.o _ n.numbers-in.ensures _ c.before.before.before.before.before.if1.false c.before.before.before.if2.false c.before.size-of.ensures
 
 pub by-numbers-spec : {M : Type 1} → statement M
 by-numbers-spec =

@@ -45,7 +45,7 @@ add-size c =
     let l = c.before.before.before.before.before.before in
     let a = l.before.before.before.args in
     let h : a.n < 2 ^ 32 = search rules in
-    omega (arith, l.loop.invariant.2, values-most a.line.now l.loop.k, c.type_size.ensures, groups-most 5 c.before.entered-as.result, c.before.before.before.before.before.loop-test.true)
+    omega (arith, l.loop.invariant.2, values-most a.line.now l.loop.k, c.size-of.ensures, groups-most 5 c.before.entered-as.result, c.before.before.before.before.before.loop-test.true)
 
 loop-again : tie.Need-loop-preserved invariant-loop decreases-loop
 loop-again c =
@@ -55,7 +55,7 @@ loop-again c =
     let x = next-is s l.past (l.k + 1) _ l.invariant.1 r in
     let f : fitting (nth_typed s (l.k + 1)) ≡ true = sym (c.before.before.before.fits2.ensures ∙ next-fitting s (l.k + 1) _ x) ∙ not-false _ c.before.before.if1.false in
     let v = next-worth s l.past (l.k + 1) _ _ l.invariant.1 r c.before.entered-as.ensures in
-    (search rules, x.past, size-values s l.k l.size _ _ l.invariant.2 c.type_size.ensures v, fitting-more s l.k l.invariant.3 f)
+    (search rules, x.past, size-values s l.k l.size _ _ l.invariant.2 c.size-of.ensures v, fitting-more s l.k l.invariant.3 f)
 
 returns-2 : tie.Need-returns-2 invariant-loop decreases-loop
 returns-2 c =

@@ -1,0 +1,5 @@
+-- That `no_figures` of src/figures.rt keeps its contract.
+use Rattle.aic_bounds.proofs.figures.no_figures.Goals as goal
+
+pub returns : goal.returns
+returns c = rw (c.idle-none.ensures, c.idle-first.ensures)

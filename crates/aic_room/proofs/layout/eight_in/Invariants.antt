@@ -1,0 +1,11 @@
+-- That `eight_in` of src/layout.rt keeps its contract.
+use mathlib.Core.Path.{◌≡◌}
+use Prim.Native.Nat.{ℕ, ◌+◌, ◌-◌, ◌%◌, ◌≤◌, ◌<◌}
+use lib.ListN.{length, get_or}
+use Rattle.aic_room.proofs.layout.eight_in.Given as goal
+
+abbrev pub invariant-loop-k : goal.invariant-loop-k
+invariant-loop-k l = (l.k ≤ 8) × (length l.out ≡ 8) × ((j : ℕ) → j < l.k → get_or l.out j 0 ≡ get_or (l.room) (l.at + j) 0 % 256)
+
+abbrev pub decreases-loop-k : goal.decreases-loop-k
+decreases-loop-k l = 8 - l.k

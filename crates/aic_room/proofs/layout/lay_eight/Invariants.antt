@@ -1,0 +1,12 @@
+-- That `lay_eight` of src/layout.rt keeps its contract.
+use mathlib.Core.Path.{◌≡◌}
+use Prim.Native.Nat.{◌-◌, ◌≤◌}
+use lib.ListN.{get_or}
+use Rattle.rooms.specs.Parts.{stored}
+use Rattle.aic_room.proofs.layout.lay_eight.Given as goal
+
+abbrev pub invariant-loop-k : goal.invariant-loop-k
+invariant-loop-k l = (l.k ≤ 8) × (l.room ≡ stored l.at (λ j. get_or l.bytes j 0) l.initial.room l.k)
+
+abbrev pub decreases-loop-k : goal.decreases-loop-k
+decreases-loop-k l = 8 - l.k

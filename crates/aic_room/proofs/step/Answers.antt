@@ -1,0 +1,22 @@
+-- That `step` of src/lib.rt keeps its contract.
+use mathlib.Core.Path.{ap, ◌∙◌}
+use borrow.Author.Tests.{eq-eqb, ne_eqb}
+use Rattle.words.proofs.ChoiceLaws.{pick_true, pick-false}
+use Rattle.trace.specs.Turns.{step_of}
+use Rattle.aic.specs.Model.{step}
+use Rattle.aic_room.proofs.ReplyLaws.{done_as}
+use Rattle.aic_room.proofs.step.Goals as goal
+
+pub returns-then-kind-eq-READ : goal.returns-then-kind-eq-READ
+unfolding step_of
+returns-then-kind-eq-READ c = λ a ok h. done_as (ap (step a) (pick_true _ (eq-eqb _ _ c.if-kind-eq-READ.true))) (c.read.ensures a ok h)
+
+pub returns-then-kind-eq-WRITE : goal.returns-then-kind-eq-WRITE
+unfolding step_of
+returns-then-kind-eq-WRITE c =
+    λ a ok h. done_as (ap (step a) (pick_true _ (eq-eqb _ _ c.if-kind-eq-WRITE.true) ∙ pick-false _ (ne_eqb _ _ c.if-kind-eq-READ.false))) (c.write.ensures a ok h)
+
+pub returns : goal.returns
+unfolding step_of
+returns c =
+    λ a ok h. done_as (ap (step a) (pick-false _ (ne_eqb _ _ c.if-kind-eq-WRITE.false) ∙ pick-false _ (ne_eqb _ _ c.if-kind-eq-READ.false))) (c.line.ensures a ok h)

@@ -1,0 +1,22 @@
+-- That `search` of src/lib.rt keeps its contract.
+use native.Mathlib.Omega.{arith}
+use Rattle.aic_sources.proofs.SearchLaws.{search-none, search-more, search-done}
+use Rattle.aic_sources.proofs.search.Goals as goal
+
+pub loop-k-init : goal.loop-k-init
+loop-k-init c = (omega arith, search-none _ _ _)
+
+pub loop-k-preserved : goal.loop-k-preserved
+loop-k-preserved c =
+    let a = c.args in
+    let l = c.loop-k in (
+      omega arith,
+      search-more a.waiting a.mode.now a.least l.k l.best l.floor _ _ c.loop-k-test.true l.invariant.1
+          c.priority_of-priority.ensures c.has.ensures c.choose-best.ensures c.choose-floor.ensures,
+    )
+
+pub returns : goal.returns
+returns c =
+    let a = c.args in
+    let l = c.loop-k in
+    search-done a.waiting a.mode.now a.least l.k l.best l.invariant.0 c.loop-k-test.false l.invariant.1.0

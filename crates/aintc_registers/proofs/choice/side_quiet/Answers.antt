@@ -1,0 +1,9 @@
+-- That `side_quiet` of src/choice.rt keeps its contract.
+use Rattle.aintc_registers.proofs.SettleLaws.{quiet-held, quiet-from}
+use Rattle.aintc_registers.proofs.choice.side_quiet.Goals as goal
+
+pub returns-then-chosen : goal.returns-then-chosen
+returns-then-chosen c = quiet-held _ _ _ c.side_of-chosen.ensures c.if-chosen.true
+
+pub returns : goal.returns
+returns c = quiet-from _ _ _ c.side_of-chosen.ensures _ c.first_of.ensures c.if-chosen.false

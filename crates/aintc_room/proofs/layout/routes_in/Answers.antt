@@ -1,0 +1,20 @@
+-- That `routes_in` of src/layout.rt keeps its contract.
+use mathlib.Core.Path.{refl}
+use Prim.Native.Nat.{◌+◌, ◌-◌, ◌%◌}
+use native.Mathlib.Omega.{arith}
+use lib.ListN.{get_or, length-set}
+use borrow.Author.Count.{below_none}
+use Rattle.words.proofs.ArrayLaws.{filled}
+use Rattle.aintc_room.proofs.layout.routes_in.Goals as goal
+
+pub loop-k-init : goal.loop-k-init
+loop-k-init c = (omega arith, refl, below_none _)
+
+pub loop-k-preserved : goal.loop-k-preserved
+loop-k-preserved c =
+    let l = c.loop-k in
+    let a = c.args in
+    (omega arith, simp length-set l.invariant.1, filled l.out (λ j. get_or a.room.now (128 + j) 0 % 256) l.k (omega (arith, l.invariant.1)) l.invariant.2 _ c.byte-b.ensures)
+
+pub returns : goal.returns
+returns c = let l = c.loop-k in (l.invariant.1, λ j m. l.invariant.2 j (omega (arith, m, c.loop-k-test.false)))

@@ -1,0 +1,10 @@
+-- That `inputs` of src/lib.rt keeps its contract.
+use Rattle.words.proofs.ChoiceLaws.{pick_true, pick-false}
+use native.Mathlib.Omega.{arith}
+use Rattle.board_wires.proofs.inputs.Goals as goal
+
+pub returns-then-fast : goal.returns-then-fast
+returns-then-fast c = (pick_true _ c.if-fast.true, omega arith)
+
+pub returns : goal.returns
+returns c = (pick-false _ c.if-fast.false, omega arith)

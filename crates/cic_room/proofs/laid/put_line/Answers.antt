@@ -1,0 +1,19 @@
+-- That `put_line` of src/laid.rt keeps its contract.
+use mathlib.Core.Path.{ap, ◌∙◌}
+use Prim.Native.Nat.{ℕ, ◌/◌, ◌%◌}
+use native.Mathlib.Omega.{arith}
+use lib.ListN.{set}
+use Rattle.words.specs.Array.{with_bit_at}
+use Rattle.words.specs.Word.{with_bit}
+use Rattle.cic_record.specs.Record.{with_lines}
+use Rattle.cic_room.proofs.PutLaws.{lines-is, laid_lines}
+use Rattle.cic_room.proofs.RoomLaws.{laid_as}
+use Rattle.cic_room.proofs.laid.put_line.Goals as goal
+
+pub returns : goal.returns
+unfolding with_bit_at
+returns c =
+    let n = c.args.s.0 in
+    λ f d h.
+    laid_as (ap (λ (x : ℕ). with_lines d (set d.lines (n / 32) x)) (c.with_bit-w.ensures ∙ ap (λ (x : ℕ). with_bit x (n % 32) c.args.high) (lines-is h (n / 32) (omega (arith, c.requires)))))
+    (laid_lines h (n / 32) _ (omega (arith, c.requires)))

@@ -1,0 +1,11 @@
+-- That `words_in` of src/transfer.rt keeps its contract.
+use mathlib.Core.Path.{◌≡◌}
+use Prim.Native.Nat.{ℕ, ◌+◌, ◌-◌, ◌<◌, ◌≤◌}
+use lib.ListN.{length, get_or}
+use Rattle.cic_room.proofs.transfer.words_in.Given as goal
+
+abbrev pub invariant-loop-k : goal.invariant-loop-k
+invariant-loop-k l = (l.k ≤ 32) × ((length l.out ≡ 32) × ((j : ℕ) → j < l.k → get_or l.out j 0 ≡ get_or l.room (l.at + j) 0))
+
+abbrev pub decreases-loop-k : goal.decreases-loop-k
+decreases-loop-k l = 32 - l.k

@@ -1,0 +1,13 @@
+-- That `put_signs` of src/frame.rt keeps its contract.
+use Rattle.text.proofs.WriteLaws.{and_then, same_length as same_len}
+use Rattle.text.specs.Phrases.{bytes}
+use Rattle.drawing.specs.Frame.{signs}
+use Rattle.drawing.proofs.frame.put_signs.Goals as goal
+
+pub returns : goal.returns
+unfolding signs bytes
+returns c =
+    and_then _ _ _ (and_then _ _ _ c.put_all-a.ensures c.put_all-b.ensures) c.put_all.ensures
+
+pub shape_of-out : goal.shape_of-out
+shape_of-out c = same_len _ _ _ (returns c)

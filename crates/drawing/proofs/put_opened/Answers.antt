@@ -1,0 +1,20 @@
+-- That `put_opened` of src/lib.rt keeps its contract.
+use Rattle.drawing.proofs.BarLaws.{opened_on, opened-over}
+use Rattle.text.proofs.WriteLaws.{rest_of, nothing, same_length as same_len}
+use Rattle.text.specs.Text.{write}
+use native.Mathlib.Omega.{arith}
+use mathlib.Core.Path.{refl, ap, ◌∙◌}
+use Prim.Native.Nat.{◌-◌}
+use borrow.Author.Rules.{rules}
+use Rattle.drawing.proofs.put_opened.Goals as goal
+
+pub loop-k-init : goal.loop-k-init
+loop-k-init c = (refl, refl, omega arith)
+
+pub loop-k-preserved : goal.loop-k-preserved
+loop-k-preserved c =
+    (rest_of _ _ _ _ c.put_opening-next.ensures ∙ ap (write _) (opened_on _ _ c.loop-k-test.true) ∙ c.loop-k.invariant.0, same_len _ _ _ c.put_opening-next.ensures ∙ c.loop-k.invariant.1, search rules)
+
+pub returns : goal.returns
+returns c =
+    nothing _ ∙ ap (write _) (opened-over c.args.ws.now c.loop-k.k c.loop-k-test.false) ∙ c.loop-k.invariant.0

@@ -1,0 +1,13 @@
+-- That `all_names` of src/names.rt keeps its contract.
+use Prim.Native.Nat.{ℕ, ◌≤◌}
+use mathlib.Core.Path.{◌≡◌}
+use lib.ListN.{length}
+use Rattle.report.specs.Put.{Put}
+use Rattle.report.proofs.names.all_names.Given as goal
+
+abbrev pub invariant-loop-turns : goal.invariant-loop-turns
+invariant-loop-turns g l =
+    (l.s.held ≤ length l.names) × (length l.names ≡ length l.initial.names) × ((n : ℕ) × Put l.initial.s.sum.totals n l.s.sum.totals)
+
+abbrev pub decreases-loop-turns : goal.decreases-loop-turns
+decreases-loop-turns g l = l.turns

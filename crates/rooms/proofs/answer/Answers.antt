@@ -1,0 +1,10 @@
+-- That `answer` of src/lib.rt keeps its contract.
+use Prim.Native.Nat.{ℕ}
+use mathlib.Core.Path.{ap₂}
+use native.Mathlib.Omega.{arith}
+use Rattle.rooms.specs.Reply.{told}
+use Rattle.rooms.proofs.answer.Goals as goal
+
+pub returns : goal.returns
+unfolding told
+returns c = ap₂ (λ (n v : ℕ). (n, v)) (omega arith) (omega arith)

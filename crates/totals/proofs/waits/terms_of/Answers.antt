@@ -1,0 +1,13 @@
+-- That `terms_of` of src/waits.rt keeps its contract.
+use Prim.Native.Nat.{ℕ, ◌<◌}
+use mathlib.Core.Path.{◌≡◌, ap, ◌∙◌}
+use Rattle.words.specs.Word.{bit}
+use Rattle.words.proofs.WordLaws.{bit-word_of}
+use Rattle.totals.specs.Waits.{larger}
+use Rattle.totals.proofs.waits.terms_of.Goals as goal
+
+pub returns : goal.returns
+returns c =
+    let p = larger c.args.a c.args.b in
+    let e : (i : ℕ) → i < 32 → bit c.larger_word-more.result i ≡ p i = λ i l. ap (λ (v : ℕ). bit v i) c.larger_word-more.ensures ∙ bit-word_of 32 p i l in
+    rw (c.chosen-pending.ensures p e, c.chosen-edges.ensures p e, c.chosen-commands.ensures p e, c.chosen-turns.ensures p e, c.chosen-closed.ensures p e, c.chosen-remembered.ensures p e)

@@ -1,0 +1,29 @@
+-- That `together` of src/waits.rt keeps its contract.
+use Prim.Native.Nat.{ℕ}
+use mathlib.Core.Path.{ap, ◌∙◌}
+use Rattle.words.specs.Word.{bit}
+use Rattle.words.proofs.WordLaws.{bit-word_of}
+use Rattle.totals.specs.Waits.{newly, together}
+use Rattle.totals.proofs.WaitLaws.{fits}
+use Rattle.totals.proofs.waits.together.Goals as goal
+
+pub sums-begun-requires : goal.sums-begun-requires
+sums-begun-requires c = (fits _ _ c.requires).0
+
+pub sums-unended-requires : goal.sums-unended-requires
+sums-unended-requires c = (fits _ _ c.requires).1
+
+pub sums-unbounded-requires : goal.sums-unbounded-requires
+sums-unbounded-requires c = (fits _ _ c.requires).2
+
+pub returns : goal.returns
+unfolding together
+returns c =
+    let a = c.args in
+    rw (
+      c.sums-begun.ensures,
+      c.sums-unended.ensures,
+      c.sums-unbounded.ensures,
+      c.chosen-first.ensures (newly a.a a.b) (λ i l. ap (λ (v : ℕ). bit v i) c.newly.ensures ∙ bit-word_of 32 (newly a.a a.b) i l),
+      c.terms_of-t.ensures,
+    )

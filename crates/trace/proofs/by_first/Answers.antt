@@ -1,0 +1,19 @@
+-- That `by_first` of src/lib.rt keeps its contract.
+use lib.Dec.{eqb}
+use Prim.Native.Nat.{ℕ}
+use mathlib.Core.Path.{ap, ◌∙◌}
+use borrow.Author.Tests.{eq-eqb, ne_eqb}
+use Rattle.words.proofs.ChoiceLaws.{by-true, by-false}
+use Rattle.trace.proofs.by_first.Goals as goal
+
+pub returns-then-operands-eq1 : goal.returns-then-operands-eq1
+returns-then-operands-eq1 c =
+    rw (c.in-Value.is, c.plain.ensures) (by-true _ (ap (λ (k : ℕ). eqb k 1) c.operands.ensures) (eq-eqb _ _ c.if-operands-eq1.true))
+
+pub returns-in-Refused : goal.returns-in-Refused
+returns-in-Refused c = rw c.in-Refused.is
+
+pub returns-else-operands-eq1 : goal.returns-else-operands-eq1
+returns-else-operands-eq1 c =
+    rw c.in-Value.is
+    (c.by_second.ensures ∙ rw c.read_number.ensures (by-false _ (ap (λ (k : ℕ). eqb k 1) c.operands.ensures) (ne_eqb _ _ c.if-operands-eq1.false)))

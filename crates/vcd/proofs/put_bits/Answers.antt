@@ -1,0 +1,7 @@
+-- That `put_bits` of src/lib.rt keeps its contract.
+use Rattle.text.proofs.WriteLaws.{and_then}
+use Rattle.vcd.proofs.put_bits.Goals as goal
+
+pub returns : goal.returns
+returns c =
+    and_then _ _ _ (and_then _ _ _ c.put-a.ensures c.put_binary-b.ensures) c.put_identifier.ensures
