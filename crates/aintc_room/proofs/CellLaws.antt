@@ -1,12 +1,12 @@
 -- What stands in the room of a record, and of which record it is the room after a store.
-use mathlib.Core.Path.{◌≡◌, refl, sym, ap, ap₂, ◌∙◌, subst}
+use mathlib.Core.Path.{◌≡◌, refl, ap, ap₂, ◌∙◌, subst}
 use mathlib.Core.Bool.{Bool, true, false}
 use mathlib.Core.List.{List, []}
 use Prim.Native.Nat.{ℕ, ◌+◌, ◌<◌}
-use lib.ListN.{length, get_or, set, length-set, length-replicate}
+use lib.ListN.{get_or, set, length-set, length-replicate}
 use Rattle.words.specs.Choice.{pick}
 use Rattle.words.specs.Counting.{one}
-use Rattle.rooms.specs.Parts.{flat, Sized, place, made}
+use Rattle.rooms.specs.Parts.{flat, Sized, place}
 use Rattle.rooms.proofs.PartLaws.{part_get, part-set, made_get}
 use Rattle.aintc_record.specs.declared.Aintc.{Aintc}
 use Rattle.aintc_record.specs.declared.Chosen.{Chosen}

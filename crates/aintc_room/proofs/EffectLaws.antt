@@ -2,27 +2,25 @@
 use Prim.Native.Nat.{ℕ, ◌+◌, ◌*◌, ◌/◌, ◌%◌, ◌≤◌, ◌<◌}
 use mathlib.Core.Path.{◌≡◌, refl, sym, ap, ap₂, ◌∙◌, subst}
 use mathlib.Core.Bool.{Bool, true, false}
-use mathlib.Core.List.{List, [], ◌∷◌}
+use mathlib.Core.List.{List}
 use native.Mathlib.Omega.{arith}
 use lib.Dec.{eqb}
-use lib.ListN.{length, get_or, set, replicate}
+use lib.ListN.{get_or, set, replicate}
 use lib.Seq.{set_out}
 use Rattle.words.specs.Choice.{pick}
-use Rattle.words.specs.Counting.{one, upto}
+use Rattle.words.specs.Counting.{upto}
 use Rattle.words.specs.Word.{bit, word_of}
 use Rattle.words.proofs.ArrayLaws.{zeros_get_d}
-use Rattle.words.proofs.ChoiceLaws.{pick_true, pick-false}
+use Rattle.words.proofs.ChoiceLaws.{pick_true}
 use Rattle.words.proofs.WordLaws.{bit-word_of, word_of_lt, bit-some, bit-none}
 use Rattle.rooms.specs.Parts.{flat, Sized, made, stored}
-use Rattle.rooms.proofs.PartLaws.{part-made, part_sized, made-length, made-same}
+use Rattle.rooms.proofs.PartLaws.{part-made, part_sized, made-same}
 use Rattle.aintc_record.specs.declared.Aintc.{Aintc}
-use Rattle.aintc_record.specs.declared.Chosen.{Chosen}
 use Rattle.aintc_record.specs.Record.{with_routes, with_soft, with_masks, side, nobody, reset}
-use Rattle.aintc_record.specs.Route.{route_of, priority_of, route_byte}
-use Rattle.aintc_record.proofs.RecordLaws.{same_get_d}
+use Rattle.aintc_record.specs.Route.{route_of, priority_of}
 use Rattle.aintc_registers.specs.Search.{route_word}
 use Rattle.aintc_registers.specs.Effects.{released, agreed}
-use Rattle.aintc_room.specs.Room.{fiq_word, priority_word, bits_word, parts, sizes, laid, Laid, chosen_from, chosen_put, with_side}
+use Rattle.aintc_room.specs.Room.{fiq_word, priority_word, bits_word, parts, sizes, laid, Laid, chosen_from, with_side}
 use Rattle.aintc_room.proofs.CellLaws.{laid_as, sized, put-side, put_soft, put_masks}
 
 -- the room of a record that goes by an offset, at the offset of an arm

@@ -1,10 +1,10 @@
 -- A record laid into a room of zeros.
-use mathlib.Core.Path.{◌≡◌, refl, sym, ap, ap₂, ◌∙◌}
-use mathlib.Core.List.{List, [], ◌∷◌}
-use Prim.Native.Nat.{ℕ, ◌+◌, ◌<◌}
+use mathlib.Core.Path.{◌≡◌, refl, ap, ◌∙◌}
+use mathlib.Core.List.{List}
+use Prim.Native.Nat.{ℕ, ◌<◌}
 use native.Mathlib.Omega.{arith}
-use lib.ListN.{length, get_or, set, replicate}
-use Rattle.words.specs.Counting.{one, upto}
+use lib.ListN.{get_or, set, replicate}
+use Rattle.words.specs.Counting.{one}
 use Rattle.rooms.specs.Parts.{flat, Sized, made, zeros, stored}
 use Rattle.rooms.proofs.PartLaws.{part_copied, part-made, part_sized, zeros_sized, zeros-flat}
 use Rattle.aintc_record.specs.declared.Aintc.{Aintc}

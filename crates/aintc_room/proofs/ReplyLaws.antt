@@ -1,8 +1,8 @@
 -- What a step in a room answers is what the step of the record answers.
-use mathlib.Core.Path.{◌≡◌, refl, sym, ap, ap₂, ◌∙◌, subst}
+use mathlib.Core.Path.{◌≡◌, refl, sym, ap, ◌∙◌, subst}
 use mathlib.Core.Bool.{Bool, true, false, ◌&&◌}
 use mathlib.Core.List.{List}
-use Prim.Native.Nat.{ℕ, ◌+◌, ◌*◌, ◌%◌, ◌≤◌, ◌<◌}
+use Prim.Native.Nat.{ℕ, ◌%◌, ◌≤◌}
 use native.Mathlib.Omega.{arith}
 use lib.Dec.{eqb, ltb, leb}
 use lib.ListN.{length, get_or, get_or-eq_default}
@@ -23,10 +23,10 @@ use Rattle.aintc_registers.specs.declared.model.Signals.{Signals}
 use Rattle.aintc_registers.specs.Model.{barred, access_number, read_number, write_number, line_number, read, write, line, outputs}
 use Rattle.aintc_registers.proofs.CallLaws.{read_number_lem, write_number_lem, line_number_lem, done, stopped}
 use Rattle.aintc_room.specs.Room.{Laid, chosen_from}
-use Rattle.aintc_room.proofs.CellLaws.{active-is, number_is, priority-is, guarded-is, turbo-is, funcidle-is}
+use Rattle.aintc_room.proofs.CellLaws.{active-is, number_is}
 use Rattle.aintc_room.proofs.RecordLaws.{flag}
 use Rattle.rooms.specs.Reply.{Reply, reply}
-use Rattle.aintc_room.specs.Reply.{reply_of, Done}
+use Rattle.aintc_room.specs.Reply.{Done}
 use Rattle.aintc_room.proofs.SideLaws.{is_free, is-taken}
 
 -- a reply to one answer is one to an equal answer

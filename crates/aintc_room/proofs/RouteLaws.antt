@@ -5,7 +5,7 @@ use mathlib.Core.List.{List, []}
 use Prim.Native.Nat.{ℕ, zero, suc, ◌+◌, ◌*◌, ◌/◌, ◌%◌, ◌≤◌, ◌<◌}
 use native.Mathlib.Decide.{ℕ_discrete, dec_lt}
 use native.Mathlib.Omega.{arith}
-use borrow.Author.Tests.{eq-eqb, ne_eqb, lt-ltb, le-ltb, eqb-true, ltb-true}
+use borrow.Author.Tests.{eq-eqb, ne_eqb, lt-ltb, le-ltb}
 use lib.Dec.{eqb, ltb}
 use lib.ListN.{length, get_or, set, length-set}
 use lib.Seq.{get_or-set_same, get_or-set_other, set-set, set-get_or}
@@ -13,7 +13,7 @@ use Rattle.words.specs.Choice.{pick}
 use Rattle.words.specs.Counting.{upto}
 use Rattle.words.specs.Word.{bit, word_of, with_bit}
 use Rattle.words.proofs.ChoiceLaws.{pick_true, pick-false}
-use Rattle.words.proofs.TruthLaws.{and_left, and_right, and_both}
+use Rattle.words.proofs.TruthLaws.{and_both}
 use Rattle.words.proofs.WordLaws.{bit-word_of, word_of-same}
 use Rattle.rooms.specs.Parts.{flat, Sized, made}
 use Rattle.rooms.proofs.PartLaws.{part_get, part-set, part_sized, made-length, made_get, made-same, made-set}

@@ -7,7 +7,7 @@ use mathlib.Core.Logic.{◌≢◌, ◌⊎◌, inl, inr}
 use native.Mathlib.Decide.{dec_lt, ℕ_discrete}
 use native.Mathlib.Nat.{le-div_iff_mul-le, div-lt_iff_lt-mul, pow-suc}
 use native.Mathlib.Omega.{arith}
-use borrow.Author.Tests.{eq-eqb, ne_eqb, eqb-true}
+use borrow.Author.Tests.{eq-eqb, ne_eqb}
 use lib.Bits.{bit_and}
 use lib.Count.{count_leading_zeros, leading_top}
 use lib.Dec.{eqb}
@@ -22,15 +22,14 @@ use Rattle.words.proofs.CountingLaws.{any_some, some_any, any_fails, any_none}
 use Rattle.words.proofs.TruthLaws.{and_left, and_right, and_both, or_left, or_right, or_neither, clash, told}
 use Rattle.words.proofs.WordLaws.{bit_mod, bit-word_of, word_of-same, bit-and, bit_not, bit-either, bit_past, bit-none, either_lt, some-bit}
 use Rattle.aintc_record.specs.declared.Aintc.{Aintc}
-use Rattle.aintc_record.specs.Route.{route_of, priority_of, priority, routed}
+use Rattle.aintc_record.specs.Route.{route_of, priority}
 use Rattle.aintc_record.proofs.RecordLaws.{priority-fits}
-use Rattle.aintc_registers.specs.Inputs.{unmasked, pending, open_word, pending_word}
-use Rattle.aintc_registers.specs.Order.{before}
+use Rattle.aintc_registers.specs.Inputs.{open_word, pending_word}
 use Rattle.aintc_registers.specs.Search.{route_word}
 use Rattle.aintc_registers.proofs.InputLaws.{open-from, pending-from}
 use Rattle.aintc_registers.proofs.Promises as choice-promises
-use Rattle.aintc_room.specs.Room.{priority_word, Laid}
-use Rattle.aintc_room.proofs.CellLaws.{lines-is, soft-is, masks-is, fiqs-is, bits_is}
+use Rattle.aintc_room.specs.Room.{Laid}
+use Rattle.aintc_room.proofs.CellLaws.{lines-is, soft-is, masks-is, fiqs-is}
 use Rattle.aintc_room.proofs.Promises.{priority-bit}
 use Rattle.aintc_room.specs.First.{held, halves, SomeOf, FirstOf, HighestOf}
 

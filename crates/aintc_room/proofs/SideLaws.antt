@@ -4,25 +4,24 @@ use mathlib.Core.Path.{◌≡◌, refl, sym, ap, ap₂, ◌∙◌, subst}
 use mathlib.Core.Bool.{Bool, true, false, not, ◌&&◌, ◌||◌}
 use mathlib.Core.List.{List}
 use mathlib.Core.Logic.{◌≢◌, ◌⊎◌, inl, inr}
-use native.Mathlib.Decide.{ℕ_discrete, dec_lt}
+use native.Mathlib.Decide.{ℕ_discrete}
 use native.Mathlib.Nat.{mod-eq_of_lt}
 use native.Mathlib.Omega.{arith}
-use borrow.Author.Tests.{eq-eqb, ne_eqb, eqb-true, lt-ltb, le-ltb, ltb-true}
+use borrow.Author.Tests.{eq-eqb, ne_eqb, eqb-true}
 use lib.Dec.{eqb, ltb}
 use lib.ListN.{length, get_or, set}
-use lib.Seq.{get_or-set_same, get_or-set_other}
-use Rattle.words.specs.Array.{bit_at, with_bit_at}
+use Rattle.words.specs.Array.{with_bit_at}
 use Rattle.words.specs.Choice.{pick}
 use Rattle.words.specs.Counting.{one}
 use Rattle.words.specs.Word.{bit, with_bit, either}
 use Rattle.words.proofs.ArrayLaws.{bit_at-with_bit_at}
-use Rattle.words.proofs.ChoiceLaws.{pick_true, pick-false}
-use Rattle.words.proofs.TruthLaws.{and_left, and_right, and_both, or-either, or_left, or_right, clash, told, not-holds}
+use Rattle.words.proofs.ChoiceLaws.{pick-false}
+use Rattle.words.proofs.TruthLaws.{and_left, and_right, and_both, clash, told, not-holds}
 use Rattle.words.proofs.WordLaws.{bit-word_of}
 use Rattle.aintc_record.specs.declared.Aintc.{Aintc}
 use Rattle.aintc_record.specs.declared.Chosen.{Chosen}
 use Rattle.aintc_record.specs.Record.{side, with_sides, with_lines, chosen_at}
-use Rattle.aintc_record.specs.Route.{route_of, priority_of, route_at, priority, routed}
+use Rattle.aintc_record.specs.Route.{route_of, route_at, priority, routed}
 use Rattle.aintc_registers.specs.Inputs.{raised, unmasked, pending, passes, eligible, open_word, pending_word}
 use Rattle.aintc_registers.specs.Order.{before, foremost, some, first}
 use Rattle.aintc_registers.specs.Promises.{NoneEligible, First}
@@ -30,11 +29,11 @@ use Rattle.aintc_registers.specs.Settle.{settled_side, settle, sound}
 use Rattle.aintc_registers.proofs.Promises as choice-promises
 use Rattle.aintc_registers.proofs.SettleLaws.{is_none, settled-held, settled-none, side_settled}
 use Rattle.aintc_registers.specs.Effects.{moved}
-use Rattle.aintc_room.specs.Room.{Laid, chosen_from, chosen_put, with_side}
+use Rattle.aintc_room.specs.Room.{Laid, chosen_from, with_side}
 use Rattle.aintc_room.proofs.CellLaws.{laid_as, threshold-is, active-is, route-is, put-side, put_lines, lines-is}
 use Rattle.aintc_room.proofs.Promises.{fiq-bit}
-use Rattle.aintc_room.specs.First.{held, SomeOf, FirstOf, Leads, Alone}
-use Rattle.aintc_room.proofs.SearchLaws.{held-is, none-held, some-held}
+use Rattle.aintc_room.specs.First.{held, FirstOf, Leads, Alone}
+use Rattle.aintc_room.proofs.SearchLaws.{held-is, none-held}
 
 -- ---- whether one is chosen, from its word
 

@@ -1,5 +1,5 @@
 -- The first of some inputs, and when one input alone may be chosen.
-use Rattle.std.specs.Prelude.{ℕ, ◌/◌, ◌%◌, ◌<◌, ◌≡◌, Bool, true, false, List, [], ◌∷◌, ◌≢◌, get_or}
+use Rattle.std.specs.Prelude.{ℕ, ◌/◌, ◌%◌, ◌<◌, ◌≡◌, Bool, true, false, [], ◌∷◌, ◌≢◌, get_or}
 use Rattle.words.specs.Array.{bit_at}
 use Rattle.words.specs.Word.{bit}
 use Rattle.aintc_record.specs.declared.Aintc.{Aintc}

@@ -1,5 +1,5 @@
 -- What is promised of the layout: a record determines every word of its room, and a room has one record.
-use Rattle.std.specs.Prelude.{ℕ, ◌+◌, ◌*◌, ◌<◌, ◌≡◌, Bool, List, eqb, length, get_or}
+use Rattle.std.specs.Prelude.{ℕ, ◌+◌, ◌*◌, ◌<◌, ◌≡◌, List, eqb, length, get_or}
 use Rattle.words.specs.Word.{bit}
 use Rattle.aintc_record.specs.declared.Aintc.{Aintc}
 use Rattle.aintc_record.specs.Promises.{Shaped}

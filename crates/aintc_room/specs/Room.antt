@@ -1,6 +1,6 @@
 -- An AINTC laid out in a room: the numbers of its record, and the words that are kept beside the routes, each of which the record determines.
-use Rattle.std.specs.Prelude.{ℕ, ◌+◌, ◌*◌, ◌/◌, ◌%◌, ◌<◌, Bool, true, false, ◌≡◌, List, [], ◌∷◌, eqb, get_or, set, replicate}
-use Rattle.words.specs.Counting.{one, upto}
+use Rattle.std.specs.Prelude.{ℕ, ◌+◌, ◌*◌, ◌/◌, ◌%◌, ◌<◌, Bool, true, false, ◌≡◌, List, [], ◌∷◌, get_or, set, replicate}
+use Rattle.words.specs.Counting.{one}
 use Rattle.words.specs.Word.{bit, word_of, with_bit}
 use Rattle.rooms.specs.Parts.{flat, made}
 use Rattle.aintc_record.specs.declared.Aintc.{Aintc}

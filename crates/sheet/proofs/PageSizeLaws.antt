@@ -8,13 +8,13 @@ use lib.Dec.{eqb, ltb}
 use lib.ListN.{length, get_or, length-append}
 use Rattle.words.proofs.ChoiceLaws.{pick_cases}
 use Rattle.text.proofs.DigitLaws.{length-field}
-use Rattle.text.specs.Phrases.{bytes, counted}
+use Rattle.text.specs.Phrases.{bytes}
 use Rattle.stack.specs.declared.Table.{Table}
 use Rattle.stack.specs.Bytes.{normal, level_bytes, stack_bytes}
 use Rattle.totals.specs.declared.waits.Waits.{Waits}
 use Rattle.totals.specs.declared.sheets.Noted.{Noted}
 use Rattle.totals.specs.declared.sheets.Sheet.{Sheet}
-use Rattle.sheet.specs.Texts.{amount, each}
+use Rattle.sheet.specs.Texts.{each}
 use Rattle.sheet.specs.Names.{escape, name_of}
 use Rattle.sheet.specs.Head.{document_head, style_parts, style_tables, style_paper, traces_head, page_head}
 use Rattle.sheet.specs.Rows.{row_head, ended, enabling, remark, ending, trace_row, reason, left_out_row}

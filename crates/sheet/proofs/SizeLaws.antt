@@ -1,13 +1,12 @@
 -- How long the pieces of the page are at most: a number has at most twenty digits, a name of a source at most 24 bytes, each shown as six at most.
-use Prim.Native.Nat.{ℕ, zero, suc, ◌+◌, ◌*◌, ◌≤◌, min}
-use mathlib.Core.Bool.{Bool, true, false, ◌&&◌}
-use mathlib.Core.List.{List, [], ◌∷◌, ◌++◌}
+use Prim.Native.Nat.{ℕ, ◌+◌, ◌*◌, ◌≤◌, min}
+use mathlib.Core.Bool.{◌&&◌}
+use mathlib.Core.List.{List, [], ◌∷◌}
 use native.Mathlib.Nat.{zero-mul, suc-mul, min-le_left, min-le_right}
 use native.Mathlib.Omega.{arith}
 use lib.Dec.{eqb, leb}
 use lib.ListN.{length, length-append, length-take, take, drop}
 use Rattle.words.proofs.ChoiceLaws.{pick_cases}
-use Rattle.text.specs.Text.{decimal, hex_of}
 use Rattle.text.proofs.DigitLaws.{length-decimal, length-hex}
 use Rattle.text.specs.Phrases.{bytes, counted}
 use Rattle.sheet.specs.Texts.{amount, cell, cell_of, source_cell, empty_cell, each, down}

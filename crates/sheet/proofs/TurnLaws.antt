@@ -1,15 +1,15 @@
 -- Texts one after the other, one turn of a loop at a time.
-use Prim.Native.Nat.{ℕ, zero, suc, ◌+◌, ◌-◌, ◌<◌, ◌≤◌}
-use mathlib.Core.Path.{◌≡◌, refl, sym, ap, ap₂, ◌∙◌}
+use Prim.Native.Nat.{ℕ, zero, suc, ◌+◌, ◌<◌, ◌≤◌}
+use mathlib.Core.Path.{◌≡◌, sym, ap, ap₂, ◌∙◌}
 use mathlib.Core.Bool.{Bool, true, false}
-use mathlib.Core.List.{List, [], ◌∷◌, ◌++◌}
+use mathlib.Core.List.{List, [], ◌∷◌}
 use native.Mathlib.Numerals.{add-one}
 use native.Mathlib.Omega.{arith}
 use lib.ListN.{length, get_or, drop, drop_of_length-le}
 use lib.Seq.{drop-cons}
 use Rattle.words.specs.Choice.{pick}
 use Rattle.words.specs.Counting.{one, count_below, lowest_below}
-use Rattle.words.proofs.CountingLaws.{Lowest, lowest_found, lowest-one}
+use Rattle.words.proofs.CountingLaws.{lowest_found, lowest-one}
 use Rattle.text.specs.Text.{write}
 use Rattle.text.proofs.WriteLaws.{and_then, rest_of, nothing}
 use Rattle.sheet.specs.Texts.{each, down}

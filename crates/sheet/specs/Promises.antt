@@ -1,16 +1,16 @@
 -- What is promised of the page: its words and numbers part by part, which sources it shows and in which order, and how long its parts are at most.
-use Rattle.std.specs.Prelude.{ℕ, zero, suc, ◌+◌, ◌-◌, ◌*◌, ◌/◌, ◌<◌, ◌≤◌, min, max, ◌≡◌, Bool, true, false, not, ◌&&◌, List, [], ◌∷◌, ◌++◌, ◌↔◌, ◌≢◌, ◌⊎◌, eqb, length, get_or, take, drop}
+use Rattle.std.specs.Prelude.{ℕ, suc, ◌+◌, ◌*◌, ◌/◌, ◌<◌, ◌≤◌, min, max, ◌≡◌, Bool, true, false, not, ◌&&◌, List, [], ◌∷◌, ◌++◌, ◌↔◌, ◌≢◌, ◌⊎◌, eqb, length, get_or, take, drop}
 use Rattle.words.specs.Counting.{one, count_below}
 use Rattle.words.specs.Word.{bit}
 use Rattle.text.specs.Text.{decimal, hex_of}
 use Rattle.text.specs.Phrases.{bytes, counted}
 use Rattle.stack.specs.declared.Table.{Table}
-use Rattle.stack.specs.Bytes.{normal, level_bytes, stack_bytes}
+use Rattle.stack.specs.Bytes.{normal, level_bytes}
 use Rattle.stack.specs.Promises.{NormalOf}
 use Rattle.totals.specs.declared.waits.Waits.{Waits}
 use Rattle.totals.specs.declared.sheets.Noted.{Noted}
 use Rattle.totals.specs.declared.sheets.Sheet.{Sheet}
-use Rattle.sheet.specs.Texts.{amount, cell, cell_of, source_cell, empty_cell, each, down}
+use Rattle.sheet.specs.Texts.{amount, cell, cell_of, source_cell, empty_cell}
 use Rattle.sheet.specs.Names.{escape, escaped, name_of}
 use Rattle.sheet.specs.Head.{page_head}
 use Rattle.sheet.specs.Rows.{row_head, ended, remark, trace_row, reason, left_out_row}

@@ -1,5 +1,5 @@
 -- The sources on the page: two tables with a row for each source that is shown (02, 11/12 and 12/12).
-use Rattle.std.specs.Prelude.{ℕ, ◌+◌, Bool, true, false, not, ◌&&◌, List, [], ◌++◌, eqb, get_or}
+use Rattle.std.specs.Prelude.{ℕ, ◌+◌, Bool, not, ◌&&◌, List, [], ◌++◌, eqb, get_or}
 use Rattle.words.specs.Choice.{pick}
 use Rattle.text.specs.Phrases.{bytes, counted}
 use Rattle.stack.specs.declared.Table.{Table}

@@ -1,7 +1,6 @@
 -- A trace, a table and a sheet, worked through.
 use Rattle.std.specs.Prelude.{ℕ, true, List, [], ◌∷◌, ◌++◌}
 use Rattle.text.specs.Phrases.{bytes}
-use Rattle.totals.specs.declared.Totals.{Totals}
 use Rattle.totals.specs.declared.waits.Waits.{Waits}
 use Rattle.stack.specs.declared.Table.{Table}
 use Rattle.totals.specs.declared.sheets.Noted.{Noted}

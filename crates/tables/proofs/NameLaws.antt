@@ -19,8 +19,7 @@ use Rattle.text.specs.Text.{write}
 use Rattle.text.proofs.WriteLaws.{write-laid, laid-fits}
 use Rattle.tables.specs.declared.names.Place.{Place}
 use Rattle.tables.specs.declared.names.Places.{Places}
-use Rattle.tables.specs.declared.names.Names.{Names}
-use Rattle.tables.specs.Typed.{white, bare, start_from, end_from, past_nth, nth_start}
+use Rattle.tables.specs.Typed.{white, bare, start_from, end_from, past_nth}
 use Rattle.tables.specs.Names.{name_byte, name_run, is_name, named, behind, place_in, blanked, quoted, unnamed_at, unnamed_to, unnamed, cleared}
 use Rattle.tables.specs.Reading.{list_of}
 use Rattle.tables.specs.Named.{place_of, places_of, name_of, byte_in, names_at, names_in}

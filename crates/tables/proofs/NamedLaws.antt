@@ -1,27 +1,25 @@
 -- What a name is, what making it spaces changes, and what is answered of it, as it is promised.
 use Prim.Native.Nat.{ℕ, zero, suc, ◌+◌, ◌-◌, ◌*◌, ◌/◌, ◌%◌, ◌≤◌, ◌<◌}
 use mathlib.Core.Path.{◌≡◌, refl, sym, ap, ◌∙◌}
-use mathlib.Core.Bool.{Bool, true, false, not, ◌&&◌, ◌||◌}
-use mathlib.Core.List.{List, [], ◌∷◌}
+use mathlib.Core.Bool.{true, false, not, ◌&&◌, ◌||◌}
+use mathlib.Core.List.{List, []}
 use mathlib.Core.Logic.{◌↔◌, ◌≢◌, ◌⊎◌, inl, inr}
 use native.Mathlib.Nat.{add-zero}
 use native.Mathlib.Omega.{arith}
 use native.Mathlib.Decide.{dec_lt, ℕ_discrete}
 use lib.Dec.{eqb, leb}
-use lib.ListN.{length, get_or, set, take, drop, replicate, length-drop, length-replicate, get_or-replicate, drop_of_length-le, get_or-eq_default}
+use lib.ListN.{length, get_or, set, take, drop, length-drop, length-replicate, get_or-replicate, drop_of_length-le, get_or-eq_default}
 use lib.Seq.{length-take-le, get_or-drop, get_or-take, get_or-set_same, get_or-set_other}
 use borrow.Author.Tests.{eqb-false, eqb-true, eq-eqb, ne_eqb, leb-true, le-leb, not-true, not-false}
 use Rattle.words.specs.Choice.{pick}
 use Rattle.words.proofs.ChoiceLaws.{pick_true, pick-false}
 use Rattle.words.proofs.CountingLaws.{lowest_found}
 use Rattle.words.proofs.TruthLaws.{and_left, and_right, and_both, or-either, or_neither, or_left, or_right, told, clash}
-use Rattle.tables.specs.declared.names.Names.{Names}
-use Rattle.tables.specs.Typed.{white, bare, start_from, past_nth, nth_start, nth_typed}
-use Rattle.tables.specs.Number.{is_number}
+use Rattle.tables.specs.Typed.{white, start_from, past_nth, nth_start, nth_typed}
 use Rattle.tables.specs.Names.{name_byte, name_run, is_name, named, behind, place_in, blanked, quoted, unnamed_at, unnamed_to, cleared}
-use Rattle.tables.specs.Named.{place_of, name_of, names_in, no_names, names_of}
+use Rattle.tables.specs.Named.{name_of, names_in, no_names, names_of}
 use Rattle.tables.specs.Reading.{read_table}
-use Rattle.tables.specs.Layout.{White, Without, Parted, NameByte, NameAt}
+use Rattle.tables.specs.Layout.{Without, Parted, NameByte, NameAt}
 use Rattle.tables.specs.Facts.{Within, NamesOf, Numbers}
 use Rattle.tables.proofs.FillLaws.{length-list_of, get_d-list_of}
 use Rattle.tables.proofs.LayoutLaws.{white-is, is_white}

@@ -10,7 +10,6 @@ use native.Mathlib.Decide.{dec_lt, ℕ_discrete}
 use lib.Dec.{eqb, ltb}
 use lib.ListN.{get_or, take, drop}
 use borrow.Author.Tests.{eq-eqb, ne_eqb, lt-ltb, le-ltb}
-use Rattle.words.specs.Choice.{pick}
 use Rattle.words.specs.Counting.{one, count_below}
 use Rattle.words.proofs.ChoiceLaws.{pick-false, pick_cases}
 use Rattle.words.proofs.CountingLaws.{count_le, lowest_found, lowest-one}

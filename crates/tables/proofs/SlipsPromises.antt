@@ -3,20 +3,19 @@ use Prim.Native.Nat.{ℕ, suc, ◌+◌, ◌*◌, ◌/◌, ◌%◌, ◌≤◌, �
 use mathlib.Core.Path.{◌≡◌, refl, sym, ap, ◌∙◌, subst}
 use mathlib.Core.Bool.{Bool, true, false, not, ◌&&◌}
 use mathlib.Core.List.{List, [], ◌∷◌, ◌++◌}
-use mathlib.Core.Logic.{◌↔◌, ◌≢◌, ◌⊎◌, inl, inr}
-use native.Mathlib.Nat.{add-zero}
+use mathlib.Core.Logic.{◌≢◌, ◌⊎◌, inl, inr}
 use native.Mathlib.Omega.{arith}
 use native.Mathlib.Decide.{dec_lt, ℕ_discrete}
-use lib.Dec.{eqb, ltb, leb}
+use lib.Dec.{eqb}
 use lib.ListN.{length, get_or, take, length-append}
 use lib.Seq.{length-take-le}
-use borrow.Author.Tests.{eq-eqb, ne_eqb, eqb-true, eqb-false, lt-ltb, le-ltb, ltb-true, le-leb, lt-leb, not-true}
+use borrow.Author.Tests.{eq-eqb, ne_eqb, eqb-false, lt-ltb, le-ltb, ltb-true, le-leb, lt-leb, not-true}
 use Rattle.words.specs.Choice.{pick}
-use Rattle.words.specs.Counting.{one, count_below}
+use Rattle.words.specs.Counting.{count_below}
 use Rattle.words.proofs.ChoiceLaws.{pick_true, pick-false}
 use Rattle.words.proofs.CountingLaws.{lowest_found}
 use Rattle.words.proofs.TruthLaws.{and_left, and_right, and_both, clash, not-holds, told as told-so}
-use Rattle.steps.specs.Refusals.{damaged, too_long}
+use Rattle.steps.specs.Refusals.{damaged}
 use Rattle.text.specs.Text.{decimal}
 use Rattle.text.proofs.DigitLaws.{length-below}
 use Rattle.text.specs.Phrases.{bytes, counted}
@@ -25,7 +24,7 @@ use Rattle.tables.specs.Typed.{nth_start, nth_typed}
 use Rattle.tables.specs.Number.{is_number, worth}
 use Rattle.tables.specs.Names.{cleared}
 use Rattle.tables.specs.Reading.{first_fault, read_table, read_bare, refused_at, taken}
-use Rattle.tables.specs.Facts.{Whole, TooLarge, Numbers}
+use Rattle.tables.specs.Facts.{Whole, TooLarge}
 use Rattle.tables.proofs.SeekLaws.{nth-within}
 use Rattle.tables.proofs.NameLaws.{length-cleared}
 use Rattle.tables.proofs.ReadLaws.{not_long}

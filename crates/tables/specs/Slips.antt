@@ -3,7 +3,7 @@
 use Rattle.std.specs.Prelude.{ℕ, suc, ◌%◌, Bool, not, ◌&&◌, List, [], ◌∷◌, ◌++◌, eqb, ltb, leb, length, get_or, take}
 use Rattle.words.specs.Choice.{pick}
 use Rattle.words.specs.Counting.{count_below, lowest_below}
-use Rattle.text.specs.Text.{newline, decimal}
+use Rattle.text.specs.Text.{newline}
 use Rattle.text.specs.Phrases.{bytes, counted}
 use Rattle.tables.specs.Typed.{nth_start, nth_typed}
 use Rattle.tables.specs.Number.{is_number, worth}

@@ -1,6 +1,6 @@
 -- That `number_shown` of src/lib.rt keeps its contract.
 use mathlib.Core.Path.{ap, ◌∙◌}
-use Prim.Native.Nat.{ℕ, ◌+◌, ◌-◌}
+use Prim.Native.Nat.{ℕ, ◌+◌}
 use lib.ListN.{get_or}
 use Rattle.aintc_room.proofs.CellLaws.{number_is}
 use Rattle.aintc_room.proofs.ReplyLaws.{shown-none, shown-some}

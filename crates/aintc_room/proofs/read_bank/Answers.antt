@@ -1,6 +1,5 @@
 -- That `read_bank` of src/lib.rt keeps its contract.
 use mathlib.Core.Path.{sym, ap, ◌∙◌}
-use Prim.Native.Nat.{◌-◌}
 use borrow.Author.Tests.{ne_eqb}
 use Rattle.words.proofs.ChoiceLaws.{pick-false}
 use Rattle.words.specs.Choice.{pick}

@@ -1,6 +1,6 @@
 -- That `read_single` of src/lib.rt keeps its contract.
 use mathlib.Core.Path.{sym, ap, ap₂, ◌∙◌}
-use Prim.Native.Nat.{ℕ, ◌+◌, ◌-◌, ◌*◌}
+use Prim.Native.Nat.{ℕ, ◌+◌, ◌*◌}
 use borrow.Author.Tests.{ne_eqb}
 use Rattle.words.proofs.ChoiceLaws.{pick-false}
 use Rattle.words.specs.Choice.{pick}

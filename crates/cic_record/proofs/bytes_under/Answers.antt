@@ -1,5 +1,4 @@
 -- That `bytes_under` of src/lib.rt keeps its contract.
-use Prim.Native.Nat.{◌-◌}
 use lib.ListN.{get_or}
 use lib.Dec.{ltb}
 use native.Mathlib.Omega.{arith}

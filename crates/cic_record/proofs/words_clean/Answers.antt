@@ -2,7 +2,7 @@
 use mathlib.Core.Path.{ap, ◌∙◌}
 use Rattle.words.specs.Word.{clean}
 use lib.ListN.{get_or}
-use Prim.Native.Nat.{ℕ, ◌-◌}
+use Prim.Native.Nat.{ℕ}
 use Rattle.words.specs.Array.{clean_below}
 use native.Mathlib.Omega.{arith}
 use Rattle.words.proofs.ArrayLaws.{clean-none_yet, clean-more}

@@ -1,6 +1,5 @@
 -- That `fill` of src/effects.rt keeps its contract.
 use mathlib.Core.Path.{refl}
-use Prim.Native.Nat.{◌-◌}
 use native.Mathlib.Omega.{arith}
 use Rattle.words.proofs.CountingLaws.{upto-none, upto-more, upto_done}
 use Rattle.aintc_room.proofs.effects.fill.Goals as goal

@@ -1,6 +1,6 @@
 -- That `write_bank` of src/effects.rt keeps its contract.
 use mathlib.Core.Path.{ap, ◌∙◌}
-use Prim.Native.Nat.{ℕ, ◌-◌}
+use Prim.Native.Nat.{ℕ}
 use borrow.Author.Tests.{ne_eqb}
 use Rattle.words.proofs.ChoiceLaws.{pick-false}
 use Rattle.words.specs.Choice.{pick}

@@ -1,6 +1,6 @@
 -- That `routes_in` of src/layout.rt keeps its contract.
 use mathlib.Core.Path.{refl}
-use Prim.Native.Nat.{◌+◌, ◌-◌, ◌%◌}
+use Prim.Native.Nat.{◌+◌, ◌%◌}
 use native.Mathlib.Omega.{arith}
 use lib.ListN.{get_or, length-set}
 use borrow.Author.Count.{below_none}

@@ -1,5 +1,5 @@
 -- That `first_of` of src/search.rt keeps its contract.
-use Prim.Native.Nat.{◌-◌, ◌≤◌}
+use Prim.Native.Nat.{◌≤◌}
 use Rattle.aintc_record.specs.declared.Aintc.{Aintc}
 use Rattle.aintc_room.specs.Room.{Laid}
 use Rattle.aintc_room.specs.First.{held, halves, SomeOf}

@@ -5,7 +5,7 @@ use Rattle.words.specs.Array.{bit_at}
 use Rattle.words.specs.Counting.{count_below}
 use mathlib.Core.Path.{ap₂, ◌∙◌}
 use native.Mathlib.Omega.{arith}
-use Prim.Native.Nat.{ℕ, ◌-◌, ◌*◌, ◌+◌}
+use Prim.Native.Nat.{ℕ, ◌*◌, ◌+◌}
 use Rattle.cic_registers.proofs.hosts.count_of.Goals as goal
 
 pub loop-k-init : goal.loop-k-init

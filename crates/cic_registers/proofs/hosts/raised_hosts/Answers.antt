@@ -7,7 +7,7 @@ use Rattle.words.specs.Counting.{any_below}
 use Rattle.words.specs.Word.{kept}
 use mathlib.Core.Path.{refl, ap, ap₂, ◌∙◌}
 use native.Mathlib.Omega.{arith}
-use Prim.Native.Nat.{ℕ, ◌-◌}
+use Prim.Native.Nat.{ℕ}
 use borrow.Author.Rules.{rules}
 use Rattle.cic_registers.proofs.hosts.raised_hosts.Goals as goal
 

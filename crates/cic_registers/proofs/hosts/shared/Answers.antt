@@ -5,7 +5,7 @@ use borrow.Author.Count.{below_none}
 use lib.ListN.{get_or, length-set}
 use mathlib.Core.Path.{refl}
 use native.Mathlib.Omega.{arith}
-use Prim.Native.Nat.{◌-◌, ◌/◌}
+use Prim.Native.Nat.{◌/◌}
 use Rattle.cic_registers.proofs.hosts.shared.Goals as goal
 
 pub loop-k-init : goal.loop-k-init

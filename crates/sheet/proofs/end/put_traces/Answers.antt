@@ -1,0 +1,13 @@
+-- That `put_traces` of src/end.rt keeps its contract.
+use Rattle.text.specs.Phrases.{bytes}
+use Rattle.sheet.specs.End.{traces_named}
+use Rattle.text.proofs.WriteLaws.{and_then, same_length as same_len}
+use Rattle.sheet.proofs.end.put_traces.Goals as goal
+
+pub returns : goal.returns
+unfolding traces_named bytes
+returns c =
+    and_then _ _ _ (and_then _ _ _ (and_then _ _ _ (and_then _ _ _ c.put_row-a.ensures c.put_row-b.ensures) c.put_out-c.ensures) c.put_out-d.ensures) c.put_out.ensures
+
+pub shape_of-out : goal.shape_of-out
+shape_of-out c = same_len _ _ _ (returns c)

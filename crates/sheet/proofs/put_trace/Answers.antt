@@ -1,0 +1,8 @@
+-- That `put_trace` of src/lib.rt keeps its contract.
+use Rattle.text.proofs.WriteLaws.{write-laid}
+use mathlib.Core.Path.{◌∙◌}
+use Rattle.sheet.proofs.put_trace.Goals as goal
+
+pub returns : goal.returns
+returns c =
+    c.put_counted.ensures ∙ write-laid _ _
