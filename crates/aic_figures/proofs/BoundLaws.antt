@@ -1,5 +1,5 @@
 -- The words of a room that a bound goes by: the sources ahead, those held, and those due a start.
-use Prim.Native.Nat.{ℕ, ◌+◌, ◌%◌, ◌≤◌, ◌<◌, ◌^◌}
+use Prim.Native.Nat.{ℕ, ◌+◌, ◌%◌, ◌<◌}
 use mathlib.Core.Path.{◌≡◌, refl, sym, ap, ap₂, ◌∙◌}
 use mathlib.Core.Bool.{Bool, true, false, not, ◌&&◌, ◌||◌, and-false}
 use mathlib.Core.List.{List}
@@ -8,11 +8,10 @@ use native.Mathlib.Decide.{ℕ_discrete, dec_lt}
 use lib.Dec.{eqb, ltb, leb}
 use lib.ListN.{get_or}
 use borrow.Author.Tests.{eq-eqb, ne_eqb, lt-ltb, le-ltb}
-use Rattle.words.specs.Choice.{pick}
 use Rattle.words.specs.Counting.{count_below}
 use Rattle.words.specs.Word.{bit, word_of, either, both, without, kept}
 use Rattle.words.proofs.CountingLaws.{count_le}
-use Rattle.words.proofs.WordLaws.{bit-none, bit-some, bit-word_of, word_of-same, word_of_lt, word-is, without_lt, bit-either, bit-without, bit_kept, bit_alone}
+use Rattle.words.proofs.WordLaws.{bit-some, bit-word_of, word_of-same, word_of_lt, word-is, without_lt, bit-either, bit-without, bit_kept, bit_alone}
 use Rattle.rooms.proofs.PartLaws.{made_get}
 use Rattle.aic_record.specs.declared.Aic.{Aic}
 use Rattle.aic_record.specs.Mode.{priority, priority_of}
@@ -25,7 +24,6 @@ use Rattle.aic_room.specs.Room.{class_word, Laid}
 use Rattle.aic_room.proofs.CellLaws.{part-is, source_is, level-is, priority-is, seen_what-is, seen_source-is}
 use Rattle.aic_runs.specs.Counted.{carries}
 use Rattle.aic_runs.specs.Promises.{rival_of}
-use Rattle.aic_waits.specs.Following.{capped}
 use Rattle.aic_waits.proofs.FigureLaws.{capped_is}
 use Rattle.aic_bounds.specs.Following.{plus}
 

@@ -1,34 +1,32 @@
 -- What the entries of a room tell: the source of a start, and who is open.
-use Prim.Native.Nat.{ℕ, zero, suc, ◌+◌, ◌-◌, ◌%◌, ◌≤◌, ◌<◌, max}
+use Prim.Native.Nat.{ℕ, suc, ◌+◌, ◌-◌, ◌%◌, ◌≤◌, ◌<◌, max}
 use mathlib.Core.Path.{◌≡◌, refl, sym, ap, ap₂, ◌∙◌, subst}
-use mathlib.Core.Bool.{Bool, true, false, not, ◌&&◌, ◌||◌, or-true, or-false}
+use mathlib.Core.Bool.{Bool, true, false, not, ◌&&◌, ◌||◌, or-false}
 use mathlib.Core.List.{List}
-use mathlib.Core.Logic.{◌⊎◌, inl, inr, ◌≢◌}
+use mathlib.Core.Logic.{◌⊎◌, inl, inr}
 use native.Mathlib.Omega.{arith}
 use native.Mathlib.Decide.{ℕ_discrete}
 use native.Mathlib.Numerals.{add-one}
 use lib.Dec.{eqb, ltb}
 use lib.ListN.{get_or, set, length, length-set}
 use lib.Seq.{get_or-set_other}
-use borrow.Author.Tests.{eq-eqb, ne_eqb, eqb-true, lt-ltb, le-ltb}
+use borrow.Author.Tests.{eq-eqb, ne_eqb, lt-ltb, le-ltb}
 use Rattle.words.specs.Choice.{pick}
 use Rattle.words.specs.Counting.{one, any_below}
 use Rattle.words.proofs.ChoiceLaws.{pick_true, pick-false, pick_cases}
 use Rattle.words.proofs.CountingLaws.{any_same, any_some, some_any}
-use Rattle.words.proofs.TruthLaws.{told, clash, and_left, and_right}
+use Rattle.words.proofs.TruthLaws.{told, and_left, and_right}
 use Rattle.steps.specs.declared.Step.{Step}
 use Rattle.aic_record.specs.declared.Aic.{Aic}
-use Rattle.aic_record.specs.Promises.{Rules}
 use Rattle.aic_record.specs.Sound.{source_at, sound}
 use Rattle.aic_record.proofs.SoundLaws.{sound-is}
 use Rattle.aic_registers.specs.Handlers.{opened, closed_last}
 use Rattle.aic.specs.Model.{step}
 use Rattle.aic_runs.specs.Counted.{starts, closes}
-use Rattle.aic_runs.proofs.StepLaws.{depth_law, start_law, close_law, other_law}
+use Rattle.aic_runs.proofs.StepLaws.{depth_law, close_law, other_law}
 use Rattle.aic_room.specs.Room.{Laid}
 use Rattle.aic_room.proofs.CellLaws.{source_is}
 use Rattle.aic_waits.specs.Figures.{is_open, entries_now}
-use Rattle.aic_waits.specs.Following.{started_from}
 use Rattle.aic_figures.specs.Book.{Put}
 use Rattle.aic_figures.proofs.BookLaws.{here, there}
 

@@ -1,7 +1,7 @@
 -- What is told of the book in the end.
 use Prim.Native.Nat.{ℕ, ◌+◌, ◌≤◌, ◌<◌}
 use mathlib.Core.Path.{◌≡◌, refl, sym, ap, ap₂, ◌∙◌}
-use mathlib.Core.Bool.{Bool, true, false, not, ◌&&◌, ◌||◌}
+use mathlib.Core.Bool.{Bool, true, false, ◌&&◌}
 use mathlib.Core.List.{List, [], ◌∷◌}
 use native.Mathlib.Omega.{arith}
 use native.Mathlib.Decide.{ℕ_discrete}
@@ -23,7 +23,6 @@ use Rattle.aic_bounds.specs.declared.figures.Figures.{Figures}
 use Rattle.aic_bounds.specs.Figures.{figures_over, figures_of, largest_now, unended_now}
 use Rattle.aic_bounds.specs.FiguresPromises.{Tells}
 use Rattle.aic_bounds.proofs.FiguresPromises as Figures
-use Rattle.totals.specs.declared.waits.Waits.{Waits}
 use Rattle.aic_figures.specs.Waits.{waits_of, followed, waits_now}
 use Rattle.aic_figures.specs.Promises.{Source}
 use Rattle.aic_figures.specs.WaitsBook.{row_of, figures_in, numbers_of, row_at, word_in, Kept}

@@ -1,5 +1,5 @@
 -- The figures of the waits of all 32 sources, as tables of 32 numbers: over a run, and as they are followed step by step.
-use Rattle.std.specs.Prelude.{ℕ, ◌<◌, ◌≡◌, List, length, get_or}
+use Rattle.std.specs.Prelude.{ℕ, List}
 use Rattle.rooms.specs.Parts.{made}
 use Rattle.steps.specs.declared.Step.{Step}
 use Rattle.aic_record.specs.declared.Aic.{Aic}

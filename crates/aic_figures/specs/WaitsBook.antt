@@ -4,7 +4,6 @@ use Rattle.words.specs.Choice.{pick}
 use Rattle.words.specs.Word.{bit, both, without}
 use Rattle.rooms.specs.Parts.{made}
 use Rattle.aic_record.specs.declared.Aic.{Aic}
-use Rattle.aic_bounds.specs.declared.Bound.{Bound}
 use Rattle.aic_bounds.specs.declared.Marks.{Marks}
 use Rattle.aic_bounds.specs.Bounds.{idle}
 use Rattle.aic_bounds.specs.Following.{plus, bound_by}

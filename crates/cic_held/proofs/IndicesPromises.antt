@@ -2,16 +2,16 @@
 use mathlib.Core.Path.{◌≡◌, refl, sym, ap, ◌∙◌}
 use mathlib.Core.Bool.{Bool, true, false, ◌&&◌}
 use mathlib.Core.Logic.{◌↔◌, ◌≢◌, ◌⊎◌, inl, inr, ⊎_elim}
-use Prim.Native.Nat.{ℕ, ◌+◌, ◌*◌, ◌/◌, ◌%◌, ◌^◌, ◌<◌, ◌≤◌, min}
+use Prim.Native.Nat.{ℕ, ◌+◌, ◌/◌, ◌%◌, ◌^◌, ◌<◌, ◌≤◌}
 use native.Mathlib.Omega.{arith}
 use borrow.Author.Tests.{eq-eqb, eqb-true}
 use lib.Dec.{eqb}
 use lib.ListN.{get_or}
 use Rattle.words.specs.Array.{bit_at}
 use Rattle.words.specs.Choice.{pick}
-use Rattle.words.specs.Counting.{any_below, lowest_below, sum_below, count_below}
+use Rattle.words.specs.Counting.{any_below, lowest_below, sum_below}
 use Rattle.words.specs.Word.{bit}
-use Rattle.words.proofs.CountingLaws.{any_some, some_any, Lowest}
+use Rattle.words.proofs.CountingLaws.{any_some, some_any}
 use Rattle.words.proofs.OrderLaws.{Lower, lower-is, is-lower, lower_through, lower-either}
 use Rattle.words.proofs.TruthLaws.{and_left, and_right, and_both, clash, not-holds}
 use Rattle.words.proofs.WordLaws.{bit_alone}

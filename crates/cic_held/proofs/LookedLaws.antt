@@ -3,10 +3,9 @@ use mathlib.Core.Path.{◌≡◌, refl, sym, ap, ap₂, ◌∙◌}
 use mathlib.Core.Bool.{Bool, true, false, ◌&&◌}
 use mathlib.Core.List.{List}
 use mathlib.Core.Logic.{◌↔◌, ◌⊎◌, inl, inr}
-use Prim.Native.Nat.{ℕ, zero, suc, ◌+◌, ◌*◌, ◌/◌, ◌%◌, ◌≤◌, ◌<◌, min}
+use Prim.Native.Nat.{ℕ, zero, suc, ◌+◌, ◌*◌, ◌/◌, ◌%◌, ◌≤◌, ◌<◌}
 use native.Mathlib.Decide.{dec_lt}
 use native.Mathlib.Nat.{add-mul}
-use native.Mathlib.Numerals.{add-one}
 use native.Mathlib.Omega.{arith}
 use borrow.Author.Tests.{lt-ltb, ltb-true, eq-eqb, eqb-true}
 use lib.Dec.{eqb, ltb}
@@ -16,16 +15,16 @@ use Rattle.words.specs.Choice.{pick}
 use Rattle.words.specs.Counting.{any_below, lowest_below, sum_below, count_below, one}
 use Rattle.words.specs.Word.{bit}
 use Rattle.words.proofs.ArrayLaws.{bit_at_word}
-use Rattle.words.proofs.ChoiceLaws.{pick_true, pick-false, pick_cases}
+use Rattle.words.proofs.ChoiceLaws.{pick_true, pick-false}
 use Rattle.words.proofs.CountingLaws.{any_some, some_any, sum_le, Lowest, lowest_found}
 use Rattle.words.proofs.TruthLaws.{and_left, and_right, and_both, clash, told}
 use Rattle.cic_record.specs.declared.Channel.{Channel}
 use Rattle.cic_record.specs.declared.Cic.{Cic}
-use Rattle.cic_record.specs.Kinds.{system, channel_number}
+use Rattle.cic_record.specs.Kinds.{channel_number}
 use Rattle.cic_held.specs.Looked.{words_of, word_has, looked_in, searched, looked_over}
 use Rattle.cic_held.specs.Order.{pending_in, busy, first_in, channel_first}
 use Rattle.cic_held.specs.Search.{pending_of, has_of, looked_of}
-use Rattle.cic_held.proofs.IndexLaws.{lowest_in, first-busy, first-idle, passes, looked-most, words_in, words-most, sum_more}
+use Rattle.cic_held.proofs.IndexLaws.{lowest_in, first-busy, first-idle, passes, words_in, words-most, sum_more}
 use Rattle.cic_held.proofs.NamedLaws.{lowest_channel}
 use Rattle.cic_held.proofs.SearchLaws.{pending_at, looked_word, looked_no_word}
 

@@ -1,24 +1,22 @@
 -- The promises of what is held are kept.
-use mathlib.Core.Path.{◌≡◌, refl, sym, ap, ap₂, ◌∙◌}
+use mathlib.Core.Path.{◌≡◌, refl, sym, ap, ◌∙◌}
 use mathlib.Core.Bool.{Bool, true, false, ◌&&◌}
 use mathlib.Core.List.{List}
 use mathlib.Core.Logic.{◌↔◌, ◌≢◌, ◌⊎◌, inl, inr, ⊎_elim}
 use Prim.Native.Nat.{ℕ, ◌+◌, ◌-◌, ◌/◌, ◌%◌, ◌<◌, ◌≤◌}
-use native.Mathlib.Decide.{dec_lt, ℕ_discrete}
+use native.Mathlib.Decide.{ℕ_discrete}
 use native.Mathlib.Omega.{arith}
-use borrow.Author.Tests.{eq-eqb, ne_eqb, eqb-true, lt-ltb, le-ltb, ltb-true, le-leb, leb-true}
+use borrow.Author.Tests.{eq-eqb, ne_eqb, eqb-true, lt-ltb, ltb-true, le-leb, leb-true}
 use lib.Dec.{eqb, ltb, leb}
 use lib.ListN.{get_or, replicate}
 use Rattle.words.specs.Choice.{pick}
-use Rattle.words.specs.Counting.{all_below}
 use Rattle.words.specs.Word.{bit}
 use Rattle.words.proofs.ChoiceLaws.{pick_true, pick-false}
 use Rattle.words.proofs.CountingLaws.{all_at, at_all}
-use Rattle.words.proofs.TruthLaws.{and_left, and_right, and_both, clash, not-holds, told}
+use Rattle.words.proofs.TruthLaws.{and_left, and_right, and_both, not-holds, told}
 use Rattle.steps.specs.Refusals.{carried_out, misconfigured}
 use Rattle.cic_record.specs.declared.Begun.{Begun as CicBegun}
 use Rattle.cic_record.specs.declared.Cic.{Cic}
-use Rattle.cic_record.specs.Promises.{InRange}
 use Rattle.cic_record.specs.Sound as cic
 use Rattle.cic_record.specs.Start.{fresh}
 use Rattle.cic_record.specs.Start as cic_start
@@ -27,7 +25,7 @@ use Rattle.cic_held.specs.Order.{none_word}
 use Rattle.cic_held.specs.declared.Begun.{Begun}
 use Rattle.cic_held.specs.declared.Held.{Held}
 use Rattle.cic_held.specs.declared.Prioritised.{Prioritised}
-use Rattle.cic_held.specs.Held.{prioritised, begun, nothing_held, with_global, with_hosts, held_as, word_held, within, entry_sound, held_sound, sound, start, freed_hosts, controlled}
+use Rattle.cic_held.specs.Held.{prioritised, begun, nothing_held, held_as, word_held, within, entry_sound, held_sound, sound, start, freed_hosts, controlled}
 use Rattle.cic_held.specs.Promises.{Holds, Starts, Configured, HeldAsOne, Rules, Promises}
 use Rattle.cic_held.proofs.HeldLaws.{freed_at, host_entry, Parts, held-parts, parts_held, nothing-kept}
 

@@ -1,5 +1,5 @@
 -- What is promised of what is held: the configuration, the start, which records are sound, words as they are held, and what ends holds.
-use Rattle.std.specs.Prelude.{true, false, List, ◌↔◌, ◌≢◌, ◌⊎◌, ◌≡◌, ℕ, ◌+◌, ◌/◌, ◌%◌, ◌<◌, ◌≤◌, get_or, replicate}
+use Rattle.std.specs.Prelude.{true, false, List, ◌↔◌, ◌≢◌, ◌⊎◌, ◌≡◌, ℕ, ◌+◌, ◌/◌, ◌%◌, ◌<◌, get_or, replicate}
 use Rattle.words.specs.Word.{bit}
 use Rattle.cic_record.specs.declared.Cic.{Cic}
 use Rattle.cic_record.specs.Promises.{InRange}

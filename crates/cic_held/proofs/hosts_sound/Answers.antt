@@ -1,6 +1,5 @@
 -- That `hosts_sound` of src/lib.rt keeps its contract.
 use mathlib.Core.Bool.{◌&&◌}
-use Prim.Native.Nat.{◌-◌}
 use lib.Dec.{eqb, ltb}
 use lib.ListN.{get_or}
 use native.Mathlib.Omega.{arith}

@@ -1,6 +1,5 @@
 -- That `free` of src/lib.rt keeps its contract.
 use mathlib.Core.Path.{refl, ◌∙◌}
-use Prim.Native.Nat.{◌-◌}
 use native.Mathlib.Omega.{arith}
 use Rattle.drawing.proofs.FreeLaws.{free_here, free_on, free-over}
 use Rattle.drawing.proofs.free.Goals as goal

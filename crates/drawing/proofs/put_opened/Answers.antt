@@ -4,7 +4,6 @@ use Rattle.text.proofs.WriteLaws.{rest_of, nothing, same_length as same_len}
 use Rattle.text.specs.Text.{write}
 use native.Mathlib.Omega.{arith}
 use mathlib.Core.Path.{refl, ap, ◌∙◌}
-use Prim.Native.Nat.{◌-◌}
 use borrow.Author.Rules.{rules}
 use Rattle.drawing.proofs.put_opened.Goals as goal
 

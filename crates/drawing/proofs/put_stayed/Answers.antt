@@ -7,7 +7,7 @@ use Rattle.text.specs.Text.{write}
 use Rattle.words.proofs.CountingLaws.{at_end}
 use native.Mathlib.Omega.{arith}
 use mathlib.Core.Path.{ap, ◌∙◌}
-use Prim.Native.Nat.{ℕ, ◌-◌}
+use Prim.Native.Nat.{ℕ}
 use borrow.Author.Rules.{rules}
 use Rattle.drawing.proofs.put_stayed.Goals as goal
 

@@ -5,7 +5,6 @@ use Rattle.board_wires.specs.Wires.{wire_in}
 use Rattle.board_wires.specs.Chain.{leads_to, feeds_in}
 use Rattle.words.proofs.CountingLaws.{any-none_yet, any-more, at_end}
 use native.Mathlib.Omega.{arith}
-use Prim.Native.Nat.{◌-◌}
 use mathlib.Core.Path.{ap, ◌∙◌}
 use Rattle.board_wires.proofs.chain.is_fed_in.Goals as goal
 

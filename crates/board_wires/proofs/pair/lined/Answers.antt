@@ -3,7 +3,6 @@ use Rattle.board_wires.specs.Pair.{lined}
 use Rattle.board_wires.proofs.PairLaws.{lined-none, lined-more}
 use Rattle.words.proofs.CountingLaws.{at_end}
 use native.Mathlib.Omega.{arith}
-use Prim.Native.Nat.{◌-◌}
 use Rattle.board_wires.proofs.pair.lined.Goals as goal
 
 pub loop-i-init : goal.loop-i-init

@@ -1,7 +1,6 @@
 -- That `values_in` of src/pair.rt keeps its contract.
 use Rattle.board_wires.proofs.PairLaws.{first-none, first_more, first-all}
 use native.Mathlib.Omega.{arith}
-use Prim.Native.Nat.{◌-◌}
 use Rattle.board_wires.proofs.pair.values_in.Goals as goal
 
 pub loop-i-init : goal.loop-i-init

@@ -1,12 +1,10 @@
 -- That `first_of` of src/indices.rt keeps its contract.
 use Rattle.cic_held.proofs.SearchLaws.{found_here, found_nowhere, none_left, looks}
 use Rattle.words.proofs.ShiftLaws.{bit-left}
-use Rattle.words.specs.Word.{bit}
 use Rattle.cic_record.specs.Kinds.{system, channel_in}
 use borrow.Author.Count.{below_more}
 use lib.Dec.{eqb}
 use lib.Pow.{shr-shr}
-use mathlib.Core.Bool.{false}
 use mathlib.Core.Path.{◌≡◌, sym, ap, ◌∙◌}
 use native.Mathlib.Nat.{div-one}
 use native.Mathlib.Omega.{arith}

@@ -1,12 +1,11 @@
 -- That `look` of src/indices.rt keeps its contract.
-use Rattle.cic_held.proofs.IndexLaws.{turn_in, turn_as, turn_found, turn-none, words_in, turn_words, turn_adds, sum-none_yet, sum_more, found_turn, found_no-turn}
+use Rattle.cic_held.proofs.IndexLaws.{turn_as, turn_found, turn-none, words_in, turn_words, turn_adds, sum-none_yet, sum_more, found_turn, found_no-turn}
 use Rattle.cic_held.specs.Order.{leads}
 use Rattle.words.specs.Counting.{sum_below}
 use borrow.Author.Count.{below_more}
-use mathlib.Core.Bool.{false}
 use mathlib.Core.Path.{◌≡◌, ap, ◌∙◌}
 use native.Mathlib.Omega.{arith}
-use Prim.Native.Nat.{ℕ, ◌-◌}
+use Prim.Native.Nat.{ℕ}
 use Rattle.cic_held.proofs.indices.look.Goals as goal
 
 pub loop-k-init : goal.loop-k-init

@@ -3,7 +3,7 @@ use Rattle.cic_held.proofs.SearchLaws.{word_lowest, found_word, word_none, found
 use Rattle.words.specs.Word.{kept}
 use mathlib.Core.Path.{ap₂, ◌∙◌}
 use native.Mathlib.Omega.{arith}
-use Prim.Native.Nat.{ℕ, ◌<◌, ◌-◌}
+use Prim.Native.Nat.{ℕ}
 use Rattle.cic_held.proofs.indices.search.Goals as goal
 
 pub loop-rest-init : goal.loop-rest-init

@@ -1,5 +1,4 @@
 -- That `put_rows` of src/frame.rt keeps its contract.
-use Prim.Native.Nat.{◌-◌}
 use native.Mathlib.Omega.{arith}
 use Rattle.words.proofs.CountingLaws.{at_end}
 use Rattle.text.specs.Text.{write}

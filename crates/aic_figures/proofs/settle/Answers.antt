@@ -1,0 +1,5 @@
+-- That `settle` of src/lib.rt keeps its contract.
+use Rattle.aic_figures.proofs.settle.Goals as goal
+
+pub returns : goal.returns
+returns c = rw (c.larger-m.ensures, c.less-n.ensures)

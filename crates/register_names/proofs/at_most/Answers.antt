@@ -1,0 +1,13 @@
+-- That `at_most` of src/lib.rt keeps its contract.
+use borrow.Author.Tests.{le-leb, lt-leb}
+use Rattle.words.proofs.ChoiceLaws.{pick_true, pick-false}
+use Rattle.register_names.specs.Rows.{at_most}
+use Rattle.register_names.proofs.at_most.Goals as goal
+
+pub returns-then-most-n : goal.returns-then-most-n
+unfolding at_most
+returns-then-most-n c = pick_true _ (le-leb _ _ c.if-most-n.true)
+
+pub returns : goal.returns
+unfolding at_most
+returns c = pick-false _ (lt-leb _ _ c.if-most-n.false)

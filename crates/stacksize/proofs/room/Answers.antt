@@ -1,0 +1,7 @@
+-- That `room` of src/main.rt keeps its contract.
+use mathlib.Core.Path.{refl}
+use Rattle.tables.proofs.Promises.{kept}
+use Rattle.stacksize.proofs.room.Goals as goal
+
+pub returns : goal.returns
+returns c = (refl, kept.answer_most)

@@ -1,0 +1,7 @@
+-- That `slip_room` of src/main.rt keeps its contract.
+use mathlib.Core.Path.{refl}
+use Rattle.tables.proofs.SlipsPromises.{kept}
+use Rattle.stacksize.proofs.slip_room.Goals as goal
+
+pub returns : goal.returns
+returns c = (refl, kept.most)
