@@ -1,5 +1,5 @@
-"""What the checks that try edits share: an edit, what it changes, a room to try it in, which has the crates and what is proved of them, and the prover's
-words about it.
+"""What the checks that try edits share: an edit, what it changes, a room to try it in, which has the crates and what is kept of their proofs, and the
+prover's words about it.
 
 An edit is a file as the toolchain has it under must-fail/: comments, and `file:`, `old:` and `new:` lines; the old text stands exactly once in its file.
 A twin may change proofs too, and with `file: ../CRATE/..` another crate; its line `promise:` names the promise that refuses it. A text of a twin may have
@@ -109,7 +109,7 @@ def bodies(text):
     A function and the last brace of its body stand at the left edge, and so does the line that the first brace ends; all else of it is indented."""
     found, name, begin, at = {}, None, None, 0
     for line in text.splitlines(keepends=True):
-        starts = re.match(r'(?:pub(?:\(\w+\))? )?(?:extern "C" )?fn (\w+)', line)
+        starts = re.match(r'(?:pub(?:\(\w+\))? )?(?:const )?(?:unsafe )?(?:extern "C" )?fn (\w+)', line)
         if starts:
             name, begin = starts.group(1), None
         if name and begin is None and line[0] not in " \n" and line.endswith("{\n"):
@@ -121,133 +121,136 @@ def bodies(text):
     return found
 
 
-class Body:
-    """The new body of one function: all that an edit changes."""
-
-    def __init__(self, file, function, begin, end, text):
-        self.file, self.function, self.begin, self.end, self.text = file, function, begin, end, text
-
-
-def body_of(edit):
-    """The one function's body that an edit changes, or None where it changes anything else."""
-    files = made(edit)
-    if len(files) != 1:
-        return None
-    ((crate, file), after), = files.items()
-    module = re.fullmatch(r"src/(?:(?:lib|main)|(\w+(?:/\w+)*?)(?:/mod)?)\.rt", file)
-    before = text_of(crate, file)
-    for name, (begin, end) in bodies(before).items() if module else ():
-        rest = len(before) - end
-        if len(after) >= begin + rest and after[:begin] == before[:begin] and after[len(after) - rest:] == before[end:]:
-            function = f"{module.group(1)}/{name}" if module.group(1) else name
-            return Body(file, function, begin, end, after[begin:len(after) - rest])
-    return None
-
-
-def all_made(changed):
-    """The edits made together, each of the body of another function of one crate, or one edit of any kind: each file with its text after them."""
-    if len(changed) == 1:
-        return made(changed[0])
-    texts, crate = {}, changed[0].crate
-    for body in sorted(map(body_of, changed), key=lambda body: -body.begin):
-        text = texts.get((crate, body.file)) or text_of(crate, body.file)
-        texts[crate, body.file] = text[:body.begin] + body.text + text[body.end:]
-    return texts
-
-
 class Room:
-    """A copy of the crates, with what is proved of them: linked, since the toolchain puts a new file in the place of an old one and writes into none."""
+    """A copy of the crates, apart from the checkout, where the toolchain takes every file of theirs for one of its own. What is kept of their proofs, in out/,
+    is there by links, where these can be made: the toolchain puts a new file in the place of such an old one, and writes into none."""
 
     def __init__(self, where):
-        self.where = where
-        shutil.copytree("crates", self.path("crates"))
-        shutil.copy("crates.txt", where)
-        for kept in ("rlib", "stamp"):
-            if os.path.isdir(f"target/{kept}"):
-                shutil.copytree(f"target/{kept}", self.path("target", kept), copy_function=os.link)
+        self.where, self.kept = where, set()
+        for crate in order_of_crates():
+            for part in ("src", "specs", "proofs"):
+                if os.path.isdir(f"crates/{crate}/{part}"):
+                    shutil.copytree(f"crates/{crate}/{part}", self.path(crate, part))
+        for file in ("crates.txt", "HANDLES"):
+            if os.path.exists(file):
+                shutil.copy(file, where)
 
-    def path(self, *parts):
-        return os.path.join(self.where, *parts)
+    def path(self, crate, *parts):
+        return os.path.join(self.where, "crates", crate, *parts)
 
-    def rt(self, *words):
-        """Runs the toolchain here. Answers its exit status and all that it said."""
-        ran = subprocess.run(["rt", *words], cwd=self.where, stdin=subprocess.DEVNULL, stdout=subprocess.PIPE, stderr=subprocess.STDOUT)
+    def rt(self, *words, crate=None):
+        """Runs the toolchain here, at the top or in the folder of a crate. Answers its exit status and all that it said."""
+        where = self.path(crate) if crate else self.where
+        ran = subprocess.run(["rt", *words], cwd=where, stdin=subprocess.DEVNULL, stdout=subprocess.PIPE, stderr=subprocess.STDOUT)
         return ran.returncode, ran.stdout.decode(errors="replace")
 
-    def rt_with(self, changed, *words):
-        """The same with edits made, which are taken back afterwards. An edit that cannot be made answers None and why."""
+    def rt_with(self, edit, crate, *words):
+        """The same in the folder of a crate with an edit made, which is taken back afterwards. An edit that cannot be made answers None and why."""
         try:
-            texts = all_made(changed)
+            texts = made(edit)
         except Unfit as why:
             return None, str(why)
         try:
             for place, text in texts.items():
                 self.write(*place, text)
-            return self.rt(*words)
+            return self.rt(*words, crate=crate)
         finally:
             for place in texts:
                 self.write(*place, text_of(*place))
 
     def write(self, crate, file, text):
-        with open(self.path("crates", crate, file), "w", encoding="utf-8") as source:
+        with open(self.path(crate, file), "w", encoding="utf-8") as source:
             source.write(text)
 
-    def take_back(self, crates):
-        """Puts what is proved of these crates back in the place of what was proved of them with an edit made."""
-        for crate in crates:
-            library, stamp = (os.path.join("target", *parts) for parts in (("rlib", f"{crate}.rlib"), ("stamp", crate)))
-            shutil.rmtree(self.path(library), ignore_errors=True)
-            if os.path.isdir(library):
-                shutil.copytree(library, self.path(library), copy_function=os.link)
-            if os.path.exists(self.path(stamp)):
-                os.remove(self.path(stamp))
-            if os.path.exists(stamp):
-                os.link(stamp, self.path(stamp))
+    def keep(self, crates):
+        """Has here what is kept of the proofs of these crates, where it is not yet or no longer."""
+        for crate in set(crates) - self.kept:
+            for part in ("rlib", "incremental"):
+                shutil.rmtree(self.path(crate, "out", part), ignore_errors=True)
+                if os.path.isdir(f"crates/{crate}/out/{part}"):
+                    shutil.copytree(f"crates/{crate}/out/{part}", self.path(crate, "out", part), symlinks=True, copy_function=linked)
+        self.kept |= set(crates)
+
+
+def linked(file, other):
+    """Gives a file another name, or copies it: one that the prover may write into, and where a link cannot be made."""
+    try:
+        if "/out/rlib/" in file or file.endswith(".oantt"):
+            return os.link(file, other)
+    except OSError:
+        pass
+    return shutil.copy2(file, other)
 
 
 # ---- what the prover says
 
-# Errors that only follow from another one, and errors that say nothing of an edit's meaning.
-FOLLOWS = re.compile(r"was not admitted")
-SHAPE = re.compile(r"has no `Need-|can be named from here|is not in scope")
+# Errors that only follow from another one, and errors that say nothing of an edit's meaning: a proof that names what the code no longer has.
+FOLLOWS = re.compile(r"\d+ declarations? that depends? on .* not checked: ")
+SHAPE = re.compile(r"has no field|has no `|has no function|can be named|is not in scope")
 
 
 class Error:
-    """An error of the prover: its crate and file, its line and column there, the declaration that it refuses, and what it says."""
+    """An error of the prover: its file, its line and column there, the declaration that it refuses, and what it says."""
 
-    def __init__(self, crate, file, line, column, what):
-        self.crate, self.file, self.line, self.column, self.what = crate, file, int(line), int(column), what
+    def __init__(self, file, line, column, what):
+        self.file, self.line, self.column, self.what = file, int(line or 0), int(column or 0), what
         named = re.match(r"`([^`]+)`: ", what)
         self.declaration = named.group(1) if named else None
-        self.where = f"{file}:{line}:{column}"
-        self.follows, self.shape = bool(FOLLOWS.search(what)), bool(SHAPE.search(what))
+        self.where = f"{file}:{line}:{column}" if line else file
+        self.follows, self.shape = bool(FOLLOWS.match(what)), bool(SHAPE.search(what))
+
+
+def last_of(said):
+    """What was said of the last crate that a check was at: those below, which are proved again, come before it, and end in a line `logic=` each."""
+    ends = [found.end() for found in re.finditer(r"(?m)^logic=.*\n?", said)]
+    return said[ends[-2]:] if len(ends) > 1 else said
 
 
 def errors_in(said):
-    found = (re.match(r"\S*/crates/(\w+)/(\S+):(\d+):(\d+): error: (.*)", line) for line in said.split("\n"))
+    found = (re.match(r"(?:\./)?((?:src|specs|proofs)/[^:\s]+):(?:(\d+):(\d+):)? error(?:\[[\w-]+\])?: (.*)", line) for line in said.split("\n"))
     return [Error(*error.groups()) for error in found if error]
 
 
 def outcome(status, said):
-    """'proved', 'refused', or what else came of a run of the prover, and then what shows it."""
+    """'proved', 'refused', or what else came of a check, and then what shows it."""
     if status is None:
         return "no edit of the crate", said
     lines = said.rstrip("\n").split("\n")
-    if status == 0 and lines[-1].startswith("logic=proved"):
+    logic = [line for line in lines if line.startswith("logic=")]
+    if status == 0 and logic and logic[-1].startswith("logic=proved"):
         return "proved", ""
-    if status != 1 or lines[-1] != "logic=not-proved":
+    if status != 1 or not logic or not logic[-1].startswith("logic=not-proved"):
         return "not brought to the prover", next((line for line in lines if "error" in line or "NOT PROVED" in line), lines[-1])
-    outside = next((error for error in errors_in(said) if not error.file.startswith("proofs/")), None)
+    outside = next((error for error in errors_in(said) if not error.file.startswith("proofs/") and not error.follows), None)
     return ("not readable", f"{outside.where}: {outside.what}") if outside else ("refused", "")
 
 
-# ---- trying edits, a run of the prover for each processor at a time
+# ---- trying edits, a check for each processor at a time
 
 def order_of_crates():
-    """The crates with what each rests on, lower layers first."""
+    """The crates with what each rests on, as crates.txt has them. Behind a crate's name there may be words on its kind."""
+    order = {}
     with open("crates.txt", encoding="utf-8") as listed:
-        lines = [line.split("#")[0].split(":") for line in listed]
-    return {line[0].strip(): line[1].split() for line in lines if len(line) == 2}
+        for line in listed:
+            head, _, deps = line.split("#")[0].partition(":")
+            if head.split():
+                order[head.split()[0]] = deps.replace(",", " ").split()
+    return order
+
+
+def lowest_first(order):
+    """The crates, each behind those that it rests on."""
+    found = []
+
+    def visit(crate):
+        if crate in order and crate not in found:
+            for dep in order[crate]:
+                visit(dep)
+            found.append(crate)
+
+    for crate in order:
+        visit(crate)
+    return found
 
 
 def below(crate, order):
@@ -262,72 +265,67 @@ def below(crate, order):
 
 
 class Bench:
-    """A room, and the quick loop in it."""
+    """A room, and checks in it that begin with what is kept."""
 
-    def __init__(self, where, logs):
-        self.room, self.logs, self.folder = Room(where), logs, None
+    def __init__(self, where, logs, order):
+        self.room, self.logs, self.order = Room(where), logs, order
 
-    def run(self, group, crate=None):
-        """One run of the prover on a crate with edits made. Answers its status, what it said, and the seconds that it took."""
-        began, crate = time.time(), crate or group[0].crate
-        proved, laid = f"target/rlib/{crate}.rlib/toolchain/checked", self.room.path("target/inc", crate)
-        shutil.rmtree(laid, ignore_errors=True)
-        if self.folder and os.path.isdir(proved):
-            shutil.copytree(proved, os.path.join(laid, self.folder), copy_function=os.link)
-        status, said = self.room.rt_with(group, "dev", crate)
-        os.makedirs(f"{self.logs}/{group[0].crate}", exist_ok=True)
-        for edit in group:
-            with open(f"{self.logs}/{edit}.log", "w", encoding="utf-8") as log:
-                log.write(f"made: {' '.join(edit.name for edit in group)}\n{said}")
+    def run(self, edit, crate, again=()):
+        """One check of a crate with an edit made, for which those in `again` are proved again. Answers its status, what it said, and the seconds that it took."""
+        began = time.time()
+        self.room.keep(below(crate, self.order))
+        status, said = self.room.rt_with(edit, crate, "check", "--jobs", "1")
+        self.room.kept -= {crate, *again}
+        os.makedirs(f"{self.logs}/{edit.crate}", exist_ok=True)
+        with open(f"{self.logs}/{edit}.log", "w", encoding="utf-8") as log:
+            log.write(said + "\n")
         return status, said, time.time() - began
 
-    def quick_folder(self, crate):
-        """The name of the folder in which the quick loop keeps the modules of a crate, or None where that cannot be told."""
-        self.room.rt("dev", crate)
-        kept = self.room.path("target/inc", crate)
-        found = os.listdir(kept) if os.path.isdir(kept) else []
-        return found[0] if len(found) == 1 else None
+
+def cost(crate, order, again=()):
+    """About how many thousandths of a second a check takes: one for each module loaded, and more for a crate that is proved again whole."""
+    kept = glob.glob(f"crates/{crate}/out/incremental/*/")
+    return sum(len(os.listdir(folder)) for folder in kept) + 200 * len(below(crate, order)) + 8000 * len(again)
 
 
-def cost(group, order, again=()):
-    """About how many thousandths of a second a run takes: one for each module loaded, more for each edit, and for a crate that is proved whole."""
-    reached = below(group[0].crate, order)
-    proved = [f"target/rlib/{crate}.rlib/toolchain/checked" for crate in reached]
-    whole = 0 if os.path.isdir(f"target/rlib/{group[0].crate}.rlib") else 8000
-    return sum(len(os.listdir(folder)) for folder in proved if os.path.isdir(folder)) + 500 * len(group) + whole + 8000 * len(again)
+def workers():
+    """How many checks go at a time: one for each processor, and for each 3 GB of memory that is free."""
+    with open("/proc/meminfo", encoding="utf-8") as lines:
+        free = next((int(line.split()[1]) >> 20 for line in lines if line.startswith("MemAvailable:")), 3)
+    return max(1, min(len(os.sched_getaffinity(0)), free // 3))
 
 
-def try_all(found, groups, attempt, logs, wanted):
-    """Has each group of edits attempted on a bench, and prints what came of each edit. Answers the exit status: 0 if some were found and all came to
-    what is wanted.
+def try_all(found, edits, attempt, logs, wanted):
+    """Has each edit attempted on a bench, and prints what came of it. Answers the exit status: 0 if some were found and all came to what is wanted.
 
-    `attempt(bench, group)` answers of each edit the verdict, what shows it, and how it was tried. `wanted` has, for those that the method itself is
-    tried on, the verdict that each must have and what must be said of how it was tried; all others must be refused."""
+    `attempt(bench, edit)` answers the verdict, what shows it, and how it was tried. `wanted` is as for `told`."""
     shutil.rmtree(logs, ignore_errors=True)
     os.makedirs(logs)
-    workers, passed, failed = len(os.sched_getaffinity(0)), 0, 0
-    with tempfile.TemporaryDirectory(dir=logs) as where:
+    order, count = order_of_crates(), workers()
+    with tempfile.TemporaryDirectory(prefix="wallwisteria-edits-") as where:
         benches = queue.Queue()
-        for number in range(workers):
-            benches.put(Bench(os.path.join(where, str(number)), logs))
-        folder = benches.queue[0].quick_folder(next(iter(order_of_crates())))
-        for bench in benches.queue:
-            bench.folder = folder
+        for number in range(count):
+            benches.put(Bench(os.path.join(where, str(number)), logs, order))
 
-        def one(group):
+        def one(edit):
             bench = benches.get()
             try:
-                return list(attempt(bench, group))
+                return edit, *attempt(bench, edit)
             finally:
                 benches.put(bench)
 
-        with concurrent.futures.ThreadPoolExecutor(workers) as pool:
-            for tried in pool.map(one, groups):
-                for edit, what, shown, how in tried:
-                    must, said = wanted.get(str(edit), ("refused", ""))
-                    good = what == must and said in how
-                    passed, failed = passed + good, failed + (not good)
-                    print(f"{'' if good else 'FAILED: '}{edit} {what} ({how}): {shown[:200]}", flush=True)
+        with concurrent.futures.ThreadPoolExecutor(count) as pool:
+            return told(found, pool.map(one, edits), wanted)
+
+
+def told(found, tried, wanted):
+    """Prints what came of each edit: the edit, the verdict, what shows it, and how it was tried. Answers the exit status: 0 if some were found and all came to
+    what is wanted. `wanted` has, for those that the method itself is tried on, the verdict that each must have; all others must be refused."""
+    passed, failed = 0, 0
+    for edit, what, shown, how in tried:
+        good = what == wanted.get(str(edit), "refused")
+        passed, failed = passed + good, failed + (not good)
+        print(f"{'' if good else 'FAILED: '}{edit} {what}{f' ({how})' if how else ''}: {shown[:200]}", flush=True)
     spent = resource.getrusage(resource.RUSAGE_CHILDREN)
     print(f"{found} found, {passed + failed} tried with those that try the method, {spent.ru_utime + spent.ru_stime:.0f} s of a processor")
     print(f"{passed} passed, {failed if found else failed + 1} failed")
