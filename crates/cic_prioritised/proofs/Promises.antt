@@ -14,11 +14,10 @@ use Rattle.words.specs.Counting.{count_below}
 use Rattle.words.proofs.ChoiceLaws.{pick_true, pick-false, pick_cases}
 use Rattle.words.proofs.CountingLaws.{count_le}
 use Rattle.steps.specs.Refusals.{carried_out}
-use Rattle.cic_record.specs.declared.Channel.{Channel}
 use Rattle.cic_record.specs.declared.Cic.{Cic}
 use Rattle.cic_record.specs.declared.Host.{Host}
 use Rattle.cic_record.specs.Kinds.{channel_number, host_number}
-use Rattle.cic_held.specs.Looked.{words_of, searched, looked_over}
+use Rattle.cic_held.specs.Looked.{searched, looked_over}
 use Rattle.cic_held.specs.Order.{leads}
 use Rattle.cic_held.proofs.IndicesPromises as indices
 use Rattle.cic_held.specs.declared.Answer.{Answer}

@@ -1,17 +1,15 @@
 -- What a step did has no line feed in words, and at most 64 bytes; the outputs that it changed have at most 30.
-use Prim.Native.Nat.{ℕ, ◌+◌, ◌-◌, ◌%◌, ◌^◌, ◌≤◌, ◌<◌}
+use Prim.Native.Nat.{ℕ, ◌+◌, ◌-◌, ◌%◌, ◌≤◌}
 use mathlib.Core.Path.{◌≡◌, refl}
-use mathlib.Core.Bool.{Bool, true}
-use mathlib.Core.List.{List, [], ◌++◌}
+use mathlib.Core.Bool.{true}
+use mathlib.Core.List.{List}
 use native.Mathlib.Omega.{arith}
-use lib.Dec.{eqb}
 use lib.ListN.{length}
-use Rattle.words.specs.Choice.{pick}
-use Rattle.words.specs.Counting.{count_below, lowest_below}
+use Rattle.words.specs.Counting.{lowest_below}
 use Rattle.words.proofs.ChoiceLaws.{pick_cases}
 use Rattle.words.proofs.CountingLaws.{count_le}
 use Rattle.words.proofs.Promises.{kept as words}
-use Rattle.text.specs.Phrases.{bytes, counted}
+use Rattle.text.specs.Phrases.{bytes}
 use Rattle.tables.specs.Layout.{Without}
 use Rattle.steps.specs.declared.Step.{Step}
 use Rattle.steps.specs.declared.Recorded.{Recorded}

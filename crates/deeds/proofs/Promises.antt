@@ -1,32 +1,26 @@
 -- The promises of the words for what a step did, kept.
-use Prim.Native.Nat.{ℕ, zero, suc, ◌+◌, ◌-◌, ◌<◌, ◌≤◌}
+use Prim.Native.Nat.{ℕ, zero, suc, ◌+◌, ◌-◌, ◌<◌}
 use mathlib.Core.Path.{◌≡◌, refl, sym, ap, ap₂, ◌∙◌}
 use mathlib.Core.Bool.{Bool, true, false, not, ◌&&◌}
 use mathlib.Core.List.{List, [], ◌∷◌, ◌++◌, append-nil}
 use mathlib.Core.Logic.{◌↔◌, ◌≢◌}
 use native.Mathlib.Omega.{arith}
 use native.Mathlib.Decide.{dec_lt, ℕ_discrete}
-use lib.Dec.{eqb, ltb}
+use lib.Dec.{eqb}
 use lib.ListN.{get_or}
-use borrow.Author.Tests.{eq-eqb, ne_eqb, lt-ltb, le-ltb, not-true}
-use Rattle.words.specs.Choice.{pick}
+use borrow.Author.Tests.{eq-eqb, ne_eqb, not-true}
 use Rattle.words.specs.Counting.{one, count_below, lowest_below}
 use Rattle.words.proofs.ChoiceLaws.{pick_true, pick-false}
 use Rattle.words.proofs.CountingLaws.{count_same, lowest_found}
 use Rattle.words.proofs.TruthLaws.{and_left, and_right, and_both, not-holds}
 use Rattle.text.specs.Phrases.{bytes, counted}
-use Rattle.steps.specs.declared.Step.{Step}
-use Rattle.steps.specs.declared.Step.TheVariants.{Write}
-use Rattle.aic_record.specs.declared.Aic.{Aic}
-use Rattle.aic_record.specs.declared.Seen.{Seen}
-use Rattle.aic_record.specs.Last.{last_source, last_level}
 use Rattle.cic_record.specs.declared.Cic.{Cic}
 use Rattle.cic_record.specs.Kinds.{host_number}
 use Rattle.cic_registers.specs.Hosts.{asserted}
 use Rattle.aintc_record.specs.declared.Chosen.{Chosen}
 use Rattle.machine.specs.declared.record.Machine.{Machine}
 use Rattle.machine.specs.Shown.{shown}
-use Rattle.deeds.specs.Deeds.{opened_words, closed_words, ends, entry_words, same_seen, seen_words, gains, further_words, host_words, gain_words, cic_deeds, chosen_words, choice_words, aintc_deeds, turn_words, side_words}
+use Rattle.deeds.specs.Deeds.{gains, further_words, host_words, gain_words, cic_deeds, chosen_words, choice_words, aintc_deeds, turn_words, side_words}
 use Rattle.deeds.specs.Promises.{Promises}
 use Rattle.deeds.proofs.EntryLaws.{starts, marks, closes, closes-mark, nothing_open, same_seen_lem, forgets, remembers, remembers-none}
 use Rattle.deeds.proofs.SaidLaws.{remembers-told, none_told, forgets-told, irq-told, fiq-told}

@@ -2,13 +2,13 @@
 use Prim.Native.Nat.{ℕ, zero, suc, ◌+◌, ◌-◌, ◌*◌, ◌%◌, ◌<◌, ◌≤◌}
 use mathlib.Core.Path.{◌≡◌, refl, sym, ap, ◌∙◌}
 use mathlib.Core.Bool.{Bool, true, false, ◌&&◌}
-use mathlib.Core.List.{List, [], ◌∷◌, ◌++◌}
+use mathlib.Core.List.{List, [], ◌++◌}
 use mathlib.Core.Logic.{◌↔◌, ◌≢◌, ◌⊎◌, inl, inr}
 use native.Mathlib.Omega.{arith}
 use native.Mathlib.Decide.{ℕ_discrete}
 use lib.Dec.{eqb, ltb}
-use lib.ListN.{length, get_or}
-use borrow.Author.Tests.{eq-eqb, ne_eqb, eqb-true, eqb-false}
+use lib.ListN.{get_or}
+use borrow.Author.Tests.{eq-eqb, ne_eqb, eqb-true}
 use Rattle.words.specs.Choice.{pick}
 use Rattle.words.specs.Counting.{all_below}
 use Rattle.words.proofs.ChoiceLaws.{pick_true, pick-false}
@@ -20,7 +20,6 @@ use Rattle.aic_record.specs.declared.Seen.{Seen}
 use Rattle.aintc_record.specs.declared.Chosen.{Chosen}
 use Rattle.deeds.specs.Deeds.{same_seen, seen_words, chosen_words, choice_words}
 use Rattle.deeds.specs.Promises.{ChoiceTold}
-use Rattle.deeds.proofs.EntryLaws.{same_seen_lem}
 
 -- ---- the number that a text has from a place on
 

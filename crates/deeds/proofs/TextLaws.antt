@@ -1,11 +1,10 @@
 -- Texts of deeds, of which a part is known to be another, and the hosts that a step gained.
-use Prim.Native.Nat.{ℕ, ◌+◌, ◌/◌, ◌%◌, ◌<◌}
-use mathlib.Core.Path.{◌≡◌, refl, sym, ap, ap₂, ◌∙◌}
+use Prim.Native.Nat.{ℕ, ◌/◌, ◌%◌, ◌<◌}
+use mathlib.Core.Path.{◌≡◌, sym, ap, ◌∙◌}
 use mathlib.Core.Bool.{Bool, true, false, not, ◌&&◌}
 use mathlib.Core.List.{List, []}
 use native.Mathlib.Nat.{mod-lt}
 use native.Mathlib.Omega.{arith}
-use lib.Dec.{eqb}
 use lib.ListN.{get_or}
 use Rattle.words.specs.Choice.{pick}
 use Rattle.words.specs.Array.{bit_at}
@@ -19,8 +18,6 @@ use Rattle.text.specs.Text.{write}
 use Rattle.text.proofs.WriteLaws.{and_then}
 use Rattle.text.specs.Phrases.{bytes}
 use Rattle.steps.specs.declared.Step.{Step}
-use Rattle.aic_record.specs.declared.Aic.{Aic}
-use Rattle.aic_record.specs.Last.{last_source, last_level}
 use Rattle.cic_record.specs.declared.Cic.{Cic}
 use Rattle.cic_record.specs.Kinds.{host_number}
 use Rattle.cic_registers.specs.Hosts.{asserted}

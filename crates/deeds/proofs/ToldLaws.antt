@@ -1,16 +1,16 @@
 -- What is said of the entries of an AIC, exactly: of each step from a sound record, whether it starts, closes or finds nothing open.
-use Prim.Native.Nat.{ℕ, suc, ◌+◌, ◌-◌, ◌%◌, ◌<◌, ◌≤◌}
+use Prim.Native.Nat.{ℕ, suc, ◌+◌, ◌-◌, ◌<◌, ◌≤◌}
 use mathlib.Core.Path.{◌≡◌, refl, sym, ap, ap₂, ◌∙◌}
 use mathlib.Core.Bool.{Bool, true, false, ◌&&◌}
-use mathlib.Core.List.{List, [], ◌∷◌, ◌++◌}
+use mathlib.Core.List.{List, [], ◌++◌}
 use mathlib.Core.Logic.{◌↔◌, ◌≢◌, ◌⊎◌, inl, inr}
 use native.Mathlib.Numerals.{add-one}
 use native.Mathlib.Omega.{arith}
 use native.Mathlib.Decide.{dec_lt, ℕ_discrete}
-use lib.Dec.{eqb, ltb}
-use lib.ListN.{length, get_or, set}
+use lib.Dec.{eqb}
+use lib.ListN.{length, get_or}
 use lib.Seq.{get_or-set_same}
-use borrow.Author.Tests.{eq-eqb, ne_eqb, eqb-true, lt-ltb, le-ltb}
+use borrow.Author.Tests.{eq-eqb, eqb-true, le-ltb}
 use Rattle.words.specs.Choice.{pick}
 use Rattle.words.specs.Counting.{all_below}
 use Rattle.words.proofs.ChoiceLaws.{pick_true, pick-false}
@@ -32,7 +32,7 @@ use Rattle.aic.proofs.Promises.{kept as aic}
 use Rattle.aic_runs.specs.Counted.{starts, started_by, level_of, starts_of, closes}
 use Rattle.aic_runs.proofs.Promises.{kept as runs}
 use Rattle.aic_waits.proofs.TellLaws.{started_real}
-use Rattle.deeds.specs.Deeds.{closed_words, ends, entry_words}
+use Rattle.deeds.specs.Deeds.{ends, entry_words}
 use Rattle.deeds.proofs.EntryLaws.{starts as starts-words, marks as marks-words, closes as closes-words, closes-mark as closes-mark-words}
 use Rattle.deeds.proofs.SaidLaws.{number_at, tells_apart}
 

@@ -1,5 +1,5 @@
 -- What is promised of the words for what a step did: each is said exactly if the step does that, and says what the records before and after it hold.
-use Rattle.std.specs.Prelude.{ℕ, ◌+◌, ◌-◌, ◌<◌, ◌≤◌, ◌≡◌, Bool, true, false, List, [], ◌++◌, ◌↔◌, ◌≢◌, ◌⊎◌}
+use Rattle.std.specs.Prelude.{ℕ, ◌-◌, ◌<◌, ◌≤◌, ◌≡◌, true, false, List, [], ◌++◌, ◌↔◌, ◌≢◌, ◌⊎◌}
 use Rattle.words.specs.Counting.{count_below, lowest_below}
 use Rattle.text.specs.Phrases.{bytes, counted}
 use Rattle.steps.specs.declared.Step.{Step}

@@ -1,23 +1,17 @@
 -- A text line by line, as the code goes.
 use Prim.Native.Nat.{ℕ, ◌+◌, ◌-◌, ◌≤◌, ◌<◌}
-use mathlib.Core.Path.{◌≡◌, refl, sym, ap, ap₂, ◌∙◌}
-use mathlib.Core.Bool.{Bool, true, false}
-use mathlib.Core.List.{List, [], ◌∷◌, ◌++◌}
-use mathlib.Core.Logic.{◌≢◌, ◌⊎◌, inl, inr}
+use mathlib.Core.Path.{◌≡◌, sym, ap, ◌∙◌}
+use mathlib.Core.List.{List, []}
+use mathlib.Core.Logic.{◌≢◌}
 use native.Mathlib.Omega.{arith}
 use native.Mathlib.Decide.{dec_lt}
-use lib.Dec.{eqb, ltb}
 use lib.ListN.{length}
 use borrow.Author.Tests.{eq-eqb, ne_eqb, lt-ltb, le-ltb}
-use Rattle.words.specs.Choice.{pick}
-use Rattle.words.proofs.ChoiceLaws.{pick_true, pick-false, pick_cases}
-use Rattle.text.specs.Text.{write, laid}
-use Rattle.text.proofs.WriteLaws.{rest_of, nothing, write-laid}
+use Rattle.words.proofs.ChoiceLaws.{pick_true, pick-false}
 use Rattle.encode.specs.declared.statements.Statement.{Statement}
-use Rattle.encode.specs.Statements.{as_it_should_be, astray, statement_of, bytes_in}
+use Rattle.encode.specs.Statements.{astray, statement_of, bytes_in}
 use Rattle.encode.specs.Words.{no_kind}
-use Rattle.encode.specs.declared.Refusal.{Refusal}
-use Rattle.encode.specs.Encode.{longest_text, longest_trace, a_shorter_trace, a_shorter_text, room_for, line_of, Encoding, refused_as, ended_by, after, go_on, encoded_from, encoded, lines_of}
+use Rattle.encode.specs.Encode.{longest_text, longest_trace, a_shorter_trace, a_shorter_text, room_for, line_of, Encoding, refused_as, ended_by, after, go_on, encoded_from, encoded}
 use Rattle.encode.proofs.LineLaws.{lines_at, lines-first, lines_none, end, line, line-length, lines_more}
 
 -- ---- one line

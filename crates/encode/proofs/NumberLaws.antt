@@ -1,21 +1,21 @@
 -- The numbers of a line as the code reads them, one after the other.
-use Prim.Native.Nat.{ℕ, suc, ◌+◌, ◌-◌, ◌*◌, ◌^◌, ◌≤◌, ◌<◌, min}
+use Prim.Native.Nat.{ℕ, ◌+◌, ◌-◌, ◌*◌, ◌^◌, ◌≤◌, ◌<◌, min}
 use mathlib.Core.Path.{◌≡◌, refl, sym, ap, ap₂, ◌∙◌}
-use mathlib.Core.Bool.{Bool, true, false, not, ◌&&◌}
-use mathlib.Core.List.{List, [], ◌∷◌, ◌++◌}
+use mathlib.Core.Bool.{true, false, not, ◌&&◌}
+use mathlib.Core.List.{List, [], ◌++◌}
 use mathlib.Core.Logic.{◌⊎◌, inl, inr}
 use native.Mathlib.Numerals.{add-one}
 use native.Mathlib.Omega.{arith}
 use native.Mathlib.Decide.{dec_lt, ℕ_discrete}
-use lib.Dec.{eqb, ltb}
-use lib.ListN.{length, take, drop, length-append}
+use lib.Dec.{ltb}
+use lib.ListN.{length, length-append}
 use borrow.Author.Tests.{eq-eqb, ne_eqb, lt-ltb, le-ltb}
 use Rattle.words.specs.Choice.{pick}
 use Rattle.words.proofs.ChoiceLaws.{pick_true, pick-false}
 use Rattle.words.proofs.CountingLaws.{lowest_found, lowest-one}
 use Rattle.words.proofs.TruthLaws.{told}
 use Rattle.tables.specs.declared.Next.{Next}
-use Rattle.tables.specs.Typed.{start_from, end_from, past_nth, nth_start, nth_typed}
+use Rattle.tables.specs.Typed.{past_nth, nth_start, nth_typed}
 use Rattle.tables.specs.Number.{is_number, worth}
 use Rattle.tables.specs.Passes.{capped, read_word, word_from, read_next}
 use Rattle.tables.specs.Reading.{entered, list_of}

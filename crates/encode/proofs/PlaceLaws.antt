@@ -1,17 +1,17 @@
 -- Where a byte first stands, and the words of a line.
-use Prim.Native.Nat.{ℕ, ◌+◌, ◌-◌, ◌≤◌, ◌<◌}
-use mathlib.Core.Path.{◌≡◌, refl, sym, ap, ◌∙◌}
+use Prim.Native.Nat.{ℕ, ◌-◌, ◌≤◌}
+use mathlib.Core.Path.{◌≡◌, refl}
 use mathlib.Core.Bool.{Bool}
 use mathlib.Core.List.{List}
 use native.Mathlib.Omega.{arith}
 use lib.Dec.{eqb}
-use lib.ListN.{length, get_or, take, drop}
+use lib.ListN.{length, take, drop}
 use Rattle.tables.specs.declared.Next.{Next}
-use Rattle.tables.specs.Typed.{start_from, end_from, past_nth, nth_start, nth_typed}
+use Rattle.tables.specs.Typed.{start_from, past_nth, nth_start, nth_typed}
 use Rattle.tables.specs.Passes.{read_next}
-use Rattle.tables.proofs.SeekLaws.{Sought, sought, sought-is, start_sought, end_sought, past-within}
+use Rattle.tables.proofs.SeekLaws.{Sought, sought, sought-is, end_sought, past-within}
 use Rattle.tables.proofs.ReadLaws.{NextIs, next-is}
-use Rattle.encode.specs.Statements.{place_from, uncommented}
+use Rattle.encode.specs.Statements.{place_from}
 
 abbrev pub is : ℕ → ℕ → Bool
 is b x = eqb x b

@@ -1,11 +1,10 @@
 -- The promises of typed traces, kept.
 use Prim.Native.Nat.{ℕ, suc, ◌+◌, ◌-◌, ◌/◌, ◌%◌, ◌^◌, ◌≤◌, ◌<◌}
-use mathlib.Core.Path.{◌≡◌, refl, sym, ap, ap₂, ◌∙◌}
-use mathlib.Core.Bool.{Bool, true, false}
-use mathlib.Core.List.{List, [], ◌∷◌, ◌++◌}
-use mathlib.Core.Logic.{◌≢◌, ◌⊎◌, inl, inr}
+use mathlib.Core.Path.{◌≡◌, refl, sym, ap, ◌∙◌}
+use mathlib.Core.List.{List, [], ◌∷◌}
+use mathlib.Core.Logic.{◌≢◌, inl, inr}
 use native.Mathlib.Omega.{arith}
-use lib.Dec.{eqb, ltb}
+use lib.Dec.{eqb}
 use lib.ListN.{length}
 use borrow.Author.Tests.{eq-eqb, ne_eqb, lt-ltb, le-ltb}
 use Rattle.words.specs.Choice.{pick}
@@ -15,13 +14,13 @@ use Rattle.tables.specs.Typed.{nth_start, nth_typed}
 use Rattle.kinds.specs.Kinds.{wanted}
 use Rattle.trace.specs.Steps.{operands_of}
 use Rattle.encode.specs.declared.statements.Statement.{Statement}
-use Rattle.encode.specs.Bytes.{groups, shortest, bytes_of}
+use Rattle.encode.specs.Bytes.{groups, bytes_of}
 use Rattle.encode.specs.Words.{same, kind_of, step_of}
 use Rattle.encode.specs.Statements.{uncommented, silent, astray, controller_by, step_by, by_opening, statement_of, bytes_in}
 use Rattle.encode.proofs.ByteLaws.{groups_last, groups-more}
 use Rattle.encode.proofs.NumberLaws.{words-none}
-use Rattle.encode.specs.Encode.{room_for, line_of, Encoding, ended_by, after, go_on, encoded_from, encoded, lines_of}
-use Rattle.encode.specs.Promises.{Fits, Misfits, Stands, Opens, Numbered, refused_by, Promises}
+use Rattle.encode.specs.Encode.{room_for, line_of, ended_by, after, go_on, encoded_from, encoded}
+use Rattle.encode.specs.Promises.{Misfits, Stands, Opens, Numbered, refused_by, Promises}
 use Rattle.encode.proofs.LineLaws.{lines-ended, lines_open}
 use Rattle.encode.proofs.StatementLaws as laws
 

@@ -1,9 +1,9 @@
 -- What the statement of a line is where its words are known.
 use Prim.Native.Nat.{ℕ, suc, ◌+◌, ◌-◌, ◌^◌, ◌≤◌, ◌<◌}
-use mathlib.Core.Path.{◌≡◌, refl, sym, ap, ap₂, ◌∙◌}
+use mathlib.Core.Path.{◌≡◌, refl, sym, ap, ◌∙◌}
 use mathlib.Core.Bool.{Bool, true, false, ◌&&◌}
-use mathlib.Core.List.{List, [], ◌∷◌, ◌++◌}
-use mathlib.Core.Logic.{◌≢◌, ◌⊎◌, inl, inr, ⊎_elim}
+use mathlib.Core.List.{List, ◌∷◌, ◌++◌}
+use mathlib.Core.Logic.{◌≢◌, inl, inr}
 use native.Mathlib.Omega.{arith}
 use lib.Dec.{eqb, ltb}
 use lib.ListN.{length, get_or, take, length-append, get_or-append}
@@ -23,9 +23,9 @@ use Rattle.tables.proofs.FillLaws.{list_of-same}
 use Rattle.encode.specs.declared.statements.Statement.{Statement}
 use Rattle.encode.specs.Bytes.{shortest, bytes_of}
 use Rattle.encode.specs.Words.{kind_of, step_of}
-use Rattle.encode.specs.Statements.{place_from, uncommented, fitting, worth_of, values_in, fitting_in, a_number, the_line_end, silent, astray, controller_by, step_by, opening_of, by_numbers, by_opening, statement_in, statement_of, bytes_in}
+use Rattle.encode.specs.Statements.{uncommented, fitting, worth_of, values_in, fitting_in, a_number, the_line_end, silent, astray, controller_by, step_by, opening_of, by_numbers, by_opening, statement_in, statement_of, bytes_in}
 use Rattle.encode.proofs.PlaceLaws.{is, place_is}
-use Rattle.encode.proofs.NumberLaws.{Fitting, fitting-is, words-none, words-some}
+use Rattle.encode.proofs.NumberLaws.{Fitting, fitting-is, words-some}
 use Rattle.encode.specs.Promises.{Fits, Misfits, Stands, Numbered}
 
 -- ---- comments

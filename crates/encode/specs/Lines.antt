@@ -1,7 +1,7 @@
 -- The line that tells a refused text: where, and what was expected (docs/TEXT.md).
 use Rattle.std.specs.Prelude.{ℕ, List, [], ◌∷◌, ◌++◌, eqb}
 use Rattle.words.specs.Choice.{pick}
-use Rattle.text.specs.Text.{newline, decimal}
+use Rattle.text.specs.Text.{newline}
 use Rattle.text.specs.Phrases.{bytes, counted}
 use Rattle.encode.specs.Statements.{a_controller, a_step, a_number, the_line_end}
 use Rattle.encode.specs.declared.Refusal.{Refusal}

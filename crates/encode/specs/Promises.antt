@@ -1,6 +1,6 @@
 -- What is promised of a trace that is typed as text: its lines and words, the bytes of each statement, and what is refused where (docs/TEXT.md).
 -- The nth word of a line l, counted from 0, is `nth_typed (uncommented l) n`.
-use Rattle.std.specs.Prelude.{ℕ, suc, ◌+◌, ◌-◌, ◌*◌, ◌/◌, ◌%◌, ◌^◌, ◌≤◌, ◌<◌, ◌≡◌, Bool, true, false, List, [], ◌∷◌, ◌++◌, ◌≢◌, ◌⊎◌, eqb, length}
+use Rattle.std.specs.Prelude.{ℕ, ◌+◌, ◌/◌, ◌%◌, ◌^◌, ◌≤◌, ◌<◌, ◌≡◌, true, false, List, [], ◌∷◌, ◌++◌, ◌≢◌, ◌⊎◌, eqb, length}
 use Rattle.kinds.specs.Kinds.{wanted}
 use Rattle.trace.specs.Steps.{operands_of}
 use Rattle.tables.specs.Typed.{nth_start, nth_typed}

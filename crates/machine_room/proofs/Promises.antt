@@ -4,7 +4,7 @@ use mathlib.Core.Bool.{Bool, true}
 use mathlib.Core.List.{List}
 use mathlib.Core.Logic.{◌≢◌}
 use Prim.Native.Nat.{ℕ}
-use lib.ListN.{length, get_or}
+use lib.ListN.{length}
 use Rattle.steps.specs.declared.Recorded.{Recorded}
 use Rattle.rooms.specs.Reply.{Reply}
 use Rattle.aic_room.proofs.Promises.{kept as laid_aic}

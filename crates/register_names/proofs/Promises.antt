@@ -1,24 +1,19 @@
 -- The promises of the maps, kept.
-use Prim.Native.Nat.{ℕ, ◌+◌, ◌-◌, ◌*◌, ◌/◌, ◌%◌, ◌<◌, ◌≤◌}
-use Prim.Native.String.{String}
+use Prim.Native.Nat.{ℕ, ◌%◌, ◌<◌, ◌≤◌}
 use mathlib.Core.Path.{◌≡◌, refl, sym, ap, ◌∙◌}
-use mathlib.Core.Bool.{Bool, true, false, not, ◌&&◌, ◌||◌}
-use mathlib.Core.List.{List, [], ◌∷◌, ◌++◌}
-use mathlib.Core.Logic.{◌↔◌, ◌≢◌, ◌⊎◌, inl, inr}
+use mathlib.Core.Bool.{Bool, true, false, ◌&&◌}
+use mathlib.Core.List.{[], ◌∷◌}
+use mathlib.Core.Logic.{inr}
 use native.Mathlib.Omega.{arith}
-use native.Mathlib.Decide.{dec_lt, ℕ_discrete}
-use lib.Dec.{eqb, ltb, leb}
-use lib.ListN.{length}
-use borrow.Author.Tests.{eq-eqb, ne_eqb, eqb-true, lt-ltb, le-ltb, ltb-false}
+use native.Mathlib.Decide.{dec_lt}
+use lib.Dec.{eqb, ltb}
+use borrow.Author.Tests.{le-ltb, ltb-false}
 use Rattle.words.specs.Choice.{pick}
 use Rattle.words.specs.Counting.{all_below}
-use Rattle.words.proofs.ChoiceLaws.{pick_true, pick-false}
-use Rattle.words.proofs.TruthLaws.{told, clash}
 use Rattle.words.proofs.Promises.{kept as words}
 use Rattle.text.specs.Text.{decimal_of}
 use Rattle.text.specs.Phrases.{bytes, counted}
-use Rattle.steps.specs.declared.Access.{Access}
-use Rattle.steps.specs.declared.Access.TheVariants.{NoRegister, ReadOnly, WriteOnly, ReadWrite}
+use Rattle.steps.specs.declared.Access.TheVariants.{NoRegister}
 use Rattle.aic_registers.specs.Map.{access as aic_access}
 use Rattle.aic.proofs.Promises.{kept as aic}
 use Rattle.coreinterrupt.specs.declared.Core.{Core}
@@ -26,8 +21,8 @@ use Rattle.coreinterrupt.specs.Model.{access as core_access}
 use Rattle.coreinterrupt.proofs.Promises.{kept as core-kept}
 use Rattle.aintc_registers.specs.Map.{access as aintc_access, row_of, row_access}
 use Rattle.aintc.proofs.Promises.{kept as aintc}
-use Rattle.register_names.specs.Rows.{Row, alone, group, in_group, in_row, sectioned, named, numbered, row_words, place_in, there_of, at_most}
-use Rattle.register_names.specs.Maps.{aic_rows, aic_commands, core_rows, core_irq_rows, cic_rows, cic_groups, index_rows, aintc_rows, aintc_banks}
+use Rattle.register_names.specs.Rows.{in_group, in_row, sectioned, named, numbered, row_words, place_in, there_of, at_most}
+use Rattle.register_names.specs.Maps.{aic_rows, core_rows, cic_rows, index_rows, aintc_rows}
 use Rattle.register_names.specs.Promises.{Says, Exactly, Promises}
 use Rattle.register_names.proofs.CicLaws.{cic_exactly, indexed_exactly, choice-off}
 use Rattle.register_names.proofs.ExactLaws.{any_row, known, known-none, none-known, and-off, exact, same, same-is, or-none, no_row, not_alone, not_words, not_banks, past}

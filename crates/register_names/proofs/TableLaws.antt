@@ -1,6 +1,6 @@
 -- Laws of a map as the program has it: digits, texts, the row that is looked for, and what it says.
 use Prim.Native.Nat.{ℕ, zero, suc, ◌+◌, ◌-◌, ◌*◌, ◌/◌, ◌%◌, ◌≤◌, ◌<◌}
-use mathlib.Core.Path.{◌≡◌, refl, sym, ap, ◌∙◌}
+use mathlib.Core.Path.{◌≡◌, sym, ap, ◌∙◌}
 use mathlib.Core.Bool.{Bool, true, false}
 use mathlib.Core.List.{List, [], ◌∷◌, ◌++◌, append-nil}
 use mathlib.Core.Logic.{◌≢◌, ◌⊎◌, inl, inr}
@@ -18,7 +18,7 @@ use Rattle.text.specs.Text.{write, decimal}
 use Rattle.text.proofs.WriteLaws.{rest_of, nothing, and_then}
 use Rattle.text.specs.Phrases.{counted}
 use Rattle.register_names.specs.declared.Sizes.{Sizes}
-use Rattle.register_names.specs.Rows.{Row, in_row, in_group, sectioned, named, numbered, row_words, place_in}
+use Rattle.register_names.specs.Rows.{Row, in_row, sectioned, named, numbered, row_words, place_in}
 use Rattle.register_names.specs.Table.{digit_of, two_at, four_at, until, count_by, count_at, section_from, first_at, step_at, name_at, section_at, row_at, rows_from, rows_in, stands_by, stands_at, row_from, number_by, title_at, words_at}
 
 -- ---- digits

@@ -1,22 +1,22 @@
 -- The promises of the words of a step, kept.
-use Prim.Native.Nat.{ℕ, ◌+◌, ◌*◌, ◌/◌, ◌%◌, ◌<◌, ◌≤◌}
+use Prim.Native.Nat.{ℕ, ◌<◌, ◌≤◌}
 use mathlib.Core.Path.{◌≡◌, refl, sym, ap, ap₂, ◌∙◌}
-use mathlib.Core.Bool.{Bool, true, false, ◌&&◌, ◌||◌}
-use mathlib.Core.List.{List, [], ◌++◌}
+use mathlib.Core.Bool.{Bool, true, ◌||◌}
+use mathlib.Core.List.{◌++◌}
 use mathlib.Core.Logic.{◌≢◌, ◌⊎◌, inl, inr}
 use native.Mathlib.Omega.{arith}
 use lib.Dec.{eqb}
 use borrow.Author.Tests.{eq-eqb, ne_eqb, lt-ltb, le-ltb}
 use Rattle.words.specs.Array.{byte_of}
 use Rattle.words.specs.Choice.{pick}
-use Rattle.words.specs.Counting.{one, count_below}
+use Rattle.words.specs.Counting.{count_below}
 use Rattle.words.specs.Word.{bit}
 use Rattle.words.proofs.ChoiceLaws.{pick_true, pick-false}
 use Rattle.words.proofs.TruthLaws.{or_left, or_right}
 use Rattle.text.specs.Text.{decimal_of}
 use Rattle.text.specs.Phrases.{bytes, counted}
 use Rattle.steps.specs.declared.Recorded.{Recorded}
-use Rattle.steps.specs.declared.Step.TheVariants.{Read, Write, Line}
+use Rattle.steps.specs.declared.Step.TheVariants.{Line}
 use Rattle.register_names.specs.Rows.{place_in}
 use Rattle.register_names.specs.Maps.{aic_rows, core_rows, cic_rows, index_rows, aintc_rows}
 use Rattle.aic_record.specs.Mode.{priority_of, type_of, kept_mode}

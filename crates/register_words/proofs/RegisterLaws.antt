@@ -1,14 +1,13 @@
 -- What a step touches has no line feed in words, and is at most so long: the place 36 bytes, the fields 76, what is beyond its limit 32.
 use Prim.Native.Nat.{ℕ, zero, suc, ◌+◌, ◌-◌, ◌*◌, ◌/◌, ◌%◌, ◌^◌, ◌≤◌, ◌<◌}
-use mathlib.Core.Path.{◌≡◌, refl, sym, ap, ◌∙◌}
+use mathlib.Core.Path.{◌≡◌, refl, ap}
 use mathlib.Core.Bool.{Bool, true, false, ◌&&◌}
-use mathlib.Core.List.{List, [], ◌∷◌, ◌++◌}
+use mathlib.Core.List.{List, [], ◌++◌}
 use native.Mathlib.Omega.{arith}
-use lib.Dec.{eqb, ltb}
+use lib.Dec.{ltb}
 use lib.ListN.{length, length-append}
 use borrow.Author.Tests.{ltb-true}
 use Rattle.words.specs.Array.{byte_of}
-use Rattle.words.specs.Choice.{pick}
 use Rattle.words.specs.Counting.{one, count_below}
 use Rattle.words.specs.Word.{bit, without, kept}
 use Rattle.words.proofs.ChoiceLaws.{pick_cases}
@@ -19,8 +18,8 @@ use Rattle.tables.specs.Layout.{Without}
 use Rattle.steps.specs.declared.Step.{Step}
 use Rattle.steps.specs.declared.Step.TheVariants.{Read, Write, Line}
 use Rattle.steps.specs.declared.Recorded.{Recorded}
-use Rattle.aic_record.specs.Mode.{priority_of, type_of}
-use Rattle.kinds.specs.Kinds.{Each, by_kind, cic_kind, indexed_kind}
+use Rattle.aic_record.specs.Mode.{priority_of}
+use Rattle.kinds.specs.Kinds.{Each, by_kind}
 use Rattle.machine.specs.declared.record.Machine.{Machine}
 use Rattle.register_names.proofs.TextLaws.{Fits, clear, short, known, empty, wider, joined, either, number, few, behind}
 use Rattle.register_names.proofs.FitLaws.{place-fits, aic-fits, core-fits, cic-fits, index-fits, aintc-fits}

@@ -1,7 +1,6 @@
 -- That `put_aic` of src/lib.rt keeps its contract: its rows are the maker's.
 use mathlib.Core.Path.{refl}
 use Rattle.words.specs.Choice.{pick}
-use Rattle.text.proofs.WriteLaws.{same_length as same-length-of}
 use Rattle.text.specs.Phrases.{bytes}
 use Rattle.register_names.specs.Maps.{aic_rows}
 use Rattle.register_names.specs.Table.{digit_of, two_at, four_at, until, count_by, first_at, count_at, step_at, name_at, section_from, section_at, row_at, rows_from}
@@ -11,9 +10,3 @@ use Rattle.register_names.proofs.put_aic.Goals as goal
 pub returns : goal.returns
 unfolding rows_from row_at first_at count_at count_by step_at name_at section_from section_at four_at two_at digit_of until bytes pick
 returns c = as-map _ _ _ _ _ aic_rows _ c.put_place.ensures refl refl
-
-pub put_place-requires : goal.put_place-requires
-put_place-requires c = refl
-
-pub returns : goal.returns
-returns c = same-length-of _ _ _ (returns c)

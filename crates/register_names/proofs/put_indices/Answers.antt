@@ -2,7 +2,6 @@
 use mathlib.Core.Path.{refl}
 use mathlib.Core.Bool.{Bool}
 use Rattle.words.specs.Choice.{pick}
-use Rattle.text.proofs.WriteLaws.{same_length as same-length-of}
 use Rattle.text.specs.Phrases.{bytes}
 use Rattle.register_names.specs.Maps.{index_rows}
 use Rattle.register_names.specs.Table.{digit_of, two_at, four_at, until, count_by, first_at, count_at, step_at, name_at, section_from, section_at, row_at, rows_from}
@@ -14,9 +13,3 @@ unfolding rows_from row_at first_at count_at count_by step_at name_at section_fr
 returns c =
     let a = c.args in
     as-map _ _ _ _ _ (λ (w : Bool). index_rows w a.systems a.channels a.hosts) _ c.put_place.ensures refl refl
-
-pub put_place-requires : goal.put_place-requires
-put_place-requires c = refl
-
-pub returns : goal.returns
-returns c = same-length-of _ _ _ (returns c)

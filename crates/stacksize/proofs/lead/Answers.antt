@@ -7,5 +7,5 @@ use Rattle.stacksize.proofs.lead.Goals as goal
 pub slice_bounds-line-end : goal.slice_bounds-line-end
 slice_bounds-line-end c = laid-fits _ _ _ c.put_slip-k.ensures
 
-pub slice-aggregate-tell-2 : goal.slice-aggregate-tell-2
-slice-aggregate-tell-2 c = sym (length-take-le _ _ (laid-fits _ _ _ c.put_slip-k.ensures))
+pub slice_bounds-tell-end-2 : goal.slice_bounds-tell-end-2
+slice_bounds-tell-end-2 c = sym (length-take-le _ _ (laid-fits _ _ _ c.put_slip-k.ensures))

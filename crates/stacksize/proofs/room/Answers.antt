@@ -4,4 +4,4 @@ use Rattle.tables.proofs.Promises.{kept}
 use Rattle.stacksize.proofs.room.Goals as goal
 
 pub returns : goal.returns
-returns c = (refl, kept.answer_most)
+returns c = record { value = refl; any = kept.answer_most }

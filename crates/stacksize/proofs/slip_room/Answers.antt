@@ -4,4 +4,4 @@ use Rattle.tables.proofs.SlipsPromises.{kept}
 use Rattle.stacksize.proofs.slip_room.Goals as goal
 
 pub returns : goal.returns
-returns c = (refl, kept.most)
+returns c = record { value = refl; any = kept.most }

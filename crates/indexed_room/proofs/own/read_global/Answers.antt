@@ -9,5 +9,5 @@ returns-then-n-ne-CARRIED_OUT c = λ p ok h. global-refused p _ c.read_refusal-n
 pub returns : goal.returns
 returns c =
     λ p ok h.
-    global-read p _ c.read_refusal-n.ensures _ _ _ ok c.if-n-ne-CARRIED_OUT.false (global-is p h) (c.index-IsWord.ensures p ok h) (c.hold_after-x.ensures p (mode-is p h))
+    global-read p _ c.read_refusal-n.ensures _ _ _ ok c.if-n-ne-CARRIED_OUT.false (global-is p h) (c.index_word-word.ensures p ok h) (c.hold_after-x.ensures p (mode-is p h))
     (c.hold_global.ensures p h) c.answer.ensures

@@ -17,4 +17,4 @@ returns c =
     λ p ok h.
     let below = host_there p _ _ (c.host_access-access.ensures p h) c.read_refusal-n.ensures ok c.if-n-ne-CARRIED_OUT.false in
     host-read p _ _ (c.host_access-access.ensures p h) c.read_refusal-n.ensures _ _ _ ok c.if-n-ne-CARRIED_OUT.false (host-held-is p h _ below)
-    (c.index-IsWord.ensures p ok h) (c.hold_after-x.ensures p (mode-is p h)) (c.hold_host.ensures p h) c.answer.ensures
+    (c.index_word-word.ensures p ok h) (c.hold_after-x.ensures p (mode-is p h)) (c.hold_host.ensures p h) c.answer.ensures

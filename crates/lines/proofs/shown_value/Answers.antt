@@ -1,0 +1,13 @@
+-- That `shown_value` of src/lib.rt keeps its contract.
+use borrow.Author.Tests.{eq-eqb, ne_eqb}
+use Rattle.words.proofs.ChoiceLaws.{pick_true, pick-false}
+use Rattle.lines.specs.Listing.{shown_value}
+use Rattle.lines.proofs.shown_value.Goals as goal
+
+pub returns-then-refusal-ne-CARRIED_OUT : goal.returns-then-refusal-ne-CARRIED_OUT
+unfolding shown_value
+returns-then-refusal-ne-CARRIED_OUT c = pick-false _ (ne_eqb _ _ c.if-refusal-ne-CARRIED_OUT.true)
+
+pub returns : goal.returns
+unfolding shown_value
+returns c = pick_true _ (eq-eqb _ _ c.if-refusal-ne-CARRIED_OUT.false)

@@ -1,0 +1,7 @@
+-- That `empty` of src/record.rt keeps its contract.
+use mathlib.Core.Path.{refl}
+use Rattle.machine.proofs.MachineLaws.{blank_core, blank-cic}
+use Rattle.machine.proofs.record.empty.Goals as goal
+
+pub returns : goal.returns
+returns c = rw (c.reset_to-a.ensures, c.start-b.ensures, c.start-c.ensures, c.blank-d.ensures, c.nothing_held-held.ensures) (rw (blank_core, blank-cic) refl)

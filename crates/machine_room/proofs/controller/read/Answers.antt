@@ -1,0 +1,12 @@
+-- That `read` of src/controller.rt keeps its contract.
+use mathlib.Core.Path.{refl}
+use native.Mathlib.Omega.{arith}
+use Rattle.trace.proofs.TurnLaws.{step-read}
+use Rattle.machine_room.proofs.ControllerLaws.{stepped_as}
+use Rattle.machine_room.proofs.controller.read.Goals as goal
+
+pub step-requires : goal.step-requires
+step-requires c = (omega arith, omega arith)
+
+pub returns : goal.returns
+returns c = stepped_as (step-read 1 _ 0 refl) c.step.ensures

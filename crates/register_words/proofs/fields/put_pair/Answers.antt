@@ -1,0 +1,7 @@
+-- That `put_pair` of src/fields.rt keeps its contract.
+use Rattle.text.proofs.WriteLaws.{and_then}
+use Rattle.register_words.proofs.fields.put_pair.Goals as goal
+
+pub returns : goal.returns
+returns c =
+    and_then _ _ _ c.put_counted-a.ensures c.put_counted.ensures

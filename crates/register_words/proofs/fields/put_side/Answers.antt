@@ -1,0 +1,9 @@
+-- That `put_side` of src/fields.rt keeps its contract.
+use Rattle.text.specs.Phrases.{bytes}
+use Rattle.register_words.proofs.FieldLaws.{bits_of}
+use Rattle.register_words.proofs.fields.put_side.Goals as goal
+
+pub returns : goal.returns
+unfolding bytes
+returns c =
+    bits_of _ _ _ _ _ _ c.put_bits.ensures c.keep-w.ensures
