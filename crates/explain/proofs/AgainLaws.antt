@@ -1,27 +1,22 @@
 -- A player reads the same controller and the same steps from the bytes of an explanation.
-use Prim.Native.Nat.{ℕ, ◌+◌, ◌≤◌}
-use mathlib.Core.Path.{◌≡◌, refl, sym, ap, ◌∙◌, subst}
+use Prim.Native.Nat.{ℕ, ◌≤◌}
+use mathlib.Core.Path.{◌≡◌, sym, ap, ◌∙◌, subst}
 use mathlib.Core.Bool.{Bool}
 use mathlib.Core.List.{List, [], ◌∷◌, ◌++◌}
 use native.Mathlib.Nat.{zero-add}
 use native.Mathlib.Omega.{arith}
 use lib.ListN.{length, length-append}
-use Rattle.numbers.specs.Promises.{told_at}
 use Rattle.trace.specs.Promises.{Reads}
 use Rattle.trace.specs.Trace.{Trace, steps_from}
 use Rattle.trace.proofs.Promises as Traces
-use Rattle.kinds.specs.Kinds.{wanted, tells_privilege}
+use Rattle.kinds.specs.Kinds.{tells_privilege}
 use Rattle.encode.specs.Bytes.{bytes_of}
 use Rattle.machine.specs.declared.record.Machine.{Machine}
-use Rattle.machine.specs.RecordPromises.{start_with}
-use Rattle.beginning.specs.declared.Begun.{Begun}
 use Rattle.beginning.specs.Begin.{begin_of}
-use Rattle.beginning.specs.Asked.{Configures}
 use Rattle.beginning.proofs.BeginningLaws.{beginning}
-use Rattle.beginning.specs.Play.{records_from, records_of}
+use Rattle.beginning.specs.Play.{records_of}
 use Rattle.beginning.proofs.PlayLaws.{records-begun, records_limited}
 use Rattle.player.proofs.Promises as Player
-use Rattle.explain.specs.Promises.{Words, AllWords}
 use Rattle.explain.proofs.SizeLaws.{reads_fit, records_fit}
 use Rattle.explain.specs.Read.{numbers_in, played_numbers}
 use Rattle.explain.proofs.BackLaws.{AllPlain, along-plain, reads_back, steps_back}

@@ -1,7 +1,7 @@
 -- Numbers that are printed are read as they are.
 use Prim.Native.Nat.{ℕ, zero, suc, ◌+◌, ◌-◌, ◌*◌, ◌/◌, ◌%◌, ◌^◌, ◌≤◌, ◌<◌}
 use mathlib.Core.Path.{◌≡◌, refl, sym, ap, ◌∙◌}
-use mathlib.Core.Bool.{Bool, true, false}
+use mathlib.Core.Bool.{true, false}
 use mathlib.Core.List.{List, [], ◌∷◌, ◌++◌}
 use native.Mathlib.Decide.{dec_lt, ℕ_discrete}
 use native.Mathlib.Omega.{arith}
@@ -17,7 +17,7 @@ use Rattle.text.specs.Promises.{worth_after}
 use Rattle.text.proofs.DigitLaws.{hex-nth, length-hex}
 use Rattle.text.proofs.Promises as Text
 use Rattle.tables.specs.Number.{digit, worth_from, is_hex, is_number, worth}
-use Rattle.tables.proofs.NumberLaws.{are-digits, number-plain, number-hex, hex-first, number-high, number-some}
+use Rattle.tables.proofs.NumberLaws.{are-digits, number-plain, number-hex, hex-first, number-high}
 
 -- ---- hexadecimal
 

@@ -1,11 +1,11 @@
 -- The promises of explained traces, kept.
-use Prim.Native.Nat.{ℕ, ◌+◌, ◌-◌, ◌*◌, ◌≤◌, ◌<◌}
+use Prim.Native.Nat.{ℕ, ◌+◌, ◌-◌, ◌≤◌, ◌<◌}
 use mathlib.Core.Path.{◌≡◌, refl, sym, ap, ◌∙◌}
-use mathlib.Core.Bool.{Bool, true, false, ◌&&◌, ◌||◌, not}
+use mathlib.Core.Bool.{Bool, true, false}
 use mathlib.Core.List.{List, [], ◌∷◌, ◌++◌, append_assoc, append-nil}
 use mathlib.Core.Logic.{◌↔◌, ◌≢◌}
 use native.Mathlib.Omega.{arith}
-use lib.Dec.{eqb, leb, ltb}
+use lib.Dec.{leb, ltb}
 use lib.ListN.{length, replicate}
 use borrow.Author.Tests.{eq-eqb, ne_eqb, lt-ltb, le-ltb, le-leb, leb-true, ltb-true}
 use Rattle.words.specs.Choice.{pick}
@@ -13,7 +13,7 @@ use Rattle.words.proofs.ChoiceLaws.{pick_true, pick-false}
 use Rattle.words.proofs.TruthLaws.{and_both, and_left, and_right}
 use Rattle.steps.specs.declared.Recorded.{Recorded}
 use Rattle.steps.specs.declared.Step.TheVariants.{Read, Write, Line}
-use Rattle.text.specs.Text.{space, newline, hex_digit, hex_of, hex, decimal_of, decimal, field}
+use Rattle.text.specs.Text.{hex_digit, hex_of, hex, decimal_of, decimal, field}
 use Rattle.text.specs.Phrases.{bytes, counted}
 use Rattle.trace.specs.Promises.{made}
 use Rattle.kinds.specs.Kinds.{by_kind, tells_privilege}
@@ -22,7 +22,6 @@ use Rattle.machine.specs.declared.Answer.{Answer}
 use Rattle.machine.specs.Steps.{step}
 use Rattle.beginning.specs.Begin.{begin_of}
 use Rattle.beginning.specs.Play.{records_of}
-use Rattle.register_words.specs.Registers.{place_words, field_words}
 use Rattle.deeds.specs.Deeds.{deed_words, output_words}
 use Rattle.explain.specs.declared.Window.{Window}
 use Rattle.explain.specs.Stated as said

@@ -1,12 +1,12 @@
 -- How long the lines of an explanation are, and all of it.
-use Prim.Native.Nat.{ℕ, zero, suc, ◌+◌, ◌-◌, ◌*◌, ◌^◌, ◌≤◌, ◌<◌}
-use mathlib.Core.Path.{◌≡◌, refl, sym, ap, ◌∙◌}
+use Prim.Native.Nat.{ℕ, ◌+◌, ◌-◌, ◌*◌, ◌^◌, ◌≤◌, ◌<◌}
+use mathlib.Core.Path.{◌≡◌}
 use mathlib.Core.Bool.{Bool, true, false, ◌&&◌, not}
-use mathlib.Core.List.{List, [], ◌∷◌, ◌++◌}
+use mathlib.Core.List.{List, [], ◌∷◌}
 use native.Mathlib.Omega.{arith}
 use lib.Dec.{eqb, ltb}
 use lib.ListN.{length, replicate, length-append, length-replicate}
-use borrow.Author.Tests.{ltb-true, ltb-false}
+use borrow.Author.Tests.{ltb-true}
 use Rattle.words.specs.Choice.{pick}
 use Rattle.words.proofs.ChoiceLaws.{pick_cases}
 use Rattle.steps.specs.Refusals.{carried_out, misaligned, absent, unreadable, unwritable, beyond, unprivileged, limit_reached, damaged, unknown, misconfigured}
@@ -15,7 +15,7 @@ use Rattle.steps.specs.declared.Step.{Step}
 use Rattle.steps.specs.declared.Step.TheVariants.{Read, Write, Line}
 use Rattle.numbers.specs.Promises.{told_at}
 use Rattle.numbers.proofs.Promises as Numbers
-use Rattle.text.specs.Text.{space, newline, decimal, hex, field}
+use Rattle.text.specs.Text.{space, field}
 use Rattle.text.proofs.DigitLaws.{length-hex, length-below, length-decimal, length-field}
 use Rattle.text.specs.Phrases.{bytes, counted}
 use Rattle.text.proofs.SizeLaws.{length_word}
@@ -31,12 +31,10 @@ use Rattle.beginning.specs.declared.Begun.{Begun}
 use Rattle.beginning.specs.Begin.{begin_of}
 use Rattle.beginning.specs.Play.{records_from, records_of}
 use Rattle.beginning.proofs.PlayLaws.{records_limited}
-use Rattle.register_words.specs.Registers.{place_words, field_words, limit_words}
 use Rattle.register_words.proofs.RegisterLaws.{place-length, field-length, limit-length}
-use Rattle.deeds.specs.Deeds.{deed_words, output_words}
 use Rattle.deeds.proofs.DeedLaws.{deed-length, output-length}
 use Rattle.explain.specs.declared.Window.{Window}
-use Rattle.explain.specs.Stated.{offset_digits, hex_field, numbers_at, controller, privilege_field, read_stated, write_stated, line_stated, stated_by, stated, gap, to_column}
+use Rattle.explain.specs.Stated.{offset_digits, numbers_at, controller, privilege_field, read_stated, write_stated, line_stated, stated_by, stated, gap, to_column}
 use Rattle.explain.specs.Explain.{commented, cic_document, document_words, controller_line, reason_words, refused_words, value_words, access_words, did_words, step_words, step_line}
 use Rattle.explain.specs.Explain.{end_reason, end_line, shows, lines_from, end_of, text_from, head_of, started_text, explained_by}
 use Rattle.explain.specs.Promises.{Words, AllWords}
@@ -46,7 +44,7 @@ use Rattle.explain.proofs.StatedLaws.{digits-most, length-hex_field, controller-
 
 pub reads_fit : (s : List ℕ) (at : ℕ) (ns : List ℕ) (p : ℕ) → Reads s at ns p → Words ns
 reads_fit s at [] p h = tt
-reads_fit s at (n ∷ ns) p h = (omega (arith, (Numbers.kept).fits s at, h.1.0), reads_fit s _ ns p h.1.1)
+reads_fit s at (n ∷ ns) p h = (omega (arith, (Numbers.kept).fits s at, h.1.0), reads_fit s (told_at s at).place ns p h.1.1)
 
 along_fit : (told : Bool) (s : List ℕ) (at : ℕ) (xs : List Recorded) (p : ℕ) → Along told s at xs p → AllWords told xs
 along_fit told s at [] p h = tt

@@ -1,12 +1,12 @@
 -- Statements in canonical form by their words, and what these tell.
-use Prim.Native.Nat.{ℕ, zero, suc, ◌+◌, ◌^◌, ◌≤◌, ◌<◌}
+use Prim.Native.Nat.{ℕ, ◌^◌, ◌≤◌, ◌<◌}
 use mathlib.Core.Path.{◌≡◌, refl, sym, ap, ◌∙◌}
 use mathlib.Core.Bool.{Bool, true, false}
 use mathlib.Core.List.{List, [], ◌∷◌, ◌++◌, map, append_assoc, append-nil}
-use mathlib.Core.Logic.{◌≢◌, ◌⊎◌, inl, inr}
+use mathlib.Core.Logic.{◌≢◌, inl, inr}
 use native.Mathlib.Omega.{arith}
 use lib.Dec.{ltb}
-use lib.ListN.{length, replicate, length-map}
+use lib.ListN.{length, replicate}
 use borrow.Author.Tests.{ltb-true}
 use Rattle.words.specs.Choice.{pick}
 use Rattle.words.specs.Counting.{all_below}
@@ -21,7 +21,7 @@ use Rattle.trace.proofs.StepLaws.{read_one, read-two, write_two, write_three, li
 use Rattle.kinds.specs.Kinds.{by_kind, is_kind}
 use Rattle.kinds.proofs.KindLaws.{Known, known}
 use Rattle.encode.specs.Words.{same, kind_of, step_of}
-use Rattle.explain.specs.Stated.{offset_digits, hex_field, fields, kind_word, controller, privilege_field, read_stated, write_stated, line_stated, stated, gap, to_column}
+use Rattle.explain.specs.Stated.{offset_digits, hex_field, fields, kind_word, privilege_field, read_stated, write_stated, line_stated, stated, gap, to_column}
 use Rattle.explain.specs.Promises.{Words}
 use Rattle.explain.proofs.DigitLaws.{hex_word, hex-read, decimal-read, High, high-by}
 use Rattle.explain.proofs.WordLaws.{spelt, line_of}

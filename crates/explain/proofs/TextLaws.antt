@@ -1,9 +1,9 @@
 -- A whole explanation, line by line, as it is encoded.
-use Prim.Native.Nat.{ℕ, zero, suc, ◌+◌, ◌-◌, ◌*◌, ◌/◌, ◌%◌, ◌^◌, ◌≤◌, ◌<◌}
+use Prim.Native.Nat.{ℕ, zero, suc, ◌+◌, ◌-◌, ◌/◌, ◌%◌, ◌^◌, ◌≤◌, ◌<◌}
 use mathlib.Core.Path.{◌≡◌, refl, sym, ap, ap₂, ◌∙◌}
-use mathlib.Core.Bool.{Bool, true, false, ◌&&◌, not}
+use mathlib.Core.Bool.{Bool, true, ◌&&◌, not}
 use mathlib.Core.List.{List, [], ◌∷◌, ◌++◌, map, append_assoc}
-use mathlib.Core.Logic.{◌≢◌, ◌⊎◌, inl, inr}
+use mathlib.Core.Logic.{◌≢◌, inl, inr}
 use native.Mathlib.Omega.{arith}
 use lib.Dec.{eqb, ltb}
 use lib.ListN.{length, get_or, length-append, length-map}
@@ -16,7 +16,7 @@ use Rattle.steps.specs.Refusals.{carried_out, misaligned, absent, unreadable, un
 use Rattle.steps.specs.declared.Recorded.{Recorded}
 use Rattle.steps.specs.declared.Step.{Step}
 use Rattle.steps.specs.declared.Step.TheVariants.{Read, Write, Line}
-use Rattle.numbers.specs.Number.{size_at, worth_at}
+use Rattle.numbers.specs.Number.{size_at}
 use Rattle.numbers.specs.Promises.{told_at}
 use Rattle.numbers.proofs.NumberLaws.{sized, worth-below}
 use Rattle.numbers.proofs.Promises as Numbers
@@ -28,12 +28,12 @@ use Rattle.trace.specs.Promises.{Reads, Along}
 use Rattle.trace.specs.Steps.{numbers_of}
 use Rattle.trace.proofs.Promises as Traces
 use Rattle.tables.specs.Layout.{Without}
-use Rattle.kinds.specs.Kinds.{by_kind, is_kind, wanted, tells_privilege}
+use Rattle.kinds.specs.Kinds.{is_kind, wanted, tells_privilege}
 use Rattle.kinds.specs.declared.Configuration.{Configuration}
 use Rattle.kinds.proofs.KindLaws.{Known, known}
 use Rattle.encode.specs.Bytes.{groups, shortest, bytes_of}
 use Rattle.encode.proofs.ByteLaws.{bytes_append}
-use Rattle.encode.specs.Encode.{Encoding, lines_of, after, encoded_from, encoded}
+use Rattle.encode.specs.Encode.{lines_of, after, encoded_from, encoded}
 use Rattle.machine.specs.declared.record.Machine.{Machine}
 use Rattle.machine.specs.Machine.{start}
 use Rattle.machine.specs.RecordPromises.{start_with}
@@ -44,9 +44,9 @@ use Rattle.beginning.specs.declared.Begun.{Begun}
 use Rattle.beginning.specs.Asked.{Configures}
 use Rattle.beginning.specs.Begin.{begin_of}
 use Rattle.beginning.proofs.BeginningLaws.{Beginning, overlong, damaged_at, no_kind, beyond_at, configured, beginning}
-use Rattle.beginning.specs.Play.{records_from, records_of}
+use Rattle.beginning.specs.Play.{records_of}
 use Rattle.beginning.proofs.PlayLaws.{records-begun}
-use Rattle.register_words.specs.Registers.{place_words, field_words, limit_words}
+use Rattle.register_words.specs.Registers.{place_words}
 use Rattle.register_words.proofs.RegisterLaws.{place-plain, field_plain, limit-plain}
 use Rattle.deeds.specs.Deeds.{deed_words, output_words}
 use Rattle.deeds.proofs.DeedLaws.{deed-plain, output-plain}
@@ -57,7 +57,6 @@ use Rattle.explain.specs.Promises.{Words, AllWords}
 use Rattle.explain.proofs.StatedLaws.{each-kind}
 use Rattle.explain.proofs.SizeLaws.{reads_fit, records_fit, explained-most}
 use Rattle.explain.specs.Read.{numbers_in, played_numbers}
-use Rattle.explain.proofs.DigitLaws.{High}
 use Rattle.explain.proofs.WordLaws.{spelt, line_of, without_append}
 use Rattle.explain.proofs.LineLaws.{line-encoded, end-encoded, comment-encoded}
 use Rattle.explain.proofs.SpellingLaws.{Spelling, spelling, to-column, fields-spelt, decimals-tell, Kinded, kinded}

@@ -1,9 +1,9 @@
 -- What is promised of an explained trace: the statement of each step, what its comment tells, which lines there are, and how long they get
 -- (docs/TEXT.md, "A trace explained").
-use Rattle.std.specs.Prelude.{ℕ, ◌+◌, ◌-◌, ◌*◌, ◌^◌, ◌≤◌, ◌<◌, ◌≡◌, Bool, true, false, List, [], ◌∷◌, ◌++◌, ◌↔◌, ◌≢◌, length, replicate}
+use Rattle.std.specs.Prelude.{ℕ, ◌+◌, ◌-◌, ◌^◌, ◌≤◌, ◌<◌, ◌≡◌, Bool, true, false, List, [], ◌∷◌, ◌++◌, ◌↔◌, ◌≢◌, length, replicate}
 use Rattle.steps.specs.declared.Recorded.{Recorded}
 use Rattle.steps.specs.declared.Step.TheVariants.{Read, Write, Line}
-use Rattle.text.specs.Text.{hex_of, hex, decimal, field}
+use Rattle.text.specs.Text.{hex_of, hex, decimal}
 use Rattle.text.specs.Phrases.{bytes}
 use Rattle.numbers.specs.Promises.{told_at}
 use Rattle.trace.specs.Promises.{made}
@@ -16,7 +16,7 @@ use Rattle.beginning.specs.Begin.{begin_of}
 use Rattle.beginning.specs.Play.{records_of}
 use Rattle.register_words.specs.Registers.{place_words, field_words, limit_words}
 use Rattle.deeds.specs.Deeds.{deed_words, output_words}
-use Rattle.explain.specs.Stated.{hex_field, numbers_at, controller, stated, to_column}
+use Rattle.explain.specs.Stated.{numbers_at, controller, stated, to_column}
 use Rattle.explain.specs.Explain.{controller_line, document_words, reason_words, step_line, end_line, whole, window_of, shows, lines_from, explained_of, explained_window}
 
 -- these numbers fit 32 bits

@@ -3,7 +3,6 @@ use Rattle.std.specs.Prelude.{ℕ, List, [], ◌∷◌, ◌++◌, map, eqb}
 use Rattle.words.specs.Choice.{pick}
 use Rattle.trace.specs.Steps.{numbers_of as step_numbers}
 use Rattle.kinds.specs.Kinds.{tells_privilege}
-use Rattle.encode.specs.declared.statements.Statement.{Statement}
 use Rattle.encode.specs.Words.{no_kind}
 use Rattle.encode.specs.Statements.{uncommented, statement_of, numbers_of}
 use Rattle.encode.specs.Encode.{lines_of}

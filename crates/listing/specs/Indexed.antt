@@ -1,5 +1,5 @@
 -- A CIC with its choice off beside one without a choice, and a trace of one with it on (02, 6/12).
-use Rattle.std.specs.Prelude.{ℕ, ◌+◌, ◌≤◌, ◌≡◌, true, List, [], ◌∷◌, ◌++◌, length}
+use Rattle.std.specs.Prelude.{ℕ, ◌≤◌, ◌≡◌, true, List, [], ◌∷◌, ◌++◌, length}
 use Rattle.cic_record.specs.Promises.{InRange}
 use Rattle.trace.specs.Promises.{Reads}
 use Rattle.machine.specs.declared.record.Machine.{Machine}

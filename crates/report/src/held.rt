@@ -42,7 +42,14 @@ pub(crate) fn fill<R: Input>(rt: &R, names: &mut [u8], held: usize) -> Came
 
 // What is kept of a begun name: nothing where it is passed over, nor where it fills the room, for then it is too long to be opened. Of the one that is
 // passed over the first 4,096 bytes have been told. The totals are as they were.
-pub(crate) fn settle<R: Print>(rt: &R, names: &[u8], held: usize, skipping: bool, sum: Sum, came: Came) -> State
+pub(crate) fn settle<R: Print>(
+    rt: &R,
+    names: &[u8],
+    held: usize,
+    skipping: bool,
+    sum: Sum,
+    came: Came,
+) -> State
     ensures { (result.held ≤ length names.now) × (result.sum.totals ≡ sum.totals) }
 {
     if skipping | !sum.written {

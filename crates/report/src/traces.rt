@@ -10,8 +10,8 @@ ghost use Rattle.report.specs.Put.{Put};
 
 use super::progress;
 use super::progress::Sum;
-use tally::Tallied;
 use std::rt::Files;
+use tally::Tallied;
 
 // The most steps of a trace that are played.
 const LIMIT: u32 = 20000;

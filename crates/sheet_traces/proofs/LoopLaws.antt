@@ -12,10 +12,8 @@ use Rattle.words.specs.Choice.{pick}
 use Rattle.words.specs.Counting.{one}
 use Rattle.words.proofs.ChoiceLaws.{pick_true, pick-false}
 use Rattle.words.proofs.CountingLaws.{one_le}
-use Rattle.steps.specs.declared.Recorded.{Recorded}
 use Rattle.steps.specs.declared.Step.{Step}
 use Rattle.steps.specs.Refusals.{carried_out}
-use Rattle.trace.specs.declared.Turn.TheVariants.{Found, Ended}
 use Rattle.trace.specs.Trace.{Trace, turn_at, steps_from}
 use Rattle.trace.proofs.TraceLaws.{trace-ended, trace_found}
 use Rattle.trace.specs.declared.turns.Told.{Told}
@@ -41,7 +39,7 @@ use Rattle.aic_figures.specs.WaitsBook.{Kept}
 use Rattle.aic_figures.specs.Waits.{waits_now, followed}
 use Rattle.aic_figures.proofs.Promises as Book
 use Rattle.stack.specs.declared.Table.{Table}
-use Rattle.stack.specs.Kept.{keeps, unkept}
+use Rattle.stack.specs.Kept.{keeps}
 use Rattle.stack.proofs.KeptLaws.{unkept-none}
 use Rattle.tally.specs.Tally.{steps_in}
 use Rattle.tally.specs.Following.{totals_of}

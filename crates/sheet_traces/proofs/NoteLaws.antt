@@ -1,6 +1,6 @@
 -- What the sheet takes from a trace in each of its ways.
 use Prim.Native.Nat.{ℕ, ◌≤◌}
-use mathlib.Core.Path.{◌≡◌, refl, sym, ap, ap₂, ◌∙◌}
+use mathlib.Core.Path.{◌≡◌, sym, ap, ap₂, ◌∙◌}
 use mathlib.Core.Bool.{Bool, true, false, ◌&&◌}
 use mathlib.Core.List.{List}
 use native.Mathlib.Omega.{arith}
@@ -10,10 +10,8 @@ use borrow.Author.Tests.{eq-eqb, eqb-true}
 use Rattle.words.proofs.ChoiceLaws.{pick_true, pick-false}
 use Rattle.words.proofs.TruthLaws.{and_left, and_right, and_both}
 use Rattle.steps.specs.Refusals.{carried_out}
-use Rattle.steps.specs.declared.Step.{Step}
 use Rattle.trace.specs.Trace.{Trace, steps_from}
 use Rattle.kinds.specs.Kinds.{aic_kind, tells_privilege}
-use Rattle.aic_record.specs.declared.Aic.{Aic}
 use Rattle.aic_record.specs.Sound.{sound}
 use Rattle.aic_record.specs.Promises.{Shaped}
 use Rattle.aic_waits.specs.Following.{no_figures}
@@ -29,12 +27,9 @@ use Rattle.tally.specs.Promises.{aic_of, played_of}
 use Rattle.tally.specs.Tally.{steps_in, tally_of}
 use Rattle.tally.proofs.TallyLaws.{as_many, tally-begun, none_open}
 use Rattle.tally.proofs.LengthLaws.{begun-length, records-short}
-use Rattle.totals.specs.declared.waits.Waits.{Waits}
 use Rattle.totals.specs.Waits.{no_waits}
 use Rattle.aic_figures.specs.Waits.{waits_of}
-use Rattle.totals.specs.declared.sheets.Noted.{Noted}
 use Rattle.sheet_traces.specs.declared.Played.{Played}
-use Rattle.sheet_traces.specs.declared.Watched.{Watched}
 use Rattle.sheet_traces.specs.Watched.{watched_in}
 use Rattle.sheet_traces.specs.Following.{tallied_from}
 use Rattle.sheet_traces.specs.Noted.{played_in, noted, unseen, starts_aic, note_of}

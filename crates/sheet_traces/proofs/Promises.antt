@@ -1,13 +1,12 @@
 -- The promises of what the sheet takes from a trace are kept.
-use Prim.Native.Nat.{ℕ, ◌+◌, ◌≤◌, ◌<◌}
+use Prim.Native.Nat.{ℕ, ◌≤◌, ◌<◌}
 use mathlib.Core.Path.{◌≡◌, refl, sym, ap, ◌∙◌, subst}
-use mathlib.Core.Bool.{Bool, true, false, ◌&&◌}
+use mathlib.Core.Bool.{true, false}
 use mathlib.Core.List.{List, ◌++◌}
-use mathlib.Core.Logic.{◌↔◌, ◌≢◌, ◌⊎◌, inl, inr}
+use mathlib.Core.Logic.{◌↔◌, ◌⊎◌, inl, inr}
 use native.Mathlib.Omega.{arith}
 use native.Mathlib.Decide.{ℕ_discrete}
-use lib.Dec.{eqb}
-use lib.ListN.{get_or, length}
+use lib.ListN.{get_or}
 use borrow.Author.Tests.{eq-eqb}
 use Rattle.words.proofs.TruthLaws.{told, clash, and_both}
 use Rattle.steps.specs.Refusals.{carried_out}
@@ -16,7 +15,7 @@ use Rattle.kinds.specs.Kinds.{aic_kind}
 use Rattle.aic_record.specs.declared.Aic.{Aic}
 use Rattle.aic_runs.specs.Runs.{run}
 use Rattle.aic_bounds.specs.Bounds as Terms
-use Rattle.aic_bounds.specs.Over.{largest_of, waits_unbounded, bounded_of}
+use Rattle.aic_bounds.specs.Over.{bounded_of}
 use Rattle.aic_bounds.proofs.Promises as Bounds
 use Rattle.aic_waits.specs.Figures.{waited_of}
 use Rattle.aic_figures.specs.Promises.{Source}
@@ -27,13 +26,11 @@ use Rattle.stack.specs.Bytes.{stack_bytes, open_bytes}
 use Rattle.stack.specs.Kept.{keeps_along}
 use Rattle.stack.proofs.KeptPromises as Kept
 use Rattle.tally.specs.Promises.{aic_of, played_of}
-use Rattle.tally.specs.Tally.{tally_of}
 use Rattle.tally.proofs.TallyLaws.{fresh}
 use Rattle.tally.proofs.Promises as Tally
 use Rattle.totals.specs.declared.Totals.{Totals}
 use Rattle.totals.specs.Promises.{Whole}
 use Rattle.totals.specs.Waits.{bound_of}
-use Rattle.totals.specs.declared.waits.Waits.{Waits}
 use Rattle.totals.specs.declared.sheets.Noted.{Noted}
 use Rattle.sheet_traces.specs.Watched.{strays_in, watched_in}
 use Rattle.sheet_traces.specs.Noted.{starts_aic, note_of}

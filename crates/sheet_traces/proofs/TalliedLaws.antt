@@ -21,7 +21,6 @@ use Rattle.machine.specs.declared.record.Machine.{Machine}
 use Rattle.machine.specs.declared.Answer.{Answer}
 use Rattle.machine.specs.Steps.{step as machine_step}
 use Rattle.machine.proofs.StepLaws.{aic_steps, step-kind}
-use Rattle.tally.specs.declared.Tallied.{Tallied}
 use Rattle.tally.specs.Tally.{refused_in, steps_in}
 use Rattle.tally.specs.Following.{totals_of, tallied}
 use Rattle.tally.proofs.TurnLaws.{aic-after}

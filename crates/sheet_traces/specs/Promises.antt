@@ -1,5 +1,5 @@
 -- What is promised of what the sheet takes from a trace.
-use Rattle.std.specs.Prelude.{ℕ, ◌≤◌, ◌<◌, ◌≡◌, true, false, List, [], ◌∷◌, ◌++◌, ◌↔◌, ◌≢◌, get_or, length}
+use Rattle.std.specs.Prelude.{ℕ, ◌≤◌, ◌<◌, ◌≡◌, true, false, List, ◌++◌, ◌↔◌, ◌≢◌, get_or}
 use Rattle.words.specs.Word.{bit}
 use Rattle.steps.specs.declared.Step.{Step}
 use Rattle.steps.specs.declared.Step.TheVariants.{Write}
@@ -9,7 +9,7 @@ use Rattle.aic_runs.specs.Runs.{run, count}
 use Rattle.beginning.specs.Begin.{begin_of}
 use Rattle.stack.specs.declared.Table.{Table}
 use Rattle.stack.specs.Bytes.{stack_bytes, open_bytes}
-use Rattle.stack.specs.Kept.{keeps, unkept, keeps_along}
+use Rattle.stack.specs.Kept.{keeps_along}
 use Rattle.tally.specs.Promises.{aic_of, played_of}
 use Rattle.tally.specs.Tally.{tally_of}
 use Rattle.totals.specs.Promises.{Whole}

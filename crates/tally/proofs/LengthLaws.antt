@@ -1,8 +1,8 @@
 -- A trace has no more steps than bytes.
-use Prim.Native.Nat.{ℕ, zero, suc, ◌+◌, ◌-◌, ◌≤◌, ◌<◌}
-use mathlib.Core.Path.{◌≡◌, refl, sym, ap, ◌∙◌, subst}
+use Prim.Native.Nat.{ℕ, zero, suc, ◌-◌, ◌≤◌, ◌<◌}
+use mathlib.Core.Path.{◌≡◌, sym, ap, ◌∙◌, subst}
 use mathlib.Core.Bool.{Bool}
-use mathlib.Core.List.{List, [], ◌∷◌}
+use mathlib.Core.List.{List}
 use native.Mathlib.Omega.{arith}
 use native.Mathlib.Decide.{ℕ_discrete}
 use lib.ListN.{length}
@@ -11,7 +11,7 @@ use Rattle.steps.specs.declared.Recorded.{Recorded}
 use Rattle.numbers.proofs.ReadLaws.{next_place}
 use Rattle.trace.specs.declared.Turn.{Turn}
 use Rattle.trace.specs.declared.Turn.TheVariants.{Found, Ended}
-use Rattle.trace.specs.Trace.{Trace, ends, go_on, turn_at, steps_from}
+use Rattle.trace.specs.Trace.{ends, go_on, turn_at, steps_from}
 use Rattle.trace.proofs.StepLaws.{Outcome, no_kind as Outcome·no_kind, unknown_kind, no_first, one_number, no_second, two_numbered, no_third, three_numbered, outcome}
 use Rattle.trace.proofs.TraceLaws.{turn_cases}
 use Rattle.kinds.specs.Kinds.{tells_privilege}

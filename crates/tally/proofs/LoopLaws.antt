@@ -2,7 +2,7 @@
 use Prim.Native.Nat.{ℕ, ◌+◌, ◌-◌, ◌≤◌, ◌<◌}
 use mathlib.Core.Bool.{Bool, true, false, not}
 use mathlib.Core.List.{List}
-use mathlib.Core.Path.{◌≡◌, refl, sym, ap, ◌∙◌}
+use mathlib.Core.Path.{◌≡◌, refl, ap, ◌∙◌}
 use native.Mathlib.Omega.{arith}
 use lib.Dec.{eqb}
 use lib.ListN.{length, get_or}
@@ -12,7 +12,7 @@ use Rattle.steps.specs.declared.Recorded.{Recorded}
 use Rattle.steps.specs.Refusals.{carried_out}
 use Rattle.trace.specs.Trace.{turn_at, steps_from}
 use Rattle.trace.specs.declared.turns.Told.{Told}
-use Rattle.trace.specs.Turns.{ended_kind, step_of, made, recorded_of, turn_of}
+use Rattle.trace.specs.Turns.{ended_kind, recorded_of, turn_of}
 use Rattle.trace.proofs.TurnLaws.{finds, found_here}
 use Rattle.rooms.specs.Reply.{Reply}
 use Rattle.kinds.specs.Kinds.{aic_kind}

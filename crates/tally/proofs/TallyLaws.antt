@@ -1,8 +1,8 @@
 -- The figures that the loop follows step by step are their definitions over the steps played.
-use Prim.Native.Nat.{ℕ, zero, suc, ◌+◌, ◌-◌, ◌≤◌, ◌<◌}
+use Prim.Native.Nat.{ℕ, zero, suc, ◌+◌, ◌≤◌, ◌<◌}
 use mathlib.Core.Path.{◌≡◌, refl, sym, ap, ap₂, ◌∙◌, subst}
 use mathlib.Core.Bool.{Bool}
-use mathlib.Core.List.{List, [], ◌∷◌, map}
+use mathlib.Core.List.{List, [], ◌∷◌}
 use native.Mathlib.Nat.{add-zero, zero-add}
 use native.Mathlib.Decide.{ℕ_discrete}
 use native.Mathlib.Omega.{arith}
@@ -15,7 +15,7 @@ use Rattle.words.proofs.ChoiceLaws.{pick_true, pick-false}
 use Rattle.steps.specs.Refusals.{carried_out}
 use Rattle.steps.specs.declared.Recorded.{Recorded}
 use Rattle.steps.specs.declared.Step.{Step}
-use Rattle.trace.specs.Trace.{Trace, ends, steps_from}
+use Rattle.trace.specs.Trace.{steps_from}
 use Rattle.kinds.specs.Kinds.{aic_kind, tells_privilege}
 use Rattle.kinds.specs.declared.Configuration.{Configuration}
 use Rattle.kinds.proofs.KindLaws.{KindOf, is_aic, is_core, is_cic, is_aintc, is_indexed, is_none, kind_of, at_aic, at_core, at-cic, at_aintc, at_indexed, at_none}
@@ -27,7 +27,7 @@ use Rattle.aic_waits.specs.Following.{Figures, no_figures, figures_over, followe
 use Rattle.aic_waits.proofs.RunLaws.{Whole, whole-followed}
 use Rattle.aic_waits.proofs.Promises as Waits
 use Rattle.machine.specs.declared.record.Machine.{Machine}
-use Rattle.machine.specs.Machine.{blank, start}
+use Rattle.machine.specs.Machine.{start}
 use Rattle.machine.specs.Steps.{step}
 use Rattle.machine.proofs.StepLaws.{step-kind}
 use Rattle.beginning.specs.declared.Begun.{Begun}
@@ -37,7 +37,6 @@ use Rattle.beginning.specs.Play.{records_from, records_of, report, play_of}
 use Rattle.beginning.proofs.PlayLaws.{records-begun, records-refused}
 use Rattle.totals.specs.declared.Totals.{Totals}
 use Rattle.totals.specs.Totals.{zeros}
-use Rattle.tally.specs.declared.Tallied.{Tallied}
 use Rattle.tally.specs.Tally.{refused_in, steps_in, each_from, each, figures_of, tally_of}
 use Rattle.tally.specs.Following.{followed_by, followed_all, totals_of, tallied, not_tallied}
 use Rattle.tally.proofs.LengthLaws.{records-short}

@@ -1,13 +1,13 @@
 -- The waits that are told are those of the run: each is one, and there are as many as begin.
 use Prim.Native.Nat.{ℕ, ◌+◌, ◌≤◌, ◌<◌}
 use mathlib.Core.Path.{◌≡◌, refl, sym, ap, ap₂, ◌∙◌}
-use mathlib.Core.Bool.{Bool, true, false, not, ◌&&◌}
-use mathlib.Core.List.{List, [], ◌∷◌, ◌++◌, append-nil, append_assoc}
+use mathlib.Core.Bool.{Bool, true, false, ◌&&◌}
+use mathlib.Core.List.{List, [], ◌∷◌, ◌++◌, append_assoc}
 use mathlib.Core.Logic.{◌⊎◌, inl, inr}
 use native.Mathlib.Nat.{zero-add}
 use native.Mathlib.Omega.{arith}
 use native.Mathlib.Decide.{dec_lt}
-use lib.Dec.{eqb, ltb}
+use lib.Dec.{ltb}
 use lib.ListN.{length, length-append}
 use borrow.Author.Tests.{ltb-true, lt-ltb, le-ltb}
 use Rattle.words.specs.Choice.{pick}
@@ -19,12 +19,12 @@ use Rattle.aic_sources.specs.Normal.{waiting}
 use Rattle.aic.specs.Model.{step}
 use Rattle.aic_runs.specs.Counted.{starts_of, starts_other}
 use Rattle.aic_runs.specs.Runs.{run, count, always}
-use Rattle.aic_waits.specs.Figures.{wait_next, wait_after, standing}
+use Rattle.aic_waits.specs.Figures.{wait_next, wait_after}
 use Rattle.aic_waits.specs.Promises.{Waits}
 use Rattle.aic_bounds.specs.declared.Bound.{Bound}
 use Rattle.aic_bounds.specs.Bounds.{idle, bound_after, bound_over, bound_at}
 use Rattle.aic_bounds.specs.Over.{begun_over, waits_begun}
-use Rattle.aic_bounds.specs.Promises.{outset, Waiting, Ends, Whole}
+use Rattle.aic_bounds.specs.Promises.{outset, Waiting, Ends}
 use Rattle.aic_bounds.proofs.StepLaws.{next_on, next_back, after-wait, over_append}
 use Rattle.aic_bounds.proofs.MostLaws.{outset-run}
 use Rattle.aic_bounds.proofs.Promises as Bounds

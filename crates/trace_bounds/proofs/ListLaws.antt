@@ -1,8 +1,8 @@
 -- What the text and the figures of a trace are in each of its ways.
-use Prim.Native.Nat.{ℕ, ◌+◌, ◌≤◌, ◌<◌}
-use mathlib.Core.Path.{◌≡◌, refl, sym, ap, ap₂, ◌∙◌}
+use Prim.Native.Nat.{ℕ, ◌≤◌, ◌<◌}
+use mathlib.Core.Path.{◌≡◌, sym, ap, ap₂, ◌∙◌}
 use mathlib.Core.Bool.{Bool, true, false, ◌&&◌}
-use mathlib.Core.List.{List, [], ◌∷◌, ◌++◌}
+use mathlib.Core.List.{List, [], ◌∷◌}
 use native.Mathlib.Omega.{arith}
 use lib.Dec.{eqb, leb}
 use lib.ListN.{length}
@@ -13,7 +13,6 @@ use Rattle.steps.specs.Refusals.{carried_out}
 use Rattle.text.specs.Text.{write, laid}
 use Rattle.text.proofs.WriteLaws.{and_then, write-laid}
 use Rattle.trace.specs.Trace.{Trace, steps_from}
-use Rattle.trace.proofs.TraceLaws.{steps_limited}
 use Rattle.kinds.specs.Kinds.{aic_kind, tells_privilege}
 use Rattle.aic_record.specs.declared.Aic.{Aic}
 use Rattle.aic_record.specs.Sound.{sound}

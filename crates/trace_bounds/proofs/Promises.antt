@@ -1,15 +1,15 @@
 -- The promises of the waits of a source over a trace, kept.
-use Prim.Native.Nat.{ℕ, ◌+◌, ◌≤◌}
-use mathlib.Core.Path.{◌≡◌, refl, sym, ap, ◌∙◌}
-use mathlib.Core.Bool.{Bool, true, false, ◌&&◌}
+use Prim.Native.Nat.{ℕ, ◌≤◌}
+use mathlib.Core.Path.{◌≡◌, refl, sym, ◌∙◌}
+use mathlib.Core.Bool.{Bool, true, false}
 use mathlib.Core.List.{List, ◌++◌}
-use mathlib.Core.Logic.{◌↔◌, ◌≢◌}
+use mathlib.Core.Logic.{◌≢◌}
 use native.Mathlib.Omega.{arith}
 use lib.Dec.{eqb, leb}
 use lib.ListN.{length, length-append, drop}
-use borrow.Author.Tests.{eq-eqb, ne_eqb, eqb-true, leb-true, le-leb}
+use borrow.Author.Tests.{eq-eqb, ne_eqb, leb-true, le-leb}
 use Rattle.words.specs.Choice.{pick}
-use Rattle.words.proofs.ChoiceLaws.{pick_true, pick-false, pick_cases}
+use Rattle.words.proofs.ChoiceLaws.{pick-false, pick_cases}
 use Rattle.words.proofs.TruthLaws.{and_left, and_right, and_both}
 use Rattle.steps.specs.Refusals.{carried_out}
 use Rattle.text.specs.Text.{field, laid}
@@ -18,7 +18,6 @@ use Rattle.text.proofs.Promises as Text
 use Rattle.text.specs.Phrases.{bytes}
 use Rattle.kinds.specs.Kinds.{aic_kind}
 use Rattle.aic_bounds.specs.Over.{bounded_of, waits_begun, waits_unended, waits_unbounded}
-use Rattle.aic_bounds.specs.Figures.{no_figures}
 use Rattle.aic_bounds.specs.FiguresPromises.{Tells}
 use Rattle.aic_bounds.proofs.FiguresPromises as Figures
 use Rattle.beginning.specs.Begin.{begin_of}

@@ -1,13 +1,12 @@
 -- The loop over the steps of a trace: what is told so far and what is left give the whole.
 use Prim.Native.Nat.{ℕ, ◌+◌, ◌-◌, ◌*◌, ◌≤◌, ◌<◌}
 use mathlib.Core.Path.{◌≡◌, refl, sym, ap, ap₂, ◌∙◌}
-use mathlib.Core.Bool.{Bool, true, false, ◌&&◌}
+use mathlib.Core.Bool.{true, false, ◌&&◌}
 use mathlib.Core.List.{List, [], ◌∷◌, ◌++◌}
 use native.Mathlib.Omega.{arith}
 use lib.Dec.{eqb, ltb}
 use lib.ListN.{length}
 use Rattle.words.specs.Choice.{pick}
-use Rattle.words.specs.Counting.{one}
 use Rattle.steps.specs.Refusals.{carried_out}
 use Rattle.steps.specs.declared.Step.{Step}
 use Rattle.steps.specs.declared.Recorded.{Recorded}
@@ -39,7 +38,7 @@ use Rattle.aic_bounds.specs.declared.figures.Figures.{Figures}
 use Rattle.aic_bounds.specs.Figures.{no_figures, figures_with, figures_over, figures_of}
 use Rattle.tally.specs.Tally.{steps_in}
 use Rattle.tally.proofs.LengthLaws.{found_far}
-use Rattle.trace_bounds.specs.Waits.{Wait, waited, only_if, ends, waits_from, waits_of}
+use Rattle.trace_bounds.specs.Waits.{waited, only_if, ends, waits_from, waits_of}
 use Rattle.trace_bounds.specs.Lines.{wait_lines}
 use Rattle.trace_bounds.proofs.LineLaws.{lines_append}
 

@@ -1,0 +1,13 @@
+-- That `put_write` of src/lib.rt keeps its contract.
+use Rattle.text.proofs.WriteLaws.{and_then}
+use Rattle.text.specs.Phrases.{bytes}
+use Rattle.explain.specs.Stated.{write_stated}
+use Rattle.explain.proofs.StatedLaws.{offset_so}
+use Rattle.explain.proofs.put_write.Goals as goal
+
+pub returns : goal.returns
+unfolding write_stated bytes
+returns c =
+    and_then _ _ _
+    (and_then _ _ _ (and_then _ _ _ c.put_all-a.ensures (offset_so _ _ _ _ c.offset_digits-n.ensures c.put_hex_field-b.ensures))
+    c.put_privilege-c.ensures) c.put_hex_field.ensures
