@@ -3,7 +3,7 @@
  * that the caller holds, or a controller of any kind, for callers in C and C++.
  *
  * The functions are those of crates/exports, proved to answer what its contracts say for every trace, limit, text and record. Link
- * libwisteria, which `./run library` makes for x86-64 (docs/EMBED.md); bench/prepare makes an archive of them for other machines too.
+ * libwisteria, which `./run library` makes for x86-64 (docs/EMBED.md).
  *
  * What a caller answers for:
  *   - trace (or text) points to trace_len (text_len) bytes that nothing changes during the call, and out to out_len bytes that nothing else uses;
