@@ -1,6 +1,6 @@
 -- Names that are put to a sheet: none, one, and more after others.
 use Prim.Native.Nat.{ℕ}
-use mathlib.Core.Path.{◌≡◌, refl, sym, ap, ◌∙◌}
+use mathlib.Core.Path.{◌≡◌, refl, ap, ◌∙◌}
 use mathlib.Core.List.{List, [], ◌∷◌, ◌++◌}
 use Rattle.stack.specs.declared.Table.{Table}
 use Rattle.totals.specs.declared.sheets.Sheet.{Sheet}

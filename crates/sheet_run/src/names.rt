@@ -26,7 +26,12 @@ pub struct Taken {
 
 // Plays the trace of every name on standard input, of which `names` is the room. The last one may have no line feed; it is passed over where nothing of it is
 // held, or reading failed. The sheet is the one given, with the names put to it one after the other.
-pub(crate) fn take<R: Files + Input + Print>(rt: &R, names: &mut [u8], table: Table, first: Sum) -> Taken
+pub(crate) fn take<R: Files + Input + Print>(
+    rt: &R,
+    names: &mut [u8],
+    table: Table,
+    first: Sum,
+) -> Taken
     ensures { Put table first.sheet result.sum.sheet }
 {
     let s = all_names(rt, names, table, first);

@@ -10,14 +10,20 @@ ghost use Rattle.sheet_run.specs.Put.{Put};
 use super::progress;
 use super::progress::Sum;
 use stack::Table;
-use totals::sheets::Noted;
 use std::rt::Files;
+use totals::sheets::Noted;
 
 // The most steps of a trace that are played.
 const LIMIT: u32 = 20000;
 
 // A name up to its line feed: the rest of one that is too long is passed over, and nothing is played once a row could not be written.
-pub(crate) fn pass<R: Files + Print>(rt: &R, name: &[u8], skipping: bool, table: Table, sum: Sum) -> Sum
+pub(crate) fn pass<R: Files + Print>(
+    rt: &R,
+    name: &[u8],
+    skipping: bool,
+    table: Table,
+    sum: Sum,
+) -> Sum
     ensures { Put table sum.sheet result.sheet }
 {
     if skipping {

@@ -1,0 +1,7 @@
+-- That `wisteria_refusal` of src/lib.rt keeps its contract.
+use mathlib.Core.Path.{ap}
+use Rattle.beginning.specs.declared.reports.Played.{Played}
+use Rattle.exports.proofs.wisteria_refusal.Goals as goal
+
+pub returns : goal.returns
+returns c = ap (λ (p : Played). p.refusal) c.play-p.ensures
