@@ -4,13 +4,13 @@
 #![tactic(auto)]
 
 mod cases;
+mod drawn;
 mod limits;
 mod lines;
 mod numbers;
 mod print;
 mod questions;
 mod random;
-mod steps;
 mod tours;
 mod towers;
 mod unsound;

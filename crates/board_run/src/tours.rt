@@ -1,8 +1,8 @@
 // Generated boards, printed call by call: controllers are added, mostly taken; then wires, pins, registers and questions come in any order. Few inputs, pins and
 // bits are used much, so that they meet; some numbers are beyond their limits (02, 8/12).
+use super::drawn::Tour;
 use super::random::{below, seed_of, skip};
-use super::steps::Tour;
-use super::{lines, questions, steps};
+use super::{drawn, lines, questions};
 use board_wires::Board;
 
 // What a tour does in one turn.
@@ -16,9 +16,9 @@ enum Turn {
 // Turn number k.
 fn turned(t: Tour, what: Turn, k: u32) -> Tour {
     match what {
-        Turn::Grow => steps::grow(t),
-        Turn::Link => steps::link(t, k),
-        Turn::Any => steps::step(t),
+        Turn::Grow => drawn::grow(t),
+        Turn::Link => drawn::link(t, k),
+        Turn::Any => drawn::step(t),
     }
 }
 
