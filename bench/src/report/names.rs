@@ -54,9 +54,13 @@ fn line_of(name: &[u8], totals: &mut Totals) -> Vec<u8> {
 }
 
 /// What the file of a name begins with, one byte more than the longest trace at most; nothing if it cannot be opened or
-/// read.
+/// read, as one whose name is not UTF-8.
 pub fn content(name: &[u8]) -> Option<Vec<u8>> {
-    if name.is_empty() || name.len() >= LONGEST_NAME || name.contains(&0) {
+    if name.is_empty()
+        || name.len() >= LONGEST_NAME
+        || name.contains(&0)
+        || std::str::from_utf8(name).is_err()
+    {
         return None;
     }
     let file = File::open(OsStr::from_bytes(name)).ok()?;
