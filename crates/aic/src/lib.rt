@@ -13,6 +13,7 @@ use aic_registers::{Answer, answer_of, refusal_of};
 use steps::Step;
 
 // What a start answers: its refusal, and the record.
+// A number and no Result, here and in the next: the definitions that the promises speak of name these fields.
 #[derive(Clone, Copy)]
 pub struct Begun {
     pub refusal: u32,
@@ -42,11 +43,12 @@ pub fn start(external: u32, lines: u32) -> Begun
     let aic = aic_record::reset_to(external, lines);
     Begun {
         refusal: steps::CARRIED_OUT,
-        aic: aic,
+        aic,
     }
 }
 
 // ---- the steps and the outputs of a record that is known to be sound
+// Each asks for `sound`, and takes no type that holds the fact: two of them are public, and their callers hold a plain record.
 
 fn read_sound(s: Aic, offset: u32) -> Answer
     requires { sound s ≡ true }
@@ -104,7 +106,7 @@ pub fn outputs_sound(s: Aic) -> Signals
         refusal: steps::CARRIED_OUT,
         irq: words::has(bits, 1),
         fiq: words::has(bits, 0),
-        entries: entries,
+        entries,
     }
 }
 

@@ -11,7 +11,7 @@ use lib.ListN.{length}
 use borrow.Author.Tests.{ltb-true, lt-ltb, le-ltb}
 use Rattle.words.specs.Choice.{pick}
 use Rattle.words.proofs.ChoiceLaws.{pick_cases}
-use Rattle.words.proofs.TruthLaws.{and_left, and_right, told}
+use Rattle.words.proofs.TruthLaws.{and_left, and_right}
 use Rattle.steps.specs.declared.Step.{Step}
 use Rattle.aic_record.specs.declared.Aic.{Aic}
 use Rattle.aic_sources.specs.Normal.{waiting}

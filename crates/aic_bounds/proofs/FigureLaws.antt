@@ -1,33 +1,31 @@
 -- The figures of all waits of a source, step by step, are what is defined over the run.
-use Prim.Native.Nat.{ℕ, ◌+◌, ◌*◌, ◌≤◌, ◌<◌}
+use Prim.Native.Nat.{ℕ, ◌+◌, ◌*◌, ◌≤◌}
 use mathlib.Core.Path.{◌≡◌, refl, sym, ap, ap₂, ◌∙◌}
-use mathlib.Core.Bool.{Bool, true, false, ◌&&◌, and-false}
+use mathlib.Core.Bool.{Bool, true, false, ◌&&◌}
 use mathlib.Core.List.{List, [], ◌∷◌}
-use mathlib.Core.Logic.{◌≢◌}
 use native.Mathlib.Omega.{arith}
 use native.Mathlib.Decide.{ℕ_discrete}
 use lib.Dec.{eqb, ltb}
 use lib.ListN.{length}
-use borrow.Author.Tests.{eq-eqb, ne_eqb}
+use borrow.Author.Tests.{ne_eqb}
 use Rattle.words.specs.Choice.{pick}
 use Rattle.words.specs.Counting.{one}
 use Rattle.words.proofs.CountingLaws.{one_le}
 use Rattle.steps.specs.declared.Step.{Step}
 use Rattle.aic_record.specs.declared.Aic.{Aic}
 use Rattle.aic.specs.Model.{step}
-use Rattle.aic_waits.specs.Figures.{wait_after, standing}
+use Rattle.aic_waits.specs.Figures.{wait_after}
 use Rattle.aic_waits.specs.Following.{capped}
 use Rattle.aic_waits.proofs.FigureLaws.{capped_is}
 use Rattle.aic_bounds.specs.declared.Bound.{Bound}
 use Rattle.aic_bounds.specs.Bounds.{idle, bound_after, bound_over, bound_at, bound_of}
 use Rattle.aic_bounds.specs.Over.{bounds, better, best_over, largest_of, begun_over, waits_begun, waits_unended}
 use Rattle.aic_bounds.specs.Over.{loses, unbounded_over, waits_unbounded, first_over, first_unbounded}
-use Rattle.aic_bounds.specs.Following.{marks_of, bound_by}
 use Rattle.aic_bounds.proofs.StepLaws.{after-wait, over-wait}
 use Rattle.aic_bounds.proofs.FollowLaws.{Room, less, by-is, after-room}
 use Rattle.aic_bounds.proofs.Promises as Bounds
 use Rattle.aic_bounds.specs.declared.figures.Figures.{Figures}
-use Rattle.aic_bounds.specs.Figures.{no_figures, figures_with, figures_over, figures_of, largest_now, unended_now}
+use Rattle.aic_bounds.specs.Figures.{no_figures, figures_with, figures_over, figures_of}
 use Rattle.aic_bounds.specs.FiguresPromises.{Tells}
 
 -- what became of the figures f over the steps xs

@@ -1,23 +1,22 @@
 -- Sums over the rivals that count, and what a step adds to each of them.
-use Prim.Native.Nat.{ℕ, ◌+◌, ◌≤◌, ◌<◌}
-use mathlib.Core.Path.{◌≡◌, refl, sym, ap, ◌∙◌}
+use Prim.Native.Nat.{ℕ, ◌+◌, ◌<◌}
+use mathlib.Core.Path.{◌≡◌, refl, sym, ◌∙◌}
 use mathlib.Core.Bool.{Bool, true, false, not, ◌&&◌, ◌||◌}
 use mathlib.Core.List.{List, [], ◌∷◌}
 use mathlib.Core.Logic.{◌⊎◌, inl, inr}
 use native.Mathlib.Omega.{arith}
 use Rattle.words.specs.Choice.{pick}
-use Rattle.words.specs.Counting.{one, sum_below}
-use Rattle.words.specs.Word.{bit, word_of}
+use Rattle.words.specs.Counting.{one}
+use Rattle.words.specs.Word.{bit}
 use Rattle.words.proofs.CountingLaws.{sum_le}
 use Rattle.words.proofs.TruthLaws.{clash, told}
-use Rattle.words.proofs.WordLaws.{bit-word_of}
 use Rattle.steps.specs.declared.Step.{Step}
 use Rattle.aic_record.specs.declared.Aic.{Aic}
 use Rattle.aic_record.specs.Mode.{edge}
 use Rattle.aic.specs.Model.{step}
 use Rattle.aic_runs.specs.Counted.{rises, edges, commands}
 use Rattle.aic_runs.specs.Runs.{count, sum_over}
-use Rattle.aic_runs.proofs.RunLaws.{over_le, over_add}
+use Rattle.aic_runs.proofs.RunLaws.{over_le}
 use Rattle.aic_runs.specs.Turns.{closes_hot, gains, gained, due}
 use Rattle.aic_runs.specs.Rivals.{chances, once_on, allowed}
 use Rattle.aic_runs.proofs.OnLaws.{once-first, once-off}

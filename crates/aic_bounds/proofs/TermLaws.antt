@@ -10,8 +10,8 @@ use lib.ListN.{length}
 use borrow.Author.Tests.{ne_eqb, not-true}
 use Rattle.words.specs.Choice.{pick}
 use Rattle.words.specs.Counting.{one}
-use Rattle.words.specs.Word.{bit, word_of, either, both, without}
-use Rattle.words.proofs.TruthLaws.{and_left, and_right, and_both, or_left, or_right, or-either, clash, told}
+use Rattle.words.specs.Word.{bit, either, without}
+use Rattle.words.proofs.TruthLaws.{and_left, and_right, and_both, or_right, or-either, clash, told}
 use Rattle.words.proofs.WordLaws.{bit-word_of, bit-either, bit-both, bit-without}
 use Rattle.steps.specs.declared.Step.{Step}
 use Rattle.aic_record.specs.declared.Aic.{Aic}

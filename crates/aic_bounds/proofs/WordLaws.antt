@@ -6,13 +6,13 @@ use native.Mathlib.Omega.{arith}
 use native.Mathlib.Numerals.{add-one}
 use native.Mathlib.Decide.{ℕ_discrete}
 use lib.Dec.{eqb, ltb, leb}
-use borrow.Author.Tests.{eq-eqb, ne_eqb, lt-leb, lt-ltb, le-ltb}
+use borrow.Author.Tests.{eq-eqb, ne_eqb, lt-ltb, le-ltb}
 use Rattle.words.specs.Choice.{pick}
 use Rattle.words.specs.Counting.{one, any_below, count_below, sum_below}
 use Rattle.words.specs.Word.{bit, word_of, either, both, without, with_bit}
 use Rattle.words.proofs.WordLaws.{bit-word_of, word_of-same, bit_alone, bit-both}
 use Rattle.aic_record.specs.declared.Aic.{Aic}
-use Rattle.aic_record.specs.Mode.{priority_of, mode_at, priority, edge}
+use Rattle.aic_record.specs.Mode.{priority, edge}
 use Rattle.aic_record.specs.Sound.{source_at, level_at}
 use Rattle.aic_sources.specs.Pending.{pending, pending_word, edge_word}
 use Rattle.aic_sources.specs.Fast.{fast}
@@ -21,7 +21,6 @@ use Rattle.aic_runs.specs.Counted.{carries}
 use Rattle.aic_runs.specs.Runs.{sum_over}
 use Rattle.aic_runs.specs.Promises.{rival_of}
 use Rattle.aic_runs.specs.Turns.{held, due}
-use Rattle.aic_waits.specs.Following.{capped}
 use Rattle.aic_bounds.specs.declared.Bound.{Bound}
 use Rattle.aic_bounds.specs.declared.Marks.{Marks}
 use Rattle.aic_bounds.specs.Bounds.{idle, fresh}
@@ -29,22 +28,17 @@ use Rattle.aic_bounds.specs.Following.{dues, plus, grown_by, bound_by}
 
 -- ---- numbers
 
-pub add-top : (a b : ℕ) → 4294967295 < a + b → 4294967295 ≡ capped (a + b)
-unfolding capped pick
-add-top a b l = rw (lt-leb (a + b) 4294967295 l)
-
 -- ---- rivals
 
-pub rival-from : (s : Aic) (k i : ℕ) {m p n q : ℕ} {h : Bool} → m ≡ mode_at s k → p ≡ priority_of m → n ≡ mode_at s i → q ≡ priority_of n → h ≡ bit s.forced i
+pub rival-from : (s : Aic) (k i : ℕ) {p q : ℕ} {h : Bool} → p ≡ priority s k → q ≡ priority s i → h ≡ bit s.forced i
     → ((ltb p q || (eqb q p && ltb i k)) && not (eqb i 0 || h)) ≡ rival_of s k i
-unfolding ahead fast priority
-rival-from s k i em ep en eq eh = rw (eh, eq, en, ep, em)
+unfolding ahead fast
+rival-from s k i ep eq eh = rw (eh, eq, ep)
 
 -- ---- sources held
 
-pub over-from : (s : Aic) (j d : ℕ) {m p l : ℕ} → m ≡ mode_at s j → p ≡ priority_of m → l ≡ level_at s d → leb p l ≡ leb (priority s j) (level_at s d)
-unfolding priority
-over-from s j d em ep el = rw (el, ep, em)
+pub over-from : (s : Aic) (j d : ℕ) {p l : ℕ} → p ≡ priority s j → l ≡ level_at s d → leb p l ≡ leb (priority s j) (level_at s d)
+over-from s j d ep el = rw (el, ep)
 
 -- a handler of source i among the first d entries is at its priority or above
 abbrev pub held_among : Aic → ℕ → ℕ → Bool

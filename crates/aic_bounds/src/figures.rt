@@ -11,6 +11,7 @@ use aic_record::Aic;
 
 // What is observed of the wait that stands; what was observed of the first of the waits that have ended with the largest bound; how many waits have
 // begun, and how many of them have no bound; the first step by which one has none, 0 where all have one.
+// A number and no Option: the promise `first` names it.
 #[derive(Clone, Copy)]
 pub struct Figures {
     pub bound: Bound,
@@ -24,11 +25,9 @@ pub struct Figures {
 pub fn no_figures() -> Figures
     ensures { result ≡ no_figures }
 {
-    let none = super::idle(0);
-    let first = super::idle(0);
     Figures {
-        bound: none,
-        largest: first,
+        bound: super::idle(0),
+        largest: super::idle(0),
         begun: 0,
         unbounded: 0,
         first: 0,
@@ -88,10 +87,10 @@ pub fn figures_with(n: u32, f: Figures, b: Bound) -> Figures
     let first = super::either(lost & (f.first == 0), n, f.first);
     Figures {
         bound: b,
-        largest: largest,
-        begun: begun,
-        unbounded: unbounded,
-        first: first,
+        largest,
+        begun,
+        unbounded,
+        first,
     }
 }
 

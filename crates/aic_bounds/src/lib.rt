@@ -5,10 +5,9 @@ ghost use Rattle.std.specs.Prelude.{◌≡◌, Bool, not, ◌&&◌, ◌||◌, �
 ghost use Rattle.words.specs.Choice.{pick};
 ghost use Rattle.words.specs.Counting.{one, any_below};
 ghost use Rattle.words.specs.Word.{bit, word_of};
-ghost use Rattle.aic_record.specs.Mode.{priority, edge};
+ghost use Rattle.aic_record.specs.Mode.{priority};
 ghost use Rattle.aic_record.specs.Sound.{source_at, level_at};
 ghost use Rattle.aic_sources.specs.Pending.{active};
-ghost use Rattle.aic_registers.specs.Effects.{turns};
 ghost use Rattle.aic_runs.specs.Counted.{carries};
 ghost use Rattle.aic_runs.specs.Promises.{rival_of};
 ghost use Rattle.aic_runs.specs.Turns.{held};
@@ -24,6 +23,7 @@ use steps::Step;
 // How it stands with the wait of a source (0 it does not wait, 1 it is served, n + 2 it waits and n handlers of others were started), the word of its
 // rivals at the outset, those of them that count since they were enabled, the six terms so far, and the number of the step that rewrote a mode or a
 // forcing first, 0 while the bound holds.
+// Numbers and no enum or Option: the promises `started` and `holds` name `wait` and `broke`.
 #[derive(Clone, Copy)]
 pub struct Bound {
     pub wait: u32,
@@ -90,16 +90,11 @@ fn fresh(k: u32, t: Aic) -> Bound
     let pending = words::count(words::meet(on, due_word(t)));
     let remembered = words::one_if(is_carried(t, k));
     Bound {
-        wait: 2,
-        rivals: rivals,
-        on: on,
-        pending: pending,
-        edges: 0,
-        commands: 0,
-        turns: 0,
-        closed: 0,
-        remembered: remembered,
-        broke: 0,
+        rivals,
+        on,
+        pending,
+        remembered,
+        ..idle(2)
     }
 }
 
@@ -118,15 +113,14 @@ fn grown(w: u32, b: Bound, n: u32, m: Marks, t: Aic) -> Bound
     let broke = either((b.broke == 0) & m.rewrote, n, b.broke);
     Bound {
         wait: w,
-        rivals: b.rivals,
-        on: on,
-        pending: pending,
-        edges: edges,
-        commands: commands,
-        turns: turns,
-        closed: closed,
-        remembered: b.remembered,
-        broke: broke,
+        on,
+        pending,
+        edges,
+        commands,
+        turns,
+        closed,
+        broke,
+        ..b
     }
 }
 
@@ -146,10 +140,7 @@ pub fn either(t: bool, a: u32, b: u32) -> u32
 pub fn add(a: u32, b: u32) -> u32
     ensures { result ≡ capped (a + b) }
 {
-    if 4294967295 - a < b {
-        return 4294967295;
-    }
-    a + b
+    a.saturating_add(b)
 }
 
 // n and the number of sources that two words share.
@@ -172,8 +163,8 @@ fn is_carried(s: Aic, k: u32) -> bool
 fn is_rival(s: Aic, k: u32, i: u32) -> bool
     ensures { result ≡ rival_of s k i }
 {
-    let p = aic_record::priority_of(aic_record::mode_at(s, k));
-    let q = aic_record::priority_of(aic_record::mode_at(s, i));
+    let p = aic_record::priority_at(s, k);
+    let q = aic_record::priority_at(s, i);
     ((p < q) | ((q == p) & (i < k))) & !((i == 0) | words::has(s.forced, i))
 }
 
@@ -182,10 +173,8 @@ fn rival_word(s: Aic, k: u32) -> u32
     ensures { result ≡ word_of 32 (rival_of s k) }
 {
     let mut w: u32 = 0;
-    let mut i: u32 = 0;
-    while i < 32 {
+    for i in 0..32 {
         w = words::with_bit(w, i, is_rival(s, k, i));
-        i = i + 1;
     }
     w
 }
@@ -194,7 +183,7 @@ fn rival_word(s: Aic, k: u32) -> u32
 fn is_over(s: Aic, d: u32, j: u32) -> bool
     ensures { result ≡ leb (priority s j) (level_at s d) }
 {
-    aic_record::priority_of(aic_record::mode_at(s, j)) <= aic_record::level_at(s, d) as u32
+    aic_record::priority_at(s, j) <= aic_record::level_at(s, d) as u32
 }
 
 // The sources of which a handler is open at their priority or above.
@@ -202,11 +191,10 @@ fn held_word(s: Aic) -> u32
     ensures { result ≡ word_of 32 (held s) }
 {
     let mut w: u32 = 0;
-    let mut d: u32 = 0;
-    while d < s.depth {
+    // By the slot: two tables are read at it, and only as far as entries are open.
+    for d in 0..s.depth {
         let j = aic_record::source_at(s, d) as u32;
         w = words::with_bit(w, j, words::has(w, j) | is_over(s, d, j));
-        d = d + 1;
     }
     words::drop_bits(w, 1)
 }
@@ -259,30 +247,27 @@ fn write_marks(s: Aic, o: u32, v: u32, ok: bool) -> Marks
     let closes = ok & (o == aic_registers::map::EOICR) & (s.depth != 0);
     let closed = either(closes, hot_word(s, last_source(s)), 0);
     Marks {
-        edges: 0,
-        commands: commands,
-        turns: 0,
-        closed: closed,
+        commands,
+        closed,
         rewrote: ok
             & ((o < aic_registers::map::SVR)
                 | (o == aic_registers::map::FFER)
                 | (o == aic_registers::map::FFDR)),
+        ..no_marks()
     }
 }
 
 fn line_marks(s: Aic, k: u32, l: u32, ok: bool) -> Marks
     ensures { result ≡ line_marks ok s k l }
 {
-    let rises = ok & turns_active(s, k, l == 1);
-    let edge = is_edge(s, k);
+    let rises = ok & aic_registers::effects::turns_active(s, k, l == 1);
+    let edge = aic_record::edge_at(s, k);
     let edges = words::with_bit(0, k, rises & edge);
     let turns = words::with_bit(0, k, rises & !edge);
     Marks {
-        edges: edges,
-        commands: 0,
-        turns: turns,
-        closed: 0,
-        rewrote: false,
+        edges,
+        turns,
+        ..no_marks()
     }
 }
 
@@ -290,35 +275,23 @@ fn line_marks(s: Aic, k: u32, l: u32, ok: bool) -> Marks
 fn last_source(s: Aic) -> u32
     ensures { result ≡ source_at s (s.depth - 1) }
 {
-    let depth = s.depth;
-    if depth == 0 {
-        return aic_record::source_at(s, 0) as u32;
-    }
-    aic_record::source_at(s, depth - 1) as u32
+    aic_record::source_at(s, s.depth.saturating_sub(1)) as u32
 }
 
 // Source j alone, if it is level-sensitive and its line is active; source 0 is a mark's.
 fn hot_word(s: Aic, j: u32) -> u32
     ensures { result ≡ word_of 32 (hot_last s j) }
 {
-    words::with_bit(0, j, (j != 0) & !is_edge(s, j) & is_active(s, j))
+    words::with_bit(
+        0,
+        j,
+        (j != 0) & !aic_record::edge_at(s, j) & is_active(s, j),
+    )
 }
 
-fn is_edge(s: Aic, k: u32) -> bool
-    ensures { result ≡ edge s k }
-{
-    aic_record::edge_of(aic_record::mode_at(s, k))
-}
-
+// Whether the line of source k is at its active level.
 fn is_active(s: Aic, k: u32) -> bool
     ensures { result ≡ active s k }
 {
     aic_sources::is_active_at(s, k, words::has(s.lines, k))
-}
-
-// Whether a line that goes to this level turns source k from inactive to active.
-fn turns_active(s: Aic, k: u32, high: bool) -> bool
-    ensures { result ≡ turns s k high }
-{
-    !is_active(s, k) & aic_sources::is_active_at(s, k, high)
 }

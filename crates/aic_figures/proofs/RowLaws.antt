@@ -1,5 +1,5 @@
 -- The row of one source after a step, by whether it waited and whether it waits then; and a step that moves nothing.
-use Prim.Native.Nat.{ℕ, zero, suc, ◌+◌, ◌/◌, ◌%◌, ◌≤◌, ◌<◌, ◌^◌}
+use Prim.Native.Nat.{ℕ, zero, suc, ◌+◌, ◌/◌, ◌%◌, ◌≤◌, ◌<◌, ◌^◌, min}
 use mathlib.Core.Path.{◌≡◌, refl, sym, ap, ap₂, ◌∙◌}
 use mathlib.Core.Bool.{Bool, true, false, not, ◌&&◌, ◌||◌, and-true, and-false}
 use mathlib.Core.List.{List}
@@ -381,14 +381,19 @@ capped-twice a b = go (dec_lt a 4294967295)
     go (no l) =
         ap (λ (x : ℕ). capped (x + b)) (capped_full a (omega (arith, l))) ∙ capped_full (4294967295 + b) (omega arith) ∙ sym (capped_full (a + b) (omega (arith, l)))
 
-pub one-top : (n on i : ℕ) → n ≡ 4294967295 → n ≡ capped (n + one (bit on i))
-one-top n on i e = e ∙ sym (capped_full (n + one (bit on i)) (omega (arith, e)))
+-- a sum that stays at the largest number
+pub capped-min : (n : ℕ) → min n 4294967295 ≡ capped n
+capped-min n = go (dec_lt n 4294967295)
+  where
+    go : Dec (n < 4294967295) → min n 4294967295 ≡ capped n
+    go (yes l) = let e : min n 4294967295 ≡ n = omega arith in e ∙ capped_is n (omega arith)
+    go (no l) = let e : min n 4294967295 ≡ 4294967295 = omega (arith, l) in e ∙ sym (capped_full n (omega (arith, l)))
 
-pub one-is : (n on i : ℕ) → n ≤ 4294967295 → (n ≡ 4294967295 → ⊥) → n + on / 2 ^ i % 2 ≡ capped (n + one (bit on i))
+pub one-is : (n on i : ℕ) → min (n + on / 2 ^ i % 2) 4294967295 ≡ capped (n + one (bit on i))
 unfolding bit
-one-is n on i l d =
+one-is n on i =
     let x : on / 2 ^ i % 2 < 2 = mod-lt (on / 2 ^ i) (omega arith) in
-    capped_is (n + on / 2 ^ i % 2) (omega (arith, l, d, x)) ∙ ap (λ (y : ℕ). capped (n + y)) (sym (one-eqb (on / 2 ^ i % 2) x))
+    capped-min (n + on / 2 ^ i % 2) ∙ ap (λ (y : ℕ). capped (n + y)) (sym (one-eqb (on / 2 ^ i % 2) x))
 
 -- one number passes that did not
 count-one : (n : ℕ) (p q : ℕ → Bool) (i : ℕ) → i < n → p i ≡ false → ((k : ℕ) → k < n → (k ≡ i → ⊥) → q k ≡ p k) → count_below n q ≡ count_below n p + one (q i)

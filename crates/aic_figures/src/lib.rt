@@ -19,6 +19,7 @@ ghost use Rattle.aic_figures.specs.Book.{Kept, Put, Moved, settled_at};
 pub mod waits;
 
 use rooms::Room;
+use std::array;
 use totals::Totals;
 
 pub type Book = [u32; 160];
@@ -39,26 +40,6 @@ const WAITED: usize = 96;
 
 const ENTRIES: usize = 128;
 
-// ---- numbers
-
-fn one_more(n: u32) -> u32
-    ensures { result ≡ capped (n + 1) }
-{
-    if n < 4294967295 {
-        return n + 1;
-    }
-    n
-}
-
-fn less(a: u32, b: u32) -> u32
-    ensures { result ≡ a - b }
-{
-    if a < b {
-        return 0;
-    }
-    a - b
-}
-
 // ---- waits
 
 // The wait of source i ends.
@@ -67,8 +48,8 @@ fn settle(book: &mut Book, i: u32)
     ensures { book.new ≡ set book.old (96 + i) (settled_at book.old i) }
 {
     let k = i as usize;
-    let n = less(book[STARTS], book[BEGAN + k]);
-    let m = words::larger(book[WAITED + k], n);
+    let n = book[STARTS].saturating_sub(book[BEGAN + k]);
+    let m = book[WAITED + k].max(n);
     book[WAITED + k] = m;
 }
 
@@ -122,7 +103,7 @@ fn see(book: &mut Book, k: u32, depth: u32)
         return;
     }
     let at = ENTRIES + k as usize;
-    let m = words::larger(book[at], depth);
+    let m = book[at].max(depth);
     book[at] = m;
 }
 
@@ -134,11 +115,9 @@ fn deepen<'a>(book: &'a mut Book, room: &'a Room)
     if 8 < depth {
         return;
     }
-    let mut d: u32 = 0;
-    while d < depth {
+    for d in 0..depth {
         let k = room[aic_room::layout::SOURCE + d as usize] % 32;
         see(book, k, depth);
-        d = d + 1;
     }
 }
 
@@ -150,8 +129,8 @@ fn count_start(book: &mut Book, by: u32)
         return;
     }
     let at = STARTED + by as usize;
-    let n = one_more(book[at]);
-    let m = one_more(book[STARTS]);
+    let n = book[at].saturating_add(1);
+    let m = book[STARTS].saturating_add(1);
     book[at] = n;
     book[STARTS] = m;
 }
@@ -213,13 +192,7 @@ fn words_from(book: &Book, at: usize) -> [u32; 32]
     requires { at ≤ 128 }
     ensures { (length result ≡ 32) × ((k : ℕ) → k < 32 → get_or result k 0 ≡ get_or book.now (at + k) 0) }
 {
-    let mut out = [0u32; 32];
-    let mut k: usize = 0;
-    while k < 32 {
-        out[k] = book[at + k];
-        k = k + 1;
-    }
-    out
+    array::from_fn(|k| book[at + k])
 }
 
 // The figures in the book: whoever waits has waited as long as this.
@@ -228,12 +201,9 @@ pub fn totals_in(book: &mut Book) -> Totals
 {
     let waiting = book[WAITING];
     settle_all(book, waiting);
-    let started = words_from(book, STARTED);
-    let waited = words_from(book, WAITED);
-    let entries = words_from(book, ENTRIES);
     Totals {
-        started,
-        waited,
-        entries,
+        started: words_from(book, STARTED),
+        waited: words_from(book, WAITED),
+        entries: words_from(book, ENTRIES),
     }
 }

@@ -28,6 +28,7 @@ use aic_bounds::figures::Figures;
 use aic_bounds::{Bound, Marks};
 use aic_registers::map;
 use rooms::Room;
+use std::array;
 use totals::waits::Waits;
 
 // A column for each number of a source, and the words of all of them in the last.
@@ -87,9 +88,9 @@ fn write_marks(room: &Room, o: u32, v: u32) -> Marks
     let closed = closed_hot(room, o);
     Marks {
         edges: 0,
-        commands: commands,
+        commands,
         turns: 0,
-        closed: closed,
+        closed,
         rewrote: (o < map::SVR) | (o == map::FFER) | (o == map::FFDR),
     }
 }
@@ -135,9 +136,9 @@ fn line_marks(room: &Room, k: u32, l: u32) -> Marks
     let edges = words::with_bit(0, k, rises & edge);
     let turns = words::with_bit(0, k, rises & !edge);
     Marks {
-        edges: edges,
+        edges,
         commands: 0,
-        turns: turns,
+        turns,
         closed: 0,
         rewrote: false,
     }
@@ -184,7 +185,7 @@ fn figures_of(row: [u32; 18], waits: bool) -> Figures
 {
     let wait = aic_bounds::either(waits, 2, 0);
     let bound = Bound {
-        wait: wait,
+        wait,
         rivals: row[0],
         on: row[1],
         pending: row[2],
@@ -208,8 +209,8 @@ fn figures_of(row: [u32; 18], waits: bool) -> Figures
         broke: 0,
     };
     Figures {
-        bound: bound,
-        largest: largest,
+        bound,
+        largest,
         begun: row[15],
         unbounded: row[16],
         first: row[17],
@@ -268,13 +269,7 @@ fn row_at(book: &Book, k: u32) -> [u32; 18]
     requires { k < 32 }
     ensures { result ≡ row_at book.now k }
 {
-    let mut row = [0u32; 18];
-    let mut j: usize = 0;
-    while j < 18 {
-        row[j] = book[j][k as usize];
-        j = j + 1;
-    }
-    row
+    array::from_fn(|j| book[j][k as usize])
 }
 
 // The same put anew.
@@ -282,10 +277,9 @@ fn put_row(book: &mut Book, k: u32, row: [u32; 18])
     requires { k < 32 }
     ensures { Columns book.old → Rows (λ i. row) (2 ^ k) book.old book.new }
 {
-    let mut j: usize = 0;
-    while j < 18 {
+    // Column j of the book and number j of the row go together, and the book's last column holds words: the place says both.
+    for j in 0..18 {
         book[j][k as usize] = row[j];
-        j = j + 1;
     }
 }
 
@@ -318,10 +312,7 @@ fn one_more(n: u32, on: u32, i: u32) -> u32
     requires { i < 32 }
     ensures { result ≡ capped (n + one (bit on i)) }
 {
-    if n == 4294967295 {
-        return n;
-    }
-    n + (on >> i) % 2
+    n.saturating_add((on >> i) % 2)
 }
 
 // One more in column j for each source for which source i counts.
@@ -329,11 +320,10 @@ fn bump(book: &mut Book, j: usize, i: u32)
     requires { (j < 18) × (i < 32) }
     ensures { Columns book.old → Cells (λ a b. eqb a j) (λ a b. capped (cell_in book.old j b + one (bit (cell_in book.old 1 b) i))) book.old book.new }
 {
-    let mut k: usize = 0;
-    while k < 32 {
+    // Two columns of one book, of which one is written: places tell them apart for the borrow checker, two iterators do not.
+    for k in 0..32 {
         let n = one_more(book[j][k], book[ON][k], i);
         book[j][k] = n;
-        k = k + 1;
     }
 }
 
@@ -432,16 +422,7 @@ pub fn follow<'a>(book: &'a mut Book, room: &'a Room, before: u32, n: u32, m: Ma
 pub fn start() -> Book
     ensures { Kept (λ k. no_figures) result }
 {
-    let column = [0u32; 32];
-    [column; 19]
-}
-
-// The figures of source k, but for how many handlers were started in a wait.
-fn figures_at(book: &Book, k: u32) -> Figures
-    requires { k < 32 }
-    ensures { (f : ℕ → Figures) → Kept f book.now → numbers_of result ≡ numbers_of (f k) }
-{
-    figures_of(row_at(book, k), words::has(book[WORDS][WAITING], k))
+    [[0; 32]; 19]
 }
 
 // What is told of a source in the end.
@@ -463,17 +444,23 @@ fn numbers_of(f: Figures) -> [u32; 10]
     ]
 }
 
+// The same of source k.
+fn numbers_at(book: &Book, k: usize) -> [u32; 10]
+    requires { k < 32 }
+    ensures { (f : ℕ → Figures) → Kept f book.now → result ≡ numbers_of (f k) }
+{
+    let i = k as u32;
+    numbers_of(figures_of(row_at(book, i), words::has(book[WORDS][WAITING], i)))
+}
+
 // The same of all sources.
 fn table_of(book: &Book) -> [[u32; 10]; 32]
     ensures { (length result ≡ 32) × ((f : ℕ → Figures) → Kept f book.now → (k : ℕ) → k < 32 → get_or result k [] ≡ numbers_of (f k)) }
 {
-    let row = [0u32; 10];
-    let mut out = [row; 32];
-    let mut k: u32 = 0;
-    while k < 32 {
-        let numbers = numbers_of(figures_at(book, k));
-        out[k as usize] = numbers;
-        k = k + 1;
+    let mut out = [[0; 10]; 32];
+    // A range, and not `from_fn`: it was not proved of a closure that borrows the book and calls `numbers_at` that it may be called, nor what it gives.
+    for k in 0..32 {
+        out[k] = numbers_at(book, k);
     }
     out
 }
@@ -483,13 +470,7 @@ fn column(table: &[[u32; 10]; 32], j: usize) -> [u32; 32]
     requires { j < 10 }
     ensures { (length result ≡ 32) × ((k : ℕ) → k < 32 → get_or result k 0 ≡ get_or (get_or table.now k []) j 0) }
 {
-    let mut out = [0u32; 32];
-    let mut k: usize = 0;
-    while k < 32 {
-        out[k] = table[k][j];
-        k = k + 1;
-    }
-    out
+    array::from_fn(|k| table[k][j])
 }
 
 // The figures in the book, that of a wait that stands among the bounds.
@@ -497,26 +478,16 @@ pub fn waits_in(book: &Book) -> Waits
     ensures { (f : ℕ → Figures) → Kept f book.now → result ≡ waits_now f }
 {
     let table = table_of(book);
-    let begun = column(&table, 0);
-    let unended = column(&table, 1);
-    let unbounded = column(&table, 2);
-    let first = column(&table, 3);
-    let pending = column(&table, 4);
-    let edges = column(&table, 5);
-    let commands = column(&table, 6);
-    let turns = column(&table, 7);
-    let closed = column(&table, 8);
-    let remembered = column(&table, 9);
     Waits {
-        begun,
-        unended,
-        unbounded,
-        first,
-        pending,
-        edges,
-        commands,
-        turns,
-        closed,
-        remembered,
+        begun: column(&table, 0),
+        unended: column(&table, 1),
+        unbounded: column(&table, 2),
+        first: column(&table, 3),
+        pending: column(&table, 4),
+        edges: column(&table, 5),
+        commands: column(&table, 6),
+        turns: column(&table, 7),
+        closed: column(&table, 8),
+        remembered: column(&table, 9),
     }
 }

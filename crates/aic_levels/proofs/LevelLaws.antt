@@ -1,6 +1,7 @@
 -- Bit by bit: the words of the levels, and the byte.
 use mathlib.Core.Path.{◌≡◌, refl, sym, ap, ap₂, ◌∙◌, subst}
 use mathlib.Core.Bool.{Bool, true, not, ◌&&◌}
+use mathlib.Core.List.{List}
 use mathlib.Core.Logic.{◌≢◌}
 use Prim.Native.Nat.{ℕ, ◌^◌, ◌<◌}
 use native.Mathlib.Omega.{arith}
@@ -72,6 +73,12 @@ pub waiting-by : (s : Aic) (pend asks fasts r : ℕ) → pend ≡ pending_word s
 waiting-by s pend asks fasts r e f g h =
     word-is 32 r (waiting s) (subst (λ (x : ℕ). x < 2 ^ 32) (sym h) (without_lt asks fasts))
     (λ k l. waits_are s r k (h ∙ ap₂ (λ (x y : ℕ). without x y) (f ∙ ap (λ (x : ℕ). both x s.enabled) e ∙ asking-by s) (g ∙ fast-by s)) l)
+
+-- the waiting sources of a class
+pub class-waits : (mode : List ℕ) (waits p : ℕ) → both waits (word_of 32 (λ k. eqb (rank mode k) p)) ≡ word_of 32 (λ k. bit waits k && eqb (rank mode k) p)
+unfolding both
+class-waits mode waits p =
+    word_of-same 32 _ _ (λ k l. ap (λ (b : Bool). bit waits k && b) (bit-word_of 32 (λ j. eqb (rank mode j) p) k l))
 
 -- of the waiting sources those of a priority
 pub level_by : (s : Aic) (waits : ℕ) → waits ≡ word_of 32 (waiting s) → (p : ℕ) → word_of 32 (λ k. bit waits k && eqb (rank s.mode k) p) ≡ level_word s p

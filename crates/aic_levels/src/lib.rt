@@ -1,13 +1,11 @@
 // The sources of the AT91 controller kept by level: a word for each priority, and a byte that says which words have any.
 #![tactic(auto)]
 
-ghost use Rattle.std.specs.Prelude.{◌≡◌, true, not, ◌&&◌, eqb, get_or};
+ghost use Rattle.std.specs.Prelude.{◌≡◌, true, not, ◌&&◌, eqb, length, get_or};
 ghost use Rattle.words.specs.Counting.{all_below};
 ghost use Rattle.words.specs.Word.{bit, word_of};
 ghost use Rattle.aic_record.specs.declared.Aic.{Aic};
-ghost use Rattle.aic_record.specs.Passes.{floor_over};
 ghost use Rattle.aic_record.specs.Sound.{sound};
-ghost use Rattle.aic_sources.specs.Normal.{waiting};
 ghost use Rattle.aic_sources.specs.Search.{rank, least_of};
 ghost use Rattle.aic_levels.specs.Levels.{highest_of, agrees};
 ghost use Rattle.aic_levels.specs.Model.{start, outputs_with};
@@ -25,6 +23,7 @@ pub struct Levels {
 }
 
 // What a start answers: its refusal, the record and its levels.
+// A number and no Result, here and in the next: the definitions that the promises speak of name these fields.
 #[derive(Clone, Copy)]
 pub struct Begun {
     pub refusal: u32,
@@ -44,20 +43,11 @@ pub struct Answer {
 // ---- the highest level, and the least priority that may start
 
 // The highest level of the byte, 255 if it has none.
+// 255 and no Option: the promise `table_none` tells it.
 pub fn highest(b: u8) -> u8
     ensures { result ≡ highest_of b }
 {
     table::HIGHEST[b as usize]
-}
-
-// The least priority above a level, if it is one.
-fn floor_over(level: u8) -> u32
-    ensures { result ≡ floor_over level }
-{
-    if level == aic_record::NO_LEVEL {
-        return 0;
-    }
-    level as u32 + 1
 }
 
 // The least priority above the level of the last entry; with eight entries open 8, which no source has.
@@ -70,33 +60,27 @@ pub fn least(level: &[u8; 8], depth: u32) -> u32
     if 8 <= depth {
         return 8;
     }
-    let last = depth as usize - 1;
-    floor_over(level[last])
+    aic_record::floor_over(level[depth as usize - 1])
 }
 
 // ---- the levels of a record
 
-// The sources that are pending, enabled and not fast.
-fn waiting_word(s: Aic) -> u32
-    ensures { result ≡ word_of 32 (waiting s) }
+// The sources of priority p, pending or not.
+pub fn class_word(mode: &[u8; 32], p: u32) -> u32
+    ensures { result ≡ word_of 32 (λ k. eqb (rank mode.now k) p) }
 {
-    let asks = words::meet(aic_sources::pending_word(s), s.enabled);
-    words::drop_bits(asks, words::join(1, s.forced))
+    let mut w: u32 = 0;
+    for (k, &m) in mode.iter().enumerate() {
+        w = words::with_bit(w, k as u32, aic_record::priority_of(m) == p);
+    }
+    w
 }
 
 // Of the waiting sources those of priority p.
 fn level_word(waits: u32, mode: &[u8; 32], p: u32) -> u32
     ensures { result ≡ word_of 32 (λ k. bit waits k && eqb (rank mode.now k) p) }
 {
-    let mut w: u32 = 0;
-    let mut k: u32 = 0;
-    while k < 32 {
-        let at = k as usize;
-        let fits = aic_record::priority_of(mode[at]) == p;
-        w = words::with_bit(w, k, words::has(waits, k) & fits);
-        k = k + 1;
-    }
-    w
+    words::meet(waits, class_word(mode, p))
 }
 
 // Whether each of the eight words holds the waiting sources of its level.
@@ -104,25 +88,20 @@ fn words_agree(waits: u32, mode: &[u8; 32], levels: &[u32; 8]) -> bool
     ensures { result ≡ all_below 8 (λ p. eqb (get_or levels.now p 0) (word_of 32 (λ k. bit waits k && eqb (rank mode.now k) p))) }
 {
     let mut same = true;
-    let mut p: u32 = 0;
-    while p < 8 {
-        let at = p as usize;
-        same = same & (levels[at] == level_word(waits, mode, p));
-        p = p + 1;
+    for (p, &w) in levels.iter().enumerate() {
+        same &= w == level_word(waits, mode, p as u32);
     }
     same
 }
 
 // The levels whose word is not 0.
-fn levels_with_any(levels: &[u32; 8]) -> u32
+pub fn levels_with_any(levels: &[u32]) -> u32
+    requires { length levels.now ≡ 8 }
     ensures { result ≡ word_of 8 (λ p. not (eqb (get_or levels.now p 0) 0)) }
 {
     let mut any: u32 = 0;
-    let mut level: u32 = 0;
-    while level < 8 {
-        let at = level as usize;
-        any = words::with_bit(any, level, levels[at] != 0);
-        level = level + 1;
+    for (level, &w) in levels.iter().enumerate() {
+        any = words::with_bit(any, level as u32, w != 0);
     }
     any
 }
@@ -131,7 +110,7 @@ fn levels_with_any(levels: &[u32; 8]) -> u32
 pub fn agrees(s: Aic, l: Levels) -> bool
     ensures { result ≡ agrees s l }
 {
-    let same = words_agree(waiting_word(s), &s.mode, &l.words);
+    let same = words_agree(aic_sources::waiting_word(s), &s.mode, &l.words);
     same & (l.any as u32 == levels_with_any(&l.words))
 }
 
@@ -149,8 +128,8 @@ pub fn start(external: u32, lines: u32) -> Begun
     };
     Begun {
         refusal: begun.refusal,
-        aic: aic,
-        levels: levels,
+        aic,
+        levels,
     }
 }
 

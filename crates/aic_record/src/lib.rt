@@ -4,7 +4,7 @@
 ghost use Rattle.std.specs.Prelude.{◌≡◌, not, ◌&&◌, ◌||◌, eqb, get_or, set};
 ghost use Rattle.words.specs.Choice.{pick};
 ghost use Rattle.words.specs.Counting.{all_below};
-ghost use Rattle.aic_record.specs.Mode.{priority_of, type_of, kept_mode, edge_of, mode_at};
+ghost use Rattle.aic_record.specs.Mode.{priority_of, type_of, kept_mode, edge_of, mode_at, priority, edge};
 ghost use Rattle.aic_record.specs.Record.{with_lines, with_enabled, with_memory, with_forced, with_spurious, with_debug, with_mode, with_vector, with_handlers, with_seen};
 ghost use Rattle.aic_record.specs.Record.{reset, nothing_seen};
 ghost use Rattle.aic_record.specs.Sound.{source_at, level_at, level_below, over, entry_fits, seen_fits, sound};
@@ -14,6 +14,7 @@ pub mod last;
 
 // One word has a bit for each of the 32 sources. `source` and `level` hold the open entries, the last one at `depth - 1`: handlers, and
 // spurious marks, whose source is 0.
+// Two arrays with their depth beside them and no list of entries: the promises name these fields.
 #[derive(Clone, Copy)]
 pub struct Aic {
     pub external: u32,
@@ -32,6 +33,7 @@ pub struct Aic {
 }
 
 // What a read of IVR in protect mode remembers: nothing (0), a source (1) with the priority and the vector that it had then, or that there was none (2).
+// A number and no enum: the promises name `what`.
 #[derive(Clone, Copy)]
 pub struct Seen {
     pub what: u32,
@@ -41,6 +43,7 @@ pub struct Seen {
 }
 
 // What stands for no level.
+// A number and no Option: the promise `below_is` tells 255 of the level below the first entry.
 pub const NO_LEVEL: u8 = 255;
 
 // The record after reset, its lines at their first levels.
@@ -48,8 +51,8 @@ pub fn reset_to(external: u32, lines: u32) -> Aic
     ensures { result ≡ reset external lines }
 {
     Aic {
-        external: external,
-        lines: lines,
+        external,
+        lines,
         enabled: 0,
         memory: 0,
         forced: 0,
@@ -81,69 +84,55 @@ pub fn nothing_seen() -> Seen
 pub fn with_lines(s: Aic, w: u32) -> Aic
     ensures { result ≡ with_lines s w }
 {
-    let mut t = s;
-    t.lines = w;
-    t
+    Aic { lines: w, ..s }
 }
 
 pub fn with_enabled(s: Aic, w: u32) -> Aic
     ensures { result ≡ with_enabled s w }
 {
-    let mut t = s;
-    t.enabled = w;
-    t
+    Aic { enabled: w, ..s }
 }
 
 pub fn with_memory(s: Aic, w: u32) -> Aic
     ensures { result ≡ with_memory s w }
 {
-    let mut t = s;
-    t.memory = w;
-    t
+    Aic { memory: w, ..s }
 }
 
 pub fn with_forced(s: Aic, w: u32) -> Aic
     ensures { result ≡ with_forced s w }
 {
-    let mut t = s;
-    t.forced = w;
-    t
+    Aic { forced: w, ..s }
 }
 
 pub fn with_spurious(s: Aic, v: u32) -> Aic
     ensures { result ≡ with_spurious s v }
 {
-    let mut t = s;
-    t.spurious = v;
-    t
+    Aic { spurious: v, ..s }
 }
 
 pub fn with_debug(s: Aic, v: u32) -> Aic
     ensures { result ≡ with_debug s v }
 {
-    let mut t = s;
-    t.debug = v;
-    t
+    Aic { debug: v, ..s }
 }
 
 pub fn with_seen(s: Aic, n: Seen) -> Aic
     ensures { result ≡ with_seen s n }
 {
-    let mut t = s;
-    t.seen = n;
-    t
+    Aic { seen: n, ..s }
 }
 
 // The mode of source k put anew. Past the last source nothing changes.
+// No `get_mut`, here and in the next two: tried, and the proof learns nothing of the table after a store through it.
 pub fn put_mode(s: Aic, k: u32, m: u8) -> Aic
     ensures { result ≡ with_mode s (set s.mode k m) }
 {
     if 32 <= k {
         return s;
     }
-    let at = k as usize;
     let mut t = s;
-    t.mode[at] = m;
+    t.mode[k as usize] = m;
     t
 }
 
@@ -154,9 +143,8 @@ pub fn put_vector(s: Aic, k: u32, v: u32) -> Aic
     if 32 <= k {
         return s;
     }
-    let at = k as usize;
     let mut t = s;
-    t.vector[at] = v;
+    t.vector[k as usize] = v;
     t
 }
 
@@ -169,9 +157,8 @@ pub fn put_handler(s: Aic, i: u32, source: u8, level: u8, depth: u32) -> Aic
     if 8 <= i {
         return t;
     }
-    let at = i as usize;
-    t.source[at] = source;
-    t.level[at] = level;
+    t.source[i as usize] = source;
+    t.level[i as usize] = level;
     t
 }
 
@@ -180,41 +167,25 @@ pub fn put_handler(s: Aic, i: u32, source: u8, level: u8, depth: u32) -> Aic
 pub fn mode_at(s: Aic, k: u32) -> u8
     ensures { result ≡ mode_at s k }
 {
-    if 32 <= k {
-        return 0;
-    }
-    let at = k as usize;
-    s.mode[at]
+    s.mode.get(k as usize).copied().unwrap_or(0)
 }
 
 pub fn vector_at(s: Aic, k: u32) -> u32
     ensures { result ≡ get_or s.vector k 0 }
 {
-    if 32 <= k {
-        return 0;
-    }
-    let at = k as usize;
-    s.vector[at]
+    s.vector.get(k as usize).copied().unwrap_or(0)
 }
 
 pub fn source_at(s: Aic, i: u32) -> u8
     ensures { result ≡ source_at s i }
 {
-    if 8 <= i {
-        return 0;
-    }
-    let at = i as usize;
-    s.source[at]
+    s.source.get(i as usize).copied().unwrap_or(0)
 }
 
 pub fn level_at(s: Aic, i: u32) -> u8
     ensures { result ≡ level_at s i }
 {
-    if 8 <= i {
-        return 0;
-    }
-    let at = i as usize;
-    s.level[at]
+    s.level.get(i as usize).copied().unwrap_or(0)
 }
 
 // The level of the last entry, or no level if there is none.
@@ -232,7 +203,13 @@ pub fn last_level(s: Aic) -> u8
 pub fn floor_of(s: Aic) -> u32
     ensures { result ≡ floor_over (level_below s.level s.depth) }
 {
-    let level = last_level(s);
+    floor_over(last_level(s))
+}
+
+// The least priority above a level, 0 above no level.
+pub fn floor_over(level: u8) -> u32
+    ensures { result ≡ floor_over level }
+{
     if level == NO_LEVEL {
         return 0;
     }
@@ -269,13 +246,27 @@ pub fn edge_of(mode: u8) -> bool
     mode / 32 % 4 % 2 == 1
 }
 
+// The priority of source k.
+pub fn priority_at(s: Aic, k: u32) -> u32
+    ensures { result ≡ priority s k }
+{
+    priority_of(mode_at(s, k))
+}
+
+// Whether source k is edge-triggered.
+pub fn edge_at(s: Aic, k: u32) -> bool
+    ensures { result ≡ edge s k }
+{
+    edge_of(mode_at(s, k))
+}
+
 // ---- the rules of a sound record
 
 // Whether a level is strictly above another, if that is one.
-fn is_over(below: u8, level: u8) -> bool
+pub fn is_over(below: u32, level: u32) -> bool
     ensures { result ≡ over below level }
 {
-    (below == NO_LEVEL) | (below < level)
+    (below == NO_LEVEL as u32) | (below < level)
 }
 
 // Whether an entry may stand over one of the level `below`: a mark at that level, a handler above it.
@@ -285,7 +276,7 @@ fn entry_fits(below: u8, source: u8, level: u8) -> bool
     if source == 0 {
         return level == below;
     }
-    (source <= 31) & (level <= 7) & is_over(below, level)
+    (source <= 31) & (level <= 7) & is_over(below as u32, level as u32)
 }
 
 // Whether a slot of the entries is as it should be: used over an entry of the level `below`, or not used.
@@ -304,12 +295,10 @@ fn slots_sound(source: [u8; 8], level: [u8; 8], depth: u32) -> bool
 {
     let mut ok = true;
     let mut below = NO_LEVEL;
-    let mut i: u32 = 0;
-    while i < 8 {
-        let at = i as usize;
-        ok = ok & slot_sound(i < depth, below, source[at], level[at]);
-        below = level[at];
-        i = i + 1;
+    // By the index: it tells which slots are used, and two tables are read at it.
+    for i in 0..8 {
+        ok &= slot_sound((i as u32) < depth, below, source[i], level[i]);
+        below = level[i];
     }
     ok
 }
@@ -326,11 +315,8 @@ fn modes_sound(mode: &[u8; 32], memory: u32) -> bool
     ensures { result ≡ all_below 32 (mode_sound mode.now memory) }
 {
     let mut ok = true;
-    let mut k: u32 = 0;
-    while k < 32 {
-        let at = k as usize;
-        ok = ok & mode_sound(mode[at], words::has(memory, k));
-        k = k + 1;
+    for (k, &m) in mode.iter().enumerate() {
+        ok &= mode_sound(m, words::has(memory, k as u32));
     }
     ok
 }
@@ -348,7 +334,7 @@ fn seen_fits(on: bool, n: Seen, below: u8, depth: u32) -> bool
             & (source <= 31)
             & (level <= 7)
             & (depth < 8)
-            & is_over(below, level);
+            & is_over(below as u32, level as u32);
     }
     (source == 0) & (level == 0) & (n.vector == 0) & ((n.what == 0) | (on & (n.what == 2)))
 }

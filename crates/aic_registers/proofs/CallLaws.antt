@@ -12,7 +12,7 @@ use Rattle.words.proofs.ChoiceLaws.{pick_true, pick-false}
 use Rattle.aic_record.specs.declared.Aic.{Aic}
 use Rattle.aic_record.specs.declared.Seen.{Seen}
 use Rattle.aic_record.specs.Record.{with_lines, with_memory, with_forced, with_mode, with_handlers, with_seen}
-use Rattle.aic_record.specs.Mode.{priority_of, type_of, kept_mode, edge_of, mode_at, priority, kind, edge}
+use Rattle.aic_record.specs.Mode.{type_of, kept_mode, mode_at, priority, kind, edge}
 use Rattle.aic_record.specs.Sound.{level_below}
 use Rattle.aic_sources.specs.Pending.{active_at, active, edge_word}
 use Rattle.aic_sources.specs.Normal.{chosen}
@@ -21,10 +21,6 @@ use Rattle.aic_registers.specs.Handlers.{answered, forgotten, spent, opened, sta
 use Rattle.aic_registers.specs.Effects.{moded, set_by, cleared_by, forced_by, turns, moved}
 
 -- ---- entries
-
-pub edge-from : (s : Aic) (k m : ℕ) (b : Bool) → m ≡ mode_at s k → b ≡ edge_of m → b ≡ edge s k
-unfolding edge
-edge-from s k m b e f = f ∙ ap edge_of e
 
 -- clearing a memory opens and closes no entry
 spent_depth : (s : Aic) (k : ℕ) → (spent s k).depth ≡ s.depth
@@ -42,10 +38,9 @@ started-by s t k l e =
     ap (λ (u : Aic). with_handlers u (set u.source s.depth k) (set u.level s.depth l) (s.depth + 1)) e
     ∙ ap (λ (d : ℕ). with_handlers (spent s k) (set (spent s k).source d k) (set (spent s k).level d l) (d + 1)) (sym (spent_depth s k))
 
-pub now-by : (s t : Aic) (k m p v : ℕ) → m ≡ mode_at s k → p ≡ priority_of m → t ≡ started_at s k p → v ≡ vector_at s k
+pub now-by : (s t : Aic) (k p v : ℕ) → p ≡ priority s k → t ≡ started_at s k p → v ≡ vector_at s k
     → answered t v ≡ answered (started_at s k (priority s k)) (vector_at s k)
-unfolding priority
-now-by s t k m p v e f g h = ap₂ answered (g ∙ ap (started_at s k) (f ∙ ap priority_of e)) h
+now-by s t k p v f g h = ap₂ answered (g ∙ ap (started_at s k) f) h
 
 pub marked_by : (s : Aic) (l : ℕ) → s.depth < 8 → l ≡ level_below s.level s.depth
     → with_handlers s (set s.source s.depth 0) (set s.level s.depth l) (s.depth + 1) ≡ marked s
@@ -69,10 +64,9 @@ ivr-none s t k e l m =
     (sym (chosen-some s) ∙ ap (λ (j : ℕ). ltb j 32) (sym e) ∙ le-ltb k 32 l)
 
 -- what a read in protect mode remembers of a source, and its answer with one and without
-pub seen-from : (s : Aic) (k m p v : ℕ) → m ≡ mode_at s k → p ≡ priority_of m → v ≡ vector_at s k
+pub seen-from : (s : Aic) (k p v : ℕ) → p ≡ priority s k → v ≡ vector_at s k
     → ◌≡◌ {A = Seen} (record { what = 1; source = k; level = p; vector = v }) (source_seen s k)
-unfolding priority
-seen-from s k m p v e f g = ap₂ (λ (l w : ℕ). record { what = 1; source = k; level = l; vector = w }) (f ∙ ap priority_of e) g
+seen-from s k p v f g = ap₂ (λ (l w : ℕ). record { what = 1; source = k; level = l; vector = w }) f g
 
 pub look-some : (s : Aic) (k v : ℕ) (n : Seen) → k ≡ chosen s → k < 32 → n ≡ source_seen s k → v ≡ vector_at s k → answered (with_seen s n) v ≡ ivr_looked s
 unfolding ivr_looked

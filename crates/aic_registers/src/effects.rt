@@ -67,7 +67,7 @@ pub(crate) fn force(s: Aic, v: u32) -> Aic
 }
 
 // Whether a line that goes to this level turns source k from inactive to active.
-fn turns_active(s: Aic, k: u32, high: bool) -> bool
+pub fn turns_active(s: Aic, k: u32, high: bool) -> bool
     ensures { result ≡ turns s k high }
 {
     let before = aic_sources::is_active_at(s, k, words::has(s.lines, k));
@@ -79,8 +79,7 @@ fn turns_active(s: Aic, k: u32, high: bool) -> bool
 fn remember(s: Aic, k: u32, high: bool) -> Aic
     ensures { result ≡ pick (edge s k && turns s k high) (with_memory s (with_bit s.memory k true)) s }
 {
-    let edge = aic_record::edge_of(aic_record::mode_at(s, k));
-    if edge & turns_active(s, k, high) {
+    if aic_record::edge_at(s, k) & turns_active(s, k, high) {
         return aic_record::with_memory(s, words::with_bit(s.memory, k, true));
     }
     s

@@ -18,7 +18,7 @@ pub(crate) fn forget(s: Aic, k: u32) -> Aic
 fn spend(s: Aic, k: u32) -> Aic
     ensures { result ≡ spent s k }
 {
-    if aic_record::edge_of(aic_record::mode_at(s, k)) {
+    if aic_record::edge_at(s, k) {
         return forget(s, k);
     }
     s
@@ -49,7 +49,7 @@ fn start_now(s: Aic, k: u32) -> Answer
     requires { (s.depth ≤ 8) × (k < 32) }
     ensures { result ≡ answered (started_at s k (priority s k)) (vector_at s k) }
 {
-    let now = aic_record::priority_of(aic_record::mode_at(s, k));
+    let now = aic_record::priority_at(s, k);
     answer_of(start_at(s, k as u8, now as u8), aic_record::vector_at(s, k))
 }
 
@@ -83,13 +83,13 @@ fn seen_of(s: Aic, k: u32) -> Seen
     requires { k < 32 }
     ensures { result ≡ source_seen s k }
 {
-    let level = aic_record::priority_of(aic_record::mode_at(s, k));
+    let level = aic_record::priority_at(s, k);
     let vector = aic_record::vector_at(s, k);
     Seen {
         what: 1,
         source: k as u8,
         level: level as u8,
-        vector: vector,
+        vector,
     }
 }
 
@@ -99,9 +99,7 @@ fn none_seen() -> Seen
 {
     Seen {
         what: 2,
-        source: 0,
-        level: 0,
-        vector: 0,
+        ..aic_record::nothing_seen()
     }
 }
 
@@ -189,9 +187,5 @@ pub(crate) fn read_fvr(s: Aic) -> Answer
 pub(crate) fn current_source(s: Aic) -> u32
     ensures { result ≡ current s }
 {
-    let depth = s.depth;
-    if depth == 0 {
-        return 0;
-    }
-    aic_record::source_at(s, depth - 1) as u32
+    aic_record::last::last_source(s)
 }

@@ -12,6 +12,7 @@ pub mod registers;
 use aic_record::Aic;
 
 // What a step answers: its refusal, the value read, and the record after it.
+// A number and no Result: the promises name these fields, and a refused step too answers a value and a record.
 #[derive(Clone, Copy)]
 pub struct Answer {
     pub refusal: u32,

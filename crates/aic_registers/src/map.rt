@@ -42,29 +42,15 @@ pub const FFSR: u32 = 0x148;
 pub fn access_of(offset: u32) -> Access
     ensures { result ≡ access offset }
 {
-    if offset <= IVR {
-        return Access::ReadWrite;
+    match offset {
+        ..=IVR => Access::ReadWrite,
+        ..=CISR => Access::ReadOnly,
+        ..IECR => Access::NoRegister,
+        ..=EOICR => Access::WriteOnly,
+        ..=DCR => Access::ReadWrite,
+        ..FFER => Access::NoRegister,
+        ..=FFDR => Access::WriteOnly,
+        FFSR => Access::ReadOnly,
+        _ => Access::NoRegister,
     }
-    if offset <= CISR {
-        return Access::ReadOnly;
-    }
-    if offset < IECR {
-        return Access::NoRegister;
-    }
-    if offset <= EOICR {
-        return Access::WriteOnly;
-    }
-    if offset <= DCR {
-        return Access::ReadWrite;
-    }
-    if offset < FFER {
-        return Access::NoRegister;
-    }
-    if offset <= FFDR {
-        return Access::WriteOnly;
-    }
-    if offset == FFSR {
-        return Access::ReadOnly;
-    }
-    Access::NoRegister
 }

@@ -1,11 +1,9 @@
 -- A record laid into a room of zeros.
-use mathlib.Core.Path.{◌≡◌, refl, sym, ap, ◌∙◌}
+use mathlib.Core.Path.{◌≡◌, refl, ap, ◌∙◌}
 use mathlib.Core.List.{List}
-use Prim.Native.Nat.{ℕ, ◌-◌, ◌<◌}
+use Prim.Native.Nat.{ℕ}
 use native.Mathlib.Omega.{arith}
-use borrow.Author.Tests.{eq-eqb, ne_eqb}
-use lib.ListN.{length, get_or, set, replicate, get_or-eq_default}
-use Rattle.words.proofs.ChoiceLaws.{pick_true, pick-false}
+use lib.ListN.{get_or, set, replicate}
 use Rattle.rooms.specs.Parts.{flat, Sized, made, zeros, stored}
 use Rattle.rooms.proofs.PartLaws.{part_copied, part-made, part_sized, zeros_sized, zeros-flat}
 use Rattle.aic_record.specs.declared.Aic.{Aic}
@@ -75,17 +73,3 @@ pub kept-laid : (a : Aic) (l : List ℕ) (e h o f n m t : ℕ) → e ≡ mode_wo
     → n ≡ without a.enabled f → m ≡ both a.enabled f → t ≡ level_below a.level a.depth
     → set (set (set (set (set (set l 13 e) 14 h) 16 o) 17 n) 18 m) 19 t ≡ kept_beside a l
 kept-laid a l e h o f n m t p q r i j k u = rw (p, r ∙ ap (without a.external) q, q, j ∙ ap (without a.enabled) i, k ∙ ap (both a.enabled) i, u)
-
--- ---- the level of the last entry
-
-pub last_none : (level : List ℕ) (d : ℕ) → d ≡ 0 → 255 ≡ level_below level d
-unfolding level_below
-last_none level d e = pick_true _ (eq-eqb d 0 e)
-
-pub last_some : (level : List ℕ) (d i : ℕ) → (d ≡ 0 → ⊥) → i ≡ d - 1 → get_or level i 0 ≡ level_below level d
-unfolding level_below
-last_some level d i n e = ap (λ (j : ℕ). get_or level j 0) e ∙ pick-false 255 (ne_eqb d 0 n)
-
-pub last-past : (level : List ℕ) (d : ℕ) → length level ≡ 8 → 8 < d → 0 ≡ level_below level d
-unfolding level_below
-last-past level d e l = sym (get_or-eq_default level 0 {n = d - 1} (omega (arith, e, l))) ∙ pick-false 255 (ne_eqb d 0 (λ z. omega (arith, l, z)))

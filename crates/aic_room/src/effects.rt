@@ -125,24 +125,14 @@ pub(crate) fn write_mode(room: &mut Room, k: u32, v: u32)
 
 // ---- a line step
 
-// Whether a line that is high, or low, is at the active level.
-fn at_level(low: bool, high: bool) -> bool
-    ensures { result ≡ pick low (not high) high }
-{
-    if low {
-        return !high;
-    }
-    high
-}
-
 // Whether a line that goes to this level turns the edge source k active.
 fn rises(room: &Room, k: u32, high: bool) -> bool
     requires { k < 32 }
     ensures { (a : Aic) → Laid a room.now → result ≡ (edge a k && turns a k high) }
 {
     let low = words::has(room[LOW], k);
-    let was = at_level(low, words::has(room[LINES], k));
-    words::has(room[EDGES], k) & (!was & at_level(low, high))
+    let was = aic_sources::at_level(low, words::has(room[LINES], k));
+    words::has(room[EDGES], k) & (!was & aic_sources::at_level(low, high))
 }
 
 // The memory after the line of source k goes to a level: an edge source that turns active is remembered.

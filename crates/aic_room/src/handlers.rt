@@ -3,7 +3,7 @@ ghost use Rattle.std.specs.Prelude.{◌≡◌, true, ◌-◌, ◌<◌, ◌≤◌
 ghost use Rattle.words.specs.Choice.{pick};
 ghost use Rattle.aic_record.specs.declared.Aic.{Aic};
 ghost use Rattle.aic_record.specs.Mode.{priority};
-ghost use Rattle.aic_record.specs.Sound.{level_below, over, sound};
+ghost use Rattle.aic_record.specs.Sound.{level_below, sound};
 ghost use Rattle.aic_sources.specs.Fast.{fast_asks, fiq};
 ghost use Rattle.aic_sources.specs.Normal.{above, candidates, chosen, irq};
 ghost use Rattle.aic_registers.specs.Handlers.{answered, spent, opened, started_at, marked, ended, vector_at, ivr_taken, ivr_looked, ivr_read, begun, ivr_written, fast_spent, fvr_read, current};
@@ -22,16 +22,11 @@ use rooms::Room;
 fn last_of(entries: u32) -> usize
     ensures { (result < 8) × ((0 < entries → entries ≤ 8 → result ≡ entries - 1)) }
 {
-    if entries == 0 {
-        return 0;
-    }
-    if 8 < entries {
-        return 0;
-    }
-    entries as usize - 1
+    (entries.saturating_sub(1) % 8) as usize
 }
 
 // The level of the entry below entry i, 255 if there is none.
+// 255 and no Option, here and of `highest`: the word of a room is this number.
 fn level_below(room: &Room, i: u32) -> u32
     ensures { (a : Aic) → Laid a room.now → i ≤ 8 → result ≡ level_below a.level i }
 {
@@ -42,13 +37,6 @@ fn level_below(room: &Room, i: u32) -> u32
     room[LEVEL + last]
 }
 
-// Whether a level is strictly above another, if that is one.
-fn is_over(below: u32, level: u32) -> bool
-    ensures { result ≡ over below level }
-{
-    (below == 255) | (below < level)
-}
-
 // Whether a priority may start over the open entries.
 fn may_start(room: &Room, p: u32) -> bool
     ensures { (a : Aic) → Laid a room.now → result ≡ above a p }
@@ -56,7 +44,7 @@ fn may_start(room: &Room, p: u32) -> bool
     if 8 <= room[DEPTH] {
         return false;
     }
-    is_over(room[LAST], p)
+    aic_record::is_over(room[LAST], p)
 }
 
 // The highest level that has any source, 255 if none has.
@@ -67,6 +55,7 @@ fn highest(room: &Room) -> u32
 }
 
 // The candidate that is ahead of all others, 32 if there is none: the lowest source of the highest level, if that may start.
+// 32 and no Option, as `aic_sources::chosen_source` has it by its promise.
 pub(crate) fn chosen(room: &Room) -> u32
     ensures { (a : Aic) → Laid a room.now → result ≡ chosen a }
 {

@@ -36,6 +36,7 @@ pub const DEBUG: usize = 6;
 pub const DEPTH: usize = 7;
 
 // What is remembered: what it is, the source, its level and its vector.
+// Numbers, as all else in a room of words; the record has them so too.
 pub const SEEN: usize = 8;
 
 pub const SEEN_SOURCE: usize = 9;
@@ -105,11 +106,10 @@ pub fn waiting(room: &Room) -> u32
 fn renew_words(room: &mut Room, waits: u32)
     ensures { room.new ≡ upto (λ l p. set l (24 + p) (both (get_or l (32 + p) 0) waits)) room.old 8 }
 {
-    let mut p: usize = 0;
-    while p < 8 {
+    // By the level: it is read in one table of the room and written in another.
+    for p in 0..8 {
         let w = words::meet(room[CLASS + p], waits);
         room[LEVELS + p] = w;
-        p = p + 1;
     }
 }
 
@@ -117,14 +117,7 @@ fn renew_words(room: &mut Room, waits: u32)
 fn levels_with_any(room: &Room) -> u32
     ensures { result ≡ word_of 8 (λ p. not (eqb (get_or room.now (24 + p) 0) 0)) }
 {
-    let mut any: u32 = 0;
-    let mut p: u32 = 0;
-    while p < 8 {
-        let at = LEVELS + p as usize;
-        any = words::with_bit(any, p, room[at] != 0);
-        p = p + 1;
-    }
-    any
+    aic_levels::levels_with_any(&room[LEVELS..LEVELS + 8])
 }
 
 // The words of all levels and their byte, after a change to what they depend on.
@@ -201,12 +194,10 @@ pub(crate) fn put_entry(room: &mut Room, i: u32, source: u32, level: u32, depth:
 fn put_class(room: &mut Room, k: u32, p: u32)
     ensures { room.new ≡ upto (λ l q. set l (32 + q) (with_bit (get_or l (32 + q) 0) k (eqb q p))) room.old 8 }
 {
-    let mut q: u32 = 0;
-    while q < 8 {
+    for q in 0..8 {
         let at = CLASS + q as usize;
         let w = words::with_bit(room[at], k, q == p);
         room[at] = w;
-        q = q + 1;
     }
 }
 
@@ -226,21 +217,13 @@ pub(crate) fn put_mode(room: &mut Room, k: u32, mode: u32)
 
 // ---- a record into a room
 
-fn wide(x: u8) -> u32
-    ensures { result ≡ x }
+// Bytes from a place on: the modes, and the sources and levels of the entries.
+fn lay_bytes<'a, const N: usize>(room: &'a mut Room, at: usize, bytes: &'a [u8; N])
+    requires { at + N ≤ 2048 }
+    ensures { room.new ≡ stored at (λ k. get_or bytes.now k 0) room.old N }
 {
-    x as u32
-}
-
-// The modes.
-fn lay_modes<'a>(room: &'a mut Room, mode: &'a [u8; 32])
-    ensures { room.new ≡ stored 64 (λ k. get_or mode.now k 0) room.old 32 }
-{
-    let mut k: usize = 0;
-    while k < 32 {
-        let w = wide(mode[k]);
-        room[MODE + k] = w;
-        k = k + 1;
+    for (k, &b) in bytes.iter().enumerate() {
+        room[at + k] = u32::from(b);
     }
 }
 
@@ -248,49 +231,18 @@ fn lay_modes<'a>(room: &'a mut Room, mode: &'a [u8; 32])
 fn lay_vectors<'a>(room: &'a mut Room, vector: &'a [u32; 32])
     ensures { room.new ≡ stored 96 (λ k. get_or vector.now k 0) room.old 32 }
 {
-    let mut k: usize = 0;
-    while k < 32 {
-        room[VECTOR + k] = vector[k];
-        k = k + 1;
+    for (k, &v) in vector.iter().enumerate() {
+        room[VECTOR + k] = v;
     }
-}
-
-// Eight bytes from a place on.
-fn lay_eight<'a>(room: &'a mut Room, at: usize, bytes: &'a [u8; 8])
-    requires { at ≤ 100 }
-    ensures { room.new ≡ stored at (λ k. get_or bytes.now k 0) room.old 8 }
-{
-    let mut k: usize = 0;
-    while k < 8 {
-        let w = wide(bytes[k]);
-        room[at + k] = w;
-        k = k + 1;
-    }
-}
-
-// The sources of priority p.
-fn class_word(mode: &[u8; 32], p: u32) -> u32
-    ensures { result ≡ class_word mode.now p }
-{
-    let mut w: u32 = 0;
-    let mut k: u32 = 0;
-    while k < 32 {
-        let at = k as usize;
-        w = words::with_bit(w, k, aic_record::priority_of(mode[at]) == p);
-        k = k + 1;
-    }
-    w
 }
 
 // The sources of each priority.
 fn lay_classes<'a>(room: &'a mut Room, mode: &'a [u8; 32])
     ensures { room.new ≡ stored 32 (class_word mode.now) room.old 8 }
 {
-    let mut p: u32 = 0;
-    while p < 8 {
-        let w = class_word(mode, p);
+    for p in 0..8 {
+        let w = aic_levels::class_word(mode, p);
         room[CLASS + p as usize] = w;
-        p = p + 1;
     }
 }
 
@@ -298,11 +250,9 @@ fn lay_classes<'a>(room: &'a mut Room, mode: &'a [u8; 32])
 fn lay_table(room: &mut Room)
     ensures { room.new ≡ stored 256 highest_of room.old 256 }
 {
-    let mut b: usize = 0;
-    while b < 256 {
+    for b in 0..256 {
         let level = aic_levels::highest(b as u8);
-        room[TABLE + b] = wide(level);
-        b = b + 1;
+        room[TABLE + b] = u32::from(level);
     }
 }
 
@@ -315,10 +265,10 @@ fn tables_of(a: Aic) -> Room
     let vector = a.vector;
     let source = a.source;
     let level = a.level;
-    lay_modes(&mut room, &mode);
+    lay_bytes(&mut room, MODE, &mode);
     lay_vectors(&mut room, &vector);
-    lay_eight(&mut room, SOURCE, &source);
-    lay_eight(&mut room, LEVEL, &level);
+    lay_bytes(&mut room, SOURCE, &source);
+    lay_bytes(&mut room, LEVEL, &level);
     lay_classes(&mut room, &mode);
     lay_table(&mut room);
     room
@@ -343,26 +293,11 @@ fn lay_words(room: &mut Room, a: Aic)
     room[EXTERNAL] = a.external;
 }
 
-// The level of the last entry, 255 if none is open.
-fn last_of(level: &[u8; 8], depth: u32) -> u32
-    ensures { length level.now ≡ 8 → result ≡ level_below level.now depth }
-{
-    if depth == 0 {
-        return 255;
-    }
-    if 8 < depth {
-        return 0;
-    }
-    let last = depth as usize - 1;
-    wide(level[last])
-}
-
 // The single words that the record determines.
 fn lay_kept(room: &mut Room, a: Aic)
     ensures { Shaped a → room.new ≡ kept_beside a room.old }
 {
     let mode = a.mode;
-    let level = a.level;
     let fast = words::join(1, a.forced);
     let high = aic_sources::mode_word(&mode, 6);
     room[EDGES] = aic_sources::mode_word(&mode, 5);
@@ -370,7 +305,7 @@ fn lay_kept(room: &mut Room, a: Aic)
     room[LOW] = words::drop_bits(a.external, high);
     room[NORMAL] = words::drop_bits(a.enabled, fast);
     room[FAST] = words::meet(a.enabled, fast);
-    room[LAST] = last_of(&level, a.depth);
+    room[LAST] = u32::from(aic_record::last_level(a));
 }
 
 // The room of a record.
@@ -392,45 +327,26 @@ fn byte(x: u32) -> u8
     (x % 256) as u8
 }
 
-// The modes.
-fn modes_in(room: &Room) -> [u8; 32]
-    ensures { (length result ≡ 32) × ((k : ℕ) → k < 32 → get_or result k 0 ≡ get_or room.now (64 + k) 0 % 256) }
+// Bytes from a place on: the modes, and the sources and levels of the entries.
+fn bytes_in<const N: usize>(room: &Room, at: usize) -> [u8; N]
+    requires { at + N ≤ 2048 }
+    ensures { (length result ≡ N) × ((k : ℕ) → k < N → get_or result k 0 ≡ get_or room.now (at + k) 0 % 256) }
 {
-    let mut out: [u8; 32] = [0; 32];
-    let mut k: usize = 0;
-    while k < 32 {
-        let b = byte(room[MODE + k]);
-        out[k] = b;
-        k = k + 1;
+    let mut out = [0; N];
+    // By the index, at which one table is read and the other written.
+    for k in 0..N {
+        out[k] = byte(room[at + k]);
     }
     out
 }
 
-// The vectors.
-fn vectors_in(room: &Room) -> [u32; 32]
-    ensures { (length result ≡ 32) × ((k : ℕ) → k < 32 → get_or result k 0 ≡ get_or room.now (96 + k) 0) }
+// Words from a place on: the vectors, and the words of the levels.
+pub(crate) fn words_in<const N: usize>(room: &Room, at: usize) -> [u32; N]
+    requires { at + N ≤ 2048 }
+    ensures { (length result ≡ N) × ((k : ℕ) → k < N → get_or result k 0 ≡ get_or room.now (at + k) 0) }
 {
-    let mut out: [u32; 32] = [0; 32];
-    let mut k: usize = 0;
-    while k < 32 {
-        out[k] = room[VECTOR + k];
-        k = k + 1;
-    }
-    out
-}
-
-// Eight bytes from a place on.
-fn eight_in(room: &Room, at: usize) -> [u8; 8]
-    requires { at ≤ 100 }
-    ensures { (length result ≡ 8) × ((k : ℕ) → k < 8 → get_or result k 0 ≡ get_or room.now (at + k) 0 % 256) }
-{
-    let mut out: [u8; 8] = [0; 8];
-    let mut k: usize = 0;
-    while k < 8 {
-        let b = byte(room[at + k]);
-        out[k] = b;
-        k = k + 1;
-    }
+    let mut out = [0; N];
+    out.copy_from_slice(&room[at..at + N]);
     out
 }
 
@@ -450,10 +366,10 @@ fn seen_in(room: &Room) -> Seen
 pub fn record_of(room: &Room) -> Aic
     ensures { (a : Aic) → sound a ≡ true → Laid a room.now → result ≡ a }
 {
-    let mode = modes_in(room);
-    let vector = vectors_in(room);
-    let source = eight_in(room, SOURCE);
-    let level = eight_in(room, LEVEL);
+    let mode = bytes_in(room, MODE);
+    let vector = words_in(room, VECTOR);
+    let source = bytes_in(room, SOURCE);
+    let level = bytes_in(room, LEVEL);
     let seen = seen_in(room);
     Aic {
         external: room[EXTERNAL],

@@ -139,16 +139,15 @@ pub fn line(room: &mut Room, k: u32, level: u32) -> u64
 }
 
 // The step of a kind with its numbers.
+// A number and no enum: the turn of a trace hands its kind over as one, and `step_of` reads it so.
 pub fn step(room: &mut Room, kind: u32, x: u32, y: u32) -> u64
     ensures { (a : Aic) → sound a ≡ true → Laid a room.old → Done (step a (step_of kind x y)) room.new (told result) }
 {
-    if kind == trace::READ {
-        return read(room, x);
+    match kind {
+        trace::READ => read(room, x),
+        trace::WRITE => write(room, x, y),
+        _ => line(room, x, y),
     }
-    if kind == trace::WRITE {
-        return write(room, x, y);
-    }
-    line(room, x, y)
 }
 
 // The two outputs and how many entries are open.

@@ -1,5 +1,5 @@
 // The AT91 controller with its levels beside it: a step lays the record into a room, is carried out there, and takes the record and its levels out again.
-ghost use Rattle.std.specs.Prelude.{◌≡◌, true, ◌&&◌, ℕ, ◌+◌, ◌<◌, length, get_or};
+ghost use Rattle.std.specs.Prelude.{◌≡◌, true, ◌&&◌};
 ghost use Rattle.rooms.specs.Reply.{told};
 ghost use Rattle.aic_record.specs.declared.Aic.{Aic};
 ghost use Rattle.aic_record.specs.Sound.{sound};
@@ -9,7 +9,7 @@ ghost use Rattle.aic_levels.specs.Model.{step_with};
 ghost use Rattle.aic_room.specs.Room.{Laid};
 ghost use Rattle.aic_room.specs.Reply.{Done};
 
-use super::layout::{ANY, LEVELS};
+use super::layout::{ANY, LEVELS, words_in};
 use aic_levels::{Answer, Levels};
 use aic_record::Aic;
 use rooms::Room;
@@ -58,24 +58,11 @@ fn step_in(room: &mut Room, x: Step) -> u64
     }
 }
 
-// The words of the levels in a room.
-fn words_in(room: &Room) -> [u32; 8]
-    ensures { (length result ≡ 8) × ((p : ℕ) → p < 8 → get_or result p 0 ≡ get_or room.now (24 + p) 0) }
-{
-    let mut out: [u32; 8] = [0; 8];
-    let mut p: usize = 0;
-    while p < 8 {
-        out[p] = room[LEVELS + p];
-        p = p + 1;
-    }
-    out
-}
-
 // The levels in a room.
 fn levels_in(room: &Room) -> Levels
     ensures { (a : Aic) → Laid a room.now → result ≡ levels_of a }
 {
-    let words = words_in(room);
+    let words = words_in(room, LEVELS);
     Levels {
         words,
         any: (room[ANY] % 256) as u8,

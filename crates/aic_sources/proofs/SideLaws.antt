@@ -5,10 +5,11 @@ use Prim.Native.Nat.{ℕ, ◌+◌, ◌*◌}
 use lib.Dec.{eqb, ltb}
 use Rattle.words.specs.Counting.{one}
 use Rattle.words.specs.Word.{bit, word_of, both, without}
+use Rattle.words.proofs.WordLaws.{word_of-same, bit-word_of}
 use Rattle.aic_record.specs.declared.Aic.{Aic}
 use Rattle.aic_sources.specs.Pending.{asking, pending_word}
 use Rattle.aic_sources.specs.Fast.{fast, fast_asks, masked, fiq}
-use Rattle.aic_sources.specs.Normal.{chosen, irq}
+use Rattle.aic_sources.specs.Normal.{waiting, chosen, irq}
 use Rattle.aic_sources.specs.Search.{least_of, Found}
 use Rattle.aic_sources.proofs.PendingLaws.{asking-by, fast_asks-by, waits_are}
 use Rattle.aic_sources.proofs.SearchLaws.{Sees, chosen_by, chosen-some}
@@ -24,6 +25,13 @@ pub chosen-from : (s : Aic) (f a w l r : ℕ) → f ≡ word_of 32 (fast s) → 
 unfolding Sees
 chosen-from s f a w l r e g h i found =
     chosen_by s w r (λ k m. waits_are s w k (h ∙ ap₂ without g e) m) (rw i at found)
+
+-- of the pending and enabled sources those that are not fast
+pub waiting-from : (s : Aic) (a f r : ℕ) → a ≡ word_of 32 (asking s) → f ≡ word_of 32 (fast s) → r ≡ without a f → r ≡ word_of 32 (waiting s)
+unfolding waiting without
+waiting-from s a f r e g h =
+    h ∙ ap₂ without e g
+    ∙ word_of-same 32 _ (waiting s) (λ k l. ap₂ (λ (x y : Bool). x && not y) (bit-word_of 32 (asking s) k l) (bit-word_of 32 (fast s) k l))
 
 pub irq-from : (s : Aic) (h : Bool) (r : ℕ) → h ≡ bit s.debug 1 → r ≡ chosen s → (not h && ltb r 32) ≡ irq s
 unfolding irq masked

@@ -7,7 +7,7 @@ ghost use Rattle.words.specs.Counting.{one};
 ghost use Rattle.words.specs.Word.{bit, word_of};
 ghost use Rattle.aic_sources.specs.Pending.{active_at, asking, pending_word, edge_word};
 ghost use Rattle.aic_sources.specs.Fast.{fast, fast_asks, fiq};
-ghost use Rattle.aic_sources.specs.Normal.{chosen, irq};
+ghost use Rattle.aic_sources.specs.Normal.{chosen, irq, waiting};
 ghost use Rattle.aic_sources.specs.Search.{mode_word, least_of, Found};
 
 use aic_record::Aic;
@@ -26,11 +26,8 @@ pub fn mode_word(mode: &[u8; 32], j: u32) -> u32
     ensures { result ≡ mode_word mode.now j }
 {
     let mut w: u32 = 0;
-    let mut k: u32 = 0;
-    while k < 32 {
-        let at = k as usize;
-        w = words::with_bit(w, k, mode_bit(mode[at], j));
-        k = k + 1;
+    for (k, &m) in mode.iter().enumerate() {
+        w = words::with_bit(w, k as u32, mode_bit(m, j));
     }
     w
 }
@@ -64,16 +61,19 @@ pub fn pending_word(s: Aic) -> u32
     blend(edge_word(s), s.memory, active_word(low, s.lines))
 }
 
+// Whether a line that is high, or low, is at the active level: low where `low` says so, else high.
+pub fn at_level(low: bool, high: bool) -> bool
+    ensures { result ≡ pick low (not high) high }
+{
+    if low { !high } else { high }
+}
+
 // Whether a line that is high, or low, is at the active level of source k.
 pub fn is_active_at(s: Aic, k: u32, high: bool) -> bool
     ensures { result ≡ active_at s k high }
 {
     let kind = aic_record::type_of(aic_record::mode_at(s, k) as u32);
-    let low = words::has(s.external, k) & (kind < 2);
-    if low {
-        return !high;
-    }
-    high
+    at_level(words::has(s.external, k) & (kind < 2), high)
 }
 
 // The sources that are pending and enabled.
@@ -92,31 +92,20 @@ fn fast_word(s: Aic) -> u32
 
 // ---- the one ahead of all others
 
-// One of two numbers, by a test.
-fn choose(t: bool, a: u32, b: u32) -> u32
-    ensures { result ≡ pick t a b }
-{
-    if t {
-        return a;
-    }
-    b
-}
-
 // Of the waiting sources whose priority is at least the floor the one ahead of all others, 32 if there is none.
 // The floor rises above each priority that is taken, so an equal priority of a higher number does not oust it.
+// 32 and no Option, here and in the two below: the promise `chosen_none` tells 32 of a record without a candidate.
 fn search(waiting: u32, mode: &[u8; 32], least: u32) -> u32
     ensures { Found waiting mode.now least 32 result }
 {
     let mut best: u32 = 32;
     let mut floor = least;
-    let mut k: u32 = 0;
-    while k < 32 {
-        let at = k as usize;
-        let priority = aic_record::priority_of(mode[at]);
-        let taken = words::has(waiting, k) & (floor <= priority);
-        best = choose(taken, k, best);
-        floor = choose(taken, priority + 1, floor);
-        k = k + 1;
+    for (k, &m) in mode.iter().enumerate() {
+        let priority = aic_record::priority_of(m);
+        if words::has(waiting, k as u32) & (floor <= priority) {
+            best = k as u32;
+            floor = priority + 1;
+        }
     }
     best
 }
@@ -149,6 +138,13 @@ fn chosen_among(s: Aic, asks: u32) -> u32
     let least = least_of(s);
     let waits = words::drop_bits(asks, fast_word(s));
     search(waits, &s.mode, least)
+}
+
+// The sources that are pending, enabled and not fast.
+pub fn waiting_word(s: Aic) -> u32
+    ensures { result ≡ word_of 32 (waiting s) }
+{
+    words::drop_bits(asking_word(s), fast_word(s))
 }
 
 // Whether some fast source is pending and enabled.

@@ -1,21 +1,16 @@
 -- The numbers of one source after a step, the word of the sources that wait, and what the entries of a record tell of a start.
 use Prim.Native.Nat.{ℕ, ◌+◌, ◌≤◌, ◌<◌}
-use mathlib.Core.Path.{◌≡◌, sym, ap₂, ◌∙◌}
+use mathlib.Core.Path.{◌≡◌, sym, ◌∙◌}
 use mathlib.Core.Bool.{Bool, true, false, not, ◌&&◌}
 use native.Mathlib.Omega.{arith}
+use native.Mathlib.Decide.{dec_lt}
 use lib.Dec.{ltb}
+use Rattle.std.specs.Prelude.{min}
 use borrow.Author.Tests.{le-leb, lt-leb, ne_eqb}
 use Rattle.words.specs.Choice.{pick}
 use Rattle.words.specs.Counting.{one}
-use Rattle.words.specs.Word.{word_of, either, both, without}
-use Rattle.words.proofs.WordLaws.{bit-word_of, word_of-same}
 use Rattle.aic_record.specs.declared.Aic.{Aic}
 use Rattle.aic_record.specs.Sound.{source_at}
-use Rattle.aic_sources.specs.Pending.{asking, pending_word}
-use Rattle.aic_sources.specs.Fast.{fast}
-use Rattle.aic_sources.specs.Normal.{waiting}
-use Rattle.aic_sources.proofs.PendingLaws.{fast-by}
-use Rattle.aic_sources.proofs.SideLaws.{asks-from}
 use Rattle.aic_waits.specs.Figures.{wait_next}
 use Rattle.aic_waits.specs.Following.{capped, started_from}
 
@@ -23,17 +18,19 @@ pub capped_is : (n : ℕ) → n ≤ 4294967295 → n ≡ capped n
 unfolding capped pick
 capped_is n l = rw (le-leb n 4294967295 l)
 
--- ---- one more
+-- ---- a sum that stays at the largest number of 32 bits
 
 pub capped-top : (n : ℕ) → n ≤ 4294967295 → 4294967295 ≤ n → n ≡ capped (n + 1)
 unfolding capped pick
 capped-top n l m = let h : n ≡ 4294967295 = omega arith in rw h
 
-pub more-some : (n : ℕ) (t : Bool) (r : ℕ) → t ≡ true → r ≡ capped (n + 1) → r ≡ capped (n + one t)
-more-some n t r e f = rw e f
-
-pub more-none : (n : ℕ) (t : Bool) → n ≤ 4294967295 → t ≡ false → n ≡ capped (n + one t)
-more-none n t l e = let h : n ≡ n + one t = rw e (omega arith) in rw (sym h) (capped_is n l)
+pub capped-min : (n r : ℕ) → r ≡ min n 4294967295 → r ≡ capped n
+unfolding capped pick
+capped-min n r e = go (dec_lt 4294967295 n)
+  where
+    go : Dec (4294967295 < n) → r ≡ capped n
+    go (yes l) = rw (lt-leb n 4294967295 l) (omega (arith, e))
+    go (no l) = omega (arith, e) ∙ capped_is n (omega arith)
 
 -- ---- how it stands with a source
 
@@ -52,14 +49,6 @@ wait-begun w waits own other e f z = rw (e, f, z)
 pub wait_on : (w : ℕ) (waits own other : Bool) (r : ℕ) → not waits ≡ false → own ≡ false → (w ≡ 0 → ⊥) → r ≡ capped (w + one (ltb 1 w && other)) → r ≡ capped (wait_next w waits own other)
 unfolding wait_next pick
 wait_on w waits own other r e f z g = rw (e, f, ne_eqb w 0 z) g
-
--- ---- words
-
-pub waits-from : (s : Aic) (p a f r : ℕ) → p ≡ pending_word s → a ≡ both p s.enabled → f ≡ either 1 s.forced → r ≡ without a f → r ≡ word_of 32 (waiting s)
-unfolding waiting without
-waits-from s p a f r e g h i =
-    i ∙ ap₂ without (asks-from s p a e g) (h ∙ fast-by s)
-    ∙ word_of-same 32 _ (waiting s) (λ k l. ap₂ (λ (x y : Bool). x && not y) (bit-word_of 32 (asking s) k l) (bit-word_of 32 (fast s) k l))
 
 -- ---- what the entries tell
 

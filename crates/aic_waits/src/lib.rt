@@ -2,16 +2,14 @@
 // Definitions and theorems; of code, how it stands with one source after a step by value. `aic_figures` follows all of them on the room.
 #![tactic(auto)]
 
-ghost use Rattle.std.specs.Prelude.{◌≡◌, ◌+◌, ◌<◌};
-ghost use Rattle.words.specs.Counting.{one};
-ghost use Rattle.words.specs.Word.{word_of};
-ghost use Rattle.aic_sources.specs.Normal.{waiting};
+ghost use Rattle.std.specs.Prelude.{◌≡◌, ◌<◌};
 ghost use Rattle.aic_waits.specs.Figures.{wait_next};
 ghost use Rattle.aic_waits.specs.Following.{capped, started_from, stands_by};
 
 use aic_record::Aic;
 
 // How it stands with source i after a step, by how it stood, from the record after it and how many entries were open before it.
+// A number and no enum: a wait is n + 2 in the promises, of n handlers started meanwhile.
 pub fn stands(w: u32, i: u32, before: u32, t: Aic) -> u32
     requires { i < 32 }
     ensures { result ≡ stands_by (started_from before t) t w i }
@@ -19,11 +17,12 @@ pub fn stands(w: u32, i: u32, before: u32, t: Aic) -> u32
     let by = started_from(before, t);
     let own = i == by;
     let other = (by < 32) & !own;
-    let waits = words::has(waiting_word(t), i);
+    let waits = words::has(aic_sources::waiting_word(t), i);
     wait_next(w, waits, own, other)
 }
 
 // The source whose handler was opened since `before` entries were open, 32 if none was.
+// A number and no Option: the contract of `stands` names it by `started_from`, which may be a number past 31 of a record that is not sound.
 fn started_from(before: u32, t: Aic) -> u32
     ensures { result ≡ started_from before t }
 {
@@ -35,14 +34,6 @@ fn started_from(before: u32, t: Aic) -> u32
         return 32;
     }
     k
-}
-
-// The sources that are pending, enabled and not fast.
-fn waiting_word(s: Aic) -> u32
-    ensures { result ≡ word_of 32 (waiting s) }
-{
-    let asks = words::meet(aic_sources::pending_word(s), s.enabled);
-    words::drop_bits(asks, words::join(1, s.forced))
 }
 
 // How it stands with a source after a step: whether it is pending, enabled and not fast then, and whether the step started it, or another.
@@ -58,23 +49,5 @@ fn wait_next(w: u32, waits: bool, own: bool, other: bool) -> u32
     if w == 0 {
         return 2;
     }
-    more_if(w, (1 < w) & other)
-}
-
-fn more_if(n: u32, t: bool) -> u32
-    ensures { result ≡ capped (n + one t) }
-{
-    if t {
-        return one_more(n);
-    }
-    n
-}
-
-fn one_more(n: u32) -> u32
-    ensures { result ≡ capped (n + 1) }
-{
-    if n < 4294967295 {
-        return n + 1;
-    }
-    n
+    w.saturating_add(words::one_if((1 < w) & other))
 }

@@ -29,7 +29,7 @@ pub fn start() -> Begun
     let aintc = aintc_record::reset_to([0; 4]);
     Begun {
         refusal: steps::CARRIED_OUT,
-        aintc: aintc,
+        aintc,
     }
 }
 

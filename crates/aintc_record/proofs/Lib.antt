@@ -1,4 +1,3 @@
 -- Laws and theorems about the AINTC's record.
 pub mod Promises
 pub mod RecordLaws
-pub mod TableLaws

@@ -3,10 +3,11 @@
 
 ghost use Rattle.std.specs.Prelude.{◌≡◌, get_or};
 ghost use Rattle.aintc_record.specs.Route.{priority_of};
-ghost use Rattle.aintc_record.specs.Record.{nobody, side, reset, blank};
+ghost use Rattle.aintc_record.specs.Record.{side, reset, blank};
 ghost use Rattle.aintc_record.specs.Bounds.{chosen_bounded, bounded};
 
-// The input that is chosen for an output, with the priority that it had then. While none is, both numbers are 0.
+// The input that is chosen for an output, with the priority that it had then. While none is, both numbers are 0:
+// a flag beside them and no `Option`, since the promises and the callers of other crates read all three.
 #[derive(Clone, Copy)]
 pub struct Chosen {
     pub active: bool,
@@ -33,34 +34,21 @@ pub struct Aintc {
 }
 
 // None is chosen.
-fn nobody() -> Chosen
-    ensures { result ≡ nobody }
-{
-    Chosen {
-        active: false,
-        number: 0,
-        priority: 0,
-    }
-}
+const NOBODY: Chosen = Chosen {
+    active: false,
+    number: 0,
+    priority: 0,
+};
 
 // What a reset leaves, with the lines at these levels.
 pub fn reset_to(lines: [u32; 4]) -> Aintc
     ensures { result ≡ reset lines }
 {
-    let none = nobody();
     Aintc {
-        lines: lines,
-        soft: [0; 4],
+        lines,
         masks: [0xFFFFFFFF; 4],
-        routes: [0; 128],
         threshold: 0xFF,
-        revision: 0,
-        guarded: false,
-        autoidle: false,
-        turbo: false,
-        funcidle: false,
-        irq: none,
-        fiq: none,
+        ..blank()
     }
 }
 
@@ -68,7 +56,6 @@ pub fn reset_to(lines: [u32; 4]) -> Aintc
 pub fn blank() -> Aintc
     ensures { result ≡ blank }
 {
-    let none = nobody();
     Aintc {
         lines: [0; 4],
         soft: [0; 4],
@@ -80,8 +67,8 @@ pub fn blank() -> Aintc
         autoidle: false,
         turbo: false,
         funcidle: false,
-        irq: none,
-        fiq: none,
+        irq: NOBODY,
+        fiq: NOBODY,
     }
 }
 
@@ -90,31 +77,19 @@ pub fn blank() -> Aintc
 pub fn line_word(s: Aintc, n: u32) -> u32
     ensures { result ≡ get_or s.lines n 0 }
 {
-    if 4 <= n {
-        return 0;
-    }
-    let at = n as usize;
-    s.lines[at]
+    s.lines.get(n as usize).copied().unwrap_or(0)
 }
 
 pub fn soft_word(s: Aintc, n: u32) -> u32
     ensures { result ≡ get_or s.soft n 0 }
 {
-    if 4 <= n {
-        return 0;
-    }
-    let at = n as usize;
-    s.soft[at]
+    s.soft.get(n as usize).copied().unwrap_or(0)
 }
 
 pub fn mask_word(s: Aintc, n: u32) -> u32
     ensures { result ≡ get_or s.masks n 0 }
 {
-    if 4 <= n {
-        return 0;
-    }
-    let at = n as usize;
-    s.masks[at]
+    s.masks.get(n as usize).copied().unwrap_or(0)
 }
 
 // The chosen one of the FIQ output, where `fast`, or of the IRQ output.

@@ -6,9 +6,11 @@ use mathlib.Core.List.{List}
 use mathlib.Core.Logic.{◌⊎◌, inl, inr, ⊎_elim}
 use native.Mathlib.Nat.{eq-or-lt_of_le}
 use native.Mathlib.Omega.{arith}
+use mir.Val.{bool_byte}
 use borrow.Author.Tests.{leb-true, leb-false, le-leb}
 use lib.Dec.{eqb, leb}
 use lib.ListN.{get_or}
+use Rattle.std.specs.Prelude.{Option, Some, None, unwrap_or, IfSome}
 use Rattle.words.specs.Choice.{pick}
 use Rattle.words.specs.Counting.{one, upto, lowest_below}
 use Rattle.words.specs.Word.{bit, with_bit}
@@ -90,13 +92,17 @@ module _ (x : Best) (waits h : Bool) (k route q p : ℕ) (ep : p ≡ priority_of
   test : (waits && h && leb p x.limit) ≡ (waits && eqb (route_of route) q && leb (priority_of route) x.limit)
   test = ap₂ (λ (b : Bool) (n : ℕ). waits && b && leb n x.limit) eh ep
 
-  pub turn-taken : (waits && h && leb p x.limit) ≡ true → record { number = k; limit = p } ≡ turned x waits k route q
+  pub turn-taken : (waits && h && leb p x.limit) ≡ true → record { number = Some k; limit = p } ≡ turned x waits k route q
   unfolding turned
-  turn-taken t = ap (λ (n : ℕ). record { number = k; limit = n }) ep ∙ pick_true x (sym test ∙ t)
+  turn-taken t = ap (λ (n : ℕ). record { number = Some k; limit = n }) ep ∙ pick_true x (sym test ∙ t)
 
   pub turn-left : (waits && h && leb p x.limit) ≡ false → x ≡ turned x waits k route q
   unfolding turned
   turn-left t = pick-false _ (sym test ∙ t)
+
+-- the number of the best so far, 128 where there is none
+abbrev pub number : Best → ℕ
+number x = unwrap_or x.number 128
 
 -- ---- what the search has found, of inputs whose waiting, priority number and first limit are these
 
@@ -105,16 +111,16 @@ module _ (waits : ℕ → Bool) (rank : ℕ → ℕ) (top : ℕ) where
   may j = waits j && leb (rank j) top
 
   pub record Nobody (n : ℕ) (x : Best) : Type 0 where
-    pub none : x.number ≡ 128
+    pub none : x.number ≡ None
     pub limit : x.limit ≡ top
     pub each : (j : ℕ) → j < n → may j ≡ false
 
   -- of 128 inputs a lower priority number counts for more than any input number
   pub record Leader (n : ℕ) (x : Best) : Type 0 where
-    pub within : x.number < n
-    pub limit : x.limit ≡ rank x.number
-    pub fit : may x.number ≡ true
-    pub each : (j : ℕ) → j < n → may j ≡ true → rank x.number * 128 + j ≤ rank j * 128 + x.number
+    pub within : number x < n
+    pub limit : x.limit ≡ rank (number x)
+    pub fit : may (number x) ≡ true
+    pub each : (j : ℕ) → j < n → may j ≡ true → rank (number x) * 128 + j ≤ rank j * 128 + number x
 
   abbrev pub Found : ℕ → Best → Type 0
   Found n x = Nobody n x ⊎ Leader n x
@@ -124,14 +130,14 @@ module _ (waits : ℕ → Bool) (rank : ℕ → ℕ) (top : ℕ) where
 
   limit-top : (n : ℕ) (x : Best) → Found n x → x.limit ≤ top
   limit-top n x (inl y) = omega (arith, y.limit)
-  limit-top n x (inr y) = omega (arith, y.limit, may-top x.number y.fit)
+  limit-top n x (inr y) = omega (arith, y.limit, may-top (number x) y.fit)
 
   limit-each : (n : ℕ) (x : Best) → n ≤ 128 → Found n x → (j : ℕ) → j < n → may j ≡ true → x.limit ≤ rank j
   limit-each n x b (inl y) j l e = clash e (y.each j l)
   limit-each n x b (inr y) j l e = omega (arith, y.limit, y.within, y.each j l e)
 
   -- the next input is taken
-  taken : (n : ℕ) (x : Best) → n < 128 → Found n x → waits n ≡ true → rank n ≤ x.limit → Found (suc n) (record { number = n; limit = rank n })
+  taken : (n : ℕ) (x : Best) → n < 128 → Found n x → waits n ≡ true → rank n ≤ x.limit → Found (suc n) (record { number = Some n; limit = rank n })
   taken n x b found w l =
       inr (record { within = omega arith; limit = refl; fit = and_both w (le-leb (rank n) top (omega (arith, limit-top n x found))); each = others })
     where
@@ -151,7 +157,7 @@ module _ (waits : ℕ → Bool) (rank : ℕ → ℕ) (top : ℕ) where
           (upto_last j n q)
   passed n x b (inr y) h = inr (record { within = omega (arith, y.within); limit = y.limit; fit = y.fit; each = others })
     where
-      others : (j : ℕ) → j < suc n → may j ≡ true → rank x.number * 128 + j ≤ rank j * 128 + x.number
+      others : (j : ℕ) → j < suc n → may j ≡ true → rank (number x) * 128 + j ≤ rank j * 128 + number x
       others j q m =
           ⊎_elim
           (λ (p : j ≡ n). omega (arith, ap rank p, h (and_left (waits n) _ (ap may (sym p) ∙ m)), y.limit))
@@ -159,7 +165,7 @@ module _ (waits : ℕ → Bool) (rank : ℕ → ℕ) (top : ℕ) where
           (upto_last j n q)
 
   -- a turn
-  turn_found : (n : ℕ) (x : Best) → n < 128 → Found n x → Found (suc n) (pick (waits n && leb (rank n) x.limit) (record { number = n; limit = rank n }) x)
+  turn_found : (n : ℕ) (x : Best) → n < 128 → Found n x → Found (suc n) (pick (waits n && leb (rank n) x.limit) (record { number = Some n; limit = rank n }) x)
   turn_found n x b found =
       pick_cases (Found (suc n)) (waits n && leb (rank n) x.limit)
       (λ t. taken n x b found (and_left (waits n) _ t) (leb-true (rank n) x.limit (and_right (waits n) _ t)))
@@ -177,7 +183,7 @@ module _ (s : Aintc) (f : Bool) (inputs : ℕ → Bool) where
   -- one turn, as the code has it
   turn_is : (w n i : ℕ) (x : Best) → bit w i ≡ inputs (32 * n + i)
       → turned x (bit w i) (32 * n + i) (get_or s.routes (32 * n + i) 0) (one f)
-      ≡ pick (waiting (32 * n + i) && leb (priority s (32 * n + i)) x.limit) (record { number = 32 * n + i; limit = priority s (32 * n + i) }) x
+      ≡ pick (waiting (32 * n + i) && leb (priority s (32 * n + i)) x.limit) (record { number = Some (32 * n + i); limit = priority s (32 * n + i) }) x
   unfolding turned priority routed
   turn_is w n i x e = rw e
 
@@ -203,15 +209,15 @@ module _ (s : Aintc) (f : Bool) (inputs : ℕ → Bool) where
     none-by : Nobody waiting (priority s) top 128 x → NoneEligible s f
     none-by y k l = sym (only k l) ∙ y.each k l
 
-    first_by : Leader waiting (priority s) top 128 x → First s f x.number
+    first_by : Leader waiting (priority s) top 128 x → First s f (number x)
     first_by y =
         record {
           within = y.within;
-          fit = sym (only x.number y.within) ∙ y.fit;
-          others = λ j l c d. lt-before s x.number j y.within (omega (arith, y.each j l (only j l ∙ c)));
+          fit = sym (only (number x) y.within) ∙ y.fit;
+          others = λ j l c d. lt-before s (number x) j y.within (omega (arith, y.each j l (only j l ∙ c)));
         }
 
-    pub found_cases : Found waiting (priority s) top 128 x → (NoneEligible s f × (x.number ≡ 128)) ⊎ (First s f x.number × (x.limit ≡ priority s x.number))
+    pub found_cases : Found waiting (priority s) top 128 x → (NoneEligible s f × (x.number ≡ None)) ⊎ (First s f (number x) × (x.limit ≡ priority s (number x)))
     found_cases = ⊎_elim (λ (y : Nobody waiting (priority s) top 128 x). inl (none-by y, y.none)) (λ (y : Leader waiting (priority s) top 128 x). inr (first_by y, y.limit))
 
 -- ---- the search through all of them
@@ -226,11 +232,11 @@ module _ (s : Aintc) (f : Bool) where
   open-bit n i l = bit-word_of 32 (λ j. unmasked s (32 * n + j)) i l
 
   words_found : (n : ℕ) → n ≤ 4
-      → Found (waiting s f (unmasked s)) (priority s) (s.threshold - 1) (32 * n) (upto (λ x m. word_searched (open_word s m) (32 * m) s.routes (one f) x) (record { number = 128; limit = s.threshold - 1 }) n)
+      → Found (waiting s f (unmasked s)) (priority s) (s.threshold - 1) (32 * n) (upto (λ x m. word_searched (open_word s m) (32 * m) s.routes (one f) x) (record { number = None; limit = s.threshold - 1 }) n)
   unfolding upto
   words_found zero l = inl (record { none = refl; limit = refl; each = λ j l. absurd (omega arith) })
   words_found (suc n) l =
-      let y = upto (λ x m. word_searched (open_word s m) (32 * m) s.routes (one f) x) (record { number = 128; limit = s.threshold - 1 }) n in
+      let y = upto (λ x m. word_searched (open_word s m) (32 * m) s.routes (one f) x) (record { number = None; limit = s.threshold - 1 }) n in
       let e : 32 * n + 32 ≡ 32 * suc n = omega arith in
       subst (λ (m : ℕ). Found (waiting s f (unmasked s)) (priority s) (s.threshold - 1) m (word_searched (open_word s n) (32 * n) s.routes (one f) y)) e
       (word_found s f (unmasked s) (open_word s n) n y (omega arith) (open-bit n) (words_found n (omega arith)))
@@ -239,29 +245,40 @@ module _ (s : Aintc) (f : Bool) where
   unfolding searched
   searched_found = words_found 4 (omega arith)
 
-  pub search_cases : (NoneEligible s f × ((searched s f).number ≡ 128)) ⊎ (First s f (searched s f).number × ((searched s f).limit ≡ priority s (searched s f).number))
+  pub search_cases : (NoneEligible s f × ((searched s f).number ≡ None)) ⊎ (First s f (number (searched s f)) × ((searched s f).limit ≡ priority s (number (searched s f))))
   search_cases = found_cases s f (unmasked s) may-is (searched s f) searched_found
 
-  pub searched-first : (searched s f).number ≡ first s f
+  pub searched-first : number (searched s f) ≡ first s f
   searched-first = go search_cases
     where
-      go : (NoneEligible s f × ((searched s f).number ≡ 128)) ⊎ (First s f (searched s f).number × ((searched s f).limit ≡ priority s (searched s f).number))
-          → (searched s f).number ≡ first s f
-      go (inl (h, e)) = e ∙ sym (first-none s f h)
-      go (inr (x, e)) = sym (first_one s f (searched s f).number x)
+      go : (NoneEligible s f × ((searched s f).number ≡ None)) ⊎ (First s f (number (searched s f)) × ((searched s f).limit ≡ priority s (number (searched s f))))
+          → number (searched s f) ≡ first s f
+      go (inl (h, e)) = ap (λ (o : Option ℕ). unwrap_or o 128) e ∙ sym (first-none s f h)
+      go (inr (x, e)) = sym (first_one s f (number (searched s f)) x)
 
   -- so there is a first one, or none is eligible
   pub first_cases : (NoneEligible s f × (first s f ≡ 128)) ⊎ First s f (first s f)
   first_cases = go search_cases
     where
-      go : (NoneEligible s f × ((searched s f).number ≡ 128)) ⊎ (First s f (searched s f).number × ((searched s f).limit ≡ priority s (searched s f).number))
+      go : (NoneEligible s f × ((searched s f).number ≡ None)) ⊎ (First s f (number (searched s f)) × ((searched s f).limit ≡ priority s (number (searched s f))))
           → (NoneEligible s f × (first s f ≡ 128)) ⊎ First s f (first s f)
       go (inl (h, e)) = inl (h, first-none s f h)
       go (inr (x, e)) = inr (subst (First s f) searched-first x)
 
-  -- the four words, as the code goes through them
-  pub search-from : (q t a b c d : ℕ) (x y z r : Best) → q ≡ one f → t ≡ s.threshold - 1 → a ≡ open_word s 0 → x ≡ word_searched a 0 s.routes q (record { number = 128; limit = t })
-      → b ≡ open_word s 1 → y ≡ word_searched b 32 s.routes q x → c ≡ open_word s 2 → z ≡ word_searched c 64 s.routes q y → d ≡ open_word s 3
-      → r ≡ word_searched d 96 s.routes q z → r ≡ searched s f
-  unfolding searched upto
-  search-from q t a b c d x y z r eq et ea ex eb ey ec ez ed er = rw (er, ed, ez, ec, ey, eb, ex, ea, et, eq) refl
+  -- a number that is found is one of an input
+  pub searched-within : IfSome (searched s f).number (λ k. k < 128)
+  searched-within = go search_cases
+    where
+      below : (o : Option ℕ) → unwrap_or o 128 < 128 → IfSome o (λ k. k < 128)
+      below None l = tt
+      below (Some k) l = l
+
+      go : (NoneEligible s f × ((searched s f).number ≡ None)) ⊎ (First s f (number (searched s f)) × ((searched s f).limit ≡ priority s (number (searched s f))))
+          → IfSome (searched s f).number (λ k. k < 128)
+      go (inl (h, e)) = rw e tt
+      go (inr (x, e)) = below (searched s f).number x.within
+
+-- the bit of a route that asks for an output
+pub byte-one : (f : Bool) → bool_byte f ≡ one f
+byte-one true = refl
+byte-one false = refl

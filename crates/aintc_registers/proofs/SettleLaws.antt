@@ -4,8 +4,8 @@ use mathlib.Core.Path.{◌≡◌, refl, sym, ap, ap₂, ◌∙◌}
 use mathlib.Core.Bool.{Bool, true, false, not, ◌&&◌, ◌||◌}
 use mathlib.Core.Logic.{◌⊎◌, inl, inr, ⊎_elim}
 use native.Mathlib.Omega.{arith}
-use lib.Dec.{eqb}
-use borrow.Author.Tests.{not-true, eq-eqb, ne_eqb}
+use borrow.Author.Tests.{not-true}
+use Rattle.std.specs.Prelude.{Option, Some, None, unwrap_or, IfSome, is_none as is_nothing}
 use Rattle.words.specs.Choice.{pick}
 use Rattle.words.proofs.ChoiceLaws.{pick_true, pick-false, pick_cases}
 use Rattle.words.proofs.TruthLaws.{and_left, and_right, and_both, or-either, or_left, or_right, clash, told}
@@ -23,6 +23,10 @@ use Rattle.aintc_registers.specs.Promises.{SomeEligible, NoneEligible, First}
 use Rattle.aintc_registers.specs.Settle.{settled_side, settle, side_quiet, sound}
 use Rattle.aintc_registers.proofs.OrderLaws.{first-none}
 use Rattle.aintc_registers.proofs.SearchLaws.{first_cases}
+
+pub twice_not : (t : Bool) → t ≡ not (not t)
+twice_not true = refl
+twice_not false = refl
 
 -- ---- some input is eligible
 
@@ -79,13 +83,15 @@ module _ (s : Aintc) (f : Bool) where
 
   -- as the code has it: c is the one that is chosen
   module _ (c : Chosen) (ec : c ≡ side s f) where
-    pub quiet-from : (n : ℕ) → n ≡ first s f → c.active ≡ false → eqb n 128 ≡ side_quiet s f
+    pub quiet-from : (o : Option ℕ) → unwrap_or o 128 ≡ first s f → IfSome o (λ k. k < 128) → c.active ≡ false → is_nothing o ≡ side_quiet s f
     unfolding side_quiet
-    quiet-from n en e = rw (en, ap (λ (d : Chosen). d.active) (sym ec) ∙ e) (go (told (some s f)))
+    quiet-from o eo l e = rw (ap (λ (d : Chosen). d.active) (sym ec) ∙ e) (go o eo l (told (some s f)))
       where
-        go : (some s f ≡ true) ⊎ (some s f ≡ false) → eqb (first s f) 128 ≡ not (some s f)
-        go (inl h) = rw h (ne_eqb (first s f) 128 (omega (arith, (first-is h).within)))
-        go (inr h) = rw h (eq-eqb (first s f) 128 (first-none s f (none_is h)))
+        go : (o : Option ℕ) → unwrap_or o 128 ≡ first s f → IfSome o (λ k. k < 128) → (some s f ≡ true) ⊎ (some s f ≡ false) → is_nothing o ≡ not (some s f)
+        go None eo l (inl h) = absurd (omega (arith, eo, (first-is h).within))
+        go (Some k) eo l (inl h) = rw h
+        go None eo l (inr h) = rw h
+        go (Some k) eo l (inr h) = absurd (omega (arith, eo, l, first-none s f (none_is h)))
 
     pub quiet-held : c.active ≡ true → true ≡ side_quiet s f
     unfolding side_quiet

@@ -1,5 +1,5 @@
 -- What the search for the first works on: the routes, four words of 32 inputs, the best so far and the lowest priority that may take its place.
-use Rattle.std.specs.Prelude.{ℕ, ◌+◌, ◌-◌, ◌*◌, Bool, ◌&&◌, List, eqb, leb, get_or}
+use Rattle.std.specs.Prelude.{ℕ, ◌+◌, ◌-◌, ◌*◌, Bool, ◌&&◌, List, eqb, leb, get_or, Some, None}
 use Rattle.words.specs.Choice.{pick}
 use Rattle.words.specs.Counting.{one, upto}
 use Rattle.words.specs.Word.{bit, word_of}
@@ -15,7 +15,7 @@ route_word routes base side = word_of 32 (λ i. eqb (route_of (get_or routes (ba
 -- input k is taken if it waits, asks for this side, and its priority number is at most the limit
 unfoldable pub turned : Best → Bool → ℕ → ℕ → ℕ → Best
 turned x waits k route side =
-    pick (waits && eqb (route_of route) side && leb (priority_of route) x.limit) (record { number = k; limit = priority_of route }) x
+    pick (waits && eqb (route_of route) side && leb (priority_of route) x.limit) (record { number = Some k; limit = priority_of route }) x
 
 -- 32 turns from input `base` on, of which the word w waits
 unfoldable pub word_searched : ℕ → ℕ → List ℕ → ℕ → Best → Best
@@ -24,4 +24,4 @@ word_searched w base routes side x = upto (λ y i. turned y (bit w i) (base + i)
 -- four words; at first there is none, and the limit is the lowest priority that passes
 unfoldable pub searched : Aintc → Bool → Best
 searched s f =
-    upto (λ x n. word_searched (open_word s n) (32 * n) s.routes (one f) x) (record { number = 128; limit = s.threshold - 1 }) 4
+    upto (λ x n. word_searched (open_word s n) (32 * n) s.routes (one f) x) (record { number = None; limit = s.threshold - 1 }) 4

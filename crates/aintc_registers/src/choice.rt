@@ -1,7 +1,6 @@
 // The AINTC's inputs: which one is before all others, and whether a record is sound. What is pending, and what an output takes, is defined here; the
 // code of that stands in aintc_room.
-ghost use Rattle.std.specs.Prelude.{◌≡◌, ◌-◌, ◌%◌, ◌≤◌, ◌<◌, eqb};
-ghost use Rattle.words.specs.Counting.{one};
+ghost use Rattle.std.specs.Prelude.{◌≡◌, true, ◌%◌, ◌≤◌, ◌<◌, eqb, unwrap_or, IfSome};
 ghost use Rattle.words.specs.Word.{bit};
 ghost use Rattle.aintc_registers.specs.Inputs.{open_word};
 ghost use Rattle.aintc_registers.specs.Order.{first};
@@ -20,56 +19,44 @@ fn open_word(s: Aintc, n: u32) -> u32
     words::drop_bits(raised, aintc_record::mask_word(s, n))
 }
 
-// The bit of a route that asks for an output: 1 for FIQ, 0 for IRQ.
-fn side_number(fast: bool) -> u8
-    ensures { result ≡ one fast }
-{
-    if fast {
-        return 1;
-    }
-    0
-}
-
-// Whether a route asks for the output `side`.
+// Whether a route asks for the output `side`, told by the bit of a route: 1 for FIQ, 0 for IRQ.
 fn is_routed(route: u8, side: u8) -> bool
     ensures { result ≡ eqb (route % 2) side }
 {
     route % 2 == side
 }
 
-// The inputs from `base` on whose output is `side`, 32 of them as a word.
+// The inputs from `base` on whose output is `side`, 32 of them as a word. A loop over the numbers 0 to 31, since each is a bit's number too.
 pub fn route_word(routes: &[u8; 128], base: u32, side: u8) -> u32
     requires { base ≤ 96 }
     ensures { result ≡ route_word routes.now base side }
 {
     let mut w: u32 = 0;
-    let mut i: u32 = 0;
-    while i < 32 {
+    for i in 0..32 {
         let at = (base + i) as usize;
         w = words::with_bit(w, i, is_routed(routes[at], side));
-        i = i + 1;
     }
     w
 }
 
 // ---- the one before all others
 
-// What a search has come to: the best input so far, 128 if there is none, and the lowest priority that may take its place.
+// What a search has come to: the best input so far, and the lowest priority that may take its place.
 #[derive(Clone, Copy)]
 pub struct Best {
-    pub number: u32,
+    pub number: Option<u32>,
     pub limit: u8,
 }
 
-// A turn of the search: input k is taken if it waits, asks for this side, and its priority is no lower than the limit. So an equal
+// A turn of the search: input k, which waits, is taken if it asks for this side, and its priority is no lower than the limit. So an equal
 // priority of a higher number takes the place of a lower one.
-fn turn(x: Best, waits: bool, k: u32, route: u8, side: u8) -> Best
-    ensures { result ≡ turned x waits k route side }
+fn turn(x: Best, k: u32, route: u8, side: u8) -> Best
+    ensures { result ≡ turned x true k route side }
 {
     let priority = aintc_record::priority_of(route);
-    if waits & is_routed(route, side) & (priority <= x.limit) {
+    if is_routed(route, side) & (priority <= x.limit) {
         return Best {
-            number: k,
+            number: Some(k),
             limit: priority,
         };
     }
@@ -87,43 +74,33 @@ fn search_word(w: u32, base: u32, routes: &[u8; 128], side: u8, x: Best) -> Best
         let i = words::lowest(left);
         let k = base + i;
         let at = k as usize;
-        best = turn(best, true, k, routes[at], side);
+        best = turn(best, k, routes[at], side);
         left = words::with_bit(left, i, false);
     }
     best
 }
 
-// The lowest priority that the threshold lets pass: 0 always does.
-fn limit_of(threshold: u8) -> u8
-    ensures { result ≡ threshold - 1 }
-{
-    if threshold == 0 {
-        return 0;
-    }
-    threshold - 1
-}
-
-// The search through all 128 inputs.
+// The search through all 128 inputs. The lowest priority that the threshold lets pass is one less than it, but 0 always does.
 fn search(s: Aintc, fast: bool) -> Best
     ensures { result ≡ searched s fast }
 {
-    let side = side_number(fast);
-    let none = Best {
-        number: 128,
-        limit: limit_of(s.threshold),
+    let side = u8::from(fast);
+    let mut best = Best {
+        number: None,
+        limit: s.threshold.saturating_sub(1),
     };
-    let a = search_word(open_word(s, 0), 0, &s.routes, side, none);
-    let b = search_word(open_word(s, 1), 32, &s.routes, side, a);
-    let c = search_word(open_word(s, 2), 64, &s.routes, side, b);
-    search_word(open_word(s, 3), 96, &s.routes, side, c)
+    for n in 0..4 {
+        best = search_word(open_word(s, n), 32 * n, &s.routes, side, best);
+    }
+    best
 }
 
-// The eligible input that is before all others, 128 if there is none.
-fn first_of(s: Aintc, fast: bool) -> u32
-    ensures { result ≡ first s fast }
+// The eligible input that is before all others.
+fn first_of(s: Aintc, fast: bool) -> Option<u32>
+    ensures first { unwrap_or result 128 ≡ first s fast }
+    ensures within { IfSome result (λ k. k < 128) }
 {
-    let best = search(s, fast);
-    best.number
+    search(s, fast).number
 }
 
 // ---- the rules of a sound record
@@ -136,7 +113,7 @@ fn side_quiet(s: Aintc, fast: bool) -> bool
     if chosen.active {
         return true;
     }
-    first_of(s, fast) == 128
+    first_of(s, fast).is_none()
 }
 
 // Whether the record breaks no rule.

@@ -11,7 +11,8 @@ pub mod model;
 
 use aintc_record::Aintc;
 
-// What a step answers: its refusal, the value read, and the record after it.
+// What a step answers: its refusal, the value read, and the record after it. The refusal is a number beside the two others, since the promises speak
+// of all three, of a refused step too.
 #[derive(Clone, Copy)]
 pub struct Answer {
     pub refusal: u32,

@@ -49,7 +49,8 @@ pub const ILR: u32 = 0x100;
 // No register from here on.
 const PAST: u32 = 0x300;
 
-// The row of the table that an offset is in, told by the first offset of the row.
+// The row of the table that an offset is in, told by the first offset of the row: the constants above name the rows for the definitions and for
+// aintc_room too.
 pub fn row_of(offset: u32) -> u32
     ensures { result ≡ row_of offset }
 {

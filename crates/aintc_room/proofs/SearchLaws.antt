@@ -1,6 +1,6 @@
 -- The first of some inputs by the bits of their priorities: those are kept whose next bit is 0, if there are any.
 use Prim.Native.Nat.{ℕ, zero, suc, ◌+◌, ◌-◌, ◌*◌, ◌/◌, ◌%◌, ◌^◌, ◌≤◌, ◌<◌}
-use mathlib.Core.Path.{◌≡◌, refl, sym, ap, ap₂, ◌∙◌, subst}
+use mathlib.Core.Path.{◌≡◌, refl, sym, ap, ap₂, ◌∙◌}
 use mathlib.Core.Bool.{Bool, true, false, not, ◌&&◌, ◌||◌}
 use mathlib.Core.List.{List, [], ◌∷◌}
 use mathlib.Core.Logic.{◌≢◌, ◌⊎◌, inl, inr}
@@ -14,10 +14,8 @@ use lib.Dec.{eqb}
 use lib.ListN.{get_or}
 use lib.Pow.{pow_pos, shr-shr}
 use Rattle.words.specs.Array.{bit_at}
-use Rattle.words.specs.Choice.{pick}
 use Rattle.words.specs.Counting.{one, any_below}
 use Rattle.words.specs.Word.{bit, word_of, either, both, without}
-use Rattle.words.proofs.ChoiceLaws.{pick_true, pick-false}
 use Rattle.words.proofs.CountingLaws.{any_some, some_any, any_fails, any_none}
 use Rattle.words.proofs.TruthLaws.{and_left, and_right, and_both, or_left, or_right, or_neither, clash, told}
 use Rattle.words.proofs.WordLaws.{bit_mod, bit-word_of, word_of-same, bit-and, bit_not, bit-either, bit_past, bit-none, either_lt, some-bit}
@@ -185,6 +183,17 @@ halves-held a b c d x y ex ey k l = go (dec_lt k 64)
 
 pub dropped : (a b : ℕ) → a < 2 ^ 64 → b < 2 ^ 64 → (i : ℕ) → i < 64 → bit (bit_and a (2 ^ 64 - 1 - b)) i ≡ (bit a i && not (bit b i))
 dropped a b la lb i l = bit-and a (2 ^ 64 - 1 - b) i ∙ ap (λ (t : Bool). bit a i && t) (bit_not 64 b i lb l)
+
+-- those of two halves that are none of two others
+pub halves-dropped : (a b c d : ℕ) → a < 2 ^ 64 → b < 2 ^ 64 → c < 2 ^ 64 → d < 2 ^ 64 → (k : ℕ) → k < 128
+    → halves (bit_and a (2 ^ 64 - 1 - c)) (bit_and b (2 ^ 64 - 1 - d)) k ≡ (halves a b k && not (halves c d k))
+halves-dropped a b c d la lb lc ld k l = at (k / 64) (omega (arith, l))
+  where
+    at : (n : ℕ) → n < 2
+        → bit (half_at (bit_and a (2 ^ 64 - 1 - c)) (bit_and b (2 ^ 64 - 1 - d)) n) (k % 64) ≡ (bit (half_at a b n) (k % 64) && not (bit (half_at c d n) (k % 64)))
+    at zero m = dropped a c la lc (k % 64) (omega arith)
+    at (suc zero) m = dropped b d lb ld (k % 64) (omega arith)
+    at (suc (suc n)) m = absurd (omega (arith, m))
 
 -- none is held where both are 0, and one where one is not
 none-halves : (x y : ℕ) → x ≡ 0 → y ≡ 0 → (k : ℕ) → k < 128 → halves x y k ≡ false
@@ -354,38 +363,22 @@ first_least s p q k h t =
 -- ---- a turn of the search
 
 module _ {s : Aintc} {room : List ℕ} (h : Laid s room) (k : ℕ) (l : k < 7) (low high u v x y : ℕ)
-    (eu : (i : ℕ) → i < 64 → bit u i ≡ bit_at (get_or room (32 + (4 * k + 0)) 0 ∷ get_or room (32 + (4 * k + 1)) 0 ∷ []) i)
-    (ev : (i : ℕ) → i < 64 → bit v i ≡ bit_at (get_or room (32 + (4 * k + 2)) 0 ∷ get_or room (32 + (4 * k + 3)) 0 ∷ []) i)
-    (ex : (i : ℕ) → i < 64 → bit x i ≡ (bit low i && not (bit u i))) (ey : (i : ℕ) → i < 64 → bit y i ≡ (bit high i && not (bit v i))) where
-  by_half : (n : ℕ) → n < 2 → (j : ℕ) → j < 64 → bit (half_at x y n) j ≡ (bit (half_at low high n) j && not (bit (half_at u v n) j))
-  by_half zero m j r = ex j r
-  by_half (suc zero) m j r = ey j r
-  by_half (suc (suc n)) m j r = absurd (omega (arith, m))
-
+    (eu : (i : ℕ) → i < 128 → halves u v i ≡ held (get_or room (32 + 4 * k) 0) (get_or room (32 + 4 * k + 1) 0) (get_or room (32 + 4 * k + 2) 0) (get_or room (32 + 4 * k + 3) 0) i)
+    (ex : (i : ℕ) → i < 128 → halves x y i ≡ (halves low high i && not (halves u v i))) where
   -- those of which bit k of the priority is 0
   narrowed : (i : ℕ) → i < 128 → halves x y i ≡ (halves low high i && not (bit (priority s i) k))
   narrowed i m =
       let e : 32 * (i / 32) + i % 32 ≡ i = omega arith in
-      by_half (i / 64) (omega (arith, m)) (i % 64) (omega arith)
+      let at : (a b : ℕ) → a ≡ b → get_or room a 0 ≡ get_or room b 0 = λ a b q. ap (λ (n : ℕ). get_or room n 0) q in
+      ex i m
       ∙ ap (λ (t : Bool). halves low high i && not t)
-      (halves-held _ _ _ _ u v eu ev i m ∙ held-is _ _ _ _ (λ n. get_or room (32 + (4 * k + n)) 0) refl refl refl refl i m
+      (eu i m ∙ held-is _ _ _ _ (λ n. get_or room (32 + (4 * k + n)) 0) (at _ _ (omega arith)) (at _ _ (omega arith)) (at _ _ (omega arith)) (at _ _ (omega arith)) i m
       ∙ priority-bit s room h k (i / 32) (i % 32) l (omega (arith, m)) (omega arith) ∙ ap (λ (n : ℕ). bit (priority s n) k) e)
 
-  module _ (p : ℕ → Bool) (g : Least s p (halves low high) (suc k)) (w : Bool) (ew : w ≡ any_below 128 (halves x y)) (low' high' : ℕ)
-      (el : low' ≡ pick w x low) (eh : high' ≡ pick w y high) where
-    abbrev Now : ℕ → ℕ → Type 0
-    Now a b = Least s p (halves a b) k
+  module _ (p : ℕ → Bool) (g : Least s p (halves low high) (suc k)) where
+    -- they are the next ones where there are any
+    pub turned-some : true ≡ any_below 128 (halves x y) → Least s p (halves x y) k
+    turned-some e = least-some s p (halves low high) (halves x y) k g narrowed (any_some 128 (halves x y) (sym e))
 
-    same : (a b : ℕ) → low' ≡ a → high' ≡ b → Now a b → Now low' high'
-    same a b e f n = subst (λ (z : ℕ). Now z high') (sym e) (subst (λ (z : ℕ). Now a z) (sym f) n)
-
-    pub turned : Now low' high'
-    turned = go (told w)
-      where
-        go : (w ≡ true) ⊎ (w ≡ false) → Now low' high'
-        go (inl t) =
-            same x y (el ∙ sym (pick_true low t)) (eh ∙ sym (pick_true high t))
-            (least-some s p (halves low high) (halves x y) k g narrowed (any_some 128 (halves x y) (sym ew ∙ t)))
-        go (inr t) =
-            same low high (el ∙ sym (pick-false x t)) (eh ∙ sym (pick-false y t))
-            (least-none s p (halves low high) (halves x y) k g narrowed (any_fails 128 (halves x y) (sym ew ∙ t)))
+    pub turned-none : false ≡ any_below 128 (halves x y) → Least s p (halves low high) k
+    turned-none e = least-none s p (halves low high) (halves x y) k g narrowed (any_fails 128 (halves x y) (sym e))

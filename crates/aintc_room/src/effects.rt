@@ -43,10 +43,8 @@ fn fill(room: &mut Room, at: usize, n: usize, w: u32)
     requires { at + n ≤ 2048 }
     ensures { room.new ≡ stored at (λ _. w) room.old n }
 {
-    let mut k: usize = 0;
-    while k < n {
+    for k in 0..n {
         room[at + k] = w;
-        k = k + 1;
     }
 }
 

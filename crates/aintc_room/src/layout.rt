@@ -51,7 +51,7 @@ pub const BITS: usize = 32;
 
 pub const ROUTES: usize = 128;
 
-// ---- a record into a room
+// ---- a record into a room; the loops here and below go over numbers, since each is one of a place in the room and of one in a table
 
 fn wide(x: u8) -> u32
     ensures { (result ≡ x) × (x < 256) }
@@ -64,10 +64,8 @@ fn lay_four<'a>(room: &'a mut Room, at: usize, words: &'a [u32; 4])
     requires { at ≤ 100 }
     ensures { room.new ≡ stored at (λ k. get_or words.now k 0) room.old 4 }
 {
-    let mut k: usize = 0;
-    while k < 4 {
+    for k in 0..4 {
         room[at + k] = words[k];
-        k = k + 1;
     }
 }
 
@@ -75,11 +73,9 @@ fn lay_four<'a>(room: &'a mut Room, at: usize, words: &'a [u32; 4])
 fn lay_routes<'a>(room: &'a mut Room, routes: &'a [u8; 128])
     ensures { (room.new ≡ stored 128 (λ k. get_or routes.now k 0) room.old 128) × ((k : ℕ) → k < 128 → get_or routes.now k 0 < 256) }
 {
-    let mut k: usize = 0;
-    while k < 128 {
+    for k in 0..128 {
         let w = wide(routes[k]);
         room[ROUTES + k] = w;
-        k = k + 1;
     }
 }
 
@@ -87,11 +83,9 @@ fn lay_routes<'a>(room: &'a mut Room, routes: &'a [u8; 128])
 fn lay_fiqs<'a>(room: &'a mut Room, routes: &'a [u8; 128])
     ensures { room.new ≡ stored 28 (fiq_word routes.now) room.old 4 }
 {
-    let mut n: u32 = 0;
-    while n < 4 {
+    for n in 0..4 {
         let w = aintc_registers::choice::route_word(routes, 32 * n, 1);
         room[FIQS + n as usize] = w;
-        n = n + 1;
     }
 }
 
@@ -101,12 +95,10 @@ fn priority_word(routes: &[u8; 128], n: u32, b: u32) -> u32
     ensures { result ≡ priority_word routes.now n b }
 {
     let mut w: u32 = 0;
-    let mut i: u32 = 0;
-    while i < 32 {
+    for i in 0..32 {
         let at = (32 * n + i) as usize;
         let p = aintc_record::priority_of(routes[at]);
         w = words::with_bit(w, i, words::has(p as u32, b));
-        i = i + 1;
     }
     w
 }
@@ -115,11 +107,9 @@ fn priority_word(routes: &[u8; 128], n: u32, b: u32) -> u32
 fn lay_bits<'a>(room: &'a mut Room, routes: &'a [u8; 128])
     ensures { room.new ≡ stored 32 (bits_word routes.now) room.old 28 }
 {
-    let mut j: u32 = 0;
-    while j < 28 {
+    for j in 0..28 {
         let w = priority_word(routes, j % 4, j / 4);
         room[BITS + j as usize] = w;
-        j = j + 1;
     }
 }
 
@@ -184,10 +174,8 @@ fn four_in(room: &Room, at: usize) -> [u32; 4]
     ensures { (length result ≡ 4) × ((k : ℕ) → k < 4 → get_or result k 0 ≡ get_or room.now (at + k) 0) }
 {
     let mut out: [u32; 4] = [0; 4];
-    let mut k: usize = 0;
-    while k < 4 {
+    for k in 0..4 {
         out[k] = room[at + k];
-        k = k + 1;
     }
     out
 }
@@ -197,11 +185,9 @@ fn routes_in(room: &Room) -> [u8; 128]
     ensures { (length result ≡ 128) × ((k : ℕ) → k < 128 → get_or result k 0 ≡ get_or room.now (128 + k) 0 % 256) }
 {
     let mut out: [u8; 128] = [0; 128];
-    let mut k: usize = 0;
-    while k < 128 {
+    for k in 0..128 {
         let b = byte(room[ROUTES + k]);
         out[k] = b;
-        k = k + 1;
     }
     out
 }
@@ -255,12 +241,10 @@ fn put_bits(room: &mut Room, n: u32, i: u32, p: u32)
     requires { n < 4 }
     ensures { room.new ≡ upto (bit_put n i p) room.old 7 }
 {
-    let mut b: u32 = 0;
-    while b < 7 {
+    for b in 0..7 {
         let at = BITS + (4 * b + n) as usize;
         let w = words::with_bit(room[at], i, words::has(p, b));
         room[at] = w;
-        b = b + 1;
     }
 }
 

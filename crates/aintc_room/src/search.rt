@@ -1,7 +1,6 @@
 // Which input is before all others: the bits of the priorities are looked at from the highest to the lowest, 128 inputs at once, and no input by itself.
 ghost use Rattle.std.specs.Prelude.{◌≡◌, not, ◌&&◌, [], ◌∷◌, ◌≢◌, ℕ, ◌<◌};
 ghost use Rattle.words.specs.Array.{bit_at};
-ghost use Rattle.words.specs.Choice.{pick};
 ghost use Rattle.words.specs.Counting.{any_below};
 ghost use Rattle.words.specs.Word.{bit, either};
 ghost use Rattle.aintc_record.specs.declared.Aintc.{Aintc};
@@ -45,31 +44,18 @@ pub(crate) fn any_of(a: u32, b: u32, c: u32, d: u32) -> u32
 
 // ---- 128 inputs as two halves of 64. The search goes by these, since of four words a compiler makes one of 128 bits, whose test takes long.
 
+// Input k is bit k % 64 of `low` where k is below 64, else of `high`.
+#[derive(Clone, Copy)]
+struct Halves {
+    low: u64,
+    high: u64,
+}
+
 // Two words as one number, the first of them below.
 fn pair(a: u32, b: u32) -> u64
     ensures { (i : ℕ) → i < 64 → bit result i ≡ bit_at (a ∷ b ∷ []) i }
 {
     4294967296 * (b as u64) + (a as u64)
-}
-
-// The bits of a that are not bits of b.
-fn drop_bits(a: u64, b: u64) -> u64
-    ensures { (i : ℕ) → i < 64 → bit result i ≡ (bit a i && not (bit b i)) }
-{
-    a & !b
-}
-
-// Whether two halves hold any input.
-fn holds(low: u64, high: u64) -> bool
-    ensures { result ≡ any_below 128 (halves low high) }
-{
-    (low != 0) | (high != 0)
-}
-
-fn choose(some: bool, x: u64, w: u64) -> u64
-    ensures { result ≡ pick some x w }
-{
-    if some { x } else { w }
 }
 
 // The highest bit of a half that has one.
@@ -80,39 +66,60 @@ fn highest(w: u64) -> u32
     63 - u64::leading_zeros(w)
 }
 
-// The highest input of those that two halves hold.
-fn highest_of(low: u64, high: u64) -> u32
-    ensures { SomeOf (halves low high) → HighestOf (halves low high) 128 result }
-{
-    if high != 0 {
-        return 64 + highest(high);
+impl Halves {
+    // The inputs that four words hold.
+    fn of(w0: u32, w1: u32, w2: u32, w3: u32) -> Halves
+        ensures { (k : ℕ) → k < 128 → halves result.low result.high k ≡ held w0 w1 w2 w3 k }
+    {
+        Halves {
+            low: pair(w0, w1),
+            high: pair(w2, w3),
+        }
     }
-    if low != 0 {
-        return highest(low);
+
+    // Those of these inputs that are none of the others.
+    fn without(self, others: Halves) -> Halves
+        ensures { (k : ℕ) → k < 128 → halves result.low result.high k ≡ (halves self.low self.high k && not (halves others.low others.high k)) }
+    {
+        Halves {
+            low: self.low & !others.low,
+            high: self.high & !others.high,
+        }
     }
-    0
+
+    // Whether there is any input.
+    fn is_some(self) -> bool
+        ensures { result ≡ any_below 128 (halves self.low self.high) }
+    {
+        (self.low != 0) | (self.high != 0)
+    }
+
+    // The highest input, where there is any.
+    fn highest(self) -> u32
+        ensures { SomeOf (halves self.low self.high) → HighestOf (halves self.low self.high) 128 result }
+    {
+        if self.high != 0 {
+            return 64 + highest(self.high);
+        }
+        if self.low != 0 {
+            return highest(self.low);
+        }
+        0
+    }
 }
 
 // The first of the inputs that four words hold: of the lowest priority number, and of equal ones the highest.
 pub(crate) fn first_of(room: &Room, w0: u32, w1: u32, w2: u32, w3: u32) -> u32
     ensures { (s : Aintc) → Laid s room.now → SomeOf (held w0 w1 w2 w3) → FirstOf s (held w0 w1 w2 w3) result }
 {
-    let mut low = pair(w0, w1);
-    let mut high = pair(w2, w3);
-    let mut k: usize = 7;
-    while 0 < k {
-        k = k - 1;
-        let x = drop_bits(
-            low,
-            pair(room[BITS + (4 * k + 0)], room[BITS + (4 * k + 1)]),
-        );
-        let y = drop_bits(
-            high,
-            pair(room[BITS + (4 * k + 2)], room[BITS + (4 * k + 3)]),
-        );
-        let some = holds(x, y);
-        low = choose(some, x, low);
-        high = choose(some, y, high);
+    let mut best = Halves::of(w0, w1, w2, w3);
+    for k in (0..7).rev() {
+        let at = BITS + 4 * k;
+        let ones = Halves::of(room[at], room[at + 1], room[at + 2], room[at + 3]);
+        let rest = best.without(ones);
+        if rest.is_some() {
+            best = rest;
+        }
     }
-    highest_of(low, high)
+    best.highest()
 }

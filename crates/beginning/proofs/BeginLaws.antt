@@ -6,8 +6,7 @@ use mathlib.Core.List.{List}
 use native.Mathlib.Numerals.{sub-one}
 use Rattle.words.proofs.ChoiceLaws.{pick_true, pick-false}
 use Rattle.steps.specs.Refusals.{misconfigured}
-use Rattle.numbers.specs.Number.{number_at}
-use Rattle.numbers.specs.declared.Number.TheVariants.{Value, Refused}
+use Rattle.numbers.specs.Number.{Value, Refused, number_at}
 use Rattle.kinds.specs.declared.Configuration.{Configuration}
 use Rattle.kinds.specs.Kinds.{within}
 use Rattle.kinds.specs.Configuration.{with_number}

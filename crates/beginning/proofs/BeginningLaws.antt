@@ -14,9 +14,10 @@ use Rattle.words.specs.Choice.{pick}
 use Rattle.words.proofs.ChoiceLaws.{pick_true, pick-false}
 use Rattle.words.proofs.TruthLaws.{told as told-apart}
 use Rattle.steps.specs.Refusals.{carried_out, damaged, unknown, misconfigured, too_long}
-use Rattle.numbers.specs.Number.{number_at}
+use Rattle.std.specs.declared.result.Result.{Result}
+use Rattle.numbers.specs.declared.Fault.{Fault}
+use Rattle.numbers.specs.Number.{Value, Refused, number_at}
 use Rattle.numbers.specs.Promises.{told_at}
-use Rattle.numbers.specs.declared.Number.TheVariants.{Value, Refused}
 use Rattle.numbers.proofs.ReadLaws.{IsRead, number_is}
 use Rattle.trace.specs.Promises.{Reads}
 use Rattle.kinds.specs.declared.Configuration.{Configuration}
@@ -34,7 +35,7 @@ use Rattle.beginning.proofs.BeginLaws.{setup-done, setup-damaged, setup-beyond, 
 
 -- ---- the ways that the reading of a configuration goes: to its end, to a damaged number, to one beyond its limit
 
-pub data Way (kind : ℕ) (s : List ℕ) (left k : ℕ) (c : Configuration) (at : ℕ) : Setup → Type 0 where
+pub data Way (kind : ℕ) (s : List ℕ) (left k : ℕ) (c : Configuration) (at : ℕ) : Result Setup Fault → Type 0 where
   whole : (ns : List ℕ) (p : ℕ) → Reads s at ns p → Within kind k ns → length ns ≡ left → Way kind s left k c at (accepted_setup (filled c k ns) p)
   torn : (ns : List ℕ) (p : ℕ) → Reads s at ns p → Within kind k ns → length ns < left → (told_at s p).refusal ≡ damaged
       → Way kind s left k c at (refused_setup damaged p)
@@ -43,11 +44,11 @@ pub data Way (kind : ℕ) (s : List ℕ) (left k : ℕ) (c : Configuration) (at 
 
 module _ (kind : ℕ) (s : List ℕ) where
   -- a way is one of whatever is equal to its setup
-  over : {left k at : ℕ} {c : Configuration} {t u : Setup} → u ≡ t → Way kind s left k c at u → Way kind s left k c at t
+  over : {left k at : ℕ} {c : Configuration} {t u : Result Setup Fault} → u ≡ t → Way kind s left k c at u → Way kind s left k c at t
   over e w = rw (sym e) w
 
   -- a number before the rest
-  further : (left k at v next : ℕ) (c : Configuration) (t : Setup) → number_at s at ≡ Value v next → within kind k v ≡ true
+  further : (left k at v next : ℕ) (c : Configuration) (t : Result Setup Fault) → number_at s at ≡ Value v next → within kind k v ≡ true
       → Way kind s left (k + 1) (with_number c k v) next t → Way kind s (suc left) k c at t
   unfolding filled
   further left k at v next c t e h (whole ns p r w l) = whole (v ∷ ns) p (rw e (refl, (refl, r))) (h, w) (ap suc l)
@@ -99,7 +100,7 @@ module _ (s : List ℕ) where
   also : (b d : Begun) → d ≡ b → Beginning s d → Beginning s b
   also b d e w = rw (sym e) w
 
-  by-kind : (kind next : ℕ) (t : Setup) → length s ≤ longest → number_at s 0 ≡ Value kind next → is_kind kind ≡ true
+  by-kind : (kind next : ℕ) (t : Result Setup Fault) → length s ≤ longest → number_at s 0 ≡ Value kind next → is_kind kind ≡ true
       → Way kind s (wanted kind) 0 no_numbers next t → Beginning s (by_setup kind t)
   unfolding by_setup pick
   by-kind kind next t l e k (whole ns p r w n) = configured kind ns p l (rw e (refl, (refl, r))) (k, (w, n))

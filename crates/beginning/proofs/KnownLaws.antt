@@ -10,10 +10,8 @@ use borrow.Author.Tests.{lt-ltb, le-ltb}
 use Rattle.words.specs.Choice.{pick}
 use Rattle.words.proofs.ChoiceLaws.{pick_true, pick-false}
 use Rattle.steps.specs.Refusals.{carried_out, damaged, unknown, misconfigured, too_long}
-use Rattle.numbers.specs.Number.{number_at}
+use Rattle.numbers.specs.Number.{Number, Value, number_at}
 use Rattle.numbers.specs.Promises.{told_at}
-use Rattle.numbers.specs.declared.Number.{Number}
-use Rattle.numbers.specs.declared.Number.TheVariants.{Value}
 use Rattle.numbers.proofs.ReadLaws.{told-read, told-damaged}
 use Rattle.trace.specs.Promises.{Reads}
 use Rattle.kinds.specs.declared.Configuration.{Configuration}

@@ -2,23 +2,23 @@
 #![tactic(auto)]
 
 ghost use Rattle.std.specs.Prelude.{◌≡◌};
-ghost use Rattle.beginning.specs.Begin.{refused_setup, setup_of, not_begun, by_setup, by_controller, begin_of};
+ghost use Rattle.beginning.specs.Begin.{setup_of, not_begun, begun_by, begin_of};
 
 pub mod reports;
 
 use kinds::Configuration;
 use machine::record::Machine;
-use numbers::{Number, read_number};
+use numbers::{Fault, read_number};
 
-// The numbers of a configuration with the place after them, or the refusal with the place of the number at fault.
+// The numbers of a configuration with the place after them, where the steps begin.
 #[derive(Clone, Copy)]
 pub struct Setup {
-    pub refusal: u32,
     pub place: usize,
     pub configuration: Configuration,
 }
 
-// The machine at the first step with that step's place, or the refusal with its offset.
+// The machine at the first step with that step's place, or the refusal with its offset. It is no Result, since the theorems on beginnings name its
+// fields, the machine before a start among them.
 #[derive(Clone, Copy)]
 pub struct Begun {
     pub refusal: u32,
@@ -32,94 +32,71 @@ pub const LONGEST: usize = 65536;
 pub fn begin(trace: &[u8]) -> Begun
     ensures { result ≡ begin_of trace.now }
 {
-    if LONGEST < trace.len() {
-        return not_begun(steps::TOO_LONG, LONGEST);
+    match set_up(trace) {
+        Ok((kind, t)) => {
+            let m = machine::record::start(kind, t.configuration);
+            Begun {
+                refusal: steps::CARRIED_OUT,
+                place: t.place,
+                machine: m,
+            }
+        }
+        Err(fault) => not_begun(fault),
     }
-    by_controller(trace, read_number(trace, 0))
 }
 
 // No machine was started: its numbers are all 0.
-fn not_begun(refusal: u32, offset: usize) -> Begun
-    ensures { result ≡ not_begun refusal offset }
+fn not_begun(fault: Fault) -> Begun
+    ensures { result ≡ not_begun fault.refusal fault.at }
 {
     let m = machine::record::empty();
     Begun {
-        refusal,
-        place: offset,
+        refusal: fault.refusal,
+        place: fault.at,
         machine: m,
     }
 }
 
-// The beginning of a trace whose controller's kind is the number n.
-fn by_controller(trace: &[u8], n: Number) -> Begun
-    ensures { result ≡ by_controller trace.now n }
+// The kind of controller that a trace names, and its configuration, all of which is accepted.
+fn set_up(trace: &[u8]) -> Result<(u32, Setup), Fault>
+    ensures { begun_by result ≡ begin_of trace.now }
 {
-    match n {
-        Number::Refused(refusal, p) => not_begun(refusal, p),
-        Number::Value(kind, next) => {
-            if kinds::is_kind(kind) {
-                return by_setup(kind, set_up(trace, kind, next));
-            }
-            not_begun(steps::UNKNOWN, 0)
-        }
+    if LONGEST < trace.len() {
+        return Err(Fault {
+            refusal: steps::TOO_LONG,
+            at: LONGEST,
+        });
     }
-}
-
-// The machine of a configuration, once all of it is accepted.
-fn by_setup(kind: u32, t: Setup) -> Begun
-    ensures { result ≡ by_setup kind t }
-{
-    if t.refusal != steps::CARRIED_OUT {
-        return not_begun(t.refusal, t.place);
+    let kind = read_number(trace, 0)?;
+    if !kinds::is_kind(kind.value) {
+        return Err(Fault {
+            refusal: steps::UNKNOWN,
+            at: 0,
+        });
     }
-    let m = machine::record::start(kind, t.configuration);
-    Begun {
-        refusal: steps::CARRIED_OUT,
-        place: t.place,
-        machine: m,
-    }
+    let t = configuration_at(trace, kind.value, kind.next)?;
+    Ok((kind.value, t))
 }
 
 // The configuration of a kind of controller from a place on: each number is checked as it is read, the nth one, from 0, by its own limit.
-fn set_up(trace: &[u8], kind: u32, start: usize) -> Setup
+fn configuration_at(trace: &[u8], kind: u32, start: usize) -> Result<Setup, Fault>
     ensures { result ≡ setup_of kind trace.now start }
 {
     let mut c = kinds::no_numbers();
     let mut at = start;
-    let mut nth: u32 = 0;
-    let mut wanted = kinds::wanted(kind);
-    loop {
-        if wanted == 0 {
-            return Setup {
-                refusal: steps::CARRIED_OUT,
-                place: at,
-                configuration: c,
-            };
+    for nth in 0..kinds::wanted(kind) {
+        let v = read_number(trace, at)?;
+        if !kinds::within(kind, nth, v.value) {
+            return Err(Fault {
+                refusal: steps::MISCONFIGURED,
+                at,
+            });
         }
-        match read_number(trace, at) {
-            Number::Refused(refusal, p) => {
-                return refused_setup(refusal, p);
-            }
-            Number::Value(v, next) => {
-                if !kinds::within(kind, nth, v) {
-                    return refused_setup(steps::MISCONFIGURED, at);
-                }
-                c = kinds::with_number(c, nth, v);
-                at = next;
-                nth = nth + 1;
-                wanted = wanted - 1;
-            }
-        }
+        c = kinds::with_number(c, nth, v.value);
+        at = v.next;
     }
-}
-
-// A configuration that is refused.
-fn refused_setup(refusal: u32, offset: usize) -> Setup
-    ensures { result ≡ refused_setup refusal offset }
-{
-    Setup {
-        refusal,
-        place: offset,
-        configuration: kinds::no_numbers(),
-    }
+    Ok(Setup {
+        place: at,
+        configuration: c,
+    })
 }

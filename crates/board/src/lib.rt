@@ -11,7 +11,7 @@ use board_wires::{Board, Wire};
 use coreinterrupt::{Core, Signals};
 use record::Answer;
 
-// What a question answers that changes nothing.
+// What a question answers that changes nothing: a refusal number beside the value, since the promises speak of both.
 #[derive(Clone, Copy)]
 pub struct Reply {
     pub refusal: u32,
@@ -35,7 +35,7 @@ fn reply_of(n: u32, value: u32) -> Reply
     if n == steps::CARRIED_OUT {
         return Reply {
             refusal: steps::CARRIED_OUT,
-            value: value,
+            value,
         };
     }
     Reply {

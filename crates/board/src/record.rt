@@ -14,7 +14,7 @@ pub(crate) const INPUT_LIMIT: u32 = 40;
 
 pub(crate) const PIN_LIMIT: u32 = 320;
 
-// What a change or a register access answers.
+// What a change or a register access answers: a refusal number beside the rest, since the promises speak of both.
 #[derive(Clone, Copy)]
 pub struct Answer {
     pub refusal: u32,
@@ -28,7 +28,7 @@ pub(crate) fn answer_of(b: Board, value: u32) -> Answer
 {
     Answer {
         refusal: steps::CARRIED_OUT,
-        value: value,
+        value,
         board: b,
     }
 }
@@ -151,32 +151,21 @@ fn cores_kept(b: Board) -> bool
     ensures { result ≡ cores_sound b }
 {
     let mut ok = true;
-    let mut c: usize = 0;
-    while c < 8 {
-        ok = ok & core_kept(b.controllers, c as u32, b.core[c]);
-        c = c + 1;
+    for c in 0..8 {
+        ok &= core_kept(b.controllers, c as u32, b.core[c]);
     }
     ok
 }
 
-// Whether every wire keeps its rule.
+// Whether every wire keeps its rule. The number goes into the rule, as that of a controller above.
 fn wires_kept(b: Board) -> bool
     ensures { result ≡ wires_sound b }
 {
     let mut ok = true;
-    let mut k: usize = 0;
-    while k < 320 {
-        ok = ok & wire_kept(b.controllers, (k / 40) as u32, b.wire[k]);
-        k = k + 1;
+    for k in 0..320 {
+        ok &= wire_kept(b.controllers, (k / 40) as u32, b.wire[k]);
     }
     ok
-}
-
-// Whether a level is 0 or 1.
-fn is_level(level: u8) -> bool
-    ensures { result ≡ leb level 1 }
-{
-    level <= 1
 }
 
 // Whether every pin is at 0 or 1.
@@ -184,10 +173,8 @@ fn pins_kept(b: Board) -> bool
     ensures { result ≡ pins_sound b }
 {
     let mut ok = true;
-    let mut p: usize = 0;
-    while p < 320 {
-        ok = ok & is_level(b.pin[p]);
-        p = p + 1;
+    for level in &b.pin {
+        ok &= *level <= 1;
     }
     ok
 }

@@ -1,161 +1,98 @@
 // One step of a generated board, printed call by call: its numbers are drawn from the seed, and the seed goes on (02, 8/12).
-use super::random::{below, skip, word};
-use super::{lines, numbers, questions};
-use board_wires::Board;
+use super::numbers;
+use super::random::{Random, below, word};
+use super::transcript::Transcript;
+use std::io;
 
-// A board, and the seed of what comes next.
-#[derive(Clone, Copy)]
-pub struct Tour {
-    pub seed: u64,
-    pub board: Board,
+// A board, and the draws of what comes next.
+#[derive(Drop)]
+pub struct Tour<'a, R: Print> {
+    pub random: Random,
+    pub board: Transcript<'a, R>,
 }
 
 // The value of n, or one beyond its limit where the draw says so.
 fn spoilt(draw: u32, nth: u32, n: u32, beyond: u32) -> u32 {
-    if draw == nth {
-        return beyond;
-    }
-    n
+    if draw == nth { beyond } else { n }
 }
 
-// A controller is added, or is not; where it would stand, most of its sources are enabled.
-pub(crate) fn grow(t: Tour) -> Tour {
-    let mut x = t.board;
-    let at = x.controllers;
-    let a = skip(t.seed);
-    let b = skip(a);
-    let c = skip(b);
-    let d = skip(c);
-    let draw = below(d, 48);
-    x = lines::add(
-        x,
-        spoilt(draw, 0, numbers::sources(a, 7, 8), 9),
-        spoilt(draw, 1, numbers::sources(b, 31, 32), 33),
-        spoilt(draw, 2, below(c, 2), 2),
-        spoilt(draw, 3, below(c / 4, 2), 0xFFFFFFFF),
-    );
-    x = lines::write(x, at, 0x08, numbers::one_of(c / 8, 1, 3, 0xFF, 0xFFFFFFFF));
-    x = lines::write(
-        x,
-        at,
-        0x20,
-        numbers::one_of(d / 8, 1, 3, 0xFFFFFFFF, 0xFFFFFFFF),
-    );
-    Tour {
-        seed: skip(d),
-        board: x,
+impl<'a, R: Print> Tour<'a, R> {
+    pub fn new(rt: &'a R, k: u32) -> io::Result<Tour<'a, R>> {
+        let board = Transcript::numbered(rt, k)?;
+        let random = Random::of(k);
+        Ok(Tour { random, board })
     }
-}
 
-// An input is wired, and asked.
-fn wired(t: Tour) -> Tour {
-    let mut x = t.board;
-    let n = x.controllers;
-    let a = skip(t.seed);
-    let b = skip(a);
-    let d = skip(b);
-    let c = numbers::controller(a, n);
-    let i = numbers::input(b);
-    x = lines::connect(x, c, i, numbers::wire(d, n, c));
-    questions::input(x, c, i);
-    Tour {
-        seed: skip(d),
-        board: x,
+    // A controller is added, or is not; where it would stand, most of its sources are enabled.
+    pub fn grow(&mut self) -> io::Result<()> {
+        let at = self.board.controllers();
+        let a = self.random.draw();
+        let b = self.random.draw();
+        let c = self.random.draw();
+        let d = self.random.draw();
+        let draw = below(d, 48);
+        let fiqs = spoilt(draw, 0, numbers::sources(a, 7, 8), 9);
+        let irqs = spoilt(draw, 1, numbers::sources(b, 31, 32), 33);
+        let fiqlevel = spoilt(draw, 2, below(c, 2), 2);
+        let irqlevel = spoilt(draw, 3, below(c / 4, 2), 0xFFFFFFFF);
+        self.board.add(fiqs, irqs, fiqlevel, irqlevel)?;
+        let fiq = numbers::one_of(c / 8, 1, 3, 0xFF, 0xFFFFFFFF);
+        self.board.write(at, 0x08, fiq)?;
+        let irq = numbers::one_of(d / 8, 1, 3, 0xFFFFFFFF, 0xFFFFFFFF);
+        self.board.write(at, 0x20, irq)
     }
-}
 
-fn moved(t: Tour) -> Tour {
-    let mut x = t.board;
-    let a = skip(t.seed);
-    let b = skip(a);
-    x = lines::pin(
-        x,
-        numbers::pin(a),
-        numbers::one_of(b, 0, 1, 1, numbers::one_of(b / 4, 1, 0, 1, 2)),
-    );
-    Tour {
-        seed: skip(b),
-        board: x,
+    // An input is wired, and asked.
+    fn wire(&mut self) -> io::Result<()> {
+        let n = self.board.controllers();
+        let c = numbers::controller(self.random.draw(), n);
+        let i = numbers::input(self.random.draw());
+        let w = numbers::wire(self.random.draw(), n, c);
+        self.board.connect(c, i, w)?;
+        self.board.input(c, i)
     }
-}
 
-fn written(t: Tour) -> Tour {
-    let mut x = t.board;
-    let a = skip(t.seed);
-    let b = skip(a);
-    let d = skip(b);
-    let c = numbers::controller(a, x.controllers);
-    x = lines::write(
-        x,
-        c,
-        numbers::written(b),
-        numbers::one_of(d, word(d), below(d / 4, 16), 1, 3),
-    );
-    Tour {
-        seed: skip(d),
-        board: x,
+    fn put_pin(&mut self) -> io::Result<()> {
+        let p = numbers::pin(self.random.draw());
+        let b = self.random.draw();
+        let level = numbers::one_of(b, 0, 1, 1, numbers::one_of(b / 4, 1, 0, 1, 2));
+        self.board.pin(p, level)
     }
-}
 
-fn question(b: Board, kind: u32, c: u32, seed: u64) {
-    if kind < 2 {
-        questions::read(b, c, numbers::offset(seed));
-        return;
+    fn write(&mut self) -> io::Result<()> {
+        let c = numbers::controller(self.random.draw(), self.board.controllers());
+        let offset = numbers::written(self.random.draw());
+        let d = self.random.draw();
+        let value = numbers::one_of(d, word(d), below(d / 4, 16), 1, 3);
+        self.board.write(c, offset, value)
     }
-    if kind == 2 {
-        questions::outputs(b, c);
-        return;
-    }
-    if kind == 3 {
-        questions::chain(b, c);
-        return;
-    }
-    questions::input(b, c, numbers::input(seed));
-}
 
-fn asked(t: Tour) -> Tour {
-    let x = t.board;
-    let a = skip(t.seed);
-    let b = skip(a);
-    let d = skip(b);
-    question(x, below(d, 5), numbers::controller(a, x.controllers), b);
-    Tour {
-        seed: skip(d),
-        board: x,
+    fn ask(&mut self) -> io::Result<()> {
+        let c = numbers::controller(self.random.draw(), self.board.controllers());
+        let b = self.random.draw();
+        match below(self.random.draw(), 5) {
+            0 | 1 => self.board.read(c, numbers::offset(b)),
+            2 => self.board.outputs(c),
+            3 => self.board.chain(c),
+            _ => self.board.input(c, numbers::input(b)),
+        }
     }
-}
 
-// Any step: a wire, a pin, a register, a question, at times one more controller.
-pub(crate) fn step(t: Tour) -> Tour {
-    let k = below(t.seed, 32);
-    if k < 10 {
-        return wired(t);
+    // Any step: a wire, a pin, a register, a question, at times one more controller.
+    pub fn step(&mut self) -> io::Result<()> {
+        match below(self.random.draw(), 32) {
+            0..=9 => self.wire(),
+            10..=14 => self.put_pin(),
+            15..=19 => self.write(),
+            20..=30 => self.ask(),
+            _ => self.grow(),
+        }
     }
-    if k < 15 {
-        return moved(t);
-    }
-    if k < 20 {
-        return written(t);
-    }
-    if k < 31 {
-        return asked(t);
-    }
-    grow(t)
-}
 
-// Controller c is wired to the one below, by an input that may be unused.
-pub(crate) fn link(t: Tour, c: u32) -> Tour {
-    let mut x = t.board;
-    let a = skip(t.seed);
-    let b = skip(a);
-    x = lines::connect(
-        x,
-        c,
-        numbers::one_of(a, 0, 1, 32, 39),
-        numbers::output(b, numbers::lower(c)),
-    );
-    Tour {
-        seed: skip(b),
-        board: x,
+    // Controller c is wired to the one below, by an input that may be unused.
+    pub fn link(&mut self, c: u32) -> io::Result<()> {
+        let i = numbers::one_of(self.random.draw(), 0, 1, 32, 39);
+        let w = numbers::output(self.random.draw(), c.saturating_sub(1));
+        self.board.connect(c, i, w)
     }
 }

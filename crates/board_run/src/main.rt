@@ -6,50 +6,56 @@
 mod cases;
 mod drawn;
 mod limits;
-mod lines;
 mod numbers;
-mod print;
-mod questions;
 mod random;
 mod tours;
 mod towers;
+mod transcript;
 mod unsound;
 
-fn main() {
-    let mut input = [0u8; 16];
-    io::read_full(0, &mut input);
-    towers::all();
-    cases::all();
-    limits::all();
-    unsound::all();
-    tours::all(number(&input));
+use std::alloc::Global;
+use std::io;
+use std::io::Read;
+
+// A line that cannot be written is the last one: whoever compares the lines finds that the others are missing, and nothing else is told.
+fn main(rt: HostRuntime) {
+    let n = number(said(&rt, rt.alloc()).as_slice());
+    match print_all(&rt, n) {
+        Ok(()) => {}
+        Err(_) => {}
+    }
 }
 
-// What a decimal digit stands for, 10 for any other byte.
-fn digit(b: u8) -> u32 {
-    if b < 48 {
-        return 10;
+// The boards worked out by hand, then n generated ones.
+fn print_all<R: Print>(rt: &R, n: u32) -> io::Result<()> {
+    towers::all(rt)?;
+    cases::all(rt)?;
+    limits::all(rt)?;
+    unsound::all(rt)?;
+    tours::all(rt, n)
+}
+
+// The first 16 bytes of standard input, or as many as can be read.
+fn said<R: Input>(rt: &R, alloc: Global) -> Vec<u8> {
+    let mut bytes = Vec::new(alloc);
+    match rt.reader().take(16).read_to_end(&mut bytes) {
+        Ok(_) => {}
+        Err(_) => {}
     }
-    if 57 < b {
-        return 10;
-    }
-    (b - 48) as u32
+    bytes
 }
 
 // The decimal number at the start of a text, with its first six digits.
 fn number(text: &[u8]) -> u32 {
     let mut n: u32 = 0;
-    let mut k: usize = 0;
-    while k < text.len() {
-        let d = digit(text[k]);
-        if 9 < d {
+    for b in text {
+        let Some(d) = (*b as char).to_digit(10) else {
             return n;
-        }
+        };
         if 99999 < n {
             return n;
         }
         n = 10 * n + d;
-        k = k + 1;
     }
     n
 }

@@ -124,11 +124,3 @@ pub(crate) fn sources(seed: u64, less: u32, most: u32) -> u32 {
         _ => most,
     }
 }
-
-// The controller below.
-pub(crate) fn lower(c: u32) -> u32 {
-    if c == 0 {
-        return 0;
-    }
-    c - 1
-}

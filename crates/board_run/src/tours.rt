@@ -1,76 +1,37 @@
 // Generated boards, printed call by call: controllers are added, mostly taken; then wires, pins, registers and questions come in any order. Few inputs, pins and
 // bits are used much, so that they meet; some numbers are beyond their limits (02, 8/12).
 use super::drawn::Tour;
-use super::random::{below, seed_of, skip};
-use super::{drawn, lines, questions};
-use board_wires::Board;
+use super::random::below;
+use std::io;
 
-// What a tour does in one turn.
-#[derive(Clone, Copy)]
-enum Turn {
-    Grow,
-    Link,
-    Any,
-}
-
-// Turn number k.
-fn turned(t: Tour, what: Turn, k: u32) -> Tour {
-    match what {
-        Turn::Grow => drawn::grow(t),
-        Turn::Link => drawn::link(t, k),
-        Turn::Any => drawn::step(t),
+// Tour k: one in three has its controllers linked. Last the outputs and the chain of each controller.
+fn play<R: Print>(rt: &R, k: u32) -> io::Result<()> {
+    let mut t = Tour::new(rt, k)?;
+    let added = 1 + (t.random.peek() / 65536 % 9) as u32;
+    for _ in 0..added {
+        t.random.draw();
+        t.grow()?;
     }
-}
-
-fn toured(t: Tour, what: Turn, n: u32) -> Tour {
-    let mut u = t;
-    let mut k: u32 = 0;
-    while k < n {
-        u = turned(u, what, k);
-        k = k + 1;
+    if below(t.random.peek(), 3) == 0 {
+        for c in 0..8 {
+            t.random.draw();
+            t.link(c)?;
+        }
     }
-    u
-}
-
-// The outputs and the chain of n controllers.
-fn told(b: Board, n: u32) {
-    let mut k: u32 = 0;
-    while k < n {
-        questions::outputs(b, k);
-        questions::chain(b, k);
-        k = k + 1;
+    let steps = 8 + (t.random.peek() / 65536 % 60) as u32;
+    for _ in 0..steps {
+        t.step()?;
     }
-}
-
-fn opened(k: u32) -> Tour {
-    let s = seed_of(k);
-    Tour {
-        seed: skip(s),
-        board: lines::numbered(k),
+    for c in 0..t.board.controllers() {
+        t.board.outputs(c)?;
+        t.board.chain(c)?;
     }
+    Ok(())
 }
 
-// One tour in three has its controllers linked.
-fn links(seed: u64) -> u32 {
-    if below(seed, 3) == 0 {
-        return 8;
+pub(crate) fn all<R: Print>(rt: &R, n: u32) -> io::Result<()> {
+    for k in 0..n {
+        play(rt, k)?;
     }
-    0
-}
-
-fn played(k: u32) {
-    let mut t = opened(k);
-    t = toured(t, Turn::Grow, 1 + (t.seed / 65536 % 9) as u32);
-    t = toured(t, Turn::Link, links(t.seed));
-    t = toured(t, Turn::Any, 8 + (t.seed / 65536 % 60) as u32);
-    let b = t.board;
-    told(b, b.controllers);
-}
-
-pub(crate) fn all(n: u32) {
-    let mut k: u32 = 0;
-    while k < n {
-        played(k);
-        k = k + 1;
-    }
+    Ok(())
 }

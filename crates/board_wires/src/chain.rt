@@ -22,10 +22,8 @@ fn is_fed_in(wire: &[u16; 320], c: u32, d: u32) -> bool
     ensures { result ≡ feeds_in wire.now c d }
 {
     let mut on = false;
-    let mut i: u32 = 0;
-    while i < 40 {
-        on = on | leads(super::wire_in(wire, c, i), d);
-        i = i + 1;
+    for i in 0..40 {
+        on |= leads(super::wire_in(wire, c, i), d);
     }
     on
 }
@@ -64,11 +62,9 @@ pub fn chain(b: Board, c: u32) -> u32
 {
     let n = lower(c);
     let mut most: u32 = 0;
-    let mut d: u32 = 0;
-    while d < n {
+    for d in 0..n {
         let below = chain(b, d);
         most = words::larger(most, counted(is_fed(b, c, d), below));
-        d = d + 1;
     }
     most
 }

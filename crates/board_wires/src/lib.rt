@@ -19,6 +19,7 @@ pub enum Wire {
     Fiq(u32),
 }
 
+// The wires stand in the record as numbers, of which the promises speak.
 // Input i of controller c is wire[40 * c + i]: 0 nothing, 1 + p pin p, 321 + d the IRQ of controller d, 329 + d its FIQ.
 // The controllers keep their lines low: the wires tell them.
 #[derive(Clone, Copy)]

@@ -60,11 +60,9 @@ fn values_in<'a>(wire: &'a [u16; 320], pin: &'a [u8; 320], t: Told, c: u32, fast
 {
     let n = super::inputs(fast);
     let mut w: u32 = 0;
-    let mut i: u32 = 0;
-    while i < n {
+    for i in 0..n {
         let at = super::wire_in(wire, c, super::place(fast, i));
         w = words::with_bit(w, i, carried(pin, t, c, at));
-        i = i + 1;
     }
     w
 }
@@ -93,10 +91,8 @@ fn lined(s: Side, w: u32, n: u32) -> Side
     ensures { result ≡ lined s w n }
 {
     let mut x = s;
-    let mut i: u32 = 0;
-    while i < n {
+    for i in 0..n {
         x = coreinterrupt::sides::moved(x, i, words::has(w, i));
-        i = i + 1;
     }
     x
 }
@@ -119,12 +115,10 @@ pub(crate) fn values(b: Board, c: u32) -> Inputs
 {
     let n = chain::lower(c);
     let mut t = Told { irq: 0, fiq: 0 };
-    let mut d: u32 = 0;
-    while d < n {
+    for d in 0..n {
         if chain::is_fed(b, c, d) {
             t = with_told(t, d, activity(b, d));
         }
-        d = d + 1;
     }
     Inputs {
         irq: values_by(b, t, c, false),

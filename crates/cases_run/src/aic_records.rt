@@ -147,10 +147,10 @@ fn words() {
 // With debug control, and what is remembered: nothing, a source or none; the source, its level and its vector.
 fn seen(s: Aic, debug: u32, what: u32, source: u8, level: u8, vector: u32) {
     let n = Seen {
-        what: what,
-        source: source,
-        level: level,
-        vector: vector,
+        what,
+        source,
+        level,
+        vector,
     };
     let t = aic_record::with_seen(aic_record::with_debug(s, debug), n);
     lines::four(what, source as u32, level as u32, vector, look(t));

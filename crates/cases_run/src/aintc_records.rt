@@ -17,9 +17,9 @@ fn look(s: Aintc) -> u32 {
 // With this one chosen for IRQ, or for FIQ.
 fn chosen(active: bool, number: u8, priority: u8, fast: bool) {
     let c = Chosen {
-        active: active,
-        number: number,
-        priority: priority,
+        active,
+        number,
+        priority,
     };
     let mut s = fresh();
     if fast {

@@ -35,11 +35,11 @@ fn counts(count: u32, level: u32) {
 // A side of so many sources, with the words of its inputs, soft and enable bits.
 fn side(count: u32, inputs: u32, soft: u32, enable: u32) -> Side {
     Side {
-        count: count,
+        count,
         level: 0,
-        inputs: inputs,
-        soft: soft,
-        enable: enable,
+        inputs,
+        soft,
+        enable,
     }
 }
 

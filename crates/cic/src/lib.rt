@@ -30,33 +30,24 @@ pub fn start(systems: u32, channels: u32, hosts: u32, revision: u32) -> Begun
 pub fn read(c: Cic, offset: u32) -> Answer
     ensures { result ≡ read c offset }
 {
-    if cic_record::is_sound(c) {
-        return read_in(c, offset);
-    }
-    cic_record::refusal_of(c, steps::UNSOUND)
+    step(c, Step::Read(offset))
 }
 
 // A write of the register at an offset.
 pub fn write(c: Cic, offset: u32, value: u32) -> Answer
     ensures { result ≡ write c offset value }
 {
-    if cic_record::is_sound(c) {
-        return write_in(c, offset, value);
-    }
-    cic_record::refusal_of(c, steps::UNSOUND)
+    step(c, Step::Write(offset, value))
 }
 
 // A line is put to a level.
 pub fn line(c: Cic, number: u32, level: u32) -> Answer
     ensures { result ≡ line c number level }
 {
-    if cic_record::is_sound(c) {
-        return line_in(c, number, level);
-    }
-    cic_record::refusal_of(c, steps::UNSOUND)
+    step(c, Step::Line(number, level))
 }
 
-// Any step.
+// Any step. A record that is not sound is refused here, once.
 pub fn step(c: Cic, s: Step) -> Answer
     ensures { result ≡ step c s }
 {

@@ -1,26 +1,28 @@
 -- What the search for an index rests on: the lowest bit of a word, one word more, and all of them.
 use mathlib.Core.Path.{◌≡◌, refl, sym, ap, ap₂, ◌∙◌}
-use mathlib.Core.Bool.{Bool, true, false, ◌&&◌}
+use mathlib.Core.Bool.{Bool, true, false, ◌&&◌, and-false}
+use mathlib.Core.Logic.{◌⊎◌, inl, inr, ◌≢◌}
 use mathlib.Core.List.{List}
-use Prim.Native.Nat.{ℕ, ◌+◌, ◌-◌, ◌*◌, ◌/◌, ◌%◌, ◌^◌, ◌≤◌, ◌<◌}
-use native.Mathlib.Decide.{dec_lt}
+use Prim.Native.Nat.{ℕ, ◌+◌, ◌-◌, ◌*◌, ◌/◌, ◌^◌, ◌≤◌, ◌<◌}
+use native.Mathlib.Decide.{dec_lt, ℕ_discrete}
 use native.Mathlib.Omega.{arith}
-use borrow.Author.Tests.{lt-ltb, ltb-true}
+use borrow.Author.Tests.{lt-ltb, le-ltb, ltb-true}
 use lib.Dec.{eqb, ltb}
 use lib.ListN.{get_or}
+use Rattle.std.specs.Prelude.{Option, Some, None}
 use Rattle.words.specs.Array.{bit_at, rest_at}
 use Rattle.words.specs.Counting.{lowest_below}
-use Rattle.words.specs.Word.{bit, both, kept}
+use Rattle.words.specs.Word.{bit, with_bit, both, kept}
 use Rattle.words.proofs.ArrayLaws.{bit_at_word, rest-ltb}
 use Rattle.words.proofs.CountingLaws.{some_any, any_none, Lowest, lowest_found, lowest-one, lowest-same}
-use Rattle.words.proofs.ShiftLaws.{bit-gone}
-use Rattle.words.proofs.TruthLaws.{and_left, and_right, clash, not-holds}
-use Rattle.words.proofs.WordLaws.{bit-both, bit_kept}
+use Rattle.words.proofs.ChoiceLaws.{pick_true, pick-false}
+use Rattle.words.proofs.HopLaws.{lowest_in, lowest-before, hop-other}
+use Rattle.words.proofs.TruthLaws.{and_left, and_right, and_both, told, clash, not-holds}
+use Rattle.words.proofs.WordLaws.{bit-none, bit-both, bit_kept}
 use Rattle.cic_record.specs.declared.Channel.{Channel}
 use Rattle.cic_record.specs.Kinds.{system, channel_in}
-use Rattle.cic_registers.proofs.ScanLaws.{bit_of-left}
 use Rattle.cic_held.specs.declared.indices.Found.{Found}
-use Rattle.cic_held.specs.Search.{lit, pending_of, first_of, has_of, looked_of, found_of}
+use Rattle.cic_held.specs.Search.{some_below, lit, pending_of, first_of, has_of, looked_of, found_of}
 
 -- ---- the lowest that passes
 
@@ -36,19 +38,44 @@ found_nowhere p n b =
 
 -- ---- one word
 
--- of the bits of a word that have all gone, none is left that passes
-pub none_left : (w i : ℕ) (q : ℕ → Bool) → w / 2 ^ i ≡ 0 → ((j : ℕ) → j < i → (bit w j && q j) ≡ false) → (j : ℕ) → j < 32 → (bit w j && q j) ≡ false
-none_left w i q e b j l = go (dec_lt j i)
+-- what the answer tells of the lowest that passes: it is there, or there is none
+pub some_told : (n s i : ℕ) {r : Option ℕ} → r ≡ Some i → r ≡ some_below n s → (s < n) × (i ≡ s)
+some_told n s i e f = go (told (ltb s n))
   where
-    go : Dec (j < i) → (bit w j && q j) ≡ false
-    go (yes m) = b j m
-    go (no m) =
-        let at : i + (j - i) ≡ j = omega (arith, m) in
-        ap (λ (t : Bool). t && q j) (sym (ap (bit w) at) ∙ bit-gone w i (j - i) e)
+    go : (ltb s n ≡ true) ⊎ (ltb s n ≡ false) → (s < n) × (i ≡ s)
+    go (inl t) = let g : Some i ≡ Some s = sym e ∙ f ∙ sym (pick_true None t) in (ltb-true s n t, cc)
+    go (inr t) = let g : Some i ≡ None = sym e ∙ f ∙ sym (pick-false (Some s) t) in cc
 
--- the test of the code at bit i, whatever it says
-pub looks : (w left i : ℕ) {q is t : Bool} → left ≡ w / 2 ^ i → is ≡ q → (eqb (left % 2) 1 && is) ≡ t → (bit w i && q) ≡ t
-looks w left i e f g = ap₂ (λ (a b : Bool). a && b) (sym (bit_of-left w left i e)) (sym f) ∙ g
+pub none_told : (n s : ℕ) {r : Option ℕ} → r ≡ None → r ≡ some_below n s → n ≤ s
+none_told n s e f = go (dec_lt s n)
+  where
+    go : Dec (s < n) → n ≤ s
+    go (yes l) = let g : None ≡ Some s = sym e ∙ f ∙ sym (pick_true None (lt-ltb s n l)) in cc
+    go (no l) = omega (arith, l)
+
+pub there_is : (n s i : ℕ) → i < n → i ≡ s → Some i ≡ some_below n s
+there_is n s i l e = ap Some e ∙ pick_true None (lt-ltb s n (omega (arith, l, e)))
+
+pub there_is_none : (n s : ℕ) → n ≡ s → None ≡ some_below n s
+there_is_none n s e = pick-false (Some s) (le-ltb s n (omega (arith, e)))
+
+-- the lowest bit that is left passes the code's test, or leaves the lowest that passes as it was
+pub hop_found : (w i : ℕ) (q : ℕ → Bool) → w < 2 ^ 32 → w ≢ 0 → i ≡ lowest_below 32 (bit w) → q i ≡ true → i ≡ lowest_below 32 (λ j. bit w j && q j)
+hop_found w i q l n e t =
+    let m = lowest_in w i l n e in
+    found_here (λ j. bit w j && q j) 32 i m.0 (λ j b. ap (λ (x : Bool). x && q j) (lowest-before w i e j b)) (and_both m.1 t)
+
+pub hop_missed : (w w' i : ℕ) (q : ℕ → Bool) → i < 32 → w' ≡ with_bit w i false → q i ≡ false → lowest_below 32 (λ j. bit w' j && q j) ≡ lowest_below 32 (λ j. bit w j && q j)
+hop_missed w w' i q m e f =
+    ap (λ (v : ℕ). lowest_below 32 (λ j. bit v j && q j)) e
+    ∙ lowest-same 32 (λ j. bit (with_bit w i false) j && q j) (λ j. bit w j && q j) (λ j l. go j l (ℕ_discrete j i))
+  where
+    go : (j : ℕ) → j < 32 → Dec (j ≡ i) → (bit (with_bit w i false) j && q j) ≡ (bit w j && q j)
+    go j l (yes d) = ap (λ (x : Bool). bit (with_bit w i false) j && x) (ap q d ∙ f) ∙ and-false (bit (with_bit w i false) j) ∙ sym (ap (λ (x : Bool). bit w j && x) (ap q d ∙ f) ∙ and-false (bit w j))
+    go j l (no d) = ap (λ (x : Bool). x && q j) (hop-other w i j l d)
+
+pub hop_none : (w : ℕ) (q : ℕ → Bool) → w ≡ 0 → 32 ≡ lowest_below 32 (λ j. bit w j && q j)
+hop_none w q e = found_nowhere (λ j. bit w j && q j) 32 (λ j l. ap (λ (v : ℕ). bit v j && q j) e ∙ ap (λ (x : Bool). x && q j) (bit-none j))
 
 regroup : (a b d e : Bool) → (((a && b) && d) && e) ≡ (d && (a && (b && e)))
 regroup true true true e = refl

@@ -1,5 +1,5 @@
 -- How the search goes, on the parts of a record and word by word: no document says this; it is proved to be what Order.antt and Looked.antt say.
-use Rattle.std.specs.Prelude.{Bool, ◌&&◌, List, ℕ, ◌+◌, ◌*◌, ◌/◌, min, eqb, ltb}
+use Rattle.std.specs.Prelude.{Bool, ◌&&◌, Option, Some, None, List, ℕ, ◌+◌, ◌*◌, ◌/◌, min, eqb, ltb}
 use Rattle.words.specs.Array.{bit_at}
 use Rattle.words.specs.Choice.{pick}
 use Rattle.words.specs.Counting.{any_below, lowest_below}
@@ -7,6 +7,10 @@ use Rattle.words.specs.Word.{bit}
 use Rattle.cic_record.specs.declared.Channel.{Channel}
 use Rattle.cic_record.specs.Kinds.{system, channel_in}
 use Rattle.cic_held.specs.declared.indices.Found.{Found}
+
+-- the number s, if it is below n
+abbrev pub some_below : ℕ → ℕ → Option ℕ
+some_below n s = pick (ltb s n) (Some s) None
 
 -- bit i of w is set, and system interrupt base + i is of channel k
 abbrev pub lit : List ℕ → ℕ → ℕ → Channel → ℕ → Bool

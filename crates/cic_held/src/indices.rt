@@ -4,14 +4,15 @@ ghost use Rattle.words.specs.Counting.{lowest_below};
 ghost use Rattle.cic_record.specs.Kinds.{channel_in, host_in};
 ghost use Rattle.cic_held.specs.Looked.{found_over};
 ghost use Rattle.cic_held.specs.Order.{leads};
-ghost use Rattle.cic_held.specs.Search.{lit, found_of, turn_of};
+ghost use Rattle.cic_held.specs.Search.{some_below, lit, found_of, turn_of};
 
 use cic_record::{Channel, Cic, Host, System};
 
 // The word of an index that names none.
 pub const NONE: u32 = 0x80000000;
 
-// What a search finds, and the status words of 32 system interrupts that it looks at.
+// What a search finds, and the status words of 32 system interrupts that it looks at. Of a search for one channel that finds none the index is the number of
+// systems, by the promises `search_is` and `found_is`; of an index it is the word of its register, which has one for none.
 #[derive(Clone, Copy)]
 pub struct Found {
     pub index: u32,
@@ -27,21 +28,20 @@ fn is_of(channel: &[u8; 1024], s: System, k: Channel) -> bool
     of.0 == k.0
 }
 
-// The lowest bit of w whose system interrupt, base + i for bit i, is of channel k; 32 where there is none. A word of 0 takes no turn.
-fn first_of(channel: &[u8; 1024], base: u16, w: u32, k: Channel) -> u32
+// The lowest bit of w whose system interrupt, base + i for bit i, is of channel k. A word of 0 takes no turn.
+fn first_of(channel: &[u8; 1024], base: u16, w: u32, k: Channel) -> Option<u32>
     requires { base ≤ 992 }
-    ensures { result ≡ lowest_below 32 (lit channel.now base w k) }
+    ensures { result ≡ some_below 32 (lowest_below 32 (lit channel.now base w k)) }
 {
     let mut left = w;
-    let mut i: u16 = 0;
     while left != 0 {
-        if (left % 2 == 1) & is_of(channel, System(base + i), k) {
-            return i as u32;
+        let i = words::lowest(left);
+        if is_of(channel, System(base + i as u16), k) {
+            return Some(i);
         }
-        left = left / 2;
-        i = i + 1;
+        left = words::with_bit(left, i, false);
     }
-    32
+    None
 }
 
 // The lowest set and enabled system interrupt of channel k, the number of systems where there is none: word by word, up to the first that has one. The words
@@ -56,26 +56,20 @@ fn search<'a>(
     requires { systems ≤ 1024 }
     ensures { result ≡ found_of systems status.now enable.now channel.now k }
 {
-    let mut rest = systems;
-    let mut base: u16 = 0;
-    let mut j: u32 = 0;
-    while rest != 0 {
+    let count = systems.div_ceil(32);
+    for j in 0..count {
         let at = j as usize;
-        let w = words::keep(rest, words::meet(status[at], enable[at]));
-        let i = first_of(channel, base, w, k);
-        if i < 32 {
+        let w = words::keep(systems - 32 * j, words::meet(status[at], enable[at]));
+        if let Some(i) = first_of(channel, (32 * j) as u16, w, k) {
             return Found {
                 index: 32 * j + i,
                 words: j + 1,
             };
         }
-        rest = cic_record::after_word(rest);
-        base = base + 32;
-        j = j + 1;
     }
     Found {
         index: systems,
-        words: j,
+        words: count,
     }
 }
 
@@ -116,23 +110,18 @@ pub fn look(c: Cic, every: bool, h: Host) -> Found
     ensures { result ≡ found_over c (leads c every h) }
 {
     let systems = c.systems;
-    let channels = c.channels;
+    let channels = c.channels as u16;
     let mut words: u32 = 0;
-    let mut k: u16 = 0;
-    while (k as u32) < channels {
+    for k in 0..channels {
         let asked = asks(&c.host, every, h, Channel(k));
         let f = turn(systems, &c.status, &c.enable, &c.channel, asked, Channel(k));
-        words = words + f.words;
+        words += f.words;
         if f.index < systems {
             return Found {
                 index: f.index,
-                words: words,
+                words,
             };
         }
-        k = k + 1;
     }
-    Found {
-        index: NONE,
-        words: words,
-    }
+    Found { index: NONE, words }
 }

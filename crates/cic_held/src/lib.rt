@@ -11,7 +11,7 @@ pub mod indices;
 use cic_record::{Cic, Host, System};
 
 // Whether prioritisation is chosen, whether a read of an index holds it, and what is held for the global index and for that of each host: 0 where
-// nothing is, 1 for the word of none, s + 2 for system interrupt s.
+// nothing is, 1 for the word of none, s + 2 for system interrupt s. The promise on sound records, `Rules` with its `HeldAsOne`, names these numbers.
 #[derive(Clone, Copy)]
 pub struct Held {
     pub choice: u32,
@@ -57,8 +57,8 @@ pub fn nothing_held(choice: u32, hold: u32) -> Held
     ensures { result ≡ nothing_held choice hold }
 {
     Held {
-        choice: choice,
-        hold: hold,
+        choice,
+        hold,
         global: 0,
         host: [0; 256],
     }
@@ -110,10 +110,8 @@ fn hosts_sound(m: &[u16; 256], systems: u32, hosts: u32, hold: u32) -> bool
     ensures { result ≡ all_below 256 (λ k. entry_sound systems (ltb k hosts && eqb hold 1) (get_or m.now k 0)) }
 {
     let mut ok = true;
-    let mut k: usize = 0;
-    while k < 256 {
-        ok = ok & entry_sound(systems, ((k as u32) < hosts) & (hold == 1), m[k]);
-        k = k + 1;
+    for (k, x) in m.iter().enumerate() {
+        ok &= entry_sound(systems, ((k as u32) < hosts) & (hold == 1), *x);
     }
     ok
 }
@@ -149,23 +147,16 @@ fn system_held(x: u16) -> System
 pub fn word_held(x: u16) -> u32
     ensures { result ≡ word_held x }
 {
-    if x == 1 {
-        return indices::NONE;
+    match x {
+        0 => 0,
+        1 => indices::NONE,
+        _ => u32::from(system_held(x).0),
     }
-    if x < 2 {
-        return 0;
-    }
-    let s = system_held(x);
-    s.0 as u32
 }
 
 // What is held for a host interrupt; nothing past the last.
 pub fn host_at(host: &[u16], n: Host) -> u16
     ensures { result ≡ get_or host.now n.0 0 }
 {
-    let at = n.0 as usize;
-    if host.len() <= at {
-        return 0;
-    }
-    host[at]
+    host.get(usize::from(n.0)).copied().unwrap_or(0)
 }

@@ -9,7 +9,7 @@ use cic_held::{Held, Prioritised};
 use cic_record::Host;
 use steps::Access;
 
-// Which of them stands at an offset; any other offset is the CIC's.
+// Which of them stands at an offset; any other offset is the CIC's: the definitions of the steps, which the promises name, match on these four.
 #[derive(Clone, Copy)]
 pub enum Own {
     Elsewhere,

@@ -12,7 +12,7 @@ use cic_indexed::Own;
 use cic_record::{Cic, Host};
 use steps::{Access, Step};
 
-// What a read would answer, and the status words of 32 system interrupts that it would look at.
+// What a read would answer, and the status words of 32 system interrupts that it would look at: the promise `looks_same` names the refusal beside the value.
 #[derive(Clone, Copy)]
 pub struct Looked {
     pub refusal: u32,
@@ -98,8 +98,8 @@ fn answer(refusal: u32, value: u32, words: u32) -> Looked
     ensures { result ≡ looked refusal value words }
 {
     Looked {
-        refusal: refusal,
-        value: value,
-        words: words,
+        refusal,
+        value,
+        words,
     }
 }

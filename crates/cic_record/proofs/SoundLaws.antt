@@ -4,37 +4,41 @@ use mathlib.Core.Bool.{Bool, true, ◌&&◌}
 use mathlib.Core.List.{List}
 use Prim.Native.Nat.{ℕ, ◌+◌, ◌-◌, ◌≤◌}
 use native.Mathlib.Omega.{arith}
-use borrow.Author.Tests.{lt-ltb, le-ltb, leb-true, le-leb}
+use borrow.Author.Tests.{lt-ltb, le-ltb, ltb-true, eq-eqb, eqb-true, leb-true, le-leb}
 use lib.Dec.{eqb, ltb, leb}
-use lib.ListN.{get_or, length}
+use lib.ListN.{get_or, length, take, drop}
+use Rattle.std.proofs.lemmas.List.{take_all, length-take-le, length-drop, get_or-take, get_or-drop}
 use Rattle.words.specs.Array.{clean_below}
 use Rattle.words.specs.Choice.{pick}
 use Rattle.words.specs.Counting.{all_below}
 use Rattle.words.proofs.ChoiceLaws.{pick_true, pick-false}
-use Rattle.words.proofs.CountingLaws.{all-none_yet, all_more, all_same, all-add}
-use Rattle.words.proofs.TruthLaws.{and_left, and_right, and_both}
+use Rattle.words.proofs.CountingLaws.{all_same, all-add}
+use Rattle.words.proofs.TruthLaws.{and_left, and_right, and_both, same_test}
 use Rattle.cic_record.specs.declared.Cic.{Cic}
 use Rattle.cic_record.specs.Sound.{between, within, numbers_sound, entry_sound}
 
+-- a byte below 1 is 0
+under_one : (x : ℕ) → ltb x 1 ≡ eqb x 0
+under_one x = same_test (ltb x 1) (eqb x 0) (λ e. eq-eqb x 0 (omega (arith, ltb-true x 1 e))) (λ e. lt-ltb x 1 (omega (arith, eqb-true x 0 e)))
+
 -- the entries in use are below the limit and the rest is 0
 pub map-split : (m : List ℕ) (n limit : ℕ) → n ≤ length m
-    → (all_below n (λ i. ltb (get_or m i 0) limit) && all_below (length m - n) (λ i. eqb (get_or m (n + i) 0) 0)) ≡ all_below (length m) (entry_sound n limit m)
+    → (all_below (length (take n m)) (λ i. ltb (get_or (take n m) i 0) limit)
+    && all_below (length (take (length m - n) (drop n m))) (λ i. ltb (get_or (take (length m - n) (drop n m)) i 0) 1)) ≡ all_below (length m) (entry_sound n limit m)
 unfolding entry_sound
 map-split m n limit l =
+    let low : length (take n m) ≡ n = length-take-le n m l in
+    let high : take (length m - n) (drop n m) ≡ drop n m = take_all (length m - n) (drop n m) (omega (arith, length-drop n m)) in
+    let rest : length (drop n m) ≡ length m - n = length-drop n m in
     ap₂ (λ (a b : Bool). a && b)
-    (all_same n (λ i. ltb (get_or m i 0) limit) (entry_sound n limit m) (λ i h. pick_true (eqb (get_or m i 0) 0) (lt-ltb i n h)))
-    (all_same (length m - n) (λ i. eqb (get_or m (n + i) 0) 0) (λ i. entry_sound n limit m (n + i)) (λ i h. pick-false (ltb (get_or m (n + i) 0) limit) (le-ltb (n + i) n (omega arith))))
+    (ap (λ (k : ℕ). all_below k (λ i. ltb (get_or (take n m) i 0) limit)) low
+    ∙ all_same n (λ i. ltb (get_or (take n m) i 0) limit) (entry_sound n limit m)
+    (λ i h. ap (λ (x : ℕ). ltb x limit) (get_or-take n m i 0 h) ∙ pick_true (eqb (get_or m i 0) 0) (lt-ltb i n h)))
+    (ap (λ (xs : List ℕ). all_below (length xs) (λ i. ltb (get_or xs i 0) 1)) high
+    ∙ ap (λ (k : ℕ). all_below k (λ i. ltb (get_or (drop n m) i 0) 1)) rest
+    ∙ all_same (length m - n) (λ i. ltb (get_or (drop n m) i 0) 1) (λ i. entry_sound n limit m (n + i))
+    (λ i h. ap (λ (x : ℕ). ltb x 1) (get_or-drop n m i 0) ∙ under_one (get_or m (n + i) 0) ∙ pick-false (ltb (get_or m (n + i) 0) limit) (le-ltb (n + i) n (omega arith))))
     ∙ sym (all-add n (length m - n) (entry_sound n limit m)) ∙ ap (λ (k : ℕ). all_below k (entry_sound n limit m)) (omega arith)
-
--- a loop over the bytes from n on
-pub clear-start : (n : ℕ) (p : ℕ → Bool) → true ≡ all_below (n - n) p
-clear-start n p = all-none_yet p ∙ ap (λ (k : ℕ). all_below k p) (omega arith)
-
-pub clear-more : (m : List ℕ) (n i : ℕ) {o q : Bool} → n ≤ i → o ≡ all_below (i - n) (λ j. eqb (get_or m (n + j) 0) 0) → q ≡ eqb (get_or m i 0) 0
-    → (o && q) ≡ all_below (i + 1 - n) (λ j. eqb (get_or m (n + j) 0) 0)
-clear-more m n i l e f =
-    all_more (λ j. eqb (get_or m (n + j) 0) 0) (i - n) e (f ∙ ap (λ (j : ℕ). eqb (get_or m j 0) 0) (omega arith))
-    ∙ ap (λ (k : ℕ). all_below k (λ j. eqb (get_or m (n + j) 0) 0)) (omega arith)
 
 -- a whole array looked at: its length is the number of words
 pub whole : (m n : ℕ) (ws : List ℕ) {o : Bool} → length ws ≡ m → o ≡ clean_below (length ws) n ws → o ≡ clean_below m n ws

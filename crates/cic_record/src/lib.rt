@@ -1,7 +1,7 @@
 // The CIC's record, its three kinds of number, the start, and which records are sound (01, CIC).
 #![tactic(auto)]
 
-ghost use Rattle.std.specs.Prelude.{◌≡◌, true, false, ◌&&◌, ◌+◌, ◌-◌, ◌≤◌, eqb, ltb, leb, get_or, length};
+ghost use Rattle.std.specs.Prelude.{◌≡◌, true, false, ◌&&◌, ◌-◌, ◌≤◌, ltb, leb, get_or, length};
 ghost use Rattle.words.specs.Array.{clean_below};
 ghost use Rattle.words.specs.Counting.{all_below};
 ghost use Rattle.cic_record.specs.Record.{refused};
@@ -44,14 +44,14 @@ pub struct Size {
     pub revision: u32,
 }
 
-// What a start answers.
+// What a start answers: the promises `start_is` and `start_refused` give a refusal beside a record, zeros where it is refused.
 #[derive(Clone, Copy)]
 pub struct Begun {
     pub refusal: u32,
     pub cic: Cic,
 }
 
-// What a step answers.
+// What a step answers: the promises `answered_is` and `refused_is` give a refusal beside a value and a record.
 #[derive(Clone, Copy)]
 pub struct Answer {
     pub refusal: u32,
@@ -59,14 +59,14 @@ pub struct Answer {
     pub cic: Cic,
 }
 
-// What a step answers without the record after it.
+// What a step answers without the record after it, in the same form.
 #[derive(Clone, Copy)]
 pub struct Reply {
     pub refusal: u32,
     pub value: u32,
 }
 
-// How many hosts are asserted, and the lowest of them, 256 where none is.
+// How many hosts are asserted, and the lowest of them, 256 where none is: the promises `lowest_none` and `outputs_unsound` name these numbers.
 #[derive(Clone, Copy)]
 pub struct Signals {
     pub refusal: u32,
@@ -106,7 +106,8 @@ fn in_range(lowest: u32, highest: u32, n: u32) -> bool
     (lowest <= n) & (n <= highest)
 }
 
-// Whether the nth configuration number, in the order systems, channels, hosts, revision, may be `value`. The first is number 0.
+// Whether the nth configuration number, in the order systems, channels, hosts, revision, may be `value`. The first is number 0: the promise
+// `configuration` counts them.
 pub fn within(nth: u32, value: u32) -> bool
     ensures { result ≡ within nth value }
 {
@@ -119,14 +120,14 @@ pub fn within(nth: u32, value: u32) -> bool
 }
 
 // Lines low and all registers 0, beside the configured numbers.
-fn make(systems: u32, channels: u32, hosts: u32, revision: u32) -> Cic
-    ensures { result ≡ fresh systems channels hosts revision }
+fn make(z: Size) -> Cic
+    ensures { result ≡ fresh z.systems z.channels z.hosts z.revision }
 {
     Cic {
-        systems: systems,
-        channels: channels,
-        hosts: hosts,
-        revision: revision,
+        systems: z.systems,
+        channels: z.channels,
+        hosts: z.hosts,
+        revision: z.revision,
         global: 0,
         lines: [0; 32],
         status: [0; 32],
@@ -138,24 +139,35 @@ fn make(systems: u32, channels: u32, hosts: u32, revision: u32) -> Cic
 }
 
 // Whether each configuration number is within its limits.
-fn all_within(systems: u32, channels: u32, hosts: u32, revision: u32) -> bool
-    ensures { result ≡ configured systems channels hosts revision }
+fn all_within(z: Size) -> bool
+    ensures { result ≡ configured z.systems z.channels z.hosts z.revision }
 {
-    within(0, systems) & (within(1, channels) & (within(2, hosts) & within(3, revision)))
+    within(0, z.systems) & (within(1, z.channels) & (within(2, z.hosts) & within(3, z.revision)))
 }
 
 // The CIC at reset, or refusal 10 and a record of zeros where a number is beyond its limit.
 pub fn start(systems: u32, channels: u32, hosts: u32, revision: u32) -> Begun
     ensures { result ≡ start systems channels hosts revision }
 {
-    if all_within(systems, channels, hosts, revision) {
-        let c = make(systems, channels, hosts, revision);
+    let size = Size {
+        systems,
+        channels,
+        hosts,
+        revision,
+    };
+    if all_within(size) {
+        let c = make(size);
         return Begun {
             refusal: steps::CARRIED_OUT,
             cic: c,
         };
     }
-    let none = make(0, 0, 0, 0);
+    let none = make(Size {
+        systems: 0,
+        channels: 0,
+        hosts: 0,
+        revision: 0,
+    });
     Begun {
         refusal: steps::MISCONFIGURED,
         cic: none,
@@ -166,10 +178,7 @@ pub fn start(systems: u32, channels: u32, hosts: u32, revision: u32) -> Begun
 pub fn after_word(n: u32) -> u32
     ensures { result ≡ n - 32 }
 {
-    if n < 32 {
-        return 0;
-    }
-    n - 32
+    n.saturating_sub(32)
 }
 
 // Whether no bit from n on is set. No early exit, here and below, so that the loops can be vectorised.
@@ -178,63 +187,30 @@ fn words_clean(n: u32, ws: &[u32]) -> bool
 {
     let mut ok = true;
     let mut left = n;
-    let mut k: usize = 0;
-    while k < ws.len() {
-        ok = ok & words::is_clean(left, ws[k]);
+    for w in ws {
+        ok &= words::is_clean(left, *w);
         left = after_word(left);
-        k = k + 1;
     }
     ok
 }
 
-// Whether a map byte is below its limit.
-fn under(b: u8, limit: u32) -> bool
-    ensures { result ≡ ltb b limit }
-{
-    (b as u32) < limit
-}
-
-// Whether a map byte is 0.
-fn clear(b: u8) -> bool
-    ensures { result ≡ eqb b 0 }
-{
-    b == 0
-}
-
-// Whether the first n bytes are below the limit.
-fn bytes_under(m: &[u8], n: usize, limit: u32) -> bool
-    requires { n ≤ length m.now }
-    ensures { result ≡ all_below n (λ i. ltb (get_or m.now i 0) limit) }
+// Whether each byte is below the limit.
+fn bytes_under(m: &[u8], limit: u32) -> bool
+    ensures { result ≡ all_below (length m.now) (λ i. ltb (get_or m.now i 0) limit) }
 {
     let mut ok = true;
-    let mut i: usize = 0;
-    while i < n {
-        ok = ok & under(m[i], limit);
-        i = i + 1;
+    for b in m {
+        ok &= u32::from(*b) < limit;
     }
     ok
 }
 
-// Whether the bytes from n on are 0.
-fn bytes_clear(m: &[u8], n: usize) -> bool
-    requires { n ≤ length m.now }
-    ensures { result ≡ all_below (length m.now - n) (λ i. eqb (get_or m.now (n + i) 0) 0) }
-{
-    let mut ok = true;
-    let mut i: usize = n;
-    while i < m.len() {
-        ok = ok & clear(m[i]);
-        i = i + 1;
-    }
-    ok
-}
-
-// Whether each of the n entries in use is below the limit and the others are 0.
+// Whether each of the n entries in use is below the limit and the others are 0, that is below 1.
 fn map_sound(m: &[u8], n: usize, limit: u32) -> bool
     requires { n ≤ length m.now }
     ensures { result ≡ all_below (length m.now) (entry_sound n limit m.now) }
 {
-    bytes_under(m, n, limit) & bytes_clear(m, n)
+    bytes_under(&m[..n], limit) & bytes_under(&m[n..], 1)
 }
 
 // Whether the counts are in their ranges and global enable is 0 or 1.

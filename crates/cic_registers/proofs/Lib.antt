@@ -3,6 +3,7 @@ pub mod AccessLaws
 pub mod BitsLaws
 pub mod HostsPromises
 pub mod LayoutPromises
+pub mod MadeLaws
 pub mod MapLaws
 pub mod MapRegisterLaws
 pub mod MapsPromises

@@ -1,9 +1,10 @@
 -- What the scan of the words rests on: a host marked, one bit more, one word more, and all of them.
 use mathlib.Core.Path.{◌≡◌, refl, sym, ap, ap₂, ◌∙◌}
 use mathlib.Core.Bool.{Bool, true, false, ◌&&◌, ◌||◌, or-false, or_assoc, and-false}
+use mathlib.Core.Logic.{⊎_elim}
 use mathlib.Core.List.{List}
-use Prim.Native.Nat.{ℕ, ◌+◌, ◌*◌, ◌/◌, ◌%◌, ◌^◌, ◌≤◌, ◌<◌}
-use native.Mathlib.Decide.{dec_lt}
+use Prim.Native.Nat.{ℕ, ◌+◌, ◌*◌, ◌/◌, ◌%◌, ◌≤◌, ◌<◌}
+use native.Mathlib.Decide.{dec_lt, ℕ_discrete}
 use native.Mathlib.Omega.{arith}
 use borrow.Author.Tests.{eq-eqb, ne_eqb, lt-ltb, ltb-true}
 use lib.Dec.{eqb, ltb}
@@ -11,10 +12,11 @@ use lib.ListN.{length, get_or, get_or-eq_default}
 use Rattle.words.specs.Array.{bit_at, with_bit_at, rest_at}
 use Rattle.words.specs.Choice.{pick}
 use Rattle.words.specs.Counting.{any_below, count_below, lowest_below}
-use Rattle.words.specs.Word.{bit, both, kept}
+use Rattle.words.specs.Word.{bit, both, with_bit, kept}
 use Rattle.words.proofs.ArrayLaws.{bit_at-with_bit_at, bit_at_word, rest-ltb}
-use Rattle.words.proofs.CountingLaws.{count_same, any-more, any-add, any_same, any_some, some_any, lowest-same}
-use Rattle.words.proofs.TruthLaws.{and_left, and_right, and_both, clash, same_test, eqb_iff}
+use Rattle.words.proofs.CountingLaws.{count_same, any-add, any_same, any_some, some_any, any_none, lowest-same}
+use Rattle.words.proofs.HopLaws.{hop_here, hop-other}
+use Rattle.words.proofs.TruthLaws.{and_left, and_right, and_both, or-either, or_left, or_right, clash, same_test, eqb_iff}
 use Rattle.words.proofs.WordLaws.{bit-none, bit-both, bit_kept}
 use Rattle.steps.specs.Refusals.{carried_out}
 use Rattle.cic_record.specs.declared.Cic.{Cic}
@@ -34,25 +36,51 @@ set-bit false true = refl
 set-bit false false = refl
 
 -- a host is marked
-pub marked : (ws ws' : List ℕ) (on x y h : ℕ) → y / 32 < length ws → on ≡ 1 → y ≡ x → ws' ≡ with_bit_at ws y true → bit_at ws' h ≡ (bit_at ws h || (eqb on 1 && eqb x h))
-marked ws ws' on x y h l o e s =
+pub marked : (ws ws' : List ℕ) (x y h : ℕ) → y / 32 < length ws → y ≡ x → ws' ≡ with_bit_at ws y true → bit_at ws' h ≡ (bit_at ws h || eqb x h)
+marked ws ws' x y h l e s =
     ap (λ (v : List ℕ). bit_at v h) s ∙ bit_at-with_bit_at ws y true h l ∙ set-bit (eqb h y) (bit_at ws h)
-    ∙ ap (λ (b : Bool). bit_at ws h || b) (eqb_iff h y x h (λ p. sym (p ∙ e)) (λ p. sym (e ∙ p)) ∙ sym (ap (λ (b : Bool). b && eqb x h) (eq-eqb on 1 o)))
-
--- or passed over
-pub passed : (b : Bool) (on : ℕ) (q : Bool) → (on ≡ 1 → ⊥) → b ≡ (b || (eqb on 1 && q))
-passed b on q n = sym (ap (λ (t : Bool). b || (t && q)) (ne_eqb on 1 n) ∙ or-false b)
+    ∙ ap (λ (b : Bool). bit_at ws h || b) (eqb_iff h y x h (λ p. sym (p ∙ e)) (λ p. sym (e ∙ p)))
 
 -- ---- one bit more
 
-pub grown : (p : ℕ → Bool) (i : ℕ) (o o₀ o' q : Bool) → o' ≡ (o || q) → q ≡ p i → o ≡ (o₀ || any_below i p) → o' ≡ (o₀ || any_below (i + 1) p)
-grown p i o o₀ o' q e f g =
-    e ∙ ap₂ (λ (a b : Bool). a || b) g f ∙ or_assoc o₀ (any_below i p) (p i) ∙ ap (λ (b : Bool). o₀ || b) (any-more p i refl refl)
+-- the bits that pass a test are the lowest, if it passes, and those that are left without it
+one_hop : (w i : ℕ) (q : ℕ → Bool) → i < 32 → bit w i ≡ true
+    → any_below 32 (λ j. bit w j && q j) ≡ (q i || any_below 32 (λ j. bit (with_bit w i false) j && q j))
+one_hop w i q m s = same_test (any_below 32 (λ j. bit w j && q j)) (q i || any_below 32 (λ j. bit (with_bit w i false) j && q j)) there back
+  where
+    there : any_below 32 (λ j. bit w j && q j) ≡ true → (q i || any_below 32 (λ j. bit (with_bit w i false) j && q j)) ≡ true
+    there e = let r = any_some 32 (λ j. bit w j && q j) e in go r.0 r.1 r.2 (ℕ_discrete r.0 i)
+      where
+        go : (k : ℕ) → k < 32 → (bit w k && q k) ≡ true → Dec (k ≡ i) → (q i || any_below 32 (λ j. bit (with_bit w i false) j && q j)) ≡ true
+        go k l b (yes d) = or_left (any_below 32 (λ j. bit (with_bit w i false) j && q j)) (ap q (sym d) ∙ and_right (bit w k) (q k) b)
+        go k l b (no d) =
+            or_right (q i)
+            (some_any 32 (λ j. bit (with_bit w i false) j && q j) k l (and_both (hop-other w i k l d ∙ and_left (bit w k) (q k) b) (and_right (bit w k) (q k) b)))
 
--- the lowest bit of what is left of w
-pub bit_of-left : (w left i : ℕ) → left ≡ w / 2 ^ i → eqb (left % 2) 1 ≡ bit w i
-unfolding bit
-bit_of-left w left i e = ap (λ (n : ℕ). eqb (n % 2) 1) e
+    back : (q i || any_below 32 (λ j. bit (with_bit w i false) j && q j)) ≡ true → any_below 32 (λ j. bit w j && q j) ≡ true
+    back e =
+        ⊎_elim
+        (λ (x : q i ≡ true). some_any 32 (λ j. bit w j && q j) i m (and_both s x))
+        (λ (x : any_below 32 (λ j. bit (with_bit w i false) j && q j) ≡ true). let r = any_some 32 (λ j. bit (with_bit w i false) j && q j) x in go r.0 r.1 r.2 (ℕ_discrete r.0 i))
+        (or-either (q i) (any_below 32 (λ j. bit (with_bit w i false) j && q j)) e)
+      where
+        go : (k : ℕ) → k < 32 → (bit (with_bit w i false) k && q k) ≡ true → Dec (k ≡ i) → any_below 32 (λ j. bit w j && q j) ≡ true
+        go k l b (yes d) = clash (and_left (bit (with_bit w i false) k) (q k) b) (ap (bit (with_bit w i false)) d ∙ hop_here w i m)
+        go k l b (no d) =
+            some_any 32 (λ j. bit w j && q j) k l
+            (and_both (sym (hop-other w i k l d) ∙ and_left (bit (with_bit w i false) k) (q k) b) (and_right (bit (with_bit w i false) k) (q k) b))
+
+-- the host of the lowest is marked: what is marked and what is left to mark are as they were
+pub hopped : (w w' i : ℕ) (q : ℕ → Bool) (b b' all : Bool) → i < 32 → bit w i ≡ true → w' ≡ with_bit w i false → b' ≡ (b || q i)
+    → (b || any_below 32 (λ j. bit w j && q j)) ≡ all → (b' || any_below 32 (λ j. bit w' j && q j)) ≡ all
+hopped w w' i q b b' all m s e f g =
+    ap₂ (λ (x : Bool) (v : ℕ). x || any_below 32 (λ j. bit v j && q j)) f e ∙ or_assoc b (q i) (any_below 32 (λ j. bit (with_bit w i false) j && q j))
+    ∙ ap (λ (x : Bool). b || x) (sym (one_hop w i q m s)) ∙ g
+
+-- nothing is left
+pub no_hop : (w : ℕ) (q : ℕ → Bool) (b all : Bool) → w ≡ 0 → (b || any_below 32 (λ j. bit w j && q j)) ≡ all → b ≡ all
+no_hop w q b all e g =
+    sym (ap (λ (x : Bool). b || x) (any_none 32 (λ j. bit w j && q j) (λ k l. ap (λ (v : ℕ). bit v k && q k) e ∙ ap (λ (x : Bool). x && q k) (bit-none k))) ∙ or-false b) ∙ g
 
 -- ---- one word more
 

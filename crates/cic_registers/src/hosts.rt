@@ -1,5 +1,5 @@
 // Which host interrupts of a CIC are asserted, how many, and the lowest of them (01, CIC, outputs).
-ghost use Rattle.std.specs.Prelude.{◌≡◌, true, false, ◌&&◌, ◌||◌, ℕ, ◌<◌, ◌≤◌, eqb, length};
+ghost use Rattle.std.specs.Prelude.{◌≡◌, true, ◌&&◌, ◌||◌, ℕ, ◌<◌, ◌≤◌, eqb, get_or, length};
 ghost use Rattle.words.specs.Array.{bit_at, with_bit_at};
 ghost use Rattle.words.specs.Counting.{any_below, count_below, lowest_below};
 ghost use Rattle.cic_record.specs.Kinds.{system, host_number, channel_in, host_in};
@@ -7,12 +7,14 @@ ghost use Rattle.cic_registers.specs.Hosts.{raises, asserted, shown, outputs};
 ghost use Rattle.cic_registers.specs.Scan.{goes};
 
 use cic_record::{Channel, Cic, Host, Signals, System};
+use std::array;
 
-// A byte of a map as a number.
-fn wide(b: u8) -> u16
-    ensures { (result ≡ b) × (result < 256) }
+// Entry n of a lent map.
+fn entry(map: &[u8], n: u16) -> u16
+    requires { n < length map.now }
+    ensures { (result ≡ get_or map.now n 0) × (result < 256) }
 {
-    b as u16
+    u16::from(map[usize::from(n)])
 }
 
 // The channel of a system interrupt in a lent channel map: the scan copies no record.
@@ -20,8 +22,7 @@ pub fn channel_in(channel: &[u8; 1024], s: System) -> Channel
     requires { s.0 < 1024 }
     ensures { (result ≡ channel_in channel.now s) × (result.0 < 256) }
 {
-    let at = s.0 as usize;
-    Channel(wide(channel[at]))
+    Channel(entry(channel, s.0))
 }
 
 // The host interrupt that a channel is mapped to in a lent host map.
@@ -29,8 +30,7 @@ pub fn host_in(host: &[u8; 256], k: Channel) -> Host
     requires { k.0 < 256 }
     ensures { (result ≡ host_in host.now k) × (result.0 < 256) }
 {
-    let at = k.0 as usize;
-    Host(wide(host[at]))
+    Host(entry(host, k.0))
 }
 
 // Marks a host beside those marked already.
@@ -43,17 +43,15 @@ fn mark(out: &mut [u32; 8], h: Host)
     out[at] = words::with_bit(out[at], bit, true);
 }
 
-// Marks the host of system interrupt s where `on` is 1.
-fn visit<'a>(channel: &'a [u8; 1024], host: &'a [u8; 256], s: System, on: u32, out: &mut [u32; 8])
+// Marks the host of system interrupt s.
+fn visit<'a>(channel: &'a [u8; 1024], host: &'a [u8; 256], s: System, out: &mut [u32; 8])
     requires s_bound { s.0 < 1024 }
     requires out_len { length out.old ≡ 8 }
-    ensures bits { (h : ℕ) → bit_at out.new h ≡ (bit_at out.old h || (eqb on 1 && eqb (host_in host.now (channel_in channel.now s)).0 h)) }
+    ensures bits { (h : ℕ) → bit_at out.new h ≡ (bit_at out.old h || eqb (host_in host.now (channel_in channel.now s)).0 h) }
     ensures long { length out.new ≡ 8 }
 {
-    if on == 1 {
-        let h = host_in(host, channel_in(channel, s));
-        mark(out, h);
-    }
+    let h = host_in(host, channel_in(channel, s));
+    mark(out, h);
 }
 
 // Marks the hosts that the bits of w go to, bit i being system interrupt base + i. A word of 0 takes no turn.
@@ -64,11 +62,10 @@ fn scan<'a>(channel: &'a [u8; 1024], host: &'a [u8; 256], base: u16, w: u32, out
     ensures long { length out.new ≡ 8 }
 {
     let mut left = w;
-    let mut i: u16 = 0;
     while left != 0 {
-        visit(channel, host, System(base + i), left % 2, out);
-        left = left / 2;
-        i = i + 1;
+        let i = words::lowest(left);
+        visit(channel, host, System(base + i as u16), out);
+        left = words::with_bit(left, i, false);
     }
 }
 
@@ -79,13 +76,11 @@ fn raised_hosts(c: Cic) -> [u32; 8]
     let mut out = [0u32; 8];
     let mut rest = c.systems;
     let mut base: u16 = 0;
-    let mut k: usize = 0;
-    while k < 32 {
-        let w = words::keep(rest, words::meet(c.status[k], c.enable[k]));
+    for (status, enable) in c.status.iter().zip(&c.enable) {
+        let w = words::keep(rest, words::meet(*status, *enable));
         scan(&c.channel, &c.host, base, w, &mut out);
         rest = cic_record::after_word(rest);
-        base = base + 32;
-        k = k + 1;
+        base += 32;
     }
     out
 }
@@ -94,13 +89,7 @@ fn raised_hosts(c: Cic) -> [u32; 8]
 fn shared(a: [u32; 8], b: [u32; 8]) -> [u32; 8]
     ensures { (h : ℕ) → h < 256 → bit_at result h ≡ (bit_at a h && bit_at b h) }
 {
-    let mut out = [0u32; 8];
-    let mut k: usize = 0;
-    while k < 8 {
-        out[k] = words::meet(a[k], b[k]);
-        k = k + 1;
-    }
-    out
+    array::from_fn(|k| words::meet(a[k], b[k]))
 }
 
 // The asserted hosts, one bit for each.
@@ -121,10 +110,8 @@ pub fn count_of(ws: [u32; 8]) -> u32
     ensures { result ≡ count_below 256 (bit_at ws) }
 {
     let mut sum: u32 = 0;
-    let mut k: usize = 0;
-    while k < 8 {
-        sum = sum + words::count(ws[k]);
-        k = k + 1;
+    for w in ws {
+        sum += words::count(w);
     }
     sum
 }
@@ -133,15 +120,12 @@ pub fn count_of(ws: [u32; 8]) -> u32
 pub fn lowest_of(ws: [u32; 8]) -> u32
     ensures { result ≡ lowest_below 256 (bit_at ws) }
 {
-    let mut k: u32 = 0;
-    while k < 8 {
-        let at = k as usize;
-        let w = ws[at];
-        if w != 0 {
-            return 32 * k + words::lowest(w);
+    for (k, w) in ws.iter().enumerate() {
+        if *w != 0 {
+            return 32 * k as u32 + words::lowest(*w);
         }
-        k = k + 1;
     }
+    // The number past the last host: `lowest` of `Signals` is this in C and in the promise `lowest_none`.
     256
 }
 
@@ -174,8 +158,8 @@ pub fn shown(c: Cic) -> Signals
     let lowest = lowest_of(ws);
     Signals {
         refusal: steps::CARRIED_OUT,
-        hosts: hosts,
-        lowest: lowest,
+        hosts,
+        lowest,
     }
 }
 

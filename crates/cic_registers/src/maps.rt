@@ -23,6 +23,7 @@ fn number_at(k: u32, j: u32) -> u64
 }
 
 // Whether byte j of v may stand in register k of the channel map: a spare byte is not checked.
+// Beside it stands the same of the host map: a `Channel` is held to the channels and a `Host` to the hosts, so that the compiler refuses one for the other.
 fn channel_taken(z: Size, k: u32, v: u32, j: u32) -> bool
     requires { j < 4 }
     ensures { result ≡ byte_taken z.systems z.channels k v j }

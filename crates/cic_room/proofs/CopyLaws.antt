@@ -49,3 +49,7 @@ words_more P out k x l h p i m = go (ℕ_discrete i k)
 -- the same words by another function
 pub copied_as : {at n : ℕ} {f g : ℕ → ℕ} {old new : List ℕ} → ((k : ℕ) → k < n → f k ≡ g k) → Copied at n f old new → Copied at n g old new
 copied_as e c = record { long = c.long; table = record { holds = λ k l. c.table.holds k l ∙ e k l }; others = c.others }
+
+-- a list that is copied whole
+pub copied_whole : {at n m : ℕ} {f : ℕ → ℕ} {old new : List ℕ} → n ≡ m → Copied at n f old new → Copied at m f old new
+copied_whole e c = copied_all (omega (arith, e)) (omega (arith, e)) c

@@ -1,5 +1,6 @@
 -- Laws of what a step in a room answers.
 pub mod AssertLaws
+pub mod BitsLaws
 pub mod CopyLaws
 pub mod FourLaws
 pub mod KeptLaws

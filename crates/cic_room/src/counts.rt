@@ -17,14 +17,21 @@ use rooms::Room;
 
 // ---- bits
 
+// Bit n of the table of words from a place on.
+pub(crate) fn mark(room: &mut Room, table: usize, n: u16, on: bool)
+    requires { table + n / 32 < 2048 }
+    ensures { room.new ≡ set room.old (table + n / 32) (with_bit (get_or room.old (table + n / 32) 0) (n % 32) on) }
+{
+    let word = &mut room[table + usize::from(n / 32)];
+    *word = words::with_bit(*word, u32::from(n % 32), on);
+}
+
 // Whether a host has any.
 fn mark_raised(room: &mut Room, h: Host, on: bool)
     requires { h.0 < 256 }
     ensures { room.new ≡ set room.old (24 + h.0 / 32) (with_bit (get_or room.old (24 + h.0 / 32) 0) (h.0 % 32) on) }
 {
-    let at = RAISED + (h.0 / 32) as usize;
-    let w = words::with_bit(room[at], (h.0 % 32) as u32, on);
-    room[at] = w;
+    mark(room, RAISED, h.0, on);
 }
 
 // Whether a channel has any.
@@ -32,9 +39,7 @@ fn mark_busy(room: &mut Room, k: Channel, on: bool)
     requires { k.0 < 256 }
     ensures { room.new ≡ set room.old (32 + k.0 / 32) (with_bit (get_or room.old (32 + k.0 / 32) 0) (k.0 % 32) on) }
 {
-    let at = BUSY + (k.0 / 32) as usize;
-    let w = words::with_bit(room[at], (k.0 % 32) as u32, on);
-    room[at] = w;
+    mark(room, BUSY, k.0, on);
 }
 
 // Whether a system interrupt is active.
@@ -42,9 +47,7 @@ fn mark_active(room: &mut Room, s: System, on: bool)
     requires { s.0 < 1024 }
     ensures { room.new ≡ set room.old (160 + s.0 / 32) (with_bit (get_or room.old (160 + s.0 / 32) 0) (s.0 % 32) on) }
 {
-    let at = ACTIVE + (s.0 / 32) as usize;
-    let w = words::with_bit(room[at], (s.0 % 32) as u32, on);
-    room[at] = w;
+    mark(room, ACTIVE, s.0, on);
 }
 
 // ---- what is shown of the hosts
@@ -74,10 +77,8 @@ fn count_asserted(room: &Room) -> u32
     ensures { (f : Frame) (c : Cic) (n b a u x g : ℕ → ℕ) → Held f c room.now → Tables n (some_word g) b a u x room.now → result ≡ count_below 256 (reached (permitted c) g) }
 {
     let mut sum: u32 = 0;
-    let mut k: u32 = 0;
-    while k < 8 {
-        sum = sum + words::count(asserted_word(room, k));
-        k = k + 1;
+    for k in 0..8 {
+        sum += words::count(asserted_word(room, k));
     }
     sum
 }
@@ -87,14 +88,13 @@ fn lowest_from(room: &Room, from: u32) -> u32
     requires { from ≤ 8 }
     ensures { (f : Frame) (c : Cic) (n b a u x g : ℕ → ℕ) → Held f c room.now → Tables n (some_word g) b a u x room.now → ((h : ℕ) → h < 32 * from → reached (permitted c) g h ≡ false) → result ≡ lowest_below 256 (reached (permitted c) g) }
 {
-    let mut k = from;
-    while k < 8 {
+    for k in from..8 {
         let w = asserted_word(room, k);
         if w != 0 {
             return 32 * k + words::lowest(w);
         }
-        k = k + 1;
     }
+    // As a room keeps it, and `Signals` after it: the number past the last host.
     256
 }
 

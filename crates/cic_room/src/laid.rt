@@ -1,15 +1,16 @@
 // The CIC laid out in a room: where each number of its record stands, what each register and each line change there, and how what is kept beside the record
 // follows it. Every change leaves the frame as it is, so that a CIC with prioritised indices is changed by the same functions.
-ghost use Rattle.std.specs.Prelude.{◌≡◌, true, ◌*◌, ◌%◌, ◌<◌, ◌≤◌, set};
+ghost use Rattle.std.specs.Prelude.{◌≡◌, true, ◌*◌, ◌%◌, ◌<◌, ◌≤◌, get_or, set};
 ghost use Rattle.words.specs.Array.{with_bit_at, rest_at, byte_of};
 ghost use Rattle.words.specs.Word.{kept};
 ghost use Rattle.cic_record.specs.declared.Cic.{Cic};
 ghost use Rattle.cic_record.specs.Kinds.{channel_of, host_of};
 ghost use Rattle.cic_record.specs.Sound.{sound};
-ghost use Rattle.cic_record.specs.Record.{with_global, with_lines, with_status, with_enable, with_channel, with_host, with_allow};
+ghost use Rattle.cic_record.specs.Record.{with_global, with_lines, with_channel, with_host, with_allow};
 ghost use Rattle.cic_registers.specs.Maps.{map_put};
 ghost use Rattle.cic_registers.specs.Bits.{bits_set, bits_cleared, word_replaced};
 ghost use Rattle.cic_registers.specs.Model.{moved};
+ghost use Rattle.cic_room.specs.Bits.{place, bits_of, with_bits};
 ghost use Rattle.cic_room.specs.Room.{Frame, Laid, active_word};
 ghost use Rattle.cic_room.specs.Tables.{Held};
 
@@ -116,88 +117,72 @@ fn rest_at(n: u32, k: u32) -> u32
     requires { k < 32 }
     ensures { result ≡ rest_at n k }
 {
-    if n <= 32 * k {
-        return 0;
-    }
-    n - 32 * k
+    n.saturating_sub(32 * k)
 }
 
 // ---- words of status and enable bits
 
-// Word k of the status bits.
-fn store_status(room: &mut Room, k: u32, w: u32)
-    requires { k < 32 }
-    ensures { (f : Frame) (c : Cic) → Laid f c room.old → Laid f (with_status c (set c.status k w)) room.new }
+// The two that make a system interrupt active.
+#[derive(Clone, Copy)]
+pub enum Bits {
+    Status,
+    Enable,
+}
+
+// Where their words stand.
+fn place(b: Bits) -> usize
+    ensures { (result ≡ place b) × (result ≤ 128) }
 {
-    room[STATUS + k as usize] = w;
+    match b {
+        Bits::Status => STATUS,
+        Bits::Enable => ENABLE,
+    }
+}
+
+// Word k of them.
+fn word(room: &Room, b: Bits, k: u32) -> u32
+    requires { k < 32 }
+    ensures { (f : Frame) (c : Cic) → Laid f c room.now → result ≡ get_or (bits_of b c) k 0 }
+{
+    room[place(b) + k as usize]
+}
+
+// Word k is put.
+fn store(room: &mut Room, b: Bits, k: u32, w: u32)
+    requires { k < 32 }
+    ensures { (f : Frame) (c : Cic) → Laid f c room.old → Laid f (with_bits b c (set (bits_of b c) k w)) room.new }
+{
+    room[place(b) + k as usize] = w;
     super::counts::renew_word(room, k);
 }
 
-// Word k of the enable bits.
-fn store_enable(room: &mut Room, k: u32, w: u32)
-    requires { k < 32 }
-    ensures { (f : Frame) (c : Cic) → Laid f c room.old → Laid f (with_enable c (set c.enable k w)) room.new }
-{
-    room[ENABLE + k as usize] = w;
-    super::counts::renew_word(room, k);
-}
-
-// The status of a system interrupt is set or cleared.
-pub(crate) fn mark_status(room: &mut Room, s: System, on: bool)
+// The bit of a system interrupt is set or cleared.
+pub(crate) fn mark_bit(room: &mut Room, b: Bits, s: System, on: bool)
     requires { s.0 < 1024 }
-    ensures { (f : Frame) (c : Cic) → Laid f c room.old → Laid f (with_status c (with_bit_at c.status s.0 on)) room.new }
+    ensures { (f : Frame) (c : Cic) → Laid f c room.old → Laid f (with_bits b c (with_bit_at (bits_of b c) s.0 on)) room.new }
 {
     let n = s.0 as u32;
-    let w = words::with_bit(room[STATUS + (n / 32) as usize], n % 32, on);
-    store_status(room, n / 32, w);
+    let w = words::with_bit(word(room, b, n / 32), n % 32, on);
+    store(room, b, n / 32, w);
 }
 
-// A system interrupt is enabled or disabled.
-pub(crate) fn mark_enable(room: &mut Room, s: System, on: bool)
-    requires { s.0 < 1024 }
-    ensures { (f : Frame) (c : Cic) → Laid f c room.old → Laid f (with_enable c (with_bit_at c.enable s.0 on)) room.new }
-{
-    let n = s.0 as u32;
-    let w = words::with_bit(room[ENABLE + (n / 32) as usize], n % 32, on);
-    store_enable(room, n / 32, w);
-}
-
-// Each 1 of v sets its bit of word k of the status.
-pub(crate) fn set_status(room: &mut Room, k: u32, v: u32)
+// Each 1 of v sets its bit of word k.
+pub(crate) fn set_bits(room: &mut Room, b: Bits, k: u32, v: u32)
     requires { k < 32 }
-    ensures { (f : Frame) (c : Cic) → Laid f c room.old → Laid f (with_status c (bits_set c.systems c.status k v)) room.new }
+    ensures { (f : Frame) (c : Cic) → Laid f c room.old → Laid f (with_bits b c (bits_set c.systems (bits_of b c) k v)) room.new }
 {
     let new = words::keep(rest_at(room[SYSTEMS], k), v);
-    let w = words::join(room[STATUS + k as usize], new);
-    store_status(room, k, w);
+    let w = words::join(word(room, b, k), new);
+    store(room, b, k, w);
 }
 
 // Each 1 of v clears it.
-pub(crate) fn clear_status(room: &mut Room, k: u32, v: u32)
+pub(crate) fn clear_bits(room: &mut Room, b: Bits, k: u32, v: u32)
     requires { k < 32 }
-    ensures { (f : Frame) (c : Cic) → Laid f c room.old → Laid f (with_status c (bits_cleared c.status k v)) room.new }
+    ensures { (f : Frame) (c : Cic) → Laid f c room.old → Laid f (with_bits b c (bits_cleared (bits_of b c) k v)) room.new }
 {
-    let w = words::drop_bits(room[STATUS + k as usize], v);
-    store_status(room, k, w);
-}
-
-// Each 1 of v sets its bit of word k of the enables.
-pub(crate) fn set_enable(room: &mut Room, k: u32, v: u32)
-    requires { k < 32 }
-    ensures { (f : Frame) (c : Cic) → Laid f c room.old → Laid f (with_enable c (bits_set c.systems c.enable k v)) room.new }
-{
-    let new = words::keep(rest_at(room[SYSTEMS], k), v);
-    let w = words::join(room[ENABLE + k as usize], new);
-    store_enable(room, k, w);
-}
-
-// Each 1 of v clears it.
-pub(crate) fn clear_enable(room: &mut Room, k: u32, v: u32)
-    requires { k < 32 }
-    ensures { (f : Frame) (c : Cic) → Laid f c room.old → Laid f (with_enable c (bits_cleared c.enable k v)) room.new }
-{
-    let w = words::drop_bits(room[ENABLE + k as usize], v);
-    store_enable(room, k, w);
+    let w = words::drop_bits(word(room, b, k), v);
+    store(room, b, k, w);
 }
 
 // ---- lines and enables of hosts
@@ -221,7 +206,7 @@ pub(crate) fn move_line(room: &mut Room, s: System, high: bool)
     let old = words::has(room[LINES + (n / 32) as usize], n % 32);
     put_line(room, s, high);
     if high & !old {
-        mark_status(room, s, true);
+        mark_bit(room, Bits::Status, s, true);
     }
 }
 

@@ -1,5 +1,6 @@
 // A record of the CIC into a room, and out of it.
-ghost use Rattle.std.specs.Prelude.{◌≡◌, true, List, ℕ, ◌+◌, ◌*◌, ◌<◌, ◌≤◌, length, get_or};
+ghost use Rattle.std.specs.Prelude.{◌≡◌, true, List, ℕ, ◌+◌, ◌*◌, ◌/◌, ◌%◌, ◌<◌, ◌≤◌, length, get_or};
+ghost use Rattle.words.specs.Array.{byte_of};
 ghost use Rattle.cic_record.specs.declared.Cic.{Cic};
 ghost use Rattle.cic_record.specs.Sound.{sound};
 ghost use Rattle.cic_registers.specs.Maps.{map_read};
@@ -9,107 +10,37 @@ ghost use Rattle.cic_room.specs.Copies.{Copied, Blank};
 
 use super::laid::{
     ALLOW, CHANNEL_MAP, CHANNELS, ENABLE, GLOBAL, HOST_MAP, HOSTS, KIND, LINES, LOWEST, REVISION,
-    STATUS, SYSTEMS,
+    STATUS, SYSTEMS, byte_of,
 };
-use cic_record::{Channel, Cic, System};
+use cic_record::Cic;
 use rooms::Room;
+use std::array;
 
 // ---- a record into a room
 
-// The first words.
-fn copy_cells<'a>(room: &'a mut Room, ws: &'a [u32; 7])
-    ensures { length room.old ≡ 2048 → Copied 0 7 (λ k. get_or ws.now k 0) room.old room.new }
+// Words from a place on.
+fn copy(room: &mut Room, at: usize, ws: &[u32])
+    requires { at + length ws.now ≤ 2048 }
+    ensures { length room.old ≡ 2048 → Copied at (length ws.now) (λ k. get_or ws.now k 0) room.old room.new }
 {
-    let mut k: usize = 0;
-    while k < 7 {
-        room[KIND + k] = ws[k];
-        k = k + 1;
-    }
+    room[at..at + ws.len()].copy_from_slice(ws);
 }
 
-// The host enables.
-fn copy_allow<'a>(room: &'a mut Room, ws: &'a [u32; 8])
-    ensures { length room.old ≡ 2048 → Copied 16 8 (λ k. get_or ws.now k 0) room.old room.new }
+// Word k of a map, the first of its four bytes in the lowest.
+fn map_word(m: &[u8], k: usize) -> u32
+    requires { 4 * k + 4 ≤ length m.now }
+    ensures { result ≡ map_read (length m.now) m.now k }
 {
-    let mut k: usize = 0;
-    while k < 8 {
-        room[ALLOW + k] = ws[k];
-        k = k + 1;
-    }
+    u32::from_le_bytes([m[4 * k], m[4 * k + 1], m[4 * k + 2], m[4 * k + 3]])
 }
 
-// A table of 32 words.
-fn copy_words<'a>(room: &'a mut Room, at: usize, ws: &'a [u32; 32])
-    requires { at ≤ 512 }
-    ensures { length room.old ≡ 2048 → Copied at 32 (λ k. get_or ws.now k 0) room.old room.new }
+// A map from a place on, n words of four bytes.
+fn copy_map(room: &mut Room, at: usize, m: &[u8], n: usize)
+    requires { (length m.now ≡ 4 * n) × (at + n ≤ 2048) }
+    ensures { length room.old ≡ 2048 → Copied at n (map_read (length m.now) m.now) room.old room.new }
 {
-    let mut k: usize = 0;
-    while k < 32 {
-        room[at + k] = ws[k];
-        k = k + 1;
-    }
-}
-
-// A byte of a map as a number.
-fn wide(b: u8) -> u32
-    ensures { (result ≡ b) × (result < 256) }
-{
-    b as u32
-}
-
-// Four bytes as a word, the first in the lowest byte.
-fn word_of(p: u32, q: u32, r: u32, s: u32) -> u32
-    requires { ((p < 256) × (q < 256)) × ((r < 256) × (s < 256)) }
-    ensures { result ≡ p + q * 256 + r * 65536 + s * 16777216 }
-{
-    p + q * 256 + r * 65536 + s * 16777216
-}
-
-// Word k of the host map.
-fn host_word(m: &[u8; 256], k: usize) -> u32
-    requires { k < 64 }
-    ensures { result ≡ map_read 256 m.now k }
-{
-    let p = wide(m[4 * k]);
-    let q = wide(m[4 * k + 1]);
-    let r = wide(m[4 * k + 2]);
-    let s = wide(m[4 * k + 3]);
-    word_of(p, q, r, s)
-}
-
-// The host map, four bytes to a word.
-fn copy_host<'a>(room: &'a mut Room, m: &'a [u8; 256])
-    ensures { length room.old ≡ 2048 → Copied 192 64 (map_read 256 m.now) room.old room.new }
-{
-    let mut k: usize = 0;
-    while k < 64 {
-        let w = host_word(m, k);
-        room[HOST_MAP + k] = w;
-        k = k + 1;
-    }
-}
-
-// Word k of the channel map.
-fn channel_word(m: &[u8; 1024], k: usize) -> u32
-    requires { k < 256 }
-    ensures { result ≡ map_read 1024 m.now k }
-{
-    let p = wide(m[4 * k]);
-    let q = wide(m[4 * k + 1]);
-    let r = wide(m[4 * k + 2]);
-    let s = wide(m[4 * k + 3]);
-    word_of(p, q, r, s)
-}
-
-// The channel map, four bytes to a word.
-fn copy_channel<'a>(room: &'a mut Room, m: &'a [u8; 1024])
-    ensures { length room.old ≡ 2048 → Copied 256 256 (map_read 1024 m.now) room.old room.new }
-{
-    let mut k: usize = 0;
-    while k < 256 {
-        let w = channel_word(m, k);
-        room[CHANNEL_MAP + k] = w;
-        k = k + 1;
+    for k in 0..n {
+        room[at + k] = map_word(m, k);
     }
 }
 
@@ -118,12 +49,6 @@ fn copies(c: Cic, kept: bool) -> Room
     ensures { sound c ≡ true → Held (plain kept) c result × Blank result }
 {
     let mut room: Room = [0; 2048];
-    let allow = c.allow;
-    let lines = c.lines;
-    let status = c.status;
-    let enable = c.enable;
-    let host = c.host;
-    let channel = c.channel;
     let cells = [
         2,
         c.systems,
@@ -133,13 +58,13 @@ fn copies(c: Cic, kept: bool) -> Room
         c.global,
         words::one_if(kept),
     ];
-    copy_cells(&mut room, &cells);
-    copy_allow(&mut room, &allow);
-    copy_words(&mut room, LINES, &lines);
-    copy_words(&mut room, STATUS, &status);
-    copy_words(&mut room, ENABLE, &enable);
-    copy_host(&mut room, &host);
-    copy_channel(&mut room, &channel);
+    copy(&mut room, KIND, &cells);
+    copy(&mut room, ALLOW, &c.allow);
+    copy(&mut room, LINES, &c.lines);
+    copy(&mut room, STATUS, &c.status);
+    copy(&mut room, ENABLE, &c.enable);
+    copy_map(&mut room, HOST_MAP, &c.host, 64);
+    copy_map(&mut room, CHANNEL_MAP, &c.channel, 256);
     room
 }
 
@@ -147,11 +72,9 @@ fn copies(c: Cic, kept: bool) -> Room
 fn renew_all(room: &mut Room)
     ensures { (f : Frame) (c : Cic) (ws : List ℕ) → f.kept ≡ true → Counted f c ws room.old → Standing f c room.new }
 {
-    let mut k: u32 = 0;
-    while k < 32 {
+    for k in 0..32 {
         let new = words::meet(room[STATUS + k as usize], room[ENABLE + k as usize]);
         super::counts::renew(room, k, new);
-        k = k + 1;
     }
 }
 
@@ -176,68 +99,28 @@ pub fn lay(c: Cic, kept: bool) -> Room
 
 // ---- a room into a record
 
-fn byte(x: u16) -> u8
-    requires { x < 256 }
-    ensures { result ≡ x }
+// N words from a place on.
+fn words_in<const N: usize>(room: &Room, at: usize) -> [u32; N]
+    requires { at + N ≤ 2048 }
+    ensures { (length result ≡ N) × ((k : ℕ) → k < N → get_or result k 0 ≡ get_or room.now (at + k) 0) }
 {
-    x as u8
+    array::from_fn(|k| room[at + k])
 }
 
-// 32 words from a place on.
-fn words_in(room: &Room, at: usize) -> [u32; 32]
-    requires { at ≤ 512 }
-    ensures { (length result ≡ 32) × ((k : ℕ) → k < 32 → get_or result k 0 ≡ get_or room.now (at + k) 0) }
+// Byte s of the map that stands from a place on, four bytes to a word.
+fn map_byte(room: &Room, at: usize, s: usize) -> u8
+    requires { at + s / 4 < 2048 }
+    ensures { result ≡ byte_of (get_or room.now (at + s / 4) 0) (s % 4) }
 {
-    let mut out: [u32; 32] = [0; 32];
-    let mut k: usize = 0;
-    while k < 32 {
-        out[k] = room[at + k];
-        k = k + 1;
-    }
-    out
+    byte_of(room[at + s / 4], (s % 4) as u32) as u8
 }
 
-// The host enables.
-fn allow_in(room: &Room) -> [u32; 8]
-    ensures { (length result ≡ 8) × ((k : ℕ) → k < 8 → get_or result k 0 ≡ get_or room.now (16 + k) 0) }
+// A map of N bytes from a place on.
+fn map_in<const N: usize>(room: &Room, at: usize) -> [u8; N]
+    requires { at + N / 4 ≤ 2047 }
+    ensures { (length result ≡ N) × ((s : ℕ) → s < N → get_or result s 0 ≡ byte_of (get_or room.now (at + s / 4) 0) (s % 4)) }
 {
-    let mut out: [u32; 8] = [0; 8];
-    let mut k: usize = 0;
-    while k < 8 {
-        out[k] = room[ALLOW + k];
-        k = k + 1;
-    }
-    out
-}
-
-// The channel map.
-fn channel_in(room: &Room) -> [u8; 1024]
-    ensures { (length result ≡ 1024) × ((s : ℕ) → s < 1024 → (f : Frame) (c : Cic) → Held f c room.now → get_or result s 0 ≡ get_or c.channel s 0) }
-{
-    let mut out: [u8; 1024] = [0; 1024];
-    let mut s: u16 = 0;
-    while s < 1024 {
-        let at = s as usize;
-        let k = super::laid::channel_at(room, System(s));
-        out[at] = byte(k.0);
-        s = s + 1;
-    }
-    out
-}
-
-// The host map.
-fn host_in(room: &Room) -> [u8; 256]
-    ensures { (length result ≡ 256) × ((s : ℕ) → s < 256 → (f : Frame) (c : Cic) → Held f c room.now → get_or result s 0 ≡ get_or c.host s 0) }
-{
-    let mut out: [u8; 256] = [0; 256];
-    let mut s: u16 = 0;
-    while s < 256 {
-        let at = s as usize;
-        let h = super::laid::host_at(room, Channel(s));
-        out[at] = byte(h.0);
-        s = s + 1;
-    }
-    out
+    array::from_fn(|s| map_byte(room, at, s))
 }
 
 // The record in a room.
@@ -247,9 +130,9 @@ pub fn record_of(room: &Room) -> Cic
     let lines = words_in(room, LINES);
     let status = words_in(room, STATUS);
     let enable = words_in(room, ENABLE);
-    let channel = channel_in(room);
-    let host = host_in(room);
-    let allow = allow_in(room);
+    let channel = map_in(room, CHANNEL_MAP);
+    let host = map_in(room, HOST_MAP);
+    let allow = words_in(room, ALLOW);
     Cic {
         systems: room[SYSTEMS],
         channels: room[CHANNELS],

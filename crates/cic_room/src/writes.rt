@@ -3,41 +3,31 @@ ghost use Rattle.std.specs.Prelude.{◌≡◌, true, ℕ, ◌%◌, ◌<◌, ◌�
 ghost use Rattle.words.specs.Array.{with_bit_at};
 ghost use Rattle.cic_record.specs.declared.Cic.{Cic};
 ghost use Rattle.cic_record.specs.Parts.{size_of};
-ghost use Rattle.cic_record.specs.Record.{with_status, with_enable, with_allow};
+ghost use Rattle.cic_record.specs.Record.{with_allow};
 ghost use Rattle.cic_record.specs.Sound.{sound};
-ghost use Rattle.cic_registers.specs.declared.layout.Register.TheVariants.{GlobalEnable, RawSet, EnabledClear, EnableSet, EnableClear, ChannelMap, HostMap, HostEnable};
+ghost use Rattle.cic_registers.specs.declared.layout.Register.TheVariants.{GlobalEnable, ChannelMap, HostMap, HostEnable};
 ghost use Rattle.cic_registers.specs.Map.{register_at};
 ghost use Rattle.cic_registers.specs.Registers.{unless};
 ghost use Rattle.cic_registers.specs.Access.{answer_by, write_in};
 ghost use Rattle.rooms.specs.Reply.{told};
+ghost use Rattle.cic_room.specs.Bits.{bits_of, with_bits, setting, clearing};
 ghost use Rattle.cic_room.specs.Room.{Frame, Laid};
 ghost use Rattle.cic_room.specs.Reply.{Done};
 
-use super::laid::{CHANNELS, HOSTS, REVISION, SYSTEMS};
+use super::laid::{Bits, CHANNELS, HOSTS, REVISION, SYSTEMS};
 use cic_record::{Host, Size, System};
 use rooms::Room;
 
 // ---- the registers that take a number
 
-// An index that sets or clears the status of its system interrupt.
-fn index_status(room: &mut Room, v: u32, on: bool) -> u64
-    ensures { (f : Frame) (c : Cic) → sound c ≡ true → Laid f c room.old → Done f (answer_by c (unless (ltb v c.systems)) (with_status c (with_bit_at c.status v on))) room.new (told result) }
+// An index that sets or clears a bit of its system interrupt.
+fn index_system(room: &mut Room, bits: Bits, v: u32, on: bool) -> u64
+    ensures { (f : Frame) (c : Cic) → sound c ≡ true → Laid f c room.old → Done f (answer_by c (unless (ltb v c.systems)) (with_bits bits c (with_bit_at (bits_of bits c) v on))) room.new (told result) }
 {
     if (room[SYSTEMS] <= v) | (1024 <= v) {
         return rooms::refuse(steps::BEYOND);
     }
-    super::laid::mark_status(room, System(v as u16), on);
-    rooms::answer(0)
-}
-
-// An index that sets or clears the enable of its system interrupt.
-fn index_enable(room: &mut Room, v: u32, on: bool) -> u64
-    ensures { (f : Frame) (c : Cic) → sound c ≡ true → Laid f c room.old → Done f (answer_by c (unless (ltb v c.systems)) (with_enable c (with_bit_at c.enable v on))) room.new (told result) }
-{
-    if (room[SYSTEMS] <= v) | (1024 <= v) {
-        return rooms::refuse(steps::BEYOND);
-    }
-    super::laid::mark_enable(room, System(v as u16), on);
+    super::laid::mark_bit(room, bits, System(v as u16), on);
     rooms::answer(0)
 }
 
@@ -54,51 +44,27 @@ fn index_host(room: &mut Room, v: u32, on: bool) -> u64
 
 // ---- the groups
 
-// Each 1 sets the status of its system interrupt.
-fn set_status(room: &mut Room, k: u32, v: u32) -> u64
+// Each 1 sets the bit of its system interrupt.
+fn set_bits(room: &mut Room, bits: Bits, k: u32, v: u32) -> u64
     requires { k < 32 }
-    ensures { (f : Frame) (c : Cic) → sound c ≡ true → Laid f c room.old → Done f (write_in c (RawSet k) v) room.new (told result) }
+    ensures { (f : Frame) (c : Cic) → sound c ≡ true → Laid f c room.old → Done f (write_in c (setting bits k) v) room.new (told result) }
 {
     if room[SYSTEMS] <= 32 * k {
         return rooms::refuse(steps::ABSENT);
     }
-    super::laid::set_status(room, k, v);
+    super::laid::set_bits(room, bits, k, v);
     rooms::answer(0)
 }
 
 // Each 1 clears it.
-fn clear_status(room: &mut Room, k: u32, v: u32) -> u64
+fn clear_bits(room: &mut Room, bits: Bits, k: u32, v: u32) -> u64
     requires { k < 32 }
-    ensures { (f : Frame) (c : Cic) → sound c ≡ true → Laid f c room.old → Done f (write_in c (EnabledClear k) v) room.new (told result) }
+    ensures { (f : Frame) (c : Cic) → sound c ≡ true → Laid f c room.old → Done f (write_in c (clearing bits k) v) room.new (told result) }
 {
     if room[SYSTEMS] <= 32 * k {
         return rooms::refuse(steps::ABSENT);
     }
-    super::laid::clear_status(room, k, v);
-    rooms::answer(0)
-}
-
-// Each 1 enables its system interrupt.
-fn set_enable(room: &mut Room, k: u32, v: u32) -> u64
-    requires { k < 32 }
-    ensures { (f : Frame) (c : Cic) → sound c ≡ true → Laid f c room.old → Done f (write_in c (EnableSet k) v) room.new (told result) }
-{
-    if room[SYSTEMS] <= 32 * k {
-        return rooms::refuse(steps::ABSENT);
-    }
-    super::laid::set_enable(room, k, v);
-    rooms::answer(0)
-}
-
-// Each 1 disables it.
-fn clear_enable(room: &mut Room, k: u32, v: u32) -> u64
-    requires { k < 32 }
-    ensures { (f : Frame) (c : Cic) → sound c ≡ true → Laid f c room.old → Done f (write_in c (EnableClear k) v) room.new (told result) }
-{
-    if room[SYSTEMS] <= 32 * k {
-        return rooms::refuse(steps::ABSENT);
-    }
-    super::laid::clear_enable(room, k, v);
+    super::laid::clear_bits(room, bits, k, v);
     rooms::answer(0)
 }
 
@@ -176,10 +142,10 @@ fn write_single(room: &mut Room, offset: u32, v: u32) -> u64
     match offset {
         0x000 => rooms::refuse(steps::UNWRITABLE),
         0x010 => write_global(room, v),
-        0x020 => index_status(room, v, true),
-        0x024 => index_status(room, v, false),
-        0x028 => index_enable(room, v, true),
-        0x02C => index_enable(room, v, false),
+        0x020 => index_system(room, Bits::Status, v, true),
+        0x024 => index_system(room, Bits::Status, v, false),
+        0x028 => index_system(room, Bits::Enable, v, true),
+        0x02C => index_system(room, Bits::Enable, v, false),
         0x034 => index_host(room, v, true),
         0x038 => index_host(room, v, false),
         _ => rooms::refuse(steps::ABSENT),
@@ -193,10 +159,10 @@ fn write_bits(room: &mut Room, offset: u32, v: u32) -> u64
 {
     let k = offset / 4 % 32;
     match offset / 128 {
-        4 => set_status(room, k, v),
-        5 => clear_status(room, k, v),
-        6 => set_enable(room, k, v),
-        _ => clear_enable(room, k, v),
+        4 => set_bits(room, Bits::Status, k, v),
+        5 => clear_bits(room, Bits::Status, k, v),
+        6 => set_bits(room, Bits::Enable, k, v),
+        _ => clear_bits(room, Bits::Enable, k, v),
     }
 }
 

@@ -1,10 +1,12 @@
 -- One side of the controller, FIQ and IRQ alike: its sources, its six registers and its output (01, CoreInterrupt; 004, Programmer's Model).
-use Rattle.std.specs.Prelude.{ℕ, Bool, not, ◌&&◌, [], ◌∷◌, eqb, ltb, leb, get_or}
+use Rattle.std.specs.Prelude.{ℕ, ◌≡◌, ◌≤◌, Bool, not, ◌&&◌, [], ◌∷◌, eqb, ltb, leb, get_or, Option, Some, None}
 use Rattle.words.specs.Choice.{pick}
 use Rattle.words.specs.Word.{either, both, without, with_bit, kept, clean}
 use Rattle.steps.specs.declared.Access.{Access}
 use Rattle.steps.specs.declared.Access.TheVariants.{NoRegister, ReadOnly, WriteOnly, ReadWrite}
 use Rattle.coreinterrupt.specs.declared.sides.Side.{Side}
+use Rattle.coreinterrupt.specs.declared.sides.Register.{Register}
+use Rattle.coreinterrupt.specs.declared.sides.Register.TheVariants.{Soft, SoftClear, Enable, EnableClear, Raw, Status}
 
 -- ---- the record, written out once for each field that moves
 
@@ -47,6 +49,16 @@ unfoldable pub output_level : Side → ℕ
 output_level s = pick (active s) s.level (other s.level)
 
 -- ---- the six registers, by number: 0 soft, 1 soft clear, 2 enable, 3 enable clear, 4 raw, 5 status
+
+-- the register of a number, or none past the last (01, CoreInterrupt; 004, table 3)
+abbrev pub Numbered : Option Register → ℕ → Type 0
+Numbered (Some Soft) i = i ≡ 0
+Numbered (Some SoftClear) i = i ≡ 1
+Numbered (Some Enable) i = i ≡ 2
+Numbered (Some EnableClear) i = i ≡ 3
+Numbered (Some Raw) i = i ≡ 4
+Numbered (Some Status) i = i ≡ 5
+Numbered None i = 6 ≤ i
 
 -- the clears are write-only; where there are no sources they may be read as well (01, CoreInterrupt; 004, FIQSoftIntClear and the like)
 unfoldable pub clear_access : Side → Access

@@ -14,7 +14,7 @@ pub struct Core {
     pub irq: sides::Side,
 }
 
-// What a start answers.
+// What a start answers. The refusal is a number beside the record, here and below, since the promises speak of both, of a refused step too.
 #[derive(Clone, Copy)]
 pub struct Begun {
     pub refusal: u32,
@@ -50,7 +50,8 @@ pub const LINE_LIMIT: u32 = 40;
 // The offset of the first IRQ register; the FIQ registers stand before it.
 pub const IRQ_BASE: u32 = 0x18;
 
-// Whether the nth number of the configuration may have this value: FIQ count, IRQ count, FIQ level, IRQ level, from 0.
+// Whether the nth number of the configuration may have this value: FIQ count, IRQ count, FIQ level, IRQ level, from 0:
+// a number's place tells it, since `kinds` asks so of every kind of controller.
 pub fn within(nth: u32, value: u32) -> bool
     ensures { result ≡ within nth value }
 {
@@ -105,7 +106,7 @@ pub fn answer_of(c: Core, value: u32) -> Answer
 {
     Answer {
         refusal: steps::CARRIED_OUT,
-        value: value,
+        value,
         core: c,
     }
 }
@@ -151,7 +152,7 @@ fn with_side(c: Core, fast: bool, s: sides::Side) -> Core
     d
 }
 
-// The number of the register at an offset, within its side.
+// The number of the register at an offset, within its side: a number, since the definitions go by it; `sides::Register` names it.
 pub fn register(offset: u32) -> u32
     ensures { result ≡ register offset }
 {

@@ -1,6 +1,6 @@
 // One side of CoreInterrupt. FIQ and IRQ differ only in how many sources they may have; what is answered is defined in specs/Side.antt.
 ghost use Rattle.std.specs.Prelude.{◌≡◌};
-ghost use Rattle.coreinterrupt.specs.Side.{idle, with_inputs, with_soft, with_enable, raw, status, active, other, output_level, clear_access, side_access, side_read, set_bits, clear_bits, side_write, moved, side_sound};
+ghost use Rattle.coreinterrupt.specs.Side.{Numbered, idle, with_inputs, with_soft, with_enable, raw, status, active, other, output_level, clear_access, side_access, side_read, set_bits, clear_bits, side_write, moved, side_sound};
 
 // One side, FIQ or IRQ: how many sources it has, the active level of its output, its lines and its two stored registers.
 #[repr(C)]
@@ -13,13 +13,41 @@ pub struct Side {
     pub enable: u32,
 }
 
+// The six registers of a side, in the order of their offsets.
+#[derive(Clone, Copy)]
+pub enum Register {
+    Soft,
+    SoftClear,
+    Enable,
+    EnableClear,
+    Raw,
+    Status,
+}
+
+impl Register {
+    // The register of a number within its side, one each four bytes; there are six.
+    pub fn numbered(i: u32) -> Option<Register>
+        ensures { Numbered result i }
+    {
+        match i {
+            0 => Some(Register::Soft),
+            1 => Some(Register::SoftClear),
+            2 => Some(Register::Enable),
+            3 => Some(Register::EnableClear),
+            4 => Some(Register::Raw),
+            5 => Some(Register::Status),
+            _ => None,
+        }
+    }
+}
+
 // A side as configured: its lines low, its registers 0.
 pub fn idle(count: u32, level: u32) -> Side
     ensures { result ≡ idle count level }
 {
     Side {
-        count: count,
-        level: level,
+        count,
+        level,
         inputs: 0,
         soft: 0,
         enable: 0,
@@ -30,27 +58,21 @@ pub fn idle(count: u32, level: u32) -> Side
 fn with_inputs(s: Side, w: u32) -> Side
     ensures { result ≡ with_inputs s w }
 {
-    let mut t = s;
-    t.inputs = w;
-    t
+    Side { inputs: w, ..s }
 }
 
 // The side with w in its soft register.
 fn with_soft(s: Side, w: u32) -> Side
     ensures { result ≡ with_soft s w }
 {
-    let mut t = s;
-    t.soft = w;
-    t
+    Side { soft: w, ..s }
 }
 
 // The side with w in its enable register.
 fn with_enable(s: Side, w: u32) -> Side
     ensures { result ≡ with_enable s w }
 {
-    let mut t = s;
-    t.enable = w;
-    t
+    Side { enable: w, ..s }
 }
 
 // The sources raised by their line or by software.
@@ -101,18 +123,18 @@ fn clear_access(s: Side) -> steps::Access
     steps::Access::WriteOnly
 }
 
-// What register i may be used for: 0 soft, 1 soft clear, 2 enable, 3 enable clear, 4 raw, 5 status.
+// What register i may be used for.
 pub(crate) fn access(s: Side, i: u32) -> steps::Access
     ensures { result ≡ side_access s i }
 {
-    match i {
-        0 => steps::Access::ReadWrite,
-        1 => clear_access(s),
-        2 => steps::Access::ReadWrite,
-        3 => clear_access(s),
-        4 => steps::Access::ReadOnly,
-        5 => steps::Access::ReadOnly,
-        _ => steps::Access::NoRegister,
+    match Register::numbered(i) {
+        Some(Register::Soft) => steps::Access::ReadWrite,
+        Some(Register::SoftClear) => clear_access(s),
+        Some(Register::Enable) => steps::Access::ReadWrite,
+        Some(Register::EnableClear) => clear_access(s),
+        Some(Register::Raw) => steps::Access::ReadOnly,
+        Some(Register::Status) => steps::Access::ReadOnly,
+        None => steps::Access::NoRegister,
     }
 }
 
@@ -120,14 +142,14 @@ pub(crate) fn access(s: Side, i: u32) -> steps::Access
 pub(crate) fn read(s: Side, i: u32) -> u32
     ensures { result ≡ side_read s i }
 {
-    match i {
-        0 => s.soft,
-        1 => 0,
-        2 => s.enable,
-        3 => 0,
-        4 => raw(s),
-        5 => status(s),
-        _ => 0,
+    match Register::numbered(i) {
+        Some(Register::Soft) => s.soft,
+        Some(Register::SoftClear) => 0,
+        Some(Register::Enable) => s.enable,
+        Some(Register::EnableClear) => 0,
+        Some(Register::Raw) => raw(s),
+        Some(Register::Status) => status(s),
+        None => 0,
     }
 }
 
@@ -149,12 +171,14 @@ fn clear_bits(n: u32, w: u32, v: u32) -> u32
 pub(crate) fn write(s: Side, i: u32, v: u32) -> Side
     ensures { result ≡ side_write s i v }
 {
-    match i {
-        0 => with_soft(s, set_bits(s.count, s.soft, v)),
-        1 => with_soft(s, clear_bits(s.count, s.soft, v)),
-        2 => with_enable(s, set_bits(s.count, s.enable, v)),
-        3 => with_enable(s, clear_bits(s.count, s.enable, v)),
-        _ => s,
+    match Register::numbered(i) {
+        Some(Register::Soft) => with_soft(s, set_bits(s.count, s.soft, v)),
+        Some(Register::SoftClear) => with_soft(s, clear_bits(s.count, s.soft, v)),
+        Some(Register::Enable) => with_enable(s, set_bits(s.count, s.enable, v)),
+        Some(Register::EnableClear) => with_enable(s, clear_bits(s.count, s.enable, v)),
+        Some(Register::Raw) => s,
+        Some(Register::Status) => s,
+        None => s,
     }
 }
 

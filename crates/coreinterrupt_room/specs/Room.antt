@@ -1,11 +1,12 @@
 -- A CoreInterrupt laid out in a room: the numbers of its record, one after another (01, CoreInterrupt).
-use Rattle.std.specs.Prelude.{ℕ, ◌≡◌, Bool, List, [], ◌∷◌, replicate}
+use Rattle.std.specs.Prelude.{ℕ, ◌+◌, ◌≡◌, Bool, List, [], ◌∷◌, set, replicate}
 use Rattle.words.specs.Choice.{pick}
 use Rattle.words.specs.Word.{either, without}
 use Rattle.steps.specs.Refusals.{carried_out, read_access, write_access}
 use Rattle.rooms.specs.Parts.{flat}
 use Rattle.rooms.specs.Reply.{Reply, reply}
 use Rattle.coreinterrupt.specs.Side.{side_access, side_read, side_write}
+use Rattle.coreinterrupt.specs.declared.sides.Side.{Side}
 use Rattle.coreinterrupt.specs.declared.Core.{Core}
 use Rattle.coreinterrupt.specs.declared.Answer.{Answer}
 use Rattle.coreinterrupt.specs.Model.{side, with_side, answered, unless_refused}
@@ -30,6 +31,10 @@ laid c = flat (parts c)
 -- the record stands in the room
 pub record Laid (c : Core) (room : List ℕ) : Type 0 where
   pub words : room ≡ laid c
+
+-- the numbers of a side, stored from a place on
+abbrev pub side_put : ℕ → Side → List ℕ → List ℕ
+side_put at s l = set (set (set (set (set l at s.count) (at + 1) s.level) (at + 2) s.inputs) (at + 3) s.soft) (at + 4) s.enable
 
 -- the first word of a side
 unfoldable pub first_of : Bool → ℕ

@@ -3,7 +3,7 @@
 ghost use Rattle.std.specs.Prelude.{◌≡◌};
 ghost use Rattle.coreinterrupt_room.specs.Lent.{start_over, step_told};
 
-// What a step or a start answers; the record stays with the caller.
+// What a step or a start answers; the record stays with the caller, who is in C: so the refusal is a number beside the value, and a kind one below.
 #[repr(C)]
 #[derive(Clone, Copy)]
 pub struct Reply {

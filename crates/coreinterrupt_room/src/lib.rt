@@ -1,7 +1,7 @@
 // CoreInterrupt in a room: where each number of its record stands, its steps and its outputs. What is refused leaves the room as it is.
 #![tactic(auto)]
 
-ghost use Rattle.std.specs.Prelude.{◌≡◌, true, ◌<◌, eqb, ltb};
+ghost use Rattle.std.specs.Prelude.{◌≡◌, true, ◌<◌, ◌≤◌, eqb, ltb};
 ghost use Rattle.words.specs.Choice.{pick};
 ghost use Rattle.words.specs.Word.{with_bit};
 ghost use Rattle.coreinterrupt.specs.Side.{raw, status, active, output_level, moved, side_write};
@@ -9,11 +9,11 @@ ghost use Rattle.coreinterrupt.specs.declared.Core.{Core};
 ghost use Rattle.coreinterrupt.specs.Model.{side, with_side, sound, read, write, line, step, outputs};
 ghost use Rattle.trace.specs.Turns.{step_of};
 ghost use Rattle.rooms.specs.Reply.{reply, told};
-ghost use Rattle.coreinterrupt_room.specs.Room.{Laid, first_of, reply_of, Done, read_from, write_to, turned};
+ghost use Rattle.coreinterrupt_room.specs.Room.{Laid, side_put, first_of, reply_of, Done, read_from, write_to, turned};
 
 pub mod lent;
 
-use coreinterrupt::sides::Side;
+use coreinterrupt::sides::{Register, Side};
 use coreinterrupt::{Core, Signals};
 use rooms::Room;
 
@@ -26,24 +26,26 @@ const IRQ: usize = 6;
 
 // ---- a record into a room, and back
 
+// The words of a side, from a place on.
+fn lay_side(room: &mut Room, at: usize, s: Side)
+    requires { at ≤ 6 }
+    ensures { room.new ≡ side_put at s room.old }
+{
+    room[at] = s.count;
+    room[at + 1] = s.level;
+    room[at + 2] = s.inputs;
+    room[at + 3] = s.soft;
+    room[at + 4] = s.enable;
+}
+
 // The room of a record.
 pub fn lay(c: Core) -> Room
     ensures { Laid c result }
 {
     let mut room: Room = [0; 2048];
-    let f = c.fiq;
-    let i = c.irq;
     room[KIND] = 1;
-    room[FIQ] = f.count;
-    room[FIQ + 1] = f.level;
-    room[FIQ + 2] = f.inputs;
-    room[FIQ + 3] = f.soft;
-    room[FIQ + 4] = f.enable;
-    room[IRQ] = i.count;
-    room[IRQ + 1] = i.level;
-    room[IRQ + 2] = i.inputs;
-    room[IRQ + 3] = i.soft;
-    room[IRQ + 4] = i.enable;
+    lay_side(&mut room, FIQ, c.fiq);
+    lay_side(&mut room, IRQ, c.irq);
     room
 }
 
@@ -135,19 +137,19 @@ fn read_clear(n: u32) -> u64
     rooms::refuse(steps::UNREADABLE)
 }
 
-// A read of register i of the side: 0 soft, 1 soft clear, 2 enable, 3 enable clear, 4 raw, 5 status.
+// A read of register i of the side.
 fn read_from(room: &Room, fast: bool, i: u32) -> u64
     ensures { (c : Core) → Laid c room.now → told result ≡ reply_of (read_from c fast i) }
 {
     let at = first_of(fast);
-    match i {
-        0 => rooms::answer(room[at + 3]),
-        1 => read_clear(room[at]),
-        2 => rooms::answer(room[at + 4]),
-        3 => read_clear(room[at]),
-        4 => rooms::answer(raw(room, fast)),
-        5 => rooms::answer(status(room, fast)),
-        _ => rooms::refuse(steps::ABSENT),
+    match Register::numbered(i) {
+        Some(Register::Soft) => rooms::answer(room[at + 3]),
+        Some(Register::SoftClear) => read_clear(room[at]),
+        Some(Register::Enable) => rooms::answer(room[at + 4]),
+        Some(Register::EnableClear) => read_clear(room[at]),
+        Some(Register::Raw) => rooms::answer(raw(room, fast)),
+        Some(Register::Status) => rooms::answer(status(room, fast)),
+        None => rooms::refuse(steps::ABSENT),
     }
 }
 
@@ -190,14 +192,15 @@ fn turn_bits(room: &mut Room, fast: bool, i: u32, value: u32)
 fn write_to(room: &mut Room, fast: bool, i: u32, value: u32) -> u64
     ensures { (c : Core) → Laid c room.old → Done (write_to c fast i value) room.new (told result) }
 {
-    if 5 < i {
-        return rooms::refuse(steps::ABSENT);
+    match Register::numbered(i) {
+        Some(Register::Raw) => rooms::refuse(steps::UNWRITABLE),
+        Some(Register::Status) => rooms::refuse(steps::UNWRITABLE),
+        Some(_) => {
+            turn_bits(room, fast, i, value);
+            rooms::answer(0)
+        }
+        None => rooms::refuse(steps::ABSENT),
     }
-    if 3 < i {
-        return rooms::refuse(steps::UNWRITABLE);
-    }
-    turn_bits(room, fast, i, value);
-    rooms::answer(0)
 }
 
 // A write of a value to the register at an offset.
@@ -213,13 +216,6 @@ pub fn write(room: &mut Room, offset: u32, value: u32) -> u64
 
 // ---- lines
 
-// One of two numbers.
-fn choose(t: bool, a: u32, b: u32) -> u32
-    ensures { result ≡ pick t a b }
-{
-    if t { a } else { b }
-}
-
 // The lines w of a side with n sources after input k is put high or low. An input beyond the count is not stored. Both words are made before one is
 // chosen, since no branch could guess a level.
 fn moved_word(n: u32, w: u32, k: u32, high: bool) -> u32
@@ -227,8 +223,8 @@ fn moved_word(n: u32, w: u32, k: u32, high: bool) -> u32
 {
     let on = words::with_bit(w, k, true);
     let off = words::with_bit(w, k, false);
-    let moved = choose(high, on, off);
-    choose(k < n, moved, w)
+    let moved = if high { on } else { off };
+    if k < n { moved } else { w }
 }
 
 // Input k of the side is put high or low.
@@ -253,7 +249,7 @@ pub fn line(room: &mut Room, k: u32, level: u32) -> u64
     rooms::answer(0)
 }
 
-// The step of a kind with its numbers.
+// The step of a kind with its numbers, as a trace and the callers in C tell it.
 pub fn step(room: &mut Room, kind: u32, x: u32, y: u32) -> u64
     ensures { (c : Core) → sound c ≡ true → Laid c room.old → Done (step c (step_of kind x y)) room.new (told result) }
 {

@@ -5,10 +5,10 @@ ghost use Rattle.std.specs.Prelude.{◌≡◌, ◌++◌, ℕ, ◌<◌, not, ◌&
 ghost use Rattle.words.specs.Array.{bit_at};
 ghost use Rattle.text.specs.Text.{write};
 ghost use Rattle.text.specs.Phrases.{counted};
-ghost use Rattle.deeds.specs.Deeds.{opened_words, closed_words, ends, entry_words, same_seen, seen_words, aic_deeds, gains, further_words, host_words, gain_words, cic_deeds, chosen_words, choice_words, aintc_deeds, deeds_at, deed_words, turn_words, side_words, output_words};
+ghost use Rattle.deeds.specs.Deeds.{opened_words, closed_words, ends, entry_words, same_seen, seen_words, aic_deeds, gains, further_words, host_words, gain_words, cic_deeds, chosen_words, choice_words, aintc_deeds, deed_words, turn_words, side_words, output_words};
 
 use aic_record::{Aic, Seen};
-use aintc_record::Chosen;
+use aintc_record::{Aintc, Chosen};
 use cic_record::Cic;
 use machine::record::Machine;
 use steps::{Recorded, Step};
@@ -17,37 +17,14 @@ use steps::{Recorded, Step};
 pub fn put_deeds(out: &mut [u8], at: usize, m: Machine, x: Recorded, after: Machine) -> usize
     ensures { (out.new, result) ≡ write (out.old, at) (deed_words m x after) }
 {
-    let step = x.step;
-    put_deeds_at(out, at, m, step, after)
-}
-
-fn put_deeds_at(out: &mut [u8], at: usize, m: Machine, x: Step, after: Machine) -> usize
-    ensures { (out.new, result) ≡ write (out.old, at) (deeds_at m x after) }
-{
-    let kind = m.kind;
-    if kind == kinds::AIC {
-        return put_aic(out, at, m.aic, x, after.aic);
+    match m.kind {
+        kinds::AIC => put_aic(out, at, m.aic, x.step, after.aic),
+        kinds::CORE => at,
+        kinds::CIC => put_cic(out, at, m.cic, after.cic),
+        kinds::AINTC => put_aintc(out, at, m.aintc, after.aintc),
+        kinds::INDEXED => put_cic(out, at, m.cic, after.cic),
+        _ => at,
     }
-    if kind == kinds::CORE {
-        return at;
-    }
-    if kind == kinds::CIC {
-        return put_cic(out, at, m.cic, after.cic);
-    }
-    if kind == kinds::AINTC {
-        return put_aintc(
-            out,
-            at,
-            m.aintc.irq,
-            m.aintc.fiq,
-            after.aintc.irq,
-            after.aintc.fiq,
-        );
-    }
-    if kind == kinds::INDEXED {
-        return put_cic(out, at, m.cic, after.cic);
-    }
-    at
 }
 
 // ---- the AIC
@@ -120,13 +97,11 @@ fn put_seen(out: &mut [u8], at: usize, a: Seen, b: Seen) -> usize
     if same_seen(a, b) {
         return at;
     }
-    if b.what == 0 {
-        return text::put_all(out, at, b"; forgets");
+    match b.what {
+        0 => text::put_all(out, at, b"; forgets"),
+        1 => text::phrases::put_counted(out, at, b"; remembers source ", (b.source % 32) as u32),
+        _ => text::put_all(out, at, b"; remembers no source"),
     }
-    if b.what == 1 {
-        return text::phrases::put_counted(out, at, b"; remembers source ", (b.source % 32) as u32);
-    }
-    text::put_all(out, at, b"; remembers no source")
 }
 
 // ---- the CIC
@@ -183,28 +158,20 @@ fn only_in(a: [u32; 8], b: [u32; 8]) -> [u32; 8]
     ensures { (h : ℕ) → h < 256 → bit_at result h ≡ (bit_at a h && not (bit_at b h)) }
 {
     let mut out = [0u32; 8];
-    let mut k: usize = 0;
-    while k < 8 {
+    // A place in three arrays at once.
+    for k in 0..8 {
         out[k] = words::drop_bits(a[k], b[k]);
-        k = k + 1;
     }
     out
 }
 
 // ---- the AINTC
 
-fn put_aintc(
-    out: &mut [u8],
-    at: usize,
-    irq: Chosen,
-    fiq: Chosen,
-    irqafter: Chosen,
-    fiqafter: Chosen,
-) -> usize
-    ensures { (out.new, result) ≡ write (out.old, at) (aintc_deeds irq fiq irqafter fiqafter) }
+fn put_aintc(out: &mut [u8], at: usize, s: Aintc, t: Aintc) -> usize
+    ensures { (out.new, result) ≡ write (out.old, at) (aintc_deeds s.irq s.fiq t.irq t.fiq) }
 {
-    let a = put_choice(out, at, b" for IRQ", b"; frees IRQ", irq, irqafter);
-    put_choice(out, a, b" for FIQ", b"; frees FIQ", fiq, fiqafter)
+    let a = put_choice(out, at, b" for IRQ", b"; frees IRQ", s.irq, t.irq);
+    put_choice(out, a, b" for FIQ", b"; frees FIQ", s.fiq, t.fiq)
 }
 
 // What is chosen for an output, where that is another input, or none any more.
@@ -243,23 +210,10 @@ fn put_chosen(out: &mut [u8], at: usize, chooses: &[u8], a: Chosen, b: Chosen) -
 pub fn put_outputs(out: &mut [u8], at: usize, m: Machine, after: Machine) -> usize
     ensures { (out.new, result) ≡ write (out.old, at) (output_words m after) }
 {
-    let kind = m.kind;
-    if kind == kinds::AIC {
-        return put_sides(out, at, m, after);
+    match m.kind {
+        kinds::AIC | kinds::CORE | kinds::AINTC => put_sides(out, at, m, after),
+        _ => at,
     }
-    if kind == kinds::CORE {
-        return put_sides(out, at, m, after);
-    }
-    if kind == kinds::CIC {
-        return at;
-    }
-    if kind == kinds::AINTC {
-        return put_sides(out, at, m, after);
-    }
-    if kind == kinds::INDEXED {
-        return at;
-    }
-    at
 }
 
 fn put_sides(out: &mut [u8], at: usize, m: Machine, after: Machine) -> usize

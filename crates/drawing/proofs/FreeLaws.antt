@@ -1,6 +1,6 @@
 -- The first column in which a place is free.
-use Prim.Native.Nat.{ℕ, zero, suc, ◌+◌, ◌-◌, ◌<◌, ◌≤◌}
-use mathlib.Core.Path.{◌≡◌, refl, sym}
+use Prim.Native.Nat.{ℕ, zero, suc, ◌+◌, ◌-◌, ◌<◌, ◌≤◌, max}
+use mathlib.Core.Path.{◌≡◌, refl, sym, ◌∙◌}
 use mathlib.Core.Bool.{Bool, true, false}
 use mathlib.Core.List.{List}
 use native.Mathlib.Decide.{dec_lt, ℕ_discrete}
@@ -37,6 +37,17 @@ free-over ws place k l = go (length ws - k) (omega arith)
     go : (n : ℕ) → n ≡ 0 → k ≡ free_from n ws place k
     go zero h = unfold free_from in refl
     go (suc n) h = absurd (omega arith)
+
+-- where no column from the kth on is it, the one after them, or k itself
+pub free_end : (ws : List ℕ) (place j k m : ℕ) → m ≡ max k (length ws) → (k ≤ length ws → j ≡ length ws) → free ws place j ≡ free ws place k → m ≡ free ws place k
+free_end ws place j k m e f h = go (dec_lt (length ws) k)
+  where
+    go : Dec (length ws < k) → m ≡ free ws place k
+    go (yes l) = let q : m ≡ k = omega arith in q ∙ free-over ws place k (omega arith)
+    go (no l) =
+        let i : j ≡ length ws = f (omega arith) in
+        let q : m ≡ j = omega arith in
+        q ∙ free-over ws place j (omega arith) ∙ h
 
 -- it is one of the columns from there on, or the one after them
 from-within : (n : ℕ) (ws : List ℕ) (place k : ℕ) → (k ≤ free_from n ws place k) × (free_from n ws place k ≤ k + n)

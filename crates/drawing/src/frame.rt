@@ -20,10 +20,8 @@ pub(crate) fn put_rows(out: &mut [u8], at: usize) -> usize
     ensures { (out.new, result) ≡ write (out.old, at) (rows 8) }
 {
     let mut next = at;
-    let mut n: u32 = 0;
-    while n < 8 {
+    for n in 0..8 {
         next = shapes::put_centred(out, next, 52, 306 - 28 * n, n + 1);
-        n = n + 1;
     }
     next
 }
@@ -106,5 +104,5 @@ fn wide(n: u32) -> u32
 fn one_less(n: u32) -> u32
     ensures { result ≡ n - 1 }
 {
-    if n == 0 { 0 } else { n - 1 }
+    n.saturating_sub(1)
 }

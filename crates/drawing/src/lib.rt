@@ -12,6 +12,7 @@ mod shapes;
 
 // The drawing of a window whose first step has the number `first`: its columns as words, the first of them what held before that step, and the sources and
 // levels of the entries that were open then. It stands at the start of the buffer; answers how many bytes were written, and what finds no room is dropped.
+// Sources and levels stand in two rows, as in the record of an AIC, whose rows they are, and as this documented function takes them.
 pub fn draw(out: &mut [u8], first: u32, ws: &[u64], source: &[u8], level: &[u8]) -> usize
     requires { (length ws.now ≤ 501) × (first ≤ 65536) }
     ensures { (out.new, result) ≡ laid out.old (drawing first ws.now source.now level.now) }
@@ -33,10 +34,8 @@ fn put_columns(out: &mut [u8], at: usize, first: u32, ws: &[u64]) -> usize
     ensures { (out.new, result) ≡ write (out.old, at) (column_texts (length ws.now - 1) first ws.now 1) }
 {
     let mut next = at;
-    let mut k: usize = 1;
-    while k < ws.len() {
+    for k in 1..ws.len() {
         next = put_column(out, next, first, k as u32, ws[k]);
-        k = k + 1;
     }
     next
 }
@@ -61,10 +60,8 @@ fn put_stayed(out: &mut [u8], at: usize, ws: &[u64], source: &[u8], level: &[u8]
 {
     let n = stay(ws);
     let mut next = at;
-    let mut place: u32 = 0;
-    while place < n {
+    for place in 0..n {
         next = put_stay(out, next, ws, source, level, place);
-        place = place + 1;
     }
     next
 }
@@ -86,10 +83,8 @@ fn put_opened(out: &mut [u8], at: usize, ws: &[u64]) -> usize
     ensures { (out.new, result) ≡ write (out.old, at) (bar_texts (opened_from (length ws.now - 1) ws.now 1)) }
 {
     let mut next = at;
-    let mut k: usize = 1;
-    while k < ws.len() {
+    for k in 1..ws.len() {
         next = put_opening(out, next, ws, k);
-        k = k + 1;
     }
     next
 }
@@ -116,14 +111,12 @@ fn put_opening(out: &mut [u8], at: usize, ws: &[u64], k: usize) -> usize
 fn free(ws: &[u64], place: u32, k: usize) -> usize
     ensures { result ≡ free ws.now place k }
 {
-    let mut j = k;
-    while j < ws.len() {
+    for j in k..ws.len() {
         if entries_of(ws[j]) <= place {
             return j;
         }
-        j = j + 1;
     }
-    j
+    k.max(ws.len())
 }
 
 // How many entries were open before the window and still are after its first step.
@@ -132,7 +125,7 @@ fn stay(ws: &[u64]) -> u32
 {
     let was = entries_of(word_at(ws, 0));
     let is = entries_of(word_at(ws, 1));
-    if was < is { was } else { is }
+    was.min(is)
 }
 
 // How many steps the window has.
@@ -140,11 +133,7 @@ fn steps_of(ws: &[u64]) -> u32
     requires { length ws.now ≤ 501 }
     ensures { result ≡ length ws.now - 1 }
 {
-    if ws.len() == 0 {
-        0
-    } else {
-        (ws.len() - 1) as u32
-    }
+    ws.len().saturating_sub(1) as u32
 }
 
 // How many entries are open, of a column.
@@ -158,12 +147,12 @@ fn entries_of(w: u64) -> u32
 fn word_at(ws: &[u64], k: usize) -> u64
     ensures { result ≡ get_or ws.now k 0 }
 {
-    if k < ws.len() { ws[k] } else { 0 }
+    ws.get(k).copied().unwrap_or(0)
 }
 
 // A byte of a row; beyond its end 0.
 fn byte_at(s: &[u8], k: usize) -> u32
     ensures { result ≡ get_or s.now k 0 }
 {
-    if k < s.len() { s[k] as u32 } else { 0 }
+    s.get(k).copied().unwrap_or(0) as u32
 }

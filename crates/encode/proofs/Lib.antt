@@ -3,6 +3,7 @@ pub mod ByteLaws
 pub mod EncodeLaws
 pub mod LineLaws
 pub mod NumberLaws
+pub mod OpeningLaws
 pub mod PlaceLaws
 pub mod Promises
 pub mod StatementLaws

@@ -10,22 +10,24 @@ use native.Mathlib.Decide.{dec_lt, ℕ_discrete}
 use lib.Dec.{ltb}
 use lib.ListN.{length, length-append}
 use borrow.Author.Tests.{eq-eqb, ne_eqb, lt-ltb, le-ltb}
+use Rattle.std.specs.Prelude.{Option, Some, None, unwrap_or, Result, Ok, Err, is_ok}
 use Rattle.words.specs.Choice.{pick}
 use Rattle.words.proofs.ChoiceLaws.{pick_true, pick-false}
 use Rattle.words.proofs.CountingLaws.{lowest_found, lowest-one}
-use Rattle.words.proofs.TruthLaws.{told}
+use Rattle.words.proofs.TruthLaws.{told, clash}
 use Rattle.tables.specs.declared.Next.{Next}
-use Rattle.tables.specs.Typed.{past_nth, nth_start, nth_typed}
+use Rattle.tables.specs.Typed.{nth_start, nth_typed}
 use Rattle.tables.specs.Number.{is_number, worth}
-use Rattle.tables.specs.Passes.{capped, read_word, word_from, read_next}
+use Rattle.tables.specs.Passes.{capped, read_word}
 use Rattle.tables.specs.Reading.{entered, list_of}
-use Rattle.tables.proofs.ReadLaws.{NextIs, word_value, word_none, entered-capped}
+use Rattle.tables.proofs.ReadLaws.{NextIs, word_some, word_none, entered-capped}
+use Rattle.tables.proofs.NumberLaws.{some_none}
 use Rattle.tables.proofs.FillLaws.{length-list_of}
 use Rattle.encode.specs.declared.statements.Numbers.{Numbers}
-use Rattle.encode.specs.declared.statements.Opening.{Opening}
 use Rattle.encode.specs.declared.statements.Statement.{Statement}
 use Rattle.encode.specs.Bytes.{shortest, bytes_of}
-use Rattle.encode.specs.Statements.{fitting, worth_of, values_in, fitting_in, numbers_in, a_number, the_line_end, as_it_should_be, astray, by_numbers, numbers_of}
+use Rattle.encode.specs.Passes.{short_of, numbers_in}
+use Rattle.encode.specs.Statements.{Opening, fitting, worth_of, values_in, fitting_in, a_number, the_line_end, as_it_should_be, astray, by_numbers, numbers_of}
 use Rattle.encode.proofs.ByteLaws.{bytes_snoc, bytes_most}
 
 -- ---- what the next word is
@@ -39,33 +41,46 @@ ltb-capped v = go (dec_lt v (2 ^ 32))
     go (yes l) = lt-ltb (min v (2 ^ 32)) (2 ^ 32) (omega arith) ∙ sym (lt-ltb v (2 ^ 32) l)
     go (no l) = le-ltb (min v (2 ^ 32)) (2 ^ 32) (omega arith) ∙ sym (le-ltb v (2 ^ 32) (omega arith))
 
-pub next-fitting : (s : List ℕ) (n : ℕ) (x : Next) → NextIs s n x → (x.taken && ltb x.value (2 ^ 32)) ≡ fitting (nth_typed s n)
-unfolding fitting
-next-fitting s n x h = go (told x.taken)
+-- it is read as one, or not
+word_short : (w : List ℕ) → short_of (read_word w) ≡ pick (fitting w) (Some (worth_of w)) None
+unfolding fitting worth_of
+word_short w = go (told (is_number w))
   where
-    go : (x.taken ≡ true) ⊎ (x.taken ≡ false) → (x.taken && ltb x.value (2 ^ 32)) ≡ (is_number (nth_typed s n) && ltb (worth (nth_typed s n)) (2 ^ 32))
-    go (inl e) = rw (e, h.value e, sym h.taken ∙ e) (ltb-capped (worth (nth_typed s n)))
-    go (inr e) = rw (e, sym h.taken ∙ e)
+    go : (is_number w ≡ true) ⊎ (is_number w ≡ false)
+        → short_of (read_word w) ≡ pick (is_number w && ltb (worth w) (2 ^ 32)) (Some (pick (is_number w) (entered (worth w)) 0)) None
+    go (inl e) = rw (word_some w e, e) (unfold short_of pick in rw (ltb-capped (worth w), entered-capped (worth w)))
+    go (inr e) = rw (word_none w e, e) (unfold short_of pick in refl)
+
+pub next_short : (s : List ℕ) (n v : ℕ) (x : Next) → NextIs s n x → Some v ≡ short_of x.number → (fitting (nth_typed s n) ≡ true) × (v ≡ worth_of (nth_typed s n))
+next_short s n v x h e = go (told (fitting (nth_typed s n))) (e ∙ ap short_of h.number ∙ word_short (nth_typed s n))
+  where
+    go : (fitting (nth_typed s n) ≡ true) ⊎ (fitting (nth_typed s n) ≡ false) → Some v ≡ pick (fitting (nth_typed s n)) (Some (worth_of (nth_typed s n))) None
+        → (fitting (nth_typed s n) ≡ true) × (v ≡ worth_of (nth_typed s n))
+    go (inl f) q = (f, ap (λ (o : Option ℕ). unwrap_or o 0) (q ∙ sym (pick_true None f)))
+    go (inr f) q = absurd (some_none v (q ∙ sym (pick-false (Some (worth_of (nth_typed s n))) f)))
+
+pub next_long : (s : List ℕ) (n : ℕ) (x : Next) → NextIs s n x → None ≡ short_of x.number → fitting (nth_typed s n) ≡ false
+next_long s n x h e = go (told (fitting (nth_typed s n))) (e ∙ ap short_of h.number ∙ word_short (nth_typed s n))
+  where
+    go : (fitting (nth_typed s n) ≡ true) ⊎ (fitting (nth_typed s n) ≡ false) → None ≡ pick (fitting (nth_typed s n)) (Some (worth_of (nth_typed s n))) None
+        → fitting (nth_typed s n) ≡ false
+    go (inl f) q = absurd (some_none (worth_of (nth_typed s n)) (sym (q ∙ sym (pick_true None f))))
+    go (inr f) q = f
 
 -- what it is worth
-word-worth : (w : List ℕ) → entered (read_word w).value ≡ worth_of w
+word-worth : (w : List ℕ) → entered (unwrap_or (read_word w) 0) ≡ worth_of w
 unfolding worth_of
 word-worth w = go (told (is_number w))
   where
-    go : (is_number w ≡ true) ⊎ (is_number w ≡ false) → entered (read_word w).value ≡ pick (is_number w) (entered (worth w)) 0
-    go (inl e) = ap entered (word_value w e) ∙ entered-capped (worth w) ∙ pick_true _ e
-    go (inr e) = ap entered (word_none w e) ∙ none ∙ pick-false _ e
+    go : (is_number w ≡ true) ⊎ (is_number w ≡ false) → entered (unwrap_or (read_word w) 0) ≡ pick (is_number w) (entered (worth w)) 0
+    go (inl e) = rw (word_some w e) (entered-capped (worth w) ∙ pick_true _ e)
+    go (inr e) = rw (word_none w e) (none ∙ pick-false _ e)
       where
         none : entered 0 ≡ 0
         none = unfold entered in refl
 
-typed-is : (s : List ℕ) (n : ℕ) → word_from s (past_nth s n) ≡ nth_typed s n
-unfolding nth_typed nth_start past_nth
-typed-is s n = refl
-
-pub next-worth : (s : List ℕ) (past n v : ℕ) (x : Next) → past ≡ past_nth s n → x ≡ read_next s past → v ≡ entered x.value → v ≡ worth_of (nth_typed s n)
-unfolding read_next
-next-worth s past n v x e f g = g ∙ rw (f, e) (word-worth (word_from s (past_nth s n)) ∙ ap worth_of (typed-is s n))
+pub next-worth : (s : List ℕ) (n v u : ℕ) (x : Next) → NextIs s n x → u ≡ unwrap_or x.number 0 → v ≡ entered u → v ≡ worth_of (nth_typed s n)
+next-worth s n v u x h e g = g ∙ ap entered (e ∙ ap (λ (o : Option ℕ). unwrap_or o 0) h.number) ∙ word-worth (nth_typed s n)
 
 -- ---- one number more
 
@@ -114,50 +129,76 @@ pub fitting-within : (s : List ℕ) (n : ℕ) → fitting_in s n ≤ n
 unfolding fitting_in
 fitting-within s n = (lowest_found n (λ j. not (fitting (nth_typed s (j + 1))))).within
 
-pub numbers_are : (s : List ℕ) (n k start size : ℕ) → k ≡ fitting_in s n → start ≡ nth_start s (k + 1) → size ≡ length (bytes_of (values_in s k))
-    → record { count = k; start = start; size = size } ≡ numbers_in s n
+pub numbers_short : (s : List ℕ) (n k : ℕ) → k < n → k ≡ fitting_in s n → Err k ≡ numbers_in s n
 unfolding numbers_in
-numbers_are s n k start size e f g = rw (g, f, e)
+numbers_short s n k l e = rw e (pick_true _ (lt-ltb (fitting_in s n) n (omega (arith, e))))
+
+pub numbers_are : (s : List ℕ) (n start size : ℕ) → n ≡ fitting_in s n → start ≡ nth_start s (n + 1) → size ≡ length (bytes_of (values_in s n))
+    → Ok (record { start = start; size = size }) ≡ numbers_in s n
+unfolding numbers_in
+numbers_are s n start size e f g = rw (g, f) (pick-false _ (le-ltb (fitting_in s n) n (omega (arith, e))))
 
 -- ---- the statement that they make
 
-module _ (l : List ℕ) (o : Opening) (n : Numbers) (e : n ≡ numbers_in l o.numbers) where
-  count : n.count ≡ fitting_in l o.numbers
+-- an answer of the one form is none of the other
+count_of : Result Numbers ℕ → ℕ
+count_of (Ok x) = 0
+count_of (Err k) = k
+
+numbers_of_ok : Numbers → Result Numbers ℕ → Numbers
+numbers_of_ok d (Ok x) = x
+numbers_of_ok d (Err k) = d
+
+module _ (l : List ℕ) (n k : ℕ) (e : Err k ≡ numbers_in l n) where
+  pub err_count : (k ≡ fitting_in l n) × (fitting_in l n < n)
   unfolding numbers_in
-  count = ap (λ (x : Numbers). x.count) e
+  err_count = go (dec_lt (fitting_in l n) n)
+    where
+      go : Dec (fitting_in l n < n) → (k ≡ fitting_in l n) × (fitting_in l n < n)
+      go (yes h) = (unfold count_of in ap count_of (e ∙ sym (pick_true _ (lt-ltb (fitting_in l n) n h))), h)
+      go (no h) = clash (ap is_ok (e ∙ sym (pick-false _ (le-ltb (fitting_in l n) n (omega arith))))) refl
 
-  all : o.numbers ≤ n.count → fitting_in l o.numbers ≡ o.numbers
-  all h = omega (arith, count, fitting-within l o.numbers)
-
-  start : o.numbers ≤ n.count → n.start ≡ nth_start l (o.numbers + 1)
+module _ (l : List ℕ) (n : ℕ) (x : Numbers) (e : Ok x ≡ numbers_in l n) where
+  found : (n ≡ fitting_in l n) × (x ≡ record { start = nth_start l (n + 1); size = length (bytes_of (values_in l n)) })
   unfolding numbers_in
-  start h = ap (λ (x : Numbers). x.start) e ∙ ap (λ (k : ℕ). nth_start l (k + 1)) (all h)
+  found = go (dec_lt (fitting_in l n) n)
+    where
+      go : Dec (fitting_in l n < n) → (n ≡ fitting_in l n) × (x ≡ record { start = nth_start l (n + 1); size = length (bytes_of (values_in l n)) })
+      go (yes h) = clash refl (ap is_ok (e ∙ sym (pick_true _ (lt-ltb (fitting_in l n) n h))))
+      go (no h) = (omega (arith, fitting-within l n), unfold numbers_of_ok in ap (numbers_of_ok x) (e ∙ sym (pick-false _ (le-ltb (fitting_in l n) n (omega arith)))))
 
-  size : o.numbers ≤ n.count → n.size ≡ length (bytes_of (values_in l o.numbers))
-  unfolding numbers_in
-  size h = ap (λ (x : Numbers). x.size) e ∙ ap (λ (k : ℕ). length (bytes_of (values_in l k))) (all h)
+  pub ok_all : n ≡ fitting_in l n
+  ok_all = found.0
 
-  pub size_least : n.size ≤ 5 * o.numbers
-  unfolding numbers_in
-  size_least = omega (arith, ap (λ (x : Numbers). x.size) e, values-most l (fitting_in l o.numbers), fitting-within l o.numbers)
+  pub ok_start : x.start ≡ nth_start l (n + 1)
+  ok_start = ap (λ (y : Numbers). y.start) found.1
 
-  pub by_missing : (r : Statement) → n.count < o.numbers → r ≡ astray a_number (n.count + 2) → r ≡ by_numbers l o
+  pub ok_size : x.size ≡ length (bytes_of (values_in l n))
+  ok_size = ap (λ (y : Numbers). y.size) found.1
+
+  pub size_least : x.size ≤ 5 * n
+  size_least = omega (arith, ok_size, values-most l n)
+
+module _ (l : List ℕ) (o : Opening) where
+  pub by_missing : (k : ℕ) (r : Statement) → Err k ≡ numbers_in l o.numbers → r ≡ astray a_number (k + 2) → r ≡ by_numbers l o
   unfolding by_numbers
-  by_missing r h g = g ∙ ap (λ (k : ℕ). astray a_number (k + 2)) count ∙ pick_true _ (lt-ltb (fitting_in l o.numbers) o.numbers (omega (arith, count)))
+  by_missing k r e g =
+      let h = err_count l o.numbers k e in
+      g ∙ ap (λ (j : ℕ). astray a_number (j + 2)) h.0 ∙ pick_true _ (lt-ltb (fitting_in l o.numbers) o.numbers h.1)
 
-  past_all : (o.numbers ≤ n.count) → ltb (fitting_in l o.numbers) o.numbers ≡ false
-  past_all h = le-ltb (fitting_in l o.numbers) o.numbers (omega (arith, all h))
+  past_all : (x : Numbers) → Ok x ≡ numbers_in l o.numbers → ltb (fitting_in l o.numbers) o.numbers ≡ false
+  past_all x e = le-ltb (fitting_in l o.numbers) o.numbers (omega (arith, ok_all l o.numbers x e))
 
-  pub by-more : (r : Statement) → o.numbers ≤ n.count → n.start < length l → r ≡ astray the_line_end (o.numbers + 2) → r ≡ by_numbers l o
+  pub by-more : (x : Numbers) (r : Statement) → Ok x ≡ numbers_in l o.numbers → x.start < length l → r ≡ astray the_line_end (o.numbers + 2) → r ≡ by_numbers l o
   unfolding by_numbers
-  by-more r h m g = g ∙ pick_true _ (lt-ltb (nth_start l (o.numbers + 1)) (length l) (omega (arith, start h))) ∙ pick-false _ (past_all h)
+  by-more x r e m g = g ∙ pick_true _ (lt-ltb (nth_start l (o.numbers + 1)) (length l) (omega (arith, ok_start l o.numbers x e))) ∙ pick-false _ (past_all x e)
 
-  pub by_said : (d : ℕ) → o.numbers ≤ n.count → length l ≤ n.start → d ≡ length (shortest o.first)
-      → record { expected = as_it_should_be; word = 0; kind = o.kind; first = o.first; words = o.numbers + 1; size = d + n.size } ≡ by_numbers l o
+  pub by_said : (x : Numbers) (d : ℕ) → Ok x ≡ numbers_in l o.numbers → length l ≤ x.start → d ≡ length (shortest o.first)
+      → record { expected = as_it_should_be; word = 0; kind = o.kind; first = o.first; words = o.numbers + 1; size = d + x.size } ≡ by_numbers l o
   unfolding by_numbers
-  by_said d h m g =
-      ap (λ (k : ℕ). said k) (ap₂ ◌+◌ g (size h))
-      ∙ pick-false _ (le-ltb (nth_start l (o.numbers + 1)) (length l) (omega (arith, start h))) ∙ pick-false _ (past_all h)
+  by_said x d e m g =
+      ap (λ (k : ℕ). said k) (ap₂ ◌+◌ g (ok_size l o.numbers x e))
+      ∙ pick-false _ (le-ltb (nth_start l (o.numbers + 1)) (length l) (omega (arith, ok_start l o.numbers x e))) ∙ pick-false _ (past_all x e)
     where
       said : ℕ → Statement
       said k = record { expected = as_it_should_be; word = 0; kind = o.kind; first = o.first; words = o.numbers + 1; size = k }

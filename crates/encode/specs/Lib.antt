@@ -2,6 +2,7 @@
 pub mod Bytes
 pub mod Encode
 pub mod Lines
+pub mod Passes
 pub mod Promises
 pub mod Statements
 pub mod Words

@@ -7,8 +7,6 @@ use Rattle.trace.specs.Steps.{operands_of}
 use Rattle.tables.specs.Typed.{nth_start, nth_typed}
 use Rattle.tables.specs.Number.{is_number, worth}
 use Rattle.tables.specs.Reading.{entered, list_of}
-use Rattle.encode.specs.declared.statements.Opening.{Opening}
-use Rattle.encode.specs.declared.statements.Numbers.{Numbers}
 use Rattle.encode.specs.declared.statements.Statement.{Statement}
 use Rattle.encode.specs.Bytes.{shortest, bytes_of}
 use Rattle.encode.specs.Words.{no_kind, kind_of, no_step, step_of}
@@ -56,10 +54,6 @@ values_in l n = list_of n (λ k. worth_of (nth_typed l (k + 1)))
 unfoldable pub fitting_in : List ℕ → ℕ → ℕ
 fitting_in l n = lowest_below n (λ k. not (fitting (nth_typed l (k + 1))))
 
--- so many, where the next word begins, and how many bytes of a trace they take
-unfoldable pub numbers_in : List ℕ → ℕ → Numbers
-numbers_in l n = record { count = fitting_in l n; start = nth_start l (fitting_in l n + 1); size = length (bytes_of (values_in l (fitting_in l n))) }
-
 -- ---- its statement
 
 -- a line that says nothing: it has no word
@@ -69,6 +63,13 @@ silent kind = record { expected = as_it_should_be; word = 0; kind = kind; first 
 -- another word was expected than the one of this number, counted from 1
 unfoldable pub astray : ℕ → ℕ → Statement
 astray expected word = record { expected = expected; word = word; kind = no_kind; first = 0; words = 0; size = 0 }
+
+-- what the first word of a statement says: what was expected in its place, the controller's kind, its own number, and how many numbers follow it
+pub record Opening : Type 0 where
+  pub expected : ℕ
+  pub kind : ℕ
+  pub first : ℕ
+  pub numbers : ℕ
 
 -- a word names a controller, and as many numbers follow as configure it (01, House trace)
 unfoldable pub controller_by : ℕ → Opening

@@ -9,9 +9,9 @@ ghost use Rattle.encode.specs.Lines.{expected_words, refused_line};
 
 pub mod statements;
 
-use statements::Statement;
+use statements::{Expected, Statement};
 
-// What was expected, 0 where nothing else was; the line, and the word in it, each counted from 1.
+// What was expected, 0 where nothing else was; the line, and the word in it, each counted from 1. They are numbers, as `wisteria_encode` hands them to C.
 #[derive(Clone, Copy)]
 pub struct Refusal {
     pub expected: u32,
@@ -25,11 +25,6 @@ pub struct Encoded {
     pub refusal: Refusal,
     pub bytes: usize,
 }
-
-// What may be expected besides what a line may lack.
-pub const SHORTER_TRACE: u32 = 5;
-
-pub const SHORTER_TEXT: u32 = 6;
 
 // The most bytes of a text, and of a trace.
 pub const LONGEST_TEXT: usize = 5242880;
@@ -61,8 +56,8 @@ pub fn encode(text: &[u8], out: &mut [u8]) -> Encoded
         }
         place = statements::put_statement(out, place, &text[at..end], s.first, s.words);
         kind = s.kind;
-        size = size + s.size;
-        lines = lines + 1;
+        size += s.size;
+        lines += 1;
         at = end + 1;
     }
     let r = ended_by(kind, lines);
@@ -78,7 +73,7 @@ fn line_of(line: &[u8], end: usize, kind: u32, size: usize) -> Statement
     ensures { result ≡ line_of end kind size line.now }
 {
     if LONGEST_TEXT < end {
-        return statements::goes_astray(SHORTER_TEXT, 0);
+        return statements::expects(Expected::ShorterText, 0);
     }
     room_for(size, statements::statement_of(kind, line))
 }
@@ -89,7 +84,7 @@ fn room_for(size: usize, s: Statement) -> Statement
     ensures { result ≡ room_for size s }
 {
     if LONGEST_TRACE - size < s.size {
-        return statements::goes_astray(SHORTER_TRACE, 0);
+        return statements::expects(Expected::ShorterTrace, 0);
     }
     s
 }
@@ -100,7 +95,7 @@ fn ended_by(kind: u32, lines: usize) -> Refusal
 {
     if kind == statements::NO_KIND {
         return Refusal {
-            expected: statements::CONTROLLER,
+            expected: Expected::Controller.number(),
             line: lines,
             word: 1,
         };
@@ -128,30 +123,26 @@ pub fn put_refusal(out: &mut [u8], r: Refusal) -> usize
 fn put_expected(out: &mut [u8], at: usize, expected: u32, word: usize) -> usize
     ensures { (out.new, result) ≡ write (out.old, at) (expected_words expected word) }
 {
-    if expected == statements::CONTROLLER {
-        return text::put_all(
+    match expected {
+        1 => text::put_all(
             out,
             at,
             b": a controller was expected: aic, coreinterrupt, cic, aintc or indexed",
-        );
+        ),
+        2 => text::put_all(out, at, b": a step was expected: read, write or line"),
+        3 => {
+            let next = text::put_all(
+                out,
+                at,
+                b": a number of at most 32 bits was expected as word ",
+            );
+            text::put_decimal(out, next, word as u64)
+        }
+        4 => {
+            let next = text::put_all(out, at, b": the end of the line was expected before word ");
+            text::put_decimal(out, next, word as u64)
+        }
+        5 => text::put_all(out, at, b": the trace is longer than 65536 bytes"),
+        _ => text::put_all(out, at, b": the text is longer than 5242880 bytes"),
     }
-    if expected == statements::STEP {
-        return text::put_all(out, at, b": a step was expected: read, write or line");
-    }
-    if expected == statements::NUMBER {
-        let next = text::put_all(
-            out,
-            at,
-            b": a number of at most 32 bits was expected as word ",
-        );
-        return text::put_decimal(out, next, word as u64);
-    }
-    if expected == statements::LINE_END {
-        let next = text::put_all(out, at, b": the end of the line was expected before word ");
-        return text::put_decimal(out, next, word as u64);
-    }
-    if expected == SHORTER_TRACE {
-        return text::put_all(out, at, b": the trace is longer than 65536 bytes");
-    }
-    text::put_all(out, at, b": the text is longer than 5242880 bytes")
 }

@@ -1,15 +1,18 @@
 // The text form of a trace, one line: its words are read as a statement, and the numbers that it stands for are written as bytes (docs/TEXT.md).
-ghost use Rattle.std.specs.Prelude.{◌≡◌, ◌&&◌, ◌^◌, ltb, length};
+ghost use Rattle.std.specs.Prelude.{◌≡◌, length};
 ghost use Rattle.text.specs.Text.{write};
 ghost use Rattle.trace.specs.Steps.{operands_of};
 ghost use Rattle.encode.specs.Bytes.{groups, shortest, bytes_of};
-ghost use Rattle.encode.specs.Words.{same, kind_of, step_of};
-ghost use Rattle.encode.specs.Statements.{place_from, values_in, numbers_in};
-ghost use Rattle.encode.specs.Statements.{silent, astray, controller_by, step_by, opening_of, by_numbers, by_opening};
+ghost use Rattle.encode.specs.Words.{same, no_kind, kind_of, no_step, step_of};
+ghost use Rattle.encode.specs.Statements.{place_from, values_in};
+ghost use Rattle.encode.specs.Statements.{silent, astray, controller_by, step_by, by_numbers};
+ghost use Rattle.encode.specs.Passes.{number_of, unless, opened, opens_as, opening_in, by_opened, short_of, numbers_in};
+ghost use Rattle.encode.specs.declared.statements.Expected.TheVariants.{Controller, Step};
 ghost use Rattle.encode.specs.Statements.{statement_in, statement_of, numbers_of, bytes_in};
 
 // What a line says: what was expected in it and as which word, counted from 1; the controller's kind behind it; the number of its first word, how many
 // words it has, and how many bytes they take.
+// What was expected and the kind are numbers, 0 and 5 for none: `statement_of` is a documented function, and the promises state this record.
 #[derive(Clone, Copy)]
 pub struct Statement {
     pub expected: u32,
@@ -20,38 +23,53 @@ pub struct Statement {
     pub size: usize,
 }
 
-// What the first word of a statement says: whether it is one, the controller's kind, its own number, and how many numbers follow it.
+// What the first word of a statement says: the controller's kind, its own number, and how many numbers follow it.
 #[derive(Clone, Copy)]
 struct Opening {
-    expected: u32,
     kind: u32,
     first: u32,
     numbers: u32,
 }
 
-// How many words behind the first are numbers, where the next one begins, and how many bytes the numbers take.
+// Where the word behind the numbers of a line begins, and how many bytes the numbers take.
 #[derive(Clone, Copy)]
 struct Numbers {
-    count: u32,
     start: usize,
     size: usize,
 }
 
-// What may be expected in a line; 0 where it is as it should be.
+// What may be expected in a text.
+#[derive(Clone, Copy)]
+pub enum Expected {
+    Controller,
+    Step,
+    Number,
+    LineEnd,
+    ShorterTrace,
+    ShorterText,
+}
+
+impl Expected {
+    // Its number in a refusal.
+    pub fn number(self) -> u32
+        ensures { result ≡ number_of self }
+    {
+        match self {
+            Expected::Controller => 1,
+            Expected::Step => 2,
+            Expected::Number => 3,
+            Expected::LineEnd => 4,
+            Expected::ShorterTrace => 5,
+            Expected::ShorterText => 6,
+        }
+    }
+}
+
+// Nothing is expected of a line that is as it should be.
 pub const AS_IT_SHOULD_BE: u32 = 0;
-
-pub const CONTROLLER: u32 = 1;
-
-pub const STEP: u32 = 2;
-
-pub const NUMBER: u32 = 3;
-
-pub const LINE_END: u32 = 4;
 
 // No kind: a text has it before its controller is named.
 pub const NO_KIND: u32 = 5;
-
-const NO_STEP: u32 = 0;
 
 // The first number over 32 bits.
 const OVER: u64 = 4294967296;
@@ -79,18 +97,25 @@ fn statement_in(kind: u32, line: &[u8]) -> Statement
     by_opening(line, opening_of(kind, &line[start..past]))
 }
 
-// What is expected, and as which word.
+// What is expected, by its number, and as which word.
 pub fn goes_astray(expected: u32, word: usize) -> Statement
     ensures { result ≡ astray expected word }
 {
     Statement {
-        expected: expected,
-        word: word,
+        expected,
+        word,
         kind: NO_KIND,
         first: 0,
         words: 0,
         size: 0,
     }
+}
+
+// The same of what is expected.
+pub(crate) fn expects(expected: Expected, word: usize) -> Statement
+    ensures { result ≡ astray (number_of expected) word }
+{
+    goes_astray(expected.number(), word)
 }
 
 fn says_nothing(kind: u32) -> Statement
@@ -99,7 +124,7 @@ fn says_nothing(kind: u32) -> Statement
     Statement {
         expected: AS_IT_SHOULD_BE,
         word: 0,
-        kind: kind,
+        kind,
         first: 0,
         words: 0,
         size: 0,
@@ -107,25 +132,25 @@ fn says_nothing(kind: u32) -> Statement
 }
 
 // What the first word says, and the rest.
-fn by_opening(line: &[u8], o: Opening) -> Statement
-    ensures { result ≡ by_opening line.now o }
+fn by_opening(line: &[u8], opening: Result<Opening, Expected>) -> Statement
+    ensures { result ≡ by_opened line.now opening }
 {
-    if o.expected == AS_IT_SHOULD_BE {
-        return by_numbers(line, o);
+    match opening {
+        Ok(o) => by_numbers(line, o),
+        Err(expected) => expects(expected, 1),
     }
-    goes_astray(o.expected, 1)
 }
 
 // The numbers behind the first word, and nothing behind them.
 fn by_numbers(line: &[u8], o: Opening) -> Statement
-    ensures { result ≡ by_numbers line.now o }
+    ensures { result ≡ by_numbers line.now (opened o) }
 {
-    let n = numbers_in(line, o.numbers);
-    if n.count < o.numbers {
-        return goes_astray(NUMBER, n.count as usize + 2);
-    }
+    let n = match numbers_in(line, o.numbers) {
+        Ok(n) => n,
+        Err(count) => return expects(Expected::Number, count as usize + 2),
+    };
     if n.start < line.len() {
-        return goes_astray(LINE_END, o.numbers as usize + 2);
+        return expects(Expected::LineEnd, o.numbers as usize + 2);
     }
     Statement {
         expected: AS_IT_SHOULD_BE,
@@ -140,45 +165,39 @@ fn by_numbers(line: &[u8], o: Opening) -> Statement
 // ---- its first word
 
 // The controller where none is named yet, else a step.
-fn opening_of(kind: u32, word: &[u8]) -> Opening
-    ensures { result ≡ opening_of kind word.now }
+fn opening_of(kind: u32, word: &[u8]) -> Result<Opening, Expected>
+    ensures { result ≡ opening_in kind word.now }
 {
     if kind == NO_KIND {
-        return controller_by(kind_of(word));
+        return controller_by(word);
     }
-    step_by(kind, step_of(word))
+    step_by(kind, word)
 }
 
-fn controller_by(kind: u32) -> Opening
-    ensures { result ≡ controller_by kind }
+fn controller_by(word: &[u8]) -> Result<Opening, Expected>
+    ensures { result ≡ opens_as Controller (controller_by (kind_of word.now)) }
 {
-    let n = kinds::wanted(kind);
-    Opening {
-        expected: if kind == NO_KIND {
-            CONTROLLER
-        } else {
-            AS_IT_SHOULD_BE
-        },
-        kind: kind,
+    let Some(kind) = kind_of(word) else {
+        return Err(Expected::Controller);
+    };
+    Ok(Opening {
+        kind,
         first: kind,
-        numbers: n,
-    }
+        numbers: kinds::wanted(kind),
+    })
 }
 
-fn step_by(kind: u32, step: u32) -> Opening
-    ensures { result ≡ step_by kind step }
+fn step_by(kind: u32, word: &[u8]) -> Result<Opening, Expected>
+    ensures { result ≡ opens_as Step (step_by kind (step_of word.now)) }
 {
-    let n = operands(kinds::tells_privilege(kind), step);
-    Opening {
-        expected: if step == NO_STEP {
-            STEP
-        } else {
-            AS_IT_SHOULD_BE
-        },
-        kind: kind,
+    let Some(step) = step_of(word) else {
+        return Err(Expected::Step);
+    };
+    Ok(Opening {
+        kind,
         first: step,
-        numbers: n,
-    }
+        numbers: operands(kinds::tells_privilege(kind), step),
+    })
 }
 
 // How many numbers go with a step; each offset has a privilege behind it where one is told.
@@ -204,107 +223,93 @@ fn operands(told: bool, step: u32) -> u32
 }
 
 // The kind of controller that a word names.
-fn kind_of(word: &[u8]) -> u32
-    ensures { result ≡ kind_of word.now }
+fn kind_of(word: &[u8]) -> Option<u32>
+    ensures { result ≡ unless no_kind (kind_of word.now) }
 {
     if is_same(word, b"aic") {
-        return kinds::AIC;
+        return Some(kinds::AIC);
     }
     if is_same(word, b"coreinterrupt") {
-        return kinds::CORE;
+        return Some(kinds::CORE);
     }
     if is_same(word, b"cic") {
-        return kinds::CIC;
+        return Some(kinds::CIC);
     }
     if is_same(word, b"aintc") {
-        return kinds::AINTC;
+        return Some(kinds::AINTC);
     }
     if is_same(word, b"indexed") {
-        return kinds::INDEXED;
+        return Some(kinds::INDEXED);
     }
-    NO_KIND
+    None
 }
 
 // The kind of step that a word names.
-fn step_of(word: &[u8]) -> u32
-    ensures { result ≡ step_of word.now }
+fn step_of(word: &[u8]) -> Option<u32>
+    ensures { result ≡ unless no_step (step_of word.now) }
 {
     if is_same(word, b"read") {
-        return trace::READ;
+        return Some(trace::READ);
     }
     if is_same(word, b"write") {
-        return trace::WRITE;
+        return Some(trace::WRITE);
     }
     if is_same(word, b"line") {
-        return trace::LINE;
+        return Some(trace::LINE);
     }
-    NO_STEP
+    None
 }
 
 fn is_same(a: &[u8], b: &[u8]) -> bool
     ensures { result ≡ same a.now b.now }
 {
-    if a.len() != b.len() {
-        return false;
-    }
-    let mut k: usize = 0;
-    while k < a.len() {
-        if a[k] != b[k] {
-            return false;
-        }
-        k = k + 1;
-    }
-    true
+    a == b
 }
 
 // ---- the numbers behind it
 
-// The first of at most n that is none of 32 bits ends them.
-fn numbers_in(line: &[u8], n: u32) -> Numbers
+// The n numbers behind the first word; or how many come before the first that is none of 32 bits.
+fn numbers_in(line: &[u8], n: u32) -> Result<Numbers, u32>
     ensures { result ≡ numbers_in line.now n }
 {
     let first = tables::read_next(line, 0);
     let mut past = first.past;
     let mut size: usize = 0;
-    let mut k: u32 = 0;
-    while k < n {
+    for k in 0..n {
         let next = tables::read_next(line, past);
-        if !fits(next.taken, next.value) {
-            return Numbers {
-                count: k,
-                start: next.start,
-                size: size,
-            };
-        }
-        size = size + size_of(tables::entered_as(next.value));
+        let Some(value) = fitting(next.number) else {
+            return Err(k);
+        };
+        size += size_of(value);
         past = next.past;
-        k = k + 1;
     }
-    Numbers {
-        count: n,
+    Ok(Numbers {
         start: tables::seek(line, past, false),
-        size: size,
-    }
+        size,
+    })
 }
 
-fn fits(taken: bool, value: u64) -> bool
-    ensures { result ≡ (taken && ltb value (2 ^ 32)) }
+// A number of 32 bits.
+fn fitting(number: Option<u64>) -> Option<u32>
+    ensures { result ≡ short_of number }
 {
-    taken & (value < OVER)
+    let value = number?;
+    if value < OVER {
+        return Some(tables::entered_as(value));
+    }
+    None
 }
 
 // The first place from `at` on where a byte stands.
 pub fn find(text: &[u8], at: usize, b: u8) -> usize
     ensures { result ≡ place_from b text.now at }
 {
-    let mut i = at;
-    while i < text.len() {
+    for i in at..text.len() {
         if text[i] == b {
             return i;
         }
-        i = i + 1;
     }
-    i
+    at.max(text.len())
 }
 
 // ---- bytes
@@ -335,12 +340,10 @@ fn put_values(out: &mut [u8], at: usize, line: &[u8], n: usize) -> usize
     let first = tables::read_next(line, 0);
     let mut past = first.past;
     let mut place = at;
-    let mut k: usize = 0;
-    while k < n {
+    for k in 0..n {
         let next = tables::read_next(line, past);
-        place = put_number(out, place, tables::entered_as(next.value));
+        place = put_number(out, place, tables::entered_as(next.number.unwrap_or(0)));
         past = next.past;
-        k = k + 1;
     }
     place
 }

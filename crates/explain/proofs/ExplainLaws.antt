@@ -24,28 +24,26 @@ use Rattle.beginning.specs.Begin.{begin_of}
 use Rattle.beginning.specs.Play.{records_from}
 use Rattle.beginning.proofs.PlayLaws.{records-begun}
 use Rattle.explain.specs.declared.Window.{Window}
+use Rattle.explain.specs.declared.Window.TheVariants.{Whole, Part}
 use Rattle.explain.specs.Explain.{step_line, shows, lines_from, end_of, text_from, head_of, started_text, explained_by}
 
 -- ---- which lines are shown
 
-pub shows-all : (w : Window) (n : ℕ) → w.whole ≡ true → true ≡ shows w n
+pub shows-all : (n : ℕ) → true ≡ shows Whole n
 unfolding shows
-shows-all w n e = rw e
+shows-all n = refl
 
-pub shows_early : (w : Window) (n : ℕ) → w.whole ≡ false → n < w.first → false ≡ shows w n
+pub shows_early : (first steps n : ℕ) → n < first → false ≡ shows (Part first steps) n
 unfolding shows
-shows_early w n e l = rw (e, lt-leb w.first n l)
+shows_early first steps n l = rw (lt-leb first n l)
 
-pub shows_late : (w : Window) (n : ℕ) (r : Bool) → w.whole ≡ false → w.first ≤ n → r ≡ ltb (n - w.first) w.steps → r ≡ shows w n
+pub shows_late : (first steps n : ℕ) (r : Bool) → first ≤ n → r ≡ ltb (n - first) steps → r ≡ shows (Part first steps) n
 unfolding shows
-shows_late w n r e l h = rw (e, le-leb w.first n l) (h ∙ moved w.first w.steps n l)
+shows_late first steps n r l h = rw (le-leb first n l) (h ∙ moved (native.Mathlib.Decide.dec_lt (n - first) steps))
   where
-    moved : (first steps n : ℕ) → first ≤ n → ltb (n - first) steps ≡ ltb n (first + steps)
-    moved first steps n l = go (native.Mathlib.Decide.dec_lt (n - first) steps)
-      where
-        go : Dec (n - first < steps) → ltb (n - first) steps ≡ ltb n (first + steps)
-        go (yes m) = lt-ltb (n - first) steps m ∙ sym (lt-ltb n (first + steps) (omega arith))
-        go (no m) = le-ltb (n - first) steps (omega arith) ∙ sym (le-ltb n (first + steps) (omega arith))
+    moved : Dec (n - first < steps) → ltb (n - first) steps ≡ ltb n (first + steps)
+    moved (yes m) = lt-ltb (n - first) steps m ∙ sym (lt-ltb n (first + steps) (omega arith))
+    moved (no m) = le-ltb (n - first) steps (omega arith) ∙ sym (le-ltb n (first + steps) (omega arith))
 
 -- ---- the loop
 

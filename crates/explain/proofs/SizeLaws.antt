@@ -36,7 +36,7 @@ use Rattle.deeds.proofs.DeedLaws.{deed-length, output-length}
 use Rattle.explain.specs.declared.Window.{Window}
 use Rattle.explain.specs.Stated.{offset_digits, numbers_at, controller, privilege_field, read_stated, write_stated, line_stated, stated_by, stated, gap, to_column}
 use Rattle.explain.specs.Explain.{commented, cic_document, document_words, controller_line, reason_words, refused_words, value_words, access_words, did_words, step_words, step_line}
-use Rattle.explain.specs.Explain.{end_reason, end_line, shows, lines_from, end_of, text_from, head_of, started_text, explained_by}
+use Rattle.explain.specs.Explain.{end_reason, end_line, is_whole, shows, lines_from, end_of, text_from, head_of, started_text, explained_by}
 use Rattle.explain.specs.Promises.{Words, AllWords}
 use Rattle.explain.proofs.StatedLaws.{digits-most, length-hex_field, controller-fits, each-kind}
 
@@ -163,11 +163,11 @@ lines-most w told n m (x ∷ xs) h f =
 
 end_of_lem : (w : Window) (refusal offset : ℕ) → length (end_of w refusal offset) ≤ 256
 unfolding end_of
-end_of_lem w refusal offset = pick_cases (λ (l : List ℕ). length l ≤ 256) (w.whole && not (eqb refusal carried_out)) (λ e. end-most refusal offset) (λ e. omega arith)
+end_of_lem w refusal offset = pick_cases (λ (l : List ℕ). length l ≤ 256) (is_whole w && not (eqb refusal carried_out)) (λ e. end-most refusal offset) (λ e. omega arith)
 
 head_of_lem : (w : Window) (s : List ℕ) (kind : ℕ) → length (head_of w s kind) ≤ 256
 unfolding head_of
-head_of_lem w s kind = pick_cases (λ (l : List ℕ). length l ≤ 256) w.whole (λ e. head-most s kind) (λ e. omega arith)
+head_of_lem w s kind = pick_cases (λ (l : List ℕ). length l ≤ 256) (is_whole w) (λ e. head-most s kind) (λ e. omega arith)
 
 pub explained-most : (w : Window) (s : List ℕ) (limit : ℕ) → limit < 100000 → length (explained_by w s limit) ≤ 256 * limit + 512
 unfolding explained_by started_text text_from

@@ -48,6 +48,14 @@ unfolding fields numbers_at
 fields-more zero s at v p h e f = absurd (h refl)
 fields-more (suc n) s at v p h e f = rw (sub-one, e, f)
 
+pub numbers-turn : (o p q : List ℕ × ℕ) (left : ℕ) (s : List ℕ) (at v next : ℕ) → (left ≡ 0 → ⊥) → v ≡ (told_at s at).value → next ≡ (told_at s at).place
+    → q ≡ write p (field v) → write p (fields (numbers_at left s at)) ≡ o → write q (fields (numbers_at (left - 1) s next)) ≡ o
+numbers-turn o p q left s at v next h e f g i =
+    rest_of p q (field v) (fields (numbers_at (left - 1) s next)) g ∙ ap (write p) (fields-more left s at v next h e f) ∙ i
+
+pub numbers-done : (o p : List ℕ × ℕ) (left : ℕ) (s : List ℕ) (at : ℕ) → left ≡ 0 → write p (fields (numbers_at left s at)) ≡ o → p ≡ o
+numbers-done o p left s at e f = nothing p ∙ ap (write p) (fields-none left s at e) ∙ f
+
 -- ---- spaces, one at a time
 
 pub spaces-turn : (o p q : List ℕ × ℕ) (left : ℕ) → (left ≡ 0 → ⊥) → q ≡ write p (space ∷ []) → write p (replicate left space) ≡ o

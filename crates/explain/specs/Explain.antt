@@ -18,6 +18,7 @@ use Rattle.beginning.specs.Play.{records_of}
 use Rattle.register_words.specs.Registers.{place_words, field_words, limit_words}
 use Rattle.deeds.specs.Deeds.{deed_words, output_words}
 use Rattle.explain.specs.declared.Window.{Window}
+use Rattle.explain.specs.declared.Window.TheVariants.{Whole, Part}
 use Rattle.explain.specs.Stated.{numbers_at, controller, stated, to_column}
 
 -- a statement and its comment
@@ -104,14 +105,19 @@ end_line refusal offset = bytes "# E" ++ field refusal ++ field offset ++ bytes 
 
 -- all lines; or those of so many steps from one of this number on, and nothing else
 abbrev pub whole : Window
-whole = record { whole = true; first = 0; steps = 0 }
+whole = Whole
 
 abbrev pub window_of : ℕ → ℕ → Window
-window_of first steps = record { whole = false; first = first; steps = steps }
+window_of first steps = Part first steps
+
+abbrev pub is_whole : Window → Bool
+is_whole Whole = true
+is_whole (Part first steps) = false
 
 -- the line of step n is shown
 unfoldable pub shows : Window → ℕ → Bool
-shows w n = w.whole || (leb w.first n && ltb n (w.first + w.steps))
+shows Whole n = true
+shows (Part first steps) n = leb first n && ltb n (first + steps)
 
 -- step records of which n others come before
 unfoldable pub lines_from : Window → Bool → ℕ → Machine → List Recorded → List ℕ
@@ -121,13 +127,13 @@ lines_from w told n m (x ∷ xs) =
 
 -- the line of a last E; a trace that ends without a refusal has none
 unfoldable pub end_of : Window → ℕ → ℕ → List ℕ
-end_of w refusal offset = pick (w.whole && not (eqb refusal carried_out)) (end_line refusal offset) []
+end_of w refusal offset = pick (is_whole w && not (eqb refusal carried_out)) (end_line refusal offset) []
 
 unfoldable pub text_from : Window → Bool → ℕ → Machine → Trace → List ℕ
 text_from w told n m t = lines_from w told n m t.steps ++ end_of w t.refusal t.offset
 
 unfoldable pub head_of : Window → List ℕ → ℕ → List ℕ
-head_of w s kind = pick w.whole (controller_line s kind) []
+head_of w s kind = pick (is_whole w) (controller_line s kind) []
 
 -- a trace that starts a controller
 unfoldable pub started_text : Window → List ℕ → Machine → Trace → List ℕ

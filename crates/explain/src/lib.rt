@@ -6,7 +6,6 @@ ghost use Rattle.std.specs.Prelude.{◌≡◌, [], ◌∷◌, ◌++◌, ◌%◌,
 ghost use Rattle.words.specs.Choice.{pick};
 ghost use Rattle.steps.specs.Refusals.{carried_out};
 ghost use Rattle.numbers.specs.Promises.{told_at};
-ghost use Rattle.numbers.specs.Number.{told};
 ghost use Rattle.text.specs.Text.{space, write, laid, hex_digit, hex_of};
 ghost use Rattle.trace.specs.Trace.{steps_from};
 ghost use Rattle.kinds.specs.Kinds.{wanted, tells_privilege};
@@ -20,17 +19,15 @@ ghost use Rattle.explain.specs.Explain.{end_reason, end_line, shows, lines_from,
 use beginning::Begun;
 use machine::Answer;
 use machine::record::Machine;
-use numbers::Number;
 use steps::{Recorded, Step};
 use text::NEWLINE;
 use trace::Turn;
 
-// All lines; or those of `steps` steps from the step `first` on, counted from 1, and nothing else.
+// All lines; or those of a part, so many steps from one on, counted from 1, and nothing else.
 #[derive(Clone, Copy)]
-pub struct Window {
-    pub whole: bool,
-    pub first: u32,
-    pub steps: u32,
+pub enum Window {
+    Whole,
+    Part { first: u32, steps: u32 },
 }
 
 // A number of a trace and the place behind it; 0 and its own place where it is damaged.
@@ -44,24 +41,14 @@ struct Said {
 pub fn explain(trace: &[u8], limit: u32, out: &mut [u8]) -> usize
     ensures { (out.new, result) ≡ laid out.old (explained_of trace.now limit) }
 {
-    let w = Window {
-        whole: true,
-        first: 0,
-        steps: 0,
-    };
-    explain_by(trace, limit, w, out)
+    explain_by(trace, limit, Window::Whole, out)
 }
 
 // Its lines of `steps` steps from the step `first` on, counted from 1, and nothing else.
 pub fn explain_window(trace: &[u8], limit: u32, first: u32, steps: u32, out: &mut [u8]) -> usize
     ensures { (out.new, result) ≡ laid out.old (explained_window trace.now limit first steps) }
 {
-    let w = Window {
-        whole: false,
-        first: first,
-        steps: steps,
-    };
-    explain_by(trace, limit, w, out)
+    explain_by(trace, limit, Window::Part { first, steps }, out)
 }
 
 fn explain_by(trace: &[u8], limit: u32, w: Window, out: &mut [u8]) -> usize
@@ -104,6 +91,7 @@ fn put_steps(
     let mut more = limit;
     let mut number: u32 = 0;
     let mut to = from;
+    // A turn ends the loop, and no range: what is left of the limit is what it asks for.
     loop {
         match trace::turn_at(trace, at, more, told) {
             Turn::Ended(refusal, offset) => {
@@ -112,8 +100,8 @@ fn put_steps(
             Turn::Found(x, next) => {
                 let a = machine::step_sound(m, x);
                 at = next;
-                more = more - 1;
-                number = number + 1;
+                more -= 1;
+                number += 1;
                 to = put_shown(out, to, w, told, number, m, x, a);
                 m = a.machine;
             }
@@ -127,10 +115,10 @@ fn put_steps(
 fn put_head(out: &mut [u8], w: Window, trace: &[u8], kind: u32) -> usize
     ensures { (out.new, result) ≡ write (out.old, 0) (head_of w trace.now kind) }
 {
-    if w.whole {
-        return put_controller_line(out, trace, kind);
+    match w {
+        Window::Whole => put_controller_line(out, trace, kind),
+        Window::Part { .. } => 0,
     }
-    0
 }
 
 fn put_controller_line(out: &mut [u8], trace: &[u8], kind: u32) -> usize
@@ -166,13 +154,15 @@ fn put_shown(
 fn shows(w: Window, n: u32) -> bool
     ensures { result ≡ shows w n }
 {
-    if w.whole {
-        return true;
+    match w {
+        Window::Whole => true,
+        Window::Part { first, steps } => {
+            if n < first {
+                return false;
+            }
+            n - first < steps
+        }
     }
-    if n < w.first {
-        return false;
-    }
-    n - w.first < w.steps
 }
 
 fn put_step_line(
@@ -198,10 +188,15 @@ fn put_step_line(
 fn put_end(out: &mut [u8], at: usize, w: Window, refusal: u32, offset: usize) -> usize
     ensures { (out.new, result) ≡ write (out.old, at) (end_of w refusal offset) }
 {
-    if w.whole & (refusal != steps::CARRIED_OUT) {
-        return put_end_line(out, at, refusal, offset);
+    match w {
+        Window::Whole => {
+            if refusal == steps::CARRIED_OUT {
+                return at;
+            }
+            put_end_line(out, at, refusal, offset)
+        }
+        Window::Part { .. } => at,
     }
-    at
 }
 
 fn put_end_line(out: &mut [u8], at: usize, refusal: u32, offset: usize) -> usize
@@ -275,32 +270,31 @@ fn put_kind(out: &mut [u8], at: usize, kind: u32) -> usize
 }
 
 // So many numbers of a trace from a place on.
-fn put_numbers(out: &mut [u8], at: usize, trace: &[u8], place: usize, n: u32) -> usize
-    ensures { (out.new, result) ≡ write (out.old, at) (fields (numbers_at n trace.now place)) }
+fn put_numbers(out: &mut [u8], at: usize, trace: &[u8], start: usize, n: u32) -> usize
+    ensures { (out.new, result) ≡ write (out.old, at) (fields (numbers_at n trace.now start)) }
 {
-    if n == 0 {
-        return at;
+    let mut to = at;
+    let mut place = start;
+    for k in 0..n {
+        let v = read_at(trace, place);
+        to = text::put_field(out, to, v.value as u64);
+        place = v.place;
     }
-    let v = read_at(trace, place);
-    let next = text::put_field(out, at, v.value as u64);
-    put_numbers(out, next, trace, v.place, n - 1)
+    to
 }
 
 fn read_at(trace: &[u8], place: usize) -> Said
     ensures { (result.value ≡ (told_at trace.now place).value) × (result.place ≡ (told_at trace.now place).place) }
 {
-    read_of(numbers::read_number(trace, place))
-}
-
-fn read_of(n: Number) -> Said
-    ensures { (result.value ≡ (told n).value) × (result.place ≡ (told n).place) }
-{
-    match n {
-        Number::Value(v, next) => Said {
-            value: v,
-            place: next,
+    match numbers::read_number(trace, place) {
+        Ok(n) => Said {
+            value: n.value,
+            place: n.next,
         },
-        Number::Refused(_, p) => Said { value: 0, place: p },
+        Err(fault) => Said {
+            value: 0,
+            place: fault.at,
+        },
     }
 }
 
@@ -425,10 +419,8 @@ fn put_spaces(out: &mut [u8], at: usize, n: usize) -> usize
     ensures { (out.new, result) ≡ write (out.old, at) (replicate n space) }
 {
     let mut to = at;
-    let mut left = n;
-    while left != 0 {
+    for k in 0..n {
         to = text::put(out, to, text::SPACE);
-        left = left - 1;
     }
     to
 }

@@ -1,6 +1,7 @@
 // The player, the listing, the words that a read looks at, the figures of a trace, the bounds of the waits of a source, the stack size of a typed table,
 // and CoreInterrupt on a lent record, for callers in Rust and C. A slice goes as a pointer and a length, in this order; a length and an offset are of the
-// width of a pointer. include/wisteria.h declares the functions for C, and says what a caller answers for.
+// width of a pointer. include/wisteria.h declares the functions for C, and says what a caller answers for. Numbers stand for kinds, refusals and
+// privileges, and parameters that travel together stay apart, since C calls these functions.
 #![tactic(auto)]
 
 ghost use Rattle.std.specs.Prelude.{◌≡◌, [], ◌∷◌, ℕ};

@@ -8,7 +8,7 @@ use native.Mathlib.Decide.{ℕ_discrete}
 use native.Mathlib.Omega.{arith}
 use borrow.Author.Tests.{eq-eqb, ne_eqb, lt-ltb, le-ltb}
 use lib.ListN.{get_or, set, length, replicate, length-set, length-replicate}
-use lib.Seq.{get_or-set_same, get_or-set_other, ext_get_or, set_out}
+use lib.Seq.{get_or-set_same, get_or-set_other, ext_get_or, set_out, paste, paste-zero, paste-suc}
 use Rattle.words.specs.Array.{rest_at}
 use Rattle.words.specs.Choice.{pick}
 use Rattle.words.specs.Counting.{upto}
@@ -102,6 +102,17 @@ clear_none p h = holds_as p (ap (with_hosts p.held) (upto-none clear_turn p.held
 
 pub clear-more : (p : Prioritised) (n : ℕ) {room : List ℕ} → n < 256 → Laid (cleared_to p n) room → Laid (cleared_to p (n + 1)) (set room (1024 + n) 0)
 clear-more p n l h = holds_as p (ap (with_hosts p.held) (upto-more clear_turn p.held.host n refl refl)) (put_host _ h n 0 l)
+
+-- all of them at once
+pub cleared_paste : (p : Prioritised) (n : ℕ) {room : List ℕ} → length room ≡ 2048 → n ≤ 256 → Laid p room → Laid (cleared_to p n) (paste room 1024 (replicate 256 0) n)
+cleared_paste p zero {room} e l h = subst (Laid (cleared_to p 0)) (paste-zero room 1024 (replicate 256 0)) (clear_none p h)
+cleared_paste p (suc n) {room} e l h =
+    let s : n + 1 ≡ suc n = omega arith in
+    let more = clear-more p n (omega arith) (cleared_paste p n e (omega arith) h) in
+    subst (Laid (cleared_to p (suc n)))
+    (ap (set (paste room 1024 (replicate 256 0) n) (1024 + n)) (sym (zeros_get_d 256 n))
+    ∙ paste-suc room 1024 (replicate 256 0) n 0 (omega arith) (omega (arith, length-replicate {A = ℕ} 256 0)))
+    (subst (λ (k : ℕ). Laid (cleared_to p k) (set (paste room 1024 (replicate 256 0) n) (1024 + n) 0)) s more)
 
 -- and then the mode and the global one
 pub clear-done : (p : Prioritised) (mode n : ℕ) {room : List ℕ} → length p.held.host ≡ 256 → n ≤ 256 → 256 ≤ n → Laid (cleared_to p n) room

@@ -78,10 +78,8 @@ fn free_word(room: &mut Room, k: u32, v: u32)
     requires { k < 8 }
     ensures { (p : Prioritised) → Laid p room.old → Laid (prioritised p.cic (with_hosts p.held (freed_hosts k v p.held.host))) room.new }
 {
-    let mut j: u32 = 0;
-    while j < 32 {
+    for j in 0..32 {
         free_if(room, words::has(v, j), Host((32 * k + j) as u16));
-        j = j + 1;
     }
 }
 
@@ -90,10 +88,7 @@ fn rest_at(n: u32, k: u32) -> u32
     requires { k < 8 }
     ensures { result ≡ rest_at n k }
 {
-    if n <= 32 * k {
-        return 0;
-    }
-    n - 32 * k
+    n.saturating_sub(32 * k)
 }
 
 // After v is written to host index set or clear: the hold of host interrupt v ends, if there is one, and the global one.
@@ -147,11 +142,7 @@ pub(crate) fn end_holds(room: &mut Room, offset: u32, v: u32)
 fn clear(room: &mut Room, mode: u32)
     ensures { (p : Prioritised) → Laid p room.old → Laid (prioritised p.cic (nothing_held p.held.choice mode)) room.new }
 {
-    let mut k: usize = 0;
-    while k < 256 {
-        room[HELD + k] = 0;
-        k = k + 1;
-    }
+    room[HELD..HELD + 256].fill(0);
     room[MODE] = mode;
     room[GLOBAL_HELD] = 0;
 }

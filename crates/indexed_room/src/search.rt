@@ -13,13 +13,6 @@ use cic_record::{Channel, Host, System};
 use cic_room::laid::{ACTIVE, BUSY, CHANNEL_MAP, HOST_MAP, OF_HOST, WORDS};
 use rooms::Room;
 
-// A word as it is, whose size is known.
-fn whole(w: u32) -> u32
-    ensures { (result ≡ w) × (result < 4294967296) }
-{
-    w
-}
-
 // ---- bytes of the maps
 
 // 1 where the test holds, else 0.
@@ -92,7 +85,7 @@ fn first_of(room: &Room, k: Channel) -> System
     requires { k.0 < 256 }
     ensures { (p : Prioritised) → sound p ≡ true → Laid p room.now → busy p.cic k ≡ true → result ≡ system (first_in p.cic k) }
 {
-    let mut left = whole(room[WORDS + k.0 as usize]);
+    let mut left = room[WORDS + k.0 as usize];
     while left != 0 {
         let w = words::lowest(left);
         let some = lit_word(room, w, k);
@@ -112,7 +105,7 @@ fn asked_word(room: &Room, w: u32, every: bool, h: Host) -> u32
     requires { w < 8 }
     ensures { (result < 4294967296) × ((p : Prioritised) → sound p ≡ true → Laid p room.now → Asked p.cic every h w result) }
 {
-    let some = whole(room[BUSY + w as usize]);
+    let some = room[BUSY + w as usize];
     if every | (some == 0) {
         return some;
     }
@@ -128,15 +121,13 @@ pub(crate) fn index(room: &Room, every: bool, h: Host) -> u32
     if !every & (room[OF_HOST + h.0 as usize] == 0) {
         return cic_held::indices::NONE;
     }
-    let mut w: u32 = 0;
-    while w < 8 {
+    for w in 0..8 {
         let some = asked_word(room, w, every, h);
         if some != 0 {
             let j = words::lowest(some);
             let s = first_of(room, Channel((32 * w + j) as u16));
             return s.0 as u32;
         }
-        w = w + 1;
     }
     cic_held::indices::NONE
 }

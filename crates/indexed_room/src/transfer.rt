@@ -14,6 +14,7 @@ use super::holds::{CHOICE, GLOBAL_HELD, MODE};
 use cic_held::{Held, Prioritised};
 use cic_room::laid::{CHANNEL_MAP, HELD, KIND, WORDS};
 use rooms::Room;
+use std::array;
 
 // The kind of a CIC with prioritised indices.
 const INDEXED: u32 = 4;
@@ -35,37 +36,18 @@ fn enter(room: &mut Room, s: u32)
 fn lay_words(room: &mut Room)
     ensures { (f : Frame) (c : Cic) → f.words ≡ replicate 256 0 → Stands f c room.old → Stands (with_words f (made 256 (words_of c.channel))) c room.new }
 {
-    let mut s: u32 = 0;
-    while s < 1024 {
+    for s in 0..1024 {
         enter(room, s);
-        s = s + 1;
     }
-}
-
-fn wide(x: u16) -> u32
-    ensures { (result ≡ x) × (result < 65536) }
-{
-    x as u32
 }
 
 // What is held for each host.
 fn lay_held<'a>(room: &'a mut Room, held: &'a [u16; 256])
     ensures { (f : Frame) (c : Cic) → length held.now ≡ 256 → Stands f c room.old → Stands (with_held f held.now) c room.new }
 {
-    let mut k: usize = 0;
-    while k < 256 {
-        let x = wide(held[k]);
-        room[HELD + k] = x;
-        k = k + 1;
+    for (k, x) in held.iter().enumerate() {
+        room[HELD + k] = u32::from(*x);
     }
-}
-
-// The same, where it stands beside the rest of what is held.
-fn lay_hosts(room: &mut Room, h: Held)
-    ensures { (f : Frame) (c : Cic) → Stands f c room.old → Stands (with_held f h.host) c room.new }
-{
-    let host = h.host;
-    lay_held(room, &host);
 }
 
 // The room of a sound record.
@@ -75,9 +57,9 @@ pub fn lay(p: Prioritised) -> Room
     let mut room = cic_room::transfer::lay(p.cic, true);
     let choice = p.held.choice;
     let hold = p.held.hold;
-    let global = wide(p.held.global);
+    let global = u32::from(p.held.global);
     lay_words(&mut room);
-    lay_hosts(&mut room, p.held);
+    lay_held(&mut room, &p.held.host);
     room[KIND] = INDEXED;
     room[CHOICE] = choice;
     room[MODE] = hold;
@@ -97,14 +79,7 @@ fn narrow(x: u32) -> u16
 fn held_in(room: &Room) -> [u16; 256]
     ensures { (length result ≡ 256) × ((k : ℕ) → k < 256 → get_or result k 0 ≡ get_or room.now (1024 + k) 0 % 65536) }
 {
-    let mut out: [u16; 256] = [0; 256];
-    let mut k: usize = 0;
-    while k < 256 {
-        let x = narrow(room[HELD + k]);
-        out[k] = x;
-        k = k + 1;
-    }
-    out
+    array::from_fn(|k| narrow(room[HELD + k]))
 }
 
 // The record in a room.

@@ -13,6 +13,7 @@ pub struct Configuration {
     pub numbers: [u32; 5],
 }
 
+// Kinds are the numbers that a trace and the C interface name them by, and so no enum: any number may stand there.
 pub const AIC: u32 = 0;
 
 pub const CORE: u32 = 1;

@@ -212,13 +212,11 @@ fn letter_by_kind(x: Step) -> u8
 fn letter_by_number(kind: u32) -> u8
     ensures { result ≡ letter_of_kind kind }
 {
-    if kind == trace::READ {
-        return b'R';
+    match kind {
+        trace::READ => b'R',
+        trace::WRITE => b'W',
+        _ => b'L',
     }
-    if kind == trace::WRITE {
-        return b'W';
-    }
-    b'L'
 }
 
 // What the eight digits show: the value read, else 0, or the refusal's number.

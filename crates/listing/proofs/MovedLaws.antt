@@ -14,9 +14,8 @@ use Rattle.words.specs.Counting.{sum_below}
 use Rattle.words.proofs.ChoiceLaws.{pick_through}
 use Rattle.words.proofs.CountingLaws.{lowest-same}
 use Rattle.words.proofs.TruthLaws.{told as told-apart}
-use Rattle.numbers.specs.declared.Number.{Number}
-use Rattle.numbers.specs.declared.Number.TheVariants.{Value, Refused}
-use Rattle.numbers.specs.Number.{closes, group, size_at, worth_at, faulty, answer, number_at}
+use Rattle.std.specs.declared.result.Result.TheVariants.{Ok, Err}
+use Rattle.numbers.specs.Number.{Number, Value, Refused, closes, group, size_at, worth_at, faulty, answer, number_at}
 use Rattle.trace.specs.declared.Turn.{Turn}
 use Rattle.trace.specs.declared.Turn.TheVariants.{Found, Ended}
 use Rattle.trace.specs.Steps.{operands_of, by_third, by_second, by_first, by_kind, step_at}
@@ -24,8 +23,8 @@ use Rattle.trace.specs.Trace.{Trace, ends, after, turn_at, go_on, steps_from}
 
 -- a number, a turn and a trace whose places are so much further
 abbrev number_moved : ℕ → Number → Number
-number_moved d (Value v next) = Value v (d + next)
-number_moved d (Refused n p) = Refused n (d + p)
+number_moved d (Ok t) = Value t.value (d + t.next)
+number_moved d (Err f) = Refused f.refusal (d + f.at)
 
 abbrev turn_moved : ℕ → Turn → Turn
 turn_moved d (Found x next) = Found x (d + next)
@@ -76,25 +75,25 @@ module _ (a r : List ℕ) where
   -- ---- a step
 
   third-moved : (offset privilege : ℕ) (n : Number) → by_third offset privilege (number_moved d n) ≡ turn_moved d (by_third offset privilege n)
-  third-moved offset privilege (Value v next) = refl
-  third-moved offset privilege (Refused n p) = refl
+  third-moved offset privilege (Ok v) = refl
+  third-moved offset privilege (Err f) = refl
 
   second-moved : (told : Bool) (kind x : ℕ) (n : Number) → by_second told (a ++ r) kind x (number_moved d n) ≡ turn_moved d (by_second told r kind x n)
-  second-moved told kind x (Value y next) =
-      pick_through (turn_moved d) (eqb (operands_of told kind) 2) refl (ap (by_third x y) (number-moved next) ∙ third-moved x y (number_at r next))
-  second-moved told kind x (Refused n p) = refl
+  second-moved told kind x (Ok y) =
+      pick_through (turn_moved d) (eqb (operands_of told kind) 2) refl (ap (by_third x y.value) (number-moved y.next) ∙ third-moved x y.value (number_at r y.next))
+  second-moved told kind x (Err f) = refl
 
   first-moved : (told : Bool) (kind : ℕ) (n : Number) → by_first told (a ++ r) kind (number_moved d n) ≡ turn_moved d (by_first told r kind n)
-  first-moved told kind (Value x next) =
+  first-moved told kind (Ok x) =
       pick_through (turn_moved d) (eqb (operands_of told kind) 1) refl
-      (ap (by_second told (a ++ r) kind x) (number-moved next) ∙ second-moved told kind x (number_at r next))
-  first-moved told kind (Refused n p) = refl
+      (ap (by_second told (a ++ r) kind x.value) (number-moved x.next) ∙ second-moved told kind x.value (number_at r x.next))
+  first-moved told kind (Err f) = refl
 
   kind-moved : (told : Bool) (i : ℕ) (n : Number) → by_kind told (a ++ r) (d + i) (number_moved d n) ≡ turn_moved d (by_kind told r i n)
-  kind-moved told i (Value kind next) =
-      pick_through (turn_moved d) (eqb (operands_of told kind) 0) refl
-      (ap (by_first told (a ++ r) kind) (number-moved next) ∙ first-moved told kind (number_at r next))
-  kind-moved told i (Refused n p) = refl
+  kind-moved told i (Ok kind) =
+      pick_through (turn_moved d) (eqb (operands_of told kind.value) 0) refl
+      (ap (by_first told (a ++ r) kind.value) (number-moved kind.next) ∙ first-moved told kind.value (number_at r kind.next))
+  kind-moved told i (Err f) = refl
 
   step-moved : (told : Bool) (i : ℕ) → step_at told (a ++ r) (d + i) ≡ turn_moved d (step_at told r i)
   unfolding step_at

@@ -21,7 +21,7 @@ pub mod record;
 use record::Machine;
 use steps::Recorded;
 
-// The refusal, 0 for none, the value read, and the machine after the step.
+// The refusal, 0 for none, the value read, and the machine after the step. The refusal is a number, as promises and callers from C tell it.
 #[derive(Clone, Copy)]
 pub struct Answer {
     pub refusal: u32,
@@ -34,16 +34,11 @@ fn aic_step(m: Machine, x: Recorded) -> Answer
     requires { aic_sound m.aic ≡ true }
     ensures { result ≡ after_aic m (aic_step m.aic x.step) }
 {
-    let s = m.aic;
-    let y = x.step;
-    let a = aic::step_sound(s, y);
-    let t = a.aic;
-    let mut n = m;
-    n.aic = t;
+    let a = aic::step_sound(m.aic, x.step);
     Answer {
         refusal: a.refusal,
         value: a.value,
-        machine: n,
+        machine: Machine { aic: a.aic, ..m },
     }
 }
 
@@ -51,16 +46,11 @@ fn core_step(m: Machine, x: Recorded) -> Answer
     requires { core_sound m.core ≡ true }
     ensures { result ≡ after_core m (core_step m.core x.step) }
 {
-    let s = m.core;
-    let y = x.step;
-    let a = coreinterrupt::step_sound(s, y);
-    let t = a.core;
-    let mut n = m;
-    n.core = t;
+    let a = coreinterrupt::step_sound(m.core, x.step);
     Answer {
         refusal: a.refusal,
         value: a.value,
-        machine: n,
+        machine: Machine { core: a.core, ..m },
     }
 }
 
@@ -68,16 +58,11 @@ fn cic_step(m: Machine, x: Recorded) -> Answer
     requires { cic_sound m.cic ≡ true }
     ensures { result ≡ after_cic m (cic_step m.cic x.step) }
 {
-    let s = m.cic;
-    let y = x.step;
-    let a = cic::step_sound(s, y);
-    let t = a.cic;
-    let mut n = m;
-    n.cic = t;
+    let a = cic::step_sound(m.cic, x.step);
     Answer {
         refusal: a.refusal,
         value: a.value,
-        machine: n,
+        machine: Machine { cic: a.cic, ..m },
     }
 }
 
@@ -85,16 +70,14 @@ fn aintc_step(m: Machine, x: Recorded) -> Answer
     requires { aintc_sound m.aintc ≡ true }
     ensures { result ≡ after_aintc m (aintc_step m.aintc x.privilege x.step) }
 {
-    let s = m.aintc;
-    let y = x.step;
-    let a = aintc::step_sound(s, x.privilege, y);
-    let t = a.aintc;
-    let mut n = m;
-    n.aintc = t;
+    let a = aintc::step_sound(m.aintc, x.privilege, x.step);
     Answer {
         refusal: a.refusal,
         value: a.value,
-        machine: n,
+        machine: Machine {
+            aintc: a.aintc,
+            ..m
+        },
     }
 }
 
@@ -103,19 +86,15 @@ fn indexed_step(m: Machine, x: Recorded) -> Answer
     requires { indexed_sound (indexed m) ≡ true }
     ensures { result ≡ after_indexed m (indexed_step (indexed m) x.step) }
 {
-    let s = record::indexed(m);
-    let y = x.step;
-    let a = cic_prioritised::step_sound(s, y);
-    let t = a.prioritised;
-    let c = t.cic;
-    let h = t.held;
-    let mut n = m;
-    n.cic = c;
-    n.held = h;
+    let a = cic_prioritised::step_sound(record::indexed(m), x.step);
     Answer {
         refusal: a.refusal,
         value: a.value,
-        machine: n,
+        machine: Machine {
+            cic: a.prioritised.cic,
+            held: a.prioritised.held,
+            ..m
+        },
     }
 }
 
@@ -124,20 +103,13 @@ pub fn step_sound(m: Machine, x: Recorded) -> Answer
     requires { sound m ≡ true }
     ensures { result ≡ step m x }
 {
-    let kind = m.kind;
-    if kind == kinds::AIC {
-        return aic_step(m, x);
+    match m.kind {
+        kinds::AIC => aic_step(m, x),
+        kinds::CORE => core_step(m, x),
+        kinds::CIC => cic_step(m, x),
+        kinds::AINTC => aintc_step(m, x),
+        _ => indexed_step(m, x),
     }
-    if kind == kinds::CORE {
-        return core_step(m, x);
-    }
-    if kind == kinds::CIC {
-        return cic_step(m, x);
-    }
-    if kind == kinds::AINTC {
-        return aintc_step(m, x);
-    }
-    indexed_step(m, x)
 }
 
 // A step of any machine; one that is not sound is refused by 12.

@@ -12,7 +12,7 @@ use coreinterrupt::Core;
 use kinds::Configuration;
 
 // The record of each kind; only that of the machine's own kind is ever used. A CIC with prioritised indices has its own in two parts: `cic`, and in
-// `held` what is held beside it.
+// `held` what is held beside it. The kind is the number that traces and callers from C tell; a machine of any other number is not sound.
 #[derive(Clone, Copy)]
 pub struct Machine {
     pub kind: u32,
@@ -37,69 +37,65 @@ pub struct Columns {
 pub fn empty() -> Machine
     ensures { result ≡ blank }
 {
-    let a = aic_record::reset_to(0, 0);
-    let b = coreinterrupt::start(0, 0, 0, 0);
-    let c = cic::start(0, 0, 0, 0);
-    let core = b.core;
-    let cic = c.cic;
-    let d = aintc_record::blank();
-    let held = cic_held::nothing_held(0, 0);
     Machine {
         kind: kinds::AIC,
-        aic: a,
-        core,
-        cic,
-        aintc: d,
-        held,
+        aic: aic_record::reset_to(0, 0),
+        core: coreinterrupt::start(0, 0, 0, 0).core,
+        cic: cic::start(0, 0, 0, 0).cic,
+        aintc: aintc_record::blank(),
+        held: cic_held::nothing_held(0, 0),
     }
 }
 
 pub fn of_aic(a: Aic) -> Machine
     ensures { result ≡ of_aic a }
 {
-    let mut m = empty();
-    m.kind = kinds::AIC;
-    m.aic = a;
-    m
+    Machine {
+        kind: kinds::AIC,
+        aic: a,
+        ..empty()
+    }
 }
 
 pub fn of_core(c: Core) -> Machine
     ensures { result ≡ of_core c }
 {
-    let mut m = empty();
-    m.kind = kinds::CORE;
-    m.core = c;
-    m
+    Machine {
+        kind: kinds::CORE,
+        core: c,
+        ..empty()
+    }
 }
 
 pub fn of_cic(c: Cic) -> Machine
     ensures { result ≡ of_cic c }
 {
-    let mut m = empty();
-    m.kind = kinds::CIC;
-    m.cic = c;
-    m
+    Machine {
+        kind: kinds::CIC,
+        cic: c,
+        ..empty()
+    }
 }
 
 pub fn of_aintc(a: Aintc) -> Machine
     ensures { result ≡ of_aintc a }
 {
-    let mut m = empty();
-    m.kind = kinds::AINTC;
-    m.aintc = a;
-    m
+    Machine {
+        kind: kinds::AINTC,
+        aintc: a,
+        ..empty()
+    }
 }
 
 pub fn of_indexed(p: Prioritised) -> Machine
     ensures { result ≡ of_indexed p }
 {
-    let c = p.cic;
-    let h = p.held;
-    let mut m = empty();
-    m.kind = kinds::INDEXED;
-    m.cic = c;
-    m.held = h;
-    m
+    Machine {
+        kind: kinds::INDEXED,
+        cic: p.cic,
+        held: p.held,
+        ..empty()
+    }
 }
 
 // The CIC with prioritised indices of a machine, its two parts together.
@@ -113,59 +109,31 @@ pub fn indexed(m: Machine) -> Prioritised
 pub fn start(kind: u32, c: Configuration) -> Machine
     ensures { result ≡ start kind c }
 {
-    let n = c.numbers;
-    let first = n[0];
-    let second = n[1];
-    if kind == kinds::AIC {
-        let b = aic::start(first, second);
-        return of_aic(b.aic);
+    let [first, second, third, fourth, fifth] = c.numbers;
+    match kind {
+        kinds::AIC => of_aic(aic::start(first, second).aic),
+        kinds::CORE => of_core(coreinterrupt::start(first, second, third, fourth).core),
+        kinds::CIC => of_cic(cic::start(first, second, third, fourth).cic),
+        kinds::AINTC => of_aintc(aintc::start().aintc),
+        kinds::INDEXED => {
+            of_indexed(cic_prioritised::start(first, second, third, fourth, fifth).prioritised)
+        }
+        _ => empty(),
     }
-    let third = n[2];
-    let fourth = n[3];
-    if kind == kinds::CORE {
-        let b = coreinterrupt::start(first, second, third, fourth);
-        return of_core(b.core);
-    }
-    if kind == kinds::CIC {
-        let b = cic::start(first, second, third, fourth);
-        return of_cic(b.cic);
-    }
-    if kind == kinds::AINTC {
-        let b = aintc::start();
-        return of_aintc(b.aintc);
-    }
-    if kind == kinds::INDEXED {
-        let b = cic_prioritised::start(first, second, third, fourth, n[4]);
-        return of_indexed(b.prioritised);
-    }
-    empty()
 }
 
 // Whether the machine is of a known kind and its record keeps the rules of its model.
 pub fn is_sound(m: Machine) -> bool
     ensures { result ≡ sound m }
 {
-    let kind = m.kind;
-    if kind == kinds::AIC {
-        let s = m.aic;
-        return aic_record::is_sound(s);
+    match m.kind {
+        kinds::AIC => aic_record::is_sound(m.aic),
+        kinds::CORE => coreinterrupt::is_sound(m.core),
+        kinds::CIC => cic_record::is_sound(m.cic),
+        kinds::AINTC => aintc_registers::choice::is_sound(m.aintc),
+        kinds::INDEXED => cic_prioritised::is_sound(indexed(m)),
+        _ => false,
     }
-    if kind == kinds::CORE {
-        let s = m.core;
-        return coreinterrupt::is_sound(s);
-    }
-    if kind == kinds::CIC {
-        let s = m.cic;
-        return cic_record::is_sound(s);
-    }
-    if kind == kinds::AINTC {
-        let s = m.aintc;
-        return aintc_registers::choice::is_sound(s);
-    }
-    if kind == kinds::INDEXED {
-        return cic_prioritised::is_sound(indexed(m));
-    }
-    false
 }
 
 // ---- what a listing shows
@@ -219,24 +187,13 @@ pub fn shown_sound(m: Machine) -> Columns
     requires { sound m ≡ true }
     ensures { result ≡ shown m }
 {
-    let kind = m.kind;
-    if kind == kinds::AIC {
-        let s = m.aic;
-        return aic_columns(aic::outputs_sound(s));
+    match m.kind {
+        kinds::AIC => aic_columns(aic::outputs_sound(m.aic)),
+        kinds::CORE => core_columns(coreinterrupt::outputs_sound(m.core)),
+        kinds::CIC => cic_columns(cic::outputs_sound(m.cic)),
+        kinds::AINTC => aintc_columns(aintc::outputs_sound(m.aintc)),
+        _ => cic_columns(cic_prioritised::outputs_sound(indexed(m))),
     }
-    if kind == kinds::CORE {
-        let s = m.core;
-        return core_columns(coreinterrupt::outputs_sound(s));
-    }
-    if kind == kinds::CIC {
-        let s = m.cic;
-        return cic_columns(cic::outputs_sound(s));
-    }
-    if kind == kinds::AINTC {
-        let s = m.aintc;
-        return aintc_columns(aintc::outputs_sound(s));
-    }
-    cic_columns(cic_prioritised::outputs_sound(indexed(m)))
 }
 
 // The three numbers of any machine, all 0 where it is not sound.

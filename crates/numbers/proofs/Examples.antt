@@ -5,8 +5,7 @@ use mathlib.Core.List.{[], ◌∷◌}
 use Rattle.words.specs.Choice.{pick}
 use Rattle.words.specs.Counting.{any_below, sum_below, lowest_below}
 use Rattle.steps.specs.Refusals.{damaged}
-use Rattle.numbers.specs.declared.Number.TheVariants.{Value, Refused}
-use Rattle.numbers.specs.Number.{size_at, worth_at, faulty, number_at}
+use Rattle.numbers.specs.Number.{Value, Refused, size_at, worth_at, faulty, number_at}
 
 -- the lowest group comes first: A0 01 is 160
 two-groups : number_at (160 ∷ 1 ∷ []) 0 ≡ Value 160 2

@@ -11,10 +11,9 @@ use lib.ListN.{length, get_or}
 use Rattle.words.specs.Counting.{sum_below, lowest_below}
 use Rattle.words.proofs.CountingLaws.{Lowest, lowest_found, lowest-one}
 use Rattle.words.proofs.TruthLaws.{or-either, or_left, told as told-apart}
-use Rattle.numbers.specs.Number.{closes, group, size_at, worth_at, cut_short, too_large, too_long, faulty, answer, number_at}
+use Rattle.numbers.specs.Number.{Value, Refused, closes, group, size_at, worth_at, cut_short, too_large, too_long, faulty, answer, number_at}
 use Rattle.steps.specs.Refusals.{damaged}
 use Rattle.words.proofs.ChoiceLaws.{pick_true, pick-false}
-use Rattle.numbers.specs.declared.Number.TheVariants.{Value, Refused}
 use Rattle.words.proofs.TruthLaws.{or_neither}
 use Rattle.numbers.proofs.GroupLaws.{worth-more, worth_lt}
 

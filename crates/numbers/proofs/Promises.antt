@@ -8,8 +8,7 @@ use lib.ListN.{length, get_or}
 use borrow.Author.Tests.{lt-ltb, le-ltb}
 use Rattle.words.proofs.TruthLaws.{told as told-apart}
 use Rattle.steps.specs.Refusals.{carried_out, damaged}
-use Rattle.numbers.specs.declared.Number.TheVariants.{Value, Refused}
-use Rattle.numbers.specs.Number.{size_at, worth_at, faulty, number_at, Told, told}
+use Rattle.numbers.specs.Number.{Value, Refused, size_at, worth_at, faulty, number_at, Told, told}
 use Rattle.numbers.specs.Promises.{told_at, Spans, Form, Damaged, group_of, padded, Promises}
 use Rattle.numbers.proofs.FormLaws.{same-value, padded_form, padded-worth}
 use Rattle.numbers.proofs.Examples.{three-groups}

@@ -8,9 +8,7 @@ use native.Mathlib.Omega.{arith}
 use lib.ListN.{length}
 use Rattle.words.proofs.TruthLaws.{told as told-apart}
 use Rattle.steps.specs.Refusals.{carried_out, damaged}
-use Rattle.numbers.specs.declared.Number.{Number}
-use Rattle.numbers.specs.declared.Number.TheVariants.{Value, Refused}
-use Rattle.numbers.specs.Number.{size_at, worth_at, faulty, number_at, told}
+use Rattle.numbers.specs.Number.{Number, Value, Refused, size_at, worth_at, faulty, number_at, told}
 use Rattle.numbers.proofs.NumberLaws.{sized, Good, faultless, refused, read}
 
 zero_eight : ◌≡◌ {A = ℕ} carried_out damaged → ⊥

@@ -6,8 +6,7 @@ use native.Mathlib.Omega.{arith}
 use borrow.Author.Tests.{lt-ltb, le-ltb}
 use lib.Dec.{ltb}
 use lib.ListN.{length, get_or}
-use Rattle.numbers.specs.declared.Number.TheVariants.{Value}
-use Rattle.numbers.specs.Number.{group, size_at, worth_at, number_at}
+use Rattle.numbers.specs.Number.{Value, group, size_at, worth_at, number_at}
 use Rattle.numbers.proofs.NumberLaws.{Good, not-faulty, size_found, worth-none, worth-turn, read}
 
 -- a number in which nothing is wrong is read

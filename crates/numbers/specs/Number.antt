@@ -1,10 +1,23 @@
 -- A number of the house trace: groups of seven bits, the lowest first (01, "House trace").
-use Rattle.std.specs.Prelude.{ℕ, ◌+◌, ◌*◌, ◌%◌, ◌^◌, List, Bool, ◌||◌, length, get_or, ltb, leb}
+use Rattle.std.specs.Prelude.{ℕ, ◌+◌, ◌*◌, ◌%◌, ◌^◌, List, Bool, ◌||◌, length, get_or, ltb, leb, Ok, Err}
+use Rattle.std.specs.declared.result.Result.{Result}
 use Rattle.words.specs.Choice.{pick}
 use Rattle.words.specs.Counting.{sum_below, lowest_below}
 use Rattle.steps.specs.Refusals.{carried_out, damaged}
-use Rattle.numbers.specs.declared.Number.{Number}
-use Rattle.numbers.specs.declared.Number.TheVariants.{Value, Refused}
+use Rattle.numbers.specs.declared.Taken.{Taken}
+use Rattle.numbers.specs.declared.Fault.{Fault}
+
+-- what is read of a number at a place: its value with the place after it, or the refusal with the place of its first byte
+abbrev pub Number : Type 0
+Number = Result Taken Fault
+
+-- a number that was read
+abbrev pub Value : ℕ → ℕ → Number
+Value v next = Ok (record { value = v; next = next })
+
+-- one that was refused
+abbrev pub Refused : ℕ → ℕ → Number
+Refused n at = Err (record { refusal = n; at = at })
 
 -- no other byte follows this one: its top bit is clear (01, House trace)
 abbrev pub closes : ℕ → Bool
@@ -60,5 +73,5 @@ pub record Told : Type 0 where
 
 -- a number that was read: 0, its value and the next place; a refused one: its refusal, the value 0 and its own offset
 abbrev pub told : Number → Told
-told (Value v next) = record { refusal = carried_out; value = v; place = next }
-told (Refused n at) = record { refusal = n; value = 0; place = at }
+told (Ok t) = record { refusal = carried_out; value = t.value; place = t.next }
+told (Err f) = record { refusal = f.refusal; value = 0; place = f.at }

@@ -1,8 +1,7 @@
 -- What is promised of the numbers of a trace, in the numbers of 01 that an answer tells. The byte at a place k of a trace s is `get_or s k 0`, 0 past its end.
 use Rattle.std.specs.Prelude.{ℕ, ◌+◌, ◌-◌, ◌*◌, ◌/◌, ◌%◌, ◌^◌, ◌<◌, ◌≤◌, ◌≡◌, List, [], ◌∷◌, ◌++◌, ◌↔◌, ◌≢◌, ◌⊎◌, ltb, length, get_or}
 use Rattle.words.specs.Choice.{pick}
-use Rattle.numbers.specs.declared.Number.TheVariants.{Value, Refused}
-use Rattle.numbers.specs.Number.{size_at, worth_at, number_at, Told, told}
+use Rattle.numbers.specs.Number.{Value, Refused, size_at, worth_at, number_at, Told, told}
 
 -- what the number at a place tells
 abbrev pub told_at : List ℕ → ℕ → Told

@@ -17,6 +17,7 @@ use beginning::Begun;
 use machine::record::Machine;
 
 // Whether there is a picture, and how many bytes of it, or of the line of text, were written.
+// A flag stands beside the number since `picture` is a documented function, and the number is one of bytes either way.
 #[derive(Clone, Copy)]
 pub struct Drawn {
     pub drawn: bool,

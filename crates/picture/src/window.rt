@@ -1,5 +1,5 @@
 // A window of a trace of an AIC as columns: one for what held before it, and one for each of its steps.
-ghost use Rattle.std.specs.Prelude.{◌≡◌, false, [], ◌∷◌, ◌+◌, ◌*◌, ◌≤◌, min, length};
+ghost use Rattle.std.specs.Prelude.{◌≡◌, false, [], ◌∷◌, ◌+◌, ◌*◌, ◌≤◌, length};
 ghost use Rattle.text.specs.Text.{write, laid};
 ghost use Rattle.trace.specs.Trace.{steps_from};
 ghost use Rattle.machine.specs.RecordPromises.{Ready};
@@ -36,7 +36,7 @@ pub(crate) fn fill(
     let b = p.machine;
     let a = b.aic;
     let next = put_column(columns, 0, column(a, steps::CARRIED_OUT));
-    let most = lesser(steps, limit - (first - 1));
+    let most = steps.min(limit - (first - 1));
     let count = put_steps(trace, most, p.offset, b, columns, next);
     let source = a.source;
     let level = a.level;
@@ -48,6 +48,7 @@ pub(crate) fn fill(
 }
 
 // The columns of the steps from a place on, each where the next one goes. The limit falls by one with each step.
+// No range counts the steps: a turn of the trace tells its end, also where the limit is reached.
 fn put_steps(
     trace: &[u8],
     limit: u32,
@@ -72,7 +73,7 @@ fn put_steps(
                 let a = machine::step_sound(m, x);
                 m = a.machine;
                 at = next;
-                left = left - 1;
+                left -= 1;
                 to = put_column(columns, to, column(m.aic, a.refusal));
             }
         }
@@ -114,11 +115,4 @@ fn pack(irq: u32, fiq: u32, entries: u32, source: u32, level: u32, refusal: u32)
 {
     let low = irq as u64 + 2 * fiq as u64 + 4 * entries as u64;
     low + 64 * source as u64 + 2048 * level as u64 + 524288 * refusal as u64
-}
-
-// The lesser of two numbers.
-fn lesser(a: u32, b: u32) -> u32
-    ensures { result ≡ min a b }
-{
-    if a < b { a } else { b }
 }

@@ -2,17 +2,14 @@
 #![tactic(auto)]
 
 ghost use Rattle.std.specs.Prelude.{◌≡◌};
-ghost use Rattle.steps.specs.Refusals.{carried_out};
-ghost use Rattle.beginning.specs.Begin.{begin_of};
 ghost use Rattle.beginning.specs.Play.{play_of};
 
 pub mod looked;
 pub mod loops;
 
-use beginning::Begun;
 use beginning::reports::Played;
 
-// Plays at most `limit` steps of a trace.
+// Plays at most `limit` steps of a trace, on a machine in a room.
 pub fn play(trace: &[u8], limit: u32) -> Played
     ensures { result ≡ play_of trace.now limit }
 {
@@ -20,10 +17,11 @@ pub fn play(trace: &[u8], limit: u32) -> Played
     if b.refusal != steps::CARRIED_OUT {
         return beginning::reports::not_played(b);
     }
-    play_begun(trace, limit, b)
+    let told = kinds::tells_privilege(b.machine.kind);
+    loops::play_steps(trace, limit, told, b.place, b.machine)
 }
 
-// The same by the loop over a machine by value.
+// The same by the loop over a machine by value. To hand the loop over as a closure would take more lines, for what may be asked of it, than the two share.
 pub fn play_plain(trace: &[u8], limit: u32) -> Played
     ensures { result ≡ play_of trace.now limit }
 {
@@ -31,25 +29,6 @@ pub fn play_plain(trace: &[u8], limit: u32) -> Played
     if b.refusal != steps::CARRIED_OUT {
         return beginning::reports::not_played(b);
     }
-    play_any(trace, limit, b)
-}
-
-// Plays a trace that has begun, on a machine in a room.
-fn play_begun(trace: &[u8], limit: u32, b: Begun) -> Played
-    requires { (b ≡ begin_of trace.now) × (b.refusal ≡ carried_out) }
-    ensures { result ≡ play_of trace.now limit }
-{
-    let m = b.machine;
-    let told = kinds::tells_privilege(m.kind);
-    loops::play_steps(trace, limit, told, b.place, m)
-}
-
-// Plays a trace that has begun, on a machine by value.
-fn play_any(trace: &[u8], limit: u32, b: Begun) -> Played
-    requires { (b ≡ begin_of trace.now) × (b.refusal ≡ carried_out) }
-    ensures { result ≡ play_of trace.now limit }
-{
-    let m = b.machine;
-    let told = kinds::tells_privilege(m.kind);
-    loops::plain::play_steps(trace, limit, told, b.place, m)
+    let told = kinds::tells_privilege(b.machine.kind);
+    loops::plain::play_steps(trace, limit, told, b.place, b.machine)
 }

@@ -9,18 +9,15 @@ use machine::record::Machine;
 pub fn words_after(trace: &[u8], limit: u32, offset: u32) -> u32
     ensures { result ≡ words_after trace.now limit offset }
 {
-    let p = super::play(trace, limit);
-    words_of(p.machine, offset)
+    words_of(super::play(trace, limit).machine, offset)
 }
 
-// The same of a machine.
+// The same of a machine. The number is the answer that callers from C are given, 0 for none.
 fn words_of(m: Machine, offset: u32) -> u32
     ensures { result ≡ words_of m offset }
 {
     if m.kind != kinds::INDEXED {
         return 0;
     }
-    let p = machine::record::indexed(m);
-    let l = cic_prioritised::looked::look_at(p, offset);
-    l.words
+    cic_prioritised::looked::look_at(machine::record::indexed(m), offset).words
 }

@@ -26,6 +26,7 @@ pub(crate) fn play_steps(
     let mut at = start;
     let mut left = limit;
     let mut count: u32 = 0;
+    // No range counts the steps: a turn of the trace tells its end, also where the limit is reached.
     loop {
         let t = trace::turns::sure(
             trace::turns::quick(trace, at, left, told),
@@ -45,8 +46,8 @@ pub(crate) fn play_steps(
         }
         machine_room::step(&mut room, t.kind, t.x, t.y, t.privilege);
         at = t.next;
-        left = left - 1;
-        count = count + 1;
+        left -= 1;
+        count += 1;
     }
 }
 
@@ -70,6 +71,7 @@ pub fn list_steps(
     let mut number: u32 = 0;
     let mut numeral = text::room::numeral_of(0);
     let mut to = from;
+    // No range counts the steps: a turn of the trace tells its end, also where the limit is reached.
     loop {
         let t = trace::turns::sure(
             trace::turns::quick(trace, place, more, told),
@@ -83,9 +85,9 @@ pub fn list_steps(
         }
         let a = machine_room::step(&mut room, t.kind, t.x, t.y, t.privilege);
         place = t.next;
-        more = more - 1;
+        more -= 1;
         numeral = text::room::following(numeral, number);
-        number = number + 1;
+        number += 1;
         let c = machine_room::columns(&room);
         let refusal = rooms::refusal_in(a);
         let value = rooms::value_in(a);

@@ -41,14 +41,13 @@ pub fn read<F: Read>(file: &mut F, room: &mut [u8]) -> Came
     let mut at: usize = 0;
     while at < room.len() {
         let more = read_once(file, &mut room[at..]);
-        let n = more.bytes;
-        if n == 0 {
+        if more.bytes == 0 {
             return Came {
                 bytes: at,
                 failed: more.failed,
             };
         }
-        at = at + n;
+        at += more.bytes;
     }
     Came {
         bytes: at,
@@ -76,12 +75,7 @@ pub fn read_once<F: Read>(file: &mut F, room: &mut [u8]) -> Came
 pub fn shift(room: &mut [u8], from: usize)
     ensures { room.new ≡ shifted from room.old }
 {
-    let mut i: usize = 0;
-    let mut k = from;
-    while k < room.len() {
-        let b = room[k];
-        room[i] = b;
-        i = i + 1;
-        k = k + 1;
+    if from <= room.len() {
+        room.copy_within(from.., 0);
     }
 }

@@ -1,16 +1,18 @@
 -- Laws of a map as the program has it: digits, texts, the row that is looked for, and what it says.
 use Prim.Native.Nat.{ℕ, zero, suc, ◌+◌, ◌-◌, ◌*◌, ◌/◌, ◌%◌, ◌≤◌, ◌<◌}
-use mathlib.Core.Path.{◌≡◌, sym, ap, ◌∙◌}
+use mathlib.Core.Path.{◌≡◌, refl, sym, ap, ◌∙◌}
 use mathlib.Core.Bool.{Bool, true, false}
 use mathlib.Core.List.{List, [], ◌∷◌, ◌++◌, append-nil}
 use mathlib.Core.Logic.{◌≢◌, ◌⊎◌, inl, inr}
 use native.Mathlib.Nat.{div-lt_iff_lt-mul}
 use native.Mathlib.Numerals.{add-one}
 use native.Mathlib.Omega.{arith}
-use lib.Dec.{eqb, ltb}
-use lib.ListN.{length, get_or, drop, drop_of_length-le}
-use lib.Seq.{drop-cons}
+use lib.Dec.{eqb}
+use lib.ListN.{length, get_or, take, drop, drop_of_length-le}
+use lib.Seq.{drop-cons, take-length}
+use Rattle.std.proofs.lemmas.List.{length-drop, length-take-le}
 use borrow.Author.Tests.{eq-eqb, ne_eqb, lt-ltb, le-ltb}
+use Rattle.std.specs.Prelude.{Option, Some, None}
 use Rattle.words.specs.Choice.{pick}
 use Rattle.words.proofs.ChoiceLaws.{pick_true, pick-false}
 use Rattle.words.proofs.TruthLaws.{told}
@@ -19,7 +21,7 @@ use Rattle.text.proofs.WriteLaws.{rest_of, nothing, and_then}
 use Rattle.text.specs.Phrases.{counted}
 use Rattle.register_names.specs.declared.Sizes.{Sizes}
 use Rattle.register_names.specs.Rows.{Row, in_row, sectioned, named, numbered, row_words, place_in}
-use Rattle.register_names.specs.Table.{digit_of, two_at, four_at, until, count_by, count_at, section_from, first_at, step_at, name_at, section_at, row_at, rows_from, rows_in, stands_by, stands_at, row_from, number_by, title_at, words_at}
+use Rattle.register_names.specs.Table.{digit_of, two_at, four_at, until, count_by, count_at, section_from, first_at, step_at, name_at, section_at, row_at, bytes_at, rows_from, rows_in, stands_by, stands_at, row_from, number_by, title_at, words_at}
 
 -- ---- digits
 
@@ -46,6 +48,10 @@ module _ (t : List ℕ) (i a b : ℕ) where
 
 -- ---- a text up to its bar
 
+-- the bytes from one on
+pub rest_from : (k : ℕ) (t : List ℕ) → take (length t - k) (drop k t) ≡ drop k t
+rest_from k t = ap (λ (n : ℕ). take n (drop k t)) (sym (length-drop k t)) ∙ take-length (drop k t)
+
 module _ (l : List ℕ) (i : ℕ) where
   until_at : i < length l → until (drop i l) ≡ pick (eqb (get_or l i 0) 124) [] (get_or l i 0 ∷ until (drop (i + 1) l))
   unfolding until
@@ -64,90 +70,101 @@ module _ (l : List ℕ) (i : ℕ) where
 
 -- ---- the row that is looked for
 
+-- the bytes of a row
+pub row_bytes : (t : List ℕ) (k : ℕ) → k < length t / 64 → (take (k * 64 + 64 - k * 64) (drop (k * 64) t) ≡ bytes_at t k) × (length (bytes_at t k) ≡ 64)
+unfolding bytes_at
+row_bytes t k h =
+    let e : k * 64 + 64 - k * 64 ≡ 64 = omega arith in
+    (ap (λ (n : ℕ). take n (drop (k * 64) t)) e, length-take-le 64 (drop (k * 64) t) (omega (arith, length-drop (k * 64) t, h)))
+
 module _ (t : List ℕ) (n : Sizes) (o : ℕ) where
-  from_more : (k m : ℕ) → k < m → row_from t n o k (m - k) ≡ pick (stands_at t n o k) k (row_from t n o (k + 1) (m - (k + 1)))
+  from_more : (k m : ℕ) → k < m → row_from t n o k (m - k) ≡ pick (stands_at (bytes_at t k) n o) (Some k) (row_from t n o (k + 1) (m - (k + 1)))
   unfolding row_from
   from_more k m h = let e : m - k ≡ suc (m - (k + 1)) = omega (arith, h) in ap (row_from t n o k) e
 
   pub row_begin : (m : ℕ) → row_from t n o 0 (m - 0) ≡ row_from t n o 0 m
   row_begin m = let e : m - 0 ≡ m = omega arith in ap (row_from t n o 0) e
 
-  module _ (k m : ℕ) (whole : ℕ) where
-    pub row_found : {b : Bool} → k < m → b ≡ stands_at t n o k → b ≡ true → row_from t n o k (m - k) ≡ whole → k ≡ whole
+  module _ (k m : ℕ) (whole : Option ℕ) where
+    pub row_found : {b : Bool} → k < m → b ≡ stands_at (bytes_at t k) n o → b ≡ true → row_from t n o k (m - k) ≡ whole → Some k ≡ whole
     row_found h s e w = pick_true _ (sym s ∙ e) ∙ sym (from_more k m h) ∙ w
 
-    pub row-turn : {b : Bool} → k < m → b ≡ stands_at t n o k → b ≡ false → row_from t n o k (m - k) ≡ whole → row_from t n o (k + 1) (m - (k + 1)) ≡ whole
+    pub row-turn : {b : Bool} → k < m → b ≡ stands_at (bytes_at t k) n o → b ≡ false → row_from t n o k (m - k) ≡ whole → row_from t n o (k + 1) (m - (k + 1)) ≡ whole
     row-turn h s e w = pick-false _ (sym s ∙ e) ∙ sym (from_more k m h) ∙ w
 
-    pub row-none : m ≤ k → row_from t n o k (m - k) ≡ whole → k ≡ whole
+    pub row-none : m ≤ k → row_from t n o k (m - k) ≡ whole → None ≡ whole
     unfolding row_from
     row-none h w = let e : 0 ≡ m - k = omega (arith, h) in ap (row_from t n o k) e ∙ w
+
+  -- a row that is found is one of those
+  pub row_below : (m k : ℕ) {r : ℕ} → row_from t n o k m ≡ Some r → r < k + m
+  unfolding row_from
+  row_below zero k e = cc
+  row_below (suc m) k {r} e = go (told (stands_at (bytes_at t k) n o)) (row_below m (k + 1))
+    where
+      go : (stands_at (bytes_at t k) n o ≡ true) ⊎ (stands_at (bytes_at t k) n o ≡ false) → (row_from t n o (k + 1) m ≡ Some r → r < k + 1 + m) → r < k + suc m
+      go (inl b) i = let f : Some k ≡ Some r = pick_true _ b ∙ e in let g : k ≡ r = cc in omega (arith, g)
+      go (inr b) i = omega (arith, i (pick-false _ b ∙ e))
 
 -- ---- what it says
 
 module _ (t : List ℕ) (n : Sizes) (w : Bool) (o : ℕ) where
-  stands-row : (k : ℕ) → in_row (row_at t n w k) o ≡ stands_at t n o k
+  stands-row : (r : List ℕ) → in_row (row_at r n w) o ≡ stands_at r n o
   unfolding in_row row_at stands_at stands_by
-  stands-row k = go (told (eqb (step_at t k) 0))
+  stands-row r = go (told (eqb (step_at r) 0))
     where
-      go : (eqb (step_at t k) 0 ≡ true) ⊎ (eqb (step_at t k) 0 ≡ false) → in_row (row_at t n w k) o ≡ stands_at t n o k
-      go (inl e) = ap (λ (r : Row). in_row r o) (sym (pick_true _ e)) ∙ pick_true _ e
-      go (inr e) = ap (λ (r : Row). in_row r o) (sym (pick-false _ e)) ∙ pick-false _ e
+      go : (eqb (step_at r) 0 ≡ true) ⊎ (eqb (step_at r) 0 ≡ false) → in_row (row_at r n w) o ≡ stands_at r n o
+      go (inl e) = ap (λ (q : Row). in_row q o) (sym (pick_true _ e)) ∙ pick_true _ e
+      go (inr e) = ap (λ (q : Row). in_row q o) (sym (pick-false _ e)) ∙ pick-false _ e
 
-  said_row : (k : ℕ) → words_at t w o k ≡ row_words (row_at t n w k) o
+  said_row : (r : List ℕ) → words_at r w o ≡ row_words (row_at r n w) o
   unfolding row_words row_at words_at title_at number_by named numbered counted
-  said_row k = go (told (eqb (step_at t k) 0))
+  said_row r = go (told (eqb (step_at r) 0))
     where
-      go : (eqb (step_at t k) 0 ≡ true) ⊎ (eqb (step_at t k) 0 ≡ false) → words_at t w o k ≡ row_words (row_at t n w k) o
+      go : (eqb (step_at r) 0 ≡ true) ⊎ (eqb (step_at r) 0 ≡ false) → words_at r w o ≡ row_words (row_at r n w) o
       go (inl e) =
-          ap (λ (l : List ℕ). (32 ∷ []) ++ l ++ sectioned (section_at t w k)) (ap (λ (l : List ℕ). name_at t k ++ l) (sym (pick_true _ e)) ∙ append-nil (name_at t k))
-          ∙ ap (λ (r : Row). row_words r o) (pick_true _ e)
+          ap (λ (l : List ℕ). (32 ∷ []) ++ l ++ sectioned (section_at r w)) (ap (λ (l : List ℕ). name_at r ++ l) (sym (pick_true _ e)) ∙ append-nil (name_at r))
+          ∙ ap (λ (q : Row). row_words q o) (pick_true _ e)
       go (inr e) =
-          ap (λ (l : List ℕ). (32 ∷ []) ++ (name_at t k ++ l) ++ sectioned (section_at t w k)) (sym (pick-false _ e))
-          ∙ ap (λ (r : Row). row_words r o) (pick-false _ e)
+          ap (λ (l : List ℕ). (32 ∷ []) ++ (name_at r ++ l) ++ sectioned (section_at r w)) (sym (pick-false _ e))
+          ∙ ap (λ (q : Row). row_words q o) (pick-false _ e)
 
-  place-row : (m k : ℕ) → pick (ltb (row_from t n o k m) (k + m)) (row_words (row_at t n w (row_from t n o k m)) o) [] ≡ place_in (rows_from t n w k m) o
-  unfolding place_in rows_from row_from
-  place-row zero k = sym (pick-false _ (le-ltb k (k + 0) (omega arith)))
-  place-row (suc m) k = go (told (stands_at t n o k)) (place-row m (k + 1))
+  -- what is said of a row that was looked for
+  said : Option ℕ → List ℕ
+  said None = []
+  said (Some k) = row_words (row_at (bytes_at t k) n w) o
+
+  place-row : (m k : ℕ) → said (row_from t n o k m) ≡ place_in (rows_from t n w k m) o
+  unfolding said place_in rows_from row_from
+  place-row zero k = refl
+  place-row (suc m) k = go (told (stands_at (bytes_at t k) n o)) (place-row m (k + 1))
     where
-      by : ℕ → List ℕ
-      by r = pick (ltb r (k + suc m)) (row_words (row_at t n w r) o) []
-
-      go : (stands_at t n o k ≡ true) ⊎ (stands_at t n o k ≡ false)
-          → pick (ltb (row_from t n o (k + 1) m) (k + 1 + m)) (row_words (row_at t n w (row_from t n o (k + 1) m)) o) [] ≡ place_in (rows_from t n w (k + 1) m) o
-          → by (pick (stands_at t n o k) k (row_from t n o (k + 1) m)) ≡ pick (in_row (row_at t n w k) o) (row_words (row_at t n w k) o) (place_in (rows_from t n w (k + 1) m) o)
-      go (inl e) i = ap by (sym (pick_true _ e)) ∙ sym (pick_true _ (lt-ltb k (k + suc m) (omega arith))) ∙ pick_true _ (stands-row k ∙ e)
-      go (inr e) i =
-          let a : k + suc m ≡ k + 1 + m = omega arith in
-          ap by (sym (pick-false _ e)) ∙ ap (λ (z : ℕ). pick (ltb (row_from t n o (k + 1) m) z) (row_words (row_at t n w (row_from t n o (k + 1) m)) o) []) a ∙ i
-          ∙ pick-false _ (stands-row k ∙ e)
+      go : (stands_at (bytes_at t k) n o ≡ true) ⊎ (stands_at (bytes_at t k) n o ≡ false) → said (row_from t n o (k + 1) m) ≡ place_in (rows_from t n w (k + 1) m) o
+          → said (pick (stands_at (bytes_at t k) n o) (Some k) (row_from t n o (k + 1) m)) ≡ pick (in_row (row_at (bytes_at t k) n w) o) (row_words (row_at (bytes_at t k) n w) o) (place_in (rows_from t n w (k + 1) m) o)
+      go (inl e) i = ap said (sym (pick_true _ e)) ∙ pick_true _ (stands-row (bytes_at t k) ∙ e)
+      go (inr e) i = ap said (sym (pick-false _ e)) ∙ i ∙ pick-false _ (stands-row (bytes_at t k) ∙ e)
 
   module _ (p q : List ℕ × ℕ) (k : ℕ) where
-    pub placed : k ≡ row_from t n o 0 (length t / 64) → k < length t / 64 → q ≡ write p (words_at t w o k) → q ≡ write p (place_in (rows_in t n w) o)
-    unfolding rows_in
-    placed e h f =
-        f ∙ ap (write p) (said_row k ∙ pick_true _ (lt-ltb k (0 + length t / 64) (omega (arith, h)))
-        ∙ ap (λ (r : ℕ). pick (ltb r (0 + length t / 64)) (row_words (row_at t n w r) o) []) e ∙ place-row (length t / 64) 0)
+    pub placed : row_from t n o 0 (length t / 64) ≡ Some k → q ≡ write p (words_at (bytes_at t k) w o) → q ≡ write p (place_in (rows_in t n w) o)
+    unfolding said rows_in
+    placed e f = f ∙ ap (write p) (said_row (bytes_at t k) ∙ ap said (sym e) ∙ place-row (length t / 64) 0)
 
-    pub unplaced : k ≡ row_from t n o 0 (length t / 64) → length t / 64 ≤ k → p ≡ write p (place_in (rows_in t n w) o)
-    unfolding rows_in
-    unplaced e h =
-        nothing p ∙ ap (write p) (pick-false _ (le-ltb k (0 + length t / 64) (omega (arith, h)))
-        ∙ ap (λ (r : ℕ). pick (ltb r (0 + length t / 64)) (row_words (row_at t n w r) o) []) e ∙ place-row (length t / 64) 0)
+    pub unplaced : row_from t n o 0 (length t / 64) ≡ None → p ≡ write p (place_in (rows_in t n w) o)
+    unfolding said rows_in
+    unplaced e = nothing p ∙ ap (write p) (ap said (sym e) ∙ place-row (length t / 64) 0)
 
 -- ---- by its numbers
 
-module _ (t : List ℕ) (n : Sizes) (k : ℕ) where
-  pub count_of : (most r : ℕ) → most ≡ four_at t (k * 64 + 5) → r ≡ count_by (get_or t (k * 64 + 10) 0) most n → r ≡ count_at t n k
+module _ (r : List ℕ) (n : Sizes) where
+  pub count_of : (most q : ℕ) → most ≡ four_at r 5 → q ≡ count_by (get_or r 10 0) most n → q ≡ count_at r n
   unfolding count_at
-  count_of most r e f = f ∙ ap (λ (m : ℕ). count_by (get_or t (k * 64 + 10) 0) m n) e
+  count_of most q e f = f ∙ ap (λ (m : ℕ). count_by (get_or r 10 0) m n) e
 
-  pub stands_of : (first count step o : ℕ) (r : Bool) → first ≡ four_at t (k * 64) → count ≡ count_at t n k → step ≡ two_at t (k * 64 + 12)
-      → r ≡ stands_by first count step o → r ≡ stands_at t n o k
+  pub stands_of : (first count step o : ℕ) (b : Bool) → first ≡ four_at r 0 → count ≡ count_at r n → step ≡ two_at r 12 → b ≡ stands_by first count step o
+      → b ≡ stands_at r n o
   unfolding stands_at first_at step_at
-  stands_of first count step o r e f g h =
-      h ∙ ap (λ (z : ℕ). stands_by z count step o) e ∙ ap (λ (z : ℕ). stands_by (four_at t (k * 64)) z step o) f ∙ ap (λ (z : ℕ). stands_by (four_at t (k * 64)) (count_at t n k) z o) g
+  stands_of first count step o b e f g h =
+      h ∙ ap (λ (z : ℕ). stands_by z count step o) e ∙ ap (λ (z : ℕ). stands_by (four_at r 0) z step o) f ∙ ap (λ (z : ℕ). stands_by (four_at r 0) (count_at r n) z o) g
 
 pub number_of : (o p : List ℕ × ℕ) (first step off m : ℕ) → step ≢ 0 → m ≡ (off - first) / step → p ≡ write o (decimal m) → p ≡ write o (number_by first step off)
 unfolding number_by
@@ -157,17 +174,17 @@ pub no_number : (o : List ℕ × ℕ) (first step off : ℕ) → step ≡ 0 → 
 unfolding number_by
 no_number o first step off h = nothing o ∙ ap (write o) (pick_true _ (eq-eqb _ _ h))
 
-module _ (t : List ℕ) (k off : ℕ) (o p q : List ℕ × ℕ) where
-  pub title_of : (first step : ℕ) → first ≡ four_at t (k * 64) → step ≡ two_at t (k * 64 + 12) → p ≡ write o (until (drop (k * 64 + 15) t)) → q ≡ write p (number_by first step off)
-      → q ≡ write o (title_at t off k)
+module _ (r : List ℕ) (off : ℕ) (o p q : List ℕ × ℕ) where
+  pub title_of : (first step : ℕ) → first ≡ four_at r 0 → step ≡ two_at r 12 → p ≡ write o (until (drop 15 r)) → q ≡ write p (number_by first step off)
+      → q ≡ write o (title_at r off)
   unfolding title_at name_at first_at step_at
   title_of first step e f g h =
-      and_then o _ _ g (h ∙ ap (λ (z : ℕ). write p (number_by z step off)) e ∙ ap (λ (z : ℕ). write p (number_by (four_at t (k * 64)) z off)) f)
+      and_then o _ _ g (h ∙ ap (λ (z : ℕ). write p (number_by z step off)) e ∙ ap (λ (z : ℕ). write p (number_by (four_at r 0) z off)) f)
 
-  pub words_of : (r : List ℕ × ℕ) (w : Bool) (from : ℕ) → p ≡ write o (32 ∷ []) → q ≡ write p (title_at t off k) → from ≡ section_from w k
-      → r ≡ write q (sectioned (until (drop from t))) → r ≡ write o (words_at t w off k)
+  pub words_of : (s : List ℕ × ℕ) (w : Bool) (from : ℕ) → p ≡ write o (32 ∷ []) → q ≡ write p (title_at r off) → from ≡ section_from w
+      → s ≡ write q (sectioned (until (drop from r))) → s ≡ write o (words_at r w off)
   unfolding words_at section_at
-  words_of r w from e f g h = and_then o _ _ (and_then o _ _ e f) (h ∙ ap (λ (z : ℕ). write q (sectioned (until (drop z t)))) g)
+  words_of s w from e f g h = and_then o _ _ (and_then o _ _ e f) (h ∙ ap (λ (z : ℕ). write q (sectioned (until (drop z r)))) g)
 
 -- what is said by the rows that the program has is said by the maker's map, if they are the same for reads and for writes
 pub as-map : (o p : List ℕ × ℕ) (t : List ℕ) (n : Sizes) (off : ℕ) (map : Bool → List Row) (w : Bool) → p ≡ write o (place_in (rows_in t n w) off)

@@ -1,6 +1,6 @@
 -- How the program has a map: the rows in one array, 64 bytes to a row, numbers in hexadecimal digits, each text up to a bar. From these bytes on it has:
 -- 0 the first offset, 5 how many, 10 of what, 12 the bytes from one to the next (00 where it stands alone), 15 the name, 37 the section of reads, 51 of writes.
-use Rattle.std.specs.Prelude.{ℕ, zero, suc, ◌+◌, ◌-◌, ◌*◌, ◌/◌, ◌%◌, Bool, List, [], ◌∷◌, ◌++◌, eqb, ltb, length, get_or, drop}
+use Rattle.std.specs.Prelude.{ℕ, zero, suc, ◌+◌, ◌-◌, ◌*◌, ◌/◌, ◌%◌, Bool, List, [], ◌∷◌, ◌++◌, eqb, ltb, length, get_or, take, drop, Option, Some, None}
 use Rattle.words.specs.Choice.{pick}
 use Rattle.text.specs.Text.{space, decimal}
 use Rattle.register_names.specs.declared.Sizes.{Sizes}
@@ -32,35 +32,39 @@ count_by what most n =
     (pick (eqb what 49) (at_most most n.hosts)
     most))))
 
--- ---- row k
+-- ---- a row
 
-unfoldable pub first_at : List ℕ → ℕ → ℕ
-first_at t k = four_at t (k * 64)
+unfoldable pub first_at : List ℕ → ℕ
+first_at r = four_at r 0
 
-unfoldable pub count_at : List ℕ → Sizes → ℕ → ℕ
-count_at t n k = count_by (get_or t (k * 64 + 10) 0) (four_at t (k * 64 + 5)) n
+unfoldable pub count_at : List ℕ → Sizes → ℕ
+count_at r n = count_by (get_or r 10 0) (four_at r 5) n
 
-unfoldable pub step_at : List ℕ → ℕ → ℕ
-step_at t k = two_at t (k * 64 + 12)
+unfoldable pub step_at : List ℕ → ℕ
+step_at r = two_at r 12
 
-unfoldable pub name_at : List ℕ → ℕ → List ℕ
-name_at t k = until (drop (k * 64 + 15) t)
+unfoldable pub name_at : List ℕ → List ℕ
+name_at r = until (drop 15 r)
 
-unfoldable pub section_from : Bool → ℕ → ℕ
-section_from written k = pick written (k * 64 + 51) (k * 64 + 37)
+unfoldable pub section_from : Bool → ℕ
+section_from written = pick written 51 37
 
-unfoldable pub section_at : List ℕ → Bool → ℕ → List ℕ
-section_at t written k = until (drop (section_from written k) t)
+unfoldable pub section_at : List ℕ → Bool → List ℕ
+section_at r written = until (drop (section_from written) r)
 
-unfoldable pub row_at : List ℕ → Sizes → Bool → ℕ → Row
-row_at t n written k =
-    pick (eqb (step_at t k) 0) (alone (first_at t k) (name_at t k) (section_at t written k))
-    (group (first_at t k) (count_at t n k) (step_at t k) (name_at t k) (section_at t written k))
+unfoldable pub row_at : List ℕ → Sizes → Bool → Row
+row_at r n written =
+    pick (eqb (step_at r) 0) (alone (first_at r) (name_at r) (section_at r written))
+    (group (first_at r) (count_at r n) (step_at r) (name_at r) (section_at r written))
+
+-- row k of a map
+unfoldable pub bytes_at : List ℕ → ℕ → List ℕ
+bytes_at t k = take 64 (drop (k * 64) t)
 
 -- so many rows from row k on
 unfoldable pub rows_from : List ℕ → Sizes → Bool → ℕ → ℕ → List Row
 rows_from t n written k zero = []
-rows_from t n written k (suc m) = row_at t n written k ∷ rows_from t n written (k + 1) m
+rows_from t n written k (suc m) = row_at (bytes_at t k) n written ∷ rows_from t n written (k + 1) m
 
 -- all of them
 unfoldable pub rows_in : List ℕ → Sizes → Bool → List Row
@@ -72,22 +76,22 @@ rows_in t n written = rows_from t n written 0 (length t / 64)
 unfoldable pub stands_by : ℕ → ℕ → ℕ → ℕ → Bool
 stands_by first count step o = pick (eqb step 0) (eqb o first) (in_group first count step o)
 
-unfoldable pub stands_at : List ℕ → Sizes → ℕ → ℕ → Bool
-stands_at t n o k = stands_by (first_at t k) (count_at t n k) (step_at t k) o
+unfoldable pub stands_at : List ℕ → Sizes → ℕ → Bool
+stands_at r n o = stands_by (first_at r) (count_at r n) (step_at r) o
 
--- the first of so many rows, from row k on, that has the offset; the one behind them where none has
-unfoldable pub row_from : List ℕ → Sizes → ℕ → ℕ → ℕ → ℕ
-row_from t n o k zero = k
-row_from t n o k (suc m) = pick (stands_at t n o k) k (row_from t n o (k + 1) m)
+-- the first of so many rows, from row k on, that has the offset, if one has
+unfoldable pub row_from : List ℕ → Sizes → ℕ → ℕ → ℕ → Option ℕ
+row_from t n o k zero = None
+row_from t n o k (suc m) = pick (stands_at (bytes_at t k) n o) (Some k) (row_from t n o (k + 1) m)
 
 -- the number behind a name: none where the register stands alone
 unfoldable pub number_by : ℕ → ℕ → ℕ → List ℕ
 number_by first step o = pick (eqb step 0) [] (decimal ((o - first) / step))
 
 -- the name, and the number behind it
-unfoldable pub title_at : List ℕ → ℕ → ℕ → List ℕ
-title_at t o k = name_at t k ++ number_by (first_at t k) (step_at t k) o
+unfoldable pub title_at : List ℕ → ℕ → List ℕ
+title_at r o = name_at r ++ number_by (first_at r) (step_at r) o
 
--- all words of row k for a register at the offset
-unfoldable pub words_at : List ℕ → Bool → ℕ → ℕ → List ℕ
-words_at t written o k = (space ∷ []) ++ title_at t o k ++ sectioned (section_at t written k)
+-- all words of a row for a register at the offset
+unfoldable pub words_at : List ℕ → Bool → ℕ → List ℕ
+words_at r written o = (space ∷ []) ++ title_at r o ++ sectioned (section_at r written)

@@ -1,21 +1,21 @@
 // Names and sections of registers: the row that has an offset, by the makers' maps (specs/Maps.antt), which stand in src/rows.rt as specs/Table.antt says.
 #![tactic(auto)]
 
-ghost use Rattle.std.specs.Prelude.{◌≡◌, ◌+◌, ◌-◌, ◌/◌, ◌≤◌, ◌<◌, length, drop};
+ghost use Rattle.std.specs.Prelude.{◌≡◌, ◌+◌, ◌-◌, ◌/◌, ◌≤◌, ◌<◌, length};
 ghost use Rattle.text.specs.Text.{write};
 ghost use Rattle.register_names.specs.Rows.{in_group, sectioned, place_in, there_of, at_most};
 ghost use Rattle.register_names.specs.Maps.{aic_rows, core_rows, cic_rows, index_rows, aintc_rows};
 ghost use Rattle.register_names.specs.Table.{digit_of, two_at, four_at, until, count_by, count_at, section_from, rows_in};
-ghost use Rattle.register_names.specs.Table.{stands_by, stands_at, row_from, number_by, title_at, words_at};
+ghost use Rattle.register_names.specs.Table.{bytes_at, stands_by, stands_at, row_from, number_by, title_at, words_at};
 
 mod rows;
 
 // What the configuration of a CIC counts; nothing of other controllers.
 #[derive(Clone, Copy)]
-struct Sizes {
-    systems: u32,
-    channels: u32,
-    hosts: u32,
+pub struct Sizes {
+    pub systems: u32,
+    pub channels: u32,
+    pub hosts: u32,
 }
 
 const NO_SIZES: Sizes = Sizes {
@@ -44,42 +44,16 @@ pub fn put_core(out: &mut [u8], at: usize, o: u32) -> usize
 }
 
 // A CIC: its rows begin behind the three of prioritised indices.
-pub fn put_cic(
-    out: &mut [u8],
-    at: usize,
-    o: u32,
-    written: bool,
-    systems: u32,
-    channels: u32,
-    hosts: u32,
-) -> usize
-    ensures { (out.new, result) ≡ write (out.old, at) (place_in (cic_rows written systems channels hosts) o) }
+pub fn put_cic(out: &mut [u8], at: usize, o: u32, written: bool, n: Sizes) -> usize
+    ensures { (out.new, result) ≡ write (out.old, at) (place_in (cic_rows written n.systems n.channels n.hosts) o) }
 {
-    let n = Sizes {
-        systems: systems,
-        channels: channels,
-        hosts: hosts,
-    };
     put_place(out, at, &rows::CIC_ROWS[192..], n, o, written)
 }
 
 // A CIC with prioritised indices.
-pub fn put_indices(
-    out: &mut [u8],
-    at: usize,
-    o: u32,
-    written: bool,
-    systems: u32,
-    channels: u32,
-    hosts: u32,
-) -> usize
-    ensures { (out.new, result) ≡ write (out.old, at) (place_in (index_rows written systems channels hosts) o) }
+pub fn put_indices(out: &mut [u8], at: usize, o: u32, written: bool, n: Sizes) -> usize
+    ensures { (out.new, result) ≡ write (out.old, at) (place_in (index_rows written n.systems n.channels n.hosts) o) }
 {
-    let n = Sizes {
-        systems: systems,
-        channels: channels,
-        hosts: hosts,
-    };
     put_place(out, at, &rows::CIC_ROWS, n, o, written)
 }
 
@@ -96,87 +70,89 @@ pub fn put_aintc(out: &mut [u8], at: usize, o: u32, written: bool) -> usize
 fn put_place(out: &mut [u8], at: usize, table: &[u8], n: Sizes, o: u32, written: bool) -> usize
     ensures { (out.new, result) ≡ write (out.old, at) (place_in (rows_in table.now n written) o) }
 {
-    let k = row_of(table, n, o);
-    if k < table.len() / 64 {
-        return put_row(out, at, table, k, o, written);
+    match row_of(table, n, o) {
+        Some(k) => put_row(out, at, row(table, k), o, written),
+        None => at,
     }
-    at
 }
 
-// The first row that has the offset, or the one behind the last.
-fn row_of(table: &[u8], n: Sizes, o: u32) -> usize
+// The first row that has the offset.
+fn row_of(table: &[u8], n: Sizes, o: u32) -> Option<usize>
     ensures { result ≡ row_from table.now n o 0 (length table.now / 64) }
 {
-    let mut k: usize = 0;
-    while k < table.len() / 64 {
-        if stands_at(table, n, o, k) {
-            return k;
+    for k in 0..table.len() / 64 {
+        if stands_at(row(table, k), n, o) {
+            return Some(k);
         }
-        k = k + 1;
     }
-    k
+    None
+}
+
+// Row k of a map.
+fn row(table: &[u8], k: usize) -> &[u8]
+    requires { k < length table.now / 64 }
+    ensures { (result.now ≡ bytes_at table.now k) × (length result.now ≡ 64) }
+{
+    &table[k * 64..k * 64 + 64]
 }
 
 // ---- a row
 
-fn stands_at(table: &[u8], n: Sizes, o: u32, k: usize) -> bool
-    requires { k < length table.now / 64 }
-    ensures { result ≡ stands_at table.now n o k }
+fn stands_at(row: &[u8], n: Sizes, o: u32) -> bool
+    requires { length row.now ≡ 64 }
+    ensures { result ≡ stands_at row.now n o }
 {
-    let first = four_at(table, k * 64);
-    let count = count_at(table, n, k);
-    let step = two_at(table, k * 64 + 12);
+    let first = four_at(row, 0);
+    let count = count_at(row, n);
+    let step = two_at(row, 12);
     stands_by(first, count, step, o)
 }
 
 // How many registers it has.
-fn count_at(table: &[u8], n: Sizes, k: usize) -> u32
-    requires { k < length table.now / 64 }
-    ensures { result ≡ count_at table.now n k }
+fn count_at(row: &[u8], n: Sizes) -> u32
+    requires { length row.now ≡ 64 }
+    ensures { result ≡ count_at row.now n }
 {
-    let most = four_at(table, k * 64 + 5);
-    let what = table[k * 64 + 10];
-    count_by(what, most, n)
+    let most = four_at(row, 5);
+    count_by(row[10], most, n)
 }
 
 // Its words for a register at the offset.
-fn put_row(out: &mut [u8], at: usize, table: &[u8], k: usize, o: u32, written: bool) -> usize
-    requires { k < length table.now / 64 }
-    ensures { (out.new, result) ≡ write (out.old, at) (words_at table.now written o k) }
+fn put_row(out: &mut [u8], at: usize, row: &[u8], o: u32, written: bool) -> usize
+    requires { length row.now ≡ 64 }
+    ensures { (out.new, result) ≡ write (out.old, at) (words_at row.now written o) }
 {
     let a = text::put(out, at, text::SPACE);
-    let b = put_title(out, a, table, k, o);
-    let from = section_from(table, k, written);
-    put_section(out, b, table, from)
+    let b = put_title(out, a, row, o);
+    put_section(out, b, &row[section_from(written)..])
 }
 
 // The name, and the number behind it.
-fn put_title(out: &mut [u8], at: usize, table: &[u8], k: usize, o: u32) -> usize
-    requires { k < length table.now / 64 }
-    ensures { (out.new, result) ≡ write (out.old, at) (title_at table.now o k) }
+fn put_title(out: &mut [u8], at: usize, row: &[u8], o: u32) -> usize
+    requires { length row.now ≡ 64 }
+    ensures { (out.new, result) ≡ write (out.old, at) (title_at row.now o) }
 {
-    let first = four_at(table, k * 64);
-    let step = two_at(table, k * 64 + 12);
-    let a = put_until(out, at, table, k * 64 + 15);
+    let first = four_at(row, 0);
+    let step = two_at(row, 12);
+    let a = put_until(out, at, &row[15..]);
     put_number(out, a, first, step, o)
 }
 
-fn section_from(table: &[u8], k: usize, written: bool) -> usize
-    requires { k < length table.now / 64 }
-    ensures { result ≡ section_from written k }
+fn section_from(written: bool) -> usize
+    ensures { (result ≡ section_from written) × (result ≤ 64) }
 {
     if written {
-        return k * 64 + 51;
+        return 51;
     }
-    k * 64 + 37
+    37
 }
 
 // Where a register is described.
-fn put_section(out: &mut [u8], at: usize, table: &[u8], from: usize) -> usize
-    ensures { (out.new, result) ≡ write (out.old, at) (sectioned (until (drop from table.now))) }
+fn put_section(out: &mut [u8], at: usize, section: &[u8]) -> usize
+    ensures { (out.new, result) ≡ write (out.old, at) (sectioned (until section.now)) }
 {
     let a = text::put_all(out, at, b" (");
-    let b = put_until(out, a, table, from);
+    let b = put_until(out, a, section);
     text::put_all(out, b, b")")
 }
 
@@ -226,44 +202,25 @@ fn count_by(what: u8, most: u32, n: Sizes) -> u32
     requires { most < 65536 }
     ensures { result ≡ count_by what most n }
 {
-    if what == b'S' {
-        return words_of(most, n.systems);
+    match what {
+        b'S' => there_of(32, most, n.systems),
+        b's' => there_of(4, most, n.systems),
+        b'c' => there_of(4, most, n.channels),
+        b'H' => there_of(32, most, n.hosts),
+        b'1' => at_most(most, n.hosts),
+        _ => most,
     }
-    if what == b's' {
-        return quarters_of(most, n.systems);
-    }
-    if what == b'c' {
-        return quarters_of(most, n.channels);
-    }
-    if what == b'H' {
-        return words_of(most, n.hosts);
-    }
-    if what == b'1' {
-        return at_most(most, n.hosts);
-    }
-    most
 }
 
-// Of so many registers with 32 things each, those that have one of n.
-fn words_of(most: u32, n: u32) -> u32
-    requires { most < 65536 }
-    ensures { result ≡ there_of 32 most n }
+// Of so many registers with a share of things each, those that have one of n.
+fn there_of(share: u32, most: u32, n: u32) -> u32
+    requires { (0 < share) × (share ≤ 32) × (most < 65536) }
+    ensures { result ≡ there_of share most n }
 {
-    if 32 * most <= n {
+    if share * most <= n {
         return most;
     }
-    (n + 31) / 32
-}
-
-// Of so many registers with four each.
-fn quarters_of(most: u32, n: u32) -> u32
-    requires { most < 65536 }
-    ensures { result ≡ there_of 4 most n }
-{
-    if 4 * most <= n {
-        return most;
-    }
-    (n + 3) / 4
+    (n + (share - 1)) / share
 }
 
 // Of so many registers with one each.
@@ -309,18 +266,15 @@ fn digit_of(b: u8) -> u32
 }
 
 // A text up to its bar.
-fn put_until(out: &mut [u8], at: usize, table: &[u8], from: usize) -> usize
-    ensures { (out.new, result) ≡ write (out.old, at) (until (drop from table.now)) }
+fn put_until(out: &mut [u8], at: usize, words: &[u8]) -> usize
+    ensures { (out.new, result) ≡ write (out.old, at) (until words.now) }
 {
     let mut next = at;
-    let mut i = from;
-    while i < table.len() {
-        let b = table[i];
+    for &b in words {
         if b == BAR {
             return next;
         }
         next = text::put(out, next, b);
-        i = i + 1;
     }
     next
 }

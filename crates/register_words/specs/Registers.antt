@@ -5,11 +5,17 @@ use Rattle.text.specs.Phrases.{bytes, counted}
 use Rattle.steps.specs.declared.Step.{Step}
 use Rattle.steps.specs.declared.Step.TheVariants.{Read, Write, Line}
 use Rattle.steps.specs.declared.Recorded.{Recorded}
+use Rattle.cic_record.specs.declared.Cic.{Cic}
+use Rattle.register_names.specs.declared.Sizes.{Sizes}
 use Rattle.register_names.specs.Rows.{place_in}
 use Rattle.register_names.specs.Maps.{aic_rows, core_rows, cic_rows, index_rows, aintc_rows}
 use Rattle.kinds.specs.Kinds.{cic_kind, indexed_kind, by_kind}
 use Rattle.machine.specs.declared.record.Machine.{Machine}
 use Rattle.register_words.specs.Fields.{aic_fields, core_fields, cic_fields, indexed_fields, aintc_fields}
+
+-- what the configuration of a CIC counts
+abbrev pub sizes_of : Cic → Sizes
+sizes_of c = record { systems = c.systems; channels = c.channels; hosts = c.hosts }
 
 -- ---- the place
 

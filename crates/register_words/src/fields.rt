@@ -8,6 +8,8 @@ ghost use Rattle.text.specs.Text.{write};
 ghost use Rattle.text.specs.Phrases.{bytes, counted};
 ghost use Rattle.register_words.specs.Fields.{told_bit, told_below, more_words, bit_words, share_words, byte_words, map_words, type_words, mode_words, aic_fields, core_fields, cic_singles, cic_fields, indexed_fields, route_words, aintc_singles, aintc_fields};
 
+use register_names::Sizes;
+
 // ---- the AIC
 
 // Modes, commands, debug control and fast forcing.
@@ -47,16 +49,12 @@ fn put_mode(out: &mut [u8], at: usize, external: u32, o: u32, v: u32) -> usize
 fn put_type(out: &mut [u8], at: usize, external: bool, kind: u32) -> usize
     ensures { (out.new, result) ≡ write (out.old, at) (type_words external kind) }
 {
-    if kind == 0 {
-        return put_either(out, at, external, b"; low level", b"; high level");
+    match kind {
+        0 => put_either(out, at, external, b"; low level", b"; high level"),
+        1 => put_either(out, at, external, b"; falling edge", b"; rising edge"),
+        2 => text::put_all(out, at, b"; high level"),
+        _ => text::put_all(out, at, b"; rising edge"),
     }
-    if kind == 1 {
-        return put_either(out, at, external, b"; falling edge", b"; rising edge");
-    }
-    if kind == 2 {
-        return text::put_all(out, at, b"; high level");
-    }
-    text::put_all(out, at, b"; rising edge")
 }
 
 // Source 0 cannot be forced.
@@ -96,40 +94,24 @@ fn put_side(out: &mut [u8], at: usize, count: u32, v: u32) -> usize
 // ---- the CIC
 
 // With prioritised indices: control, then the registers of every CIC.
-pub fn put_indexed(
-    out: &mut [u8],
-    at: usize,
-    systems: u32,
-    channels: u32,
-    hosts: u32,
-    o: u32,
-    v: u32,
-) -> usize
-    ensures { (out.new, result) ≡ write (out.old, at) (indexed_fields systems channels hosts o v) }
+pub fn put_indexed(out: &mut [u8], at: usize, n: Sizes, o: u32, v: u32) -> usize
+    ensures { (out.new, result) ≡ write (out.old, at) (indexed_fields n.systems n.channels n.hosts o v) }
 {
     if o == 0x004 {
         return text::phrases::put_counted(out, at, b"; PRIORITY_HOLD ", v / 16 % 2);
     }
-    put_cic(out, at, systems, channels, hosts, o, v)
+    put_cic(out, at, n, o, v)
 }
 
 // Words of systems, the two maps, words of hosts.
-pub fn put_cic(
-    out: &mut [u8],
-    at: usize,
-    systems: u32,
-    channels: u32,
-    hosts: u32,
-    o: u32,
-    v: u32,
-) -> usize
-    ensures { (out.new, result) ≡ write (out.old, at) (cic_fields systems channels hosts o v) }
+pub fn put_cic(out: &mut [u8], at: usize, n: Sizes, o: u32, v: u32) -> usize
+    ensures { (out.new, result) ≡ write (out.old, at) (cic_fields n.systems n.channels n.hosts o v) }
 {
     if o < 0x200 {
         return put_cic_single(out, at, o, v);
     }
     if o < 0x400 {
-        return put_share(out, at, b"; systems", systems, o / 4 % 32, v);
+        return put_share(out, at, b"; systems", n.systems, o / 4 % 32, v);
     }
     if o < 0x800 {
         return put_map(
@@ -137,19 +119,27 @@ pub fn put_cic(
             at,
             b"; system ",
             b" to channel ",
-            systems,
+            n.systems,
             o - 0x400,
             v,
         );
     }
     if o < 0x900 {
-        return put_map(out, at, b"; channel ", b" to host ", channels, o - 0x800, v);
+        return put_map(
+            out,
+            at,
+            b"; channel ",
+            b" to host ",
+            n.channels,
+            o - 0x800,
+            v,
+        );
     }
     if o < 0x1500 {
         return at;
     }
     if o < 0x1520 {
-        return put_share(out, at, b"; hosts", hosts, o / 4 % 32, v);
+        return put_share(out, at, b"; hosts", n.hosts, o / 4 % 32, v);
     }
     at
 }
@@ -276,12 +266,10 @@ fn put_told(out: &mut [u8], at: usize, base: u32, w: u32) -> usize
 {
     let mut next = at;
     let mut told: u32 = 0;
-    let mut n: u32 = 0;
-    while n < 32 {
+    for n in 0..32 {
         next = put_bit(out, next, base, w, n, told);
         let set = words::has(w, n);
-        told = told + words::one_if(set);
-        n = n + 1;
+        told += words::one_if(set);
     }
     next
 }

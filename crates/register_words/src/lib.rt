@@ -6,9 +6,11 @@ ghost use Rattle.words.specs.Choice.{pick};
 ghost use Rattle.text.specs.Text.{write};
 ghost use Rattle.register_names.specs.Rows.{place_in};
 ghost use Rattle.register_names.specs.Maps.{cic_rows, index_rows};
-ghost use Rattle.register_words.specs.Registers.{register_words, below, input_words, line_words, place_at, place_words, written_words, fields_at, field_words, beyond_words, access_words, level_words, limit_at, limit_words};
+ghost use Rattle.register_words.specs.Registers.{register_words, sizes_of, below, input_words, line_words, place_words, written_words, field_words, beyond_words, access_words, level_words, limit_words};
 
+use cic_record::Cic;
 use machine::record::Machine;
+use register_names::Sizes;
 use steps::{Recorded, Step};
 
 pub mod fields;
@@ -19,14 +21,7 @@ pub mod fields;
 pub fn put_place(out: &mut [u8], at: usize, m: Machine, x: Recorded) -> usize
     ensures { (out.new, result) ≡ write (out.old, at) (place_words m x) }
 {
-    let step = x.step;
-    put_place_at(out, at, m, step)
-}
-
-fn put_place_at(out: &mut [u8], at: usize, m: Machine, x: Step) -> usize
-    ensures { (out.new, result) ≡ write (out.old, at) (place_at m x) }
-{
-    match x {
+    match x.step {
         Step::Read(o) => put_register(out, at, m, false, o),
         Step::Write(o, _) => put_register(out, at, m, true, o),
         Step::Line(k, _) => put_line(out, at, m, k),
@@ -37,80 +32,50 @@ fn put_place_at(out: &mut [u8], at: usize, m: Machine, x: Step) -> usize
 fn put_register(out: &mut [u8], at: usize, m: Machine, written: bool, o: u32) -> usize
     ensures { (out.new, result) ≡ write (out.old, at) (register_words m written o) }
 {
-    let kind = m.kind;
-    if kind == kinds::AIC {
-        return register_names::put_aic(out, at, o, written);
+    match m.kind {
+        kinds::AIC => register_names::put_aic(out, at, o, written),
+        kinds::CORE => register_names::put_core(out, at, o),
+        kinds::CIC => register_names::put_cic(out, at, o, written, sizes_of(m.cic)),
+        kinds::AINTC => register_names::put_aintc(out, at, o, written),
+        kinds::INDEXED => put_indexed(out, at, m, written, o),
+        _ => at,
     }
-    if kind == kinds::CORE {
-        return register_names::put_core(out, at, o);
-    }
-    if kind == kinds::CIC {
-        return register_names::put_cic(
-            out,
-            at,
-            o,
-            written,
-            m.cic.systems,
-            m.cic.channels,
-            m.cic.hosts,
-        );
-    }
-    if kind == kinds::AINTC {
-        return register_names::put_aintc(out, at, o, written);
-    }
-    if kind == kinds::INDEXED {
-        return put_indexed(out, at, m, written, o);
-    }
-    at
 }
 
 // Where the choice is on, those of prioritised indices too.
 fn put_indexed(out: &mut [u8], at: usize, m: Machine, written: bool, o: u32) -> usize
     ensures { (out.new, result) ≡ write (out.old, at) (pick (eqb m.held.choice 1) (place_in (index_rows written m.cic.systems m.cic.channels m.cic.hosts) o) (place_in (cic_rows written m.cic.systems m.cic.channels m.cic.hosts) o)) }
 {
+    let n = sizes_of(m.cic);
     if m.held.choice == 1 {
-        return register_names::put_indices(
-            out,
-            at,
-            o,
-            written,
-            m.cic.systems,
-            m.cic.channels,
-            m.cic.hosts,
-        );
+        return register_names::put_indices(out, at, o, written, n);
     }
-    register_names::put_cic(
-        out,
-        at,
-        o,
-        written,
-        m.cic.systems,
-        m.cic.channels,
-        m.cic.hosts,
-    )
+    register_names::put_cic(out, at, o, written, n)
+}
+
+// What the configuration of a CIC counts.
+fn sizes_of(c: Cic) -> Sizes
+    ensures { result ≡ sizes_of c }
+{
+    Sizes {
+        systems: c.systems,
+        channels: c.channels,
+        hosts: c.hosts,
+    }
 }
 
 // A line that there is.
 fn put_line(out: &mut [u8], at: usize, m: Machine, k: u32) -> usize
     ensures { (out.new, result) ≡ write (out.old, at) (line_words m k) }
 {
-    let kind = m.kind;
-    if kind == kinds::AIC {
-        return put_below(out, at, 32, b" source ", k);
+    match m.kind {
+        kinds::AIC => put_below(out, at, 32, b" source ", k),
+        kinds::CORE => put_input(out, at, k),
+        kinds::CIC => put_below(out, at, m.cic.systems, b" system ", k),
+        kinds::AINTC => put_below(out, at, 128, b" input ", k),
+        kinds::INDEXED => put_below(out, at, m.cic.systems, b" system ", k),
+        _ => at,
     }
-    if kind == kinds::CORE {
-        return put_input(out, at, k);
-    }
-    if kind == kinds::CIC {
-        return put_below(out, at, m.cic.systems, b" system ", k);
-    }
-    if kind == kinds::AINTC {
-        return put_below(out, at, 128, b" input ", k);
-    }
-    if kind == kinds::INDEXED {
-        return put_below(out, at, m.cic.systems, b" system ", k);
-    }
-    at
 }
 
 fn put_below(out: &mut [u8], at: usize, n: u32, what: &[u8], k: u32) -> usize
@@ -141,14 +106,7 @@ fn put_input(out: &mut [u8], at: usize, k: u32) -> usize
 pub fn put_fields(out: &mut [u8], at: usize, m: Machine, x: Recorded) -> usize
     ensures { (out.new, result) ≡ write (out.old, at) (field_words m x) }
 {
-    let step = x.step;
-    put_fields_at(out, at, m, step)
-}
-
-fn put_fields_at(out: &mut [u8], at: usize, m: Machine, x: Step) -> usize
-    ensures { (out.new, result) ≡ write (out.old, at) (fields_at m x) }
-{
-    match x {
+    match x.step {
         Step::Read(_) => at,
         Step::Write(o, v) => put_written(out, at, m, o, v),
         Step::Line(_, _) => at,
@@ -158,23 +116,14 @@ fn put_fields_at(out: &mut [u8], at: usize, m: Machine, x: Step) -> usize
 fn put_written(out: &mut [u8], at: usize, m: Machine, o: u32, v: u32) -> usize
     ensures { (out.new, result) ≡ write (out.old, at) (written_words m o v) }
 {
-    let kind = m.kind;
-    if kind == kinds::AIC {
-        return fields::put_aic(out, at, m.aic.external, o, v);
+    match m.kind {
+        kinds::AIC => fields::put_aic(out, at, m.aic.external, o, v),
+        kinds::CORE => fields::put_core(out, at, m.core.fiq.count, m.core.irq.count, o, v),
+        kinds::CIC => fields::put_cic(out, at, sizes_of(m.cic), o, v),
+        kinds::AINTC => fields::put_aintc(out, at, o, v),
+        kinds::INDEXED => fields::put_indexed(out, at, sizes_of(m.cic), o, v),
+        _ => at,
     }
-    if kind == kinds::CORE {
-        return fields::put_core(out, at, m.core.fiq.count, m.core.irq.count, o, v);
-    }
-    if kind == kinds::CIC {
-        return fields::put_cic(out, at, m.cic.systems, m.cic.channels, m.cic.hosts, o, v);
-    }
-    if kind == kinds::AINTC {
-        return fields::put_aintc(out, at, o, v);
-    }
-    if kind == kinds::INDEXED {
-        return fields::put_indexed(out, at, m.cic.systems, m.cic.channels, m.cic.hosts, o, v);
-    }
-    at
 }
 
 // ---- what is beyond its limit
@@ -183,16 +132,9 @@ fn put_written(out: &mut [u8], at: usize, m: Machine, o: u32, v: u32) -> usize
 pub fn put_limit(out: &mut [u8], at: usize, m: Machine, x: Recorded) -> usize
     ensures { (out.new, result) ≡ write (out.old, at) (limit_words m x) }
 {
-    let step = x.step;
-    put_limit_at(out, at, m.kind, x.privilege, step)
-}
-
-fn put_limit_at(out: &mut [u8], at: usize, kind: u32, privilege: u32, x: Step) -> usize
-    ensures { (out.new, result) ≡ write (out.old, at) (limit_at kind privilege x) }
-{
-    match x {
-        Step::Read(o) => put_access(out, at, kind, privilege, o),
-        Step::Write(o, _) => put_access(out, at, kind, privilege, o),
+    match x.step {
+        Step::Read(o) => put_access(out, at, m.kind, x.privilege, o),
+        Step::Write(o, _) => put_access(out, at, m.kind, x.privilege, o),
         Step::Line(_, l) => put_level(out, at, l),
     }
 }

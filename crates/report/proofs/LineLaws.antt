@@ -1,13 +1,19 @@
 -- Where a line ends, where its name does, and how many line feeds there are.
 use Prim.Native.Nat.{ℕ, zero, suc, ◌+◌, ◌-◌, ◌≤◌, ◌<◌}
 use mathlib.Core.Path.{◌≡◌, refl, sym, ap, ◌∙◌}
-use mathlib.Core.Bool.{Bool, true, false, ◌&&◌}
-use mathlib.Core.List.{List}
-use mathlib.Core.Logic.{◌≢◌}
+use mathlib.Core.Bool.{Bool, true, false, not, cond, ◌&&◌}
+use mathlib.Core.List.{List, [], ◌∷◌}
+use mathlib.Core.Logic.{◌≢◌, ◌⊎◌, inl, inr}
 use native.Mathlib.Omega.{arith}
-use native.Mathlib.Decide.{ℕ_discrete}
+use native.Mathlib.Decide.{ℕ_discrete, dec_lt}
 use lib.Dec.{eqb, ltb}
-use lib.ListN.{get_or, length, get_or-eq_default}
+use lib.ListN.{get_or, length, length-drop, drop, get_or-eq_default}
+use Rattle.std.specs.List.{position_or_len, slice_range}
+use Rattle.std.specs.Option.{unwrap_or}
+use Rattle.std.specs.Prelude.{Option, Some, None}
+use Rattle.std.proofs.Math.Seq.{drop-cons}
+use Rattle.std.proofs.lemmas.List.{drop_all, take_all}
+use Rattle.std.proofs.lemmas.List.Sums.{prefix_len-le-length}
 use borrow.Author.Tests.{eq-eqb, ne_eqb, lt-ltb, le-ltb, ltb-true}
 use Rattle.words.specs.Choice.{pick}
 use Rattle.words.specs.Counting.{one, count_below}
@@ -16,23 +22,6 @@ use Rattle.words.proofs.CountingLaws.{count_le, count_add}
 use Rattle.words.proofs.TruthLaws.{and_left, and_both}
 use Rattle.report.specs.Lines.{line_from, line_end, name_end, feeds_before}
 
-pub line_here : (s : List ℕ) (k : ℕ) → k < length s → get_or s k 0 ≡ 10 → k ≡ line_end s k
-unfolding line_end pick
-line_here s k l e = go (length s - k) (omega arith)
-  where
-    go : (n : ℕ) → 0 < n → k ≡ line_from n s k
-    go zero h = absurd (omega arith)
-    go (suc n) h = unfold line_from in (rw (eq-eqb (get_or s k 0) 10 e))
-
-line_step : (s : List ℕ) (k m n : ℕ) → n ≡ m + 1 → (get_or s k 0 ≡ 10 → ⊥) → line_from m s (k + 1) ≡ line_from n s k
-unfolding line_from pick
-line_step s k m zero h d = absurd (omega arith)
-line_step s k m (suc n) h d = let e : m ≡ n = omega arith in rw (e, ne_eqb (get_or s k 0) 10 d)
-
-pub line_on : (s : List ℕ) (k : ℕ) → k < length s → (get_or s k 0 ≡ 10 → ⊥) → line_end s (k + 1) ≡ line_end s k
-unfolding line_end
-line_on s k l d = line_step s k (length s - (k + 1)) (length s - k) (omega arith) d
-
 pub line-over : (s : List ℕ) (k : ℕ) → length s ≤ k → k ≡ line_end s k
 unfolding line_end
 line-over s k l = go (length s - k) (omega arith)
@@ -40,6 +29,46 @@ line-over s k l = go (length s - k) (omega arith)
     go : (n : ℕ) → n ≡ 0 → k ≡ line_from n s k
     go zero h = unfold line_from in refl
     go (suc n) h = absurd (omega arith)
+
+-- the first line feed of what stands from a place on, counted from the start
+prefix-feed : (n : ℕ) (s : List ℕ) (at : ℕ) → at + n ≡ length s → at + position_or_len (λ b. eqb b 10) (drop at s) ≡ line_from n s at
+unfolding line_from pick
+prefix-feed zero s at e = let none : drop at s ≡ [] = drop_all at s (omega (arith, e)) in rw none (omega arith)
+prefix-feed (suc n) s at e =
+    let ih = prefix-feed n s (at + 1) (omega (arith, e)) in
+    let next : suc at ≡ at + 1 = omega arith in
+    let cut : drop at s ≡ get_or s at 0 ∷ drop (at + 1) s = drop-cons s at 0 (omega (arith, e)) ∙ ap (λ (k : ℕ). get_or s at 0 ∷ drop k s) next in
+    rw cut (go (eqb (get_or s at 0) 10) ih)
+  where
+    go : (b : Bool) → at + 1 + position_or_len (λ b. eqb b 10) (drop (at + 1) s) ≡ line_from n s (at + 1)
+        → at + cond (not b) (1 + position_or_len (λ b. eqb b 10) (drop (at + 1) s)) 0 ≡ pick b at (line_from n s (at + 1))
+    go true h = omega arith
+    go false h = omega (arith, h)
+
+-- a place that a slice has no part from is beyond its end
+pub beyond-end : (n at : ℕ) → (n < at) ⊎ (n < n) → n ≤ at
+beyond-end n at (inl l) = omega arith
+beyond-end n at (inr l) = absurd (omega arith)
+
+-- a part of a slice to its end
+pub part-rest : (s : List ℕ) (at : ℕ) (rest : List ℕ) → rest ≡ slice_range s at (length s) → rest ≡ drop at s
+part-rest s at rest e = e ∙ take_all (length s - at) (drop at s) (omega (arith, length-drop at s))
+
+pub line-place : (s : List ℕ) (at : ℕ) (rest : List ℕ) (r : Option ℕ) (k : ℕ) → at ≤ length s → rest ≡ drop at s
+    → r ≡ cond (ltb (position_or_len (λ b. eqb b 10) rest) (length rest)) (Some (position_or_len (λ b. eqb b 10) rest)) None
+    → k ≡ unwrap_or r (length rest) → at + k ≡ line_end s at
+unfolding line_end
+line-place s at rest r k l d e f =
+    let p = position_or_len (λ b. eqb b 10) rest in
+    let told : k ≡ p = f ∙ ap (λ (o : Option ℕ). unwrap_or o (length rest)) e ∙ within (prefix_len-le-length (λ b. not (eqb b 10)) rest) in
+    ap (λ (n : ℕ). at + n) told ∙ ap (λ (xs : List ℕ). at + position_or_len (λ b. eqb b 10) xs) d ∙ prefix-feed (length s - at) s at (omega (arith, l))
+  where
+    within : position_or_len (λ b. eqb b 10) rest ≤ length rest → unwrap_or (cond (ltb (position_or_len (λ b. eqb b 10) rest) (length rest)) (Some (position_or_len (λ b. eqb b 10) rest)) None) (length rest) ≡ position_or_len (λ b. eqb b 10) rest
+    within m = go (dec_lt (position_or_len (λ b. eqb b 10) rest) (length rest))
+      where
+        go : Dec (position_or_len (λ b. eqb b 10) rest < length rest) → unwrap_or (cond (ltb (position_or_len (λ b. eqb b 10) rest) (length rest)) (Some (position_or_len (λ b. eqb b 10) rest)) None) (length rest) ≡ position_or_len (λ b. eqb b 10) rest
+        go (yes q) = rw (lt-ltb (position_or_len (λ b. eqb b 10) rest) (length rest) q) refl
+        go (no q) = rw (le-ltb (position_or_len (λ b. eqb b 10) rest) (length rest) (omega (arith, q))) (omega (arith, m, q))
 
 -- a line ends within what was read
 from-within : (n : ℕ) (s : List ℕ) (k : ℕ) → (k ≤ line_from n s k) × (line_from n s k ≤ k + n)

@@ -8,14 +8,21 @@ use reading::Came;
 // Of a name that is too long so many bytes are printed; no file has a name of so many.
 const SHOWN: usize = 4096;
 
-// How many bytes of a begun name stand at the start of the room, whether a name that is too long is passed over, whether more names may come, whether
-// reading them failed, and the report so far.
+// Whether more names may come after a read: none do after the last one, nor once a line could not be written.
+#[derive(Clone, Copy, PartialEq)]
+pub enum Reading {
+    More,
+    Ended,
+    Failed,
+}
+
+// How many bytes of a begun name stand at the start of the room, whether a name that is too long is passed over, whether more names may come, and the report
+// so far.
 #[derive(Clone, Copy)]
 pub struct State {
     pub held: usize,
     pub skipping: bool,
-    pub going: bool,
-    pub failed: bool,
+    pub reading: Reading,
     pub sum: Sum,
 }
 
@@ -26,8 +33,7 @@ pub(crate) fn begin(first: Sum) -> State
     State {
         held: 0,
         skipping: false,
-        going: true,
-        failed: false,
+        reading: Reading::More,
         sum: first,
     }
 }
@@ -58,30 +64,29 @@ pub(crate) fn settle<R: Print>(
     if held < names.len() {
         return standing(held, false, sum, came);
     }
-    let n = shown(names.len());
+    let n = names.len().min(SHOWN);
     let told = progress::unopened(rt, &names[..n], sum);
     standing(0, true, told, came)
 }
 
-// How many bytes of a name that is too long are printed.
-fn shown(n: usize) -> usize
-    ensures { result ≤ n }
-{
-    if n < SHOWN {
-        return n;
-    }
-    SHOWN
-}
-
-// More names may come while some came and the report could be written.
 fn standing(held: usize, skipping: bool, sum: Sum, came: Came) -> State
     ensures { (result.held ≡ held) × (result.sum ≡ sum) }
 {
     State {
-        held: held,
-        skipping: skipping,
-        going: (came.bytes > 0) & sum.written,
-        failed: came.failed,
-        sum: sum,
+        held,
+        skipping,
+        reading: after(came, sum.written),
+        sum,
     }
+}
+
+// More names may come while some came and the report could be written.
+fn after(came: Came, written: bool) -> Reading {
+    if came.failed {
+        return Reading::Failed;
+    }
+    if written && came.bytes > 0 {
+        return Reading::More;
+    }
+    Reading::Ended
 }

@@ -1,9 +1,9 @@
 // The names of the year's report, one to a line on standard input: each is taken in order, and its trace put to the report (02, 11/12).
-ghost use Rattle.std.specs.Prelude.{ℕ, ◌≤◌, ◌<◌, length};
+ghost use Rattle.std.specs.Prelude.{ℕ, ◌≤◌, length};
 ghost use Rattle.report.specs.Lines.{feeds_before};
 ghost use Rattle.report.specs.Put.{Put};
 
-use super::held::State;
+use super::held::{Reading, State};
 use super::progress::Sum;
 use super::{held, traces};
 use std::rt::Files;
@@ -18,6 +18,7 @@ struct Rest {
 }
 
 // The report after all names, and whether reading them failed.
+// A flag beside the report, and not a Result, since `take` promises of the report's totals in either case.
 #[derive(Clone, Copy)]
 pub struct Taken {
     pub failed: bool,
@@ -30,37 +31,25 @@ pub fn take<R: Files + Input + Print>(rt: &R, names: &mut [u8], first: Sum) -> T
     ensures { (n : ℕ) × Put first.totals n result.sum.totals }
 {
     let s = all_names(rt, names, first);
-    let held = s.held;
-    let sum = s.sum;
-    let none = s.failed | (held == 0);
+    let failed = s.reading == Reading::Failed;
     Taken {
-        failed: s.failed,
-        sum: traces::pass(rt, &names[..held], none, sum),
+        failed,
+        sum: traces::pass(rt, &names[..s.held], failed | (s.held == 0), s.sum),
     }
 }
 
-// Plays the trace of every name that has a line feed. Nothing says that standard input ends: the turns are counted down from a number that no run uses up.
+// Plays the trace of every name that has a line feed. Nothing says that standard input ends: there are as many turns as no run uses up.
 fn all_names<R: Files + Input + Print>(rt: &R, names: &mut [u8], first: Sum) -> State
     ensures { (result.held ≤ length names.new) × ((n : ℕ) × Put first.totals n result.sum.totals) }
 {
     let mut s = held::begin(first);
-    let mut turns = u64::MAX;
-    while turns > 0 {
+    for _ in 0..u64::MAX {
         s = turn(rt, names, s);
-        turns = left(turns, s.going);
+        if s.reading != Reading::More {
+            break;
+        }
     }
     s
-}
-
-// One turn less, or none where no more names come.
-fn left(turns: u64, going: bool) -> u64
-    requires { 0 < turns }
-    ensures { result < turns }
-{
-    if going {
-        return turns - 1;
-    }
-    0
 }
 
 // Reads more names behind those that are held, plays the whole ones, of which there are no more than bytes, and keeps the begun one.
@@ -91,9 +80,9 @@ fn lines<R: Files + Print>(rt: &R, s: &[u8], skipping: bool, first: Sum) -> Rest
         let e = super::line_end(s, at);
         if s.len() <= e {
             return Rest {
-                at: at,
+                at,
                 skipping: skips,
-                sum: sum,
+                sum,
             };
         }
         let n = super::name_end(s, at, e);

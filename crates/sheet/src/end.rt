@@ -15,23 +15,17 @@ ghost use Rattle.sheet.specs.End.{
   page_end,
 };
 
+use super::board::Board;
 use super::{cells, levels, meaning, order, sources};
 use stack::Table;
 use totals::sheets::Sheet;
 
-pub(crate) fn put_page(
-    out: &mut [u8],
-    at: usize,
-    t: Table,
-    names: &[u8],
-    lengths: [u32; 32],
-    s: Sheet,
-) -> usize
-    ensures { (out.new, result) ≡ write (out.old, at) (page_end t names.now lengths s) }
+pub(crate) fn put_page(out: &mut [u8], at: usize, board: &Board, s: Sheet) -> usize
+    ensures { (out.new, result) ≡ write (out.old, at) (page_end board.now.table board.now.names board.now.lengths s) }
 {
     let a = put_head(out, at, s);
-    let b = levels::put_stack(out, a, t, names, lengths);
-    let c = put_sources(out, b, t, names, lengths, s);
+    let b = levels::put_stack(out, a, board);
+    let c = put_sources(out, b, board, s);
     meaning::put_meaning(out, c)
 }
 
@@ -151,40 +145,23 @@ fn put_out(out: &mut [u8], at: usize, words: &[u8], n: u32) -> usize
 
 // ---- the sources
 
-fn put_sources(
-    out: &mut [u8],
-    at: usize,
-    t: Table,
-    names: &[u8],
-    lengths: [u32; 32],
-    s: Sheet,
-) -> usize
-    ensures { (out.new, result) ≡ write (out.old, at) (sources_part t names.now lengths s) }
+fn put_sources(out: &mut [u8], at: usize, board: &Board, s: Sheet) -> usize
+    ensures { (out.new, result) ≡ write (out.old, at) (sources_part board.now.table board.now.names board.now.lengths s) }
 {
     let mut room = [0u8; 32];
-    let n = order::put_order(&mut room, t, s.used);
-    put_ordered(out, at, &room[..n], t, names, lengths, s)
+    let n = order::put_order(&mut room, board.table, s.used);
+    put_ordered(out, at, &room[..n], board, s)
 }
 
 // The two tables of the sources given, and how many are not shown.
-fn put_ordered(
-    out: &mut [u8],
-    at: usize,
-    is: &[u8],
-    t: Table,
-    names: &[u8],
-    lengths: [u32; 32],
-    s: Sheet,
-) -> usize
-    ensures { (out.new, result) ≡ write (out.old, at) (sources_of is.now t names.now lengths s) }
+fn put_ordered(out: &mut [u8], at: usize, is: &[u8], board: &Board, s: Sheet) -> usize
+    ensures { (out.new, result) ≡ write (out.old, at) (sources_of is.now board.now.table board.now.names board.now.lengths s) }
 {
     let a = put_sources_head(out, at);
-    let b = sources::put_sources(out, a, is, t, names, lengths, s);
+    let b = sources::put_sources(out, a, is, board, s);
     let c = put_waits_head(out, b);
-    let w = s.waits;
-    let trace = s.trace;
-    let d = sources::put_waits(out, c, is, w, trace);
-    put_hidden(out, d, t, s.used)
+    let d = sources::put_waits(out, c, is, s.waits, s.trace);
+    put_hidden(out, d, board.table, s.used)
 }
 
 fn put_sources_head(out: &mut [u8], at: usize) -> usize

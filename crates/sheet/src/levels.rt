@@ -1,25 +1,20 @@
 // The stack on the page: what all levels need, a bar and a row for each level, and whose frame it is (02, 4/12).
-ghost use Rattle.std.specs.Prelude.{◌≡◌, ◌<◌};
+ghost use Rattle.std.specs.Prelude.{◌≡◌, ◌<◌, get_or};
 ghost use Rattle.text.specs.Text.{write};
 ghost use Rattle.stack.specs.Bytes.{level_bytes, stack_bytes};
 ghost use Rattle.sheet.specs.Texts.{down};
 ghost use Rattle.sheet.specs.Levels.{tallest, width, bar, owns, owner, called, whose, level_row, figure, bars, levels, stack_part};
 
+use super::board::Board;
 use super::{cells, escapes, order};
 use stack::Table;
 
-pub(crate) fn put_stack(
-    out: &mut [u8],
-    at: usize,
-    t: Table,
-    names: &[u8],
-    lengths: [u32; 32],
-) -> usize
-    ensures { (out.new, result) ≡ write (out.old, at) (stack_part t names.now lengths) }
+pub(crate) fn put_stack(out: &mut [u8], at: usize, board: &Board) -> usize
+    ensures { (out.new, result) ≡ write (out.old, at) (stack_part board.now.table board.now.names board.now.lengths) }
 {
-    let a = put_figure(out, at, t);
-    let b = put_bars(out, a, t);
-    put_levels(out, b, t, names, lengths)
+    let a = put_figure(out, at, board.table);
+    let b = put_bars(out, a, board.table);
+    put_levels(out, b, board)
 }
 
 // What all eight levels need.
@@ -59,9 +54,7 @@ fn put_eight(out: &mut [u8], at: usize, t: Table) -> usize
 {
     let most = tallest(t);
     let mut next = at;
-    let mut l: u32 = 8;
-    while 0 < l {
-        l = l - 1;
+    for l in (0..8).rev() {
         let b = stack::level_bytes(t, l);
         next = put_bar(out, next, most, b, l);
     }
@@ -100,34 +93,32 @@ fn width(most: u32, b: u32) -> u64
 
 // ---- rows
 
-fn put_levels(out: &mut [u8], at: usize, t: Table, names: &[u8], lengths: [u32; 32]) -> usize
-    ensures { (out.new, result) ≡ write (out.old, at) (levels t names.now lengths) }
+fn put_levels(out: &mut [u8], at: usize, board: &Board) -> usize
+    ensures { (out.new, result) ≡ write (out.old, at) (levels board.now.table board.now.names board.now.lengths) }
 {
     let a = text::put_all(
         out,
         at,
         b"<table>\n<thead>\n<tr><th>level</th><th>at most</th><th>whose frame</th></tr>\n</thead>\n<tbody>\n",
     );
-    let b = put_rows(out, a, t, names, lengths);
+    let b = put_rows(out, a, board);
     text::put_all(out, b, b"</tbody>\n</table>\n</section>\n")
 }
 
-fn put_rows(out: &mut [u8], at: usize, t: Table, names: &[u8], lengths: [u32; 32]) -> usize
-    ensures { (out.new, result) ≡ write (out.old, at) (down (level_row t names.now lengths) 8) }
+fn put_rows(out: &mut [u8], at: usize, board: &Board) -> usize
+    ensures { (out.new, result) ≡ write (out.old, at) (down (level_row board.now.table board.now.names board.now.lengths) 8) }
 {
     let mut next = at;
-    let mut l: u32 = 8;
-    while 0 < l {
-        l = l - 1;
-        next = put_row(out, next, t, names, lengths, l);
+    for l in (0..8).rev() {
+        next = put_row(out, next, board, l);
     }
     next
 }
 
-fn put_row(out: &mut [u8], at: usize, t: Table, names: &[u8], lengths: [u32; 32], l: u32) -> usize
-    ensures { (out.new, result) ≡ write (out.old, at) (level_row t names.now lengths l) }
+fn put_row(out: &mut [u8], at: usize, board: &Board, l: u32) -> usize
+    ensures { (out.new, result) ≡ write (out.old, at) (level_row board.now.table board.now.names board.now.lengths l) }
 {
-    let n = stack::level_bytes(t, l);
+    let n = stack::level_bytes(board.table, l);
     let a = text::phrases::put_counted(out, at, b"<tr><th>level ", l);
     let b = text::phrases::put_counted(
         out,
@@ -144,49 +135,48 @@ fn put_row(out: &mut [u8], at: usize, t: Table, names: &[u8], lengths: [u32; 32]
         l,
     );
     let f = text::put_all(out, e, b"\">");
-    let g = put_whose(out, f, t, names, lengths, l);
+    let g = put_whose(out, f, board, l);
     text::put_all(out, g, b"</td></tr>\n")
 }
 
 // Whose frame it is.
-fn put_whose(out: &mut [u8], at: usize, t: Table, names: &[u8], lengths: [u32; 32], l: u32) -> usize
-    ensures { (out.new, result) ≡ write (out.old, at) (whose t names.now lengths l) }
+fn put_whose(out: &mut [u8], at: usize, board: &Board, l: u32) -> usize
+    ensures { (out.new, result) ≡ write (out.old, at) (whose board.now.table board.now.names board.now.lengths l) }
 {
+    let t = board.table;
     let n = stack::level_bytes(t, l);
     if t.mark < n {
         let i = owner(t, l, n);
-        let k = order::word_at(lengths, i);
-        return put_called(out, at, names, k, i);
+        return put_called(out, at, board, i);
     }
     text::put_all(out, at, b"the mark")
 }
 
-// Source i by its number, and by its name of k bytes if it has one.
-fn put_called(out: &mut [u8], at: usize, names: &[u8], k: u32, i: u32) -> usize
-    ensures { (out.new, result) ≡ write (out.old, at) (called names.now k i) }
+// Source i by its number, and by its name if it has one.
+fn put_called(out: &mut [u8], at: usize, board: &Board, i: u32) -> usize
+    ensures { (out.new, result) ≡ write (out.old, at) (called board.now.names (get_or board.now.lengths i 0) i) }
 {
     let a = text::phrases::put_counted(out, at, b"source ", i);
-    if k == 0 {
+    let Some(name) = board.name(i) else {
         return a;
-    }
+    };
     let b = text::put_all(out, a, b", ");
-    escapes::put_name(out, b, names, k, i)
+    escapes::put_escaped(out, b, name)
 }
 
 // ---- numbers
 
 // The lowest normal source of level l whose frame is n bytes, 32 where none is.
+// A level that needs more than the mark's frame has one: an Option would give put_whose an arm that nothing reaches.
 fn owner(t: Table, l: u32, n: u32) -> u32
     ensures { result ≡ owner t l n }
 {
-    let mut i: u32 = 0;
-    while i < 32 {
+    for i in 0..32 {
         if owns(t, l, n, i) {
             return i;
         }
-        i = i + 1;
     }
-    i
+    32
 }
 
 fn owns(t: Table, l: u32, n: u32, i: u32) -> bool
@@ -202,10 +192,8 @@ fn tallest(t: Table) -> u32
     ensures { result ≡ tallest t 8 }
 {
     let mut most: u32 = 0;
-    let mut l: u32 = 0;
-    while l < 8 {
+    for l in 0..8 {
         most = words::larger(most, stack::level_bytes(t, l));
-        l = l + 1;
     }
     most
 }
@@ -215,10 +203,8 @@ fn all_levels(t: Table) -> u64
     ensures { result ≡ stack_bytes t }
 {
     let mut sum: u64 = 0;
-    let mut l: u32 = 0;
-    while l < 8 {
-        sum = sum + stack::level_bytes(t, l) as u64;
-        l = l + 1;
+    for l in 0..8 {
+        sum += stack::level_bytes(t, l) as u64;
     }
     sum
 }

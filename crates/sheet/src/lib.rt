@@ -11,6 +11,7 @@ ghost use Rattle.sheet.specs.Head.{page_head};
 ghost use Rattle.sheet.specs.Rows.{trace_row, left_out_row};
 ghost use Rattle.sheet.specs.End.{page_end};
 
+mod board;
 mod cells;
 mod end;
 mod escapes;
@@ -21,6 +22,7 @@ mod order;
 mod rows;
 mod sources;
 
+use board::Board;
 use stack::Table;
 use totals::sheets::{Noted, Sheet};
 
@@ -39,6 +41,7 @@ pub fn put_trace(out: &mut [u8], n: u32, t: Noted, name: &[u8]) -> usize
 }
 
 // The row of the nth name, of a trace that is left out by 16, 17 or 18; of 18 after which step, and by which source.
+// The refusal is a number with a step and a source beside it: docs/CONTRACTS.md names this function so.
 pub fn put_left_out(
     out: &mut [u8],
     n: u32,
@@ -53,10 +56,16 @@ pub fn put_left_out(
 }
 
 // How the page ends: of the table, the names of its sources, 24 bytes apart, their lengths, and the figures of all traces.
+// Names and lengths stand beside the table: docs/CONTRACTS.md names this function so.
 pub fn put_end(out: &mut [u8], t: Table, names: &[u8; 768], lengths: [u32; 32], s: Sheet) -> usize
     ensures { (out.new, result) ≡ laid out.old (page_end t names.now lengths s) }
 {
-    end::put_page(out, 0, t, names, lengths, s)
+    let board = Board {
+        table: t,
+        names: *names,
+        lengths,
+    };
+    end::put_page(out, 0, &board, s)
 }
 
 // ---- rooms

@@ -16,13 +16,12 @@ pub(crate) fn put_order(out: &mut [u8], t: Table, used: u32) -> usize
 }
 
 // Those that are fast, or normal, by level.
+// A bool tells which, as the promises `normal_at` and `fast_at` have it.
 fn put_levels(out: &mut [u8], at: usize, t: Table, used: u32, fast: bool) -> usize
     ensures { (out.new, result) ≡ write (out.old, at) (by_level (stands t used fast)) }
 {
     let mut next = at;
-    let mut l: u32 = 8;
-    while 0 < l {
-        l = l - 1;
+    for l in (0..8).rev() {
         next = put_level(out, next, t, used, fast, l);
     }
     next
@@ -33,11 +32,9 @@ fn put_level(out: &mut [u8], at: usize, t: Table, used: u32, fast: bool, l: u32)
     ensures { (out.new, result) ≡ write (out.old, at) (chosen (stands t used fast l) 32) }
 {
     let mut next = at;
-    let mut i: u32 = 0;
-    while i < 32 {
+    for i in 0..32 {
         let here = stands(t, used, fast, l, i);
         next = put_if(out, next, here, i);
-        i = i + 1;
     }
     next
 }
@@ -87,11 +84,9 @@ pub(crate) fn ahead_of(t: Table, used: u32, i: u32) -> u32
     ensures { result ≡ ahead_of t used i }
 {
     let mut n: u32 = 0;
-    let mut j: u32 = 0;
-    while j < 32 {
+    for j in 0..32 {
         let before = counts(t, used, j, i);
-        n = n + words::one_if(before);
-        j = j + 1;
+        n += words::one_if(before);
     }
     n
 }
@@ -102,9 +97,8 @@ fn counts(t: Table, used: u32, j: u32, i: u32) -> bool
 {
     let is = shown(t, used, j);
     let n = is_normal(t, j);
-    let a = t.priority;
-    let p = word_at(a, j);
-    let q = word_at(a, i);
+    let p = word_at(t.priority, j);
+    let q = word_at(t.priority, i);
     is & (n & ((q < p) | ((p == q) & (j < i))))
 }
 
@@ -113,11 +107,9 @@ pub(crate) fn hidden(t: Table, used: u32) -> u32
     ensures { result ≡ hidden t used }
 {
     let mut n: u32 = 0;
-    let mut i: u32 = 0;
-    while i < 32 {
+    for i in 0..32 {
         let is = shown(t, used, i);
-        n = n + words::one_if(!is);
-        i = i + 1;
+        n += words::one_if(!is);
     }
     n
 }

@@ -94,17 +94,19 @@ fn put_enabling(out: &mut [u8], at: usize, used: u32) -> usize
 fn put_reason(out: &mut [u8], at: usize, refusal: u32, step: u32, source: u32) -> usize
     ensures { (out.new, result) ≡ write (out.old, at) (reason refusal step source) }
 {
-    if refusal == 16 {
-        return text::put_all(
+    match refusal {
+        steps::OVERFULL => text::put_all(
             out,
             at,
             b"left out by 16: a sum of the page would pass 4294967295",
-        );
+        ),
+        steps::UNOPENED => {
+            text::put_all(out, at, b"left out by 17: it could not be opened or read")
+        }
+        _ => {
+            let a = text::phrases::put_counted(out, at, b"left out by 18: after step ", step);
+            let b = text::phrases::put_counted(out, a, b" source ", source);
+            text::put_all(out, b, b" is enabled and not as in the table")
+        }
     }
-    if refusal == 17 {
-        return text::put_all(out, at, b"left out by 17: it could not be opened or read");
-    }
-    let a = text::phrases::put_counted(out, at, b"left out by 18: after step ", step);
-    let b = text::phrases::put_counted(out, a, b" source ", source);
-    text::put_all(out, b, b" is enabled and not as in the table")
 }

@@ -1,5 +1,5 @@
 // The sources on the page: two tables with a row for each source that is shown (02, 11/12 and 12/12).
-ghost use Rattle.std.specs.Prelude.{◌≡◌, eqb};
+ghost use Rattle.std.specs.Prelude.{◌≡◌, eqb, get_or};
 ghost use Rattle.words.specs.Choice.{pick};
 ghost use Rattle.text.specs.Text.{write};
 ghost use Rattle.text.specs.Phrases.{bytes};
@@ -23,6 +23,7 @@ ghost use Rattle.sheet.specs.Sources.{
   waits_row,
 };
 
+use super::board::Board;
 use super::{cells, escapes, order};
 use stack::Table;
 use totals::sheets::Sheet;
@@ -31,22 +32,12 @@ use totals::waits::Waits;
 // ---- rows
 
 // The rows of the sources given, a byte each.
-pub(crate) fn put_sources(
-    out: &mut [u8],
-    at: usize,
-    is: &[u8],
-    t: Table,
-    names: &[u8],
-    lengths: [u32; 32],
-    s: Sheet,
-) -> usize
-    ensures { (out.new, result) ≡ write (out.old, at) (each (source_row t names.now lengths s) is.now) }
+pub(crate) fn put_sources(out: &mut [u8], at: usize, is: &[u8], board: &Board, s: Sheet) -> usize
+    ensures { (out.new, result) ≡ write (out.old, at) (each (source_row board.now.table board.now.names board.now.lengths s) is.now) }
 {
     let mut next = at;
-    let mut k: usize = 0;
-    while k < is.len() {
-        next = put_source(out, next, t, names, lengths, s, is[k] as u32);
-        k = k + 1;
+    for i in is {
+        next = put_source(out, next, board, s, *i as u32);
     }
     next
 }
@@ -56,33 +47,20 @@ pub(crate) fn put_waits(out: &mut [u8], at: usize, is: &[u8], w: Waits, trace: [
     ensures { (out.new, result) ≡ write (out.old, at) (each (waits_row w trace) is.now) }
 {
     let mut next = at;
-    let mut k: usize = 0;
-    while k < is.len() {
-        next = put_wait(out, next, w, trace, is[k] as u32);
-        k = k + 1;
+    for i in is {
+        next = put_wait(out, next, w, trace, *i as u32);
     }
     next
 }
 
-fn put_source(
-    out: &mut [u8],
-    at: usize,
-    t: Table,
-    names: &[u8],
-    lengths: [u32; 32],
-    s: Sheet,
-    i: u32,
-) -> usize
-    ensures { (out.new, result) ≡ write (out.old, at) (source_row t names.now lengths s i) }
+fn put_source(out: &mut [u8], at: usize, board: &Board, s: Sheet, i: u32) -> usize
+    ensures { (out.new, result) ≡ write (out.old, at) (source_row board.now.table board.now.names board.now.lengths s i) }
 {
-    let k = order::word_at(lengths, i);
-    let priority = t.priority;
-    let p = order::word_at(priority, i);
-    let kind = t.kind;
-    let q = order::word_at(kind, i);
-    let frame = t.frame;
-    let f = order::word_at(frame, i);
-    let a = put_source_head(out, at, names, k, i);
+    let t = board.table;
+    let p = order::word_at(t.priority, i);
+    let q = order::word_at(t.kind, i);
+    let f = order::word_at(t.frame, i);
+    let a = put_source_head(out, at, board, i);
     let b = put_tabled(out, a, i, p, q, f);
     let c = put_ahead(out, b, t, s.used, i);
     let d = put_started(out, c, s, i);
@@ -92,14 +70,10 @@ fn put_source(
 fn put_wait(out: &mut [u8], at: usize, w: Waits, trace: [u32; 32], i: u32) -> usize
     ensures { (out.new, result) ≡ write (out.old, at) (waits_row w trace i) }
 {
-    let unended = w.unended;
-    let e = order::word_at(unended, i);
-    let unbounded = w.unbounded;
-    let u = order::word_at(unbounded, i);
-    let begun = w.begun;
-    let n = order::word_at(begun, i);
-    let first = w.first;
-    let f = order::word_at(first, i);
+    let e = order::word_at(w.unended, i);
+    let u = order::word_at(w.unbounded, i);
+    let n = order::word_at(w.begun, i);
+    let f = order::word_at(w.first, i);
     let m = order::word_at(trace, i);
     let a = text::phrases::put_counted(out, at, b"<tr><th>source ", i);
     let b = text::put_all(out, a, b"</th>");
@@ -114,22 +88,23 @@ fn put_wait(out: &mut [u8], at: usize, w: Waits, trace: [u32; 32], i: u32) -> us
 
 // ---- what the table says of a source
 
-fn put_source_head(out: &mut [u8], at: usize, names: &[u8], k: u32, i: u32) -> usize
-    ensures { (out.new, result) ≡ write (out.old, at) (source_head names.now k i) }
+fn put_source_head(out: &mut [u8], at: usize, board: &Board, i: u32) -> usize
+    ensures { (out.new, result) ≡ write (out.old, at) (source_head board.now.names (get_or board.now.lengths i 0) i) }
 {
     let a = text::phrases::put_counted(out, at, b"<tr><th>source ", i);
     let b = text::put_all(out, a, b"</th><td>");
-    let c = put_name_or(out, b, names, k, i);
+    let c = put_name_or(out, b, board, i);
     text::put_all(out, c, b"</td>")
 }
 
-fn put_name_or(out: &mut [u8], at: usize, names: &[u8], k: u32, i: u32) -> usize
-    ensures { (out.new, result) ≡ write (out.old, at) (pick (eqb k 0) (bytes "-") (escaped (name_of names.now k i))) }
+// Its name, or - where it has none.
+fn put_name_or(out: &mut [u8], at: usize, board: &Board, i: u32) -> usize
+    ensures { (out.new, result) ≡ write (out.old, at) (pick (eqb (get_or board.now.lengths i 0) 0) (bytes "-") (escaped (name_of board.now.names (get_or board.now.lengths i 0) i))) }
 {
-    if k == 0 {
-        return text::put_all(out, at, b"-");
+    match board.name(i) {
+        Some(name) => escapes::put_escaped(out, at, name),
+        None => text::put_all(out, at, b"-"),
     }
-    escapes::put_name(out, at, names, k, i)
 }
 
 fn put_tabled(out: &mut [u8], at: usize, i: u32, priority: u32, kind: u32, frame: u32) -> usize
@@ -143,19 +118,16 @@ fn put_tabled(out: &mut [u8], at: usize, i: u32, priority: u32, kind: u32, frame
     cells::put_source_cell(out, e, b"frame-bytes", i, frame, b"bytes")
 }
 
+// Its type is a number, as the promise `types` has it.
 fn put_typed(out: &mut [u8], at: usize, kind: u32) -> usize
     ensures { (out.new, result) ≡ write (out.old, at) (typed kind) }
 {
-    if kind == 0 {
-        return text::put_all(out, at, b"level, low if external");
+    match kind {
+        0 => text::put_all(out, at, b"level, low if external"),
+        1 => text::put_all(out, at, b"edge, falling if external"),
+        2 => text::put_all(out, at, b"level, high"),
+        _ => text::put_all(out, at, b"edge, rising"),
     }
-    if kind == 1 {
-        return text::put_all(out, at, b"edge, falling if external");
-    }
-    if kind == 2 {
-        return text::put_all(out, at, b"level, high");
-    }
-    text::put_all(out, at, b"edge, rising")
 }
 
 fn put_ahead(out: &mut [u8], at: usize, t: Table, used: u32, i: u32) -> usize
@@ -175,16 +147,11 @@ fn put_started(out: &mut [u8], at: usize, s: Sheet, i: u32) -> usize
 {
     let w = s.waits;
     let f = s.figures;
-    let started = f.started;
-    let x = order::word_at(started, i);
-    let waited = f.waited;
-    let y = order::word_at(waited, i);
-    let entries = f.entries;
-    let z = order::word_at(entries, i);
-    let begun = w.begun;
-    let n = order::word_at(begun, i);
-    let unbounded = w.unbounded;
-    let u = order::word_at(unbounded, i);
+    let x = order::word_at(f.started, i);
+    let y = order::word_at(f.waited, i);
+    let z = order::word_at(f.entries, i);
+    let n = order::word_at(w.begun, i);
+    let u = order::word_at(w.unbounded, i);
     let most = bound_of(w, i);
     let a = cells::put_source_cell(out, at, b"handlers-started", i, x, b"handlers");
     let b = cells::put_source_cell(out, a, b"most-started-while-waiting", i, y, b"handlers");
@@ -248,18 +215,12 @@ fn put_first(out: &mut [u8], at: usize, unbounded: u32, step: u32, trace: u32) -
 fn put_terms(out: &mut [u8], at: usize, w: Waits, i: u32, told: bool) -> usize
     ensures { (out.new, result) ≡ write (out.old, at) (terms w i told) }
 {
-    let pending = w.pending;
-    let p = order::word_at(pending, i);
-    let edges = w.edges;
-    let e = order::word_at(edges, i);
-    let commands = w.commands;
-    let c = order::word_at(commands, i);
-    let turns = w.turns;
-    let t = order::word_at(turns, i);
-    let closed = w.closed;
-    let d = order::word_at(closed, i);
-    let remembered = w.remembered;
-    let r = order::word_at(remembered, i);
+    let p = order::word_at(w.pending, i);
+    let e = order::word_at(w.edges, i);
+    let c = order::word_at(w.commands, i);
+    let t = order::word_at(w.turns, i);
+    let d = order::word_at(w.closed, i);
+    let r = order::word_at(w.remembered, i);
     let f = put_term(out, at, b"bound-pending", i, told, p);
     let g = put_term(out, f, b"bound-edges", i, told, e);
     let h = put_term(out, g, b"bound-commands", i, told, c);
@@ -268,6 +229,7 @@ fn put_terms(out: &mut [u8], at: usize, w: Waits, i: u32, told: bool) -> usize
     put_term(out, k, b"bound-remembered", i, told, r)
 }
 
+// Whether it is told stands beside its value, as the promises `term_told` and `term_empty` have it.
 fn put_term(out: &mut [u8], at: usize, figure: &[u8], i: u32, told: bool, n: u32) -> usize
     ensures { (out.new, result) ≡ write (out.old, at) (term figure.now i told n) }
 {
@@ -288,17 +250,11 @@ fn bounded(begun: u32, unbounded: u32) -> bool
 fn bound_of(w: Waits, i: u32) -> u64
     ensures { result ≡ bound_of w i }
 {
-    let pending = w.pending;
-    let p = order::word_at(pending, i);
-    let edges = w.edges;
-    let e = order::word_at(edges, i);
-    let commands = w.commands;
-    let c = order::word_at(commands, i);
-    let turns = w.turns;
-    let t = order::word_at(turns, i);
-    let closed = w.closed;
-    let d = order::word_at(closed, i);
-    let remembered = w.remembered;
-    let r = order::word_at(remembered, i);
+    let p = order::word_at(w.pending, i);
+    let e = order::word_at(w.edges, i);
+    let c = order::word_at(w.commands, i);
+    let t = order::word_at(w.turns, i);
+    let d = order::word_at(w.closed, i);
+    let r = order::word_at(w.remembered, i);
     p as u64 + e as u64 + c as u64 + t as u64 + d as u64 + r as u64
 }

@@ -1,2 +1,3 @@
 -- The laws of the sheet after names.
+pub mod HeldLaws
 pub mod PutLaws

@@ -1,90 +1,59 @@
 // What is held of the names between two reads: the bytes of a begun one, at the start of the room.
-ghost use Rattle.std.specs.Prelude.{◌≡◌, ◌+◌, ◌≤◌, length};
+ghost use Rattle.std.specs.Prelude.{◌+◌, ◌≤◌, length, IfOk, IfSome};
+ghost use Rattle.stack.specs.declared.Table.{Table as Priorities};
 ghost use Rattle.sheet_run.specs.Put.{Put};
 
 use super::progress;
-use super::progress::Sum;
-use reading::Came;
-use stack::Table;
+use super::progress::Unfinished;
+use totals::sheets::Sheet;
 
 // Of a name that is too long so many bytes are printed; no file has a name of so many.
 const SHOWN: usize = 4096;
 
-// How many bytes of a begun name stand at the start of the room, whether a name that is too long is passed over, whether more names may come, whether
-// reading them failed, and the sheet so far.
+// How many bytes of a begun name stand at the start of the room, or None while one is passed over as too long; and the sheet so far.
 #[derive(Clone, Copy)]
 pub struct State {
-    pub held: usize,
-    pub skipping: bool,
-    pub going: bool,
-    pub failed: bool,
-    pub sum: Sum,
+    pub begun: Option<usize>,
+    pub sheet: Sheet,
 }
 
-// Before any name: nothing is held, and the sheet is the one given.
-pub(crate) fn begin(first: Sum) -> State
-    ensures { (result.held ≡ 0) × (result.sum ≡ first) }
-{
-    State {
-        held: 0,
-        skipping: false,
-        going: true,
-        failed: false,
-        sum: first,
-    }
-}
-
-// Reads more names behind those that are held.
-pub(crate) fn fill<R: Input>(rt: &R, names: &mut [u8], held: usize) -> Came
+// Reads more names behind those that are held; how many bytes came, 0 where there are no more.
+pub(crate) fn fill<R: Input>(rt: &R, names: &mut [u8], held: usize) -> Result<usize, Unfinished>
     requires { held ≤ length names.old }
-    ensures { held + result.bytes ≤ length names.new }
+    ensures { IfOk result (λ n. held + n ≤ length names.new) }
 {
-    reading::read_once(&mut rt.reader(), &mut names[held..])
+    let came = reading::read_once(&mut rt.reader(), &mut names[held..]);
+    if came.failed {
+        return Err(Unfinished::Unread);
+    }
+    Ok(came.bytes)
 }
 
-// What is kept of a begun name: nothing where it is passed over, nor where it fills the room, for then it is too long to be opened. Of the one that is
-// passed over the first 4,096 bytes have been told, and it has been counted.
+// What is kept of a begun name: nothing where it is passed over, nor where it fills the room, for then it is too long to be opened. Of that one the first
+// 4,096 bytes are told, and it is counted.
 pub(crate) fn settle<R: Print>(
     rt: &R,
     names: &[u8],
     held: usize,
     skipping: bool,
-    table: Table,
-    sum: Sum,
-    came: Came,
-) -> State
-    ensures { (result.held ≤ length names.now) × Put table sum.sheet result.sum.sheet }
+    sheet: Sheet,
+) -> Result<State, Unfinished>
+    ensures within { IfOk result (λ s. IfSome s.begun (λ n. n ≤ length names.now)) }
+    ensures put { IfOk result (λ s. (t : Priorities) → Put t sheet s.sheet) }
 {
-    if skipping | !sum.written {
-        return standing(0, true, sum, came);
+    if skipping {
+        return Ok(State { begun: None, sheet });
     }
     if held < names.len() {
-        return standing(held, false, sum, came);
+        return Ok(State {
+            begun: Some(held),
+            sheet,
+        });
     }
-    let n = shown(names.len());
-    let told = progress::unopened(rt, &names[..n], sum);
-    standing(0, true, told, came)
-}
-
-// How many bytes of a name that is too long are printed.
-fn shown(n: usize) -> usize
-    ensures { result ≤ n }
-{
-    if n < SHOWN {
-        return n;
-    }
-    SHOWN
-}
-
-// More names may come while some came and the page could be written.
-fn standing(held: usize, skipping: bool, sum: Sum, came: Came) -> State
-    ensures { (result.held ≡ held) × (result.sum ≡ sum) }
-{
-    State {
-        held: held,
-        skipping: skipping,
-        going: (came.bytes > 0) & sum.written,
-        failed: came.failed,
-        sum: sum,
-    }
+    let n = names.len().min(SHOWN);
+    let told = progress::unopened(rt, &names[..n], sheet)?;
+    Ok(State {
+        begun: None,
+        sheet: told,
+    })
 }

@@ -11,9 +11,10 @@ mod names;
 mod progress;
 mod traces;
 
-use progress::Sum;
+use progress::Unfinished;
 use stack::Table;
 use std::rt::Env;
+use totals::sheets::Sheet;
 
 // One byte more is read than a table may have, so that a longer one is told apart.
 fn main(rt: HostRuntime) {
@@ -25,19 +26,19 @@ fn main(rt: HostRuntime) {
         tell(&rt, b"sheet_run: the table could not be read\n");
         return;
     }
-    let n = came.bytes;
-    check(&rt, &text[..n]);
+    check(&rt, &text[..came.bytes]);
 }
 
 // The page of a table that is not refused, and else its line.
 fn check(rt: &HostRuntime, text: &[u8]) {
     let r = tables::read_table(text);
-    let t = r.table;
-    let needed = stack::needed_by(t);
-    if (r.refusal == steps::CARRIED_OUT) & (needed.refusal == steps::CARRIED_OUT) {
-        print(rt, text, t);
-    } else {
+    let needed = stack::needed_by(r.table);
+    if (r.refusal != steps::CARRIED_OUT) | (needed.refusal != steps::CARRIED_OUT) {
         refuse(rt, text);
+        return;
+    }
+    if let Err(why) = print(rt, text, r.table) {
+        let _ = eprintln!(rt; "sheet_run: {why}");
     }
 }
 
@@ -49,43 +50,27 @@ fn refuse(rt: &HostRuntime, text: &[u8]) {
     tell(rt, &line[..k]);
 }
 
-fn print(rt: &HostRuntime, text: &[u8], t: Table) {
+// The whole page.
+fn print(rt: &HostRuntime, text: &[u8], t: Table) -> Result<(), Unfinished> {
+    begin(rt)?;
     let mut all = room();
-    let first = progress::none();
-    if !begin(rt) {
-        tell(rt, b"sheet_run: the page could not be written\n");
-        return;
-    }
-    let r = names::take(rt, &mut all, t, first);
-    if r.failed {
-        tell(rt, b"sheet_run: the names could not be read\n");
-        return;
-    }
-    let sum = r.sum;
-    if !end(rt, text, t, sum) {
-        tell(rt, b"sheet_run: the page could not be written\n");
-    }
+    let sheet = names::take(rt, &mut all, t, totals::sheets::none())?;
+    end(rt, text, t, sheet)
 }
 
-// How the page begins; whether it could be written.
-fn begin(rt: &HostRuntime) -> bool {
+// How the page begins.
+fn begin(rt: &HostRuntime) -> Result<(), Unfinished> {
     let mut out = sheet::head_room();
     let k = sheet::put_head(&mut out);
-    rt.write_all(&out[..k]).is_ok()
+    progress::write(rt, &out[..k])
 }
 
-// How it ends, unless a row before it could not be written; whether all could be.
-fn end(rt: &HostRuntime, text: &[u8], t: Table, sum: Sum) -> bool {
-    if !sum.written {
-        return false;
-    }
+// How it ends.
+fn end(rt: &HostRuntime, text: &[u8], t: Table, s: Sheet) -> Result<(), Unfinished> {
     let named = tables::names::names_of(text);
-    let bytes = named.bytes;
-    let lengths = named.lengths;
-    let s = sum.sheet;
     let mut out = sheet::end_room();
-    let k = sheet::put_end(&mut out, t, &bytes, lengths, s);
-    rt.write_all(&out[..k]).is_ok()
+    let k = sheet::put_end(&mut out, t, &named.bytes, named.lengths, s);
+    progress::write(rt, &out[..k])
 }
 
 // A buffer that any line of a slip fits.

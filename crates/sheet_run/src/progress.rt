@@ -1,42 +1,43 @@
-// The sheet so far, and the row of a name that cannot be opened or read.
-ghost use Rattle.std.specs.Prelude.{◌≡◌};
-ghost use Rattle.totals.specs.Sheet.{no_sheet, left_unopened};
+// What becomes of the page while names are taken: why it may stay unfinished, and the row of a name that cannot be opened or read.
+ghost use Rattle.std.specs.Prelude.{◌≡◌, IfOk};
+ghost use Rattle.totals.specs.Sheet.{left_unopened};
 
+use std::fmt;
 use totals::sheets::Sheet;
 
-// The sheet so far: its figures, and whether every row of it could be written.
-#[derive(Clone, Copy)]
-pub struct Sum {
-    pub sheet: Sheet,
-    pub written: bool,
+// Why the page stays unfinished: the names could not be read, or a part of it could not be written.
+#[derive(Clone, Copy, Debug, PartialEq, Eq)]
+pub enum Unfinished {
+    Unread,
+    Unwritten,
 }
 
-// Before any name: every figure is 0.
-pub(crate) fn none() -> Sum
-    ensures { result.sheet ≡ no_sheet }
-{
-    let s = totals::sheets::none();
-    Sum {
-        sheet: s,
-        written: true,
+impl fmt::Display for Unfinished {
+    fn fmt<W: fmt::Write>(&self, f: &mut fmt::Formatter<W>) -> fmt::Result {
+        match self {
+            Unfinished::Unread => write!(f, "the names could not be read"),
+            Unfinished::Unwritten => write!(f, "the page could not be written"),
+        }
     }
+}
+
+// Writes a part of the page.
+pub(crate) fn write<R: Print>(rt: &R, part: &[u8]) -> Result<(), Unfinished> {
+    rt.write_all(part).map_err(|_| Unfinished::Unwritten)
 }
 
 // A name whose file cannot be opened or read: it is counted, and no figure of a trace changes.
-pub(crate) fn unopened<R: Print>(rt: &R, name: &[u8], sum: Sum) -> Sum
-    ensures { result.sheet ≡ left_unopened sum.sheet }
+pub(crate) fn unopened<R: Print>(rt: &R, name: &[u8], sheet: Sheet) -> Result<Sheet, Unfinished>
+    ensures { IfOk result (λ s. s ≡ left_unopened sheet) }
 {
-    let s = totals::sheets::unopened(sum.sheet);
-    let written = print_unopened(rt, s.named, name);
-    Sum {
-        sheet: s,
-        written: written,
-    }
+    let s = totals::sheets::unopened(sheet);
+    print_unopened(rt, s.named, name)?;
+    Ok(s)
 }
 
-// The row of such a name; whether it could be written.
-fn print_unopened<R: Print>(rt: &R, n: u32, name: &[u8]) -> bool {
+// The row of such a name.
+fn print_unopened<R: Print>(rt: &R, n: u32, name: &[u8]) -> Result<(), Unfinished> {
     let mut out = sheet::row_room();
     let k = sheet::put_left_out(&mut out, n, steps::UNOPENED, 0, 0, name);
-    rt.write_all(&out[..k]).is_ok()
+    write(rt, &out[..k])
 }

@@ -1,5 +1,5 @@
 // The traces of the sheet, one by one: each is played, what the sheet takes from it is put to the figures, and its row is printed.
-ghost use Rattle.std.specs.Prelude.{◌≡◌, eqb};
+ghost use Rattle.std.specs.Prelude.{◌≡◌, eqb, IfOk};
 ghost use Rattle.words.specs.Choice.{pick};
 ghost use Rattle.text.specs.Text.{laid};
 ghost use Rattle.sheet.specs.Rows.{trace_row, left_out_row};
@@ -8,65 +8,74 @@ ghost use Rattle.sheet_traces.specs.Noted.{note_of};
 ghost use Rattle.sheet_run.specs.Put.{Put};
 
 use super::progress;
-use super::progress::Sum;
+use super::progress::Unfinished;
 use stack::Table;
 use std::rt::Files;
-use totals::sheets::Noted;
+use totals::sheets::{Noted, Sheet};
 
 // The most steps of a trace that are played.
 const LIMIT: u32 = 20000;
 
-// A name up to its line feed: the rest of one that is too long is passed over, and nothing is played once a row could not be written.
+// A name up to its line feed; the rest of one that is too long is passed over.
 pub(crate) fn pass<R: Files + Print>(
     rt: &R,
     name: &[u8],
     skipping: bool,
     table: Table,
-    sum: Sum,
-) -> Sum
-    ensures { Put table sum.sheet result.sheet }
+    sheet: Sheet,
+) -> Result<Sheet, Unfinished>
+    ensures { IfOk result (λ s. Put table sheet s) }
 {
     if skipping {
-        return sum;
+        return Ok(sheet);
     }
-    if !sum.written {
-        return sum;
-    }
-    play(rt, name, table, sum)
+    play(rt, name, table, sheet)
 }
 
 // Plays the trace of a name. One byte more is read than a trace may have, so that a longer one is told apart.
-fn play<R: Files + Print>(rt: &R, name: &[u8], table: Table, sum: Sum) -> Sum
-    ensures { Put table sum.sheet result.sheet }
+fn play<R: Files + Print>(
+    rt: &R,
+    name: &[u8],
+    table: Table,
+    sheet: Sheet,
+) -> Result<Sheet, Unfinished>
+    ensures { IfOk result (λ s. Put table sheet s) }
 {
     let mut room = [0u8; 65537];
     let came = reading::read_file(rt, name, &mut room);
     if came.failed {
-        return progress::unopened(rt, name, sum);
+        return progress::unopened(rt, name, sheet);
     }
-    let n = came.bytes;
-    put_to(rt, &room[..n], name, table, sum)
+    put_to(rt, &room[..came.bytes], name, table, sheet)
 }
 
 // Puts a trace to the figures, and prints its row.
-fn put_to<R: Print>(rt: &R, trace: &[u8], name: &[u8], table: Table, sum: Sum) -> Sum
-    ensures { result.sheet ≡ (added sum.sheet (note_of trace.now 20000 table)).sheet }
+fn put_to<R: Print>(
+    rt: &R,
+    trace: &[u8],
+    name: &[u8],
+    table: Table,
+    sheet: Sheet,
+) -> Result<Sheet, Unfinished>
+    ensures { IfOk result (λ s. s ≡ (added sheet (note_of trace.now 20000 table)).sheet) }
 {
     let t = sheet_traces::note(trace, LIMIT, table);
-    let a = totals::sheets::add(sum.sheet, t);
-    let s = a.sheet;
-    let written = print_row(rt, s.named, t, a.refusal, name);
-    Sum {
-        sheet: s,
-        written: written,
-    }
+    let a = totals::sheets::add(sheet, t);
+    print_row(rt, a.sheet.named, t, a.refusal, name)?;
+    Ok(a.sheet)
 }
 
-// The row of the nth name, whose trace was played; whether it could be written.
-fn print_row<R: Print>(rt: &R, n: u32, t: Noted, refusal: u32, name: &[u8]) -> bool {
+// The row of the nth name, whose trace was played.
+fn print_row<R: Print>(
+    rt: &R,
+    n: u32,
+    t: Noted,
+    refusal: u32,
+    name: &[u8],
+) -> Result<(), Unfinished> {
     let mut out = sheet::row_room();
     let k = put_row(&mut out, n, t, refusal, name);
-    rt.write_all(&out[..k]).is_ok()
+    progress::write(rt, &out[..k])
 }
 
 // Its figures where it is counted, else the refusal by which it is left out.

@@ -58,6 +58,17 @@ pub struct Played {
     pub waits: Waits,
 }
 
+// One step as it is watched, the n-th: so many entries open and these sources enabled before it, whether it is an end of interrupt that found no entry open, and
+// whether it rewrote a mode or a forcing.
+#[derive(Clone, Copy)]
+struct Moment {
+    before: u32,
+    enabled: u32,
+    idle: bool,
+    wrote: bool,
+    n: u32,
+}
+
 // ---- one step
 
 // Whether a step, before which so many entries were open, opened a mark.
@@ -97,55 +108,34 @@ fn strays_after(room: &Room, table: Table, strays: u32, same: bool) -> u32
     stack::kept::unkept(table, aic_room::layout::record_of(room))
 }
 
-// What is watched after the n-th step, before which so many entries were open and these sources enabled. Most steps bring nothing that is looked for.
-fn watched_after(
-    w: Watched,
-    room: &Room,
-    table: Table,
-    before: u32,
-    enabled: u32,
-    idle: bool,
-    wrote: bool,
-    n: u32,
-) -> Watched
+// What is watched after a step. Most steps bring nothing that is looked for.
+fn watched_after(w: Watched, room: &Room, table: Table, m: Moment) -> Watched
     requires { (w.marks < 4294967295) × (w.idle < 4294967295) }
-    ensures { (s : Record) (x : Step) → sound s ≡ true → Shaped s → Laid (step s x).aic room.now → Met table w s x before enabled idle wrote → result ≡ watched_by table n w s x }
+    ensures { (s : Record) (x : Step) → sound s ≡ true → Shaped s → Laid (step s x).aic room.now → Met table w s x m.before m.enabled m.idle m.wrote → result ≡ watched_by table m.n w s x }
 {
     let on = room[aic_room::layout::ENABLED];
     let depth = room[aic_room::layout::DEPTH];
-    if idle | wrote | (before < depth) | (on != enabled) {
-        return watched_anew(w, room, table, before, enabled, idle, wrote, n);
+    if m.idle | m.wrote | (m.before < depth) | (on != m.enabled) {
+        return watched_anew(w, room, table, m);
     }
     let used = words::join(w.used, on);
     Watched {
-        marks: w.marks,
-        idle: w.idle,
         left: depth,
         used,
-        strays: w.strays,
-        astray: w.astray,
+        ..w
     }
 }
 
 // The same where it may have brought something.
-fn watched_anew(
-    w: Watched,
-    room: &Room,
-    table: Table,
-    before: u32,
-    enabled: u32,
-    idle: bool,
-    wrote: bool,
-    n: u32,
-) -> Watched
+fn watched_anew(w: Watched, room: &Room, table: Table, m: Moment) -> Watched
     requires { (w.marks < 4294967295) × (w.idle < 4294967295) }
-    ensures { (s : Record) (x : Step) → sound s ≡ true → Shaped s → Laid (step s x).aic room.now → Met table w s x before enabled idle wrote → result ≡ watched_by table n w s x }
+    ensures { (s : Record) (x : Step) → sound s ≡ true → Shaped s → Laid (step s x).aic room.now → Met table w s x m.before m.enabled m.idle m.wrote → result ≡ watched_by table m.n w s x }
 {
     let on = room[aic_room::layout::ENABLED];
-    let strays = strays_after(room, table, w.strays, !wrote & (on == enabled));
-    let astray = aic_bounds::either((w.strays == 32) & (strays != 32), n, w.astray);
-    let marks = w.marks + words::one_if(opened_mark(room, before));
-    let ends = w.idle + words::one_if(idle);
+    let strays = strays_after(room, table, w.strays, !m.wrote & (on == m.enabled));
+    let astray = aic_bounds::either((w.strays == 32) & (strays != 32), m.n, w.astray);
+    let marks = w.marks + words::one_if(opened_mark(room, m.before));
+    let ends = w.idle + words::one_if(m.idle);
     let used = words::join(w.used, on);
     Watched {
         marks,
@@ -163,13 +153,12 @@ fn watched_anew(
 fn watch_first(first: Aic, table: Table) -> Watched
     ensures { result ≡ watched_first table first }
 {
-    let strays = stack::kept::unkept(table, first);
     Watched {
         marks: 0,
         idle: 0,
         left: first.depth,
         used: first.enabled,
-        strays,
+        strays: stack::kept::unkept(table, first),
         astray: 0,
     }
 }
@@ -197,24 +186,23 @@ fn ended<'a>(
 ) -> Played
     ensures { (f : Figures) (s : Record) (k : ℕ) (g : ℕ → Bounds) → Counted f s k counts.old → Kept g book.now → result ≡ record { tallied = record { steps = n; refused = refused; refusal = refusal; offset = offset; figures = totals_of f }; watched = w; waits = waits_now g } }
 {
-    let figures = aic_figures::totals_in(counts);
     let tallied = Tallied {
         steps: n,
         refused,
         refusal,
         offset,
-        figures,
+        figures: aic_figures::totals_in(counts),
     };
-    let waits = aic_figures::waits::waits_in(book);
     Played {
         tallied,
         watched: w,
-        waits,
+        waits: aic_figures::waits::waits_in(book),
     }
 }
 
 // Plays the steps of an AIC from a place on in a room, once: moves the report's figures and the waits of all sources on with each, and watches it. The
 // limit falls by one with each step.
+// No range counts the steps: a turn of the trace tells its end, also where the limit is reached.
 fn play_steps(trace: &[u8], limit: u32, start: usize, first: Aic, table: Table) -> Played
     requires { (sound first ≡ true) × Shaped first × (first.depth ≡ 0) × (length trace.now ≤ 65536) × (length (steps_in (steps_from false limit trace.now start).steps) ≤ 65536) }
     ensures { result ≡ played_in table first (steps_from false limit trace.now start) }
@@ -239,13 +227,20 @@ fn play_steps(trace: &[u8], limit: u32, start: usize, first: Aic, table: Table) 
         let carried = rooms::refusal_in(a) == steps::CARRIED_OUT;
         let m = brought(carried, brings);
         let idle = is_idle(carried, t.kind, t.x, before);
-        n = n + 1;
-        refused = refused + words::one_if(!carried);
+        n += 1;
+        refused += words::one_if(!carried);
         aic_figures::waits::follow(&mut book, &room, before, n, m);
-        w = watched_after(w, &room, table, before, enabled, idle, m.rewrote, n);
+        let moment = Moment {
+            before,
+            enabled,
+            idle,
+            wrote: m.rewrote,
+            n,
+        };
+        w = watched_after(w, &room, table, moment);
         aic_figures::follow(&mut counts, &room, before);
         at = t.next;
-        left = left - 1;
+        left -= 1;
     }
 }
 
@@ -270,10 +265,7 @@ fn note_aic(trace: &[u8], limit: u32, table: Table, b: Begun) -> Noted
 {
     let m = b.machine;
     let p = play_steps(trace, limit, b.place, m.aic, table);
-    let f = p.tallied;
-    let w = p.watched;
-    let waits = p.waits;
-    noted(f, true, w, waits)
+    noted(p.tallied, true, p.watched, p.waits)
 }
 
 // That of another kind, or of none.
@@ -288,8 +280,7 @@ fn note_other(f: Tallied) -> Noted
         strays: 32,
         astray: 0,
     };
-    let waits = totals::waits::none();
-    noted(f, false, w, waits)
+    noted(f, false, w, totals::waits::none())
 }
 
 fn noted(f: Tallied, aic: bool, w: Watched, waits: Waits) -> Noted

@@ -1,5 +1,5 @@
 -- When a record keeps a table, field by field, and when a run does.
-use Prim.Native.Nat.{ℕ, ◌+◌, ◌≤◌, ◌<◌}
+use Prim.Native.Nat.{ℕ, ◌<◌}
 use mathlib.Core.Path.{◌≡◌, refl, sym, ap, ◌∙◌}
 use mathlib.Core.Bool.{Bool, true, false, not, ◌&&◌, ◌||◌, true≢false, false≢true}
 use mathlib.Core.List.{List, [], ◌∷◌, ◌++◌}
@@ -12,7 +12,7 @@ use borrow.Author.Tests.{eqb-true, eq-eqb, ne_eqb, not-true}
 use Rattle.words.specs.Counting.{one, all_below}
 use Rattle.words.specs.Word.{bit}
 use Rattle.words.proofs.TruthLaws.{and_left, and_right, and_both, or-either, or_left, or_right, clash, told, same_test}
-use Rattle.words.proofs.CountingLaws.{Lowest, all_at, at_all, lowest_found, lowest-one}
+use Rattle.words.proofs.CountingLaws.{Lowest, all_at, at_all, lowest_found}
 use Rattle.words.proofs.WordLaws.{bit-none}
 use Rattle.steps.specs.declared.Step.{Step}
 use Rattle.aic_record.specs.declared.Aic.{Aic}
@@ -36,7 +36,7 @@ same_bit true false e = absurd (false≢true e)
 same_bit false true e = absurd (false≢true e)
 same_bit false false e = refl
 
-pub holds : (b : Bool) → not b ≡ false → b ≡ true
+holds : (b : Bool) → not b ≡ false → b ≡ true
 holds true e = refl
 holds false e = absurd (true≢false e)
 
@@ -133,29 +133,6 @@ module _ (t : Table) (s : Aic) where
   pub unkept-none : (keeps t s ≡ true) ↔ (unkept t s ≡ 32)
   unfolding unkept
   unkept-none = none_told (unkept t s) (lowest_found 32 (λ i. not (source_keeps t s i)))
-
-  -- ---- the search from source 0 on
-
-  pub next-keeps : (n : ℕ) → ((k : ℕ) → k < n → source_keeps t s k ≡ true) → source_keeps t s n ≡ true → (k : ℕ) → k < n + 1 → source_keeps t s k ≡ true
-  next-keeps n f e k l = go (ℕ_discrete k n)
-    where
-      go : Dec (k ≡ n) → source_keeps t s k ≡ true
-      go (yes q) = rw q e
-      go (no q) = f k (omega arith)
-
-  pub unkept_here : (n : ℕ) → n < 32 → ((k : ℕ) → k < n → source_keeps t s k ≡ true) → source_keeps t s n ≡ false → n ≡ unkept t s
-  unfolding unkept
-  unkept_here n l f e =
-      lowest-one (λ i. not (source_keeps t s i)) 32 n (unkept t s)
-      (record { within = omega arith; before = λ k m. ap not (f k m); found = λ _. ap not e })
-      (lowest_found 32 (λ i. not (source_keeps t s i)))
-
-  pub unkept_end : (n : ℕ) → n ≤ 32 → 32 ≤ n → ((k : ℕ) → k < n → source_keeps t s k ≡ true) → n ≡ unkept t s
-  unfolding unkept
-  unkept_end n l m f =
-      lowest-one (λ i. not (source_keeps t s i)) 32 n (unkept t s)
-      (record { within = l; before = λ k q. ap not (f k q); found = λ q. absurd (omega arith) })
-      (lowest_found 32 (λ i. not (source_keeps t s i)))
 
   pub keeps-told : eqb (unkept t s) 32 ≡ keeps t s
   keeps-told =

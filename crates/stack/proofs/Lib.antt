@@ -7,6 +7,7 @@ pub mod KeptPromises
 pub mod KeptWorked
 pub mod PrintedLaws
 pub mod Promises
+pub mod RangeLaws
 pub mod RunLaws
 pub mod SetupLaws
 pub mod SumLaws

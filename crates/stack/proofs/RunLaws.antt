@@ -1,23 +1,18 @@
 -- Along a run that keeps a table every open handler stands at the table's level.
-use Prim.Native.Nat.{ℕ, ◌+◌, ◌-◌, ◌≤◌, ◌<◌}
-use mathlib.Core.Path.{◌≡◌, refl, sym, ap}
+use Prim.Native.Nat.{ℕ, ◌≤◌, ◌<◌}
+use mathlib.Core.Path.{◌≡◌, refl, sym}
 use mathlib.Core.Bool.{true, false, not}
 use mathlib.Core.List.{List, [], ◌∷◌, ◌++◌}
-use mathlib.Core.Logic.{◌≢◌, ◌⊎◌, inl, inr}
+use mathlib.Core.Logic.{◌⊎◌, inl, inr}
 use native.Mathlib.Omega.{arith}
-use native.Mathlib.Decide.{ℕ_discrete}
 use lib.Dec.{eqb}
-use lib.ListN.{get_or, set}
-use lib.Seq.{get_or-set_same, get_or-set_other}
+use lib.ListN.{get_or}
 use borrow.Author.Tests.{eqb-false, not-true}
 use Rattle.words.specs.Counting.{sum_below}
 use Rattle.words.specs.Word.{bit}
 use Rattle.words.proofs.TruthLaws.{and_left, and_right, or_neither, told}
 use Rattle.steps.specs.declared.Step.{Step}
-use Rattle.steps.specs.declared.Step.TheVariants.{Read, Write, Line}
-use Rattle.steps.specs.Refusals.{unsound}
 use Rattle.aic_record.specs.declared.Aic.{Aic}
-use Rattle.aic_record.specs.declared.Seen.{Seen}
 use Rattle.aic_record.specs.Mode.{priority}
 use Rattle.aic_record.specs.Sound.{source_at, level_below, sound}
 use Rattle.aic_record.specs.Promises.{Shaped}
@@ -26,7 +21,6 @@ use Rattle.aic_sources.specs.Fast.{fast}
 use Rattle.aic_sources.specs.Normal.{candidates, chosen}
 use Rattle.aic_sources.proofs.HandlerLaws.{candidate-waits, waiting-is, candidate-room}
 use Rattle.aic_sources.proofs.OrderLaws.{chosen_is}
-use Rattle.aic_registers.specs.declared.Answer.{Answer}
 use Rattle.aic_registers.specs.Handlers.{opened, closed_last}
 use Rattle.aic_registers.specs.Effects.{set_by}
 use Rattle.aic.specs.Model.{step}
@@ -37,7 +31,7 @@ use Rattle.aic_runs.proofs.SoundRuns.{run_sound}
 use Rattle.stack.specs.declared.Table.{Table}
 use Rattle.stack.specs.Bytes.{normal, stack_bytes, frame_of, open_bytes}
 use Rattle.stack.specs.Promises.{NormalOf}
-use Rattle.stack.proofs.BoundLaws.{Fits, bounded, pushed, shut, Recalled, Fitted}
+use Rattle.stack.proofs.BoundLaws.{bounded, pushed, shut, Fitted}
 use Rattle.stack.proofs.Promises.{run_stays}
 use Rattle.stack.specs.Kept.{keeps, keeps_along}
 use Rattle.stack.specs.KeptPromises.{Matches, Stands, Bare}

@@ -35,17 +35,11 @@ fn source_keeps(t: Table, s: Aic, i: u32) -> bool
 }
 
 // The lowest source that is enabled and not as the table has it, 32 where there is none.
+// It is a number, and not an Option, since the promise `unkept_none` names 32.
 pub fn unkept(t: Table, s: Aic) -> u32
     ensures { result ≡ unkept t s }
 {
-    let mut i: u32 = 0;
-    while i < 32 {
-        if !source_keeps(t, s, i) {
-            return i;
-        }
-        i = i + 1;
-    }
-    i
+    (0..32).find(|&i| !source_keeps(t, s, i)).unwrap_or(32)
 }
 
 // Whether the record keeps the table.

@@ -10,6 +10,7 @@ pub mod kept;
 
 // For each of the 32 sources its priority, its type and the frame of its handler in bytes; the word of forced sources; the frame of a mark in
 // bytes. The numbers are wide, so that those beyond their limits can be handed in and refused.
+// An array for each number, and not a struct for each source, since the promises `refused_is`, `set_is` and others name the arrays.
 #[derive(Clone, Copy)]
 pub struct Table {
     pub priority: [u32; 32],
@@ -20,6 +21,7 @@ pub struct Table {
 }
 
 // A refusal, or the stack size in bytes.
+// The number stands beside the size, and not in a Result, since the promises `refused_none` and `figure_text` speak of both fields.
 #[derive(Clone, Copy)]
 pub struct Needed {
     pub refusal: u32,
@@ -31,8 +33,7 @@ fn is_of(t: Table, l: u32, i: u32) -> bool
     requires { i < 32 }
     ensures { result ≡ is_of t l i }
 {
-    let at = i as usize;
-    (i != 0) & !words::has(t.forced, i) & (t.priority[at] == l)
+    (i != 0) & !words::has(t.forced, i) & (t.priority[i as usize] == l)
 }
 
 // The larger of b and the frame of source i, where that is a normal source of level l.
@@ -41,8 +42,7 @@ fn taller(t: Table, l: u32, b: u32, i: u32) -> u32
     ensures { result ≡ taller t l b i }
 {
     if is_of(t, l, i) {
-        let at = i as usize;
-        return words::larger(b, t.frame[at]);
+        return b.max(t.frame[i as usize]);
     }
     b
 }
@@ -52,10 +52,8 @@ pub fn level_bytes(t: Table, l: u32) -> u32
     ensures { result ≡ level_bytes t l }
 {
     let mut b = t.mark;
-    let mut i: u32 = 0;
-    while i < 32 {
+    for i in 0..32 {
         b = taller(t, l, b, i);
-        i = i + 1;
     }
     b
 }
@@ -73,13 +71,7 @@ fn source_within(t: Table, i: u32) -> bool
 fn within_limits(t: Table) -> bool
     ensures { result ≡ within_limits t }
 {
-    let mut ok = true;
-    let mut i: u32 = 0;
-    while i < 32 {
-        ok = ok & source_within(t, i);
-        i = i + 1;
-    }
-    (t.mark <= 65535) & ok
+    (t.mark <= 65535) & (0..32).all(|i| source_within(t, i))
 }
 
 // What all eight levels need.
@@ -88,10 +80,8 @@ fn sum_levels(t: Table) -> u32
     ensures { result ≡ stack_bytes t }
 {
     let mut sum: u32 = 0;
-    let mut l: u32 = 0;
-    while l < 8 {
-        sum = sum + level_bytes(t, l);
-        l = l + 1;
+    for l in 0..8 {
+        sum += level_bytes(t, l);
     }
     sum
 }
@@ -101,10 +91,9 @@ pub fn needed_by(t: Table) -> Needed
     ensures { result ≡ needed t }
 {
     if within_limits(t) {
-        let b = sum_levels(t);
         return Needed {
             refusal: steps::CARRIED_OUT,
-            bytes: b,
+            bytes: sum_levels(t),
         };
     }
     Needed {

@@ -30,6 +30,7 @@ pub enum Access {
     ReadWrite,
 }
 
+// The numbers given when a step is not carried out are those of a listing and of the C interface, and so no enum.
 pub const CARRIED_OUT: u32 = 0;
 
 pub const MISALIGNED: u32 = 1;

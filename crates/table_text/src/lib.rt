@@ -13,6 +13,7 @@ use beginning::Begun;
 use text::NEWLINE;
 
 // Whether there is a table, and how many bytes of it, or of the line that says why there is none, were written.
+// A flag stands beside the number since `print` is a documented function, and the number is one of bytes either way.
 #[derive(Clone, Copy)]
 pub struct Tabled {
     pub tabled: bool,
@@ -95,10 +96,8 @@ fn put_sources(out: &mut [u8], at: usize, modes: [u8; 32]) -> usize
     ensures { (out.new, result) ≡ write (out.old, at) (source_lines modes 32 0) }
 {
     let mut next = at;
-    let mut i: usize = 0;
-    while i < 32 {
+    for i in 0..32 {
         next = put_source(out, next, modes[i], i as u32);
-        i = i + 1;
     }
     next
 }

@@ -10,6 +10,7 @@ use native.Mathlib.Decide.{dec_lt, ℕ_discrete}
 use lib.Dec.{eqb, leb}
 use lib.ListN.{length, get_or, set, take, drop, length-set, length-drop, length-append, get_or-eq_default}
 use lib.Seq.{take_all, take_at, take-append_seam, get_or-drop, get_or-take, length-take-le}
+use Rattle.std.proofs.lemmas.List.{get_or-set_same, get_or-set_other}
 use borrow.Author.Tests.{eqb-true, leb-true, le-leb, lt-leb}
 use Rattle.words.specs.Choice.{pick}
 use Rattle.words.proofs.ChoiceLaws.{pick_true, pick-false, pick_cases}
@@ -18,13 +19,12 @@ use Rattle.words.proofs.TruthLaws.{and_left, and_right, told}
 use Rattle.text.specs.Text.{write}
 use Rattle.text.proofs.WriteLaws.{write-laid, laid-fits}
 use Rattle.tables.specs.declared.names.Place.{Place}
-use Rattle.tables.specs.declared.names.Places.{Places}
 use Rattle.tables.specs.Typed.{white, bare, start_from, end_from, past_nth}
 use Rattle.tables.specs.Names.{name_byte, name_run, is_name, named, behind, place_in, blanked, quoted, unnamed_at, unnamed_to, unnamed, cleared}
 use Rattle.tables.specs.Reading.{list_of}
-use Rattle.tables.specs.Named.{place_of, places_of, name_of, byte_in, names_at, names_in}
+use Rattle.tables.specs.Named.{place_of, no_place, PlacesOf, name_of, byte_in, names_at, names_in}
 use Rattle.tables.proofs.BareLaws.{length-bare}
-use Rattle.tables.proofs.FillLaws.{list_of-same, get_d-list_of}
+use Rattle.tables.proofs.FillLaws.{list_of-same}
 use Rattle.tables.proofs.SeekLaws.{nth-within}
 use Rattle.text.proofs.Promises as Text
 
@@ -196,11 +196,16 @@ unnamed-is s x i a n q e f g h = rw (h, g, f, e)
 pub unnamed-more : (s x y : List ℕ) (i : ℕ) → x ≡ unnamed_to s i → y ≡ unnamed_at x i → y ≡ unnamed_to s (i + 1)
 unnamed-more s x y i e f = rw (f, e, add-one i) (unfold unnamed_to in refl)
 
-pub start_at : (s x : List ℕ) (i : ℕ) (p : Place) → x ≡ unnamed_to s i → p ≡ place_in x i → p.start ≡ (place_of s i).start
-start_at s x i p e f = rw (f, e)
+pub place_at : (s x : List ℕ) (i : ℕ) (p : Place) → x ≡ unnamed_to s i → p ≡ place_in x i → p ≡ place_of s i
+place_at s x i p e f = rw (f, e)
 
-pub count_at : (s x : List ℕ) (i : ℕ) (p : Place) → x ≡ unnamed_to s i → p ≡ place_in x i → p.count ≡ (place_of s i).count
-count_at s x i p e f = rw (f, e)
+pub places_more : (f : ℕ → Place) (ps : List Place) (i : ℕ) (p : Place) → i < length ps → p ≡ f i → ((j : ℕ) → j < i → get_or ps j no_place ≡ f j)
+    → (j : ℕ) → j < i + 1 → get_or (set ps i p) j no_place ≡ f j
+places_more f ps i p l e h j m = go (ℕ_discrete j i)
+  where
+    go : Dec (j ≡ i) → get_or (set ps i p) j no_place ≡ f j
+    go (yes q) = rw q (get_or-set_same ps i p no_place l ∙ e)
+    go (no d) = get_or-set_other ps i j p no_place d ∙ h j (omega arith)
 
 pub unnamed-done : (s x : List ℕ) (i : ℕ) → x ≡ unnamed_to s i → i ≤ 32 → 32 ≤ i → x ≡ unnamed s
 unnamed-done s x i e a b = let q : i ≡ 32 = omega arith in rw (← q) e
@@ -277,14 +282,15 @@ module _ (s : List ℕ) (i : ℕ) where
           let n : length (take (place_of s i).count (drop (place_of s i).start s)) ≡ (place_of s i).count = length-take-le (place_of s i).count (drop (place_of s i).start s) count_fits in
           sym (pick_true _ (le-leb _ k (omega arith))) ∙ sym (get_or-eq_default (take (place_of s i).count (drop (place_of s i).start s)) 0 {n = k} (omega arith))
 
-pub names_are : (s : List ℕ) (p : Places) → p ≡ places_of s → names_at s p.starts p.counts ≡ names_in s
-unfolding names_at names_in places_of
-names_are s p e = rw (e, bytes, counts)
+pub names_are : (s : List ℕ) (ps : List Place) → PlacesOf s ps → names_at s ps ≡ names_in s
+unfolding names_at names_in
+names_are s ps h = rw (bytes, counts)
   where
-    bytes : list_of 768 (λ k. byte_in s (get_or (list_of 32 (λ i. (place_of s i).start)) (k / 24) 0) (get_or (list_of 32 (λ i. (place_of s i).count)) (k / 24) 0) (k % 24)) ≡ list_of 768 (λ k. get_or (name_of s (k / 24)) (k % 24) 0)
-    bytes = list_of-same 768 _ _ (λ k l.
+    bytes : list_of 768 (λ k. byte_in s (get_or ps (k / 24) no_place).start (get_or ps (k / 24) no_place).count (k % 24)) ≡ list_of 768 (λ k. get_or (name_of s (k / 24)) (k % 24) 0)
+    bytes =
+        list_of-same 768 _ _ (λ k l.
         let m : k / 24 < 32 = omega arith in
-        rw (get_d-list_of 32 (λ i. (place_of s i).start) (k / 24) m, get_d-list_of 32 (λ i. (place_of s i).count) (k / 24) m) (name_byte_lem s (k / 24) (k % 24)))
+        rw (h (k / 24) m) (name_byte_lem s (k / 24) (k % 24)))
 
-    counts : list_of 32 (λ i. (place_of s i).count) ≡ list_of 32 (λ i. length (name_of s i))
-    counts = list_of-same 32 _ _ (λ i l. sym (name-length s i))
+    counts : list_of 32 (λ i. (get_or ps i no_place).count) ≡ list_of 32 (λ i. length (name_of s i))
+    counts = list_of-same 32 _ _ (λ i l. rw (h i l) (sym (name-length s i)))

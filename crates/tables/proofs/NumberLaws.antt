@@ -1,5 +1,5 @@
 -- What digits are worth, as the code adds them up.
-use Prim.Native.Nat.{ℕ, zero, suc, ◌+◌, ◌-◌, ◌*◌, ◌^◌, ◌≤◌, ◌<◌, min}
+use Prim.Native.Nat.{ℕ, zero, suc, ◌+◌, ◌*◌, ◌^◌, ◌≤◌, ◌<◌, min}
 use mathlib.Core.Path.{◌≡◌, refl, sym, ap, ◌∙◌, subst}
 use mathlib.Core.Bool.{Bool, true, false, not, ◌&&◌, true≢false}
 use mathlib.Core.List.{List, [], ◌∷◌}
@@ -8,30 +8,45 @@ use native.Mathlib.Nat.{mul-le-mul_right}
 use native.Mathlib.Numerals.{add-one}
 use native.Mathlib.Omega.{arith}
 use native.Mathlib.Decide.{dec_lt, ℕ_discrete}
-use lib.Dec.{eqb, ltb, leb}
+use lib.Dec.{eqb, ltb}
 use lib.ListN.{length, get_or, take, drop, length-drop, drop_of_length-le, get_or-eq_default}
-use lib.Seq.{drop-cons, take_all, get_or-drop}
-use borrow.Author.Tests.{eqb-true, eqb-false, eq-eqb, ne_eqb, leb-true, lt-leb, ltb-true, lt-ltb, not-true}
+use lib.Pointwise.{pointwise}
+use lib.Seq.{drop-cons, get_or-drop}
+use borrow.Author.Tests.{eqb-true, eqb-false, ne_eqb, lt-leb, ltb-true, lt-ltb, le-ltb, not-true}
+use Rattle.std.specs.Prelude.{Option, Some, None, unwrap_or}
+use borrow.Author.Rules.{rules}
 use Rattle.words.specs.Choice.{pick}
-use Rattle.words.proofs.ChoiceLaws.{pick_true, pick-false, pick_cases}
+use Rattle.words.proofs.ChoiceLaws.{pick_true, pick-false}
 use Rattle.words.proofs.CountingLaws.{all_at, at_all}
 use Rattle.words.proofs.TruthLaws.{and_left, and_right, and_both, not-holds, told}
-use Rattle.tables.specs.declared.Typed.{Typed}
 use Rattle.tables.specs.Number.{digit, worth_from, are_digits, is_hex, is_number, worth}
-use Rattle.tables.specs.Passes.{capped, read_digits, read_word}
+use Rattle.tables.specs.Passes.{capped, digit_to, read_digits, read_word}
 use Rattle.tables.specs.Facts.{Digits}
 
-pub digit_small : (b : ℕ) → digit b ≤ 16
-unfolding digit
-digit_small b =
-    pick_cases (λ n. n ≤ 16) (leb 48 b && leb b 57) (λ e. omega (arith, leb-true b 57 (and_right (leb 48 b) _ e)))
-    (λ n. pick_cases (λ n. n ≤ 16) (leb 65 b && leb b 70) (λ e. omega (arith, leb-true b 70 (and_right (leb 65 b) _ e)))
-    (λ n. pick_cases (λ n. n ≤ 16) (leb 97 b && leb b 102) (λ e. omega (arith, leb-true b 102 (and_right (leb 97 b) _ e))) (λ n. omega arith)))
+pub some_none : (v : ℕ) → ◌≡◌ {A = Option ℕ} (Some v) None → ⊥
+some_none v e = search rules
+
+-- a digit to a base, and none
+pub digit_some : (base b d : ℕ) → digit_to base b ≡ Some d → (d ≡ digit b) × (d < base)
+unfolding digit_to
+digit_some base b d h = go (dec_lt (digit b) base)
+  where
+    go : Dec (digit b < base) → (d ≡ digit b) × (d < base)
+    go (yes l) =
+        let e : Some (digit b) ≡ Some d = pick_true None (lt-ltb (digit b) base l) ∙ h in
+        let q : digit b ≡ d = ap (λ (o : Option ℕ). unwrap_or o 0) e in
+        (sym q, omega arith)
+    go (no l) = absurd (some_none d (sym (pick-false (Some (digit b)) (le-ltb (digit b) base (omega arith)) ∙ h)))
+
+pub digit_none : (base b : ℕ) → digit_to base b ≡ None → base ≤ digit b
+unfolding digit_to
+digit_none base b h = go (dec_lt (digit b) base)
+  where
+    go : Dec (digit b < base) → base ≤ digit b
+    go (yes l) = absurd (some_none (digit b) (pick_true None (lt-ltb (digit b) base l) ∙ h))
+    go (no l) = omega arith
 
 -- ---- a sum that is capped before it wraps
-
-pub times_small : (b v : ℕ) → b ≤ 16 → v ≤ 2 ^ 32 → b * v ≤ 2 ^ 36
-times_small b v l m = omega (arith, mul-le-mul_right v l)
 
 times_le : (b v : ℕ) → 1 ≤ b → v ≤ b * v
 times_le b v l = omega (arith, mul-le-mul_right v l)
@@ -68,7 +83,7 @@ worth-turn b v d c k ds o l h q e f =
 
 -- ---- 0x
 
-pub hex-short : (w : List ℕ) → length w < 2 → false ≡ is_hex w
+hex-short : (w : List ℕ) → length w < 2 → false ≡ is_hex w
 unfolding is_hex
 hex-short w l = rw (get_or-eq_default w 0 {n = 1} (omega arith)) (none (eqb (get_or w 0 0) 48))
   where
@@ -83,14 +98,22 @@ hex_long w e = go (dec_lt (length w) 2)
     go (yes l) = absurd (true≢false (sym e ∙ sym (hex-short w l)))
     go (no l) = omega arith
 
+-- the code's test for it
+pub hex_prefix : (w : List ℕ) → pointwise eqb (take 2 w) (48 ∷ 120 ∷ []) ≡ is_hex w
+unfolding is_hex
+hex_prefix [] = refl
+hex_prefix (x ∷ []) = refl
+hex_prefix (x ∷ y ∷ r) = ap (λ (b : Bool). eqb x 48 && b) (last (eqb y 120))
+  where
+    last : (b : Bool) → (b && true) ≡ b
+    last true = refl
+    last false = refl
+
 -- ---- one number
 
 pub word-hex : (w : List ℕ) → is_hex w ≡ true → read_digits 16 (drop 2 w) ≡ read_word w
 unfolding read_word read_digits is_number worth pick
 word-hex w h = rw h
-
-pub rest_all : (w : List ℕ) → take (length w - 2) (drop 2 w) ≡ drop 2 w
-rest_all w = take_all (length w - 2) (drop 2 w) (omega (arith, length-drop 2 w))
 
 pub word-plain : (w : List ℕ) → is_hex w ≡ false → read_digits 10 w ≡ read_word w
 unfolding read_word read_digits is_number worth pick
@@ -113,10 +136,15 @@ unfolding are_digits
 are-digits b ds d =
     and_both (ap not (ne_eqb (length ds) 0 (λ e. omega (arith, d.some)))) (at_all (length ds) _ (λ k l. lt-ltb (digit (get_or ds k 0)) b (d.each k l)))
 
--- the digit at k is none
-pub digits_fault : (b d k : ℕ) (ds : List ℕ) → k < length ds → d ≡ digit (get_or ds k 0) → b ≤ d → record { taken = false; value = 0 } ≡ read_digits b ds
+-- there is no digit
+pub digits_empty : (b : ℕ) (ds : List ℕ) → length ds ≡ 0 → None ≡ read_digits b ds
 unfolding read_digits
-digits_fault b d k ds h q l = pick-false _ (not-holds (are_digits b ds) (λ e. omega (arith, (digits_are b ds e).each k h)))
+digits_empty b ds e = pick-false _ (not-holds (are_digits b ds) (λ g. omega (arith, (digits_are b ds g).some)))
+
+-- the digit at k is none
+pub digits_fault : (b k : ℕ) (ds : List ℕ) → k < length ds → digit_to b (get_or ds k 0) ≡ None → None ≡ read_digits b ds
+unfolding read_digits
+digits_fault b k ds h q = pick-false _ (not-holds (are_digits b ds) (λ e. omega (arith, digit_none b (get_or ds k 0) q, (digits_are b ds e).each k h)))
 
 -- it is one
 pub digits_more : (b d k : ℕ) (ds : List ℕ) → d ≡ digit (get_or ds k 0) → d < b → ((j : ℕ) → j < k → digit (get_or ds j 0) < b)
@@ -128,24 +156,20 @@ digits_more b d k ds q t h j l = go (ℕ_discrete j k)
     go (no n) = h j (omega arith)
 
 -- all of them are digits, and the sum is what they are worth, under the cap
-pub digits-done : (b v k : ℕ) (ds : List ℕ) → k ≤ length ds → length ds ≤ k → v ≤ 2 ^ 32 → capped (worth_from b v (drop k ds)) ≡ capped (worth_from b 0 ds)
-    → ((j : ℕ) → j < k → digit (get_or ds j 0) < b) → record { taken = not (eqb k 0); value = v } ≡ read_digits b ds
+pub digits-done : (b v k : ℕ) (ds : List ℕ) → k ≡ length ds → length ds ≢ 0 → v ≤ 2 ^ 32 → capped (worth_from b v (drop k ds)) ≡ capped (worth_from b 0 ds)
+    → ((j : ℕ) → j < k → digit (get_or ds j 0) < b) → Some v ≡ read_digits b ds
 unfolding read_digits
-digits-done b v k ds l m small f h = go (ℕ_discrete k 0)
+digits-done b v k ds e d small f h =
+    rw sum (pick_true _ (are-digits b ds (record { some = omega arith; each = λ j n. h j (omega arith) })))
   where
-    empty : (l : List ℕ) → length l ≡ 0 → capped (worth_from b 0 l) ≡ 0
-    empty [] z = unfold capped worth_from in refl
-    empty (x ∷ l) z = absurd (omega arith)
-
     own : v ≡ capped v
     own = unfold capped in (omega arith)
 
-    sum : v ≡ capped (worth_from b 0 ds)
-    sum = own ∙ sym (rw (drop_of_length-le ds m) (unfold worth_from in refl)) ∙ f
+    last : length ds ≤ k
+    last = omega arith
 
-    go : Dec (k ≡ 0) → ◌≡◌ {A = Typed} (record { taken = not (eqb k 0); value = v }) (pick (are_digits b ds) (record { taken = true; value = capped (worth_from b 0 ds) }) (record { taken = false; value = 0 }))
-    go (yes e) = rw (eq-eqb k 0 e, sum ∙ empty ds (omega arith)) (pick-false _ (not-holds (are_digits b ds) (λ g. omega (arith, (digits_are b ds g).some))))
-    go (no d) = rw (ne_eqb k 0 d, sum) (pick_true _ (are-digits b ds (record { some = omega arith; each = λ j n. h j (omega arith) })))
+    sum : v ≡ capped (worth_from b 0 ds)
+    sum = own ∙ sym (rw (drop_of_length-le ds last) (unfold worth_from in refl)) ∙ f
 
 pub number-hex : (w : List ℕ) → is_hex w ≡ true → (is_number w ≡ are_digits 16 (drop 2 w)) × (worth w ≡ worth_from 16 0 (drop 2 w))
 unfolding is_number worth pick

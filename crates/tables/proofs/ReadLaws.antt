@@ -9,56 +9,57 @@ use native.Mathlib.Omega.{arith}
 use native.Mathlib.Decide.{dec_lt, ℕ_discrete}
 use lib.Dec.{eqb, ltb}
 use lib.ListN.{length, take, drop}
-use borrow.Author.Tests.{eqb-true, eq-eqb, ne_eqb, lt-ltb, le-ltb}
+use borrow.Author.Tests.{eq-eqb, ne_eqb, lt-ltb, le-ltb}
+use Rattle.std.specs.Prelude.{Option, Some, None, is_some, unwrap_or, Result, Ok, Err}
 use Rattle.words.specs.Choice.{pick}
 use Rattle.words.proofs.ChoiceLaws.{pick_true, pick-false}
 use Rattle.words.proofs.CountingLaws.{lowest_found, lowest-one}
-use Rattle.words.proofs.TruthLaws.{and_left, told}
+use Rattle.words.proofs.TruthLaws.{told}
 use Rattle.steps.specs.Refusals.{carried_out, damaged, too_long}
-use Rattle.stack.specs.declared.Table.{Table}
 use Rattle.stack.specs.declared.Needed.{Needed}
 use Rattle.stack.specs.Bytes.{needed}
 use Rattle.stack.specs.Printed.{text_of}
 use Rattle.tables.specs.declared.Reading.{Reading}
-use Rattle.tables.specs.declared.Typed.{Typed}
 use Rattle.tables.specs.declared.Next.{Next}
-use Rattle.tables.specs.declared.Values.{Values}
+use Rattle.tables.specs.declared.Fault.{Fault}
 use Rattle.tables.specs.Names.{cleared}
 use Rattle.tables.specs.Typed.{start_from, end_from, past_nth, nth_start, nth_typed}
 use Rattle.tables.specs.Number.{is_number, worth}
-use Rattle.tables.specs.Reading.{fits_at, fits, entered, list_of, table_of, taken, refused_at, first_fault, read_bare, read_table, refused_line, answer_to}
-use Rattle.tables.specs.Passes.{capped, read_word, read_next, room, values_of}
+use Rattle.tables.specs.Reading.{fits_at, fits, entered, table_of, taken, refused_at, first_fault, read_bare, read_table, refused_line, answer_to}
+use Rattle.tables.specs.Passes.{capped, read_word, read_next, value_at, room, values_of}
 use Rattle.tables.proofs.FillLaws.{room_full}
+use Rattle.tables.proofs.NumberLaws.{some_none}
+use Rattle.tables.proofs.SeekLaws.{nth-within}
 
 -- ---- the next number
 
-pub next-read : (s : List ℕ) (past start end : ℕ) (t : Typed) → start ≡ start_from s past → end ≡ end_from s start
-    → t ≡ read_word (take (end - start) (drop start s)) → record { taken = t.taken; value = t.value; start = start; past = end } ≡ read_next s past
+pub next-read : (s : List ℕ) (past start end : ℕ) (t : Option ℕ) → start ≡ start_from s past → end ≡ end_from s start
+    → t ≡ read_word (take (end - start) (drop start s)) → record { number = t; start = start; past = end } ≡ read_next s past
 unfolding read_next
 next-read s past start end t e f g = rw (g, f, e)
 
 -- after n numbers the next one is the nth
 pub record NextIs (s : List ℕ) (n : ℕ) (x : Next) : Type 0 where
-  pub taken : x.taken ≡ is_number (nth_typed s n)
-  pub value : x.taken ≡ true → x.value ≡ capped (worth (nth_typed s n))
+  pub number : x.number ≡ read_word (nth_typed s n)
   pub start : x.start ≡ nth_start s n
   pub past : x.past ≡ past_nth s (n + 1)
 
-word-taken : (w : List ℕ) → (read_word w).taken ≡ is_number w
+-- a word is read as a number, or as none
+pub word_some : (w : List ℕ) → is_number w ≡ true → read_word w ≡ Some (capped (worth w))
+unfolding read_word
+word_some w e = sym (pick_true _ e)
+
+pub word_none : (w : List ℕ) → is_number w ≡ false → read_word w ≡ None
+unfolding read_word
+word_none w e = sym (pick-false _ e)
+
+pub word-is_some : (w : List ℕ) → is_some (read_word w) ≡ is_number w
 unfolding read_word pick
-word-taken w = go (is_number w)
+word-is_some w = go (is_number w)
   where
-    go : (b : Bool) → ◌≡◌ {A = Bool} (pick {A = Typed} b (record { taken = true; value = capped (worth w) }) (record { taken = false; value = 0 })).taken b
+    go : (b : Bool) → is_some (pick b (Some (capped (worth w))) None) ≡ b
     go true = refl
     go false = refl
-
-pub word_value : (w : List ℕ) → is_number w ≡ true → (read_word w).value ≡ capped (worth w)
-unfolding read_word pick
-word_value w e = rw e
-
-pub word_none : (w : List ℕ) → is_number w ≡ false → (read_word w).value ≡ 0
-unfolding read_word pick
-word_none w e = rw e
 
 typed-is : (s : List ℕ) (n : ℕ) → take (end_from s (start_from s (past_nth s n)) - start_from s (past_nth s n)) (drop (start_from s (past_nth s n)) s) ≡ nth_typed s n
 unfolding nth_typed nth_start past_nth
@@ -71,17 +72,12 @@ pub next-is : (s : List ℕ) (past n : ℕ) (x : Next) → past ≡ past_nth s n
 unfolding read_next
 next-is s past n x e f =
     rw (f, e) (record {
-      taken = word-taken _ ∙ ap is_number (typed-is s n);
-      value = λ t. word_value _ (sym (word-taken _) ∙ t) ∙ ap (λ (w : List ℕ). capped (worth w)) (typed-is s n);
+      number = ap read_word (typed-is s n);
       start = unfold nth_start in refl;
       past = past_more s n;
     })
 
 -- ---- whether it is as it must be, and what the table has of it
-
-pub fits-taken : (n : ℕ) (b : Bool) (v : ℕ) → fits_at n b v ≡ true → b ≡ true
-unfolding fits_at
-fits-taken n b v h = and_left b _ h
 
 -- the cap changes neither
 pub fits-capped : (n : ℕ) (v : ℕ) → fits_at n true (capped v) ≡ fits_at n true v
@@ -96,13 +92,32 @@ pub entered-capped : (v : ℕ) → entered (capped v) ≡ entered v
 unfolding entered capped
 entered-capped v = omega arith
 
--- so the test of what was read is that of the nth number
-pub next_fits : (s : List ℕ) (n : ℕ) (x : Next) → NextIs s n x → fits_at n x.taken x.value ≡ fits n (nth_typed s n)
-next_fits s n x h = go (told x.taken)
+abbrev pub value_of : List ℕ → ℕ → ℕ
+value_of s n = entered (worth (nth_typed s n))
+
+-- so what the table has of what was read is what it has of the nth number, if that fits
+word_at : (n : ℕ) (w : List ℕ) → value_at n (read_word w) ≡ pick (fits n w) (Some (entered (worth w))) None
+word_at n w = go (told (is_number w))
   where
-    go : (x.taken ≡ true) ⊎ (x.taken ≡ false) → fits_at n x.taken x.value ≡ fits n (nth_typed s n)
-    go (inl e) = rw (e, h.value e, sym h.taken ∙ e) (fits-capped n (worth (nth_typed s n)))
-    go (inr e) = rw (e, sym h.taken ∙ e) (unfold fits_at in refl)
+    go : (is_number w ≡ true) ⊎ (is_number w ≡ false) → value_at n (read_word w) ≡ pick (fits n w) (Some (entered (worth w))) None
+    go (inl e) = rw (word_some w e, e) (unfold value_at in rw (fits-capped n (worth w), entered-capped (worth w)))
+    go (inr e) = rw (word_none w e, e) (unfold value_at fits_at pick in refl)
+
+pub next_some : (s : List ℕ) (n v : ℕ) (x : Next) → NextIs s n x → Some v ≡ value_at n x.number → (fits n (nth_typed s n) ≡ true) × (v ≡ value_of s n)
+next_some s n v x h e = go (told (fits n (nth_typed s n))) (e ∙ ap (value_at n) h.number ∙ word_at n (nth_typed s n))
+  where
+    go : (fits n (nth_typed s n) ≡ true) ⊎ (fits n (nth_typed s n) ≡ false) → Some v ≡ pick (fits n (nth_typed s n)) (Some (value_of s n)) None
+        → (fits n (nth_typed s n) ≡ true) × (v ≡ value_of s n)
+    go (inl f) q = (f, ap (λ (o : Option ℕ). unwrap_or o 0) (q ∙ sym (pick_true None f)))
+    go (inr f) q = absurd (some_none _ (q ∙ sym (pick-false (Some (value_of s n)) f)))
+
+pub next_none : (s : List ℕ) (n : ℕ) (x : Next) → NextIs s n x → None ≡ value_at n x.number → fits n (nth_typed s n) ≡ false
+next_none s n x h e = go (told (fits n (nth_typed s n))) (e ∙ ap (value_at n) h.number ∙ word_at n (nth_typed s n))
+  where
+    go : (fits n (nth_typed s n) ≡ true) ⊎ (fits n (nth_typed s n) ≡ false) → None ≡ pick (fits n (nth_typed s n)) (Some (value_of s n)) None
+        → fits n (nth_typed s n) ≡ false
+    go (inl f) q = absurd (some_none _ (sym (q ∙ sym (pick_true None f))))
+    go (inr f) q = f
 
 -- ---- the first fault
 
@@ -123,53 +138,44 @@ fault-is s n l h f =
     lowest-one (λ k. not (fits k (nth_typed s k))) 98 n _ (record { within = l; before = λ k m. ap not (h k m); found = λ m. ap not (f m) })
     (lowest_found 98 (λ k. not (fits k (nth_typed s k))))
 
--- ---- the values up to it
+-- ---- the values of all, or where the first fault is
 
-abbrev pub value_of : List ℕ → ℕ → ℕ
-value_of s n = entered (worth (nth_typed s n))
+abbrev pub Test : List ℕ → Bool
+Test s = eqb (first_fault s) 98 && eqb (nth_start s 98) (length s)
 
-pub values_are : (s : List ℕ) (n start : ℕ) (vs : List ℕ) → n ≡ first_fault s → start ≡ nth_start s n → vs ≡ room 98 n (value_of s)
-    → record { count = n; start = start; values = vs } ≡ values_of s
+pub values_fault : (s vs : List ℕ) (n start : ℕ) → n < 98 → n ≡ first_fault s → start ≡ nth_start s n → vs ≡ room 98 n (value_of s)
+    → Err (record { count = n; start = start; values = vs }) ≡ values_of s
 unfolding values_of
-values_are s n start vs e f g = rw (g, f, e)
+values_fault s vs n start l e f h =
+    rw (h, f, e) (pick-false _ (ap (λ (b : Bool). b && eqb (nth_start s 98) (length s)) (ne_eqb (first_fault s) 98 (omega arith))))
+
+pub values_behind : (s vs : List ℕ) (start : ℕ) → 98 ≡ first_fault s → start ≡ nth_start s 98 → start < length s → vs ≡ room 98 98 (value_of s)
+    → Err (record { count = 98; start = start; values = vs }) ≡ values_of s
+unfolding values_of
+values_behind s vs start e f l h =
+    rw (h, f, ← e) (pick-false _ (ne_eqb (nth_start s 98) (length s) (omega arith)))
+
+pub values_whole : (s vs : List ℕ) (start : ℕ) → 98 ≡ first_fault s → start ≡ nth_start s 98 → length s ≤ start → vs ≡ room 98 98 (value_of s)
+    → Ok vs ≡ values_of s
+unfolding values_of
+values_whole s vs start e f l h =
+    rw (h ∙ room_full 98 98 (value_of s) (omega arith) (omega arith), ← e)
+    (pick_true _ (eq-eqb (nth_start s 98) (length s) (omega (arith, nth-within s 98))))
 
 -- ---- the table or the refusal
 
-test-same : (s : List ℕ) → (eqb (first_fault s) 98 && eqb (nth_start s (first_fault s)) (length s)) ≡ (eqb (first_fault s) 98 && eqb (nth_start s 98) (length s))
-test-same s = go (ℕ_discrete (first_fault s) 98)
+-- what is answered of either
+abbrev pub reading_of : Result (List ℕ) Fault → Reading
+reading_of (Ok vs) = taken (table_of vs)
+reading_of (Err f) = refused_at damaged f.start
+
+pub bare-read : (s : List ℕ) (v : Result (List ℕ) Fault) → v ≡ values_of s → reading_of v ≡ read_bare s
+unfolding values_of read_bare
+bare-read s v e = ap reading_of e ∙ go (told (Test s))
   where
-    go : Dec (first_fault s ≡ 98) → (eqb (first_fault s) 98 && eqb (nth_start s (first_fault s)) (length s)) ≡ (eqb (first_fault s) 98 && eqb (nth_start s 98) (length s))
-    go (yes e) = rw e
-    go (no d) = rw (ne_eqb (first_fault s) 98 d)
-
-pub bare_tests : (s : List ℕ) (v : Values) → v ≡ values_of s → (eqb v.count 98 && eqb v.start (length s)) ≡ (eqb (first_fault s) 98 && eqb (nth_start s 98) (length s))
-unfolding values_of
-bare_tests s v e = rw e (test-same s)
-
-pub bare-count : (s : List ℕ) (v : Values) → v ≡ values_of s → v.count ≡ first_fault s
-unfolding values_of
-bare-count s v e = ap (λ (x : Values). x.count) e
-
-bare-start : (s : List ℕ) (v : Values) → v ≡ values_of s → v.start ≡ nth_start s (first_fault s)
-unfolding values_of
-bare-start s v e = ap (λ (x : Values). x.start) e
-
-bare-values : (s : List ℕ) (v : Values) → v ≡ values_of s → v.count ≡ 98 → v.values ≡ list_of 98 (value_of s)
-unfolding values_of
-bare-values s v e h =
-    let q : first_fault s ≡ 98 = sym (ap (λ (x : Values). x.count) e) ∙ h in
-    ap (λ (x : Values). x.values) e ∙ ap (λ (n : ℕ). room 98 n (value_of s)) q ∙ room_full 98 98 (value_of s) (omega arith) (omega arith)
-
-pub bare-taken : (s : List ℕ) (v : Values) (t : Table) → v ≡ values_of s → (eqb v.count 98 && eqb v.start (length s)) ≡ true
-    → t ≡ table_of v.values → taken t ≡ read_bare s
-unfolding read_bare
-bare-taken s v t e h f =
-    ap taken (f ∙ ap table_of (bare-values s v e (eqb-true v.count 98 (and_left (eqb v.count 98) _ h)))) ∙ pick_true _ (sym (bare_tests s v e) ∙ h)
-
-pub bare-refused : (s : List ℕ) (v : Values) (r : Reading) → v ≡ values_of s → (eqb v.count 98 && eqb v.start (length s)) ≡ false
-    → r ≡ refused_at damaged v.start → r ≡ read_bare s
-unfolding read_bare
-bare-refused s v r e h g = g ∙ ap (refused_at damaged) (bare-start s v e) ∙ pick-false _ (sym (bare_tests s v e) ∙ h)
+    go : (Test s ≡ true) ⊎ (Test s ≡ false) → reading_of (values_of s) ≡ read_bare s
+    go (inl t) = ap reading_of (sym (pick_true _ t)) ∙ pick_true _ t
+    go (inr t) = ap reading_of (sym (pick-false _ t)) ∙ pick-false _ t
 
 pub too_long_lem : (s : List ℕ) (r : Reading) → 65536 < length s → r ≡ refused_at too_long 65536 → r ≡ read_table s
 unfolding read_table

@@ -10,17 +10,19 @@ use native.Mathlib.Decide.{dec_lt, ℕ_discrete}
 use lib.Dec.{eqb, ltb}
 use lib.ListN.{get_or, take, drop}
 use borrow.Author.Tests.{eq-eqb, ne_eqb, lt-ltb, le-ltb}
+use Rattle.std.specs.Prelude.{Some, None, Result, Ok, Err}
 use Rattle.words.specs.Counting.{one, count_below}
-use Rattle.words.proofs.ChoiceLaws.{pick-false, pick_cases}
+use Rattle.words.proofs.ChoiceLaws.{pick_true, pick-false, pick_cases}
 use Rattle.words.proofs.CountingLaws.{count_le, lowest_found, lowest-one}
 use Rattle.words.proofs.TruthLaws.{told as told-so}
 use Rattle.tables.specs.declared.Next.{Next}
 use Rattle.tables.specs.Typed.{past_nth, nth_start, nth_typed}
 use Rattle.tables.specs.Number.{is_number, worth}
-use Rattle.tables.specs.Passes.{capped}
+use Rattle.tables.specs.Passes.{capped, read_word, values_of}
+use Rattle.tables.specs.declared.Fault.{Fault}
 use Rattle.tables.proofs.SeekLaws.{end_sought}
-use Rattle.tables.proofs.ReadLaws.{NextIs}
-use Rattle.tables.specs.Slips.{line_of, told, limit_of, is_over, first_over, over_words, over_line, expected_words, fault_line}
+use Rattle.tables.proofs.ReadLaws.{NextIs, word_some, word_none, Test}
+use Rattle.tables.specs.Slips.{line_of, told, limit_of, is_over, first_over, over_words, over_line, goes_over, over_in, line_over, expected_words, fault_line, slip_in}
 
 -- ---- which line
 
@@ -62,16 +64,24 @@ over-capped n v = ap (λ (b : Bool). not (eqb n 96) && b) (go (dec_lt (limit_of 
 abbrev pub Over : List ℕ → ℕ → Bool
 Over s n = is_over n (is_number (nth_typed s n)) (worth (nth_typed s n))
 
-pub next-over : (s : List ℕ) (n : ℕ) (x : Next) → NextIs s n x → is_over n x.taken x.value ≡ Over s n
-next-over s n x h = go (told-so x.taken)
+pub next-over : (s : List ℕ) (n : ℕ) (x : Next) → NextIs s n x → goes_over n x.number ≡ Over s n
+next-over s n x h = ap (goes_over n) h.number ∙ go (told-so (is_number (nth_typed s n)))
   where
-    go : (x.taken ≡ true) ⊎ (x.taken ≡ false) → is_over n x.taken x.value ≡ Over s n
-    go (inl e) = rw (e, h.value e, sym h.taken ∙ e) (over-capped n (worth (nth_typed s n)))
-    go (inr e) = rw (e, sym h.taken ∙ e) (unfold is_over in refl)
+    go : (is_number (nth_typed s n) ≡ true) ⊎ (is_number (nth_typed s n) ≡ false) → goes_over n (read_word (nth_typed s n)) ≡ Over s n
+    go (inl e) = rw (word_some (nth_typed s n) e, e) (unfold goes_over in over-capped n (worth (nth_typed s n)))
+    go (inr e) = rw (word_none (nth_typed s n) e, e) (unfold goes_over is_over in refl)
 
 pub over-is : (s : List ℕ) (n : ℕ) → n ≤ 98 → ((k : ℕ) → k < n → Over s k ≡ false) → (n < 98 → Over s n ≡ true) → n ≡ first_over s
 unfolding first_over
 over-is s n l h f = lowest-one (Over s) 98 n _ (record { within = l; before = h; found = f }) (lowest_found 98 (Over s))
+
+pub over_found : (s : List ℕ) (n : ℕ) → n < 98 → ((k : ℕ) → k < n → Over s k ≡ false) → Over s n ≡ true → Some n ≡ over_in s
+unfolding over_in
+over_found s n l h f = rw (← over-is s n (omega arith) h (λ m. f)) (pick-false _ (ne_eqb n 98 (omega arith)))
+
+pub over_none : (s : List ℕ) → ((k : ℕ) → k < 98 → Over s k ≡ false) → None ≡ over_in s
+unfolding over_in
+over_none s h = pick_true _ (eq-eqb (first_over s) 98 (sym (over-is s 98 (omega arith) h (λ m. absurd (omega arith)))))
 
 pub over-more : (s : List ℕ) (n : ℕ) → ((k : ℕ) → k < n → Over s k ≡ false) → Over s n ≡ false → (k : ℕ) → k < n + 1 → Over s k ≡ false
 over-more s n h e k l = go (ℕ_discrete k n)
@@ -93,7 +103,28 @@ pub fault-told : (s c : List ℕ) (n start b : ℕ) (t : Bool) → start ≡ nth
 unfolding fault_line
 fault-told s c n start b t e f g = rw (g, f, e)
 
-pub over-told : (s c : List ℕ) (n start end : ℕ) → n ≢ 98 → start ≡ nth_start c n → end ≡ past_nth c (n + 1)
-    → told s start (over_words n (take (end - start) (drop start c))) ≡ over_line s c n
-unfolding over_line
-over-told s c n start end d e f = rw (word-is c n start end e f, e) (pick-false _ (ne_eqb n 98 d))
+pub over-told : (s c : List ℕ) (n start end : ℕ) → start ≡ nth_start c n → end ≡ past_nth c (n + 1)
+    → told s start (over_words n (take (end - start) (drop start c))) ≡ line_over s c (Some n)
+unfolding line_over
+over-told s c n start end e f = rw (word-is c n start end e f, e)
+
+over-same : (s c : List ℕ) → line_over s c (over_in c) ≡ over_line s c (first_over c)
+unfolding over_in over_line
+over-same s c = go (told-so (eqb (first_over c) 98))
+  where
+    go : (eqb (first_over c) 98 ≡ true) ⊎ (eqb (first_over c) 98 ≡ false) → line_over s c (over_in c) ≡ over_line s c (first_over c)
+    go (inl e) = ap (line_over s c) (sym (pick_true _ e)) ∙ unfold line_over in pick_true _ e
+    go (inr e) = ap (line_over s c) (sym (pick-false _ e)) ∙ unfold line_over in pick-false _ e
+
+-- what is told of the values, or of the fault
+abbrev pub told_of : List ℕ → List ℕ → Result (List ℕ) Fault → List ℕ
+told_of s c (Ok vs) = line_over s c (over_in c)
+told_of s c (Err f) = fault_line s c f.count
+
+pub slip-told : (s c : List ℕ) (v : Result (List ℕ) Fault) → v ≡ values_of c → told_of s c v ≡ slip_in s c
+unfolding values_of slip_in
+slip-told s c v e = ap (told_of s c) e ∙ go (told-so (Test c))
+  where
+    go : (Test c ≡ true) ⊎ (Test c ≡ false) → told_of s c (values_of c) ≡ slip_in s c
+    go (inl t) = ap (told_of s c) (sym (pick_true _ t)) ∙ over-same s c ∙ pick_true _ t
+    go (inr t) = ap (told_of s c) (sym (pick-false _ t)) ∙ pick-false _ t

@@ -1,6 +1,6 @@
 -- The line that leads to the slip of a typed table: in which line of the text it stands, and what was expected there, or what is over its
 -- limit (docs/STACK.md).
-use Rattle.std.specs.Prelude.{ℕ, suc, ◌%◌, Bool, not, ◌&&◌, List, [], ◌∷◌, ◌++◌, eqb, ltb, leb, length, get_or, take}
+use Rattle.std.specs.Prelude.{ℕ, suc, ◌%◌, Bool, true, false, not, ◌&&◌, List, [], ◌∷◌, ◌++◌, Option, Some, None, eqb, ltb, leb, length, get_or, take}
 use Rattle.words.specs.Choice.{pick}
 use Rattle.words.specs.Counting.{count_below, lowest_below}
 use Rattle.text.specs.Text.{newline}
@@ -49,6 +49,22 @@ over_words n w =
 -- of the 98 numbers, none before the nth over its limit
 unfoldable pub over_line : List ℕ → List ℕ → ℕ → List ℕ
 over_line s c n = pick (eqb n 98) [] (told s (nth_start c n) (over_words n (nth_typed c n)))
+
+-- ---- the same of what the code reads
+
+-- a number that was read is over its limit
+unfoldable pub goes_over : ℕ → Option ℕ → Bool
+goes_over n None = false
+goes_over n (Some value) = is_over n true value
+
+-- the first of the 98 that is over its limit, where one is
+unfoldable pub over_in : List ℕ → Option ℕ
+over_in s = pick (eqb (first_over s) 98) None (Some (first_over s))
+
+-- its line, none where there is none
+unfoldable pub line_over : List ℕ → List ℕ → Option ℕ → List ℕ
+line_over s c None = []
+line_over s c (Some n) = told s (nth_start c n) (over_words n (nth_typed c n))
 
 -- ---- a slip of the typing
 

@@ -1,13 +1,12 @@
 // A table as a person types it, and the line that answers it. A slip of the typing is refused where it stands, and nothing is guessed (docs/STACK.md).
 #![tactic(auto)]
 
-ghost use Rattle.std.specs.Prelude.{◌≡◌, ◌≤◌, ◌<◌, length};
+ghost use Rattle.std.specs.Prelude.{◌≡◌, ◌≤◌, ◌<◌, true, length};
 ghost use Rattle.words.specs.Choice.{pick};
 ghost use Rattle.text.specs.Text.{write, laid};
 ghost use Rattle.tables.specs.Typed.{white, bare, start_from, end_from};
-ghost use Rattle.tables.specs.Number.{digit, is_hex};
 ghost use Rattle.tables.specs.Reading.{fits_at, entered, every_third, table_of, refused_at, read_bare, read_table, refused_line, answer_to};
-ghost use Rattle.tables.specs.Passes.{capped, read_digits, read_word, read_next, values_of};
+ghost use Rattle.tables.specs.Passes.{capped, digit_to, read_digits, read_word, read_next, value_at, values_of};
 
 pub mod names;
 pub mod slips;
@@ -15,6 +14,7 @@ pub mod slips;
 use stack::Table;
 
 // What came of a text: the table, or a refusal with the byte offset of what is at fault.
+// Its refusal is a number, 0 for none: `read_table` is a documented function, and the promises of typed tables speak of that number.
 #[derive(Clone, Copy)]
 pub struct Reading {
     pub refusal: u32,
@@ -22,25 +22,17 @@ pub struct Reading {
     pub table: Table,
 }
 
-// Whether characters are a number, and what it is worth; 2^32 stands for whatever is more.
-#[derive(Clone, Copy)]
-struct Typed {
-    taken: bool,
-    value: u64,
-}
-
-// The next number of a text, where it begins, and the offset behind it.
+// The next word of a text: what it is worth if it is a number, where it begins, and the offset behind it. 2^32 stands for whatever is more.
 #[derive(Clone, Copy)]
 pub struct Next {
-    pub taken: bool,
-    pub value: u64,
+    pub number: Option<u64>,
     pub start: usize,
     pub past: usize,
 }
 
-// How many of the 98 numbers come before the first fault, their values, and where the fault or what follows them begins.
+// How many of the 98 numbers come before the first fault, where the fault or what follows them begins, and their values.
 #[derive(Clone, Copy)]
-pub struct Values {
+pub struct Fault {
     pub count: usize,
     pub start: usize,
     pub values: [u32; 98],
@@ -83,18 +75,14 @@ pub fn read_table(text: &[u8]) -> Reading
 fn read_bare(bare: &[u8]) -> Reading
     ensures { result ≡ read_bare bare.now }
 {
-    let v = read_values(bare);
-    let start = v.start;
-    if (v.count == 98) & (start == bare.len()) {
-        let values = v.values;
-        let t = table_of(values);
-        return Reading {
+    match read_values(bare) {
+        Ok(values) => Reading {
             refusal: steps::CARRIED_OUT,
             offset: 0,
-            table: t,
-        };
+            table: table_of(&values),
+        },
+        Err(fault) => refused_at(steps::DAMAGED, fault.start),
     }
-    refused_at(steps::DAMAGED, start)
 }
 
 fn refused_at(refusal: u32, offset: usize) -> Reading
@@ -108,8 +96,8 @@ fn refused_at(refusal: u32, offset: usize) -> Reading
         mark: 0,
     };
     Reading {
-        refusal: refusal,
-        offset: offset,
+        refusal,
+        offset,
         table: zeros,
     }
 }
@@ -127,77 +115,82 @@ fn put_refused(out: &mut [u8], refusal: u32, offset: usize) -> usize
 // ---- the 98 numbers
 
 // For each source its priority, its type and its frame, then the word of forced sources and the mark's frame.
-fn table_of(values: [u32; 98]) -> Table
-    ensures { result ≡ table_of values }
+fn table_of(values: &[u32; 98]) -> Table
+    ensures { result ≡ table_of values.now }
 {
-    let p = every_third(values, 0);
-    let k = every_third(values, 1);
-    let f = every_third(values, 2);
     Table {
-        priority: p,
-        kind: k,
+        priority: every_third(values, 0),
+        kind: every_third(values, 1),
         forced: values[96],
-        frame: f,
+        frame: every_third(values, 2),
         mark: values[97],
     }
 }
 
 // One number for each source.
-fn every_third(values: [u32; 98], first: usize) -> [u32; 32]
+fn every_third(values: &[u32; 98], first: usize) -> [u32; 32]
     requires { first < 3 }
-    ensures { result ≡ every_third values first }
+    ensures { result ≡ every_third values.now first }
 {
     let mut out = [0u32; 32];
-    let mut i: usize = 0;
-    while i < 32 {
+    for i in 0..32 {
         out[i] = values[3 * i + first];
-        i = i + 1;
     }
     out
 }
 
-// The values up to the first fault.
-pub fn read_values(text: &[u8]) -> Values
+// The values of the 98 numbers, where nothing follows them.
+pub fn read_values(text: &[u8]) -> Result<[u32; 98], Fault>
     ensures { result ≡ values_of text.now }
 {
     let mut values = [0u32; 98];
     let mut past: usize = 0;
-    let mut n: usize = 0;
-    while n < 98 {
+    for n in 0..98 {
         let next = read_next(text, past);
-        if !fits_at(n, next.taken, next.value) {
-            return Values {
+        let Some(value) = value_at(n, next.number) else {
+            return Err(Fault {
                 count: n,
                 start: next.start,
-                values: values,
-            };
-        }
-        values[n] = entered_as(next.value);
+                values,
+            });
+        };
+        values[n] = value;
         past = next.past;
-        n = n + 1;
     }
-    Values {
-        count: 98,
-        start: seek(text, past, false),
-        values: values,
+    let start = seek(text, past, false);
+    if start < text.len() {
+        return Err(Fault {
+            count: 98,
+            start,
+            values,
+        });
     }
+    Ok(values)
 }
 
-// Whether the nth of the 98 is as it must be: a number, and as the word of forced sources one of 32 bits.
-fn fits_at(n: usize, taken: bool, value: u64) -> bool
-    ensures { result ≡ fits_at n taken value }
+// What the table has of what was read as the nth of the 98.
+fn value_at(n: usize, number: Option<u64>) -> Option<u32>
+    ensures { result ≡ value_at n number }
 {
-    taken & ((n != FORCED) | (value < OVER))
+    let value = number?;
+    if fits_at(n, value) {
+        return Some(entered_as(value));
+    }
+    None
+}
+
+// Whether the nth number is as it must be: as the word of forced sources one of 32 bits.
+fn fits_at(n: usize, value: u64) -> bool
+    ensures { result ≡ fits_at n true value }
+{
+    (n != FORCED) | (value < OVER)
 }
 
 // What the table has of a number: the largest word where it is more than that.
 pub fn entered_as(value: u64) -> u32
     ensures { result ≡ entered value }
 {
-    if value < OVER {
-        return value as u32;
-    }
-    4294967295
+    u32::try_from(value).unwrap_or(u32::MAX)
 }
 
 // The next number from an offset on.
@@ -207,11 +200,9 @@ pub fn read_next(text: &[u8], past: usize) -> Next
 {
     let start = seek(text, past, false);
     let end = seek(text, start, true);
-    let typed = read_word(&text[start..end]);
     Next {
-        taken: typed.taken,
-        value: typed.value,
-        start: start,
+        number: read_word(&text[start..end]),
+        start,
         past: end,
     }
 }
@@ -220,85 +211,64 @@ pub fn read_next(text: &[u8], past: usize) -> Next
 pub fn seek(text: &[u8], at: usize, wanted: bool) -> usize
     ensures { result ≡ pick wanted (end_from text.now at) (start_from text.now at) }
 {
-    let mut i = at;
-    while i < text.len() {
+    for i in at..text.len() {
         if is_white(text[i]) == wanted {
             return i;
         }
-        i = i + 1;
     }
-    i
+    at.max(text.len())
 }
 
 // ---- one number
 
 // Decimal, or hexadecimal after 0x.
-fn read_word(word: &[u8]) -> Typed
+fn read_word(word: &[u8]) -> Option<u64>
     ensures { result ≡ read_word word.now }
 {
-    if is_hex(word) {
-        return read_digits(&word[2..], 16);
+    match word.strip_prefix(b"0x") {
+        Some(digits) => read_digits(digits, 16),
+        None => read_digits(word, 10),
     }
-    read_digits(word, 10)
-}
-
-fn is_hex(word: &[u8]) -> bool
-    ensures { result ≡ is_hex word.now }
-{
-    if word.len() < 2 {
-        return false;
-    }
-    (word[0] == b'0') & (word[1] == b'x')
 }
 
 // Digits to a base: one at least, and no other character. However many there are, no sum wraps.
-fn read_digits(digits: &[u8], base: u32) -> Typed
+fn read_digits(digits: &[u8], base: u32) -> Option<u64>
     requires { (1 ≤ base) × (base ≤ 16) }
     ensures { result ≡ read_digits base digits.now }
 {
+    if digits.is_empty() {
+        return None;
+    }
     let mut worth: u64 = 0;
-    let mut k: usize = 0;
-    while k < digits.len() {
-        let d = digit_of(digits[k]);
-        if base <= d {
-            return Typed {
-                taken: false,
-                value: 0,
-            };
-        }
+    for &b in digits {
+        let d = digit_of(b, base)?;
         worth = capped_at(base as u64 * worth + d as u64);
-        k = k + 1;
     }
-    Typed {
-        taken: k != 0,
-        value: worth,
-    }
+    Some(worth)
 }
 
 // 2^32 where it is more.
 fn capped_at(worth: u64) -> u64
     ensures { result ≡ capped worth }
 {
-    if worth < OVER {
-        return worth;
-    }
-    OVER
+    worth.min(OVER)
 }
 
-// What a character is worth as a digit; 16 says that it is none.
-fn digit_of(b: u8) -> u32
-    ensures { result ≡ digit b }
+// What a character is worth as a digit to a base.
+fn digit_of(b: u8, base: u32) -> Option<u32>
+    requires { base ≤ 16 }
+    ensures { result ≡ digit_to base b }
 {
-    if (48 <= b) & (b <= 57) {
-        return b as u32 - 48;
+    let digit = match b {
+        b'0'..=b'9' => b - b'0',
+        b'A'..=b'F' => b - b'A' + 10,
+        b'a'..=b'f' => b - b'a' + 10,
+        _ => return None,
+    };
+    if (digit as u32) < base {
+        return Some(digit as u32);
     }
-    if (65 <= b) & (b <= 70) {
-        return b as u32 - 55;
-    }
-    if (97 <= b) & (b <= 102) {
-        return b as u32 - 87;
-    }
-    16
+    None
 }
 
 // ---- white space and comments
@@ -306,7 +276,7 @@ fn digit_of(b: u8) -> u32
 pub(crate) fn is_white(b: u8) -> bool
     ensures { result ≡ white b }
 {
-    (b == 32) | (b == 9) | (b == 13) | (b == 10)
+    matches!(b, b' ' | b'\t' | b'\r' | b'\n')
 }
 
 // The text with each byte of a comment made a space.
@@ -315,13 +285,10 @@ pub(crate) fn strip(text: &[u8], out: &mut [u8]) -> usize
 {
     let mut at: usize = 0;
     let mut inside = false;
-    let mut k: usize = 0;
-    while k < text.len() {
-        let b = text[k];
+    for &b in text {
         let covered = inside | (b == b'#');
         at = text::put(out, at, shown(covered, b));
         inside = covered & (b != b'\n');
-        k = k + 1;
     }
     at
 }

@@ -4,7 +4,7 @@ ghost use Rattle.words.specs.Choice.{pick};
 ghost use Rattle.text.specs.Text.{write};
 ghost use Rattle.tables.specs.Typed.{past_nth, nth_start};
 ghost use Rattle.tables.specs.Names.{name_byte, name_run, is_name, named, behind, place_in, blanked, quoted, unnamed_at, unnamed, cleared};
-ghost use Rattle.tables.specs.Named.{places_of, names_in, no_names, names_of, byte_in, names_at};
+ghost use Rattle.tables.specs.Named.{PlacesOf, names_in, no_names, names_of, byte_in, names_at};
 
 use super::{MOST, is_white, read_table, seek, strip};
 
@@ -15,18 +15,11 @@ pub struct Names {
     pub lengths: [u32; 32],
 }
 
-// Where a name begins, and how many bytes it has; 0 where there is none.
+// Where a name begins, and how many bytes it has; 0 where there is none, as in the lengths that the documented `names_of` answers.
 #[derive(Clone, Copy)]
 struct Place {
     start: usize,
     count: u32,
-}
-
-// The place of each source's name.
-#[derive(Clone, Copy)]
-struct Places {
-    starts: [usize; 32],
-    counts: [u32; 32],
 }
 
 const SOURCES: usize = 32;
@@ -64,40 +57,36 @@ fn names_in(text: &[u8]) -> Names
 {
     let mut room = [0u8; 65536];
     let n = text::put_all(&mut room, 0, text);
-    let p = take_names(&mut room[..n]);
-    let starts = p.starts;
-    let counts = p.counts;
-    names_at(text, starts, counts)
+    let places = take_names(&mut room[..n]);
+    names_at(text, &places)
 }
 
 // 24 bytes for each of these places.
-fn names_at(text: &[u8], starts: [usize; 32], counts: [u32; 32]) -> Names
-    ensures { result ≡ names_at text.now starts counts }
+fn names_at(text: &[u8], places: &[Place; 32]) -> Names
+    ensures { result ≡ names_at text.now places.now }
 {
-    let mut out = [0u8; 768];
-    let mut k: usize = 0;
-    while k < 768 {
-        out[k] = byte_in(text, starts[k / 24], counts[k / 24], k % 24);
-        k = k + 1;
+    let mut bytes = [0u8; 768];
+    for k in 0..768 {
+        bytes[k] = byte_in(text, places[k / 24], k % 24);
     }
-    Names {
-        bytes: out,
-        lengths: counts,
+    let mut lengths = [0u32; 32];
+    for (i, place) in places.iter().enumerate() {
+        lengths[i] = place.count;
     }
+    Names { bytes, lengths }
 }
 
 // The kth byte of a name, 0 behind it.
-fn byte_in(text: &[u8], start: usize, count: u32, k: usize) -> u8
-    ensures { result ≡ byte_in text.now start count k }
+fn byte_in(text: &[u8], place: Place, k: usize) -> u8
+    ensures { result ≡ byte_in text.now place.start place.count k }
 {
-    if count as usize <= k {
+    if place.count as usize <= k {
         return 0;
     }
-    if text.len() <= start {
-        return 0;
+    match text.get(place.start..) {
+        Some(rest) => byte_or(rest, k, 0),
+        None => 0,
     }
-    let rest = &text[start..];
-    byte_or(rest, k, 0)
 }
 
 // ---- a text without its names
@@ -114,23 +103,15 @@ pub(crate) fn clear(text: &[u8], out: &mut [u8]) -> usize
 }
 
 // All names made spaces, and where they stood.
-fn take_names(text: &mut [u8]) -> Places
+fn take_names(text: &mut [u8]) -> [Place; 32]
     requires { length text.old ≤ 65536 }
-    ensures { (text.new ≡ unnamed text.old) × (result ≡ places_of text.old) }
+    ensures { (text.new ≡ unnamed text.old) × PlacesOf text.old result }
 {
-    let mut starts = [0usize; 32];
-    let mut counts = [0u32; 32];
-    let mut i: usize = 0;
-    while i < SOURCES {
-        let p = take_name(text, i);
-        starts[i] = p.start;
-        counts[i] = p.count;
-        i = i + 1;
+    let mut places = [Place { start: 0, count: 0 }; 32];
+    for i in 0..SOURCES {
+        places[i] = take_name(text, i);
     }
-    Places {
-        starts: starts,
-        counts: counts,
-    }
+    places
 }
 
 // The name of one source, in a text without those before it.
@@ -169,10 +150,8 @@ pub fn past_nth(text: &[u8], n: usize) -> usize
     ensures { result ≡ past_nth text.now n }
 {
     let mut past: usize = 0;
-    let mut k: usize = 0;
-    while k < n {
+    for _ in 0..n {
         past = seek(text, seek(text, past, false), true);
-        k = k + 1;
     }
     past
 }
@@ -182,10 +161,8 @@ fn blank(text: &mut [u8], at: usize, n: usize)
     requires { (at ≤ 65536) × (n ≤ 65536) }
     ensures { text.new ≡ blanked text.old at n }
 {
-    let mut k: usize = 0;
-    while k < n {
+    for k in 0..n {
         put_space(text, at + k);
-        k = k + 1;
     }
 }
 
@@ -239,12 +216,10 @@ fn run_of(text: &[u8], at: usize) -> usize
     requires { at ≤ 65537 }
     ensures { result ≡ name_run text.now at }
 {
-    let mut k: usize = 0;
-    while k < 25 {
+    for k in 0..25 {
         if !is_name_byte(byte_or(text, at + k, 0)) {
             return k;
         }
-        k = k + 1;
     }
     25
 }
@@ -259,8 +234,5 @@ fn is_name_byte(b: u8) -> bool
 pub fn byte_or(text: &[u8], i: usize, other: u8) -> u8
     ensures { result ≡ get_or text.now i other }
 {
-    if i < text.len() {
-        return text[i];
-    }
-    other
+    text.get(i).copied().unwrap_or(other)
 }

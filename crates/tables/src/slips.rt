@@ -3,7 +3,7 @@ ghost use Rattle.std.specs.Prelude.{◌≡◌, ◌++◌, ◌≤◌, eqb, length,
 ghost use Rattle.words.specs.Counting.{one};
 ghost use Rattle.text.specs.Text.{write, laid};
 ghost use Rattle.text.specs.Phrases.{bytes, counted};
-ghost use Rattle.tables.specs.Slips.{line_of, limit_of, is_over, first_over, shortened, between, over_words, over_line, expected_words, fault_line, slip_in, slip_line};
+ghost use Rattle.tables.specs.Slips.{line_of, limit_of, goes_over, over_in, shortened, between, over_words, line_over, expected_words, fault_line, slip_in, slip_line};
 
 const NUMBERS: usize = 98;
 
@@ -28,12 +28,10 @@ fn put_slip_in(out: &mut [u8], text: &[u8], cleared: &[u8]) -> usize
     requires { length cleared.now ≤ 65536 }
     ensures { (out.new, result) ≡ write (out.old, 0) (slip_in text.now cleared.now) }
 {
-    let v = super::read_values(cleared);
-    if (v.count == NUMBERS) & (v.start == cleared.len()) {
-        let n = first_over(cleared);
-        return put_over(out, text, cleared, n);
+    match super::read_values(cleared) {
+        Ok(_) => put_over(out, text, cleared, first_over(cleared)),
+        Err(fault) => put_fault(out, text, cleared, fault.count),
     }
-    put_fault(out, text, cleared, v.count)
 }
 
 // ---- a slip of the typing
@@ -46,7 +44,7 @@ fn put_fault(out: &mut [u8], text: &[u8], cleared: &[u8], n: usize) -> usize
     let w = super::read_next(cleared, super::names::past_nth(cleared, n));
     let quote = super::names::byte_or(cleared, w.start, 0) == b'"';
     let a = put_line(out, text, w.start);
-    let b = put_expected(out, a, quote, n, w.taken);
+    let b = put_expected(out, a, quote, n, w.number.is_some());
     text::put(out, b, text::NEWLINE)
 }
 
@@ -71,14 +69,14 @@ fn put_expected(out: &mut [u8], at: usize, quote: bool, n: usize, number: bool) 
 
 // ---- a number over its limit
 
-// The line of the nth number, which is over its limit; none of number 98, which is none.
-fn put_over(out: &mut [u8], text: &[u8], cleared: &[u8], n: usize) -> usize
+// The line of the number that is over its limit, where one is.
+fn put_over(out: &mut [u8], text: &[u8], cleared: &[u8], over: Option<usize>) -> usize
     requires { length cleared.now ≤ 65536 }
-    ensures { (out.new, result) ≡ write (out.old, 0) (over_line text.now cleared.now n) }
+    ensures { (out.new, result) ≡ write (out.old, 0) (line_over text.now cleared.now over) }
 {
-    if n == NUMBERS {
+    let Some(n) = over else {
         return 0;
-    }
+    };
     let w = super::read_next(cleared, super::names::past_nth(cleared, n));
     let start = w.start;
     let end = w.past;
@@ -121,27 +119,28 @@ fn put_shortened(out: &mut [u8], at: usize, word: &[u8]) -> usize
     text::put_all(out, next, b"..")
 }
 
-// The first of the 98 numbers that is over its limit; 98 where none is.
-fn first_over(cleared: &[u8]) -> usize
-    ensures { result ≡ first_over cleared.now }
+// The first of the 98 numbers that is over its limit.
+fn first_over(cleared: &[u8]) -> Option<usize>
+    ensures { result ≡ over_in cleared.now }
 {
     let mut past: usize = 0;
-    let mut n: usize = 0;
-    while n < NUMBERS {
+    for n in 0..NUMBERS {
         let next = super::read_next(cleared, past);
-        if is_over(n, next.taken, next.value) {
-            return n;
+        if is_over(n, next.number) {
+            return Some(n);
         }
         past = next.past;
-        n = n + 1;
     }
-    NUMBERS
+    None
 }
 
-fn is_over(n: usize, taken: bool, value: u64) -> bool
-    ensures { result ≡ is_over n taken value }
+fn is_over(n: usize, number: Option<u64>) -> bool
+    ensures { result ≡ goes_over n number }
 {
-    taken & (n != FORCED) & (limit_of(n) < value)
+    match number {
+        Some(value) => (n != FORCED) & (limit_of(n) < value),
+        None => false,
+    }
 }
 
 // The most that the nth number may be.
@@ -178,10 +177,8 @@ fn line_of(text: &[u8], at: usize) -> usize
     ensures { result ≡ line_of text.now at }
 {
     let mut lines: usize = 1;
-    let mut k: usize = 0;
-    while k < at {
-        lines = lines + feeds_at(text, k);
-        k = k + 1;
+    for k in 0..at {
+        lines += feeds_at(text, k);
     }
     lines
 }

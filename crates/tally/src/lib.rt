@@ -23,6 +23,7 @@ use rooms::Room;
 use totals::Totals;
 
 // The steps played, the steps refused among them, how the trace ended and where, and the figures of each source.
+// The refusal stands beside the figures, and not in a Result: a trace that ends by one has figures up to there, and promises name both fields.
 #[derive(Clone, Copy)]
 pub struct Tallied {
     pub steps: u32,
@@ -47,13 +48,12 @@ pub fn figures(trace: &[u8], limit: u32) -> Tallied
 fn not_tallied(refusal: u32, offset: usize) -> Tallied
     ensures { result ≡ not_tallied refusal offset }
 {
-    let f = totals::none();
     Tallied {
         steps: 0,
         refused: 0,
         refusal,
         offset,
-        figures: f,
+        figures: totals::none(),
     }
 }
 
@@ -69,6 +69,7 @@ fn tally_begun(trace: &[u8], limit: u32, b: Begun) -> Tallied
 
 // Plays the steps from a place on in a room, and moves the figures on with each; where `told`, they tell their privilege. The limit falls by one with
 // each step.
+// No range counts the steps: a turn of the trace tells its end, also where the limit is reached.
 fn tally_steps(trace: &[u8], limit: u32, told: bool, start: usize, first: Machine) -> Tallied
     requires { Ready first × (first.aic.depth ≡ 0) × (length trace.now ≤ 65536) }
     ensures { result ≡ tallied 0 0 no_figures first (steps_from told limit trace.now start) }
@@ -100,10 +101,10 @@ fn tally_steps(trace: &[u8], limit: u32, told: bool, start: usize, first: Machin
         let before = room[aic_room::layout::DEPTH];
         let a = machine_room::step(&mut room, t.kind, t.x, t.y, t.privilege);
         follow_any(&mut book, &room, before);
-        refused = refused + refused_one(rooms::refusal_in(a));
+        refused += refused_one(rooms::refusal_in(a));
         at = t.next;
-        left = left - 1;
-        count = count + 1;
+        left -= 1;
+        count += 1;
     }
 }
 
@@ -111,10 +112,7 @@ fn tally_steps(trace: &[u8], limit: u32, told: bool, start: usize, first: Machin
 fn refused_one(refusal: u32) -> u32
     ensures { result ≡ one (not (eqb refusal carried_out)) }
 {
-    if refusal == steps::CARRIED_OUT {
-        return 0;
-    }
-    1
+    words::one_if(refusal != steps::CARRIED_OUT)
 }
 
 // Only a step of an AIC moves the figures of sources.

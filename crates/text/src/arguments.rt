@@ -2,20 +2,16 @@
 ghost use Rattle.std.specs.Prelude.{◌≡◌, ◌+◌, ◌-◌, ◌*◌, ◌≤◌, ◌<◌};
 ghost use Rattle.text.specs.Typed.{goes_on, typed};
 
-// The number that is typed; 0 for anything else.
+// The number that is typed; 0 for anything else, as the theorems on arguments have it.
 pub fn number(text: &[u8]) -> u32
     ensures { result ≡ typed text.now }
 {
     let mut v: u32 = 0;
-    let mut k: usize = 0;
-    while k < text.len() {
-        let b = text[k];
-        if goes_on(v, b) {
-            v = with_digit(v, b);
-            k = k + 1;
-        } else {
+    for b in text {
+        if !goes_on(v, *b) {
             return 0;
         }
+        v = with_digit(v, *b);
     }
     v
 }

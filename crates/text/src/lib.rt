@@ -29,10 +29,8 @@ pub fn put_all(out: &mut [u8], at: usize, text: &[u8]) -> usize
     ensures { (out.new, result) ≡ write (out.old, at) text.now }
 {
     let mut next = at;
-    let mut k: usize = 0;
-    while k < text.len() {
-        next = put(out, next, text[k]);
-        k = k + 1;
+    for b in text {
+        next = put(out, next, *b);
     }
     next
 }

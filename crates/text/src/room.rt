@@ -219,18 +219,11 @@ pub fn following(t: Numeral, n: u32) -> Numeral
     ensures { result ≡ numeral_of (n + 1) }
 {
     if t.last == 9 {
-        let z = numeral_of(n + 1);
-        return Numeral {
-            digits: z.digits,
-            width: z.width,
-            unit: z.unit,
-            last: z.last,
-        };
+        return numeral_of(n + 1);
     }
     Numeral {
         digits: t.digits + t.unit,
-        width: t.width,
-        unit: t.unit,
         last: t.last + 1,
+        ..t
     }
 }

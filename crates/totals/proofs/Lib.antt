@@ -1,4 +1,5 @@
 -- The laws of totals and of the sheet's figures, and the proof of what is promised of them.
+pub mod MadeLaws
 pub mod Promises
 pub mod SheetLaws
 pub mod SheetsPromises

@@ -1,15 +1,14 @@
 -- Two arrays joined source by source, and which sums fit.
-use Prim.Native.Nat.{ℕ, zero, suc, ◌+◌, ◌-◌, ◌≤◌, ◌<◌}
+use Prim.Native.Nat.{ℕ, zero, suc, ◌+◌, ◌≤◌, ◌<◌}
 use mathlib.Core.Path.{◌≡◌, refl, sym, ap, ◌∙◌}
 use mathlib.Core.Bool.{Bool, true, false, not}
 use mathlib.Core.List.{List, [], ◌∷◌, zip_with}
 use mathlib.Core.Logic.{◌↔◌}
 use native.Mathlib.Omega.{arith}
-use native.Mathlib.Decide.{dec_lt}
 use lib.Dec.{eqb, ltb}
 use lib.ListN.{get_or, length}
 use lib.Seq.{ext_get_or}
-use borrow.Author.Tests.{lt-ltb, le-ltb, ltb-true, ltb-false}
+use borrow.Author.Tests.{lt-ltb, ltb-true, ltb-false}
 use Rattle.words.proofs.ChoiceLaws.{pick_cases}
 use Rattle.words.proofs.CountingLaws.{any_fails, any_some, some_any}
 use Rattle.steps.specs.Refusals.{carried_out}
@@ -41,14 +40,6 @@ module _ (op : ℕ → ℕ → ℕ) where
       (λ k l. h k (omega (arith, lo)) ∙ sym (get_d-joined a b k (omega (arith, lo, la)) (omega (arith, lo, lb))))
 
 -- ---- which sums fit
-
--- the test without a sum
-pub passes_here : (a b : ℕ) → a ≤ 4294967295 → ltb (4294967295 - a) b ≡ ltb 4294967295 (a + b)
-passes_here a b h = go (dec_lt 4294967295 (a + b))
-  where
-    go : Dec (4294967295 < a + b) → ltb (4294967295 - a) b ≡ ltb 4294967295 (a + b)
-    go (yes l) = lt-ltb (4294967295 - a) b (omega arith) ∙ sym (lt-ltb 4294967295 (a + b) l)
-    go (no n) = le-ltb (4294967295 - a) b (omega arith) ∙ sym (le-ltb 4294967295 (a + b) (omega arith))
 
 pub fit_at : (a b : List ℕ) → passes a b ≡ false → (i : ℕ) → i < 32 → get_or a i 0 + get_or b i 0 ≤ 4294967295
 unfolding passes

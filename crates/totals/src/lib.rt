@@ -8,6 +8,8 @@ ghost use Rattle.totals.specs.Totals.{zeros, passes, together, added};
 pub mod sheets;
 pub mod waits;
 
+use std::array;
+
 // For each source, of one trace or of many: the handlers started, the most handlers started while it waited, and the most entries open while it was open.
 #[derive(Clone, Copy)]
 pub struct Totals {
@@ -17,13 +19,12 @@ pub struct Totals {
 }
 
 // Totals with a trace put to them; or the refusal 16, and they are as they were.
+// The number stands beside the totals, and not in a Result, since the promises `sixteen`, `left_out` and `taken` speak of both fields of every answer.
 #[derive(Clone, Copy)]
 pub struct Added {
     pub refusal: u32,
     pub totals: Totals,
 }
-
-const MOST: u32 = 4294967295;
 
 // Totals of no trace.
 pub fn none() -> Totals
@@ -40,9 +41,7 @@ pub fn none() -> Totals
 pub fn add(t: Totals, f: Totals) -> Added
     ensures { result ≡ added t f }
 {
-    let ts = t.started;
-    let fs = f.started;
-    if any_passes(ts, fs) {
+    if any_passes(t.started, f.started) {
         return Added {
             refusal: steps::OVERFULL,
             totals: t,
@@ -60,19 +59,10 @@ fn together(t: Totals, f: Totals) -> Totals
     requires { passes t.started f.started ≡ false }
     ensures { result ≡ together t f }
 {
-    let ts = t.started;
-    let fs = f.started;
-    let s = sums(ts, fs);
-    let tw = t.waited;
-    let fw = f.waited;
-    let w = largest(tw, fw);
-    let te = t.entries;
-    let fe = f.entries;
-    let e = largest(te, fe);
     Totals {
-        started: s,
-        waited: w,
-        entries: e,
+        started: sums(t.started, f.started),
+        waited: largest(t.waited, f.waited),
+        entries: largest(t.entries, f.entries),
     }
 }
 
@@ -80,13 +70,9 @@ fn together(t: Totals, f: Totals) -> Totals
 pub(crate) fn any_passes(a: [u32; 32], b: [u32; 32]) -> bool
     ensures { result ≡ passes a b }
 {
-    let mut past = false;
-    let mut i: usize = 0;
-    while i < 32 {
-        past = past | (MOST - a[i] < b[i]);
-        i = i + 1;
-    }
-    past
+    a.iter()
+        .zip(b.iter())
+        .any(|(x, y)| x.checked_add(*y).is_none())
 }
 
 // Source by source the sum of both.
@@ -94,24 +80,12 @@ pub(crate) fn sums(a: [u32; 32], b: [u32; 32]) -> [u32; 32]
     requires { passes a b ≡ false }
     ensures { result ≡ zip_with ◌+◌ a b }
 {
-    let mut out = [0u32; 32];
-    let mut i: usize = 0;
-    while i < 32 {
-        out[i] = a[i] + b[i];
-        i = i + 1;
-    }
-    out
+    array::from_fn(|i| a[i] + b[i])
 }
 
 // Source by source the larger of both.
 fn largest(a: [u32; 32], b: [u32; 32]) -> [u32; 32]
     ensures { result ≡ zip_with max a b }
 {
-    let mut out = [0u32; 32];
-    let mut i: usize = 0;
-    while i < 32 {
-        out[i] = words::larger(a[i], b[i]);
-        i = i + 1;
-    }
-    out
+    array::from_fn(|i| a[i].max(b[i]))
 }

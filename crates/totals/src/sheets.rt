@@ -8,6 +8,7 @@ use super::waits::Waits;
 // What the sheet takes from one trace: the steps played and refused, marks opened, ends of interrupt that found no entry open, entries open after the last
 // step; how it ended and where; whether it starts an AIC; a word of the sources that are enabled in some record; the lowest source that does not keep the
 // table in the first record that does not (32 for none) and the step after which that is; the figures and the waits of each source.
+// It is a number with 32 for none, and not an Option, since the promises `eighteen` and `sixteen` compare it with 32.
 #[derive(Clone, Copy)]
 pub struct Noted {
     pub steps: u32,
@@ -45,6 +46,7 @@ pub struct Sheet {
 }
 
 // The sheet with a trace put to it; or 16 or 18, and it is left out.
+// The number stands beside the sheet, and not in a Result: a sheet counts the traces that are left out, so there is one in either case.
 #[derive(Clone, Copy)]
 pub struct Added {
     pub refusal: u32,
@@ -54,14 +56,10 @@ pub struct Added {
 // A trace that does not keep the table.
 pub const UNKEPT: u32 = 18;
 
-const MOST: u32 = 4294967295;
-
 // The sheet of no name.
 pub fn none() -> Sheet
     ensures { result ≡ no_sheet }
 {
-    let f = super::none();
-    let w = super::waits::none();
     Sheet {
         named: 0,
         full: 0,
@@ -73,8 +71,8 @@ pub fn none() -> Sheet
         idle: 0,
         left: 0,
         used: 0,
-        figures: f,
-        waits: w,
+        figures: super::none(),
+        waits: super::waits::none(),
         trace: [0; 32],
     }
 }
@@ -84,10 +82,9 @@ pub fn add(s: Sheet, t: Noted) -> Added
     ensures { result ≡ added s t }
 {
     if t.strays < 32 {
-        let out = counted(s, s.full, s.unopened, more(s.unkept));
         return Added {
             refusal: UNKEPT,
-            sheet: out,
+            sheet: counted(s, s.full, s.unopened, more(s.unkept)),
         };
     }
     sum_up(s, t)
@@ -107,18 +104,14 @@ fn sum_up(s: Sheet, t: Noted) -> Added
     let f = super::add(s.figures, t.figures);
     let w = super::waits::add(s.waits, t.waits);
     if numbers_pass(s, t) | (f.refusal != steps::CARRIED_OUT) | (w.refusal != steps::CARRIED_OUT) {
-        let out = counted(s, more(s.full), s.unopened, s.unkept);
         return Added {
             refusal: steps::OVERFULL,
-            sheet: out,
+            sheet: counted(s, more(s.full), s.unopened, s.unkept),
         };
     }
-    let figures = f.totals;
-    let waits = w.waits;
-    let sum = together(s, t, figures, waits);
     Added {
         refusal: steps::CARRIED_OUT,
-        sheet: sum,
+        sheet: together(s, t, f.totals, w.waits),
     }
 }
 
@@ -126,23 +119,12 @@ fn sum_up(s: Sheet, t: Noted) -> Added
 fn counted(s: Sheet, full: u32, unopened: u32, unkept: u32) -> Sheet
     ensures { result ≡ counted s full unopened unkept }
 {
-    let f = s.figures;
-    let w = s.waits;
-    let t = s.trace;
     Sheet {
         named: more(s.named),
         full,
         unopened,
         unkept,
-        steps: s.steps,
-        refused: s.refused,
-        marks: s.marks,
-        idle: s.idle,
-        left: s.left,
-        used: s.used,
-        figures: f,
-        waits: w,
-        trace: t,
+        ..s
     }
 }
 
@@ -151,12 +133,8 @@ fn together(s: Sheet, t: Noted, figures: Totals, waits: Waits) -> Sheet
     requires { numbers_pass s t ≡ false }
     ensures { result ≡ together s t figures waits }
 {
-    let first = first_of(s, t);
     Sheet {
         named: more(s.named),
-        full: s.full,
-        unopened: s.unopened,
-        unkept: s.unkept,
         steps: s.steps + t.steps,
         refused: s.refused + t.refused,
         marks: s.marks + t.marks,
@@ -165,7 +143,8 @@ fn together(s: Sheet, t: Noted, figures: Totals, waits: Waits) -> Sheet
         used: words::join(s.used, t.used),
         figures,
         waits,
-        trace: first,
+        trace: first_of(s, t),
+        ..s
     }
 }
 
@@ -174,10 +153,8 @@ fn first_of(s: Sheet, t: Noted) -> [u32; 32]
     ensures { result ≡ first_of s t }
 {
     let lost = super::waits::newly(s.waits, t.waits);
-    let before = s.trace;
     let this = more(s.named);
-    let all = [this; 32];
-    super::waits::chosen(lost, before, all)
+    super::waits::chosen(lost, s.trace, [this; 32])
 }
 
 // Whether one of the sums that are of no source would pass 4,294,967,295.
@@ -194,15 +171,12 @@ fn numbers_pass(s: Sheet, t: Noted) -> bool
 fn too_much(a: u32, b: u32) -> bool
     ensures { result ≡ too_much a b }
 {
-    MOST - a < b
+    a.checked_add(b).is_none()
 }
 
 // One more, up to 4,294,967,295.
 fn more(n: u32) -> u32
     ensures { result ≡ more n }
 {
-    if n < MOST {
-        return n + 1;
-    }
-    n
+    n.saturating_add(1)
 }

@@ -1,11 +1,13 @@
 // The waits of each source, of one trace or of many: how many there are, and the six terms of the largest bound of one of them (02, 11/12 and 12/12).
 ghost use Rattle.std.specs.Prelude.{◌≡◌, Bool, false, ℕ, ◌+◌, ◌<◌};
-ghost use Rattle.words.specs.Choice.{pick};
 ghost use Rattle.words.specs.Word.{bit, word_of};
 ghost use Rattle.totals.specs.Waits.{no_waits, bound_of, larger, newly, chosen, terms_of, passes, together, added};
 
+use std::array;
+
 // For each source: the waits that began, never ended and have no bound, the step that first took one its bound (0 for none), and the handlers that the first
 // wait with the largest bound allows to be started, term by term.
+// An array for each number, and not a struct for each source, since the promises of this crate and of `aic_figures` name the arrays.
 #[derive(Clone, Copy)]
 pub struct Waits {
     pub begun: [u32; 32],
@@ -21,6 +23,7 @@ pub struct Waits {
 }
 
 // Waits with those of a trace put to them; or the refusal 16, and they are as they were.
+// The number stands beside the waits, and not in a Result, since the promises of waits and of the sheet (`bounded`) speak of both fields of every answer.
 #[derive(Clone, Copy)]
 pub struct Added {
     pub refusal: u32,
@@ -77,13 +80,9 @@ pub(crate) fn add(a: Waits, b: Waits) -> Added
 fn any_pass(a: Waits, b: Waits) -> bool
     ensures { result ≡ passes a b }
 {
-    let ab = a.begun;
-    let bb = b.begun;
-    let au = a.unended;
-    let bu = b.unended;
-    let an = a.unbounded;
-    let bn = b.unbounded;
-    super::any_passes(ab, bb) | super::any_passes(au, bu) | super::any_passes(an, bn)
+    super::any_passes(a.begun, b.begun)
+        | super::any_passes(a.unended, b.unended)
+        | super::any_passes(a.unbounded, b.unbounded)
 }
 
 // Both together, where no number passes it.
@@ -91,30 +90,19 @@ fn together(a: Waits, b: Waits) -> Waits
     requires { passes a b ≡ false }
     ensures { result ≡ together a b }
 {
-    let ab = a.begun;
-    let bb = b.begun;
-    let begun = super::sums(ab, bb);
-    let au = a.unended;
-    let bu = b.unended;
-    let unended = super::sums(au, bu);
-    let an = a.unbounded;
-    let bn = b.unbounded;
-    let unbounded = super::sums(an, bn);
-    let af = a.first;
-    let bf = b.first;
-    let first = chosen(newly(a, b), af, bf);
-    let t = terms_of(a, b);
-    let pending = t.pending;
-    let edges = t.edges;
-    let commands = t.commands;
-    let turns = t.turns;
-    let closed = t.closed;
-    let remembered = t.remembered;
+    let Terms {
+        pending,
+        edges,
+        commands,
+        turns,
+        closed,
+        remembered,
+    } = terms_of(a, b);
     Waits {
-        begun,
-        unended,
-        unbounded,
-        first,
+        begun: super::sums(a.begun, b.begun),
+        unended: super::sums(a.unended, b.unended),
+        unbounded: super::sums(a.unbounded, b.unbounded),
+        first: chosen(newly(a, b), a.first, b.first),
         pending,
         edges,
         commands,
@@ -129,31 +117,13 @@ fn terms_of(a: Waits, b: Waits) -> Terms
     ensures { result ≡ terms_of a b }
 {
     let more = larger_word(a, b);
-    let ap = a.pending;
-    let bp = b.pending;
-    let pending = chosen(more, ap, bp);
-    let ae = a.edges;
-    let be = b.edges;
-    let edges = chosen(more, ae, be);
-    let ac = a.commands;
-    let bc = b.commands;
-    let commands = chosen(more, ac, bc);
-    let at = a.turns;
-    let bt = b.turns;
-    let turns = chosen(more, at, bt);
-    let ah = a.closed;
-    let bh = b.closed;
-    let closed = chosen(more, ah, bh);
-    let ar = a.remembered;
-    let br = b.remembered;
-    let remembered = chosen(more, ar, br);
     Terms {
-        pending,
-        edges,
-        commands,
-        turns,
-        closed,
-        remembered,
+        pending: chosen(more, a.pending, b.pending),
+        edges: chosen(more, a.edges, b.edges),
+        commands: chosen(more, a.commands, b.commands),
+        turns: chosen(more, a.turns, b.turns),
+        closed: chosen(more, a.closed, b.closed),
+        remembered: chosen(more, a.remembered, b.remembered),
     }
 }
 
@@ -161,37 +131,31 @@ fn terms_of(a: Waits, b: Waits) -> Terms
 pub(crate) fn newly(a: Waits, b: Waits) -> u32
     ensures { result ≡ word_of 32 (newly a b) }
 {
-    let mut w: u32 = 0;
-    let mut i: u32 = 0;
-    while i < 32 {
-        w = words::with_bit(w, i, is_new(a, b, i));
-        i = i + 1;
-    }
-    w
+    sources_where(|i| is_new(a, b, i))
 }
 
 // Source by source the second's number for those of a word, else the first's.
 pub(crate) fn chosen(w: u32, a: [u32; 32], b: [u32; 32]) -> [u32; 32]
     ensures { (p : ℕ → Bool) → ((i : ℕ) → i < 32 → bit w i ≡ p i) → result ≡ chosen p a b }
 {
-    let mut out = [0u32; 32];
-    let mut i: usize = 0;
-    while i < 32 {
-        out[i] = either(words::has(w, i as u32), b[i], a[i]);
-        i = i + 1;
-    }
-    out
+    array::from_fn(|i| if words::has(w, i as u32) { b[i] } else { a[i] })
 }
 
 // The sources of which the second has the larger bound.
 fn larger_word(a: Waits, b: Waits) -> u32
     ensures { result ≡ word_of 32 (larger a b) }
 {
+    sources_where(|i| is_larger(a, b, i))
+}
+
+// The word of the sources that pass a test.
+fn sources_where<F: Fn(u32) -> bool>(test: F) -> u32
+    requires { (i : ℕ) → i < 32 → F.pre test i }
+    ensures { (p : ℕ → Bool) → ((i : ℕ) (r : Bool) → i < 32 → F.post test i r → r ≡ p i) → result ≡ word_of 32 p }
+{
     let mut w: u32 = 0;
-    let mut i: u32 = 0;
-    while i < 32 {
-        w = words::with_bit(w, i, is_larger(a, b, i));
-        i = i + 1;
+    for i in 0..32 {
+        w = words::with_bit(w, i, test(i));
     }
     w
 }
@@ -217,24 +181,10 @@ fn bound_at(a: Waits, i: u32) -> u64
     ensures { result ≡ bound_of a i }
 {
     let k = i as usize;
-    six(
-        a.pending[k],
-        a.edges[k],
-        a.commands[k],
-        a.turns[k],
-        a.closed[k],
-        a.remembered[k],
-    )
-}
-
-fn six(a: u32, b: u32, c: u32, d: u32, e: u32, f: u32) -> u64
-    ensures { result ≡ a + b + c + d + e + f }
-{
-    a as u64 + b as u64 + c as u64 + d as u64 + e as u64 + f as u64
-}
-
-fn either(t: bool, x: u32, y: u32) -> u32
-    ensures { result ≡ pick t x y }
-{
-    if t { x } else { y }
+    u64::from(a.pending[k])
+        + u64::from(a.edges[k])
+        + u64::from(a.commands[k])
+        + u64::from(a.turns[k])
+        + u64::from(a.closed[k])
+        + u64::from(a.remembered[k])
 }

@@ -12,9 +12,7 @@ use Rattle.steps.specs.Refusals.{carried_out, limit_reached, damaged, unknown, p
 use Rattle.steps.specs.declared.Recorded.{Recorded}
 use Rattle.steps.specs.declared.Step.{Step}
 use Rattle.steps.specs.declared.Step.TheVariants.{Read, Write, Line}
-use Rattle.numbers.specs.declared.Number.{Number}
-use Rattle.numbers.specs.declared.Number.TheVariants.{Value, Refused}
-use Rattle.numbers.specs.Number.{number_at, told as number-told}
+use Rattle.numbers.specs.Number.{Number, Value, Refused, number_at, told as number-told}
 use Rattle.numbers.specs.Promises.{told_at}
 use Rattle.numbers.proofs.ReadLaws.{told-read, told-damaged, next_place}
 use Rattle.trace.specs.declared.Turn.{Turn}

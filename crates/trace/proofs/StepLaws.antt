@@ -12,12 +12,13 @@ use Rattle.words.proofs.ChoiceLaws.{pick_true, pick-false}
 use Rattle.steps.specs.Refusals.{damaged, unknown}
 use Rattle.steps.specs.declared.Recorded.{Recorded}
 use Rattle.steps.specs.declared.Step.TheVariants.{Read, Write, Line}
-use Rattle.numbers.specs.declared.Number.TheVariants.{Value, Refused}
-use Rattle.numbers.specs.Number.{number_at}
+use Rattle.std.specs.declared.result.Result.TheVariants.{Err}
+use Rattle.numbers.specs.declared.Fault.{Fault}
+use Rattle.numbers.specs.Number.{Value, Refused, number_at}
 use Rattle.numbers.proofs.ReadLaws.{IsRead, number_is}
 use Rattle.trace.specs.declared.Turn.{Turn}
 use Rattle.trace.specs.declared.Turn.TheVariants.{Found, Ended}
-use Rattle.trace.specs.Steps.{read_kind, write_kind, line_kind, operands_of, plain, two_numbers, by_third, by_second, by_first, by_kind, numbers_of, step_at}
+use Rattle.trace.specs.Steps.{read_kind, write_kind, line_kind, operands_of, plain, two_numbers, by_third, by_second, by_first, by_kind, numbers_of, step_at, made_turn}
 use Rattle.trace.specs.Promises.{Asks, Unwritten}
 
 -- ---- kinds
@@ -125,9 +126,12 @@ no_operands told kind = (only told, λ h. so (kind-is told kind) h.0 h.1.0 h.1.1
 -- ---- the ways
 
 module _ (told : Bool) (s : List ℕ) (at : ℕ) where
-  pub kind-damaged : number_at s at ≡ Refused damaged at → step_at told s at ≡ Ended damaged at
+  pub kind-fault : (h : Fault) → number_at s at ≡ Err h → step_at told s at ≡ made_turn (Err h)
   unfolding step_at
-  kind-damaged e = ap (by_kind told s at) e
+  kind-fault h e = ap (by_kind told s at) e
+
+  pub kind-damaged : number_at s at ≡ Refused damaged at → step_at told s at ≡ Ended damaged at
+  kind-damaged e = kind-fault _ e
 
   pub kind-unknown : (kind p : ℕ) → number_at s at ≡ Value kind p → operands_of told kind ≡ 0 → step_at told s at ≡ Ended unknown at
   unfolding step_at
@@ -138,8 +142,12 @@ module _ (told : Bool) (s : List ℕ) (at : ℕ) where
   unfolding step_at
   known kind p e l = ap (by_kind told s at) e ∙ sym (pick-false (Ended unknown at) (ne_eqb (operands_of told kind) 0 (λ z. omega arith)))
 
+  pub first-fault : (kind p : ℕ) (h : Fault) → number_at s at ≡ Value kind p → 0 < operands_of told kind → number_at s p ≡ Err h
+      → step_at told s at ≡ made_turn (Err h)
+  first-fault kind p h e l f = known kind p e l ∙ ap (by_first told s kind) f
+
   pub first-damaged : (kind p : ℕ) → number_at s at ≡ Value kind p → 0 < operands_of told kind → number_at s p ≡ Refused damaged p → step_at told s at ≡ Ended damaged p
-  first-damaged kind p e l f = known kind p e l ∙ ap (by_first told s kind) f
+  first-damaged kind p e l f = first-fault kind p _ e l f
 
   pub one_number_lem : (kind p x next : ℕ) → number_at s at ≡ Value kind p → operands_of told kind ≡ 1 → number_at s p ≡ Value x next
       → step_at told s at ≡ Found (plain (Read x)) next
@@ -152,9 +160,13 @@ module _ (told : Bool) (s : List ℕ) (at : ℕ) where
   wider kind p x q e l f =
       known kind p e (omega arith) ∙ ap (by_first told s kind) f ∙ sym (pick-false (Found (plain (Read x)) q) (ne_eqb (operands_of told kind) 1 (λ z. omega arith)))
 
+  pub second-fault : (kind p x q : ℕ) (h : Fault) → number_at s at ≡ Value kind p → 1 < operands_of told kind → number_at s p ≡ Value x q → number_at s q ≡ Err h
+      → step_at told s at ≡ made_turn (Err h)
+  second-fault kind p x q h e l f g = wider kind p x q e l f ∙ ap (by_second told s kind x) g
+
   pub second-damaged : (kind p x q : ℕ) → number_at s at ≡ Value kind p → 1 < operands_of told kind → number_at s p ≡ Value x q → number_at s q ≡ Refused damaged q
       → step_at told s at ≡ Ended damaged q
-  second-damaged kind p x q e l f g = wider kind p x q e l f ∙ ap (by_second told s kind x) g
+  second-damaged kind p x q e l f g = second-fault kind p x q _ e l f g
 
   pub two_numbers_lem : (kind p x q y next : ℕ) → number_at s at ≡ Value kind p → operands_of told kind ≡ 2 → number_at s p ≡ Value x q → number_at s q ≡ Value y next
       → step_at told s at ≡ Found (two_numbers kind x y) next
@@ -168,9 +180,13 @@ module _ (told : Bool) (s : List ℕ) (at : ℕ) where
       wider kind p x q e (omega arith) f ∙ ap (by_second told s kind x) g
       ∙ sym (pick-false (Found (two_numbers kind x y) r) (ne_eqb (operands_of told kind) 2 (λ z. omega arith)))
 
+  pub third-fault : (kind p x q y r : ℕ) (d : Fault) → number_at s at ≡ Value kind p → 2 < operands_of told kind → number_at s p ≡ Value x q → number_at s q ≡ Value y r
+      → number_at s r ≡ Err d → step_at told s at ≡ made_turn (Err d)
+  third-fault kind p x q y r d e l f g h = widest kind p x q y r e l f g ∙ ap (by_third x y) h
+
   pub third-damaged : (kind p x q y r : ℕ) → number_at s at ≡ Value kind p → 2 < operands_of told kind → number_at s p ≡ Value x q → number_at s q ≡ Value y r
       → number_at s r ≡ Refused damaged r → step_at told s at ≡ Ended damaged r
-  third-damaged kind p x q y r e l f g h = widest kind p x q y r e l f g ∙ ap (by_third x y) h
+  third-damaged kind p x q y r e l f g h = third-fault kind p x q y r _ e l f g h
 
   pub three_numbers : (kind p x q y r z next : ℕ) → number_at s at ≡ Value kind p → 2 < operands_of told kind → number_at s p ≡ Value x q → number_at s q ≡ Value y r
       → number_at s r ≡ Value z next → step_at told s at ≡ Found (record { step = Write x z; privilege = y }) next

@@ -11,9 +11,7 @@ use Rattle.words.proofs.ChoiceLaws.{pick_true, pick-false}
 use Rattle.steps.specs.Refusals.{privileged}
 use Rattle.steps.specs.declared.Recorded.{Recorded}
 use Rattle.steps.specs.declared.Step.{Step}
-use Rattle.numbers.specs.declared.Number.{Number}
-use Rattle.numbers.specs.declared.Number.TheVariants.{Value}
-use Rattle.numbers.specs.Number.{number_at, told as told_of}
+use Rattle.numbers.specs.Number.{Number, Value, number_at, told as told_of}
 use Rattle.trace.specs.declared.Turn.TheVariants.{Found}
 use Rattle.trace.specs.Steps.{read_kind, write_kind, line_kind, step_at}
 use Rattle.trace.proofs.StepLaws.{read_one, read-two, write_two, write_three, line-two, one_number_lem, two_numbers_lem, three_numbers, two-read, two-write, two-line}

@@ -1,14 +1,14 @@
 -- What stands where a step would begin: its kind and the numbers that go with it (01, "House trace"; 02, 2/12).
-use Rattle.std.specs.Prelude.{ℕ, ◌+◌, Bool, true, false, List, [], ◌∷◌, eqb}
+use Rattle.std.specs.Prelude.{ℕ, ◌+◌, Bool, true, false, List, [], ◌∷◌, eqb, Ok, Err}
 use Rattle.words.specs.Choice.{pick}
 use Rattle.words.specs.Counting.{one}
+use Rattle.std.specs.declared.result.Result.{Result}
 use Rattle.steps.specs.Refusals.{carried_out, unknown, privileged}
 use Rattle.steps.specs.declared.Recorded.{Recorded}
 use Rattle.steps.specs.declared.Step.{Step}
 use Rattle.steps.specs.declared.Step.TheVariants.{Read, Write, Line}
-use Rattle.numbers.specs.Number.{number_at}
-use Rattle.numbers.specs.declared.Number.{Number}
-use Rattle.numbers.specs.declared.Number.TheVariants.{Value, Refused}
+use Rattle.numbers.specs.declared.Fault.{Fault}
+use Rattle.numbers.specs.Number.{Number, number_at}
 use Rattle.trace.specs.declared.Turn.{Turn}
 use Rattle.trace.specs.declared.Turn.TheVariants.{Found, Ended}
 
@@ -40,27 +40,35 @@ two_numbers kind x y = pick (eqb kind read_kind) (record { step = Read x; privil
 
 -- the third number; only a write whose privilege is told has one, its value
 abbrev pub by_third : ℕ → ℕ → Number → Turn
-by_third offset privilege (Refused n p) = Ended n p
-by_third offset privilege (Value value next) = Found (record { step = Write offset value; privilege = privilege }) next
+by_third offset privilege (Err f) = Ended f.refusal f.at
+by_third offset privilege (Ok value) = Found (record { step = Write offset value.value; privilege = privilege }) value.next
 
 -- the second number that goes with a kind
 abbrev pub by_second : Bool → List ℕ → ℕ → ℕ → Number → Turn
-by_second told s kind x (Refused n p) = Ended n p
-by_second told s kind x (Value y next) = pick (eqb (operands_of told kind) 2) (Found (two_numbers kind x y) next) (by_third x y (number_at s next))
+by_second told s kind x (Err f) = Ended f.refusal f.at
+by_second told s kind x (Ok y) =
+    pick (eqb (operands_of told kind) 2) (Found (two_numbers kind x y.value) y.next) (by_third x y.value (number_at s y.next))
 
 -- the first one; only a read whose privilege is not told has no other
 abbrev pub by_first : Bool → List ℕ → ℕ → Number → Turn
-by_first told s kind (Refused n p) = Ended n p
-by_first told s kind (Value x next) = pick (eqb (operands_of told kind) 1) (Found (plain (Read x)) next) (by_second told s kind x (number_at s next))
+by_first told s kind (Err f) = Ended f.refusal f.at
+by_first told s kind (Ok x) =
+    pick (eqb (operands_of told kind) 1) (Found (plain (Read x.value)) x.next) (by_second told s kind x.value (number_at s x.next))
 
 -- the kind: one that is not known is refused by 9 where it stands, and nothing after it is read
 abbrev pub by_kind : Bool → List ℕ → ℕ → Number → Turn
-by_kind told s at (Refused n p) = Ended n p
-by_kind told s at (Value kind next) = pick (eqb (operands_of told kind) 0) (Ended unknown at) (by_first told s kind (number_at s next))
+by_kind told s at (Err f) = Ended f.refusal f.at
+by_kind told s at (Ok kind) =
+    pick (eqb (operands_of told kind.value) 0) (Ended unknown at) (by_first told s kind.value (number_at s kind.next))
 
 -- the step at a place of a trace
 unfoldable pub step_at : Bool → List ℕ → ℕ → Turn
 step_at told s at = by_kind told s at (number_at s at)
+
+-- the turn that the code makes of a step with the place after it, or of what is wrong with it
+abbrev pub made_turn : Result (Recorded × ℕ) Fault → Turn
+made_turn (Ok found) = Found found.0 found.1
+made_turn (Err f) = Ended f.refusal f.at
 
 -- ---- what an answer tells, in the numbers of 01
 

@@ -2,15 +2,15 @@
 #![tactic(auto)]
 
 ghost use Rattle.std.specs.Prelude.{◌≡◌};
-ghost use Rattle.trace.specs.Steps.{operands_of, plain, two_numbers, by_third, by_second, by_first, by_kind, step_at};
+ghost use Rattle.trace.specs.Steps.{operands_of, plain, two_numbers, step_at, made_turn};
 ghost use Rattle.trace.specs.Trace.{turn_at};
 
 pub mod turns;
 
-use numbers::{Number, read_number};
+use numbers::{Fault, read_number};
 use steps::{Recorded, Step};
 
-// A step with the place after it, or the end: the refusal that makes it with its offset, else 0 and the length.
+// A step with the place after it, or the end: the refusal that makes it with its offset, else 0 and the length. It is no Result: a trace that ends with 0 is whole.
 #[derive(Clone, Copy)]
 pub enum Turn {
     Found(Recorded, usize),
@@ -34,75 +34,39 @@ pub fn turn_at(trace: &[u8], at: usize, left: u32, told: bool) -> Turn
     if left == 0 {
         return Turn::Ended(steps::LIMIT_REACHED, at);
     }
-    step_at(trace, at, told)
-}
-
-// The step at a place of a trace. Where no byte is left that is a number cut short: a turn looks for the end first.
-fn step_at(trace: &[u8], at: usize, told: bool) -> Turn
-    ensures { result ≡ step_at told trace.now at }
-{
-    by_kind(trace, at, told, read_number(trace, at))
-}
-
-// The step whose kind is the number n at a place.
-fn by_kind(trace: &[u8], at: usize, told: bool, n: Number) -> Turn
-    ensures { result ≡ by_kind told trace.now at n }
-{
-    match n {
-        Number::Refused(refusal, p) => Turn::Ended(refusal, p),
-        Number::Value(kind, next) => {
-            if operands(told, kind) == 0 {
-                return Turn::Ended(steps::UNKNOWN, at);
-            }
-            by_first(trace, told, kind, read_number(trace, next))
-        }
+    match step_at(trace, at, told) {
+        Ok((x, next)) => Turn::Found(x, next),
+        Err(fault) => Turn::Ended(fault.refusal, fault.at),
     }
 }
 
-// The step of a kind whose first number is n.
-fn by_first(trace: &[u8], told: bool, kind: u32, n: Number) -> Turn
-    ensures { result ≡ by_first told trace.now kind n }
+// The step at a place of a trace, with the place after it: its numbers one after the other, of which the first at fault refuses it. Where no byte is
+// left that is a number cut short: a turn looks for the end first.
+fn step_at(trace: &[u8], at: usize, told: bool) -> Result<(Recorded, usize), Fault>
+    ensures { made_turn result ≡ step_at told trace.now at }
 {
-    match n {
-        Number::Refused(refusal, p) => Turn::Ended(refusal, p),
-        Number::Value(x, next) => {
-            if operands(told, kind) == 1 {
-                return Turn::Found(plain(Step::Read(x)), next);
-            }
-            by_second(trace, told, kind, x, read_number(trace, next))
-        }
+    let kind = read_number(trace, at)?;
+    let wanted = operands(told, kind.value);
+    if wanted == 0 {
+        return Err(Fault {
+            refusal: steps::UNKNOWN,
+            at,
+        });
     }
-}
-
-// The step of a kind with the numbers x and n.
-fn by_second(trace: &[u8], told: bool, kind: u32, x: u32, n: Number) -> Turn
-    ensures { result ≡ by_second told trace.now kind x n }
-{
-    match n {
-        Number::Refused(refusal, p) => Turn::Ended(refusal, p),
-        Number::Value(y, next) => {
-            if operands(told, kind) == 2 {
-                return Turn::Found(two_numbers(kind, x, y), next);
-            }
-            by_third(x, y, read_number(trace, next))
-        }
+    let x = read_number(trace, kind.next)?;
+    if wanted == 1 {
+        return Ok((plain(Step::Read(x.value)), x.next));
     }
-}
-
-// The write of this offset and privilege whose value is n.
-fn by_third(offset: u32, privilege: u32, n: Number) -> Turn
-    ensures { result ≡ by_third offset privilege n }
-{
-    match n {
-        Number::Refused(refusal, p) => Turn::Ended(refusal, p),
-        Number::Value(value, next) => {
-            let w = Recorded {
-                step: Step::Write(offset, value),
-                privilege,
-            };
-            Turn::Found(w, next)
-        }
+    let y = read_number(trace, x.next)?;
+    if wanted == 2 {
+        return Ok((two_numbers(kind.value, x.value, y.value), y.next));
     }
+    let z = read_number(trace, y.next)?;
+    let write = Recorded {
+        step: Step::Write(x.value, z.value),
+        privilege: y.value,
+    };
+    Ok((write, z.next))
 }
 
 // A step of which the trace tells no privilege.

@@ -1,19 +1,19 @@
 // One turn of a loop over the steps of a trace, as numbers and with the short forms of numbers first: most have one byte or two.
 // A loop asks `sure(quick(..), ..)`: so `quick` is small and calls nothing that is not, and becomes a part of the loop.
-ghost use Rattle.std.specs.Prelude.{◌≡◌, ◌<◌, ◌≤◌, ◌+◌, length};
-ghost use Rattle.numbers.specs.declared.Number.TheVariants.{Value};
-ghost use Rattle.numbers.specs.Number.{number_at};
+ghost use Rattle.std.specs.Prelude.{◌≡◌, ◌<◌, ◌≤◌, ◌+◌, length, Ok, IfSome};
+ghost use Rattle.numbers.specs.Number.{Value, number_at};
 ghost use Rattle.trace.specs.declared.Turn.TheVariants.{Found, Ended};
 ghost use Rattle.trace.specs.Steps.{read_kind, step_at};
 ghost use Rattle.trace.specs.Trace.{turn_at};
 ghost use Rattle.trace.specs.Turns.{ended_kind, unsure_kind, made, step_of, turn_of, told_of, Spare, privilege_at};
 
 use super::Turn;
-use numbers::Short;
+use numbers::Taken;
 use steps::Step;
 
 // One turn as numbers: kind 0 is the end, with its refusal and the offset in `next`; 1 to 3 a step of that kind with the place after it;
 // UNSURE says nothing.
+// The loops of other crates take it apart by these numbers, which docs/CONTRACTS.md names, and so it is no enum and UNSURE no None.
 #[derive(Clone, Copy)]
 pub struct Told {
     pub kind: u32,
@@ -80,58 +80,55 @@ fn by_kind(trace: &[u8], at: usize, told: bool, kind: u32) -> Told
     requires { (at + 7 ≤ length trace.now) × ((0 < kind) × (kind < 4)) }
     ensures { ((result.kind ≡ unsure_kind → ⊥) → number_at trace.now at ≡ Value kind (at + 1) → turn_of result ≡ step_at told trace.now at) × (result.kind < 5) × ((result.kind ≡ unsure_kind → ⊥) → Spare result) }
 {
-    let a = short_in(trace, at + 1);
-    if a.next == 0 {
+    let Some(a) = short_in(trace, at + 1) else {
         return unsure();
-    }
-    let p = privilege_at(trace, a.next, told, kind);
-    if p.next == 0 {
+    };
+    let Some(p) = privilege_at(trace, a.next, told, kind) else {
         return unsure();
-    }
+    };
     if kind == super::READ {
         return found(kind, a.value, 0, p.value, p.next);
     }
-    let b = short_in(trace, p.next);
-    if b.next == 0 {
+    let Some(b) = short_in(trace, p.next) else {
         return unsure();
-    }
+    };
     found(kind, a.value, b.value, p.value, b.next)
 }
 
 // The privilege after the first number of a step, if it is short; where none is told, 1 and no byte.
-fn privilege_at(trace: &[u8], at: usize, told: bool, kind: u32) -> Short
+fn privilege_at(trace: &[u8], at: usize, told: bool, kind: u32) -> Option<Taken>
     requires { at + 2 ≤ length trace.now }
-    ensures { ((result.next ≡ 0 → ⊥) → privilege_at told kind trace.now at ≡ Value result.value result.next) × (result.next ≤ at + 2) }
+    ensures { IfSome result (λ t. (privilege_at told kind trace.now at ≡ Ok t) × (t.next ≤ at + 2)) }
 {
     if told & (kind != super::LINE) {
         return short_in(trace, at);
     }
-    Short {
+    Some(Taken {
         value: steps::PRIVILEGED,
         next: at,
-    }
+    })
 }
 
 // The number at a place, if it has one byte or two; two bytes are there.
-fn short_in(trace: &[u8], at: usize) -> Short
+fn short_in(trace: &[u8], at: usize) -> Option<Taken>
     requires { at + 2 ≤ length trace.now }
-    ensures { ((result.next ≡ 0 → ⊥) → number_at trace.now at ≡ Value result.value result.next) × (result.next ≤ at + 2) }
+    ensures { IfSome result (λ t. (number_at trace.now at ≡ Ok t) × (t.next ≤ at + 2)) }
 {
     let a = numbers::wide(trace[at]);
     if a < 128 {
-        return Short {
+        return Some(Taken {
             value: a,
             next: at + 1,
-        };
+        });
     }
     let b = numbers::wide(trace[at + 1]);
     if b < 128 {
-        return Short {
+        return Some(Taken {
             value: a - 128 + 128 * b,
             next: at + 2,
-        };
+        });
     }
-    Short { value: 0, next: 0 }
+    None
 }
 
 // A turn as numbers.

@@ -1,7 +1,7 @@
 // The waits of a source of an AIC over a trace, each with its bound (02, 11/12 and 12/12): as text, in a buffer that the caller lends, and as figures.
 #![tactic(auto)]
 
-ghost use Rattle.std.specs.Prelude.{◌≡◌, true, false, ◌-◌, ◌<◌, ◌≤◌, length};
+ghost use Rattle.std.specs.Prelude.{◌≡◌, true, false, ◌<◌, ◌≤◌, length};
 ghost use Rattle.words.specs.Choice.{pick};
 ghost use Rattle.steps.specs.Refusals.{carried_out};
 ghost use Rattle.text.specs.Text.{write, laid};
@@ -27,6 +27,7 @@ use text::NEWLINE;
 use trace::Turn;
 
 // Whether there are lines of waits, and how many bytes of them, or of the line that says why there are none, were written.
+// A flag beside the number, and not a Result: bytes are written in either case, and `list` promises both fields of every trace.
 #[derive(Clone, Copy)]
 pub struct Listed {
     pub listed: bool,
@@ -67,8 +68,7 @@ fn list_begun(trace: &[u8], source: u32, b: Begun, out: &mut [u8]) -> Listed
     requires { (b ≡ begin_of trace.now) × (b.refusal ≡ carried_out) }
     ensures { ((out.new, result.bytes) ≡ laid out.old (bound_text trace.now source)) × (result.listed ≡ is_listed trace.now source) }
 {
-    let m = b.machine;
-    if m.kind != kinds::AIC {
+    if b.machine.kind != kinds::AIC {
         let n = put_no_waits(out);
         return Listed {
             listed: false,
@@ -84,8 +84,7 @@ fn list_aic(trace: &[u8], source: u32, b: Begun, out: &mut [u8]) -> Listed
     ensures { ((out.new, result.bytes) ≡ laid out.old (bound_text trace.now source)) × (result.listed ≡ is_listed trace.now source) }
 {
     if is_source(source) {
-        let m = b.machine;
-        let n = put_lines(trace, source, b.place, m.aic, out);
+        let n = put_lines(trace, source, b.place, b.machine.aic, out);
         return Listed {
             listed: true,
             bytes: n,
@@ -164,6 +163,7 @@ pub fn most(f: Figures) -> u64
 
 // The lines of the waits over the steps from a place on, from the start of the buffer on, and what is told of them. The steps tell no privilege, as those
 // of an AIC. The limit falls by one with each step.
+// No range counts the steps: a turn of the trace tells its end, also where the limit is reached.
 fn tell_steps(
     trace: &[u8],
     limit: u32,
@@ -203,13 +203,13 @@ fn tell_steps(
                 let b = f.bound;
                 let w = aic_waits::stands(b.wait, source, s.depth, t);
                 let m = aic_bounds::marks_of(s, y, a.refusal == steps::CARRIED_OUT);
-                n = n + 1;
+                n += 1;
                 to = put_if(out, to, (1 < b.wait) & (w < 2), began, n, b);
                 began = aic_bounds::either(b.wait < 2, n, began);
                 f = aic_bounds::figures::figures_after(source, w, n, f, m, t);
                 s = t;
                 at = next;
-                left = left - 1;
+                left -= 1;
             }
         }
     }
@@ -233,18 +233,9 @@ fn put_wait(out: &mut [u8], at: usize, began: u32, ended: u32, b: Bound) -> usiz
 {
     let c = text::phrases::put_counted(out, at, b"began by step ", began);
     let d = put_ended(out, c, ended);
-    let e = text::phrases::put_counted(out, d, b"; handlers started ", less_two(b.wait));
+    let e = text::phrases::put_counted(out, d, b"; handlers started ", b.wait.saturating_sub(2));
     let g = put_bound(out, e, b);
     text::put(out, g, NEWLINE)
-}
-
-fn less_two(n: u32) -> u32
-    ensures { result ≡ n - 2 }
-{
-    if n < 2 {
-        return 0;
-    }
-    n - 2
 }
 
 // By which step it ended.

@@ -65,10 +65,8 @@ pub fn put_values(out: &mut [u8], at: usize, widths: &[u32], values: &[u32]) -> 
     ensures { (out.new, result) ≡ write (out.old, at) (values_from 0 widths.now values.now) }
 {
     let mut next = at;
-    let mut k: usize = 0;
-    while k < widths.len() {
-        next = put_change(out, next, widths[k], (k % 94) as u32, number_at(values, k));
-        k = k + 1;
+    for (k, &width) in widths.iter().enumerate() {
+        next = put_change(out, next, width, (k % 94) as u32, number_at(values, k));
     }
     next
 }
@@ -84,17 +82,15 @@ pub fn put_changes(
     ensures { (out.new, result) ≡ write (out.old, at) (changes_from 0 widths.now before.now values.now) }
 {
     let mut next = at;
-    let mut k: usize = 0;
-    while k < widths.len() {
+    for (k, &width) in widths.iter().enumerate() {
         next = put_if_changed(
             out,
             next,
-            widths[k],
+            width,
             (k % 94) as u32,
             number_at(before, k),
             number_at(values, k),
         );
-        k = k + 1;
     }
     next
 }
@@ -136,10 +132,7 @@ fn put_binary(out: &mut [u8], at: usize, v: u32, digits: u32) -> usize
 fn number_at(s: &[u32], k: usize) -> u32
     ensures { result ≡ get_or s.now k 0 }
 {
-    if k < s.len() {
-        return s[k];
-    }
-    0
+    s.get(k).copied().unwrap_or(0)
 }
 
 // ---- ticks

@@ -2,7 +2,6 @@
 pub mod Examples
 pub mod FitLaws
 pub mod HeadingLaws
-pub mod KindLaws
 pub mod NumberLaws
 pub mod PaddingLaws
 pub mod Promises

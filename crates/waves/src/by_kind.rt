@@ -47,9 +47,7 @@ fn put_own(out: &mut [u8], at: usize, kind: u32) -> usize
 pub(crate) fn put_first(out: &mut [u8], at: usize, kind: u32, values: &[u32; 11]) -> usize
     ensures { (out.new, result) ≡ write (out.old, at) (first_tick (widths kind) values.now) }
 {
-    let w = super::signals::widths(kind);
-    let n = super::signals::count(kind);
-    vcd::put_first(out, at, &w[..n], values)
+    vcd::put_first(out, at, super::signals::widths(kind), values)
 }
 
 // Tick n: what changed since the values before.
@@ -63,7 +61,5 @@ pub(crate) fn put_next(
 ) -> usize
     ensures { (out.new, result) ≡ write (out.old, at) (next_tick n (widths kind) before.now values.now) }
 {
-    let w = super::signals::widths(kind);
-    let k = super::signals::count(kind);
-    vcd::put_next(out, at, n, &w[..k], before, values)
+    vcd::put_next(out, at, n, super::signals::widths(kind), before, values)
 }

@@ -11,6 +11,7 @@ use trace::Turn;
 
 // The ticks of the steps from a place on, and how they end, on a machine that is known to be sound; where `told`, the steps tell their privilege. The limit
 // falls by one with each step.
+// No range counts the steps: a turn of the trace tells its end, also where the limit is reached.
 pub(crate) fn put_steps(
     trace: &[u8],
     limit: u32,
@@ -39,8 +40,8 @@ pub(crate) fn put_steps(
                 let a = machine::step_sound(m, x);
                 m = a.machine;
                 at = next;
-                more = more - 1;
-                number = number + 1;
+                more -= 1;
+                number += 1;
                 let step = x.step;
                 let t = ticks::put_step(out, to, number, &before, step, a.refusal, a.value, m);
                 to = t.to;

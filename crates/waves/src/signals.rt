@@ -1,10 +1,10 @@
-// What a wave shows of each kind of controller: how many signals it has, their widths, and their values after a step.
-ghost use Rattle.std.specs.Prelude.{◌≡◌, true, [], ◌∷◌, length};
+// What a wave shows of each kind of controller: the widths of its signals, and their values after a step.
+ghost use Rattle.std.specs.Prelude.{◌≡◌, true, [], ◌∷◌};
 ghost use Rattle.aic_record.specs.Sound.{sound as aic_sound};
 ghost use Rattle.coreinterrupt.specs.Model.{sound as core_sound};
 ghost use Rattle.aintc_registers.specs.Settle.{sound as aintc_sound};
 ghost use Rattle.machine.specs.Machine.{of_aic, of_core, of_aintc, sound};
-ghost use Rattle.waves.specs.Signals.{moment, rows, widths, values, eleven};
+ghost use Rattle.waves.specs.Signals.{moment, widths, values, eleven};
 
 use aic_record::Aic;
 use aintc_record::Aintc;
@@ -93,46 +93,16 @@ fn aintc_values(refusal: u32, value: u32, letter: u32, s: Aintc) -> [u32; 11]
 
 // ---- widths
 
-// How many signals a kind has.
-pub(crate) fn count(kind: u32) -> usize
-    ensures { result ≡ length (rows kind) }
+// How many bits each signal of a kind has.
+pub(crate) fn widths(kind: u32) -> &'static [u32]
+    ensures { result.now ≡ widths kind }
 {
-    if kind == kinds::AIC {
-        return 11;
+    match kind {
+        kinds::AIC => &[8, 32, 8, 1, 1, 4, 5, 8, 32, 32, 32],
+        kinds::CORE => &[8, 32, 8, 1, 1, 32, 32, 8, 8],
+        kinds::CIC => &[8, 32, 8, 9, 9],
+        kinds::AINTC => &[8, 32, 8, 1, 1, 7, 7, 7, 7],
+        kinds::INDEXED => &[8, 32, 8, 9, 9],
+        _ => &[8, 32, 8],
     }
-    if kind == kinds::CORE {
-        return 9;
-    }
-    if kind == kinds::CIC {
-        return 5;
-    }
-    if kind == kinds::AINTC {
-        return 9;
-    }
-    if kind == kinds::INDEXED {
-        return 5;
-    }
-    3
-}
-
-// How many bits each has; places past the last are 0.
-pub(crate) fn widths(kind: u32) -> [u32; 11]
-    ensures { result ≡ eleven (widths kind) }
-{
-    if kind == kinds::AIC {
-        return [8, 32, 8, 1, 1, 4, 5, 8, 32, 32, 32];
-    }
-    if kind == kinds::CORE {
-        return [8, 32, 8, 1, 1, 32, 32, 8, 8, 0, 0];
-    }
-    if kind == kinds::CIC {
-        return [8, 32, 8, 9, 9, 0, 0, 0, 0, 0, 0];
-    }
-    if kind == kinds::AINTC {
-        return [8, 32, 8, 1, 1, 7, 7, 7, 7, 0, 0];
-    }
-    if kind == kinds::INDEXED {
-        return [8, 32, 8, 9, 9, 0, 0, 0, 0, 0, 0];
-    }
-    [8, 32, 8, 0, 0, 0, 0, 0, 0, 0, 0]
 }

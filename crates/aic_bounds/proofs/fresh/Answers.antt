@@ -5,5 +5,5 @@ use Rattle.aic_bounds.proofs.fresh.Goals as goal
 pub returns : goal.returns
 returns c =
     let a = c.args in
-    fresh-from a.k a.t c.rival_word-rivals.ensures c.meet-on.ensures c.due_word.ensures c.meet.ensures c.count-pending.ensures
-    c.is_carried.ensures c.one_if-remembered.ensures
+    rw c.idle.ensures (fresh-from a.k a.t c.rival_word-rivals.ensures c.meet-on.ensures c.due_word.ensures c.meet.ensures c.count-pending.ensures
+    c.is_carried.ensures c.one_if-remembered.ensures)

@@ -1,6 +1,5 @@
 -- That `held_word` of src/lib.rt keeps its contract.
 use native.Mathlib.Omega.{arith}
-use Prim.Native.Nat.{◌-◌}
 use Rattle.words.specs.Word.{word_of}
 use Rattle.words.proofs.CountingLaws.{at_end}
 use Rattle.aic_bounds.proofs.WordLaws.{held_among, held_none, held_more, held-from}

@@ -1,5 +1,5 @@
 -- That `held_word` of src/lib.rt keeps its contract.
-use Prim.Native.Nat.{◌≤◌, ◌-◌}
+use Prim.Native.Nat.{◌≤◌}
 use mathlib.Core.Path.{◌≡◌}
 use Rattle.words.specs.Word.{word_of}
 use Rattle.aic_bounds.proofs.WordLaws.{held_among}
@@ -7,6 +7,3 @@ use Rattle.aic_bounds.proofs.held_word.Given as goal
 
 abbrev pub invariant-loop-d : goal.invariant-loop-d
 invariant-loop-d l = (l.d ≤ l.s.depth) × (l.w ≡ word_of 32 (held_among l.s l.d))
-
-abbrev pub decreases-loop-d : goal.decreases-loop-d
-decreases-loop-d l = l.s.depth - l.d

@@ -4,5 +4,5 @@ use Rattle.aic_bounds.proofs.hot_word.Goals as goal
 
 pub returns : goal.returns
 returns c =
-    let a = c.args in hot-from a.s a.j c.is_edge.ensures c.is_active.ensures
+    let a = c.args in hot-from a.s a.j c.edge_at.ensures c.is_active.ensures
     c.with_bit.ensures

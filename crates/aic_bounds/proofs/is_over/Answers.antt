@@ -4,5 +4,5 @@ use Rattle.aic_bounds.proofs.is_over.Goals as goal
 
 pub returns : goal.returns
 returns c =
-    let a = c.args in over-from a.s a.j a.d c.mode_at.ensures c.priority_of.ensures
+    let a = c.args in over-from a.s a.j a.d c.priority_at.ensures
     c.level_at.ensures

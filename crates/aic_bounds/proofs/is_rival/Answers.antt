@@ -5,5 +5,5 @@ use Rattle.aic_bounds.proofs.is_rival.Goals as goal
 pub returns : goal.returns
 returns c =
     let a = c.args in
-    rival-from a.s a.k a.i c.mode_at.ensures c.priority_of-p.ensures c.mode_at-2.ensures c.priority_of-q.ensures
+    rival-from a.s a.k a.i c.priority_at-p.ensures c.priority_at-q.ensures
     c.has.ensures

@@ -5,4 +5,4 @@ use Rattle.aic_bounds.proofs.line_marks.Goals as goal
 pub returns : goal.returns
 returns c =
     let a = c.args in
-    line-from a.ok a.s a.k a.l c.turns_active.ensures c.is_edge-edge.ensures c.with_bit-edges.ensures c.with_bit-turns.ensures
+    rw c.no_marks.ensures (line-from a.ok a.s a.k a.l c.turns_active.ensures c.edge_at-edge.ensures c.with_bit-edges.ensures c.with_bit-turns.ensures)

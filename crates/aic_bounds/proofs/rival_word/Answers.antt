@@ -1,6 +1,5 @@
 -- That `rival_word` of src/lib.rt keeps its contract.
 use mathlib.Core.Path.{◌∙◌}
-use Prim.Native.Nat.{◌-◌}
 use native.Mathlib.Omega.{arith}
 use Rattle.words.specs.Word.{word_of}
 use Rattle.words.proofs.CountingLaws.{at_end}

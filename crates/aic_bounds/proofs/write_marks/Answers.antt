@@ -5,5 +5,5 @@ use Rattle.aic_bounds.proofs.write_marks.Goals as goal
 pub returns : goal.returns
 returns c =
     let a = c.args in
-    write-from a.ok a.s a.o a.v c.edge_word.ensures c.meet.ensures c.either-commands.ensures
-    c.last_source.ensures c.hot_word.ensures c.either-closed.ensures
+    rw c.no_marks.ensures (write-from a.ok a.s a.o a.v c.edge_word.ensures c.meet.ensures c.either-commands.ensures
+    c.last_source.ensures c.hot_word.ensures c.either-closed.ensures)

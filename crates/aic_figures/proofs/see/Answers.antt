@@ -10,4 +10,4 @@ returns-then-k-eq0 c = rw (le-ltb 0 c.args.k (omega (arith, c.if-k-eq0.true)))
 
 pub returns : goal.returns
 unfolding pick
-returns c = rw (c.larger-m.ensures, lt-ltb 0 c.args.k (omega (arith, c.if-k-eq0.false)))
+returns c = rw (c.max-m.ensures, lt-ltb 0 c.args.k (omega (arith, c.if-k-eq0.false)))

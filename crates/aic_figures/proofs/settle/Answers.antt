@@ -2,4 +2,4 @@
 use Rattle.aic_figures.proofs.settle.Goals as goal
 
 pub returns : goal.returns
-returns c = rw (c.larger-m.ensures, c.less-n.ensures)
+returns c = rw (c.max-m.ensures, c.saturating_sub-n.ensures)

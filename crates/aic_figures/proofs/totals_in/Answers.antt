@@ -6,9 +6,9 @@ pub returns : goal.returns
 returns c =
     let a = c.args in
     let p = c.settle_all in
-    let i = c.words_from-started in
-    let j = c.words_from-waited in
-    let k = c.words_from-entries in
+    let i = c.words_from in
+    let j = c.words_from-2 in
+    let k = c.words_from-3 in
     let x = i.ensures in
     let y = j.ensures in
     let z = k.ensures in

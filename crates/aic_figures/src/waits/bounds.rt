@@ -30,10 +30,8 @@ fn above(room: &Room, p: u32) -> u32
     ensures { (t : Aic) → Laid t room.now → result ≡ word_of 32 (λ i. ltb p (priority t i)) }
 {
     let mut w: u32 = 0;
-    let mut q = p + 1;
-    while q < 8 {
+    for q in p + 1..8 {
         w = words::join(w, room[CLASS + q as usize]);
-        q = q + 1;
     }
     w
 }
@@ -58,12 +56,10 @@ fn held_word(room: &Room) -> u32
         return 0;
     }
     let mut w: u32 = 0;
-    let mut d: u32 = 0;
-    while d < depth {
+    for d in 0..depth {
         let j = room[SOURCE + d as usize] % 32;
         let over = room[MODE + j as usize] % 8 <= room[LEVEL + d as usize];
         w = words::with_bit(w, j, words::has(w, j) | over);
-        d = d + 1;
     }
     words::drop_bits(w, 1)
 }
@@ -115,13 +111,13 @@ fn fresh(room: &Room, k: u32) -> Bound
     Bound {
         wait: 2,
         rivals: ahead,
-        on: on,
-        pending: pending,
+        on,
+        pending,
         edges: 0,
         commands: 0,
         turns: 0,
         closed: 0,
-        remembered: remembered,
+        remembered,
         broke: 0,
     }
 }
@@ -142,13 +138,13 @@ fn grown(room: &Room, w: u32, b: Bound, n: u32, m: Marks) -> Bound
     Bound {
         wait: w,
         rivals: b.rivals,
-        on: on,
-        pending: pending,
-        edges: edges,
-        commands: commands,
-        turns: turns,
-        closed: closed,
+        on,
+        pending,
+        edges,
+        commands,
+        turns,
+        closed,
         remembered: b.remembered,
-        broke: broke,
+        broke,
     }
 }

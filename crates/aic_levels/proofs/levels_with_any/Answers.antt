@@ -22,4 +22,4 @@ loop-level-preserved c =
 pub returns : goal.returns
 returns c =
     let a = c.args in
-    at_end (λ n. word_of n (λ i. not (eqb (get_or a.levels.now i 0) 0))) _ 8 c.loop-level.invariant.0 c.loop-level-test.false c.loop-level.invariant.1
+    at_end (λ n. word_of n (λ i. not (eqb (get_or a.levels.now i 0) 0))) _ 8 c.loop-level.invariant.0 (omega arith) c.loop-level.invariant.1

@@ -1,5 +1,6 @@
 -- That `step` of src/lib.rt keeps its contract.
 use mathlib.Core.Path.{ap, ◌∙◌}
+use native.Mathlib.Omega.{arith}
 use borrow.Author.Tests.{eq-eqb, ne_eqb}
 use Rattle.words.proofs.ChoiceLaws.{pick_true, pick-false}
 use Rattle.trace.specs.Turns.{step_of}
@@ -7,16 +8,16 @@ use Rattle.aic.specs.Model.{step}
 use Rattle.aic_room.proofs.ReplyLaws.{done_as}
 use Rattle.aic_room.proofs.step.Goals as goal
 
-pub returns-then-kind-eq-READ : goal.returns-then-kind-eq-READ
+pub returns-in-1 : goal.returns-in-1
 unfolding step_of
-returns-then-kind-eq-READ c = λ a ok h. done_as (ap (step a) (pick_true _ (eq-eqb _ _ c.if-kind-eq-READ.true))) (c.read.ensures a ok h)
+returns-in-1 c = λ a ok h. done_as (ap (step a) (pick_true _ (eq-eqb _ _ c.in-1.is))) (c.read.ensures a ok h)
 
-pub returns-then-kind-eq-WRITE : goal.returns-then-kind-eq-WRITE
+pub returns-in-2 : goal.returns-in-2
 unfolding step_of
-returns-then-kind-eq-WRITE c =
-    λ a ok h. done_as (ap (step a) (pick_true _ (eq-eqb _ _ c.if-kind-eq-WRITE.true) ∙ pick-false _ (ne_eqb _ _ c.if-kind-eq-READ.false))) (c.write.ensures a ok h)
+returns-in-2 c =
+    λ a ok h. done_as (ap (step a) (pick_true _ (eq-eqb _ _ c.in-2.is) ∙ pick-false _ (ne_eqb _ 1 (omega (arith, c.in-2.is))))) (c.write.ensures a ok h)
 
-pub returns : goal.returns
+pub returns-in_default : goal.returns-in_default
 unfolding step_of
-returns c =
-    λ a ok h. done_as (ap (step a) (pick-false _ (ne_eqb _ _ c.if-kind-eq-WRITE.false) ∙ pick-false _ (ne_eqb _ _ c.if-kind-eq-READ.false))) (c.line.ensures a ok h)
+returns-in_default c =
+    λ a ok h. done_as (ap (step a) (pick-false _ (ne_eqb _ 2 (omega arith)) ∙ pick-false _ (ne_eqb _ 1 (omega arith)))) (c.line.ensures a ok h)

@@ -1,10 +1,7 @@
 -- That `search` of src/lib.rt keeps its contract.
-use Prim.Native.Nat.{◌-◌, ◌≤◌}
+use Prim.Native.Nat.{◌≤◌}
 use Rattle.aic_sources.proofs.SearchLaws.{Kept}
 use Rattle.aic_sources.proofs.search.Given as goal
 
 abbrev pub invariant-loop-k : goal.invariant-loop-k
 invariant-loop-k l = (l.k ≤ 32) × Kept l.waiting l.mode l.least l.k l.best l.floor
-
-abbrev pub decreases-loop-k : goal.decreases-loop-k
-decreases-loop-k l = 32 - l.k

@@ -1,14 +1,8 @@
 -- That `begin` of src/lib.rt keeps its contract.
-use mathlib.Core.Path.{ap, ◌∙◌}
-use borrow.Author.Tests.{lt-ltb, le-ltb}
-use Rattle.words.proofs.ChoiceLaws.{pick_true, pick-false}
-use Rattle.beginning.specs.Begin.{begin_of, by_controller}
+use mathlib.Core.Path.{sym, ap, ◌∙◌}
+use Rattle.beginning.specs.Begin.{begun_by, by_setup}
 use Rattle.beginning.proofs.begin.Goals as goal
 
-pub returns-then-trace-gt-LONGEST : goal.returns-then-trace-gt-LONGEST
-unfolding begin_of
-returns-then-trace-gt-LONGEST c = c.not_begun.ensures ∙ pick_true _ (lt-ltb _ _ c.if-trace-gt-LONGEST.true)
-
-pub returns : goal.returns
-unfolding begin_of
-returns c = c.by_controller.ensures ∙ ap (by_controller _) c.read_number.ensures ∙ pick-false _ (le-ltb _ _ c.if-trace-gt-LONGEST.false)
+pub returns-in-Ok : goal.returns-in-Ok
+unfolding by_setup
+returns-in-Ok c = rw c.start-m.ensures (ap begun_by (sym c.in-Ok.is) ∙ c.set_up.ensures)

@@ -1,23 +1,39 @@
 -- That `set_up` of src/lib.rt keeps its contract.
-use mathlib.Core.Path.{refl, sym, ◌∙◌}
+use mathlib.Core.Path.{◌≡◌, sym, ap, ◌∙◌}
 use native.Mathlib.Omega.{arith}
-use Rattle.beginning.specs.Begin.{setup_of}
-use Rattle.beginning.proofs.BeginLaws.{setup-done, setup-damaged, setup-beyond, setup-taken}
-use borrow.Author.Rules.{rules}
+use borrow.Author.Tests.{lt-ltb, le-ltb}
+use Rattle.std.specs.declared.result.Result.TheVariants.{Err}
+use Rattle.words.proofs.ChoiceLaws.{pick_true, pick-false, by-true, by-false}
+use Rattle.beginning.specs.Begin.{begun_by, by_setup, by_controller, begin_of}
 use Rattle.beginning.proofs.set_up.Goals as goal
 
-pub loop-wanted-init : goal.loop-wanted-init
-unfolding setup_of
-loop-wanted-init c = rw (c.no_numbers-c.ensures, c.wanted-wanted.ensures) (refl, omega arith)
+pub returns-then-trace-gt-LONGEST : goal.returns-then-trace-gt-LONGEST
+unfolding begin_of
+returns-then-trace-gt-LONGEST c = pick_true _ (lt-ltb _ _ c.if-trace-gt-LONGEST.true)
 
-pub returns-then-wanted-eq0 : goal.returns-then-wanted-eq0
-returns-then-wanted-eq0 c = setup-done _ _ _ _ _ _ c.if-wanted-eq0.true ∙ c.loop-wanted.invariant.0
+pub returns-in_err-kind : goal.returns-in_err-kind
+unfolding begin_of
+returns-in_err-kind c =
+    let h : c.from_residual.result ≡ Err c.in_err-kind.field-0.0 = grind arith in
+    ap begun_by h ∙ ap (by_controller c.args.trace.now) (sym (sym c.read_number.ensures ∙ c.in_err-kind.was)) ∙ pick-false _ (le-ltb _ _ c.if-trace-gt-LONGEST.false)
 
-pub returns-in-Refused : goal.returns-in-Refused
-returns-in-Refused c = c.refused_setup.ensures ∙ setup-damaged _ _ _ _ _ _ _ _ c.if-wanted-eq0.false (sym c.read_number.ensures ∙ c.in-Refused.is) ∙ c.loop-wanted.invariant.0
+pub returns-then-not-is_kind : goal.returns-then-not-is_kind
+unfolding begin_of
+returns-then-not-is_kind c =
+    by-false _ c.is_kind.ensures c.if-not-is_kind.true ∙ ap (by_controller c.args.trace.now) (sym (sym c.read_number.ensures ∙ c.in_ok-kind.was))
+    ∙ pick-false _ (le-ltb _ _ c.if-trace-gt-LONGEST.false)
 
-pub returns-then-not-within : goal.returns-then-not-within
-returns-then-not-within c = c.refused_setup-then-not-within.ensures ∙ setup-beyond _ _ _ _ _ _ _ _ c.if-wanted-eq0.false (sym c.read_number.ensures ∙ c.in-Value.is) (sym c.within.ensures ∙ c.if-not-within.true) ∙ c.loop-wanted.invariant.0
+pub returns-in_err-t : goal.returns-in_err-t
+unfolding begin_of by_setup
+returns-in_err-t c =
+    let h : c.from_residual-in_err-t.result ≡ Err c.in_err-t.field-0.0 = grind arith in
+    let k = c.in_ok-kind.kind.value in
+    ap begun_by h ∙ ap (by_setup k) (sym c.in_err-t.was ∙ c.configuration_at.ensures) ∙ by-true _ c.is_kind.ensures c.if-not-is_kind.false
+    ∙ ap (by_controller c.args.trace.now) (sym (sym c.read_number.ensures ∙ c.in_ok-kind.was)) ∙ pick-false _ (le-ltb _ _ c.if-trace-gt-LONGEST.false)
 
-pub loop-wanted-preserved : goal.loop-wanted-preserved
-loop-wanted-preserved c = (rw c.with_number-c.ensures (setup-taken _ _ _ _ _ _ _ _ c.if-wanted-eq0.false (sym c.read_number.ensures ∙ c.in-Value.is) (sym c.within.ensures ∙ c.if-not-within.false) ∙ c.loop-wanted.invariant.0), search rules)
+pub returns : goal.returns
+unfolding begin_of
+returns c =
+    let k = c.in_ok-kind.kind.value in
+    ap (by_setup k) (sym c.in_ok-t.was ∙ c.configuration_at.ensures) ∙ by-true _ c.is_kind.ensures c.if-not-is_kind.false
+    ∙ ap (by_controller c.args.trace.now) (sym (sym c.read_number.ensures ∙ c.in_ok-kind.was)) ∙ pick-false _ (le-ltb _ _ c.if-trace-gt-LONGEST.false)

@@ -1,25 +1,22 @@
 -- That `word_held` of src/lib.rt keeps its contract.
-use mathlib.Core.Path.{◌≡◌, ap, ◌∙◌}
-use Prim.Native.Nat.{◌-◌}
+use mathlib.Core.Path.{refl, ap, ◌∙◌}
 use native.Mathlib.Omega.{arith}
-use borrow.Author.Tests.{eq-eqb, ne_eqb}
-use Rattle.words.proofs.ChoiceLaws.{pick_true, pick-false}
+use borrow.Author.Tests.{ne_eqb}
+use Rattle.words.specs.Choice.{pick}
+use Rattle.words.proofs.ChoiceLaws.{pick-false}
 use Rattle.cic_record.specs.declared.System.{System}
 use Rattle.cic_held.specs.Held.{word_held}
 use Rattle.cic_held.proofs.word_held.Goals as goal
 
-pub returns-then-x-eq1 : goal.returns-then-x-eq1
-unfolding word_held
-returns-then-x-eq1 c = pick_true _ (eq-eqb c.args.x 1 c.if-x-eq1.true)
+pub returns-in-0 : goal.returns-in-0
+unfolding word_held pick
+returns-in-0 c = rw c.in-0.is refl
 
-pub returns-then-x-lt2 : goal.returns-then-x-lt2
-unfolding word_held
-returns-then-x-lt2 c =
-    let x = c.args.x in
-    let e : 0 ≡ x - 2 = omega (arith, c.if-x-lt2.true) in
-    e ∙ pick-false _ (ne_eqb x 1 c.if-x-eq1.false)
+pub returns-in-1 : goal.returns-in-1
+unfolding word_held pick
+returns-in-1 c = rw c.in-1.is refl
 
-pub returns : goal.returns
+pub returns-in_default : goal.returns-in_default
 unfolding word_held
-returns c =
-    ap (λ (n : System). n.0) c.system_held-s.ensures ∙ pick-false _ (ne_eqb c.args.x 1 c.if-x-eq1.false)
+returns-in_default c =
+    c.from.ensures ∙ ap (λ (n : System). n.0) c.system_held.ensures ∙ pick-false _ (ne_eqb c.args.x 1 (λ e. omega (arith, e)))

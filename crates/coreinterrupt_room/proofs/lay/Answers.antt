@@ -3,4 +3,4 @@ use Rattle.coreinterrupt_room.proofs.RoomLaws.{lay_core}
 use Rattle.coreinterrupt_room.proofs.lay.Goals as goal
 
 pub returns : goal.returns
-returns c = lay_core _
+returns c = rw (c.lay_side-2.ensures, c.lay_side.ensures) (lay_core _)

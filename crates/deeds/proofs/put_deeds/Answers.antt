@@ -1,8 +1,36 @@
 -- That `put_deeds` of src/lib.rt keeps its contract.
-use Rattle.deeds.specs.Deeds.{deed_words}
+use mathlib.Core.Path.{ap, ◌∙◌}
+use borrow.Author.Rules.{rules}
+use Rattle.text.specs.Text.{write}
+use Rattle.text.proofs.WriteLaws.{nothing}
+use Rattle.kinds.proofs.KindLaws.{at_aic, at_core, at-cic, at_aintc, at_indexed, at_none}
+use Rattle.deeds.specs.Deeds.{deed_words, deeds_at}
 use Rattle.deeds.proofs.put_deeds.Goals as goal
 
-pub returns : goal.returns
-unfolding deed_words
-returns c =
-    c.put_deeds_at.ensures
+pub returns-in-0 : goal.returns-in-0
+unfolding deed_words deeds_at
+returns-in-0 c =
+    c.put_aic.ensures ∙ ap (write _) (at_aic _ _ c.in-0.is)
+
+pub returns-in-1 : goal.returns-in-1
+unfolding deed_words deeds_at
+returns-in-1 c = nothing _ ∙ ap (write _) (at_core _ _ c.in-1.is)
+
+pub returns-in-2 : goal.returns-in-2
+unfolding deed_words deeds_at
+returns-in-2 c =
+    c.put_cic.ensures ∙ ap (write _) (at-cic _ _ c.in-2.is)
+
+pub returns-in-3 : goal.returns-in-3
+unfolding deed_words deeds_at
+returns-in-3 c =
+    c.put_aintc.ensures ∙ ap (write _) (at_aintc _ _ c.in-3.is)
+
+pub returns-in-4 : goal.returns-in-4
+unfolding deed_words deeds_at
+returns-in-4 c =
+    c.put_cic-in-4.ensures ∙ ap (write _) (at_indexed _ _ c.in-4.is)
+
+pub returns-in_default : goal.returns-in_default
+unfolding deed_words deeds_at
+returns-in_default c = nothing _ ∙ ap (write _) (at_none _ _ (search rules) (search rules) (search rules) (search rules) (search rules))

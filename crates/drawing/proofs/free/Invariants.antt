@@ -1,12 +1,7 @@
 -- That `free` of src/lib.rt keeps its contract.
 use Rattle.drawing.specs.Bars.{free}
-use lib.ListN.{length}
 use mathlib.Core.Path.{◌≡◌}
-use Prim.Native.Nat.{◌-◌}
 use Rattle.drawing.proofs.free.Given as goal
 
 abbrev pub invariant-loop-j : goal.invariant-loop-j
 invariant-loop-j l = free l.ws l.place l.j ≡ free l.ws l.place l.k
-
-abbrev pub decreases-loop-j : goal.decreases-loop-j
-decreases-loop-j l = length l.ws - l.j

@@ -9,6 +9,3 @@ use Rattle.drawing.proofs.put_columns.Given as goal
 abbrev pub invariant-loop-k : goal.invariant-loop-k
 invariant-loop-k l =
     (write (l.out, l.next) (column_texts (length l.ws - l.k) l.first l.ws l.k) ≡ write (l.initial.out, l.at) (column_texts (length l.ws - 1) l.first l.ws 1)) × (length l.out ≡ length l.initial.out) × (1 ≤ l.k)
-
-abbrev pub decreases-loop-k : goal.decreases-loop-k
-decreases-loop-k l = length l.ws - l.k

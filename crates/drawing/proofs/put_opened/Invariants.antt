@@ -10,6 +10,3 @@ use Rattle.drawing.proofs.put_opened.Given as goal
 abbrev pub invariant-loop-k : goal.invariant-loop-k
 invariant-loop-k l =
     (write (l.out, l.next) (bar_texts (opened_from (length l.ws - l.k) l.ws l.k)) ≡ write (l.initial.out, l.at) (bar_texts (opened_from (length l.ws - 1) l.ws 1))) × (length l.out ≡ length l.initial.out) × (1 ≤ l.k)
-
-abbrev pub decreases-loop-k : goal.decreases-loop-k
-decreases-loop-k l = length l.ws - l.k

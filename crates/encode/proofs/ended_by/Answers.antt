@@ -6,7 +6,7 @@ use Rattle.encode.proofs.ended_by.Goals as goal
 
 pub returns-then-kind-eq-NO_KIND : goal.returns-then-kind-eq-NO_KIND
 unfolding ended_by
-returns-then-kind-eq-NO_KIND c = pick_true _ (eq-eqb _ _ c.if-kind-eq-NO_KIND.true)
+returns-then-kind-eq-NO_KIND c = rw c.number.ensures (pick_true _ (eq-eqb _ _ c.if-kind-eq-NO_KIND.true))
 
 pub returns : goal.returns
 unfolding ended_by

@@ -7,7 +7,7 @@ use Rattle.encode.proofs.line_of.Goals as goal
 
 pub returns-then-end-gt-LONGEST_TEXT : goal.returns-then-end-gt-LONGEST_TEXT
 unfolding line_of
-returns-then-end-gt-LONGEST_TEXT c = c.goes_astray.ensures ∙ pick_true _ (lt-ltb _ _ c.if-end-gt-LONGEST_TEXT.true)
+returns-then-end-gt-LONGEST_TEXT c = c.expects.ensures ∙ pick_true _ (lt-ltb _ _ c.if-end-gt-LONGEST_TEXT.true)
 
 pub returns : goal.returns
 unfolding line_of

@@ -4,7 +4,7 @@ use Rattle.encode.proofs.room_for.Goals as goal
 
 pub returns-then-size-s : goal.returns-then-size-s
 returns-then-size-s c =
-    room-over c.args.size c.args.s _ c.requires c.if-size-s.true c.goes_astray.ensures
+    room-over c.args.size c.args.s _ c.requires c.if-size-s.true c.expects.ensures
 
 pub returns : goal.returns
 returns c =

@@ -1,16 +1,22 @@
 -- That `put_spaces` of src/lib.rt keeps its contract.
-use mathlib.Core.Path.{refl, ◌∙◌}
+use Prim.Native.Nat.{◌+◌, ◌-◌}
+use mathlib.Core.Path.{◌≡◌, refl, ◌∙◌}
+use native.Mathlib.Omega.{arith}
 use Rattle.text.proofs.WriteLaws.{same_length as same-length-of}
 use Rattle.explain.proofs.StatedLaws.{spaces-turn, spaces-done}
 use Rattle.explain.proofs.put_spaces.Goals as goal
 
-pub loop-left-init : goal.loop-left-init
-loop-left-init c = (refl, refl)
+pub loop-k-init : goal.loop-k-init
+loop-k-init c =
+    let e : c.args.n - 0 ≡ c.args.n = omega arith in
+    (rw e, refl)
 
-pub loop-left-preserved : goal.loop-left-preserved
-loop-left-preserved c =
-    let l = c.loop-left in
-    (spaces-turn _ _ _ _ c.loop-left-test.true c.put-to.ensures l.invariant.0, same-length-of _ _ _ c.put-to.ensures ∙ l.invariant.1)
+pub loop-k-preserved : goal.loop-k-preserved
+loop-k-preserved c =
+    let l = c.loop-k in
+    let e : c.args.n - (l.k + 1) ≡ c.args.n - l.k - 1 = omega arith in
+    let some : c.args.n - l.k ≡ 0 → ⊥ = λ z. omega (arith, c.loop-k-test.true) in
+    (rw e (spaces-turn _ _ _ _ some c.put-to.ensures l.invariant.0), same-length-of _ _ _ c.put-to.ensures ∙ l.invariant.1)
 
 pub returns : goal.returns
-returns c = spaces-done _ _ _ c.loop-left-test.false c.loop-left.invariant.0
+returns c = spaces-done _ _ _ (omega (arith, c.loop-k-test.false)) c.loop-k.invariant.0

@@ -7,7 +7,7 @@ use Rattle.machine.specs.Steps.{after_indexed}
 use Rattle.machine.proofs.indexed_step.Goals as goal
 
 pub step_sound-a-requires : goal.step_sound-a-requires
-step_sound-a-requires c = ap indexed_sound c.indexed-s.ensures ∙ c.requires
+step_sound-a-requires c = ap indexed_sound c.indexed.ensures ∙ c.requires
 
 pub returns : goal.returns
-returns c = ap (after_indexed c.args.m) (c.step_sound-a.ensures ∙ ap (λ (p : Prioritised). indexed_step p c.args.x.step) c.indexed-s.ensures)
+returns c = ap (after_indexed c.args.m) (c.step_sound-a.ensures ∙ ap (λ (p : Prioritised). indexed_step p c.args.x.step) c.indexed.ensures)

@@ -1,30 +1,31 @@
 -- That `lay` of src/lib.rt keeps its contract.
 use mathlib.Core.Path.{◌∙◌}
+use borrow.Author.Rules.{rules}
 use Rattle.machine.proofs.MachineLaws.{sound-cic}
 use Rattle.machine_room.proofs.RoomLaws.{aic-laid, core-laid, cic-laid, aintc-laid, indexed-laid_as, last-kind}
 use Rattle.machine_room.proofs.lay.Goals as goal
 
-pub returns-then-m-eq-AIC : goal.returns-then-m-eq-AIC
-returns-then-m-eq-AIC c =
+pub returns-in-0 : goal.returns-in-0
+returns-in-0 c =
     let m = c.args.m in
-    λ _. aic-laid _ m _ c.if-m-eq-AIC.true c.lay_aic.ensures
+    λ _. aic-laid _ m _ c.in-0.is c.lay_aic.ensures
 
-pub returns-then-m-eq-CORE : goal.returns-then-m-eq-CORE
-returns-then-m-eq-CORE c =
+pub returns-in-1 : goal.returns-in-1
+returns-in-1 c =
     let m = c.args.m in
-    λ _. core-laid _ m _ c.if-m-eq-CORE.true c.lay.ensures
+    λ _. core-laid _ m _ c.in-1.is c.lay.ensures
 
-pub returns-then-m-eq-CIC : goal.returns-then-m-eq-CIC
-returns-then-m-eq-CIC c =
+pub returns-in-2 : goal.returns-in-2
+returns-in-2 c =
     let m = c.args.m in
-    λ ok. cic-laid _ m _ c.if-m-eq-CIC.true (c.lay-then-m-eq-CIC.ensures (sound-cic m c.if-m-eq-CIC.true ∙ ok))
+    λ ok. cic-laid _ m _ c.in-2.is (c.lay-in-2.ensures (sound-cic m c.in-2.is ∙ ok))
 
-pub returns-then-m-eq-AINTC : goal.returns-then-m-eq-AINTC
-returns-then-m-eq-AINTC c =
+pub returns-in-3 : goal.returns-in-3
+returns-in-3 c =
     let m = c.args.m in
-    λ _. aintc-laid _ m _ c.if-m-eq-AINTC.true c.lay-then-m-eq-AINTC.ensures
+    λ _. aintc-laid _ m _ c.in-3.is c.lay-in-3.ensures
 
-pub returns : goal.returns
-returns c =
+pub returns-in_default : goal.returns-in_default
+returns-in_default c =
     let m = c.args.m in
-    λ ok. indexed-laid_as _ m _ _ c.indexed.ensures (last-kind m ok c.if-m-eq-AIC.false c.if-m-eq-CORE.false c.if-m-eq-CIC.false c.if-m-eq-AINTC.false) ok c.lay-2.ensures
+    λ ok. indexed-laid_as _ m _ _ c.indexed.ensures (last-kind m ok (search rules) (search rules) (search rules) (search rules)) ok c.lay-in_default.ensures

@@ -19,6 +19,7 @@ pub fn play_steps(trace: &[u8], limit: u32, told: bool, start: usize, first: Mac
     let mut m = first;
     let mut left = limit;
     let mut count: u32 = 0;
+    // No range counts the steps: a turn of the trace tells its end, also where the limit is reached.
     loop {
         match trace::turn_at(trace, at, left, told) {
             Turn::Ended(refusal, offset) => {
@@ -33,8 +34,8 @@ pub fn play_steps(trace: &[u8], limit: u32, told: bool, start: usize, first: Mac
                 let a = machine::step_sound(m, x);
                 m = a.machine;
                 at = next;
-                left = left - 1;
-                count = count + 1;
+                left -= 1;
+                count += 1;
             }
         }
     }
@@ -58,6 +59,7 @@ pub fn list_steps(
     let mut more = limit;
     let mut number: u32 = 0;
     let mut to = from;
+    // No range counts the steps: a turn of the trace tells its end, also where the limit is reached.
     loop {
         match trace::turn_at(trace, at, more, told) {
             Turn::Ended(refusal, offset) => {
@@ -67,8 +69,8 @@ pub fn list_steps(
                 let a = machine::step_sound(m, x);
                 m = a.machine;
                 at = next;
-                more = more - 1;
-                number = number + 1;
+                more -= 1;
+                number += 1;
                 let step = x.step;
                 let letter = lines::letter_of(step, a.refusal);
                 let value = lines::shown_value(a.refusal, a.value);

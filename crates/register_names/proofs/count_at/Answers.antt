@@ -5,4 +5,4 @@ use Rattle.register_names.proofs.count_at.Goals as goal
 pub returns : goal.returns
 returns c =
     let a = c.args in
-    count_of a.table.now a.n a.k _ _ c.four_at-most.ensures.0 c.count_by.ensures
+    count_of a.row.now a.n _ _ c.four_at-most.ensures.0 c.count_by.ensures

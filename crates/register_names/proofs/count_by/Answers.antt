@@ -1,55 +1,55 @@
 -- That `count_by` of src/lib.rt keeps its contract.
 use mathlib.Core.Path.{◌∙◌}
+use native.Mathlib.Omega.{arith}
+use borrow.Author.Rules.{rules}
 use borrow.Author.Tests.{eq-eqb, ne_eqb}
 use Rattle.words.proofs.ChoiceLaws.{pick_true, pick-false}
 use Rattle.register_names.specs.Table.{count_by}
 use Rattle.register_names.proofs.count_by.Goals as goal
 
-pub returns-then-what-eq83 : goal.returns-then-what-eq83
+pub returns-in-83 : goal.returns-in-83
 unfolding count_by
-returns-then-what-eq83 c =
-    c.words_of.ensures
-    ∙ pick_true _ (eq-eqb _ _ c.if-what-eq83.true)
+returns-in-83 c = c.there_of.ensures ∙ pick_true _ (eq-eqb _ _ c.in-83.is)
 
-pub returns-then-what-eq115 : goal.returns-then-what-eq115
+pub returns-in-115 : goal.returns-in-115
 unfolding count_by
-returns-then-what-eq115 c =
-    c.quarters_of.ensures
-    ∙ pick_true _ (eq-eqb _ _ c.if-what-eq115.true)
-    ∙ pick-false _ (ne_eqb _ _ c.if-what-eq83.false)
+returns-in-115 c =
+    c.there_of-in-115.ensures
+    ∙ pick_true _ (eq-eqb _ _ c.in-115.is)
+    ∙ pick-false _ (ne_eqb _ _ (λ z. omega (arith, z, c.in-115.is)))
 
-pub returns-then-what-eq99 : goal.returns-then-what-eq99
+pub returns-in-99 : goal.returns-in-99
 unfolding count_by
-returns-then-what-eq99 c =
-    c.quarters_of-then-what-eq99.ensures
-    ∙ pick_true _ (eq-eqb _ _ c.if-what-eq99.true)
-    ∙ pick-false _ (ne_eqb _ _ c.if-what-eq115.false)
-    ∙ pick-false _ (ne_eqb _ _ c.if-what-eq83.false)
+returns-in-99 c =
+    c.there_of-in-99.ensures
+    ∙ pick_true _ (eq-eqb _ _ c.in-99.is)
+    ∙ pick-false _ (ne_eqb _ _ (λ z. omega (arith, z, c.in-99.is)))
+    ∙ pick-false _ (ne_eqb _ _ (λ z. omega (arith, z, c.in-99.is)))
 
-pub returns-then-what-eq72 : goal.returns-then-what-eq72
+pub returns-in-72 : goal.returns-in-72
 unfolding count_by
-returns-then-what-eq72 c =
-    c.words_of-then-what-eq72.ensures
-    ∙ pick_true _ (eq-eqb _ _ c.if-what-eq72.true)
-    ∙ pick-false _ (ne_eqb _ _ c.if-what-eq99.false)
-    ∙ pick-false _ (ne_eqb _ _ c.if-what-eq115.false)
-    ∙ pick-false _ (ne_eqb _ _ c.if-what-eq83.false)
+returns-in-72 c =
+    c.there_of-in-72.ensures
+    ∙ pick_true _ (eq-eqb _ _ c.in-72.is)
+    ∙ pick-false _ (ne_eqb _ _ (λ z. omega (arith, z, c.in-72.is)))
+    ∙ pick-false _ (ne_eqb _ _ (λ z. omega (arith, z, c.in-72.is)))
+    ∙ pick-false _ (ne_eqb _ _ (λ z. omega (arith, z, c.in-72.is)))
 
-pub returns-then-what-eq49 : goal.returns-then-what-eq49
+pub returns-in-49 : goal.returns-in-49
 unfolding count_by
-returns-then-what-eq49 c =
+returns-in-49 c =
     c.at_most.ensures
-    ∙ pick_true _ (eq-eqb _ _ c.if-what-eq49.true)
-    ∙ pick-false _ (ne_eqb _ _ c.if-what-eq72.false)
-    ∙ pick-false _ (ne_eqb _ _ c.if-what-eq99.false)
-    ∙ pick-false _ (ne_eqb _ _ c.if-what-eq115.false)
-    ∙ pick-false _ (ne_eqb _ _ c.if-what-eq83.false)
+    ∙ pick_true _ (eq-eqb _ _ c.in-49.is)
+    ∙ pick-false _ (ne_eqb _ _ (λ z. omega (arith, z, c.in-49.is)))
+    ∙ pick-false _ (ne_eqb _ _ (λ z. omega (arith, z, c.in-49.is)))
+    ∙ pick-false _ (ne_eqb _ _ (λ z. omega (arith, z, c.in-49.is)))
+    ∙ pick-false _ (ne_eqb _ _ (λ z. omega (arith, z, c.in-49.is)))
 
-pub returns : goal.returns
+pub returns-in_default : goal.returns-in_default
 unfolding count_by
-returns c =
-    pick-false _ (ne_eqb _ _ c.if-what-eq49.false)
-    ∙ pick-false _ (ne_eqb _ _ c.if-what-eq72.false)
-    ∙ pick-false _ (ne_eqb _ _ c.if-what-eq99.false)
-    ∙ pick-false _ (ne_eqb _ _ c.if-what-eq115.false)
-    ∙ pick-false _ (ne_eqb _ _ c.if-what-eq83.false)
+returns-in_default c =
+    pick-false _ (ne_eqb _ _ (search rules))
+    ∙ pick-false _ (ne_eqb _ _ (search rules))
+    ∙ pick-false _ (ne_eqb _ _ (search rules))
+    ∙ pick-false _ (ne_eqb _ _ (search rules))
+    ∙ pick-false _ (ne_eqb _ _ (search rules))

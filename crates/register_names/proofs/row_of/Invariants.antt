@@ -7,6 +7,3 @@ use Rattle.register_names.proofs.row_of.Given as goal
 
 abbrev pub invariant-loop-k : goal.invariant-loop-k
 invariant-loop-k l = (row_from l.table l.n l.o l.k (length l.table / 64 - l.k) ≡ row_from l.table l.n l.o 0 (length l.table / 64)) × (l.k ≤ length l.table / 64)
-
-abbrev pub decreases-loop-k : goal.decreases-loop-k
-decreases-loop-k l = length l.table / 64 - l.k

@@ -1,5 +1,6 @@
 -- That `put_line` of src/lib.rt keeps its contract.
 use mathlib.Core.Path.{ap, ◌∙◌}
+use borrow.Author.Rules.{rules}
 use Rattle.text.specs.Text.{write}
 use Rattle.text.proofs.WriteLaws.{nothing}
 use Rattle.kinds.proofs.KindLaws.{at_aic, at_core, at-cic, at_aintc, at_indexed, at_none}
@@ -7,31 +8,31 @@ use Rattle.text.specs.Phrases.{bytes}
 use Rattle.register_words.specs.Registers.{line_words}
 use Rattle.register_words.proofs.put_line.Goals as goal
 
-pub returns-then-kind-eq-AIC : goal.returns-then-kind-eq-AIC
+pub returns-in-0 : goal.returns-in-0
 unfolding line_words bytes
-returns-then-kind-eq-AIC c =
-    c.put_below.ensures ∙ ap (write _) (at_aic _ _ c.if-kind-eq-AIC.true)
+returns-in-0 c =
+    c.put_below.ensures ∙ ap (write _) (at_aic _ _ c.in-0.is)
 
-pub returns-then-kind-eq-CORE : goal.returns-then-kind-eq-CORE
+pub returns-in-1 : goal.returns-in-1
 unfolding line_words bytes
-returns-then-kind-eq-CORE c =
-    c.put_input.ensures ∙ ap (write _) (at_core _ _ c.if-kind-eq-CORE.true)
+returns-in-1 c =
+    c.put_input.ensures ∙ ap (write _) (at_core _ _ c.in-1.is)
 
-pub returns-then-kind-eq-CIC : goal.returns-then-kind-eq-CIC
+pub returns-in-2 : goal.returns-in-2
 unfolding line_words bytes
-returns-then-kind-eq-CIC c =
-    c.put_below-then-kind-eq-CIC.ensures ∙ ap (write _) (at-cic _ _ c.if-kind-eq-CIC.true)
+returns-in-2 c =
+    c.put_below-in-2.ensures ∙ ap (write _) (at-cic _ _ c.in-2.is)
 
-pub returns-then-kind-eq-AINTC : goal.returns-then-kind-eq-AINTC
+pub returns-in-3 : goal.returns-in-3
 unfolding line_words bytes
-returns-then-kind-eq-AINTC c =
-    c.put_below-then-kind-eq-AINTC.ensures ∙ ap (write _) (at_aintc _ _ c.if-kind-eq-AINTC.true)
+returns-in-3 c =
+    c.put_below-in-3.ensures ∙ ap (write _) (at_aintc _ _ c.in-3.is)
 
-pub returns-then-kind-eq-INDEXED : goal.returns-then-kind-eq-INDEXED
+pub returns-in-4 : goal.returns-in-4
 unfolding line_words bytes
-returns-then-kind-eq-INDEXED c =
-    c.put_below-then-kind-eq-INDEXED.ensures ∙ ap (write _) (at_indexed _ _ c.if-kind-eq-INDEXED.true)
+returns-in-4 c =
+    c.put_below-in-4.ensures ∙ ap (write _) (at_indexed _ _ c.in-4.is)
 
-pub returns : goal.returns
+pub returns-in_default : goal.returns-in_default
 unfolding line_words bytes
-returns c = nothing _ ∙ ap (write _) (at_none _ _ c.if-kind-eq-AIC.false c.if-kind-eq-CORE.false c.if-kind-eq-CIC.false c.if-kind-eq-AINTC.false c.if-kind-eq-INDEXED.false)
+returns-in_default c = nothing _ ∙ ap (write _) (at_none _ _ (search rules) (search rules) (search rules) (search rules) (search rules))

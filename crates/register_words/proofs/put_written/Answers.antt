@@ -1,36 +1,39 @@
 -- That `put_written` of src/lib.rt keeps its contract.
 use mathlib.Core.Path.{ap, ◌∙◌}
+use borrow.Author.Rules.{rules}
 use Rattle.text.specs.Text.{write}
 use Rattle.text.proofs.WriteLaws.{nothing}
 use Rattle.kinds.proofs.KindLaws.{at_aic, at_core, at-cic, at_aintc, at_indexed, at_none}
+use Rattle.register_names.specs.declared.Sizes.{Sizes}
+use Rattle.register_words.specs.Fields.{cic_fields, indexed_fields}
 use Rattle.register_words.specs.Registers.{written_words}
 use Rattle.register_words.proofs.put_written.Goals as goal
 
-pub returns-then-kind-eq-AIC : goal.returns-then-kind-eq-AIC
+pub returns-in-0 : goal.returns-in-0
 unfolding written_words
-returns-then-kind-eq-AIC c =
-    c.put_aic.ensures ∙ ap (write _) (at_aic _ _ c.if-kind-eq-AIC.true)
+returns-in-0 c =
+    c.put_aic.ensures ∙ ap (write _) (at_aic _ _ c.in-0.is)
 
-pub returns-then-kind-eq-CORE : goal.returns-then-kind-eq-CORE
+pub returns-in-1 : goal.returns-in-1
 unfolding written_words
-returns-then-kind-eq-CORE c =
-    c.put_core.ensures ∙ ap (write _) (at_core _ _ c.if-kind-eq-CORE.true)
+returns-in-1 c =
+    c.put_core.ensures ∙ ap (write _) (at_core _ _ c.in-1.is)
 
-pub returns-then-kind-eq-CIC : goal.returns-then-kind-eq-CIC
+pub returns-in-2 : goal.returns-in-2
 unfolding written_words
-returns-then-kind-eq-CIC c =
-    c.put_cic.ensures ∙ ap (write _) (at-cic _ _ c.if-kind-eq-CIC.true)
+returns-in-2 c =
+    c.put_cic.ensures ∙ ap (write _) (ap (λ (n : Sizes). cic_fields n.systems n.channels n.hosts c.args.o c.args.v) c.sizes_of.ensures ∙ at-cic _ _ c.in-2.is)
 
-pub returns-then-kind-eq-AINTC : goal.returns-then-kind-eq-AINTC
+pub returns-in-3 : goal.returns-in-3
 unfolding written_words
-returns-then-kind-eq-AINTC c =
-    c.put_aintc.ensures ∙ ap (write _) (at_aintc _ _ c.if-kind-eq-AINTC.true)
+returns-in-3 c =
+    c.put_aintc.ensures ∙ ap (write _) (at_aintc _ _ c.in-3.is)
 
-pub returns-then-kind-eq-INDEXED : goal.returns-then-kind-eq-INDEXED
+pub returns-in-4 : goal.returns-in-4
 unfolding written_words
-returns-then-kind-eq-INDEXED c =
-    c.put_indexed.ensures ∙ ap (write _) (at_indexed _ _ c.if-kind-eq-INDEXED.true)
+returns-in-4 c =
+    c.put_indexed.ensures ∙ ap (write _) (ap (λ (n : Sizes). indexed_fields n.systems n.channels n.hosts c.args.o c.args.v) c.sizes_of-in-4.ensures ∙ at_indexed _ _ c.in-4.is)
 
-pub returns : goal.returns
+pub returns-in_default : goal.returns-in_default
 unfolding written_words
-returns c = nothing _ ∙ ap (write _) (at_none _ _ c.if-kind-eq-AIC.false c.if-kind-eq-CORE.false c.if-kind-eq-CIC.false c.if-kind-eq-AINTC.false c.if-kind-eq-INDEXED.false)
+returns-in_default c = nothing _ ∙ ap (write _) (at_none _ _ (search rules) (search rules) (search rules) (search rules) (search rules))

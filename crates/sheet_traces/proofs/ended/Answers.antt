@@ -9,4 +9,4 @@ returns c =
     let a = c.args in
     λ f s k g h b.
     ap₂ (λ (x : Totals) (y : Waits). record { tallied = record { steps = a.n; refused = a.refused; refusal = a.refusal; offset = a.offset; figures = x }; watched = a.w; waits = y })
-    (c.totals_in-figures.ensures f s k h) (c.waits_in-waits.ensures g b)
+    (c.totals_in.ensures f s k h) (c.waits_in.ensures g b)

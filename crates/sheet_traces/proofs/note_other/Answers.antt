@@ -6,4 +6,4 @@ use Rattle.sheet_traces.specs.Noted.{noted, unseen}
 use Rattle.sheet_traces.proofs.note_other.Goals as goal
 
 pub returns : goal.returns
-returns c = c.noted.ensures ∙ ap (λ (w : Waits). noted c.args.f false unseen w) c.none-waits.ensures
+returns c = c.noted.ensures ∙ ap (λ (w : Waits). noted c.args.f false unseen w) c.none.ensures

@@ -2,4 +2,4 @@
 use Rattle.sheet_traces.proofs.watch_first.Goals as goal
 
 pub returns : goal.returns
-returns c = rw c.unkept-strays.ensures
+returns c = rw c.unkept.ensures

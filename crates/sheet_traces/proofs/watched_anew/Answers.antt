@@ -12,11 +12,11 @@ overflow_add-marks c =
 
 pub overflow_add-ends : goal.overflow_add-ends
 overflow_add-ends c =
-    omega (arith, c.requires.1, c.one_if-2.ensures, one_le c.args.idle)
+    omega (arith, c.requires.1, c.one_if-2.ensures, one_le c.args.m.idle)
 
 pub returns : goal.returns
 returns c =
     λ r x ok h laid q.
-    watched-from c.args.table c.args.n c.args.w r x
+    watched-from c.args.table c.args.m.n c.args.w r x
     c.one_if.ensures (c.opened_mark.ensures r x ok h laid q.depth) c.one_if-2.ensures q.ends (depth_is laid) c.join-used.ensures (enabled-is laid)
     (c.strays_after-strays.ensures _ (step-sound r x h ok) laid (kept_if-same c.args.table c.args.w r x _ laid q)) c.either-astray.ensures

@@ -1,5 +1,4 @@
 -- That `level_bytes` of src/lib.rt keeps its contract.
-use Prim.Native.Nat.{◌-◌}
 use native.Mathlib.Omega.{arith}
 use Rattle.words.proofs.CountingLaws.{at_end}
 use Rattle.stack.specs.Bytes.{largest, level_bytes}

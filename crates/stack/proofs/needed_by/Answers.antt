@@ -9,12 +9,12 @@ use Rattle.stack.proofs.needed_by.Goals as goal
 abbrev figure : ℕ → Needed
 figure b = record { refusal = 0; bytes = b }
 
-pub sum_levels-b-requires : goal.sum_levels-b-requires
-sum_levels-b-requires c = sym c.within_limits.ensures ∙ c.if-within_limits.true
+pub sum_levels-requires : goal.sum_levels-requires
+sum_levels-requires c = sym c.within_limits.ensures ∙ c.if-within_limits.true
 
 pub returns-then-within_limits : goal.returns-then-within_limits
 unfolding needed
-returns-then-within_limits c = ap figure c.sum_levels-b.ensures ∙ by-true _ c.within_limits.ensures c.if-within_limits.true
+returns-then-within_limits c = ap figure c.sum_levels.ensures ∙ by-true _ c.within_limits.ensures c.if-within_limits.true
 
 pub returns : goal.returns
 unfolding needed

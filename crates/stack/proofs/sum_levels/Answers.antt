@@ -1,5 +1,4 @@
 -- That `sum_levels` of src/lib.rt keeps its contract.
-use Prim.Native.Nat.{◌-◌}
 use native.Mathlib.Omega.{arith}
 use Rattle.words.specs.Counting.{sum_below}
 use Rattle.words.proofs.CountingLaws.{at_end}

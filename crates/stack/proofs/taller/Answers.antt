@@ -6,7 +6,7 @@ use Rattle.stack.proofs.taller.Goals as goal
 
 pub returns-then-is_of : goal.returns-then-is_of
 unfolding taller
-returns-then-is_of c = c.larger.ensures ∙ by-true _ c.is_of.ensures c.if-is_of.true
+returns-then-is_of c = c.max.ensures ∙ by-true _ c.is_of.ensures c.if-is_of.true
 
 pub returns : goal.returns
 unfolding taller

@@ -9,6 +9,3 @@ use Rattle.table_text.proofs.put_sources.Given as goal
 abbrev pub invariant-loop-i : goal.invariant-loop-i
 invariant-loop-i l =
     (write (l.out, l.next) (source_lines l.modes (32 - l.i) l.i) ≡ write (l.initial.out, l.at) (source_lines l.modes 32 0)) × (length l.out ≡ length l.initial.out) × (l.i ≤ 32)
-
-abbrev pub decreases-loop-i : goal.decreases-loop-i
-decreases-loop-i l = 32 - l.i

@@ -13,7 +13,7 @@ loop-i-init c = (search rules, room-none 32 _)
 pub loop-i-preserved : goal.loop-i-preserved
 loop-i-preserved c =
     let a = c.args in
-    (search rules, room-more 32 c.loop-i.i (λ j. get_or a.values (3 * j + a.first) 0) _ _ (search rules) c.loop-i.invariant.1 refl)
+    (search rules, room-more 32 c.loop-i.i (λ j. get_or a.values.now (3 * j + a.first) 0) _ _ (search rules) c.loop-i.invariant.1 refl)
 
 pub returns : goal.returns
 unfolding every_third

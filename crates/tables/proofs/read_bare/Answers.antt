@@ -1,13 +1,12 @@
 -- That `read_bare` of src/lib.rt keeps its contract.
-use Rattle.tables.proofs.ReadLaws.{bare-taken, bare-refused}
+use mathlib.Core.Path.{ap, ◌∙◌}
 use Rattle.tables.specs.Reading.{taken}
+use Rattle.tables.proofs.ReadLaws.{bare-read}
 use Rattle.tables.proofs.read_bare.Goals as goal
 
-pub returns-then-v-start : goal.returns-then-v-start
+pub returns-in-Ok : goal.returns-in-Ok
 unfolding taken
-returns-then-v-start c =
-    bare-taken c.args.bare.now c.read_values-v.result _ c.read_values-v.ensures c.if-v-start.true c.table_of-t.ensures
+returns-in-Ok c = ap taken c.table_of.ensures ∙ bare-read c.args.bare.now _ c.in-Ok.ensures
 
-pub returns : goal.returns
-returns c =
-    bare-refused c.args.bare.now c.read_values-v.result _ c.read_values-v.ensures c.if-v-start.false c.refused_at.ensures
+pub returns-in-Err : goal.returns-in-Err
+returns-in-Err c = c.refused_at.ensures ∙ bare-read c.args.bare.now _ c.in-Err.ensures

@@ -22,4 +22,4 @@ slice_bounds-read_word-end c =
 pub returns : goal.returns
 returns c =
     let a = c.args in
-    next-read a.text.now a.past _ _ _ (started_at a.text.now a.past c.seek-start.ensures) (ended_at a.text.now _ c.seek-end.ensures) c.read_word-typed.ensures
+    next-read a.text.now a.past _ _ _ (started_at a.text.now a.past c.seek-start.ensures) (ended_at a.text.now _ c.seek-end.ensures) c.read_word.ensures

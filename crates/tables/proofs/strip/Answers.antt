@@ -5,12 +5,12 @@ use Rattle.tables.proofs.BareLaws.{bare-turn, bare-done}
 use borrow.Author.Rules.{rules}
 use Rattle.tables.proofs.strip.Goals as goal
 
-pub loop-k-init : goal.loop-k-init
-loop-k-init c = (refl, refl)
+pub loop-b-init : goal.loop-b-init
+loop-b-init c = (refl, refl)
 
-pub loop-k-preserved : goal.loop-k-preserved
-loop-k-preserved c =
-    (bare-turn c.args.text.now c.loop-k.k c.loop-k.inside _ _ _ _ (search rules) c.shown.ensures c.put-at.ensures c.loop-k.invariant.0, same-length-of _ _ _ c.put-at.ensures ∙ c.loop-k.invariant.1)
+pub loop-b-preserved : goal.loop-b-preserved
+loop-b-preserved c =
+    (bare-turn c.args.text.now c.loop-b.b-index c.loop-b.inside _ _ _ _ (search rules) c.shown.ensures c.put-at.ensures c.loop-b.invariant.0, same-length-of _ _ _ c.put-at.ensures ∙ c.loop-b.invariant.1)
 
 pub returns : goal.returns
-returns c = bare-done c.args.text.now c.loop-k.k c.loop-k.inside _ _ (search rules) c.loop-k.invariant.0
+returns c = bare-done c.args.text.now c.loop-b.b-index c.loop-b.inside _ _ (search rules) c.loop-b.invariant.0

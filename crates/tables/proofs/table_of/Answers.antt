@@ -4,4 +4,4 @@ use Rattle.tables.proofs.table_of.Goals as goal
 
 pub returns : goal.returns
 unfolding table_of
-returns c = rw (c.every_third-p.ensures, c.every_third-k.ensures, c.every_third-f.ensures)
+returns c = rw (c.every_third.ensures, c.every_third-2.ensures, c.every_third-3.ensures)

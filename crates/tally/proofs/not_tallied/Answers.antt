@@ -2,4 +2,4 @@
 use Rattle.tally.proofs.not_tallied.Goals as goal
 
 pub returns : goal.returns
-returns c = rw c.none-f.ensures
+returns c = rw c.none.ensures

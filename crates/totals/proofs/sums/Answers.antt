@@ -1,24 +1,19 @@
 -- That `sums` of src/lib.rt keeps its contract.
 use Prim.Native.Nat.{◌+◌}
-use mathlib.Core.Path.{refl, ◌∙◌}
 use native.Mathlib.Omega.{arith}
-use lib.ListN.{get_or, length-set}
-use Rattle.words.proofs.ArrayLaws.{filled}
+use lib.ListN.{get_or}
 use Rattle.totals.proofs.TotalsLaws.{all-joined, fit_at}
+use Rattle.totals.proofs.MadeLaws.{made_at, callable_below}
 use borrow.Author.Rules.{rules}
 use Rattle.totals.proofs.sums.Goals as goal
 
-pub loop-i-init : goal.loop-i-init
-loop-i-init c = (omega arith, search rules, λ k l. absurd (omega arith))
-
-pub overflow_add-out : goal.overflow_add-out
-overflow_add-out c = record { fits = omega (arith, fit_at _ _ c.requires _ c.loop-i-test.true) }
-
-pub loop-i-preserved : goal.loop-i-preserved
-loop-i-preserved c =
+pub from_fn-requires : goal.from_fn-requires
+from_fn-requires c =
     let a = c.args in
-    let l = c.loop-i in
-    (search rules, length-set l.out l.i _ ∙ l.invariant.1, filled l.out (λ k. get_or a.a k 0 + get_or a.b k 0) l.i (omega (arith, l.invariant.1, c.loop-i-test.true)) l.invariant.2 _ refl)
+    (omega arith, callable_below _ _ 32 _ (λ x q r. search rules) (λ x l. let h = fit_at a.a a.b c.requires x l in search rules))
 
 pub returns : goal.returns
-returns c = all-joined ◌+◌ _ _ _ _ c.loop-i.invariant.1 (search rules) (search rules) c.loop-i-test.false c.loop-i.invariant.2
+returns c =
+    let a = c.args in
+    all-joined ◌+◌ _ _ _ 32 c.from_fn.ensures.items.long (search rules) (search rules) (omega arith)
+    (made_at _ _ (λ k. get_or a.a k 0 + get_or a.b k 0) 0 (λ i y q k. search rules) _ 32 c.from_fn.ensures.items)

@@ -4,4 +4,4 @@ use Rattle.totals.proofs.together.Goals as goal
 
 pub returns : goal.returns
 unfolding together
-returns c = rw (c.sums-s.ensures, c.largest-w.ensures, c.largest-e.ensures)
+returns c = rw (c.sums.ensures, c.largest.ensures, c.largest-2.ensures)

@@ -1,5 +1,4 @@
 -- That `put_changes` of src/lib.rt keeps its contract.
-use Prim.Native.Nat.{◌-◌}
 use mathlib.Core.Path.{◌≡◌}
 use lib.ListN.{length, drop}
 use Rattle.text.specs.Text.{write}
@@ -9,6 +8,3 @@ use Rattle.vcd.proofs.put_changes.Given as goal
 abbrev pub invariant-loop-k : goal.invariant-loop-k
 invariant-loop-k l =
     (write (l.out, l.next) (changes_from l.k (drop l.k l.widths) l.before l.values) ≡ write (l.initial.out, l.at) (changes_from 0 l.widths l.before l.values)) × (length l.out ≡ length l.initial.out)
-
-abbrev pub decreases-loop-k : goal.decreases-loop-k
-decreases-loop-k l = length l.widths - l.k

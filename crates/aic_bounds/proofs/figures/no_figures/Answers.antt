@@ -2,4 +2,4 @@
 use Rattle.aic_bounds.proofs.figures.no_figures.Goals as goal
 
 pub returns : goal.returns
-returns c = rw (c.idle-none.ensures, c.idle-first.ensures)
+returns c = rw (c.idle.ensures, c.idle-2.ensures)

@@ -1,13 +1,12 @@
 -- That `remember` of src/effects.rt keeps its contract.
 use mathlib.Core.Bool.{◌&&◌}
-use Rattle.aic_registers.proofs.CallLaws.{edge-from}
 use Rattle.words.proofs.ChoiceLaws.{by-true, by-false}
 use Rattle.aic_record.specs.Record.{with_memory}
 use mathlib.Core.Path.{ap, ap₂, ◌∙◌}
 use Rattle.aic_registers.proofs.effects.remember.Goals as goal
 
-pub returns-then-edge-turns_active : goal.returns-then-edge-turns_active
-returns-then-edge-turns_active c = c.with_memory.ensures ∙ ap (with_memory c.args.s) c.with_bit.ensures ∙ by-true _ (ap₂ ◌&&◌ (edge-from _ _ _ _ c.mode_at.ensures c.edge_of-edge.ensures) c.turns_active.ensures) c.if-edge-turns_active.true
+pub returns-then-edge_at-turns_active : goal.returns-then-edge_at-turns_active
+returns-then-edge_at-turns_active c = c.with_memory.ensures ∙ ap (with_memory c.args.s) c.with_bit.ensures ∙ by-true _ (ap₂ ◌&&◌ c.edge_at.ensures c.turns_active.ensures) c.if-edge_at-turns_active.true
 
 pub returns : goal.returns
-returns c = by-false _ (ap₂ ◌&&◌ (edge-from _ _ _ _ c.mode_at.ensures c.edge_of-edge.ensures) c.turns_active.ensures) c.if-edge-turns_active.false
+returns c = by-false _ (ap₂ ◌&&◌ c.edge_at.ensures c.turns_active.ensures) c.if-edge_at-turns_active.false

@@ -1,42 +1,44 @@
 -- That `access_of` of src/map.rt keeps its contract.
 use Rattle.aic_registers.specs.Map.{access}
-use borrow.Author.Tests.{eq-eqb, ne_eqb, lt-ltb, le-ltb, le-leb, lt-leb}
+use native.Mathlib.Omega.{arith}
+use borrow.Author.Tests.{ne_eqb, lt-ltb, le-ltb, le-leb, lt-leb}
+use Rattle.words.specs.Choice.{pick}
 use Rattle.words.proofs.ChoiceLaws.{pick_true, pick-false}
-use mathlib.Core.Path.{◌∙◌}
+use mathlib.Core.Path.{sym, ap, ◌∙◌}
 use Rattle.aic_registers.proofs.map.access_of.Goals as goal
 
-pub returns-then-offset-le-IVR : goal.returns-then-offset-le-IVR
+pub returns-in-0-to-256 : goal.returns-in-0-to-256
 unfolding access
-returns-then-offset-le-IVR c = pick_true _ (le-leb _ _ c.if-offset-le-IVR.true)
+returns-in-0-to-256 c = pick_true _ (le-leb _ 256 (omega arith))
 
-pub returns-then-offset-le-CISR : goal.returns-then-offset-le-CISR
+pub returns-in-0-to-276 : goal.returns-in-0-to-276
 unfolding access
-returns-then-offset-le-CISR c = pick_true _ (le-leb _ _ c.if-offset-le-CISR.true) ∙ pick-false _ (lt-leb _ _ c.if-offset-le-IVR.false)
+returns-in-0-to-276 c = pick_true _ (le-leb _ 276 (omega arith)) ∙ pick-false _ (lt-leb _ 256 (omega arith))
 
-pub returns-then-offset-lt-IECR : goal.returns-then-offset-lt-IECR
+pub returns-in-0-to-287 : goal.returns-in-0-to-287
 unfolding access
-returns-then-offset-lt-IECR c = pick_true _ (lt-ltb _ _ c.if-offset-lt-IECR.true) ∙ pick-false _ (lt-leb _ _ c.if-offset-le-CISR.false) ∙ pick-false _ (lt-leb _ _ c.if-offset-le-IVR.false)
+returns-in-0-to-287 c = pick_true _ (lt-ltb _ 288 (omega arith)) ∙ pick-false _ (lt-leb _ 276 (omega arith)) ∙ pick-false _ (lt-leb _ 256 (omega arith))
 
-pub returns-then-offset-le-EOICR : goal.returns-then-offset-le-EOICR
+pub returns-in-0-to-304 : goal.returns-in-0-to-304
 unfolding access
-returns-then-offset-le-EOICR c = pick_true _ (le-leb _ _ c.if-offset-le-EOICR.true) ∙ pick-false _ (le-ltb _ _ c.if-offset-lt-IECR.false) ∙ pick-false _ (lt-leb _ _ c.if-offset-le-CISR.false) ∙ pick-false _ (lt-leb _ _ c.if-offset-le-IVR.false)
+returns-in-0-to-304 c = pick_true _ (le-leb _ 304 (omega arith)) ∙ pick-false _ (le-ltb _ 288 (omega arith)) ∙ pick-false _ (lt-leb _ 276 (omega arith)) ∙ pick-false _ (lt-leb _ 256 (omega arith))
 
-pub returns-then-offset-le-DCR : goal.returns-then-offset-le-DCR
+pub returns-in-0-to-312 : goal.returns-in-0-to-312
 unfolding access
-returns-then-offset-le-DCR c = pick_true _ (le-leb _ _ c.if-offset-le-DCR.true) ∙ pick-false _ (lt-leb _ _ c.if-offset-le-EOICR.false) ∙ pick-false _ (le-ltb _ _ c.if-offset-lt-IECR.false) ∙ pick-false _ (lt-leb _ _ c.if-offset-le-CISR.false) ∙ pick-false _ (lt-leb _ _ c.if-offset-le-IVR.false)
+returns-in-0-to-312 c = pick_true _ (le-leb _ 312 (omega arith)) ∙ pick-false _ (lt-leb _ 304 (omega arith)) ∙ pick-false _ (le-ltb _ 288 (omega arith)) ∙ pick-false _ (lt-leb _ 276 (omega arith)) ∙ pick-false _ (lt-leb _ 256 (omega arith))
 
-pub returns-then-offset-lt-FFER : goal.returns-then-offset-lt-FFER
+pub returns-in-0-to-319 : goal.returns-in-0-to-319
 unfolding access
-returns-then-offset-lt-FFER c = pick_true _ (lt-ltb _ _ c.if-offset-lt-FFER.true) ∙ pick-false _ (lt-leb _ _ c.if-offset-le-DCR.false) ∙ pick-false _ (lt-leb _ _ c.if-offset-le-EOICR.false) ∙ pick-false _ (le-ltb _ _ c.if-offset-lt-IECR.false) ∙ pick-false _ (lt-leb _ _ c.if-offset-le-CISR.false) ∙ pick-false _ (lt-leb _ _ c.if-offset-le-IVR.false)
+returns-in-0-to-319 c = pick_true _ (lt-ltb _ 320 (omega arith)) ∙ pick-false _ (lt-leb _ 312 (omega arith)) ∙ pick-false _ (lt-leb _ 304 (omega arith)) ∙ pick-false _ (le-ltb _ 288 (omega arith)) ∙ pick-false _ (lt-leb _ 276 (omega arith)) ∙ pick-false _ (lt-leb _ 256 (omega arith))
 
-pub returns-then-offset-le-FFDR : goal.returns-then-offset-le-FFDR
+pub returns-in-0-to-324 : goal.returns-in-0-to-324
 unfolding access
-returns-then-offset-le-FFDR c = pick_true _ (le-leb _ _ c.if-offset-le-FFDR.true) ∙ pick-false _ (le-ltb _ _ c.if-offset-lt-FFER.false) ∙ pick-false _ (lt-leb _ _ c.if-offset-le-DCR.false) ∙ pick-false _ (lt-leb _ _ c.if-offset-le-EOICR.false) ∙ pick-false _ (le-ltb _ _ c.if-offset-lt-IECR.false) ∙ pick-false _ (lt-leb _ _ c.if-offset-le-CISR.false) ∙ pick-false _ (lt-leb _ _ c.if-offset-le-IVR.false)
+returns-in-0-to-324 c = pick_true _ (le-leb _ 324 (omega arith)) ∙ pick-false _ (le-ltb _ 320 (omega arith)) ∙ pick-false _ (lt-leb _ 312 (omega arith)) ∙ pick-false _ (lt-leb _ 304 (omega arith)) ∙ pick-false _ (le-ltb _ 288 (omega arith)) ∙ pick-false _ (lt-leb _ 276 (omega arith)) ∙ pick-false _ (lt-leb _ 256 (omega arith))
 
-pub returns-then-offset-eq-FFSR : goal.returns-then-offset-eq-FFSR
-unfolding access
-returns-then-offset-eq-FFSR c = pick_true _ (eq-eqb _ _ c.if-offset-eq-FFSR.true) ∙ pick-false _ (lt-leb _ _ c.if-offset-le-FFDR.false) ∙ pick-false _ (le-ltb _ _ c.if-offset-lt-FFER.false) ∙ pick-false _ (lt-leb _ _ c.if-offset-le-DCR.false) ∙ pick-false _ (lt-leb _ _ c.if-offset-le-EOICR.false) ∙ pick-false _ (le-ltb _ _ c.if-offset-lt-IECR.false) ∙ pick-false _ (lt-leb _ _ c.if-offset-le-CISR.false) ∙ pick-false _ (lt-leb _ _ c.if-offset-le-IVR.false)
+pub returns-in-328 : goal.returns-in-328
+unfolding access pick
+returns-in-328 c = sym (ap access c.in-328.is)
 
-pub returns : goal.returns
+pub returns-in_default : goal.returns-in_default
 unfolding access
-returns c = pick-false _ (ne_eqb _ _ c.if-offset-eq-FFSR.false) ∙ pick-false _ (lt-leb _ _ c.if-offset-le-FFDR.false) ∙ pick-false _ (le-ltb _ _ c.if-offset-lt-FFER.false) ∙ pick-false _ (lt-leb _ _ c.if-offset-le-DCR.false) ∙ pick-false _ (lt-leb _ _ c.if-offset-le-EOICR.false) ∙ pick-false _ (le-ltb _ _ c.if-offset-lt-IECR.false) ∙ pick-false _ (lt-leb _ _ c.if-offset-le-CISR.false) ∙ pick-false _ (lt-leb _ _ c.if-offset-le-IVR.false)
+returns-in_default c = pick-false _ (ne_eqb _ 328 (omega arith)) ∙ pick-false _ (lt-leb _ 324 (omega arith)) ∙ pick-false _ (le-ltb _ 320 (omega arith)) ∙ pick-false _ (lt-leb _ 312 (omega arith)) ∙ pick-false _ (lt-leb _ 304 (omega arith)) ∙ pick-false _ (le-ltb _ 288 (omega arith)) ∙ pick-false _ (lt-leb _ 276 (omega arith)) ∙ pick-false _ (lt-leb _ 256 (omega arith))

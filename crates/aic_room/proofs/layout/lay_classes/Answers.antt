@@ -1,15 +1,17 @@
 -- That `lay_classes` of src/layout.rt keeps its contract.
 use mathlib.Core.Path.{ap}
-use Prim.Native.Nat.{◌+◌, ◌-◌}
+use Prim.Native.Nat.{◌+◌}
 use native.Mathlib.Omega.{arith}
 use lib.ListN.{set}
 use Rattle.words.proofs.CountingLaws.{upto-none, upto-more, upto_done}
+use Rattle.aic_room.specs.Room.{class_word}
 use Rattle.aic_room.proofs.layout.lay_classes.Goals as goal
 
 pub loop-p-init : goal.loop-p-init
 loop-p-init c = (omega arith, upto-none _ _)
 
 pub loop-p-preserved : goal.loop-p-preserved
+unfolding class_word
 loop-p-preserved c =
     let l = c.loop-p in
     (omega arith, upto-more _ _ _ l.invariant.1 (ap (set l.room (32 + l.p)) c.class_word-w.ensures))

@@ -1,6 +1,5 @@
 -- That `lay_vectors` of src/layout.rt keeps its contract.
 use mathlib.Core.Path.{refl}
-use Prim.Native.Nat.{◌-◌}
 use native.Mathlib.Omega.{arith}
 use Rattle.words.proofs.CountingLaws.{upto-none, upto-more, upto_done}
 use Rattle.aic_room.proofs.layout.lay_vectors.Goals as goal

@@ -1,6 +1,6 @@
 -- That `renew_words` of src/layout.rt keeps its contract.
 use mathlib.Core.Path.{ap}
-use Prim.Native.Nat.{◌+◌, ◌-◌}
+use Prim.Native.Nat.{◌+◌}
 use native.Mathlib.Omega.{arith}
 use lib.ListN.{set}
 use Rattle.words.proofs.CountingLaws.{upto-none, upto-more, upto_done}

@@ -4,4 +4,4 @@ use Rattle.aic_room.proofs.layout.tables_of.Goals as goal
 
 pub returns : goal.returns
 returns c =
-    λ s. tables-laid c.args.a s _ _ _ _ _ _ c.lay_modes.ensures c.lay_vectors.ensures c.lay_eight.ensures c.lay_eight-2.ensures c.lay_classes.ensures c.lay_table.ensures
+    λ s. tables-laid c.args.a s _ _ _ _ _ _ c.lay_bytes.ensures c.lay_vectors.ensures c.lay_bytes-2.ensures c.lay_bytes-3.ensures c.lay_classes.ensures c.lay_table.ensures

@@ -1,11 +1,8 @@
 -- That `routes_in` of src/layout.rt keeps its contract.
 use mathlib.Core.Path.{◌≡◌}
-use Prim.Native.Nat.{ℕ, ◌+◌, ◌-◌, ◌%◌, ◌≤◌, ◌<◌}
+use Prim.Native.Nat.{ℕ, ◌+◌, ◌%◌, ◌≤◌, ◌<◌}
 use lib.ListN.{length, get_or}
 use Rattle.aintc_room.proofs.layout.routes_in.Given as goal
 
 abbrev pub invariant-loop-k : goal.invariant-loop-k
 invariant-loop-k l = (l.k ≤ 128) × (length l.out ≡ 128) × ((j : ℕ) → j < l.k → get_or l.out j 0 ≡ get_or l.room (128 + j) 0 % 256)
-
-abbrev pub decreases-loop-k : goal.decreases-loop-k
-decreases-loop-k l = 128 - l.k

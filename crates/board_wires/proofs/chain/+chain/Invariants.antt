@@ -1,5 +1,5 @@
 -- What the longest chain's function, which calls itself for lower numbers, and its loop go by.
-use Prim.Native.Nat.{◌≤◌, ◌-◌}
+use Prim.Native.Nat.{◌≤◌}
 use mathlib.Core.Path.{◌≡◌}
 use Rattle.board_wires.specs.Chain.{longest, chains}
 use Rattle.board_wires.proofs.chain.+chain.Given as goal
@@ -9,6 +9,3 @@ decreases-chain l = l.c
 
 abbrev pub invariant-loop-d : goal.invariant-loop-d
 invariant-loop-d l = (l.d ≤ l.n) × (l.most ≡ longest l.b (chains l.b l.c) l.c l.d)
-
-abbrev pub decreases-loop-d : goal.decreases-loop-d
-decreases-loop-d l = l.n - l.d

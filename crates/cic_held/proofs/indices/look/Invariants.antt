@@ -4,12 +4,9 @@ use Rattle.cic_held.specs.Order.{leads}
 use Rattle.words.specs.Counting.{sum_below}
 use mathlib.Core.Bool.{false}
 use mathlib.Core.Path.{◌≡◌}
-use Prim.Native.Nat.{ℕ, ◌≤◌, ◌<◌, ◌-◌}
+use Prim.Native.Nat.{ℕ, ◌≤◌, ◌<◌}
 use Rattle.cic_held.proofs.indices.look.Given as goal
 
 abbrev pub invariant-loop-k : goal.invariant-loop-k
 invariant-loop-k l =
     (l.k ≤ l.c.channels) × ((l.words ≡ sum_below l.k (words_in l.c (leads l.c l.every l.h))) × ((i : ℕ) → i < l.k → passes l.c (leads l.c l.every l.h) i ≡ false))
-
-abbrev pub decreases-loop-k : goal.decreases-loop-k
-decreases-loop-k l = l.c.channels - l.k

@@ -1,23 +1,19 @@
 -- That `shared` of src/hosts.rt keeps its contract.
-use Rattle.words.proofs.ArrayLaws.{filled, bit_at-both}
+use Rattle.words.proofs.ArrayLaws.{bit_at-both}
 use Rattle.words.specs.Word.{both}
-use borrow.Author.Count.{below_none}
-use lib.ListN.{get_or, length-set}
-use mathlib.Core.Path.{refl}
+use lib.ListN.{get_or}
 use native.Mathlib.Omega.{arith}
 use Prim.Native.Nat.{◌/◌}
+use Rattle.cic_registers.proofs.MadeLaws.{made_at, callable_below}
+use borrow.Author.Rules.{rules}
 use Rattle.cic_registers.proofs.hosts.shared.Goals as goal
 
-pub loop-k-init : goal.loop-k-init
-loop-k-init c = (omega arith, (refl, below_none _))
-
-pub loop-k-preserved : goal.loop-k-preserved
-loop-k-preserved c =
-    let l = c.loop-k in
-    let a = c.args in (
-      omega arith,
-      (simp length-set l.invariant.1.0, filled l.out (λ i. both (get_or a.a i 0) (get_or a.b i 0)) l.k (omega arith) l.invariant.1.1 _ c.meet.ensures),
-    )
+pub from_fn-requires : goal.from_fn-requires
+from_fn-requires c = (omega arith, callable_below _ _ 8 _ (λ x q r. search rules) (λ x l. search rules))
 
 pub returns : goal.returns
-returns c = λ h l. bit_at-both c.loop-k.out c.args.a c.args.b h (c.loop-k.invariant.1.1 (h / 32) (omega arith))
+returns c =
+    let a = c.args in
+    λ h l.
+    bit_at-both _ a.a a.b h
+    (made_at _ _ (λ k. both (get_or a.a k 0) (get_or a.b k 0)) 0 (λ i y q k. search rules) _ 8 c.from_fn.ensures.items (h / 32) (omega (arith, l)))

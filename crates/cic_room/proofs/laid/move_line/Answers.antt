@@ -17,7 +17,7 @@ returns-then-high-old c =
     let n = c.args.s.0 in
     λ f d h.
     laid_as (pick_true _ (sym (ap (λ (t : Bool). c.args.high && not t) (c.has-old.ensures ∙ ap (λ (x : ℕ). bit x (n % 32)) (lines-is h (n / 32) (omega (arith, c.requires))))) ∙ c.if-high-old.true))
-    (c.mark_status.ensures f _ (c.put_line.ensures f d h))
+    (c.mark_bit.ensures f _ (c.put_line.ensures f d h))
 
 pub returns-else-high-old : goal.returns-else-high-old
 unfolding moved bit_at

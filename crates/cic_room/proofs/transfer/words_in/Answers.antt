@@ -1,20 +1,16 @@
 -- That `words_in` of src/transfer.rt keeps its contract.
-use mathlib.Core.Path.{refl}
 use Prim.Native.Nat.{◌+◌}
 use native.Mathlib.Omega.{arith}
-use borrow.Author.Count.{below_none}
-use lib.ListN.{get_or, length-set}
-use Rattle.words.proofs.ArrayLaws.{filled}
+use lib.ListN.{get_or}
+use Rattle.cic_registers.proofs.MadeLaws.{made_at, callable_below}
+use borrow.Author.Rules.{rules}
 use Rattle.cic_room.proofs.transfer.words_in.Goals as goal
 
-pub loop-k-init : goal.loop-k-init
-loop-k-init c = (omega arith, (refl, below_none _))
-
-pub loop-k-preserved : goal.loop-k-preserved
-loop-k-preserved c =
-    let l = c.loop-k in
-    let a = c.args in
-    (omega arith, (simp length-set l.invariant.1.0, filled l.out (λ j. get_or a.room.now (a.at + j) 0) l.k (omega (arith, l.invariant.1.0, c.loop-k-test.true)) l.invariant.1.1 _ refl))
+pub from_fn-requires : goal.from_fn-requires
+from_fn-requires g c = (omega (arith, c.requires), callable_below _ _ _ _ (λ x q r. search rules) (λ x l. let h = c.requires in search rules))
 
 pub returns : goal.returns
-returns c = let l = c.loop-k in (l.invariant.1.0, λ j m. l.invariant.1.1 j (omega (arith, m, c.loop-k-test.false)))
+returns g c =
+    let a = c.args in
+    let made = c.from_fn.ensures.items in
+    (made.long, made_at _ _ (λ k. get_or a.room.now (a.at + k) 0) 0 (λ i y q k. search rules) _ _ made)

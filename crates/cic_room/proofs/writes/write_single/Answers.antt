@@ -21,19 +21,19 @@ returns-in-16 c = λ f d ok h. done_as (ap (λ (z : Register). write_in d z c.ar
 
 pub returns-in-32 : goal.returns-in-32
 unfolding access_of value_refusal written_to
-returns-in-32 c = λ f d ok h. done_as (ap (λ (z : Register). write_in d z c.args.v) (sym (ap register_at c.in-32.is ∙ (of-layout.kept).status_index.0))) (c.index_status.ensures f d ok h)
+returns-in-32 c = λ f d ok h. done_as (ap (λ (z : Register). write_in d z c.args.v) (sym (ap register_at c.in-32.is ∙ (of-layout.kept).status_index.0))) (c.index_system.ensures f d ok h)
 
 pub returns-in-36 : goal.returns-in-36
 unfolding access_of value_refusal written_to
-returns-in-36 c = λ f d ok h. done_as (ap (λ (z : Register). write_in d z c.args.v) (sym (ap register_at c.in-36.is ∙ (of-layout.kept).status_index.1))) (c.index_status-in-36.ensures f d ok h)
+returns-in-36 c = λ f d ok h. done_as (ap (λ (z : Register). write_in d z c.args.v) (sym (ap register_at c.in-36.is ∙ (of-layout.kept).status_index.1))) (c.index_system-in-36.ensures f d ok h)
 
 pub returns-in-40 : goal.returns-in-40
 unfolding access_of value_refusal written_to
-returns-in-40 c = λ f d ok h. done_as (ap (λ (z : Register). write_in d z c.args.v) (sym (ap register_at c.in-40.is ∙ (of-layout.kept).enable_index.0))) (c.index_enable.ensures f d ok h)
+returns-in-40 c = λ f d ok h. done_as (ap (λ (z : Register). write_in d z c.args.v) (sym (ap register_at c.in-40.is ∙ (of-layout.kept).enable_index.0))) (c.index_system-in-40.ensures f d ok h)
 
 pub returns-in-44 : goal.returns-in-44
 unfolding access_of value_refusal written_to
-returns-in-44 c = λ f d ok h. done_as (ap (λ (z : Register). write_in d z c.args.v) (sym (ap register_at c.in-44.is ∙ (of-layout.kept).enable_index.1))) (c.index_enable-in-44.ensures f d ok h)
+returns-in-44 c = λ f d ok h. done_as (ap (λ (z : Register). write_in d z c.args.v) (sym (ap register_at c.in-44.is ∙ (of-layout.kept).enable_index.1))) (c.index_system-in-44.ensures f d ok h)
 
 pub returns-in-52 : goal.returns-in-52
 unfolding access_of value_refusal written_to

@@ -1,13 +1,10 @@
 -- That `controller_by` of src/statements.rt keeps its contract.
-use borrow.Author.Tests.{eq-eqb, ne_eqb}
-use Rattle.words.specs.Choice.{pick}
-use Rattle.encode.specs.Statements.{controller_by}
+use Rattle.encode.proofs.OpeningLaws.{controller_none, controller_some}
+use borrow.Author.Rules.{rules}
 use Rattle.encode.proofs.statements.controller_by.Goals as goal
 
-pub returns-then-kind-eq-NO_KIND : goal.returns-then-kind-eq-NO_KIND
-unfolding controller_by pick
-returns-then-kind-eq-NO_KIND c = rw (c.wanted-n.ensures, eq-eqb _ _ c.if-kind-eq-NO_KIND.true)
+pub returns-in_default : goal.returns-in_default
+returns-in_default c = controller_none _ (search rules)
 
-pub returns-else-kind-eq-NO_KIND : goal.returns-else-kind-eq-NO_KIND
-unfolding controller_by pick
-returns-else-kind-eq-NO_KIND c = rw (c.wanted-n.ensures, ne_eqb _ _ c.if-kind-eq-NO_KIND.false)
+pub returns : goal.returns
+returns c = controller_some _ _ _ c.in-Some.ensures c.wanted.ensures

@@ -25,10 +25,10 @@ pub loop-k-preserved : goal.loop-k-preserved
 loop-k-preserved c =
     let l = c.loop-k in
     let s = c.args.line.now in
-    let r = c.read_next-next.ensures in
-    let v = next-worth s l.past (l.k + 1) _ _ l.invariant.1 r c.entered_as.ensures in (
+    let x = next-is s l.past (l.k + 1) _ l.invariant.1 c.read_next-next.ensures in
+    let v = next-worth s (l.k + 1) _ _ _ x c.unwrap_or.ensures c.entered_as.ensures in (
       search rules,
-      (next-is s l.past (l.k + 1) _ l.invariant.1 r).past,
+      x.past,
       and_then _ _ _ l.invariant.2 c.put_number-place.ensures ∙ ap (write _) (values-more s l.k _ v),
       same-length-of _ _ _ c.put_number-place.ensures ∙ l.invariant.3,
     )

@@ -1,5 +1,5 @@
 -- That `put_values` of src/statements.rt keeps its contract.
-use Prim.Native.Nat.{◌+◌, ◌-◌, ◌≤◌}
+use Prim.Native.Nat.{◌+◌, ◌≤◌}
 use mathlib.Core.Path.{◌≡◌}
 use lib.ListN.{length}
 use Rattle.text.specs.Text.{write}
@@ -11,6 +11,3 @@ use Rattle.encode.proofs.statements.put_values.Given as goal
 abbrev pub invariant-loop-k : goal.invariant-loop-k
 invariant-loop-k l =
     (l.k ≤ l.n) × (l.past ≡ past_nth l.line (l.k + 1)) × ((l.out, l.place) ≡ write (l.initial.out, l.at) (bytes_of (values_in l.line l.k))) × (length l.out ≡ length l.initial.out)
-
-abbrev pub decreases-loop-k : goal.decreases-loop-k
-decreases-loop-k l = l.n - l.k

@@ -2,7 +2,10 @@
 use mathlib.Core.Path.{sym, ap, ◌∙◌}
 use borrow.Author.Tests.{eq-eqb, ne_eqb}
 use Rattle.words.proofs.ChoiceLaws.{pick_true, pick-false}
-use Rattle.encode.specs.Statements.{opening_of, by_opening, statement_in}
+use Rattle.tables.specs.Typed.{nth_typed}
+use Rattle.encode.specs.Statements.{statement_in}
+use Rattle.encode.specs.Passes.{opening_in, by_opened}
+use Rattle.encode.proofs.OpeningLaws.{opening-said}
 use Rattle.encode.proofs.PlaceLaws.{first-is, first_ordered, first-within, first_word}
 use Rattle.encode.proofs.statements.statement_in.Goals as goal
 
@@ -30,5 +33,6 @@ returns c =
     let a = c.args in
     let s = a.line.now in
     c.by_opening.ensures
-    ∙ ap (by_opening s) (c.opening_of.ensures ∙ ap (opening_of a.kind) (first_word s _ c.read_next-first.ensures))
+    ∙ ap (by_opened s) (c.opening_of.ensures ∙ ap (opening_in a.kind) (first_word s _ c.read_next-first.ensures))
+    ∙ opening-said s a.kind (nth_typed s 0)
     ∙ pick-false _ (ne_eqb _ _ (λ z. c.if-start-line.false ((first-is s _ c.read_next-first.ensures).start ∙ z)))

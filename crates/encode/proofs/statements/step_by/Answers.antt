@@ -1,13 +1,14 @@
 -- That `step_by` of src/statements.rt keeps its contract.
-use borrow.Author.Tests.{eq-eqb, ne_eqb}
-use Rattle.words.specs.Choice.{pick}
-use Rattle.encode.specs.Statements.{step_by}
+use mathlib.Core.Path.{ap, ◌∙◌}
+use mathlib.Core.Bool.{Bool}
+use Rattle.trace.specs.Steps.{operands_of}
+use Rattle.encode.proofs.OpeningLaws.{step_none, step_some}
+use borrow.Author.Rules.{rules}
 use Rattle.encode.proofs.statements.step_by.Goals as goal
 
-pub returns-then-step-eq-NO_STEP : goal.returns-then-step-eq-NO_STEP
-unfolding step_by pick
-returns-then-step-eq-NO_STEP c = rw (c.operands-n.ensures, c.tells_privilege.ensures, eq-eqb _ _ c.if-step-eq-NO_STEP.true)
+pub returns-in_default : goal.returns-in_default
+returns-in_default c = step_none c.args.kind _ (search rules)
 
-pub returns-else-step-eq-NO_STEP : goal.returns-else-step-eq-NO_STEP
-unfolding step_by pick
-returns-else-step-eq-NO_STEP c = rw (c.operands-n.ensures, c.tells_privilege.ensures, ne_eqb _ _ c.if-step-eq-NO_STEP.false)
+pub returns : goal.returns
+returns c =
+    step_some c.args.kind _ _ _ c.in-Some.ensures (c.operands.ensures ∙ ap (λ (b : Bool). operands_of b c.in-Some.step) c.tells_privilege.ensures)

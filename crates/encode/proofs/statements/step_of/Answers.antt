@@ -1,31 +1,33 @@
 -- That `step_of` of src/statements.rt keeps its contract.
 use mathlib.Core.Path.{◌∙◌}
+use native.Mathlib.Omega.{arith}
 use Rattle.words.proofs.ChoiceLaws.{by-true, by-false}
 use Rattle.text.specs.Phrases.{bytes}
-use Rattle.encode.specs.Words.{step_of}
+use Rattle.encode.specs.Words.{no_step, step_of}
+use Rattle.encode.proofs.OpeningLaws.{unless_is, unless_not}
 use Rattle.encode.proofs.statements.step_of.Goals as goal
 
 pub returns-then-is_same : goal.returns-then-is_same
 unfolding step_of bytes
 returns-then-is_same c =
-    by-true _ c.is_same.ensures c.if-is_same.true
+    unless_is no_step _ (by-true _ c.is_same.ensures c.if-is_same.true) (λ e. omega arith)
 
 pub returns-then-is_same-2 : goal.returns-then-is_same-2
 unfolding step_of bytes
 returns-then-is_same-2 c =
-    by-true _ c.is_same-2.ensures c.if-is_same-2.true
-    ∙ by-false _ c.is_same.ensures c.if-is_same.false
+    unless_is no_step _ (by-true _ c.is_same-2.ensures c.if-is_same-2.true
+    ∙ by-false _ c.is_same.ensures c.if-is_same.false) (λ e. omega arith)
 
 pub returns-then-is_same-3 : goal.returns-then-is_same-3
 unfolding step_of bytes
 returns-then-is_same-3 c =
-    by-true _ c.is_same-3.ensures c.if-is_same-3.true
+    unless_is no_step _ (by-true _ c.is_same-3.ensures c.if-is_same-3.true
     ∙ by-false _ c.is_same-2.ensures c.if-is_same-2.false
-    ∙ by-false _ c.is_same.ensures c.if-is_same.false
+    ∙ by-false _ c.is_same.ensures c.if-is_same.false) (λ e. omega arith)
 
 pub returns : goal.returns
 unfolding step_of bytes
 returns c =
-    by-false _ c.is_same-3.ensures c.if-is_same-3.false
+    unless_not no_step _ (by-false _ c.is_same-3.ensures c.if-is_same-3.false
     ∙ by-false _ c.is_same-2.ensures c.if-is_same-2.false
-    ∙ by-false _ c.is_same.ensures c.if-is_same.false
+    ∙ by-false _ c.is_same.ensures c.if-is_same.false)

@@ -1,5 +1,5 @@
 -- That `first_of` of src/search.rt keeps its contract.
-use mathlib.Core.Path.{sym, ap, subst}
+use mathlib.Core.Path.{refl, sym, ap, subst}
 use Prim.Native.Nat.{ℕ, ◌-◌, ◌^◌, ◌<◌}
 use native.Mathlib.Omega.{arith}
 use Rattle.words.specs.Counting.{lowest_below}
@@ -13,7 +13,7 @@ use Rattle.indexed_room.proofs.FirstLaws.{left-first, first_found, first_on, fir
 use Rattle.indexed_room.proofs.search.first_of.Goals as goal
 
 pub loop-left-init : goal.loop-left-init
-loop-left-init c = (c.whole-left.ensures.1, λ p h. left-first {p = p} h _ _ c.requires c.whole-left.ensures.0)
+loop-left-init c = (c.fits-room _, λ p h. left-first {p = p} h _ _ c.requires refl)
 
 pub lit_word-some-requires : goal.lit_word-some-requires
 lit_word-some-requires c =

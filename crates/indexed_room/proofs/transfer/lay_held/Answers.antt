@@ -10,7 +10,7 @@ pub loop-k-preserved : goal.loop-k-preserved
 loop-k-preserved c =
     let l = c.loop-k in
     let a = c.args in
-    (omega (arith, c.loop-k-test.true), λ f d h. held_more f d a.held.now l.k _ c.loop-k-test.true c.wide-x.ensures.0 (l.invariant.1 f d h))
+    (omega (arith, c.loop-k-test.true), λ f d h. held_more f d a.held.now l.k _ c.loop-k-test.true c.from.ensures (l.invariant.1 f d h))
 
 pub returns : goal.returns
 returns c =

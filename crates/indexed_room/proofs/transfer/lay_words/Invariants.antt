@@ -1,6 +1,6 @@
 -- That `lay_words` of src/transfer.rt keeps its contract.
 use mathlib.Core.Path.{◌≡◌}
-use Prim.Native.Nat.{◌-◌, ◌≤◌}
+use Prim.Native.Nat.{◌≤◌}
 use lib.ListN.{replicate}
 use Rattle.cic_record.specs.declared.Cic.{Cic}
 use Rattle.cic_room.specs.Room.{Frame, Laid}
@@ -9,6 +9,3 @@ use Rattle.indexed_room.proofs.transfer.lay_words.Given as goal
 
 abbrev pub invariant-loop-s : goal.invariant-loop-s
 invariant-loop-s l = (l.s ≤ 1024) × ((f : Frame) (c : Cic) → f.words ≡ replicate 256 0 → Laid f c l.initial.room → Entered f c l.s l.room)
-
-abbrev pub decreases-loop-s : goal.decreases-loop-s
-decreases-loop-s l = 1024 - l.s

@@ -4,4 +4,4 @@ use Rattle.machine.proofs.MachineLaws.{blank_core, blank-cic}
 use Rattle.machine.proofs.record.empty.Goals as goal
 
 pub returns : goal.returns
-returns c = rw (c.reset_to-a.ensures, c.start-b.ensures, c.start-c.ensures, c.blank-d.ensures, c.nothing_held-held.ensures) (rw (blank_core, blank-cic) refl)
+returns c = rw (c.reset_to.ensures, c.start.ensures, c.start-2.ensures, c.blank.ensures, c.nothing_held.ensures) (rw (blank_core, blank-cic) refl)

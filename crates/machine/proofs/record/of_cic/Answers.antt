@@ -2,4 +2,4 @@
 use Rattle.machine.proofs.record.of_cic.Goals as goal
 
 pub returns : goal.returns
-returns c = rw c.empty-m.ensures
+returns c = rw c.empty.ensures

@@ -15,6 +15,6 @@ returns c =
       λ e. (_, l.0 e),
       λ e n s.
           let a = alone w n s in
-          let b = subst (λ (f : Machine). Beside (with_kind f (get_or w 0 0)) a.0) (sym c.empty-first.ensures) a.2 in
-          l.1 e (subst (λ (m : Machine). Stands w m) (sym (c.record_of-m.ensures true a.0 a.1.0 a.1.1 b)) a.1),
+          let b = subst (λ (f : Machine). Beside (with_kind f (get_or w 0 0)) a.0) (sym c.empty.ensures) a.2 in
+          l.1 e (subst (λ (m : Machine). Stands w m) (sym (c.record_of.ensures true a.0 a.1.0 a.1.1 b)) a.1),
     )

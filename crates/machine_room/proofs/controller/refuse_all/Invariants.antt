@@ -1,6 +1,6 @@
 -- That `refuse_all` of src/controller.rt keeps its contract.
 use mathlib.Core.Path.{◌≡◌}
-use Prim.Native.Nat.{◌-◌, ◌≤◌}
+use Prim.Native.Nat.{◌≤◌}
 use lib.ListN.{length}
 use Rattle.steps.specs.Refusals.{unsound}
 use Rattle.rooms.specs.Reply.{reply}
@@ -9,6 +9,3 @@ use Rattle.machine_room.proofs.controller.refuse_all.Given as goal
 
 abbrev pub invariant-loop-k : goal.invariant-loop-k
 invariant-loop-k l = (l.k ≤ l.n) × (length l.answers ≡ length l.initial.answers) × (l.answers ≡ answers_in (λ _. reply unsound 0) l.initial.answers l.k)
-
-abbrev pub decreases-loop-k : goal.decreases-loop-k
-decreases-loop-k l = l.n - l.k

@@ -17,7 +17,7 @@ put_steps-count-requires c = played-ready _ _ _ c.play_steps-p.ensures c.require
 pub returns : goal.returns
 returns c = let g = c.requires in
     let b = machine-before _ _ c.args.steps _ _ _ _ g.1 g.2 _ c.play_steps-p.ensures in (
-      filled _ _ _ _ _ _ _ g.1 g.2 _ _ _ _ _ _ _ _ c.play_steps-p.ensures c.column.ensures c.put_column-next.ensures c.lesser-most.ensures c.put_steps-count.ensures,
+      filled _ _ _ _ _ _ _ g.1 g.2 _ _ _ _ _ _ _ _ c.play_steps-p.ensures c.column.ensures c.put_column-next.ensures c.min-most.ensures c.put_steps-count.ensures,
       ap (λ (m : Machine). m.aic.source) b,
       ap (λ (m : Machine). m.aic.level) b,
     )

@@ -16,5 +16,5 @@ pub returns : goal.returns
 unfolding words_of
 returns c =
     let a = c.args in
-    ap (λ (l : Looked). l.words) (c.look_at-l.ensures ∙ ap (λ (p : Prioritised). look_at p a.offset) c.indexed-p.ensures)
+    ap (λ (l : Looked). l.words) (c.look_at.ensures ∙ ap (λ (p : Prioritised). look_at p a.offset) c.indexed.ensures)
     ∙ pick_true 0 (eq-eqb a.m.kind 4 c.if-m-ne-INDEXED.false)

@@ -1,37 +1,39 @@
 -- That `put_type` of src/fields.rt keeps its contract.
 use mathlib.Core.Path.{ap, ◌∙◌}
 use Rattle.text.specs.Text.{write}
+use native.Mathlib.Omega.{arith}
+use borrow.Author.Rules.{rules}
 use borrow.Author.Tests.{eq-eqb, ne_eqb}
 use Rattle.words.proofs.ChoiceLaws.{pick_true, pick-false}
 use Rattle.text.specs.Phrases.{bytes}
 use Rattle.register_words.specs.Fields.{type_words}
 use Rattle.register_words.proofs.fields.put_type.Goals as goal
 
-pub returns-then-kind-eq0 : goal.returns-then-kind-eq0
+pub returns-in-0 : goal.returns-in-0
 unfolding type_words bytes
-returns-then-kind-eq0 c =
+returns-in-0 c =
     c.put_either.ensures
-    ∙ ap (write _) (pick_true _ (eq-eqb _ _ c.if-kind-eq0.true))
+    ∙ ap (write _) (pick_true _ (eq-eqb _ _ c.in-0.is))
 
-pub returns-then-kind-eq1 : goal.returns-then-kind-eq1
+pub returns-in-1 : goal.returns-in-1
 unfolding type_words bytes
-returns-then-kind-eq1 c =
-    c.put_either-then-kind-eq1.ensures
-    ∙ ap (write _) (pick_true _ (eq-eqb _ _ c.if-kind-eq1.true)
-    ∙ pick-false _ (ne_eqb _ _ c.if-kind-eq0.false))
+returns-in-1 c =
+    c.put_either-in-1.ensures
+    ∙ ap (write _) (pick_true _ (eq-eqb _ _ c.in-1.is)
+    ∙ pick-false _ (ne_eqb _ _ (λ z. omega (arith, z, c.in-1.is))))
 
-pub returns-then-kind-eq2 : goal.returns-then-kind-eq2
+pub returns-in-2 : goal.returns-in-2
 unfolding type_words bytes
-returns-then-kind-eq2 c =
+returns-in-2 c =
     c.put_all.ensures
-    ∙ ap (write _) (pick_true _ (eq-eqb _ _ c.if-kind-eq2.true)
-    ∙ pick-false _ (ne_eqb _ _ c.if-kind-eq1.false)
-    ∙ pick-false _ (ne_eqb _ _ c.if-kind-eq0.false))
+    ∙ ap (write _) (pick_true _ (eq-eqb _ _ c.in-2.is)
+    ∙ pick-false _ (ne_eqb _ _ (λ z. omega (arith, z, c.in-2.is)))
+    ∙ pick-false _ (ne_eqb _ _ (λ z. omega (arith, z, c.in-2.is))))
 
-pub returns : goal.returns
+pub returns-in_default : goal.returns-in_default
 unfolding type_words bytes
-returns c =
-    c.put_all-2.ensures
-    ∙ ap (write _) (pick-false _ (ne_eqb _ _ c.if-kind-eq2.false)
-    ∙ pick-false _ (ne_eqb _ _ c.if-kind-eq1.false)
-    ∙ pick-false _ (ne_eqb _ _ c.if-kind-eq0.false))
+returns-in_default c =
+    c.put_all-in_default.ensures
+    ∙ ap (write _) (pick-false _ (ne_eqb _ _ (search rules))
+    ∙ pick-false _ (ne_eqb _ _ (search rules))
+    ∙ pick-false _ (ne_eqb _ _ (search rules)))

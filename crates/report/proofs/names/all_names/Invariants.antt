@@ -5,9 +5,6 @@ use lib.ListN.{length}
 use Rattle.report.specs.Put.{Put}
 use Rattle.report.proofs.names.all_names.Given as goal
 
-abbrev pub invariant-loop-turns : goal.invariant-loop-turns
-invariant-loop-turns g l =
+abbrev pub invariant-loop : goal.invariant-loop
+invariant-loop g l =
     (l.s.held ≤ length l.names) × (length l.names ≡ length l.initial.names) × ((n : ℕ) × Put l.initial.s.sum.totals n l.s.sum.totals)
-
-abbrev pub decreases-loop-turns : goal.decreases-loop-turns
-decreases-loop-turns g l = l.turns

@@ -21,5 +21,5 @@ unfolding sources_part
 returns c =
     let a = c.args in
     c.put_ordered.ensures
-    ∙ ap (λ (is : List ℕ). write (a.out.now, a.at) (sources_of is a.t a.names.now a.lengths a.s))
-    (laid-taken _ _ _ c.put_order-n.ensures (order-fits a.t a.s.used))
+    ∙ ap (λ (is : List ℕ). write (a.out.now, a.at) (sources_of is a.board.now.table a.board.now.names a.board.now.lengths a.s))
+    (laid-taken _ _ _ c.put_order-n.ensures (order-fits a.board.now.table a.s.used))

@@ -2,37 +2,35 @@
 use Rattle.text.specs.Phrases.{bytes}
 use Rattle.sheet.specs.Names.{escape}
 use Rattle.text.specs.Text.{write}
-use Rattle.words.proofs.ChoiceLaws.{pick-false, pick_true}
-use borrow.Author.Tests.{eq-eqb, ne_eqb}
-use mathlib.Core.Path.{◌∙◌, ap}
+use Rattle.words.proofs.ChoiceLaws.{pick-false}
+use Rattle.words.specs.Choice.{pick}
+use borrow.Author.Tests.{ne_eqb}
+use mathlib.Core.Path.{◌≡◌, ◌∙◌, ap}
+use native.Mathlib.Omega.{arith}
 use Rattle.sheet.proofs.escapes.put_byte.Goals as goal
 
-pub returns-then-b-eq38 : goal.returns-then-b-eq38
-unfolding escape bytes
-returns-then-b-eq38 c =
-    c.put_all.ensures ∙ ap (write _) (pick_true _ (eq-eqb _ _ c.if-b-eq38.true))
+pub returns-in-38 : goal.returns-in-38
+unfolding escape bytes pick
+returns-in-38 c = rw c.in-38.is c.put_all.ensures
 
-pub returns-then-b-eq60 : goal.returns-then-b-eq60
-unfolding escape bytes
-returns-then-b-eq60 c =
-    c.put_all-then-b-eq60.ensures ∙ ap (write _) (pick_true _ (eq-eqb _ _ c.if-b-eq60.true) ∙ pick-false _ (ne_eqb _ _ c.if-b-eq38.false))
+pub returns-in-60 : goal.returns-in-60
+unfolding escape bytes pick
+returns-in-60 c = rw c.in-60.is c.put_all-in-60.ensures
 
-pub returns-then-b-eq62 : goal.returns-then-b-eq62
-unfolding escape bytes
-returns-then-b-eq62 c =
-    c.put_all-then-b-eq62.ensures ∙ ap (write _) (pick_true _ (eq-eqb _ _ c.if-b-eq62.true) ∙ pick-false _ (ne_eqb _ _ c.if-b-eq60.false) ∙ pick-false _ (ne_eqb _ _ c.if-b-eq38.false))
+pub returns-in-62 : goal.returns-in-62
+unfolding escape bytes pick
+returns-in-62 c = rw c.in-62.is c.put_all-in-62.ensures
 
-pub returns-then-b-eq34 : goal.returns-then-b-eq34
-unfolding escape bytes
-returns-then-b-eq34 c =
-    c.put_all-then-b-eq34.ensures ∙ ap (write _) (pick_true _ (eq-eqb _ _ c.if-b-eq34.true) ∙ pick-false _ (ne_eqb _ _ c.if-b-eq62.false) ∙ pick-false _ (ne_eqb _ _ c.if-b-eq60.false) ∙ pick-false _ (ne_eqb _ _ c.if-b-eq38.false))
+pub returns-in-34 : goal.returns-in-34
+unfolding escape bytes pick
+returns-in-34 c = rw c.in-34.is c.put_all-in-34.ensures
 
-pub returns-then-b-eq92 : goal.returns-then-b-eq92
-unfolding escape bytes
-returns-then-b-eq92 c =
-    c.put_all-then-b-eq92.ensures ∙ ap (write _) (pick_true _ (eq-eqb _ _ c.if-b-eq92.true) ∙ pick-false _ (ne_eqb _ _ c.if-b-eq34.false) ∙ pick-false _ (ne_eqb _ _ c.if-b-eq62.false) ∙ pick-false _ (ne_eqb _ _ c.if-b-eq60.false) ∙ pick-false _ (ne_eqb _ _ c.if-b-eq38.false))
+pub returns-in-92 : goal.returns-in-92
+unfolding escape bytes pick
+returns-in-92 c = rw c.in-92.is c.put_all-in-92.ensures
 
-pub returns : goal.returns
-unfolding escape bytes
-returns c =
-    c.put_plain.ensures ∙ ap (write _) (pick-false _ (ne_eqb _ _ c.if-b-eq92.false) ∙ pick-false _ (ne_eqb _ _ c.if-b-eq34.false) ∙ pick-false _ (ne_eqb _ _ c.if-b-eq62.false) ∙ pick-false _ (ne_eqb _ _ c.if-b-eq60.false) ∙ pick-false _ (ne_eqb _ _ c.if-b-eq38.false))
+pub returns-in_default : goal.returns-in_default
+unfolding escape
+returns-in_default c =
+    c.put_plain.ensures
+    ∙ ap (write _) (pick-false _ (ne_eqb _ _ (λ (e : c.args.b ≡ 92). omega arith)) ∙ pick-false _ (ne_eqb _ _ (λ (e : c.args.b ≡ 34). omega arith)) ∙ pick-false _ (ne_eqb _ _ (λ (e : c.args.b ≡ 62). omega arith)) ∙ pick-false _ (ne_eqb _ _ (λ (e : c.args.b ≡ 60). omega arith)) ∙ pick-false _ (ne_eqb _ _ (λ (e : c.args.b ≡ 38). omega arith)))

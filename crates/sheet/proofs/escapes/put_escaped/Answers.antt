@@ -6,15 +6,15 @@ use borrow.Author.Rules.{rules}
 use mathlib.Core.Path.{◌∙◌, refl}
 use Rattle.sheet.proofs.escapes.put_escaped.Goals as goal
 
-pub loop-k-init : goal.loop-k-init
-loop-k-init c = (refl, refl)
+pub loop-b-init : goal.loop-b-init
+loop-b-init c = (refl, refl)
 
-pub loop-k-preserved : goal.loop-k-preserved
-loop-k-preserved c =
+pub loop-b-preserved : goal.loop-b-preserved
+loop-b-preserved c =
     let a = c.args in
-    (each_turn escape a.name.now c.loop-k.k _ _ _ (search rules) c.put_byte-next.ensures c.loop-k.invariant.0, same_len _ _ _ c.put_byte-next.ensures ∙ c.loop-k.invariant.1)
+    (each_turn escape a.name.now c.loop-b.b-index _ _ _ (search rules) c.put_byte-next.ensures c.loop-b.invariant.0, same_len _ _ _ c.put_byte-next.ensures ∙ c.loop-b.invariant.1)
 
 pub returns : goal.returns
 returns c =
     let a = c.args in
-    each-done escape a.name.now c.loop-k.k _ _ (search rules) c.loop-k.invariant.0
+    each-done escape a.name.now c.loop-b.b-index _ _ (search rules) c.loop-b.invariant.0

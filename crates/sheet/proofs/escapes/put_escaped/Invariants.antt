@@ -1,5 +1,4 @@
 -- That `put_escaped` of src/escapes.rt keeps its contract.
-use Prim.Native.Nat.{◌-◌}
 use Rattle.sheet.specs.Names.{escape}
 use Rattle.sheet.specs.Texts.{each}
 use Rattle.text.specs.Text.{write}
@@ -7,8 +6,5 @@ use lib.ListN.{drop, length}
 use mathlib.Core.Path.{◌≡◌}
 use Rattle.sheet.proofs.escapes.put_escaped.Given as goal
 
-abbrev pub invariant-loop-k : goal.invariant-loop-k
-invariant-loop-k l = (write (l.out, l.next) (each escape (drop l.k l.name)) ≡ write (l.initial.out, l.at) (each escape l.name)) × (length l.out ≡ length l.initial.out)
-
-abbrev pub decreases-loop-k : goal.decreases-loop-k
-decreases-loop-k l = length l.name - l.k
+abbrev pub invariant-loop-b : goal.invariant-loop-b
+invariant-loop-b l = (write (l.out, l.next) (each escape (drop l.b-index l.name)) ≡ write (l.initial.out, l.at) (each escape l.name)) × (length l.out ≡ length l.initial.out)

@@ -24,4 +24,4 @@ pub returns : goal.returns
 unfolding owner
 returns c =
     let a = c.args in
-    lowest-none (owns a.t a.l a.n) c.loop-i.i c.loop-i.invariant.0 c.loop-i-test.false c.loop-i.invariant.1
+    lowest-none (owns a.t a.l a.n) 32 (omega arith) (omega arith) (λ j h. c.loop-i.invariant.1 j (omega (arith, c.loop-i-test.false)))

@@ -10,6 +10,3 @@ use Rattle.sheet.proofs.levels.put_eight.Given as goal
 
 abbrev pub invariant-loop-l : goal.invariant-loop-l
 invariant-loop-l live = (live.l ≤ 8) × (write (live.out, live.next) (down (λ l. bar (tallest live.t 8) (level_bytes live.t l) l) live.l) ≡ write (live.initial.out, live.at) (down (λ l. bar (tallest live.t 8) (level_bytes live.t l) l) 8)) × (length live.out ≡ length live.initial.out)
-
-abbrev pub decreases-loop-l : goal.decreases-loop-l
-decreases-loop-l l = l.l

@@ -8,7 +8,4 @@ use mathlib.Core.Path.{◌≡◌}
 use Rattle.sheet.proofs.levels.put_rows.Given as goal
 
 abbrev pub invariant-loop-l : goal.invariant-loop-l
-invariant-loop-l l = (l.l ≤ 8) × (write (l.out, l.next) (down (level_row l.t l.names l.lengths) l.l) ≡ write (l.initial.out, l.at) (down (level_row l.t l.names l.lengths) 8)) × (length l.out ≡ length l.initial.out)
-
-abbrev pub decreases-loop-l : goal.decreases-loop-l
-decreases-loop-l l = l.l
+invariant-loop-l l = (l.l ≤ 8) × (write (l.out, l.next) (down (level_row l.board.table l.board.names l.board.lengths) l.l) ≡ write (l.initial.out, l.at) (down (level_row l.board.table l.board.names l.board.lengths) 8)) × (length l.out ≡ length l.initial.out)

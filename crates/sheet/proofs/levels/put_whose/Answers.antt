@@ -10,7 +10,7 @@ use Rattle.sheet.proofs.levels.put_whose.Goals as goal
 pub returns-then-t-n : goal.returns-then-t-n
 unfolding whose bytes
 returns-then-t-n c =
-    rw (← c.level_bytes-n.ensures, ← c.owner-i.ensures, ← c.word_at-k.ensures)
+    rw (← c.level_bytes-n.ensures, ← c.owner-i.ensures)
     (c.put_called.ensures ∙ ap (write _) (pick_true _ (lt-ltb _ _ c.if-t-n.true)))
 
 pub returns : goal.returns

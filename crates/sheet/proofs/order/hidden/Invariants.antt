@@ -1,5 +1,5 @@
 -- That `hidden` of src/order.rt keeps its contract.
-use Prim.Native.Nat.{◌-◌, ◌≤◌}
+use Prim.Native.Nat.{◌≤◌}
 use Rattle.sheet.specs.Order.{shown}
 use Rattle.words.specs.Counting.{count_below}
 use mathlib.Core.Bool.{not}
@@ -8,6 +8,3 @@ use Rattle.sheet.proofs.order.hidden.Given as goal
 
 abbrev pub invariant-loop-i : goal.invariant-loop-i
 invariant-loop-i l = (l.i ≤ 32) × (l.n ≡ count_below l.i (λ i. not (shown l.t l.used i)))
-
-abbrev pub decreases-loop-i : goal.decreases-loop-i
-decreases-loop-i l = 32 - l.i

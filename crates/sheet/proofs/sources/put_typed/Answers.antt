@@ -2,27 +2,27 @@
 use Rattle.text.specs.Phrases.{bytes}
 use Rattle.sheet.specs.Sources.{typed}
 use Rattle.text.specs.Text.{write}
-use Rattle.words.proofs.ChoiceLaws.{pick-false, pick_true}
-use borrow.Author.Tests.{eq-eqb, ne_eqb}
-use mathlib.Core.Path.{◌∙◌, ap}
+use Rattle.words.proofs.ChoiceLaws.{pick-false}
+use Rattle.words.specs.Choice.{pick}
+use borrow.Author.Tests.{ne_eqb}
+use mathlib.Core.Path.{◌≡◌, ◌∙◌, ap}
+use native.Mathlib.Omega.{arith}
 use Rattle.sheet.proofs.sources.put_typed.Goals as goal
 
-pub returns-then-kind-eq0 : goal.returns-then-kind-eq0
-unfolding typed bytes
-returns-then-kind-eq0 c =
-    c.put_all.ensures ∙ ap (write _) (pick_true _ (eq-eqb _ _ c.if-kind-eq0.true))
+pub returns-in-0 : goal.returns-in-0
+unfolding typed bytes pick
+returns-in-0 c = rw c.in-0.is c.put_all.ensures
 
-pub returns-then-kind-eq1 : goal.returns-then-kind-eq1
-unfolding typed bytes
-returns-then-kind-eq1 c =
-    c.put_all-then-kind-eq1.ensures ∙ ap (write _) (pick_true _ (eq-eqb _ _ c.if-kind-eq1.true) ∙ pick-false _ (ne_eqb _ _ c.if-kind-eq0.false))
+pub returns-in-1 : goal.returns-in-1
+unfolding typed bytes pick
+returns-in-1 c = rw c.in-1.is c.put_all-in-1.ensures
 
-pub returns-then-kind-eq2 : goal.returns-then-kind-eq2
-unfolding typed bytes
-returns-then-kind-eq2 c =
-    c.put_all-then-kind-eq2.ensures ∙ ap (write _) (pick_true _ (eq-eqb _ _ c.if-kind-eq2.true) ∙ pick-false _ (ne_eqb _ _ c.if-kind-eq1.false) ∙ pick-false _ (ne_eqb _ _ c.if-kind-eq0.false))
+pub returns-in-2 : goal.returns-in-2
+unfolding typed bytes pick
+returns-in-2 c = rw c.in-2.is c.put_all-in-2.ensures
 
-pub returns : goal.returns
+pub returns-in_default : goal.returns-in_default
 unfolding typed bytes
-returns c =
-    c.put_all-2.ensures ∙ ap (write _) (pick-false _ (ne_eqb _ _ c.if-kind-eq2.false) ∙ pick-false _ (ne_eqb _ _ c.if-kind-eq1.false) ∙ pick-false _ (ne_eqb _ _ c.if-kind-eq0.false))
+returns-in_default c =
+    c.put_all-in_default.ensures
+    ∙ ap (write _) (pick-false _ (ne_eqb _ _ (λ (e : c.args.kind ≡ 2). omega arith)) ∙ pick-false _ (ne_eqb _ _ (λ (e : c.args.kind ≡ 1). omega arith)) ∙ pick-false _ (ne_eqb _ _ (λ (e : c.args.kind ≡ 0). omega arith)))

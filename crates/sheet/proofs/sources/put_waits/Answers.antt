@@ -4,21 +4,17 @@ use Rattle.sheet.specs.Sources.{waits_row}
 use Rattle.text.proofs.WriteLaws.{same_length as same_len}
 use borrow.Author.Rules.{rules}
 use mathlib.Core.Path.{◌∙◌, refl}
-use native.Mathlib.Omega.{arith}
 use Rattle.sheet.proofs.sources.put_waits.Goals as goal
 
-pub loop-k-init : goal.loop-k-init
-loop-k-init c = (refl, refl)
+pub loop-i-init : goal.loop-i-init
+loop-i-init c = (refl, refl)
 
-pub loop-k-preserved : goal.loop-k-preserved
-loop-k-preserved c =
+pub loop-i-preserved : goal.loop-i-preserved
+loop-i-preserved c =
     let a = c.args in
-    (each_turn (waits_row a.w a.trace) a.is.now c.loop-k.k _ _ _ (search rules) c.put_wait-next.ensures c.loop-k.invariant.0, same_len _ _ _ c.put_wait-next.ensures ∙ c.loop-k.invariant.1)
+    (each_turn (waits_row a.w a.trace) a.is.now c.loop-i.i-index _ _ _ (search rules) c.put_wait-next.ensures c.loop-i.invariant.0, same_len _ _ _ c.put_wait-next.ensures ∙ c.loop-i.invariant.1)
 
 pub returns : goal.returns
 returns c =
     let a = c.args in
-    each-done (waits_row a.w a.trace) a.is.now c.loop-k.k _ _ (search rules) c.loop-k.invariant.0
-
-pub overflow_cast-is : goal.overflow_cast-is
-overflow_cast-is c = omega (arith, c.shared_slice_known-in-loop-k-1.given c.loop-k.k)
+    each-done (waits_row a.w a.trace) a.is.now c.loop-i.i-index _ _ (search rules) c.loop-i.invariant.0

@@ -1,15 +1,13 @@
 -- That `settle` of src/held.rt keeps its contract.
-use mathlib.Core.Path.{ap, ◌∙◌}
-use native.Mathlib.Omega.{arith}
-use Rattle.sheet_run.specs.declared.progress.Sum.{Sum}
+use mathlib.Core.Path.{refl}
 use Rattle.sheet_run.proofs.PutLaws.{put-none, put_shut}
 use Rattle.sheet_run.proofs.held.settle.Goals as goal
 
-pub returns-then-skipping-sum : goal.returns-then-skipping-sum
-returns-then-skipping-sum g c = (omega (arith, c.standing.ensures.0), put-none _ _ _ (ap (λ (m : Sum). m.sheet) c.standing.ensures.1))
+pub returns-then-skipping-clause-put : goal.returns-then-skipping-clause-put
+returns-then-skipping-clause-put g c = λ t. put-none t _ _ refl
 
-pub returns-then-held-names : goal.returns-then-held-names
-returns-then-held-names g c = (omega (arith, c.standing-then-held-names.ensures.0, c.if-held-names.true), put-none _ _ _ (ap (λ (m : Sum). m.sheet) c.standing-then-held-names.ensures.1))
+pub returns-then-held-names-clause-put : goal.returns-then-held-names-clause-put
+returns-then-held-names-clause-put g c = λ t. put-none t _ _ refl
 
-pub returns : goal.returns
-returns g c = (omega (arith, c.standing-2.ensures.0), put_shut _ _ _ (ap (λ (m : Sum). m.sheet) c.standing-2.ensures.1 ∙ c.unopened-told.ensures))
+pub returns-clause-put : goal.returns-clause-put
+returns-clause-put g c = λ t. put_shut t _ _ c.in_ok-told.ensures

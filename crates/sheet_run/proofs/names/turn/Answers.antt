@@ -1,13 +1,12 @@
 -- That `turn` of src/names.rt keeps its contract.
-use Prim.Native.Nat.{◌+◌}
 use native.Mathlib.Omega.{arith}
 use lib.Seq.{length-take-le}
+use Rattle.std.proofs.lemmas.Result.{IfOk-weaker}
 use Rattle.sheet_run.proofs.PutLaws.{put_then}
 use Rattle.sheet_run.proofs.names.turn.Goals as goal
 
 pub overflow_sub-end : goal.overflow_sub-end
-overflow_sub-end g c =
-    omega (arith, c.lines-r.ensures.0, length-take-le (c.args.s.held + c.fill-came.result.bytes) c.fill-came.new.names c.fill-came.ensures)
+overflow_sub-end g c = omega (arith, c.in_ok-rest.ensures.within, length-take-le c.args.end c.args.names.now c.requires)
 
-pub returns : goal.returns
-returns g c = (c.settle.ensures.0, put_then _ c.lines-r.ensures.1 c.settle.ensures.1)
+pub returns-clause-put : goal.returns-clause-put
+returns-clause-put g c = IfOk-weaker _ _ _ (λ after p. put_then _ c.in_ok-rest.ensures.put (p _)) c.settle.ensures.put

@@ -5,9 +5,3 @@ use Rattle.sheet_run.proofs.traces.pass.Goals as goal
 
 pub returns-then-skipping : goal.returns-then-skipping
 returns-then-skipping g c = put-none _ _ _ refl
-
-pub returns-then-not-sum : goal.returns-then-not-sum
-returns-then-not-sum g c = put-none _ _ _ refl
-
-pub returns : goal.returns
-returns g c = c.play.ensures

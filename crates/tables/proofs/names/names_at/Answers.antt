@@ -1,21 +1,30 @@
 -- That `names_at` of src/names.rt keeps its contract.
 use Prim.Native.Nat.{◌/◌, ◌%◌}
-use mathlib.Core.Path.{◌∙◌}
+use mathlib.Core.Path.{refl, ◌∙◌}
+use native.Mathlib.Omega.{arith}
 use lib.ListN.{get_or}
-use Rattle.tables.specs.Named.{byte_in, names_at}
+use Rattle.tables.specs.Named.{no_place, byte_in, names_at}
 use Rattle.tables.proofs.FillLaws.{room-none, room-more, room_full}
-use borrow.Author.Rules.{rules}
 use Rattle.tables.proofs.names.names_at.Goals as goal
 
 pub loop-k-init : goal.loop-k-init
-loop-k-init c = (search rules, room-none 768 _)
+loop-k-init c = room-none 768 _
 
 pub loop-k-preserved : goal.loop-k-preserved
 loop-k-preserved c =
     let l = c.loop-k in
     let a = c.args in
-    (search rules, room-more 768 l.k (λ j. byte_in a.text.now (get_or a.starts (j / 24) 0) (get_or a.counts (j / 24) 0) (j % 24)) _ _ (search rules) l.invariant.1 c.byte_in.ensures)
+    room-more 768 l.k (λ j. byte_in a.text.now (get_or a.places.now (j / 24) no_place).start (get_or a.places.now (j / 24) no_place).count (j % 24)) _ _ (omega arith) l.invariant c.byte_in.ensures
+
+pub loop-i-init : goal.loop-i-init
+loop-i-init c = room-none 32 _
+
+pub loop-i-preserved : goal.loop-i-preserved
+loop-i-preserved c =
+    let a = c.args in
+    room-more 32 c.loop-i.i (λ j. (get_or a.places.now j no_place).count) _ _ (omega arith) c.loop-i.invariant refl
 
 pub returns : goal.returns
 unfolding names_at
-returns c = rw (c.loop-k.invariant.1 ∙ room_full 768 c.loop-k.k _ (search rules) c.loop-k.invariant.0)
+returns c =
+    rw (c.loop-k.invariant ∙ room_full 768 c.loop-k.k _ (omega arith) (omega arith), c.loop-i.invariant ∙ room_full 32 c.loop-i.i _ (omega arith) (omega arith))

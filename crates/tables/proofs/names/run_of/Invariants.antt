@@ -1,5 +1,5 @@
 -- That `run_of` of src/names.rt keeps its contract.
-use Prim.Native.Nat.{ℕ, ◌≤◌, ◌<◌, ◌-◌}
+use Prim.Native.Nat.{ℕ, ◌≤◌, ◌<◌}
 use mathlib.Core.Path.{◌≡◌}
 use mathlib.Core.Bool.{false}
 use Rattle.tables.proofs.NameLaws.{not_name}
@@ -7,6 +7,3 @@ use Rattle.tables.proofs.names.run_of.Given as goal
 
 abbrev pub invariant-loop-k : goal.invariant-loop-k
 invariant-loop-k l = (l.k ≤ 25) × ((j : ℕ) → j < l.k → not_name l.text l.at j ≡ false)
-
-abbrev pub decreases-loop-k : goal.decreases-loop-k
-decreases-loop-k l = 25 - l.k

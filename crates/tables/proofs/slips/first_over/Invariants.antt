@@ -1,5 +1,5 @@
 -- That `first_over` of src/slips.rt keeps its contract.
-use Prim.Native.Nat.{ℕ, ◌≤◌, ◌<◌, ◌-◌}
+use Prim.Native.Nat.{ℕ, ◌<◌}
 use mathlib.Core.Path.{◌≡◌}
 use mathlib.Core.Bool.{false}
 use Rattle.tables.specs.Typed.{past_nth}
@@ -7,7 +7,4 @@ use Rattle.tables.proofs.SlipLaws.{Over}
 use Rattle.tables.proofs.slips.first_over.Given as goal
 
 abbrev pub invariant-loop-n : goal.invariant-loop-n
-invariant-loop-n l = (l.n ≤ 98) × (l.past ≡ past_nth l.cleared l.n) × ((k : ℕ) → k < l.n → Over l.cleared k ≡ false)
-
-abbrev pub decreases-loop-n : goal.decreases-loop-n
-decreases-loop-n l = 98 - l.n
+invariant-loop-n l = (l.past ≡ past_nth l.cleared l.n) × ((k : ℕ) → k < l.n → Over l.cleared k ≡ false)

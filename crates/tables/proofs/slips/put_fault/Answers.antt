@@ -4,7 +4,8 @@ use mathlib.Core.Path.{ap, ◌∙◌}
 use Rattle.text.specs.Text.{write}
 use Rattle.text.proofs.WriteLaws.{and_then}
 use Rattle.tables.proofs.SeekLaws.{past-within, nth-within}
-use Rattle.tables.proofs.ReadLaws.{next-is}
+use Rattle.tables.proofs.ReadLaws.{next-is, word-is_some}
+use Rattle.std.specs.Prelude.{is_some}
 use Rattle.tables.specs.Slips.{told}
 use Rattle.tables.proofs.SlipLaws.{fault-told}
 use Rattle.tables.proofs.slips.put_fault.Goals as goal
@@ -23,4 +24,4 @@ returns c =
     let a = c.args in
     let x = next-is a.cleared.now _ a.n _ c.past_nth.ensures c.read_next-w.ensures in
     and_then _ _ _ (and_then _ _ _ c.put_line-a.ensures c.put_expected-b.ensures) c.put.ensures
-    ∙ ap (write _) (fault-told a.text.now a.cleared.now a.n _ _ _ x.start c.byte_or-quote.ensures x.taken)
+    ∙ ap (write _) (fault-told a.text.now a.cleared.now a.n _ _ _ x.start c.byte_or-quote.ensures (c.is_some.ensures ∙ ap is_some x.number ∙ word-is_some _))

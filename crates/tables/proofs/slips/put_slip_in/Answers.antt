@@ -1,23 +1,16 @@
 -- That `put_slip_in` of src/slips.rt keeps its contract.
-use mathlib.Core.Path.{sym, ap, ◌∙◌}
-use Rattle.words.proofs.ChoiceLaws.{pick_true, pick-false}
+use mathlib.Core.Path.{ap, ◌∙◌}
 use Rattle.text.specs.Text.{write}
-use Rattle.tables.proofs.ReadLaws.{bare_tests, bare-count}
-use Rattle.tables.specs.Slips.{over_line, fault_line, slip_in}
+use Rattle.tables.specs.Slips.{line_over}
+use Rattle.tables.proofs.SlipLaws.{slip-told}
 use Rattle.tables.proofs.slips.put_slip_in.Goals as goal
 
-pub returns-then-v-cleared : goal.returns-then-v-cleared
-unfolding slip_in
-returns-then-v-cleared c =
+pub returns-in-Ok : goal.returns-in-Ok
+returns-in-Ok c =
     let a = c.args in
-    let v = c.read_values-v in
-    c.put_over.ensures
-    ∙ ap (write _) (ap (over_line a.text.now a.cleared.now) c.first_over-n.ensures ∙ pick_true _ (sym (bare_tests a.cleared.now v.result v.ensures) ∙ c.if-v-cleared.true))
+    c.put_over.ensures ∙ ap (write _) (ap (line_over a.text.now a.cleared.now) c.first_over.ensures ∙ slip-told a.text.now a.cleared.now _ c.in-Ok.ensures)
 
-pub returns : goal.returns
-unfolding slip_in
-returns c =
+pub returns-in-Err : goal.returns-in-Err
+returns-in-Err c =
     let a = c.args in
-    let v = c.read_values-v in
-    c.put_fault.ensures
-    ∙ ap (write _) (ap (fault_line a.text.now a.cleared.now) (bare-count a.cleared.now v.result v.ensures) ∙ pick-false _ (sym (bare_tests a.cleared.now v.result v.ensures) ∙ c.if-v-cleared.false))
+    c.put_fault.ensures ∙ ap (write _) (slip-told a.text.now a.cleared.now _ c.in-Err.ensures)

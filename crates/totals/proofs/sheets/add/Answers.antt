@@ -8,7 +8,7 @@ use Rattle.totals.proofs.sheets.add.Goals as goal
 pub returns-then-t-lt32 : goal.returns-then-t-lt32
 returns-then-t-lt32 c =
     let a = c.args in
-    ap (λ (x : Sheet). record { refusal = 18; sheet = x }) (c.counted-out.ensures ∙ ap (counted a.s a.s.full a.s.unopened) c.more.ensures)
+    ap (λ (x : Sheet). record { refusal = 18; sheet = x }) (c.counted.ensures ∙ ap (counted a.s a.s.full a.s.unopened) c.more.ensures)
     ∙ sym (strayed a.s a.t c.if-t-lt32.true)
 
 pub returns : goal.returns

@@ -4,4 +4,4 @@ use Rattle.totals.proofs.sheets.none.Goals as goal
 
 pub returns : goal.returns
 unfolding no_sheet
-returns c = rw (c.none-f.ensures, c.none-w.ensures)
+returns c = rw (c.none.ensures, c.none-2.ensures)

@@ -16,11 +16,11 @@ pub returns-then-numbers_pass-f : goal.returns-then-numbers_pass-f
 unfolding summed
 returns-then-numbers_pass-f c =
     let s = c.args.s in
-    ap (λ (x : Sheet). record { refusal = 16; sheet = x }) (c.counted-out.ensures ∙ ap (λ (m : ℕ). counted s m s.unopened s.unkept) c.more.ensures)
+    ap (λ (x : Sheet). record { refusal = 16; sheet = x }) (c.counted.ensures ∙ ap (λ (m : ℕ). counted s m s.unopened s.unkept) c.more.ensures)
     ∙ by-true _ (passes-by s c.args.t _ _ _ c.numbers_pass.ensures c.add-f.ensures c.add-w.ensures) c.if-numbers_pass-f.true
 
-pub together-sum-requires : goal.together-sum-requires
-together-sum-requires c =
+pub together-requires : goal.together-requires
+together-requires c =
     sym c.numbers_pass.ensures
     ∙ (or_neither c.numbers_pass.result (not (eqb c.add-f.result.refusal 0))
     (or_neither (c.numbers_pass.result || not (eqb c.add-f.result.refusal 0)) (not (eqb c.add-w.result.refusal 0)) c.if-numbers_pass-f.false).0).0
@@ -30,5 +30,5 @@ unfolding summed
 returns c =
     let a = c.args in
     ap (λ (x : Sheet). record { refusal = 0; sheet = x })
-    (c.together-sum.ensures ∙ ap₂ (λ (f : Summed) (v : Bounded). together a.s a.t f.totals v.waits) c.add-f.ensures c.add-w.ensures)
+    (c.together.ensures ∙ ap₂ (λ (f : Summed) (v : Bounded). together a.s a.t f.totals v.waits) c.add-f.ensures c.add-w.ensures)
     ∙ by-false _ (passes-by a.s a.t _ _ _ c.numbers_pass.ensures c.add-f.ensures c.add-w.ensures) c.if-numbers_pass-f.false

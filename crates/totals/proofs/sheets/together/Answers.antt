@@ -22,4 +22,4 @@ overflow_add-result-5 c = omega (arith, (fits _ _ c.requires).4)
 pub returns : goal.returns
 unfolding together
 returns c =
-    rw (c.first_of-first.ensures, c.more.ensures, c.join.ensures)
+    rw (c.first_of.ensures, c.more.ensures, c.join.ensures)

@@ -4,4 +4,4 @@ use Rattle.totals.proofs.waits.bound_at.Goals as goal
 
 pub returns : goal.returns
 unfolding bound_of
-returns c = c.six.ensures
+returns c = rw (c.from.ensures, c.from-2.ensures, c.from-3.ensures, c.from-4.ensures, c.from-5.ensures, c.from-6.ensures)

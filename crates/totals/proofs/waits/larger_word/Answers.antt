@@ -1,22 +1,9 @@
 -- That `larger_word` of src/waits.rt keeps its contract.
-use mathlib.Core.Path.{◌∙◌}
-use native.Mathlib.Omega.{arith}
-use Rattle.words.specs.Word.{word_of}
-use Rattle.words.proofs.CountingLaws.{at_end}
-use Rattle.words.proofs.WordLaws.{word_of-none_yet, word_of-more}
+use borrow.Author.Rules.{rules}
 use Rattle.totals.specs.Waits.{larger}
 use Rattle.totals.proofs.waits.larger_word.Goals as goal
-
-pub loop-i-init : goal.loop-i-init
-loop-i-init c = (omega arith, word_of-none_yet _)
-
-pub loop-i-preserved : goal.loop-i-preserved
-loop-i-preserved c =
-    let a = c.args in
-    let l = c.loop-i in
-    (omega arith, c.with_bit-w.ensures ∙ word_of-more (larger a.a a.b) l.i c.loop-i-test.true l.invariant.1 c.is_larger.ensures)
 
 pub returns : goal.returns
 returns c =
     let a = c.args in
-    at_end (λ n. word_of n (larger a.a a.b)) _ 32 c.loop-i.invariant.0 c.loop-i-test.false c.loop-i.invariant.1
+    c.sources_where.ensures (larger a.a a.b) (λ i r l q. search rules)

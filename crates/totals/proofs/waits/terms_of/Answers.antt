@@ -10,4 +10,4 @@ pub returns : goal.returns
 returns c =
     let p = larger c.args.a c.args.b in
     let e : (i : ℕ) → i < 32 → bit c.larger_word-more.result i ≡ p i = λ i l. ap (λ (v : ℕ). bit v i) c.larger_word-more.ensures ∙ bit-word_of 32 p i l in
-    rw (c.chosen-pending.ensures p e, c.chosen-edges.ensures p e, c.chosen-commands.ensures p e, c.chosen-turns.ensures p e, c.chosen-closed.ensures p e, c.chosen-remembered.ensures p e)
+    rw (c.chosen.ensures p e, c.chosen-2.ensures p e, c.chosen-3.ensures p e, c.chosen-4.ensures p e, c.chosen-5.ensures p e, c.chosen-6.ensures p e)

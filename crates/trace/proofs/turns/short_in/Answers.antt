@@ -1,5 +1,4 @@
 -- That `short_in` of src/turns.rt keeps its contract.
-use mathlib.Core.Path.{refl}
 use native.Mathlib.Omega.{arith}
 use Rattle.numbers.proofs.ShortLaws.{one_byte, two_bytes}
 use Rattle.trace.proofs.turns.short_in.Goals as goal
@@ -7,13 +6,10 @@ use Rattle.trace.proofs.turns.short_in.Goals as goal
 pub returns-then-a-lt128 : goal.returns-then-a-lt128
 returns-then-a-lt128 c =
     let x = c.wide-a in
-    (λ n. one_byte c.args.trace.now c.args.at x.result x.ensures.0 (omega (arith, c.requires)) c.if-a-lt128.true, omega arith)
+    (one_byte c.args.trace.now c.args.at x.result x.ensures.0 (omega (arith, c.requires)) c.if-a-lt128.true, omega arith)
 
 pub returns-then-b-lt128 : goal.returns-then-b-lt128
 returns-then-b-lt128 c =
     let y = c.wide-b in
     let x = c.wide-a in
-    (λ n. two_bytes c.args.trace.now c.args.at x.result y.result x.ensures.0 y.ensures.0 (omega (arith, c.requires)) (omega (arith, c.if-a-lt128.false)) x.ensures.1 c.if-b-lt128.true, omega arith)
-
-pub returns : goal.returns
-returns c = (λ n. absurd (n refl), omega arith)
+    (two_bytes c.args.trace.now c.args.at x.result y.result x.ensures.0 y.ensures.0 (omega (arith, c.requires)) (omega (arith, c.if-a-lt128.false)) x.ensures.1 c.if-b-lt128.true, omega arith)

@@ -1,31 +1,33 @@
 -- That `widths` of src/signals.rt keeps its contract.
 use mathlib.Core.Path.{ap}
 use mathlib.Core.List.{List, map}
-use Rattle.waves.specs.Signals.{Row, widths, eleven}
+use native.Mathlib.Omega.{arith}
+use Rattle.waves.specs.Signals.{Row, widths}
 use Rattle.waves.proofs.SignalLaws.{rows_aic, rows_core, rows-cic, rows_aintc, rows-indexed, rows_none}
 use Rattle.waves.proofs.signals.widths.Goals as goal
 
-pub returns-then-kind-eq-AIC : goal.returns-then-kind-eq-AIC
+pub returns-in-0 : goal.returns-in-0
 unfolding widths
-returns-then-kind-eq-AIC c = ap (λ (l : List Row). eleven (map (λ (r : Row). r.width) l)) ((rows_aic _ c.if-kind-eq-AIC.true))
+returns-in-0 c = ap (λ (l : List Row). map (λ (r : Row). r.width) l) (rows_aic _ c.in-0.is)
 
-pub returns-then-kind-eq-CORE : goal.returns-then-kind-eq-CORE
+pub returns-in-1 : goal.returns-in-1
 unfolding widths
-returns-then-kind-eq-CORE c = ap (λ (l : List Row). eleven (map (λ (r : Row). r.width) l)) ((rows_core _ c.if-kind-eq-CORE.true))
+returns-in-1 c = ap (λ (l : List Row). map (λ (r : Row). r.width) l) (rows_core _ c.in-1.is)
 
-pub returns-then-kind-eq-CIC : goal.returns-then-kind-eq-CIC
+pub returns-in-2 : goal.returns-in-2
 unfolding widths
-returns-then-kind-eq-CIC c = ap (λ (l : List Row). eleven (map (λ (r : Row). r.width) l)) ((rows-cic _ c.if-kind-eq-CIC.true))
+returns-in-2 c = ap (λ (l : List Row). map (λ (r : Row). r.width) l) (rows-cic _ c.in-2.is)
 
-pub returns-then-kind-eq-AINTC : goal.returns-then-kind-eq-AINTC
+pub returns-in-3 : goal.returns-in-3
 unfolding widths
-returns-then-kind-eq-AINTC c = ap (λ (l : List Row). eleven (map (λ (r : Row). r.width) l)) ((rows_aintc _ c.if-kind-eq-AINTC.true))
+returns-in-3 c = ap (λ (l : List Row). map (λ (r : Row). r.width) l) (rows_aintc _ c.in-3.is)
 
-pub returns-then-kind-eq-INDEXED : goal.returns-then-kind-eq-INDEXED
+pub returns-in-4 : goal.returns-in-4
 unfolding widths
-returns-then-kind-eq-INDEXED c = ap (λ (l : List Row). eleven (map (λ (r : Row). r.width) l)) ((rows-indexed _ c.if-kind-eq-INDEXED.true))
+returns-in-4 c = ap (λ (l : List Row). map (λ (r : Row). r.width) l) (rows-indexed _ c.in-4.is)
 
-pub returns : goal.returns
+pub returns-in_default : goal.returns-in_default
 unfolding widths
-returns c = ap (λ (l : List Row). eleven (map (λ (r : Row). r.width) l))
-    (rows_none _ c.if-kind-eq-AIC.false c.if-kind-eq-CORE.false c.if-kind-eq-CIC.false c.if-kind-eq-AINTC.false c.if-kind-eq-INDEXED.false)
+returns-in_default c =
+    ap (λ (l : List Row). map (λ (r : Row). r.width) l)
+    (rows_none c.args.kind (λ e. omega arith) (λ e. omega arith) (λ e. omega arith) (λ e. omega arith) (λ e. omega arith))

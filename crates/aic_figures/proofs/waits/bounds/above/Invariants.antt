@@ -1,5 +1,5 @@
 -- That `above` of src/waits/bounds.rt keeps its contract.
-use Prim.Native.Nat.{◌-◌, ◌≤◌, ◌<◌}
+use Prim.Native.Nat.{◌≤◌, ◌<◌}
 use mathlib.Core.Path.{◌≡◌}
 use Rattle.words.specs.Word.{word_of}
 use Rattle.aic_record.specs.declared.Aic.{Aic}
@@ -9,6 +9,3 @@ use Rattle.aic_figures.proofs.waits.bounds.above.Given as goal
 
 abbrev pub invariant-loop-q : goal.invariant-loop-q
 invariant-loop-q l = (l.p < l.q) × (l.q ≤ 8) × ((t : Aic) → Laid t l.room → l.w ≡ word_of 32 (between t l.p l.q))
-
-abbrev pub decreases-loop-q : goal.decreases-loop-q
-decreases-loop-q l = 8 - l.q

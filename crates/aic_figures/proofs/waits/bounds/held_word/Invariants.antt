@@ -1,5 +1,5 @@
 -- That `held_word` of src/waits/bounds.rt keeps its contract.
-use Prim.Native.Nat.{◌-◌, ◌≤◌}
+use Prim.Native.Nat.{◌≤◌}
 use mathlib.Core.Path.{◌≡◌}
 use mathlib.Core.Bool.{true}
 use Rattle.words.specs.Word.{word_of}
@@ -11,6 +11,3 @@ use Rattle.aic_figures.proofs.waits.bounds.held_word.Given as goal
 
 abbrev pub invariant-loop-d : goal.invariant-loop-d
 invariant-loop-d l = (l.d ≤ l.depth) × ((t : Aic) → sound t ≡ true → Laid t l.room → l.w ≡ word_of 32 (held_among t l.d))
-
-abbrev pub decreases-loop-d : goal.decreases-loop-d
-decreases-loop-d l = l.depth - l.d

@@ -1,9 +1,0 @@
--- That `at_level` of src/effects.rt keeps its contract.
-use Rattle.words.proofs.ChoiceLaws.{pick_true, pick-false}
-use Rattle.aic_room.proofs.effects.at_level.Goals as goal
-
-pub returns-then-low : goal.returns-then-low
-returns-then-low c = pick_true _ c.if-low.true
-
-pub returns : goal.returns
-returns c = pick-false _ c.if-low.false

@@ -1,9 +1,0 @@
--- That `told` of src/tours.rt ends.
-use Prim.Native.Nat.{◌≤◌, ◌-◌}
-use Rattle.board_run.proofs.tours.told.Given as goal
-
-abbrev pub invariant-loop-k : goal.invariant-loop-k
-invariant-loop-k l = l.k ≤ l.n
-
-abbrev pub decreases-loop-k : goal.decreases-loop-k
-decreases-loop-k l = l.n - l.k
