@@ -104,17 +104,25 @@ def made(edit):
 
 
 def bodies(text):
-    """The functions of a source in the layout of `rt fmt`, each with where its body begins and ends.
+    """The functions of a source in the layout of `rt fmt`, methods by `Type::name`, each with where its body begins and ends.
 
-    A function and the last brace of its body stand at the left edge, and so does the line that the first brace ends; all else of it is indented."""
-    found, name, begin, at = {}, None, None, 0
+    A function and the last brace of its body stand at the left edge, and so does the line that the first brace ends; all else of it is indented. So do the
+    first and the last line of an `impl`, and its methods are functions with four spaces before each line."""
+    found, name, begin, at, owner = {}, None, None, 0, ""
     for line in text.splitlines(keepends=True):
-        starts = re.match(r'(?:pub(?:\(\w+\))? )?(?:const )?(?:unsafe )?(?:extern "C" )?fn (\w+)', line)
+        within = re.match(r"impl(?:<.*?>)? (?:.* for )?(\w+)[^{]*\{\n", line)
+        if within:
+            owner = within.group(1) + "::"
+        elif owner and line == "}\n":
+            owner = ""
+        edge = "    " if owner else ""
+        own = line[len(edge):] if line.startswith(edge) else "\n"
+        starts = re.match(r'(?:pub(?:\(\w+\))? )?(?:const )?(?:unsafe )?(?:extern "C" )?fn (\w+)', own)
         if starts:
-            name, begin = starts.group(1), None
-        if name and begin is None and line[0] not in " \n" and line.endswith("{\n"):
+            name, begin = owner + starts.group(1), None
+        if name and begin is None and own[0] not in " \n" and own.endswith("{\n"):
             begin = at + len(line)
-        elif name and begin is not None and line.rstrip("\n") == "}":
+        elif name and begin is not None and own.rstrip("\n") == "}":
             found[name] = (begin, at)
             name = None
         at += len(line)

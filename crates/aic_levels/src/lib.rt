@@ -1,7 +1,7 @@
 // The sources of the AT91 controller kept by level: a word for each priority, and a byte that says which words have any.
 #![tactic(auto)]
 
-ghost use Rattle.std.specs.Prelude.{◌≡◌, true, not, ◌&&◌, eqb, length, get_or};
+ghost use Rattle.std.specs.Prelude.{◌≡◌, true, not, ◌&&◌, eqb, get_or};
 ghost use Rattle.words.specs.Counting.{all_below};
 ghost use Rattle.words.specs.Word.{bit, word_of};
 ghost use Rattle.aic_record.specs.declared.Aic.{Aic};
@@ -94,14 +94,20 @@ fn words_agree(waits: u32, mode: &[u8; 32], levels: &[u32; 8]) -> bool
     same
 }
 
-// The levels whose word is not 0.
+// The word of a level; 0 where none is lent.
+fn word_at(levels: &[u32], level: u32) -> u32
+    ensures { result ≡ get_or levels.now level 0 }
+{
+    levels.get(level as usize).copied().unwrap_or(0)
+}
+
+// The levels whose word is not 0, of all eight, however many words are lent.
 pub fn levels_with_any(levels: &[u32]) -> u32
-    requires { length levels.now ≡ 8 }
     ensures { result ≡ word_of 8 (λ p. not (eqb (get_or levels.now p 0) 0)) }
 {
     let mut any: u32 = 0;
-    for (level, &w) in levels.iter().enumerate() {
-        any = words::with_bit(any, level as u32, w != 0);
+    for level in 0..8 {
+        any = words::with_bit(any, level, word_at(levels, level) != 0);
     }
     any
 }

@@ -13,33 +13,22 @@ mod towers;
 mod transcript;
 mod unsound;
 
-use std::alloc::Global;
-use std::io;
 use std::io::Read;
 
-// A line that cannot be written is the last one: whoever compares the lines finds that the others are missing, and nothing else is told.
 fn main(rt: HostRuntime) {
-    let n = number(said(&rt, rt.alloc()).as_slice());
-    match print_all(&rt, n) {
+    let n = number(&said(&rt));
+    towers::all(&rt);
+    cases::all(&rt);
+    limits::all(&rt);
+    unsound::all(&rt);
+    tours::all(&rt, n);
+}
+
+// The first 16 bytes of standard input; 0 for each that is not there or cannot be read.
+fn said<R: Input>(rt: &R) -> [u8; 16] {
+    let mut bytes = [0; 16];
+    match rt.reader().read_exact(&mut bytes) {
         Ok(()) => {}
-        Err(_) => {}
-    }
-}
-
-// The boards worked out by hand, then n generated ones.
-fn print_all<R: Print>(rt: &R, n: u32) -> io::Result<()> {
-    towers::all(rt)?;
-    cases::all(rt)?;
-    limits::all(rt)?;
-    unsound::all(rt)?;
-    tours::all(rt, n)
-}
-
-// The first 16 bytes of standard input, or as many as can be read.
-fn said<R: Input>(rt: &R, alloc: Global) -> Vec<u8> {
-    let mut bytes = Vec::new(alloc);
-    match rt.reader().take(16).read_to_end(&mut bytes) {
-        Ok(_) => {}
         Err(_) => {}
     }
     bytes

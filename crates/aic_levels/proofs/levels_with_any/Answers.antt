@@ -1,6 +1,7 @@
 -- That `levels_with_any` of src/lib.rt keeps its contract.
-use mathlib.Core.Path.{refl, ◌∙◌}
+use mathlib.Core.Path.{ap, ◌∙◌}
 use mathlib.Core.Bool.{not}
+use Prim.Native.Nat.{ℕ}
 use native.Mathlib.Omega.{arith}
 use lib.Dec.{eqb}
 use lib.ListN.{get_or}
@@ -17,7 +18,7 @@ loop-level-preserved c =
     let a = c.args in
     let l = c.loop-level in
     let t = c.loop-level-test.true in
-    (omega (arith, t), c.with_bit-any.ensures ∙ word_of-more (λ i. not (eqb (get_or a.levels.now i 0) 0)) l.level (omega (arith, t)) l.invariant.1 refl)
+    (omega (arith, t), c.with_bit-any.ensures ∙ word_of-more (λ i. not (eqb (get_or a.levels.now i 0) 0)) l.level (omega (arith, t)) l.invariant.1 (ap (λ (w : ℕ). not (eqb w 0)) c.word_at.ensures))
 
 pub returns : goal.returns
 returns c =
