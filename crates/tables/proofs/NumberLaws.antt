@@ -8,20 +8,28 @@ use native.Mathlib.Nat.{mul-le-mul_right}
 use native.Mathlib.Numerals.{add-one}
 use native.Mathlib.Omega.{arith}
 use native.Mathlib.Decide.{dec_lt, ℕ_discrete}
-use lib.Dec.{eqb, ltb}
+use lib.Dec.{eqb, ltb, leb}
 use lib.ListN.{length, get_or, take, drop, length-drop, drop_of_length-le, get_or-eq_default}
 use lib.Pointwise.{pointwise}
 use lib.Seq.{drop-cons, get_or-drop}
-use borrow.Author.Tests.{eqb-true, eqb-false, ne_eqb, lt-leb, ltb-true, lt-ltb, le-ltb, not-true}
+use borrow.Author.Tests.{eqb-true, eqb-false, ne_eqb, leb-true, lt-leb, ltb-true, lt-ltb, le-ltb, not-true}
 use Rattle.std.specs.Prelude.{Option, Some, None, unwrap_or}
 use borrow.Author.Rules.{rules}
 use Rattle.words.specs.Choice.{pick}
-use Rattle.words.proofs.ChoiceLaws.{pick_true, pick-false}
+use Rattle.words.proofs.ChoiceLaws.{pick_true, pick-false, pick_cases}
 use Rattle.words.proofs.CountingLaws.{all_at, at_all}
 use Rattle.words.proofs.TruthLaws.{and_left, and_right, and_both, not-holds, told}
 use Rattle.tables.specs.Number.{digit, worth_from, are_digits, is_hex, is_number, worth}
 use Rattle.tables.specs.Passes.{capped, digit_to, read_digits, read_word}
 use Rattle.tables.specs.Facts.{Digits}
+
+-- what a character is worth as a digit to any base, one that is none too
+pub digit_small : (b : ℕ) → digit b ≤ 16
+unfolding digit
+digit_small b =
+    pick_cases (λ n. n ≤ 16) (leb 48 b && leb b 57) (λ e. omega (arith, leb-true b 57 (and_right (leb 48 b) _ e)))
+    (λ n. pick_cases (λ n. n ≤ 16) (leb 65 b && leb b 70) (λ e. omega (arith, leb-true b 70 (and_right (leb 65 b) _ e)))
+    (λ n. pick_cases (λ n. n ≤ 16) (leb 97 b && leb b 102) (λ e. omega (arith, leb-true b 102 (and_right (leb 97 b) _ e))) (λ n. omega arith)))
 
 pub some_none : (v : ℕ) → ◌≡◌ {A = Option ℕ} (Some v) None → ⊥
 some_none v e = search rules
