@@ -1,9 +1,10 @@
 -- The sheet after names, put to it one after the other as the sheet's program does.
-use Rattle.std.specs.Prelude.{ℕ, ◌≡◌, List, [], ◌∷◌}
+use Rattle.std.specs.Prelude.{ℕ, ◌≡◌, List, [], ◌∷◌, Result, Ok, Err}
 use Rattle.stack.specs.declared.Table.{Table}
 use Rattle.totals.specs.declared.sheets.Sheet.{Sheet}
 use Rattle.totals.specs.Sheet.{added, left_unopened}
 use Rattle.sheet_traces.specs.Noted.{note_of}
+use Rattle.sheet_run.specs.declared.progress.Stopped.{Stopped}
 
 -- what comes of a name: its file cannot be opened or read, or it holds these bytes
 pub data Named : Type 0 where
@@ -24,3 +25,8 @@ put_all t s (x ∷ xs) = put_all t (put_one t s x) xs
 pub record Put (t : Table) (s u : Sheet) : Type 0 where
   pub names : List Named
   pub are : u ≡ put_all t s names
+
+-- the sheet that is answered: of a page that stays unfinished the one up to there
+abbrev pub sheet_of : Result Sheet Stopped → Sheet
+sheet_of (Ok s) = s
+sheet_of (Err e) = e.sheet

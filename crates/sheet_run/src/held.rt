@@ -1,10 +1,10 @@
 // What is held of the names between two reads: the bytes of a begun one, at the start of the room.
-ghost use Rattle.std.specs.Prelude.{◌+◌, ◌≤◌, length, IfOk, IfSome};
+ghost use Rattle.std.specs.Prelude.{◌≡◌, ◌+◌, ◌≤◌, length, IfOk, IfErr, IfSome};
 ghost use Rattle.stack.specs.declared.Table.{Table as Priorities};
 ghost use Rattle.sheet_run.specs.Put.{Put};
 
 use super::progress;
-use super::progress::Unfinished;
+use super::progress::{Stopped, Unfinished};
 use totals::sheets::Sheet;
 
 // Of a name that is too long so many bytes are printed; no file has a name of so many.
@@ -17,14 +17,23 @@ pub struct State {
     pub sheet: Sheet,
 }
 
-// Reads more names behind those that are held; how many bytes came, 0 where there are no more.
-pub(crate) fn fill<R: Input>(rt: &R, names: &mut [u8], held: usize) -> Result<usize, Unfinished>
+// Reads more names behind those that are held; how many bytes came, 0 where there are no more. Where reading fails, the sheet is the one so far.
+pub(crate) fn fill<R: Input>(
+    rt: &R,
+    names: &mut [u8],
+    held: usize,
+    sheet: Sheet,
+) -> Result<usize, Stopped>
     requires { held ≤ length names.old }
-    ensures { IfOk result (λ n. held + n ≤ length names.new) }
+    ensures within { IfOk result (λ n. held + n ≤ length names.new) }
+    ensures stopped { IfErr result (λ e. e.sheet ≡ sheet) }
 {
     let came = reading::read_once(&mut rt.reader(), &mut names[held..]);
     if came.failed {
-        return Err(Unfinished::Unread);
+        return Err(Stopped {
+            why: Unfinished::Unread,
+            sheet,
+        });
     }
     Ok(came.bytes)
 }
@@ -37,9 +46,10 @@ pub(crate) fn settle<R: Print>(
     held: usize,
     skipping: bool,
     sheet: Sheet,
-) -> Result<State, Unfinished>
+) -> Result<State, Stopped>
     ensures within { IfOk result (λ s. IfSome s.begun (λ n. n ≤ length names.now)) }
     ensures put { IfOk result (λ s. (t : Priorities) → Put t sheet s.sheet) }
+    ensures stopped { IfErr result (λ e. (t : Priorities) → Put t sheet e.sheet) }
 {
     if skipping {
         return Ok(State { begun: None, sheet });

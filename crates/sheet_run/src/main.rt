@@ -54,8 +54,10 @@ fn refuse(rt: &HostRuntime, text: &[u8]) {
 fn print(rt: &HostRuntime, text: &[u8], t: Table) -> Result<(), Unfinished> {
     begin(rt)?;
     let mut all = room();
-    let sheet = names::take(rt, &mut all, t, totals::sheets::none())?;
-    end(rt, text, t, sheet)
+    match names::take(rt, &mut all, t, totals::sheets::none()) {
+        Ok(sheet) => end(rt, text, t, sheet),
+        Err(stopped) => Err(stopped.why),
+    }
 }
 
 // How the page begins.

@@ -1,13 +1,12 @@
 // The names of the sheet, one to a line on standard input: each is taken in order, as for the report, and its trace put to the sheet.
-ghost use Rattle.std.specs.Prelude.{◌≤◌, length, IfOk, IfSome};
-ghost use Rattle.sheet_run.specs.Put.{Put};
+ghost use Rattle.std.specs.Prelude.{◌≤◌, length, IfOk, IfErr, IfSome};
+ghost use Rattle.sheet_run.specs.Put.{Put, sheet_of};
 
 use super::held::State;
-use super::progress::Unfinished;
+use super::progress::Stopped;
 use super::{held, traces};
 use stack::Table;
 use std::rt::Files;
-use text::NEWLINE;
 use totals::sheets::Sheet;
 
 // What is left of the names that were read: the place where a name begins that has no line feed yet, and the sheet after those before it.
@@ -24,8 +23,8 @@ pub(crate) fn take<R: Files + Input + Print>(
     names: &mut [u8],
     table: Table,
     first: Sheet,
-) -> Result<Sheet, Unfinished>
-    ensures { IfOk result (λ s. Put table first s) }
+) -> Result<Sheet, Stopped>
+    ensures { Put table first (sheet_of result) }
 {
     let s = all_names(rt, names, table, first)?;
     let held = s.begun.unwrap_or(0);
@@ -38,9 +37,10 @@ fn all_names<R: Files + Input + Print>(
     names: &mut [u8],
     table: Table,
     first: Sheet,
-) -> Result<State, Unfinished>
+) -> Result<State, Stopped>
     ensures within { IfOk result (λ s. IfSome s.begun (λ n. n ≤ length names.new)) }
     ensures put { IfOk result (λ s. Put table first s.sheet) }
+    ensures stopped { IfErr result (λ e. Put table first e.sheet) }
 {
     let mut s = State {
         begun: Some(0),
@@ -48,7 +48,7 @@ fn all_names<R: Files + Input + Print>(
     };
     for _ in 0..u64::MAX {
         let held = s.begun.unwrap_or(0);
-        let came = held::fill(rt, names, held)?;
+        let came = held::fill(rt, names, held, s.sheet)?;
         if came == 0 {
             break;
         }
@@ -64,10 +64,11 @@ fn turn<R: Files + Print>(
     end: usize,
     table: Table,
     s: State,
-) -> Result<State, Unfinished>
+) -> Result<State, Stopped>
     requires { end ≤ length names.old }
     ensures within { IfOk result (λ after. IfSome after.begun (λ n. n ≤ length names.new)) }
     ensures put { IfOk result (λ after. Put table s.sheet after.sheet) }
+    ensures stopped { IfErr result (λ e. Put table s.sheet e.sheet) }
 {
     let skipping = s.begun.is_none();
     let rest = lines(rt, &names[..end], skipping, table, s.sheet)?;
@@ -88,21 +89,22 @@ fn lines<R: Files + Print>(
     skipping: bool,
     table: Table,
     first: Sheet,
-) -> Result<Rest, Unfinished>
+) -> Result<Rest, Stopped>
     ensures within { IfOk result (λ r. r.at ≤ length s.now) }
     ensures put { IfOk result (λ r. Put table first r.sheet) }
+    ensures stopped { IfErr result (λ e. Put table first e.sheet) }
 {
     let mut sheet = first;
     let mut skips = skipping;
-    let mut rest = s;
-    while let Some(e) = rest.iter().position(|b| *b == NEWLINE) {
-        let n = report::name_end(rest, 0, e);
-        sheet = traces::pass(rt, &rest[..n], skips, table, sheet)?;
+    let mut at: usize = 0;
+    loop {
+        let e = report::line_end(s, at);
+        if s.len() <= e {
+            return Ok(Rest { at, sheet });
+        }
+        let n = report::name_end(s, at, e);
+        sheet = traces::pass(rt, &s[at..n], skips, table, sheet)?;
         skips = false;
-        rest = &rest[e + 1..];
+        at = e + 1;
     }
-    Ok(Rest {
-        at: s.len() - rest.len(),
-        sheet,
-    })
 }

@@ -1,6 +1,7 @@
 // What becomes of the page while names are taken: why it may stay unfinished, and the row of a name that cannot be opened or read.
-ghost use Rattle.std.specs.Prelude.{◌≡◌, IfOk};
+ghost use Rattle.std.specs.Prelude.{◌≡◌};
 ghost use Rattle.totals.specs.Sheet.{left_unopened};
+ghost use Rattle.sheet_run.specs.Put.{sheet_of};
 
 use std::fmt;
 use totals::sheets::Sheet;
@@ -21,18 +22,34 @@ impl fmt::Display for Unfinished {
     }
 }
 
+// A page that stays unfinished, and the sheet of the names up to there.
+#[derive(Clone, Copy)]
+pub struct Stopped {
+    pub why: Unfinished,
+    pub sheet: Sheet,
+}
+
+// The sheet, if what was to be printed of it is.
+pub(crate) fn printed(done: Result<(), Unfinished>, sheet: Sheet) -> Result<Sheet, Stopped>
+    ensures { sheet_of result ≡ sheet }
+{
+    match done {
+        Ok(()) => Ok(sheet),
+        Err(why) => Err(Stopped { why, sheet }),
+    }
+}
+
 // Writes a part of the page.
 pub(crate) fn write<R: Print>(rt: &R, part: &[u8]) -> Result<(), Unfinished> {
     rt.write_all(part).map_err(|_| Unfinished::Unwritten)
 }
 
 // A name whose file cannot be opened or read: it is counted, and no figure of a trace changes.
-pub(crate) fn unopened<R: Print>(rt: &R, name: &[u8], sheet: Sheet) -> Result<Sheet, Unfinished>
-    ensures { IfOk result (λ s. s ≡ left_unopened sheet) }
+pub(crate) fn unopened<R: Print>(rt: &R, name: &[u8], sheet: Sheet) -> Result<Sheet, Stopped>
+    ensures { sheet_of result ≡ left_unopened sheet }
 {
     let s = totals::sheets::unopened(sheet);
-    print_unopened(rt, s.named, name)?;
-    Ok(s)
+    printed(print_unopened(rt, s.named, name), s)
 }
 
 // The row of such a name.

@@ -1,14 +1,14 @@
 // The traces of the sheet, one by one: each is played, what the sheet takes from it is put to the figures, and its row is printed.
-ghost use Rattle.std.specs.Prelude.{◌≡◌, eqb, IfOk};
+ghost use Rattle.std.specs.Prelude.{◌≡◌, eqb};
 ghost use Rattle.words.specs.Choice.{pick};
 ghost use Rattle.text.specs.Text.{laid};
 ghost use Rattle.sheet.specs.Rows.{trace_row, left_out_row};
 ghost use Rattle.totals.specs.Sheet.{added};
 ghost use Rattle.sheet_traces.specs.Noted.{note_of};
-ghost use Rattle.sheet_run.specs.Put.{Put};
+ghost use Rattle.sheet_run.specs.Put.{Put, sheet_of};
 
 use super::progress;
-use super::progress::Unfinished;
+use super::progress::{Stopped, Unfinished};
 use stack::Table;
 use std::rt::Files;
 use totals::sheets::{Noted, Sheet};
@@ -23,8 +23,8 @@ pub(crate) fn pass<R: Files + Print>(
     skipping: bool,
     table: Table,
     sheet: Sheet,
-) -> Result<Sheet, Unfinished>
-    ensures { IfOk result (λ s. Put table sheet s) }
+) -> Result<Sheet, Stopped>
+    ensures { Put table sheet (sheet_of result) }
 {
     if skipping {
         return Ok(sheet);
@@ -33,13 +33,8 @@ pub(crate) fn pass<R: Files + Print>(
 }
 
 // Plays the trace of a name. One byte more is read than a trace may have, so that a longer one is told apart.
-fn play<R: Files + Print>(
-    rt: &R,
-    name: &[u8],
-    table: Table,
-    sheet: Sheet,
-) -> Result<Sheet, Unfinished>
-    ensures { IfOk result (λ s. Put table sheet s) }
+fn play<R: Files + Print>(rt: &R, name: &[u8], table: Table, sheet: Sheet) -> Result<Sheet, Stopped>
+    ensures { Put table sheet (sheet_of result) }
 {
     let mut room = [0u8; 65537];
     let came = reading::read_file(rt, name, &mut room);
@@ -56,13 +51,12 @@ fn put_to<R: Print>(
     name: &[u8],
     table: Table,
     sheet: Sheet,
-) -> Result<Sheet, Unfinished>
-    ensures { IfOk result (λ s. s ≡ (added sheet (note_of trace.now 20000 table)).sheet) }
+) -> Result<Sheet, Stopped>
+    ensures { sheet_of result ≡ (added sheet (note_of trace.now 20000 table)).sheet }
 {
     let t = sheet_traces::note(trace, LIMIT, table);
     let a = totals::sheets::add(sheet, t);
-    print_row(rt, a.sheet.named, t, a.refusal, name)?;
-    Ok(a.sheet)
+    progress::printed(print_row(rt, a.sheet.named, t, a.refusal, name), a.sheet)
 }
 
 // The row of the nth name, whose trace was played.

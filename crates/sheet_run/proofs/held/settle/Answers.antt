@@ -1,5 +1,7 @@
 -- That `settle` of src/held.rt keeps its contract.
-use mathlib.Core.Path.{refl}
+use mathlib.Core.Path.{◌≡◌, refl}
+use native.Mathlib.Omega.{arith}
+use Rattle.std.specs.declared.result.Result.TheVariants.{Err}
 use Rattle.sheet_run.proofs.PutLaws.{put-none, put_shut}
 use Rattle.sheet_run.proofs.held.settle.Goals as goal
 
@@ -11,3 +13,8 @@ returns-then-held-names-clause-put g c = λ t. put-none t _ _ refl
 
 pub returns-clause-put : goal.returns-clause-put
 returns-clause-put g c = λ t. put_shut t _ _ c.in_ok-told.ensures
+
+pub returns-in_err-told-clause-stopped : goal.returns-in_err-told-clause-stopped
+returns-in_err-told-clause-stopped g c =
+    let h : c.from_residual.result ≡ Err c.in_err-told.field-0.0 = grind arith in
+    rw h (λ t. put_shut t _ _ c.in_err-told.ensures)

@@ -5,4 +5,4 @@ use Rattle.totals.specs.Sheet.{added}
 use Rattle.sheet_run.proofs.traces.put_to.Goals as goal
 
 pub returns : goal.returns
-returns g c = ap (λ (x : Added). x.sheet) (c.add-a.ensures ∙ ap (added _) c.note-t.ensures)
+returns g c = c.printed.ensures ∙ ap (λ (x : Added). x.sheet) (c.add-a.ensures ∙ ap (added _) c.note-t.ensures)
