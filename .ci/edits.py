@@ -104,15 +104,16 @@ def made(edit):
 
 
 def bodies(text):
-    """The functions of a source in the layout of `rt fmt`, methods by `Type::name`, each with where its body begins and ends.
+    """The functions of a source in the layout of `rt fmt`, methods by `Type::name`, those of a trait by `TypeTrait::name`, each with where its body begins and
+    ends.
 
     A function and the last brace of its body stand at the left edge, and so does the line that the first brace ends; all else of it is indented. So do the
     first and the last line of an `impl`, and its methods are functions with four spaces before each line."""
     found, name, begin, at, owner = {}, None, None, 0, ""
     for line in text.splitlines(keepends=True):
-        within = re.match(r"impl(?:<.*?>)? (?:.* for )?(\w+)[^{]*\{\n", line)
+        within = re.match(r"impl(?:<.*?>)? (?:(?:\w+::)*(\w+).* for )?(\w+)[^{]*\{\n", line)
         if within:
-            owner = within.group(1) + "::"
+            owner = within.group(2) + (within.group(1) or "") + "::"
         elif owner and line == "}\n":
             owner = ""
         edge = "    " if owner else ""
