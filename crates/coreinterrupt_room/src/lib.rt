@@ -38,7 +38,8 @@ fn lay_side(room: &mut Room, at: usize, s: Side)
     room[at + 4] = s.enable;
 }
 
-// The room of a record.
+// The room of a record. It stays a call: taken into the choice of a kind, its room is set to zeros for every other kind too.
+#[inline(never)]
 pub fn lay(c: Core) -> Room
     ensures { Laid c result }
 {

@@ -50,7 +50,8 @@ fn lay_held<'a>(room: &'a mut Room, held: &'a [u16; 256])
     }
 }
 
-// The room of a sound record.
+// The room of a sound record; a call, as that of a CoreInterrupt.
+#[inline(never)]
 pub fn lay(p: Prioritised) -> Room
     ensures { sound p ≡ true → Laid p result }
 {

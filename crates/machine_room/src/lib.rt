@@ -34,7 +34,8 @@ pub fn lay(m: Machine, kept: bool) -> Room
     }
 }
 
-// The arrays of a record that is passed have their lengths.
+// The arrays of a record that is passed have their lengths. A call, as the room of a CoreInterrupt.
+#[inline(never)]
 fn lay_aic(a: Aic) -> Room
     ensures { AicLaid a result }
 {
